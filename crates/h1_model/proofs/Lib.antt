@@ -1,0 +1,4 @@
+pub mod SearchLemmas
+pub mod BlankLemmas
+pub mod HeadPieceLemmas
+pub mod ReadingLemmas

@@ -1,0 +1,134 @@
+-- The past of a connection: its trace, with the parse of the bytes taken beside each step. What was
+-- passed, and what is held.
+use Rattle.std.specs.Prelude.{◌≡◌, ℕ, ◌+◌, ◌-◌, Bool, true, false, List, [], ◌∷◌, length, map, sum_by, nat_le, ◌==◌, if◌then◌else◌, Option, Some, None, unwrap_or, is_some, slice_get, ⊤}
+use Rattle.h1_model.specs.Request.{Head, Reading, head_is, too_large, malformed, BodyKind, chunked_body, no_body, fixed_body, raw_body}
+use Rattle.h1_model.specs.ChunkedText.{Run}
+use Rattle.h1_model.specs.FrameText.{PlacedFrame}
+use Rattle.h1_model.specs.Parse.{Input, Message, Body, no_content, content, frames, next_start, IsParse}
+use Rattle.h1_model.specs.Event.{Event, Outcome}
+use Rattle.h1_model.specs.Event as on
+use Rattle.h1_model.specs.Sums.{Step, taken, has_ended, is_upgraded, is_complete, since_head, head_of}
+
+-- a step, and the parse of all bytes taken by then
+pub record Moment : Type 0 where
+  pub step : Step
+  pub parse : List Message
+
+-- the steps of a past, the newest first as there
+abbrev pub steps : List Moment → List Step
+steps past = map (λ m. m.step) past
+
+-- what the bytes taken are parsed as
+abbrev pub input_of : List Step → Input
+input_of trace = record { bytes = taken trace; upgraded = is_upgraded trace; ended = has_ended trace }
+
+-- each parse is the one of the bytes taken by then
+abbrev pub IsPast : List Moment → Type 0
+IsPast [] = ⊤
+IsPast (m ∷ before) = IsParse (input_of (m.step ∷ steps before)) m.parse × IsPast before
+
+-- the messages that were parsed so far
+abbrev pub parse_of : List Moment → List Message
+parse_of [] = []
+parse_of (m ∷ before) = m.parse
+
+-- ---- messages that were handed out
+
+-- how many heads were handed out
+abbrev pub head_count : List Step → ℕ
+head_count trace = sum_by (λ s. if is_some (head_of s.outcome) then 1 else 0) trace
+
+-- the message whose head was handed out last, as it is parsed now
+abbrev pub current : List Moment → Option Message
+current past = if head_count (steps past) == 0 then None else slice_get (parse_of past) (head_count (steps past) - 1)
+
+-- the message behind it
+abbrev pub upcoming : List Moment → Option Message
+upcoming past = slice_get (parse_of past) (head_count (steps past))
+
+-- how many bytes of its body, and how many frames, were handed out
+abbrev pub step_bytes : Outcome → ℕ
+step_bytes (on.bytes more) = length more
+step_bytes _ = 0
+
+abbrev pub step_frames : Outcome → ℕ
+step_frames (on.frame f) = 1
+step_frames _ = 0
+
+abbrev pub given_bytes : List Step → ℕ
+given_bytes trace = sum_by (λ s. step_bytes s.outcome) (since_head trace)
+
+abbrev pub given_frames : List Step → ℕ
+given_frames trace = sum_by (λ s. step_frames s.outcome) (since_head trace)
+
+-- ---- places
+
+-- the place behind so many bytes of the runs, from a place in front of them
+unfoldable pub place_behind : ℕ → ℕ → List Run → ℕ
+place_behind place given [] = place
+place_behind place given (r ∷ rs) =
+    if given == 0 then place
+    else (if nat_le given (r.end - r.start) then r.start + given else place_behind r.end (given - (r.end - r.start)) rs)
+
+abbrev pub runs_of : Body → List Run
+runs_of (content runs stop) = runs
+runs_of no_content = []
+runs_of (frames placed fail) = []
+
+abbrev pub frames_of : Body → List PlacedFrame
+frames_of (frames placed fail) = placed
+frames_of no_content = []
+frames_of (content runs stop) = []
+
+-- the place behind so many frames
+abbrev pub frame_end : ℕ → ℕ → List PlacedFrame → ℕ
+frame_end place count placed = if count == 0 then place else last_end (slice_get placed (count - 1))
+  where
+    last_end : Option PlacedFrame → ℕ
+    last_end None = place
+    last_end (Some f) = f.end
+
+abbrev pub has_chunks : Reading → Bool
+has_chunks (head_is h) = is_chunked_kind h.body
+  where
+    is_chunked_kind : BodyKind → Bool
+    is_chunked_kind chunked_body = true
+    is_chunked_kind no_body = false
+    is_chunked_kind (fixed_body n) = false
+    is_chunked_kind raw_body = false
+has_chunks too_large = false
+has_chunks malformed = false
+
+-- What a pull passes: bytes up to their end, an end or a frame up to it. A chunked body of which nothing
+-- can be given is read past as far as it was taken.
+abbrev pub pulled_place : Message → List Step → Event → Outcome → Option ℕ
+pulled_place m trace on.pull (on.bytes more) = Some (place_behind m.body_start (given_bytes trace) (runs_of m.body))
+pulled_place m trace on.pull on.body_ended = next_start m.body
+pulled_place m trace on.pull (on.frame f) = Some (frame_end m.body_start (given_frames trace) (frames_of m.body))
+pulled_place m trace on.pull on.pending = if has_chunks m.reading then Some (length (taken trace)) else None
+pulled_place m trace _ _ = None
+
+-- the place of the last pull behind the head that passed something, and else the body's start
+unfoldable pub pulled_to : Message → List Step → ℕ
+pulled_to m [] = m.body_start
+pulled_to m (s ∷ before) =
+    if is_some (head_of s.outcome) then m.body_start
+    else unwrap_or (pulled_place m (s ∷ before) s.event s.outcome) (pulled_to m before)
+
+-- A message whose answer is complete is passed up to its end, or as far as it was taken. A fault passes
+-- nothing.
+abbrev pub message_passed : List Moment → Message → ℕ
+message_passed past m =
+    if is_complete (steps past) then unwrap_or (next_start m.body) (length (taken (steps past))) else pulled_to m (steps past)
+
+-- how far the bytes taken are passed
+abbrev pub passed : List Moment → ℕ
+passed past = passed_by (current past)
+  where
+    passed_by : Option Message → ℕ
+    passed_by None = 0
+    passed_by (Some m) = message_passed past m
+
+-- how many bytes are taken and not passed
+abbrev pub held : List Moment → ℕ
+held past = length (taken (steps past)) - passed past

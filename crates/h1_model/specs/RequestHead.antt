@@ -1,0 +1,45 @@
+-- What a whole head is read as (RFC 7230, sections 3 and 5.3): the grammar is httparse's, and the method,
+-- the target, the names and the values are those that http, http_uri and http_header take.
+use Rattle.std.specs.Prelude.{◌≡◌, ℕ, ◌<◌, ◌≤◌, List, [], map, All, Option, Some}
+use Rattle.httparse.specs.Grammar.{RequestHead, ReadsRequest, Field, field_value}
+use Rattle.http_header.specs.Token.{IsToken, lowercase}
+use Rattle.http_header.specs.FieldName.{IsFieldName}
+use Rattle.http_header.specs.FieldValue.{IsFieldValue}
+use Rattle.http_uri.specs.Uri.{Spells}
+use Rattle.http_uri.specs.declared.uri.Uri.{Uri}
+use Rattle.h1_model.specs.HeadPiece.{header_lines}
+use Rattle.h1_model.specs.LengthTable.{body_kind, connection_of, expects_continue}
+use Rattle.h1_model.specs.Request.{Header, Head, Reading, too_large, malformed, head_is}
+
+-- the most header lines that a head may have
+abbrev pub MAX_HEADER_LINES : ℕ
+MAX_HEADER_LINES = 96
+
+-- a field line as a header
+abbrev pub header_of : Field → Header
+header_of f = record { name = lowercase f.name; value = field_value f }
+
+-- a header field may have this name and this value
+pub record IsHeaderField (f : Field) : Type 0 where
+  pub name : IsFieldName f.name
+  pub value : IsFieldValue (field_value f)
+
+-- the piece is the text of this head
+pub record IsHeadOf (piece : List ℕ) (h : Head) : Type 0 where
+  pub text : RequestHead
+  pub reads : ReadsRequest piece text []
+  pub method_is : IsToken text.method × (h.method ≡ text.method)
+  pub uri : Uri
+  pub target_is : Spells text.target uri × (h.target ≡ text.target)
+  pub minor_is : h.minor ≡ text.minor
+  pub fields : All IsHeaderField text.fields
+  pub headers_are : h.headers ≡ map header_of text.fields
+  pub body_is : body_kind h.minor h.method h.headers ≡ Some h.body
+  pub connection_is : h.connection ≡ connection_of h.minor h.headers
+  pub expects_is : h.expects ≡ expects_continue h.headers
+
+-- Too many lines are judged before all else; what then is no head is malformed.
+abbrev pub IsReading : List ℕ → Reading → Type 0
+IsReading piece too_large = MAX_HEADER_LINES < header_lines piece
+IsReading piece malformed = (header_lines piece ≤ MAX_HEADER_LINES) × ((h : Head) → ¬ (IsHeadOf piece h))
+IsReading piece (head_is h) = (header_lines piece ≤ MAX_HEADER_LINES) × IsHeadOf piece h

@@ -1,0 +1,24 @@
+-- What a connection is set to; durations are in milliseconds.
+use Rattle.std.specs.Prelude.{ℕ, Bool, true, false}
+
+-- how long a connection waits for the next request: so long, as long as the system lets it, or not at all
+pub data KeepAlive : Type 0 where
+  timeout : ℕ → KeepAlive
+  by_system disabled : KeepAlive
+
+-- 0 turns a timeout off, and write_buffer is in bytes
+pub record Setting : Type 0 where
+  pub keep_alive : KeepAlive
+  pub request_timeout : ℕ
+  pub disconnect_timeout : ℕ
+  pub allows_half_closed : Bool
+  pub write_buffer : ℕ
+
+abbrev pub keeps : KeepAlive → Bool
+keeps (timeout ms) = true
+keeps by_system = true
+keeps disabled = false
+
+-- answers may leave the connection open
+abbrev pub is_keeping_alive : Setting → Bool
+is_keeping_alive setting = keeps setting.keep_alive

@@ -1,0 +1,29 @@
+-- The traces of a connection: each event is allowed behind those before it, and has the outcome of the
+-- table. Nothing here depends on how the bytes were cut into reads.
+use Rattle.std.specs.Prelude.{◌≡◌, ℕ, List, [], ◌∷◌, IsTrue, ⊤}
+use Rattle.h1_model.specs.Setting.{Setting}
+use Rattle.h1_model.specs.Event.{Event, Outcome}
+use Rattle.h1_model.specs.Sums.{Step}
+use Rattle.h1_model.specs.Past.{Moment, steps, IsPast}
+use Rattle.h1_model.specs.Allowed.{is_allowed}
+use Rattle.h1_model.specs.OutcomeTable.{outcome_of}
+
+-- the past is that of this trace
+pub record IsPastOf (trace : List Step) (past : List Moment) : Type 0 where
+  pub same : steps past ≡ trace
+  pub right : IsPast past
+
+-- the event is allowed behind the trace
+abbrev pub IsAllowed : Setting → List Step → Event → Type 0
+IsAllowed setting trace event = (past : List Moment) × IsPastOf trace past × IsTrue (is_allowed setting past event)
+
+-- the event's outcome behind the trace
+abbrev pub IsOutcome : Setting → List Step → Event → Outcome → Type 0
+IsOutcome setting trace event outcome =
+    (past : List Moment) × IsPastOf trace past × (outcome ≡ outcome_of setting past event)
+
+-- each event is allowed where it comes, and its outcome is the table's
+abbrev pub IsTrace : Setting → List Step → Type 0
+IsTrace setting [] = ⊤
+IsTrace setting (s ∷ before) =
+    IsAllowed setting before s.event × IsOutcome setting before s.event s.outcome × IsTrace setting before

@@ -1,0 +1,6 @@
+//! What the connection means: definitions on plain values, and the laws that make them one reading.
+#![tactic(auto)]
+
+pub mod examples;
+pub mod head_piece;
+pub mod request_head;
