@@ -2,3 +2,9 @@ pub mod SearchLemmas
 pub mod BlankLemmas
 pub mod HeadPieceLemmas
 pub mod ReadingLemmas
+pub mod ChunkMachine
+pub mod ChunkReads
+pub mod ChunkCuts
+pub mod ChunkBeginnings
+pub mod ChunkTrees
+pub mod ChunkVerdicts

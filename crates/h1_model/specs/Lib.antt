@@ -19,3 +19,4 @@ pub mod Closing
 pub mod Allowed
 pub mod OutcomeTable
 pub mod Trace
+pub mod Kept

@@ -1,6 +1,8 @@
 //! Worked examples of the definitions, all values written out.
 
-ghost use Rattle.std.specs.Prelude.{◌≡◌, ◌∷◌, [], None, Some, codes};
+ghost use Rattle.std.specs.Prelude.{◌≡◌, ◌∷◌, [], None, Some, codes, true, false, length};
+ghost use Rattle.h1_model.specs.Answer.{AnswerHead, size_of, shape_none};
+ghost use Rattle.h1_model.specs.AnswerText.{head_text, chunk_text, camel_case};
 ghost use Rattle.h1_model.specs.HeadPiece.{IsHeadPiece};
 ghost use Rattle.h1_model.specs.LengthTable.{body_kind, connection_of};
 ghost use Rattle.h1_model.specs.Request.{Header, fixed_body, keep_alive};
@@ -46,4 +48,26 @@ pub fn last_connection_line()
     ensures { connection_of 1
         (record { name = codes "connection"; value = codes "close" }
         ∷ record { name = codes "connection"; value = codes "x" } ∷ []) ≡ keep_alive }
+{}
+
+/// The head of an empty answer at the first moment: 75 bytes.
+pub fn first_answer()
+    ensures text { head_text 1
+        (record { status = 200; reason = None; closes = false; keeps_alive = false; upgrades = false; no_chunking = false; camel_case = false; headers = [] })
+        shape_none (size_of 0) keep_alive 0
+        ≡ codes "HTTP/1.1 200 OK\r\ncontent-length: 0\r\ndate: Thu, 01 Jan 1970 00:00:00 GMT\r\n\r\n" }
+    ensures size { length (head_text 1
+        (record { status = 200; reason = None; closes = false; keeps_alive = false; upgrades = false; no_chunking = false; camel_case = false; headers = [] })
+        shape_none (size_of 0) keep_alive 0) ≡ 75 }
+{}
+
+/// A chunk says its length in hexadecimal digits.
+pub fn one_chunk()
+    ensures { chunk_text (codes "test") ≡ codes "4\r\ntest\r\n" }
+{}
+
+/// In camel case the letter behind a hyphen is raised, and what stands behind two hyphens isn't.
+pub fn camel_names()
+    ensures usual { camel_case (codes "content-length") ≡ codes "Content-Length" }
+    ensures hyphens { camel_case (codes "a--b") ≡ codes "A--b" }
 {}
