@@ -1,8 +1,8 @@
 -- An answer's head as plain values, and how its body is framed (RFC 7230, sections 3.3 and 6.1).
-use Rattle.std.specs.Prelude.{ℕ, Bool, true, false, not, ◌&&◌, ◌||◌, List, [], ◌∷◌, codes, bytes_eq, nat_lt, nat_le, ◌==◌, if◌then◌else◌, Option, Some, None}
+use Rattle.std.specs.Prelude.{ℕ, Bool, true, false, not, ◌&&◌, ◌||◌, List, codes, bytes_eq, nat_lt, ◌==◌, if◌then◌else◌, Option, Some, None}
 use Rattle.std.specs.List.{list_any}
-use Rattle.h1_model.specs.Request.{Header, ConnectionType, close, keep_alive, upgrade, BodyKind, no_body, fixed_body, chunked_body, raw_body, Head}
-use Rattle.h1_model.specs.Setting.{Setting, is_keeping_alive}
+use Rattle.h1_model.specs.Request.{Header, ConnectionType, close, keep_alive, upgrade, Head, is_raw_kind}
+use Rattle.h1_model.specs.Setting.{Setting, keeps}
 
 -- The reason is the text of the answer's own, where it has one. A flag that is set says what the answer
 -- asks of the connection, that a stream isn't to be sent in chunks, or that names are sent in camel case.
@@ -13,7 +13,7 @@ pub record AnswerHead : Type 0 where
   pub keeps_alive : Bool
   pub upgrades : Bool
   pub no_chunking : Bool
-  pub camel_case : Bool
+  pub in_camel_case : Bool
   pub headers : List Header
 
 -- how large an answer's body is: there is none, so many bytes, or nobody knows yet
@@ -32,20 +32,14 @@ pub data Shape : Type 0 where
   shape_none shape_chunked shape_raw : Shape
   shape_length : ℕ → Shape
 
--- a status that never has a body: 1xx, 204 and 304
+-- a status whose head has no line about a length: 1xx, 204 and 304. Of these only 101 has a body.
 abbrev pub is_bodiless : ℕ → Bool
 is_bodiless status = nat_lt status 200 || (status == 204) || (status == 304)
-
-abbrev pub is_raw_request : BodyKind → Bool
-is_raw_request raw_body = true
-is_raw_request no_body = false
-is_raw_request (fixed_body n) = false
-is_raw_request chunked_body = false
 
 -- a stream goes out raw where the request was raw, the client is of HTTP/1.0, or chunks aren't wanted
 abbrev pub stream_shape : Head → AnswerHead → Shape
 stream_shape request answer =
-    if is_raw_request request.body || (request.minor == 0) || answer.no_chunking then shape_raw else shape_chunked
+    if is_raw_kind request.body || (request.minor == 0) || answer.no_chunking then shape_raw else shape_chunked
 
 abbrev pub sized_shape : Head → AnswerHead → BodySize → Shape
 sized_shape request answer size_none = shape_none
@@ -55,8 +49,7 @@ sized_shape request answer size_stream = stream_shape request answer
 -- a 101 passes on what follows it
 abbrev pub switching_shape : BodySize → Shape
 switching_shape size_stream = shape_raw
-switching_shape size_none = shape_none
-switching_shape (size_of n) = shape_none
+switching_shape _ = shape_none
 
 -- the shape of an answer's body (section 3.3.3); for HEAD it is that of the head alone
 abbrev pub shape_of : Head → AnswerHead → BodySize → Shape
@@ -66,9 +59,7 @@ shape_of request answer size =
 
 abbrev pub is_raw : Shape → Bool
 is_raw shape_raw = true
-is_raw shape_none = false
-is_raw shape_chunked = false
-is_raw (shape_length n) = false
+is_raw _ = false
 
 abbrev pub is_head_method : Head → Bool
 is_head_method request = bytes_eq request.method (codes "HEAD")
@@ -84,16 +75,14 @@ flagged_type answer =
 
 -- the connection keeps alive only where the setting does
 abbrev pub allowed_type : Setting → ConnectionType → ConnectionType
-allowed_type setting keep_alive = if is_keeping_alive setting then keep_alive else close
-allowed_type setting close = close
-allowed_type setting upgrade = upgrade
+allowed_type setting keep_alive = if keeps setting.keep_alive then keep_alive else close
+allowed_type setting kind = kind
 
 -- an answer may ask to close or to upgrade; that it would keep alive changes nothing
 abbrev pub overridden_type : ConnectionType → Option ConnectionType → ConnectionType
-overridden_type kind None = kind
-overridden_type kind (Some keep_alive) = kind
 overridden_type kind (Some close) = close
 overridden_type kind (Some upgrade) = upgrade
+overridden_type kind _ = kind
 
 -- a raw body is ended by the connection's end, unless it says its length or belongs to the new protocol
 abbrev pub raw_type : AnswerHead → Shape → ConnectionType → ConnectionType
@@ -103,8 +92,7 @@ raw_type answer shape kind =
 -- a connection that drains isn't kept alive
 abbrev pub drained_type : Bool → ConnectionType → ConnectionType
 drained_type drained keep_alive = if drained then close else keep_alive
-drained_type drained close = close
-drained_type drained upgrade = upgrade
+drained_type drained kind = kind
 
 -- what becomes of the connection behind an answer to this request
 abbrev pub type_of : Setting → Bool → Head → AnswerHead → BodySize → ConnectionType

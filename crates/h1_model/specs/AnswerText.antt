@@ -1,6 +1,6 @@
 -- The bytes of an answer: its head, its body, interim lines and faults (RFC 7230, sections 3.1.2, 3.2
 -- and 4.1; RFC 7231, sections 6 and 7.1.1).
-use Rattle.std.specs.Prelude.{ℕ, zero, suc, ◌+◌, ◌-◌, ◌/◌, ◌%◌, Bool, true, false, not, ◌&&◌, ◌||◌, List, [], ◌∷◌, ◌++◌, length, take, map, filter, fold, codes, bytes_eq, nat_lt, nat_le, ◌==◌, if◌then◌else◌, Option, Some, None, unwrap_or, decimal, flat_map}
+use Rattle.std.specs.Prelude.{ℕ, zero, suc, ◌+◌, ◌-◌, ◌/◌, ◌%◌, Bool, true, false, not, ◌&&◌, ◌||◌, List, [], ◌∷◌, ◌++◌, length, take, filter, fold, codes, bytes_eq, nat_lt, nat_le, ◌==◌, if◌then◌else◌, unwrap_or, decimal, flat_map}
 use Rattle.std.specs.Fmt.{digits}
 use Rattle.http.specs.StatusCode.{code_digits, reason_phrase}
 use Rattle.httparse.specs.Ascii.{crlf_bytes}
@@ -106,9 +106,7 @@ content_length_line camel n = line_text (name_text camel (codes "content-length"
 
 abbrev pub stream_line : Bool → Shape → List ℕ
 stream_line camel shape_chunked = line_text (name_text camel (codes "transfer-encoding")) (codes "chunked")
-stream_line camel shape_none = []
-stream_line camel shape_raw = []
-stream_line camel (shape_length n) = []
+stream_line camel _ = []
 
 abbrev pub size_line : Bool → Shape → BodySize → List ℕ
 size_line camel shape size_none = []
@@ -117,7 +115,7 @@ size_line camel shape size_stream = stream_line camel shape
 
 -- the line that frames the body: none for a status that has no body
 abbrev pub framing_line : AnswerHead → Shape → BodySize → List ℕ
-framing_line answer shape size = if is_bodiless answer.status then [] else size_line answer.camel_case shape size
+framing_line answer shape size = if is_bodiless answer.status then [] else size_line answer.in_camel_case shape size
 
 -- the line that says what becomes of the connection, where the version alone doesn't
 abbrev pub connection_line : ℕ → Bool → ConnectionType → List ℕ
@@ -134,13 +132,13 @@ date_line camel now = line_text (name_text camel (codes "date")) (date_of (now /
 
 -- an answer's own date stands in place of the moment's
 abbrev pub date_line_unless : Bool → AnswerHead → ℕ → List ℕ
-date_line_unless has_date answer now = if has_date then [] else date_line answer.camel_case now
+date_line_unless has_date answer now = if has_date then [] else date_line answer.in_camel_case now
 
 -- the head of an answer to a request of HTTP/1.minor
 unfoldable pub head_text : ℕ → AnswerHead → Shape → BodySize → ConnectionType → ℕ → List ℕ
 head_text minor answer shape size kind now =
-    status_line minor answer ++ (framing_line answer shape size ++ (connection_line minor answer.camel_case kind
-    ++ (flat_map (header_text answer.camel_case) (filter (is_sent answer shape) (by_name answer.headers))
+    status_line minor answer ++ (framing_line answer shape size ++ (connection_line minor answer.in_camel_case kind
+    ++ (flat_map (header_text answer.in_camel_case) (filter (is_sent answer shape) (by_name answer.headers))
     ++ (date_line_unless (has_header (codes "date") answer.headers) answer now ++ crlf_bytes))))
 
 -- ---- the body
@@ -163,9 +161,7 @@ piece_text shape_raw before bytes = bytes
 
 abbrev pub end_text : Shape → List ℕ
 end_text shape_chunked = last_chunk
-end_text shape_none = []
-end_text shape_raw = []
-end_text (shape_length n) = []
+end_text _ = []
 
 -- the same of an answer to this request: HEAD has the head alone
 abbrev pub sent_piece : Head → Shape → ℕ → List ℕ → List ℕ

@@ -1,5 +1,5 @@
 -- A body in chunks (RFC 7230, section 4.1): a tree and its text. Trailers are refused.
-use Rattle.std.specs.Prelude.{◌≡◌, ℕ, ◌+◌, ◌^◌, ◌<◌, ◌≤◌, List, [], ◌∷◌, ◌++◌, length, take, min, nat_lt, if◌then◌else◌, Option, Some, None, IsTrue, flat_map}
+use Rattle.std.specs.Prelude.{◌≡◌, ℕ, ◌+◌, ◌^◌, ◌<◌, ◌≤◌, List, [], ◌∷◌, ◌++◌, length, take, min, nat_lt, if◌then◌else◌, Option, Some, None, IsTrue, unwrap_or, flat_map}
 use Rattle.std.specs.List.{list_all, AllByRecursion}
 use Rattle.std.specs.Str.Parse.{digits_value, AllDigits}
 use Rattle.httparse.specs.Grammar.{is_ows, is_value_byte, print_extension}
@@ -21,8 +21,7 @@ chunk_size l = digits_value 16 l.digits
 
 -- the bytes behind the semicolon
 abbrev pub extension_text : Option (List ℕ) → List ℕ
-extension_text None = []
-extension_text (Some text) = text
+extension_text extension = unwrap_or extension []
 
 -- each part is of its class, and the size is below 2 ^ 64
 pub record IsSizeLine (l : SizeLine) : Type 0 where

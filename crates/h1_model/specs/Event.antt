@@ -4,6 +4,7 @@ use Rattle.h1_model.specs.Request.{Head}
 use Rattle.h1_model.specs.Answer.{AnswerHead, BodySize}
 use Rattle.h1_model.specs.Frame.{Frame, Message, ProtocolError}
 use Rattle.h1_model.specs.Handshake.{HandshakeError}
+use Rattle.h1_model.specs.End.{End}
 
 -- Bytes were read, or the input ended; the next request, or more of its body, is asked for; a body is
 -- dropped; a client that waits is told to go on; an answer, a piece of its body, its end or its failure
@@ -20,14 +21,9 @@ pub data Event : Type 0 where
   drain accept : Event
   send : Message → Event
 
--- why a connection closes
-pub data End : Type 0 where
-  bad_head large_head slow_request keep_alive_expired protocol_broken body_failed body_short : End
-  asked broken_body unread_body drained half_closed input_ended : End
-
 -- what is wrong with a head
 pub data Fault : Type 0 where
-  malformed_head oversized_head : Fault
+  malformed too_large : Fault
 
 -- what is wrong with a body: it breaks the grammar of chunks, or the input ended inside it
 pub data BodyFault : Type 0 where
@@ -35,7 +31,8 @@ pub data BodyFault : Type 0 where
 
 -- how many of the bytes were taken; a head; bytes of a body, or its end; a frame; nothing yet; that the
 -- connection closes, and why; a fault of a head, of a body, of a frame or of a handshake; the bytes to
--- write; that a time ran out, or that the peer isn't waited for any more; that it is done
+-- write; that a time ran out, for a slow request or for a connection that was kept; that the peer isn't
+-- waited for any more; that it is done
 pub data Outcome : Type 0 where
   took : ℕ → Outcome
   head : Head → Outcome

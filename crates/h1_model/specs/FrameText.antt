@@ -1,13 +1,15 @@
 -- The frames of a byte list, and the first rule that it breaks (RFC 6455, sections 5.2 to 5.5 and 7.4).
--- The reader is a server: it wants a mask on each frame.
-use Rattle.std.specs.Prelude.{◌≡◌, ℕ, ◌+◌, ◌*◌, ◌/◌, ◌%◌, Bool, true, false, not, ◌&&◌, ◌||◌, List, [], ◌∷◌, ◌++◌, length, take, drop, slice_index, fold, bit_xor, nat_lt, nat_le, ◌==◌, if◌then◌else◌, Option, Some, None, Result, Ok, Err}
+use Rattle.std.specs.Prelude.{◌≡◌, ℕ, ◌+◌, ◌*◌, ◌/◌, ◌%◌, Bool, true, false, not, ◌&&◌, ◌||◌, List, [], ◌∷◌, ◌++◌, length, take, drop, slice_index, fold, bit_xor, nat_lt, nat_le, ◌==◌, if◌then◌else◌, Option, Some, None, unwrap_or, Result, Ok, Err}
+use Rattle.std.specs.Option.{option_or}
 use Rattle.std.specs.Str.{is_utf8}
 use Rattle.h1_model.specs.Frame.{CloseReason, Frame, ProtocolError}
 use Rattle.h1_model.specs.Frame as frames
 
--- the most bytes that a frame's payload may have
-abbrev pub MAX_PAYLOAD : ℕ
-MAX_PAYLOAD = 65536
+-- Who reads: a server wants a mask on each frame, and a client takes none. And the most bytes that a
+-- frame's payload may have.
+pub record Reader : Type 0 where
+  pub wants_mask : Bool
+  pub max_payload : ℕ
 
 -- the most bytes that the payload of a control frame may have (section 5.5)
 abbrev pub MAX_CONTROL_PAYLOAD : ℕ
@@ -37,12 +39,18 @@ short_length second = second % 128
 abbrev pub is_known_opcode : ℕ → Bool
 is_known_opcode opcode = nat_le opcode 2 || (nat_le 8 opcode && nat_le opcode 10)
 
--- the rules that the first two bytes can break
-abbrev pub start_error : ℕ → ℕ → Option ProtocolError
-start_error first second =
+abbrev pub mask_error : Bool → ℕ → Option ProtocolError
+mask_error true second = if has_mask second then None else Some frames.unmasked_frame
+mask_error false second = if has_mask second then Some frames.masked_frame else None
+
+abbrev pub opcode_error : ℕ → Option ProtocolError
+opcode_error opcode = if is_known_opcode opcode then None else Some (frames.invalid_opcode opcode)
+
+-- the first rule that the first two bytes break
+abbrev pub start_error : Reader → ℕ → ℕ → Option ProtocolError
+start_error reader first second =
     if not (reserved_bits first == 0) then Some frames.invalid_reserved_bits
-    else (if not (has_mask second) then Some frames.unmasked_frame
-    else (if not (is_known_opcode (opcode_of first)) then Some (frames.invalid_opcode (opcode_of first)) else None))
+    else option_or (mask_error reader.wants_mask second) (opcode_error (opcode_of first))
 
 -- how many further bytes hold the length
 abbrev pub length_bytes : ℕ → ℕ
@@ -57,6 +65,14 @@ payload_length second more =
 unfoldable pub unmask : List ℕ → ℕ → List ℕ → List ℕ
 unmask mask k [] = []
 unmask mask k (b ∷ bytes) = bit_xor b (slice_index mask (k % 4)) ∷ unmask mask (k + 1) bytes
+
+-- how many bytes the mask takes
+abbrev pub mask_bytes : Reader → ℕ
+mask_bytes reader = if reader.wants_mask then 4 else 0
+
+-- the payload of n bytes, from the bytes behind the length
+abbrev pub payload_of : Reader → ℕ → List ℕ → List ℕ
+payload_of reader n body = if reader.wants_mask then unmask (take 4 body) 0 (take n (drop 4 body)) else take n body
 
 -- the codes that a Close may carry (section 7.4)
 abbrev pub is_close_code : ℕ → Bool
@@ -120,26 +136,27 @@ abbrev pub front_of_judged : ℕ → Result Frame ProtocolError → Front
 front_of_judged len (Ok frame) = whole frame len
 front_of_judged len (Err e) = breaks e
 
--- the rest of a frame whose length is known: four bytes of mask, and the payload
-abbrev pub front_of_body : Bool → ℕ → ℕ → ℕ → List ℕ → Front
-front_of_body under_way first head n body =
-    if nat_lt MAX_PAYLOAD n then breaks frames.overflow
-    else (if nat_lt (length body) (4 + n) then partial
-    else front_of_judged (head + 4 + n) (judged_frame under_way first (unmask (take 4 body) 0 (take n (drop 4 body)))))
+-- the rest of a frame whose length is known: the mask, and the payload
+abbrev pub front_of_body : Reader → Bool → ℕ → ℕ → ℕ → List ℕ → Front
+front_of_body reader under_way first head n body =
+    if nat_lt reader.max_payload n then breaks frames.overflow
+    else (if nat_lt (length body) (mask_bytes reader + n) then partial
+    else front_of_judged (head + mask_bytes reader + n) (judged_frame under_way first (payload_of reader n body)))
 
 -- the bytes behind the first two
-abbrev pub front_of_rest : Bool → ℕ → ℕ → List ℕ → Option ProtocolError → Front
-front_of_rest under_way first second more (Some e) = breaks e
-front_of_rest under_way first second more None =
+abbrev pub front_of_rest : Reader → Bool → ℕ → ℕ → List ℕ → Option ProtocolError → Front
+front_of_rest reader under_way first second more (Some e) = breaks e
+front_of_rest reader under_way first second more None =
     if nat_lt (length more) (length_bytes second) then partial
-    else front_of_body under_way first (2 + length_bytes second) (payload_length second more) (drop (length_bytes second) more)
+    else front_of_body reader under_way first (2 + length_bytes second) (payload_length second more) (drop (length_bytes second) more)
 
 -- The rules of the first two bytes are judged once these are there, the size once the length is, and
 -- the others once the frame is whole.
-unfoldable pub front_frame : Bool → List ℕ → Front
-front_frame under_way [] = partial
-front_frame under_way (first ∷ []) = partial
-front_frame under_way (first ∷ second ∷ more) = front_of_rest under_way first second more (start_error first second)
+unfoldable pub front_frame : Reader → Bool → List ℕ → Front
+front_frame reader under_way [] = partial
+front_frame reader under_way (first ∷ []) = partial
+front_frame reader under_way (first ∷ second ∷ more) =
+    front_of_rest reader under_way first second more (start_error reader first second)
 
 -- a message in fragments is under way behind this frame
 abbrev pub is_under_way : Bool → Frame → Bool
@@ -161,13 +178,13 @@ StopsWith (breaks e) fail = fail ≡ Some e
 
 -- From this place on the bytes are these frames, one after another; behind them stands no further
 -- whole frame, and the rule that the rest breaks, if any, is fail.
-abbrev pub ReadsFrames : Bool → ℕ → List ℕ → List PlacedFrame → Option ProtocolError → Type 0
-ReadsFrames under_way place bytes [] fail = StopsWith (front_frame under_way (drop place bytes)) fail
-ReadsFrames under_way place bytes (f ∷ fs) fail =
-    (len : ℕ) × (front_frame under_way (drop place bytes) ≡ whole f.frame len) × (f.end ≡ place + len)
-    × ReadsFrames (is_under_way under_way f.frame) f.end bytes fs fail
+abbrev pub ReadsFrames : Reader → Bool → ℕ → List ℕ → List PlacedFrame → Option ProtocolError → Type 0
+ReadsFrames reader under_way place bytes [] fail = StopsWith (front_frame reader under_way (drop place bytes)) fail
+ReadsFrames reader under_way place bytes (f ∷ fs) fail =
+    (len : ℕ) × (front_frame reader under_way (drop place bytes) ≡ whole f.frame len) × (f.end ≡ place + len)
+    × ReadsFrames reader (is_under_way under_way f.frame) f.end bytes fs fail
 
--- ---- frames that are written, without a mask (section 5.2)
+-- ---- frames that are written, without a mask (section 5.2); a code is below 2 ^ 16, a length below 2 ^ 64
 
 -- the shortest form of a length
 abbrev pub length_field : ℕ → List ℕ
@@ -185,11 +202,7 @@ print_frame first payload = first ∷ length_field (length payload) ++ payload
 -- a code in two bytes, and the text
 abbrev pub close_payload : Option CloseReason → List ℕ
 close_payload None = []
-close_payload (Some reason) = (reason.code / 256) ∷ (reason.code % 256) ∷ description_text reason.description
-  where
-    description_text : Option (List ℕ) → List ℕ
-    description_text None = []
-    description_text (Some text) = text
+close_payload (Some reason) = (reason.code / 256) ∷ (reason.code % 256) ∷ unwrap_or reason.description []
 
 -- the bytes of a frame that is sent
 unfoldable pub frame_text : Frame → List ℕ

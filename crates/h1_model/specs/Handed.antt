@@ -1,18 +1,14 @@
 -- What was handed out, and when that is a prefix of a parse.
-use Rattle.std.specs.Prelude.{◌≡◌, ℕ, ◌+◌, ◌-◌, ◌≤◌, Bool, true, false, List, [], ◌∷◌, ◌++◌, length, take, drop, map, Option, Some, None, IsTrue, IsSome, unwrap_or, flat_map, slice_range, ⊤}
+use Rattle.std.specs.Prelude.{◌≡◌, ℕ, ◌≤◌, Bool, true, false, List, [], ◌∷◌, ◌++◌, length, take, drop, map, reverse, Option, Some, None, IsTrue, IsSome, unwrap_or, flat_map, slice_range, ⊤}
 use Rattle.h1_model.specs.HeadPiece.{HasNoHeadPiece}
 use Rattle.h1_model.specs.Request.{Reading, too_large, malformed, head_is}
 use Rattle.h1_model.specs.ChunkedText.{Run}
 use Rattle.h1_model.specs.Frame.{Frame}
-use Rattle.h1_model.specs.FrameText.{PlacedFrame}
-use Rattle.h1_model.specs.Parse.{Input, Message, Body, no_content, content, frames, ended_at, still_open, broken, cut, next_start}
-use Rattle.h1_model.specs.Event.{Event, Outcome, Fault, malformed_head, oversized_head, BodyFault, corrupted, incomplete}
+use Rattle.h1_model.specs.Parse.{Message, Body, content, broken, cut, next_start, runs_of, frames_of}
+use Rattle.h1_model.specs.Event.{Outcome, Fault, BodyFault, corrupted, incomplete}
 use Rattle.h1_model.specs.Event as on
-use Rattle.h1_model.specs.Sums.{Step, completes}
-
--- the most bytes that a connection holds
-abbrev pub MAX_HELD : ℕ
-MAX_HELD = 131072
+use Rattle.h1_model.specs.Sums.{Step, completes, taken}
+use Rattle.h1_model.specs.Limits.{MAX_HELD}
 
 -- What was handed out of one message: its head or fault, bytes of its body, its end or fault, and frames.
 -- Answered says that its answer is complete.
@@ -28,8 +24,8 @@ abbrev pub newly_handed : Reading → Handed
 newly_handed reading = record { reading = reading; bytes = []; has_end = false; fault = None; frames = []; answered = false }
 
 abbrev pub fault_reading : Fault → Reading
-fault_reading malformed_head = malformed
-fault_reading oversized_head = too_large
+fault_reading on.malformed = malformed
+fault_reading on.too_large = too_large
 
 -- what an outcome adds to the messages, of which the newest is first
 abbrev pub handing : Outcome → List Handed → List Handed
@@ -42,15 +38,15 @@ handing (on.broken_by f) (m ∷ ms) = record m { fault = Some f } ∷ ms
 handing (on.frame f) (m ∷ ms) = record m { frames = m.frames ++ f ∷ [] } ∷ ms
 handing _ (m ∷ ms) = m ∷ ms
 
-abbrev pub answering : Bool → List Handed → List Handed
-answering false handed = handed
-answering true [] = []
-answering true (m ∷ ms) = record m { answered = true } ∷ ms
+abbrev pub marking_answered : Bool → List Handed → List Handed
+marking_answered false handed = handed
+marking_answered true [] = []
+marking_answered true (m ∷ ms) = record m { answered = true } ∷ ms
 
 -- the messages that were handed out, the newest first
 unfoldable pub handed_out : List Step → List Handed
 handed_out [] = []
-handed_out (s ∷ before) = answering (completes s.event) (handing s.outcome (handed_out before))
+handed_out (s ∷ before) = marking_answered (completes s.event) (handing s.outcome (handed_out before))
 
 -- ---- against a parse
 
@@ -59,14 +55,10 @@ abbrev pub run_bytes : List ℕ → List Run → List ℕ
 run_bytes bytes runs = flat_map (λ r. slice_range bytes r.start r.end) runs
 
 abbrev pub body_bytes : List ℕ → Body → List ℕ
-body_bytes bytes no_content = []
-body_bytes bytes (content runs stop) = run_bytes bytes runs
-body_bytes bytes (frames placed fail) = []
+body_bytes bytes body = run_bytes bytes (runs_of body)
 
 abbrev pub body_frames : Body → List Frame
-body_frames no_content = []
-body_frames (content runs stop) = []
-body_frames (frames placed fail) = map (λ p. p.frame) placed
+body_frames body = map (λ p. p.frame) (frames_of body)
 
 -- the list is the beginning of the other
 abbrev pub Begins : {A : Type 0} → List A → List A → Type 0
@@ -76,10 +68,7 @@ Begins {A} front all = (rest : List A) × (all ≡ front ++ rest)
 abbrev pub body_fault : Body → Option BodyFault
 body_fault (content runs broken) = Some corrupted
 body_fault (content runs cut) = Some incomplete
-body_fault (content runs (ended_at place)) = None
-body_fault (content runs still_open) = None
-body_fault no_content = None
-body_fault (frames placed fail) = None
+body_fault _ = None
 
 -- What was handed out of a message is its own: an end and a fault are handed out behind all bytes.
 pub record Agrees (bytes : List ℕ) (h : Handed) (m : Message) : Type 0 where
@@ -108,5 +97,10 @@ IsPrefixFrom bytes place [] (m ∷ ms) = ⊤
 IsPrefixFrom bytes place (h ∷ hs) (m ∷ ms) =
     Agrees bytes h m × IsLastOrEnded h m hs × IsPrefixFrom bytes (unwrap_or (next_start m.body) place) hs ms
 
+-- the same of all messages
 abbrev pub IsPrefixOf : List ℕ → List Handed → List Message → Type 0
 IsPrefixOf bytes handed messages = IsPrefixFrom bytes 0 handed messages
+
+-- all that a trace handed out is the beginning of the parse
+abbrev pub HandsOutPrefix : List Step → List Message → Type 0
+HandsOutPrefix trace parse = IsPrefixOf (taken trace) (reverse (handed_out trace)) parse

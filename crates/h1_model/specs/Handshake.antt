@@ -1,11 +1,11 @@
 -- The opening handshake of WebSocket, as a server checks and answers it (RFC 6455, sections 1.3 and 4.2).
 use Rattle.std.specs.Prelude.{ℕ, Bool, true, false, not, ◌&&◌, ◌||◌, List, [], ◌∷◌, ◌++◌, codes, bytes_eq, if◌then◌else◌, Option, Some, None}
-use Rattle.std.specs.List.{list_any}
+use Rattle.std.specs.Option.{option_or}
 use Rattle.http_header.specs.Token.{lowercase}
 use Rattle.http_header.specs.FieldValue.{is_visible_text}
 use Rattle.sha1.specs.Sha1.{sha1}
 use Rattle.base64.specs.Rfc4648.{encode}
-use Rattle.h1_model.specs.Request.{Header, Head}
+use Rattle.h1_model.specs.Request.{Head}
 use Rattle.h1_model.specs.LengthTable.{values_of}
 use Rattle.h1_model.specs.Answer.{AnswerHead}
 
@@ -40,18 +40,13 @@ abbrev pub key_error : List (List ℕ) → Option HandshakeError
 key_error [] = Some bad_websocket_key
 key_error (key ∷ more) = None
 
--- the first check that fails
-abbrev pub first_error : Option HandshakeError → Option HandshakeError → Option HandshakeError
-first_error (Some e) later = Some e
-first_error None later = later
-
 -- the first failing check of a request (section 4.2.1)
 unfoldable pub handshake_error : Head → Option HandshakeError
 handshake_error request =
     if not (bytes_eq request.method (codes "GET")) then Some get_method_required
     else (if not (first_has_word (codes "websocket") (values_of (codes "upgrade") request.headers)) then Some no_websocket_upgrade
     else (if not (first_has_word (codes "upgrade") (values_of (codes "connection") request.headers)) then Some no_connection_upgrade
-    else (first_error (version_error (values_of (codes "sec-websocket-version") request.headers))
+    else (option_or (version_error (values_of (codes "sec-websocket-version") request.headers))
     (key_error (values_of (codes "sec-websocket-key") request.headers)))))
 
 -- base64 with padding (RFC 4648, section 4)
@@ -77,7 +72,7 @@ accepting_head request =
       keeps_alive = false;
       upgrades = true;
       no_chunking = false;
-      camel_case = false;
+      in_camel_case = false;
       headers = record { name = codes "upgrade"; value = codes "websocket" }
           ∷ record {
             name = codes "sec-websocket-accept";

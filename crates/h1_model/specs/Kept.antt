@@ -5,15 +5,15 @@ use Rattle.std.specs.List.{list_any}
 use Rattle.h1_model.specs.Request.{Head}
 use Rattle.h1_model.specs.Setting.{Setting}
 use Rattle.h1_model.specs.Parse.{Message}
-use Rattle.h1_model.specs.Event.{End}
-use Rattle.h1_model.specs.Sums.{Step, Answered, taken, has_ended, is_draining, is_upgraded, request, answered, answer_len, is_complete, is_sending, last_tick, first_tick, completed_at, since_head, is_drop, is_pull, is_go_on}
+use Rattle.h1_model.specs.End.{End}
+use Rattle.h1_model.specs.Sums.{Step, Answered, taken, has_ended, is_draining, is_upgraded, request, answered, answer_len, is_complete, is_sending, is_receiving, last_tick, first_tick, completed_at, since_head, was_pulled, was_dropped, was_told_to_go_on}
 use Rattle.h1_model.specs.Past.{Moment, steps, current, passed, given_bytes, given_frames}
 use Rattle.h1_model.specs.Text.{buffered}
 use Rattle.h1_model.specs.Closing.{closing, closing_since}
 use Rattle.h1_model.specs.Allowed.{is_over, gives_up}
 
--- The parts, each a value of the model's own. What a decoder has read of a body is the list of the bytes
--- that it was fed: those of the body that are passed.
+-- The parts, each a value of the model's own. What a decoder of chunks has read of a body is the list of
+-- the bytes that it was fed: those of the body that are passed.
 pub record Kept : Type 0 where
   pub unread : List ℕ
   pub has_ended : Bool
@@ -33,6 +33,7 @@ pub record Kept : Type 0 where
   pub is_complete : Bool
   pub buffered : List ℕ
   pub is_sending : Bool
+  pub is_receiving : Bool
   pub first_tick : Option ℕ
   pub last_tick : Option ℕ
   pub completed_at : Option ℕ
@@ -58,15 +59,16 @@ kept_of setting past =
       passed_body = passed_body past (current past);
       given_bytes = given_bytes trace;
       given_frames = given_frames trace;
-      was_pulled = list_any (λ s. is_pull s.event) (since_head trace);
-      was_dropped = list_any (λ s. is_drop s.event) (since_head trace);
-      was_told_to_go_on = list_any (λ s. is_go_on s.event) (since_head trace);
+      was_pulled = was_pulled trace;
+      was_dropped = was_dropped trace;
+      was_told_to_go_on = was_told_to_go_on trace;
       is_body_done = list_any (λ s. gives_up s.event s.outcome) (since_head trace);
       answered = answered trace;
       answer_len = answer_len trace;
       is_complete = is_complete trace;
       buffered = buffered setting trace;
       is_sending = is_sending trace;
+      is_receiving = is_receiving trace;
       first_tick = first_tick trace;
       last_tick = last_tick trace;
       completed_at = completed_at trace;

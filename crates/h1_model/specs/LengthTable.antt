@@ -1,6 +1,6 @@
 -- How a request's header lines frame its body (RFC 7230, section 3.3.3) and what they ask of the
 -- connection (section 6.1; RFC 7231, section 5.1.1). Each is a function of the whole list of lines.
-use Rattle.std.specs.Prelude.{ℕ, ◌^◌, Bool, true, false, ◌&&◌, List, [], ◌∷◌, map, filter, length, codes, bytes_eq, nat_eq, nat_lt, ◌==◌, if◌then◌else◌, Option, Some, None, option_and_then, unwrap_or}
+use Rattle.std.specs.Prelude.{ℕ, ◌^◌, Bool, true, false, ◌&&◌, List, [], ◌∷◌, map, filter, length, codes, bytes_eq, nat_eq, nat_lt, ◌==◌, if◌then◌else◌, Option, Some, None, option_and_then, option_map, unwrap_or}
 use Rattle.std.specs.List.{list_all, list_any, last_or, starts_with}
 use Rattle.std.specs.Char.{is_ascii_digit}
 use Rattle.std.specs.Str.Parse.{digits_value}
@@ -22,15 +22,10 @@ length_value text =
     if nat_lt 0 (length text) && list_all is_ascii_digit text && nat_lt (digits_value 10 text) (2 ^ 64)
     then Some (digits_value 10 text) else None
 
--- the number, wrapped, of the one value
-abbrev pub stated : Option ℕ → Option (Option ℕ)
-stated None = None
-stated (Some n) = Some (Some n)
-
 -- what the Content-Length lines state, nothing where there is none; two lines are refused
 abbrev pub stated_length : List (List ℕ) → Option (Option ℕ)
 stated_length [] = Some None
-stated_length (value ∷ []) = stated (length_value (trim_ows value))
+stated_length (value ∷ []) = option_map Some (length_value (trim_ows value))
 stated_length (value ∷ second ∷ more) = None
 
 -- Whether the Transfer-Encoding lines say chunked. HTTP/1.1 takes one line of that word, and all

@@ -1,3 +1,4 @@
+pub mod Limits
 pub mod HeadPiece
 pub mod Request
 pub mod LengthTable
@@ -10,6 +11,7 @@ pub mod Setting
 pub mod Answer
 pub mod AnswerText
 pub mod Handshake
+pub mod End
 pub mod Event
 pub mod Sums
 pub mod Handed

@@ -1,18 +1,19 @@
 -- What a connection answers to an allowed event: a function of the past.
-use Rattle.std.specs.Prelude.{ℕ, ◌+◌, ◌-◌, Bool, true, false, not, ◌&&◌, List, [], ◌∷◌, length, take, min, nat_lt, nat_le, ◌==◌, if◌then◌else◌, Option, Some, None, is_some, is_none, unwrap_or, slice_get, slice_range}
+use Rattle.std.specs.Prelude.{ℕ, ◌+◌, ◌-◌, Bool, false, not, ◌&&◌, List, [], ◌∷◌, length, take, min, nat_lt, nat_le, ◌==◌, if◌then◌else◌, Option, Some, None, is_some, unwrap_or, option_map, option_and_then, slice_get, slice_range}
 use Rattle.h1_model.specs.Request.{Head, Reading, too_large, malformed, head_is}
-use Rattle.h1_model.specs.Setting.{Setting, KeepAlive, timeout, by_system, disabled}
+use Rattle.h1_model.specs.Setting.{Setting, KeepAlive, timeout}
 use Rattle.h1_model.specs.ChunkedText.{Run}
-use Rattle.h1_model.specs.Frame.{Message, ProtocolError}
-use Rattle.h1_model.specs.Frame as framed
+use Rattle.h1_model.specs.Frame.{ProtocolError}
 use Rattle.h1_model.specs.FrameText.{PlacedFrame, send_error}
 use Rattle.h1_model.specs.Parse as parsed
 use Rattle.h1_model.specs.Parse.{Body, no_content, content, frames, Stop, ended_at, still_open, broken, cut, next_start}
-use Rattle.h1_model.specs.Handshake.{HandshakeError, handshake_error}
-use Rattle.h1_model.specs.Event.{Event, Outcome, End, malformed_head, oversized_head, corrupted, incomplete, slow_request, keep_alive_expired}
+use Rattle.h1_model.specs.Handshake.{handshake_error}
+use Rattle.h1_model.specs.Event.{Event, Outcome, corrupted, incomplete}
 use Rattle.h1_model.specs.Event as on
-use Rattle.h1_model.specs.Sums.{Step, taken, request, is_upgraded, is_open, is_complete, is_sending, first_tick, completed_at}
-use Rattle.h1_model.specs.Handed.{MAX_HELD}
+use Rattle.h1_model.specs.End as ends
+use Rattle.h1_model.specs.End.{End}
+use Rattle.h1_model.specs.Sums.{Step, taken, request, is_open, is_complete, is_sending, first_tick, completed_at}
+use Rattle.h1_model.specs.Limits.{MAX_HELD}
 use Rattle.h1_model.specs.Past.{Moment, steps, parse_of, current, upcoming, given_bytes, given_frames, held}
 use Rattle.h1_model.specs.Text.{buffered}
 use Rattle.h1_model.specs.Closing.{closing, closing_since}
@@ -21,13 +22,13 @@ use Rattle.h1_model.specs.Closing.{closing, closing_since}
 
 abbrev pub head_outcome : Reading → Outcome
 head_outcome (head_is h) = on.head h
-head_outcome malformed = on.fault malformed_head
-head_outcome too_large = on.fault oversized_head
+head_outcome malformed = on.fault on.malformed
+head_outcome too_large = on.fault on.too_large
 
 -- the next message's head, or a fault where no more bytes could be taken for one
 abbrev pub upcoming_outcome : List Moment → Option parsed.Message → Outcome
 upcoming_outcome past (Some m) = head_outcome m.reading
-upcoming_outcome past None = if held past == MAX_HELD then on.fault oversized_head else on.pending
+upcoming_outcome past None = if held past == MAX_HELD then on.fault on.too_large else on.pending
 
 abbrev pub next_outcome : List Moment → Option End → Outcome
 next_outcome past (Some end) = on.closed end
@@ -53,14 +54,10 @@ abbrev pub run_outcome : List ℕ → Stop → Option Run → Outcome
 run_outcome bytes stop (Some r) = on.bytes (slice_range bytes r.start r.end)
 run_outcome bytes stop None = stop_outcome stop
 
-abbrev pub fail_outcome : Option ProtocolError → Outcome
-fail_outcome (Some e) = on.protocol e
-fail_outcome None = on.pending
-
 -- the next frame, and else the rule that the bytes behind it break
 abbrev pub frame_outcome : Option ProtocolError → Option PlacedFrame → Outcome
 frame_outcome fail (Some f) = on.frame f.frame
-frame_outcome fail None = fail_outcome fail
+frame_outcome fail None = unwrap_or (option_map on.protocol fail) on.pending
 
 abbrev pub body_outcome : List Step → Body → Outcome
 body_outcome trace no_content = on.pending
@@ -92,10 +89,10 @@ abbrev pub is_slow : Setting → List Moment → ℕ → ℕ → Bool
 is_slow setting past first ms =
     (length (parse_of past) == 0) && has_run_out setting.request_timeout first ms
 
-abbrev pub keep_alive_ms : KeepAlive → ℕ
-keep_alive_ms (timeout ms) = ms
-keep_alive_ms by_system = 0
-keep_alive_ms disabled = 0
+-- the time for which the connection is kept has run out
+abbrev pub is_kept_too_long : KeepAlive → ℕ → ℕ → Bool
+is_kept_too_long (timeout wait) since ms = nat_le (since + wait) ms
+is_kept_too_long _ since ms = false
 
 abbrev pub has_ended_body : Option parsed.Message → Bool
 has_ended_body None = false
@@ -105,27 +102,21 @@ has_ended_body (Some m) = is_some (next_start m.body)
 abbrev pub is_idle : Setting → List Moment → ℕ → ℕ → Bool
 is_idle setting past first ms =
     is_complete (steps past) && not (is_open (steps past)) && has_ended_body (current past) && (held past == 0)
-    && has_run_out (keep_alive_ms setting.keep_alive) (counted_from first (completed_at (steps past))) ms
+    && is_kept_too_long setting.keep_alive (counted_from first (completed_at (steps past))) ms
 
 abbrev pub tick_outcome : Setting → List Moment → Option End → ℕ → ℕ → Outcome
 tick_outcome setting past (Some end) first ms = if is_abandoned setting past first ms then on.abandoned else on.done
 tick_outcome setting past None first ms =
-    if is_slow setting past first ms then on.expired slow_request
-    else (if is_idle setting past first ms then on.expired keep_alive_expired else on.done)
+    if is_slow setting past first ms then on.expired ends.slow_request
+    else (if is_idle setting past first ms then on.expired ends.keep_alive_expired else on.done)
 
 -- ---- the others
 
-abbrev pub accept_outcome : Option HandshakeError → Outcome
-accept_outcome (Some e) = on.refused e
-accept_outcome None = on.done
-
-abbrev pub handshake_of : Option Head → Option HandshakeError
-handshake_of None = None
-handshake_of (Some h) = handshake_error h
+abbrev pub accept_outcome : Option Head → Outcome
+accept_outcome request = unwrap_or (option_map on.refused (option_and_then handshake_error request)) on.done
 
 abbrev pub send_outcome : Option ProtocolError → Outcome
-send_outcome (Some e) = on.protocol e
-send_outcome None = on.done
+send_outcome error = unwrap_or (option_map on.protocol error) on.done
 
 -- the outcome of an event that is allowed
 unfoldable pub outcome_of : Setting → List Moment → Event → Outcome
@@ -135,13 +126,6 @@ outcome_of setting past on.pull = pull_outcome (steps past) (current past)
 outcome_of setting past (on.write n) = on.gave (take n (buffered setting (steps past)))
 outcome_of setting past (on.tick ms) =
     tick_outcome setting past (closing setting past) (unwrap_or (first_tick (steps past)) ms) ms
-outcome_of setting past on.accept = accept_outcome (handshake_of (request (steps past)))
+outcome_of setting past on.accept = accept_outcome (request (steps past))
 outcome_of setting past (on.send m) = send_outcome (send_error (is_sending (steps past)) m)
-outcome_of setting past on.eof = on.done
-outcome_of setting past on.drain = on.done
-outcome_of setting past on.drop_body = on.done
-outcome_of setting past on.go_on = on.done
-outcome_of setting past (on.answer head size) = on.done
-outcome_of setting past (on.chunk bytes) = on.done
-outcome_of setting past on.body_end = on.done
-outcome_of setting past on.body_error = on.done
+outcome_of setting past _ = on.done

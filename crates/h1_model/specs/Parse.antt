@@ -1,11 +1,11 @@
 -- The parse of all bytes taken: messages one after another, each a head and its body (RFC 7230, section 3).
-use Rattle.std.specs.Prelude.{◌≡◌, ℕ, ◌+◌, ◌-◌, ◌≤◌, Bool, true, false, List, [], ◌∷◌, length, drop, map, nat_lt, nat_le, if◌then◌else◌, Option, Some, None, slice_range, MatchOption}
+use Rattle.std.specs.Prelude.{◌≡◌, ℕ, ◌+◌, Bool, true, false, List, [], ◌∷◌, length, drop, map, nat_lt, nat_le, if◌then◌else◌, Option, Some, None, slice_range, MatchOption}
 use Rattle.h1_model.specs.HeadPiece.{IsHeadPiece, HasNoHeadPiece}
-use Rattle.h1_model.specs.Request.{BodyKind, no_body, fixed_body, chunked_body, raw_body, Head, Reading, too_large, malformed, head_is}
+use Rattle.h1_model.specs.Request.{BodyKind, no_body, fixed_body, chunked_body, raw_body, Reading, too_large, malformed, head_is}
 use Rattle.h1_model.specs.RequestHead.{IsReading}
 use Rattle.h1_model.specs.ChunkedText.{Run, Chunked, whole, unfinished, not_chunked, IsChunked}
 use Rattle.h1_model.specs.Frame.{ProtocolError}
-use Rattle.h1_model.specs.FrameText.{PlacedFrame, ReadsFrames}
+use Rattle.h1_model.specs.FrameText.{Reader, PlacedFrame, ReadsFrames}
 
 -- all bytes taken, whether the connection speaks WebSocket, and whether the input has ended
 pub record Input : Type 0 where
@@ -60,6 +60,10 @@ chunked_stop i place (whole k) = ended_at (place + k)
 chunked_stop i place unfinished = open_or_cut i.ended
 chunked_stop i place not_chunked = broken
 
+-- a connection is a server, and takes frames of at most 65536 bytes
+abbrev pub connection_reader : Reader
+connection_reader = record { wants_mask = true; max_payload = 65536 }
+
 -- the body of this kind that begins at the place; once upgraded, a raw body is frames
 abbrev pub IsBodyOf : Input → BodyKind → ℕ → Body → Type 0
 IsBodyOf i no_body place body = body ≡ content [] (ended_at place)
@@ -73,7 +77,7 @@ IsBodyOf i raw_body place body = IsRawBody i i.upgraded place body
     IsRawBody i false place body = body ≡ raw_content i place
     IsRawBody i true place body =
         (placed : List PlacedFrame) × (fail : Option ProtocolError)
-        × ReadsFrames false place i.bytes placed fail × (body ≡ frames placed fail)
+        × ReadsFrames connection_reader false place i.bytes placed fail × (body ≡ frames placed fail)
 
 -- a head that was refused has no body
 abbrev pub IsBodyAfter : Input → Reading → ℕ → Body → Type 0
@@ -83,12 +87,20 @@ IsBodyAfter i (head_is h) place body = IsBodyOf i h.body place body
 
 -- where the next message starts: only behind a body that has ended
 abbrev pub next_start : Body → Option ℕ
-next_start no_content = None
 next_start (content runs (ended_at place)) = Some place
-next_start (content runs still_open) = None
-next_start (content runs broken) = None
-next_start (content runs cut) = None
-next_start (frames placed fail) = None
+next_start _ = None
+
+abbrev pub runs_of : Body → List Run
+runs_of (content runs stop) = runs
+runs_of _ = []
+
+abbrev pub frames_of : Body → List PlacedFrame
+frames_of (frames placed fail) = placed
+frames_of _ = []
+
+abbrev pub fail_of : Body → Option ProtocolError
+fail_of (frames placed fail) = fail
+fail_of _ = None
 
 -- the message at the place
 pub record IsMessageAt (i : Input) (place : ℕ) (m : Message) : Type 0 where

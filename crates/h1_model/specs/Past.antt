@@ -1,10 +1,10 @@
 -- The past of a connection: its trace, with the parse of the bytes taken beside each step. What was
 -- passed, and what is held.
-use Rattle.std.specs.Prelude.{◌≡◌, ℕ, ◌+◌, ◌-◌, Bool, true, false, List, [], ◌∷◌, length, map, sum_by, nat_le, ◌==◌, if◌then◌else◌, Option, Some, None, unwrap_or, is_some, slice_get, ⊤}
-use Rattle.h1_model.specs.Request.{Head, Reading, head_is, too_large, malformed, BodyKind, chunked_body, no_body, fixed_body, raw_body}
+use Rattle.std.specs.Prelude.{ℕ, ◌+◌, ◌-◌, Bool, false, List, [], ◌∷◌, length, map, sum_by, count_by, nat_le, ◌==◌, if◌then◌else◌, Option, Some, None, unwrap_or, is_some, slice_get, ⊤}
+use Rattle.h1_model.specs.Request.{Reading, head_is, is_chunked_kind}
 use Rattle.h1_model.specs.ChunkedText.{Run}
 use Rattle.h1_model.specs.FrameText.{PlacedFrame}
-use Rattle.h1_model.specs.Parse.{Input, Message, Body, no_content, content, frames, next_start, IsParse}
+use Rattle.h1_model.specs.Parse.{Input, Message, next_start, runs_of, frames_of, IsParse}
 use Rattle.h1_model.specs.Event.{Event, Outcome}
 use Rattle.h1_model.specs.Event as on
 use Rattle.h1_model.specs.Sums.{Step, taken, has_ended, is_upgraded, is_complete, since_head, head_of}
@@ -36,7 +36,7 @@ parse_of (m ∷ before) = m.parse
 
 -- how many heads were handed out
 abbrev pub head_count : List Step → ℕ
-head_count trace = sum_by (λ s. if is_some (head_of s.outcome) then 1 else 0) trace
+head_count trace = count_by (λ s. is_some (head_of s.outcome)) trace
 
 -- the message whose head was handed out last, as it is parsed now
 abbrev pub current : List Moment → Option Message
@@ -70,16 +70,6 @@ place_behind place given (r ∷ rs) =
     if given == 0 then place
     else (if nat_le given (r.end - r.start) then r.start + given else place_behind r.end (given - (r.end - r.start)) rs)
 
-abbrev pub runs_of : Body → List Run
-runs_of (content runs stop) = runs
-runs_of no_content = []
-runs_of (frames placed fail) = []
-
-abbrev pub frames_of : Body → List PlacedFrame
-frames_of (frames placed fail) = placed
-frames_of no_content = []
-frames_of (content runs stop) = []
-
 -- the place behind so many frames
 abbrev pub frame_end : ℕ → ℕ → List PlacedFrame → ℕ
 frame_end place count placed = if count == 0 then place else last_end (slice_get placed (count - 1))
@@ -90,14 +80,7 @@ frame_end place count placed = if count == 0 then place else last_end (slice_get
 
 abbrev pub has_chunks : Reading → Bool
 has_chunks (head_is h) = is_chunked_kind h.body
-  where
-    is_chunked_kind : BodyKind → Bool
-    is_chunked_kind chunked_body = true
-    is_chunked_kind no_body = false
-    is_chunked_kind (fixed_body n) = false
-    is_chunked_kind raw_body = false
-has_chunks too_large = false
-has_chunks malformed = false
+has_chunks _ = false
 
 -- What a pull passes: bytes up to their end, an end or a frame up to it. A chunked body of which nothing
 -- can be given is read past as far as it was taken.

@@ -1,5 +1,5 @@
 -- What the head of a request says, as plain values (RFC 7230, sections 2.6, 3 and 5).
-use Rattle.std.specs.Prelude.{ℕ, Bool, List}
+use Rattle.std.specs.Prelude.{ℕ, Bool, true, false, List}
 
 -- a header line: its name in lower case, and its value without the white space around it
 pub record Header : Type 0 where
@@ -15,6 +15,18 @@ pub data ConnectionType : Type 0 where
 pub data BodyKind : Type 0 where
   no_body chunked_body raw_body : BodyKind
   fixed_body : ℕ → BodyKind
+
+abbrev pub has_body : BodyKind → Bool
+has_body no_body = false
+has_body _ = true
+
+abbrev pub is_chunked_kind : BodyKind → Bool
+is_chunked_kind chunked_body = true
+is_chunked_kind _ = false
+
+abbrev pub is_raw_kind : BodyKind → Bool
+is_raw_kind raw_body = true
+is_raw_kind _ = false
 
 -- HTTP/1.minor; the headers are in line order, and expects says that the client waits for 100 Continue
 pub record Head : Type 0 where

@@ -5,15 +5,11 @@ use Rattle.httparse.specs.Grammar.{RequestHead, ReadsRequest, Field, field_value
 use Rattle.http_header.specs.Token.{IsToken, lowercase}
 use Rattle.http_header.specs.FieldName.{IsFieldName}
 use Rattle.http_header.specs.FieldValue.{IsFieldValue}
-use Rattle.http_uri.specs.Uri.{Spells}
-use Rattle.http_uri.specs.declared.uri.Uri.{Uri}
+use Rattle.http_uri.specs.Grammar.{IsUriText}
 use Rattle.h1_model.specs.HeadPiece.{header_lines}
+use Rattle.h1_model.specs.Limits.{MAX_HEADER_LINES}
 use Rattle.h1_model.specs.LengthTable.{body_kind, connection_of, expects_continue}
 use Rattle.h1_model.specs.Request.{Header, Head, Reading, too_large, malformed, head_is}
-
--- the most header lines that a head may have
-abbrev pub MAX_HEADER_LINES : ℕ
-MAX_HEADER_LINES = 96
 
 -- a field line as a header
 abbrev pub header_of : Field → Header
@@ -24,13 +20,16 @@ pub record IsHeaderField (f : Field) : Type 0 where
   pub name : IsFieldName f.name
   pub value : IsFieldValue (field_value f)
 
--- the piece is the text of this head
+-- the text has one of the forms of a target
+abbrev pub IsTarget : List ℕ → Type 0
+IsTarget text = (scheme authority : Option (List ℕ)) × (rest : List ℕ) × IsUriText text scheme authority rest
+
+-- The piece is the text of this head. That the method is a token is said by the grammar too.
 pub record IsHeadOf (piece : List ℕ) (h : Head) : Type 0 where
   pub text : RequestHead
   pub reads : ReadsRequest piece text []
   pub method_is : IsToken text.method × (h.method ≡ text.method)
-  pub uri : Uri
-  pub target_is : Spells text.target uri × (h.target ≡ text.target)
+  pub target_is : IsTarget text.target × (h.target ≡ text.target)
   pub minor_is : h.minor ≡ text.minor
   pub fields : All IsHeaderField text.fields
   pub headers_are : h.headers ≡ map header_of text.fields

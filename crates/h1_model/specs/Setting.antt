@@ -6,7 +6,7 @@ pub data KeepAlive : Type 0 where
   timeout : ℕ → KeepAlive
   by_system disabled : KeepAlive
 
--- 0 turns a timeout off, and write_buffer is in bytes
+-- a request or disconnect timeout of 0 is off; write_buffer is in bytes
 pub record Setting : Type 0 where
   pub keep_alive : KeepAlive
   pub request_timeout : ℕ
@@ -14,11 +14,7 @@ pub record Setting : Type 0 where
   pub allows_half_closed : Bool
   pub write_buffer : ℕ
 
-abbrev pub keeps : KeepAlive → Bool
-keeps (timeout ms) = true
-keeps by_system = true
-keeps disabled = false
-
 -- answers may leave the connection open
-abbrev pub is_keeping_alive : Setting → Bool
-is_keeping_alive setting = keeps setting.keep_alive
+abbrev pub keeps : KeepAlive → Bool
+keeps disabled = false
+keeps _ = true

@@ -1,9 +1,9 @@
 -- The sums of a trace. A trace is a list of steps, the newest first.
 use Rattle.std.specs.Prelude.{ℕ, ◌+◌, Bool, true, false, not, ◌&&◌, ◌||◌, List, [], ◌∷◌, ◌++◌, length, take, Option, Some, None, unwrap_or, is_some, if◌then◌else◌}
 use Rattle.std.specs.List.{list_any}
+use Rattle.std.specs.Option.{option_or}
 use Rattle.h1_model.specs.Request.{Head}
 use Rattle.h1_model.specs.Answer.{AnswerHead, BodySize, is_at_once}
-use Rattle.h1_model.specs.Frame.{Message}
 use Rattle.h1_model.specs.FrameText.{is_under_way}
 use Rattle.h1_model.specs.Event.{Event, Outcome}
 use Rattle.h1_model.specs.Event as on
@@ -86,20 +86,15 @@ abbrev pub tick_of : Event → Option ℕ
 tick_of (on.tick ms) = Some ms
 tick_of _ = None
 
--- the first of the two that is there
-abbrev pub or_else : {A : Type 0} → Option A → Option A → Option A
-or_else (Some x) other = Some x
-or_else None other = other
-
 -- the moment of the last tick
 unfoldable pub last_tick : List Step → Option ℕ
 last_tick [] = None
-last_tick (s ∷ before) = or_else (tick_of s.event) (last_tick before)
+last_tick (s ∷ before) = option_or (tick_of s.event) (last_tick before)
 
 -- the moment of the first tick
 unfoldable pub first_tick : List Step → Option ℕ
 first_tick [] = None
-first_tick (s ∷ before) = or_else (first_tick before) (tick_of s.event)
+first_tick (s ∷ before) = option_or (first_tick before) (tick_of s.event)
 
 -- the moment, which is 0 before the first tick
 abbrev pub now : List Step → ℕ
@@ -114,7 +109,7 @@ head_of _ = None
 -- the head that was handed out last
 unfoldable pub request : List Step → Option Head
 request [] = None
-request (s ∷ before) = or_else (head_of s.outcome) (request before)
+request (s ∷ before) = option_or (head_of s.outcome) (request before)
 
 -- the steps behind that head
 unfoldable pub since_head : List Step → List Step
@@ -135,15 +130,31 @@ answered_by _ drained = None
 unfoldable pub answered : List Step → Option Answered
 answered [] = None
 answered (s ∷ before) =
-    if is_some (head_of s.outcome) then None else or_else (answered_by s.event (is_draining before)) (answered before)
+    if is_some (head_of s.outcome) then None else option_or (answered_by s.event (is_draining before)) (answered before)
 
-abbrev pub ends_at_once : Option Answered → Bool
-ends_at_once None = false
-ends_at_once (Some a) = is_at_once a.size
+-- the event completes an answer
+abbrev pub completes : Event → Bool
+completes (on.answer head size) = is_at_once size
+completes on.body_end = true
+completes _ = false
+
+-- an event of this kind came behind the head
+abbrev pub came_since_head : (Event → Bool) → List Step → Bool
+came_since_head kind steps = list_any (λ s. kind s.event) (since_head steps)
 
 -- the answer to the last request is complete
 abbrev pub is_complete : List Step → Bool
-is_complete steps = ends_at_once (answered steps) || list_any (λ s. is_body_end s.event) (since_head steps)
+is_complete steps = came_since_head completes steps
+
+-- the body of the last request was asked for, or dropped; its client was told to go on
+abbrev pub was_pulled : List Step → Bool
+was_pulled steps = came_since_head is_pull steps
+
+abbrev pub was_dropped : List Step → Bool
+was_dropped steps = came_since_head is_drop steps
+
+abbrev pub was_told_to_go_on : List Step → Bool
+was_told_to_go_on steps = came_since_head is_go_on steps
 
 -- a request was handed out and its answer isn't complete; a WebSocket stays open
 abbrev pub is_open : List Step → Bool
@@ -152,12 +163,6 @@ is_open steps = is_some (request steps) && (is_upgraded steps || not (is_complet
 -- an answer is handed in and isn't complete
 abbrev pub is_answering : List Step → Bool
 is_answering steps = is_some (answered steps) && not (is_complete steps)
-
--- the step completed an answer
-abbrev pub completes : Event → Bool
-completes (on.answer head size) = is_at_once size
-completes on.body_end = true
-completes _ = false
 
 -- the last tick before the last answer became complete
 unfoldable pub completed_at : List Step → Option ℕ
@@ -173,7 +178,7 @@ unfoldable pub answer_len : List Step → ℕ
 answer_len [] = 0
 answer_len (s ∷ before) = if is_some (head_of s.outcome) then 0 else chunk_len s.event + answer_len before
 
--- ---- messages that were sent
+-- ---- messages of a WebSocket
 
 abbrev pub under_way_behind : Bool → Event → Outcome → Bool
 under_way_behind before (on.send (frames.frame f)) on.done = is_under_way before f
@@ -183,3 +188,12 @@ under_way_behind before _ _ = before
 unfoldable pub is_sending : List Step → Bool
 is_sending [] = false
 is_sending (s ∷ before) = under_way_behind (is_sending before) s.event s.outcome
+
+abbrev pub received_behind : Bool → Outcome → Bool
+received_behind before (on.frame f) = is_under_way before f
+received_behind before _ = before
+
+-- a message in fragments is being received
+unfoldable pub is_receiving : List Step → Bool
+is_receiving [] = false
+is_receiving (s ∷ before) = received_behind (is_receiving before) s.outcome

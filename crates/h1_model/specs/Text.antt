@@ -1,13 +1,15 @@
 -- The text that a connection writes: the texts of its steps, in order.
 use Rattle.std.specs.Prelude.{ℕ, List, [], ◌∷◌, ◌++◌, length, drop, Option, Some, None}
-use Rattle.h1_model.specs.Request.{Head, ConnectionType}
+use Rattle.h1_model.specs.Request.{Head}
 use Rattle.h1_model.specs.Setting.{Setting}
-use Rattle.h1_model.specs.Answer.{AnswerHead, BodySize, size_stream, Shape, shape_of, type_of}
+use Rattle.h1_model.specs.Answer.{AnswerHead, BodySize, size_stream, shape_of, type_of}
 use Rattle.h1_model.specs.AnswerText.{head_text, sent_piece, sent_end, interim_text, bad_request_text, too_large_text, timeout_text}
 use Rattle.h1_model.specs.Handshake.{accepting_head}
 use Rattle.h1_model.specs.Frame as frames
 use Rattle.h1_model.specs.FrameText.{frame_text}
-use Rattle.h1_model.specs.Event.{Event, Outcome, End, Fault, malformed_head, oversized_head, slow_request}
+use Rattle.h1_model.specs.Event.{Event, Outcome, Fault}
+use Rattle.h1_model.specs.End as ends
+use Rattle.h1_model.specs.End.{End}
 use Rattle.h1_model.specs.Event as on
 use Rattle.h1_model.specs.Sums.{Step, Answered, request, answered, answer_len, is_draining, now, written}
 
@@ -32,12 +34,12 @@ accept_text setting before None = []
 accept_text setting before (Some h) = answer_text setting before (accepting_head h) size_stream (Some h)
 
 abbrev pub fault_answer : Fault → ℕ → List ℕ
-fault_answer malformed_head now = bad_request_text now
-fault_answer oversized_head now = too_large_text now
+fault_answer on.malformed now = bad_request_text now
+fault_answer on.too_large now = too_large_text now
 
 -- a request that is too slow is answered, with the moment of this tick; a connection that is only kept isn't
 abbrev pub expiry_text : End → ℕ → List ℕ
-expiry_text slow_request ms = timeout_text ms
+expiry_text ends.slow_request ms = timeout_text ms
 expiry_text _ ms = []
 
 abbrev pub message_text : frames.Message → List ℕ

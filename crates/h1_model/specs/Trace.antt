@@ -1,6 +1,6 @@
 -- The traces of a connection: each event is allowed behind those before it, and has the outcome of the
--- table. Nothing here depends on how the bytes were cut into reads.
-use Rattle.std.specs.Prelude.{◌≡◌, ℕ, List, [], ◌∷◌, IsTrue, ⊤}
+-- table. The parse sees all bytes taken, and never how they were cut into reads. Each trace has one past.
+use Rattle.std.specs.Prelude.{◌≡◌, List, [], ◌∷◌, IsTrue, IsFalse, ⊤}
 use Rattle.h1_model.specs.Setting.{Setting}
 use Rattle.h1_model.specs.Event.{Event, Outcome}
 use Rattle.h1_model.specs.Sums.{Step}
@@ -16,6 +16,10 @@ pub record IsPastOf (trace : List Step) (past : List Moment) : Type 0 where
 -- the event is allowed behind the trace
 abbrev pub IsAllowed : Setting → List Step → Event → Type 0
 IsAllowed setting trace event = (past : List Moment) × IsPastOf trace past × IsTrue (is_allowed setting past event)
+
+-- the event isn't allowed behind the trace
+abbrev pub IsMisplaced : Setting → List Step → Event → Type 0
+IsMisplaced setting trace event = (past : List Moment) × IsPastOf trace past × IsFalse (is_allowed setting past event)
 
 -- the event's outcome behind the trace
 abbrev pub IsOutcome : Setting → List Step → Event → Outcome → Type 0

@@ -53,11 +53,11 @@ pub fn last_connection_line()
 /// The head of an empty answer at the first moment: 75 bytes.
 pub fn first_answer()
     ensures text { head_text 1
-        (record { status = 200; reason = None; closes = false; keeps_alive = false; upgrades = false; no_chunking = false; camel_case = false; headers = [] })
+        (record { status = 200; reason = None; closes = false; keeps_alive = false; upgrades = false; no_chunking = false; in_camel_case = false; headers = [] })
         shape_none (size_of 0) keep_alive 0
         ≡ codes "HTTP/1.1 200 OK\r\ncontent-length: 0\r\ndate: Thu, 01 Jan 1970 00:00:00 GMT\r\n\r\n" }
     ensures size { length (head_text 1
-        (record { status = 200; reason = None; closes = false; keeps_alive = false; upgrades = false; no_chunking = false; camel_case = false; headers = [] })
+        (record { status = 200; reason = None; closes = false; keeps_alive = false; upgrades = false; no_chunking = false; in_camel_case = false; headers = [] })
         shape_none (size_of 0) keep_alive 0) ≡ 75 }
 {}
 
