@@ -15,6 +15,7 @@ pub mod End
 pub mod Event
 pub mod Sums
 pub mod Handed
+pub mod Growth
 pub mod Past
 pub mod Text
 pub mod Closing

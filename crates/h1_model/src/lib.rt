@@ -4,5 +4,10 @@
 pub mod chunked_examples;
 pub mod chunked_text;
 pub mod examples;
+pub mod frame_examples;
+pub mod frame_text;
+pub mod handed;
 pub mod head_piece;
+pub mod parse;
 pub mod request_head;
+pub mod trace;

@@ -1,0 +1,27 @@
+//! The laws of the parse of all bytes taken.
+
+ghost use Rattle.std.specs.Prelude.{◌≡◌, ℕ, ◌≤◌, false, List, ◌∷◌, ◌++◌, length, drop, map, Some};
+ghost use Rattle.h1_model.specs.Parse.{Input, Message, next_start, AreMessages, IsParse};
+ghost use Rattle.h1_model.specs.Growth.{GrowTo};
+
+/// The bytes are parsed in one way.
+pub fn parse_is_unique()
+    ensures { (i : Input) (a b : List Message) → IsParse i a → IsParse i b → a ≡ b }
+{}
+
+/// When bytes follow, each message that was parsed stays where it was, with what there was of its body.
+pub fn parse_stays()
+    ensures { (i j : Input) (more : List ℕ) (ms ns : List Message) → j.bytes ≡ i.bytes ++ more → j.upgraded ≡ i.upgraded
+        → i.ended ≡ false → IsParse i ms → IsParse j ns → GrowTo i.bytes j.bytes ms ns }
+{}
+
+/// The messages behind a body that has ended are those from its end on.
+pub fn parse_goes_on()
+    ensures { (i : Input) (place next : ℕ) (m : Message) (ms : List Message) → AreMessages i place (m ∷ ms)
+        → next_start m.body ≡ Some next → AreMessages i next ms }
+{}
+
+/// All bytes have a parse.
+pub fn parse_exists()
+    ensures { (i : Input) → (ms : List Message) × IsParse i ms }
+{}
