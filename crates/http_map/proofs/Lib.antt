@@ -1,0 +1,7 @@
+pub mod HashLemmas
+pub mod LendsLemmas
+pub mod MapLemmas
+pub mod NumberLemmas
+pub mod OwnedLemmas
+pub mod RetainLemmas
+pub mod RowLemmas

@@ -1,0 +1,13 @@
+use Rattle.std.proofs.Common.{arith}
+use Rattle.http_map.specs.Layout.{rows}
+use Rattle.http_map.proofs.MapLemmas.{value_count-append, IsFilled-append}
+use Rattle.http_map.proofs.map.HeaderMap.append.Goals as goal
+
+pub invariant_of-self-2 : goal.invariant_of-self-2
+invariant_of-self-2 c =
+    let more = rw c.in_ok-len.ensures.ok_part at c.checked_add.ensures in
+    rw c.in_ok-append_value.ensures.ok (record {
+      count = omega (arith, more, c.self.invariant.count, value_count-append c.args.key c.args.value (rows c.self.inside.names.entries));
+      fits = omega (arith, more);
+      filled = IsFilled-append c.args.key c.args.value (rows c.self.inside.names.entries) c.self.invariant.filled;
+    })

@@ -1,0 +1,20 @@
+use Rattle.std.proofs.Common.{length, ap, arith}
+use Rattle.http_map.specs.Layout.{rows}
+use Rattle.http_map.proofs.MapLemmas.{value_count-insert, IsFilled-insert}
+use Rattle.http_map.proofs.map.HeaderMap.insert.Goals as goal
+
+pub overflow_sub-self : goal.overflow_sub-self
+overflow_sub-self c =
+    let more = rw c.in_ok-len.ensures.ok_part at c.checked_add.ensures in
+    let gone = ap length c.in_ok-removed.ensures.removed in
+    omega (arith, more, gone, c.len.ensures, c.self.invariant.count, value_count-insert c.args.name c.args.val (rows c.self.inside.names.entries))
+
+pub invariant_of-self-2 : goal.invariant_of-self-2
+invariant_of-self-2 c =
+    let more = rw c.in_ok-len.ensures.ok_part at c.checked_add.ensures in
+    let gone = ap length c.in_ok-removed.ensures.removed in
+    rw c.in_ok-removed.ensures.ok (record {
+      count = omega (arith, more, gone, c.len.ensures, c.self.invariant.count, value_count-insert c.args.name c.args.val (rows c.self.inside.names.entries));
+      fits = omega (arith, more);
+      filled = IsFilled-insert c.args.name c.args.val (rows c.self.inside.names.entries) c.self.invariant.filled;
+    })

@@ -1,0 +1,92 @@
+-- What a contract sees of a `HeaderMap`: its names in the order of their first insertion, each with the list of its values.
+-- A name is written in lower case, as a `HeaderName` holds it.
+use Rattle.std.specs.Prelude.{◌≡◌, ℕ, ◌+◌, ◌<◌, ◌^◌, Bool, List, [], ◌∷◌, ◌++◌, map, filter, fold, drop, length, flat_map, bytes_eq, slice_get, All, Option, if◌then◌else◌}
+use Rattle.std.specs.Borrow.{Bor}
+use Rattle.std.specs.List.{list_any, IsDistinct}
+use Rattle.http_header.specs.FieldValue.{FieldValue}
+
+-- a name with its values
+abbrev pub Entry : Type 0
+Entry = List ℕ × List FieldValue
+
+-- the names in order, each with its values
+abbrev pub Entries : Type 0
+Entries = List Entry
+
+-- one line of a head: a name with one value
+abbrev pub Pair : Type 0
+Pair = List ℕ × FieldValue
+
+-- the names, in order
+abbrev pub keys : Entries → List (List ℕ)
+keys m = map (λ e. e.0) m
+
+-- how many values there are, under all names
+abbrev pub value_count : Entries → ℕ
+value_count [] = 0
+value_count (e ∷ m) = length e.1 + value_count m
+
+-- whether the map has the name
+abbrev pub contains_key : Entries → List ℕ → Bool
+contains_key m name = list_any (bytes_eq name) (keys m)
+
+-- the values under the name, in the order in which they were added
+abbrev pub get_all : Entries → List ℕ → List FieldValue
+get_all [] name = []
+get_all (e ∷ m) name = if bytes_eq name e.0 then e.1 else get_all m name
+
+-- the first value under the name
+abbrev pub get : Entries → List ℕ → Option FieldValue
+get m name = slice_get (get_all m name) 0
+
+-- the value in place of all those under the name, whose place stays. A new name goes last
+abbrev pub insert : Entries → List ℕ → FieldValue → Entries
+insert [] name value = (name, value ∷ []) ∷ []
+insert (e ∷ m) name value = if bytes_eq name e.0 then (e.0, value ∷ []) ∷ m else e ∷ insert m name value
+
+-- the value after those under the name. A new name goes last
+abbrev pub append : Entries → List ℕ → FieldValue → Entries
+append [] name value = (name, value ∷ []) ∷ []
+append (e ∷ m) name value = if bytes_eq name e.0 then (e.0, e.1 ++ value ∷ []) ∷ m else e ∷ append m name value
+
+-- the map without the name. Later names close up
+abbrev pub remove : Entries → List ℕ → Entries
+remove [] name = []
+remove (e ∷ m) name = if bytes_eq name e.0 then m else e ∷ remove m name
+
+-- each pair appended in turn
+abbrev pub append_all : Entries → List Pair → Entries
+append_all m items = fold (λ n item. append n item.0 item.1) m items
+
+-- another value in place of the first under the name
+abbrev pub set_first : Entries → List ℕ → FieldValue → Entries
+set_first [] name value = []
+set_first (e ∷ m) name value = if bytes_eq name e.0 then (e.0, value ∷ drop 1 e.1) ∷ m else e ∷ set_first m name value
+
+-- the name with its values before the others, where it has a value
+abbrev pub filled_first : List ℕ → List FieldValue → Entries → Entries
+filled_first name [] m = m
+filled_first name (value ∷ values) m = (name, value ∷ values) ∷ m
+
+-- the values that pass the test beside their name. A name whose values all went goes too
+abbrev pub retain : (List ℕ → FieldValue → Bool) → Entries → Entries
+retain test [] = []
+retain test (e ∷ m) = filled_first e.0 (filter (test e.0) e.1) (retain test m)
+
+-- the closure answers as the test does
+abbrev pub Computes : (Bor (List ℕ) → Bor FieldValue → Bool → Type 0) → (List ℕ → FieldValue → Bool) → Type 0
+Computes answers test = (name : Bor (List ℕ)) (value : Bor FieldValue) (answer : Bool) → answers name value answer → answer ≡ test name.now value.now
+
+-- the values of one name, each beside it
+abbrev pub entry_pairs : Entry → List Pair
+entry_pairs e = map (λ value. (e.0, value)) e.1
+
+-- every name with every value, name by name
+abbrev pub pairs : Entries → List Pair
+pairs m = flat_map entry_pairs m
+
+-- what holds of every map
+pub record IsHeaderMap (m : Entries) : Type 0 where
+  pub distinct : IsDistinct bytes_eq (keys m)
+  pub filled : All (λ e. 0 < length e.1) m
+  pub counted : value_count m < 2 ^ 64

@@ -1,0 +1,5 @@
+pub mod HeaderMap
+pub mod Iter
+pub mod Lends
+pub mod Layout
+pub mod Owned

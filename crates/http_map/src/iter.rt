@@ -1,0 +1,131 @@
+//! The iterators of a map. A contract sees each as the list of what it has left.
+ghost use Rattle.std.specs.Prelude.{ℕ, List};
+ghost use Rattle.std.specs.Iterator.{YieldsFirstBy, YieldsFirstRef, item_count};
+
+use http_header::{HeaderName, HeaderValue};
+use indexmap::map;
+use std::iter::FusedIterator;
+use std::marker::Model;
+
+/// Every value of a map beside its name, name by name.
+#[derive(Drop)]
+pub struct Iter<'a> {
+    // The name in hand, and those of its values that are left.
+    current: Option<(&'a HeaderName, &'a [HeaderValue])>,
+    later: map::Iter<'a, HeaderName, Vec<HeaderValue>>,
+    // How many pairs are left.
+    left: usize,
+}
+
+impl<'a> Model for Iter<'a> {
+    ghost use Rattle.std.specs.Prelude.{List};
+    ghost use Rattle.http_map.specs.HeaderMap.{Pair};
+    ghost use Rattle.http_map.specs.Layout.{rows};
+    ghost use Rattle.http_map.specs.Iter.{pairs_left, IsIter};
+
+    ghost Value = { List Pair };
+
+    ghost view = { λ it. pairs_left it.current (rows it.later) };
+
+    ghost invariant = { λ it. IsIter it.current (rows it.later) it.left };
+}
+
+impl<'a> Iter<'a> {
+    ghost use Rattle.std.specs.Prelude.{◌≡◌, ◌<◌, length, All};
+    ghost use Rattle.http_map.specs.HeaderMap.{pairs, value_count};
+    ghost use Rattle.http_map.specs.Layout.{rows};
+
+    pub(crate) fn new(later: map::Iter<'a, HeaderName, Vec<HeaderValue>>, left: usize) -> Iter<'a>
+        requires counted { left ≡ value_count (rows later) }
+        requires filled { All (λ e. 0 < length e.1) (rows later) }
+        ensures { result ≡ pairs (rows later.entry) }
+    {
+        Iter {
+            current: None,
+            later,
+            left,
+        }
+    }
+}
+
+impl<'a> Iterator for Iter<'a> {
+    type Item = (&'a HeaderName, &'a HeaderValue);
+
+    ghost next_gives = { YieldsFirstBy (λ p. (p.0.now, p.1.now)) (λ it. it) };
+
+    ghost remaining = { item_count (λ it. it) };
+
+    fn next(&mut self) -> Option<(&'a HeaderName, &'a HeaderValue)> {
+        if let Some((name, values)) = self.current
+            && let Some((value, others)) = values.split_first()
+        {
+            self.current = Some((name, others));
+            self.left -= 1;
+            return Some((name, value));
+        }
+        let (name, values) = self.later.next()?;
+        let (value, others) = values.as_slice().split_first().unwrap();
+        self.current = Some((name, others));
+        self.left -= 1;
+        Some((name, value))
+    }
+
+    fn size_hint(&self) -> (usize, Option<usize>) {
+        (self.left, Some(self.left))
+    }
+}
+
+impl<'a> ExactSizeIterator for Iter<'a> {
+    fn len(&self) -> usize {
+        self.left
+    }
+}
+
+impl<'a> FusedIterator for Iter<'a> {}
+
+/// Every name of a map once.
+#[derive(Drop)]
+pub struct Keys<'a> {
+    names: map::Keys<'a, HeaderName, Vec<HeaderValue>>,
+}
+
+impl<'a> Model for Keys<'a> {
+    ghost Value = { List (List ℕ) };
+
+    ghost view = { λ it. it.names };
+}
+
+impl<'a> Keys<'a> {
+    ghost use Rattle.std.specs.Prelude.{◌≡◌};
+
+    pub(crate) fn new(names: map::Keys<'a, HeaderName, Vec<HeaderValue>>) -> Keys<'a>
+        ensures { result ≡ names.entry }
+    {
+        Keys { names }
+    }
+}
+
+impl<'a> Iterator for Keys<'a> {
+    type Item = &'a HeaderName;
+
+    ghost next_gives = { YieldsFirstRef (λ it. it) };
+
+    ghost remaining = { item_count (λ it. it) };
+
+    fn next(&mut self) -> Option<&'a HeaderName> {
+        self.names.next()
+    }
+
+    fn size_hint(&self) -> (usize, Option<usize>) {
+        let len = self.names.len();
+        (len, Some(len))
+    }
+}
+
+impl<'a> ExactSizeIterator for Keys<'a> {
+    fn len(&self) -> usize {
+        self.names.len()
+    }
+}
+
+impl<'a> FusedIterator for Keys<'a> {}

@@ -1,0 +1,161 @@
+//! The map from header names to their values.
+ghost use Rattle.std.specs.Prelude.{◌≡◌, ◌==◌, [], length, option_copied, IfOk, IsOk};
+ghost use Rattle.std.specs.Slice.Iter.{iter_rest};
+ghost use Rattle.std.specs.Iterator.Adapters.{IterYieldsInOrder};
+ghost use Rattle.http_header.specs.FieldValue.{FieldValue};
+ghost use Rattle.http_map.specs.HeaderMap.{keys, value_count, contains_key, get, get_all, pairs, IsHeaderMap};
+
+mod edits;
+mod rows;
+
+use crate::NoMemory;
+use crate::any_case::AnyCase;
+use crate::as_name::AsHeaderName;
+use crate::iter::{Iter, Keys};
+use http_header::{HeaderName, HeaderValue};
+use indexmap::IndexMap;
+use std::alloc::Global;
+use std::marker::Model;
+use std::slice;
+
+type Names = IndexMap<HeaderName, Vec<HeaderValue>>;
+
+/// A map from header names to one or more values each. The names stand in the order of their
+/// first insertion, and each name's values in the order in which they were added.
+///
+/// A contract sees it as that list of names, each with the list of its values.
+#[derive(Drop)]
+pub struct HeaderMap {
+    names: Names,
+    // The number of values, under all names.
+    len: usize,
+}
+
+impl Model for HeaderMap {
+    ghost use Rattle.http_map.specs.HeaderMap.{Entries};
+
+    ghost Value = { Entries };
+
+    ghost use Rattle.http_map.specs.Layout.{rows, IsCounted};
+
+    ghost view = { λ m. rows m.names.entries };
+
+    ghost invariant = { λ m. IsCounted (rows m.names.entries) m.len };
+}
+
+impl HeaderMap {
+    /// An empty map, which takes no memory before the first insertion.
+    pub fn new(alloc: Global) -> HeaderMap
+        ensures { result ≡ [] }
+    {
+        HeaderMap {
+            names: IndexMap::new(alloc),
+            len: 0,
+        }
+    }
+
+    /// An empty map with room for so many names.
+    pub fn with_capacity(alloc: Global, capacity: usize) -> Result<HeaderMap, NoMemory>
+        ensures empty { IfOk result (λ map. map ≡ []) }
+        ensures no_memory_needed { capacity ≡ 0 → IsOk result }
+    {
+        Ok(HeaderMap {
+            names: IndexMap::with_capacity(alloc, capacity)?,
+            len: 0,
+        })
+    }
+
+    /// The number of values, under all names.
+    pub fn len(&self) -> usize
+        ensures value { result ≡ value_count self.now }
+        ensures valid { IsHeaderMap self.now }
+    {
+        let _names = self.names.len();
+        self.len
+    }
+
+    /// The number of names.
+    pub fn len_keys(&self) -> usize
+        ensures value { result ≡ length self.now }
+        ensures valid { IsHeaderMap self.now }
+    {
+        let _values = self.len;
+        self.names.len()
+    }
+
+    /// Whether the map has no name, and so no value.
+    pub fn is_empty(&self) -> bool
+        ensures { result ≡ (length self.now == 0) }
+    {
+        self.names.is_empty()
+    }
+
+    /// Whether the map has the name.
+    pub fn contains_key<K: AsHeaderName>(&self, key: K) -> bool
+        ensures { result ≡ contains_key self.now (K.name key) }
+    {
+        self.names.contains_key(AnyCase {
+            bytes: key.as_name_bytes(),
+        })
+    }
+
+    /// The first value under the name.
+    pub fn get<K: AsHeaderName>(&self, key: K) -> Option<&HeaderValue>
+        ensures { option_copied result ≡ get self.now (K.name key) }
+    {
+        let values = self.names.get(AnyCase {
+            bytes: key.as_name_bytes(),
+        })?;
+        values.first()
+    }
+    /// The values under the name, in the order in which they were added.
+    pub fn get_all<K: AsHeaderName>(&self, key: K) -> slice::Iter<'_, HeaderValue>
+        ensures values { iter_rest result ≡ get_all self.now (K.name key) }
+        ensures runs { IterYieldsInOrder FieldValue }
+    {
+        let found = self.names.get(AnyCase {
+            bytes: key.as_name_bytes(),
+        });
+        let values: &[HeaderValue] = match found {
+            Some(values) => values.as_slice(),
+            None => &[],
+        };
+        values.iter()
+    }
+
+    /// Every value beside its name, name by name.
+    pub fn iter(&self) -> Iter<'_>
+        ensures { result ≡ pairs self.now }
+    {
+        Iter::new(self.names.iter(), self.len)
+    }
+
+    /// Every name once.
+    pub fn keys(&self) -> Keys<'_>
+        ensures { result ≡ keys self.now }
+    {
+        Keys::new(self.names.keys())
+    }
+
+    /// An equal map.
+    pub fn copy(&self) -> Result<HeaderMap, NoMemory>
+        ensures { IfOk result (λ copy. copy ≡ self.now) }
+    {
+        Ok(HeaderMap {
+            names: self.names.clone()?,
+            len: self.len,
+        })
+    }
+}
+
+impl<'a> IntoIterator for &'a HeaderMap {
+    type Item = (&'a HeaderName, &'a HeaderValue);
+
+    type IntoIter = Iter<'a>;
+
+    ghost into_iter_gives = { λ map it. it ≡ pairs map.now };
+
+    fn into_iter(self) -> Iter<'a> {
+        self.iter()
+    }
+}

@@ -1,0 +1,149 @@
+//! The calls that change a map.
+ghost use Rattle.std.specs.Prelude.{◌≡◌, ◌<◌, ℕ, List, Bool, [], length, slice_get, Some, IfOk, OnOk, OnErr};
+ghost use Rattle.std.specs.Borrow.{sem};
+ghost use Rattle.std.specs.Iterator.{IsFinite, Drains};
+ghost use Rattle.std.specs.Option.{option_copied_mut};
+ghost use Rattle.http_header.specs.FieldValue.{FieldValue};
+ghost use Rattle.http_map.specs.HeaderMap.{Pair, get, get_all, insert, append, append_all, remove, retain, pairs, Computes};
+ghost use Rattle.http_map.specs.Lends.{lends_first, lends_first_at, values_at};
+ghost use Rattle.http_map.specs.Owned.{drained};
+
+use super::HeaderMap;
+use super::rows::{append_value, count_values, insert_value, remove_values, retain_rows};
+use crate::NoMemory;
+use crate::any_case::AnyCase;
+use crate::as_name::AsHeaderName;
+use crate::owned::{Drain, IntoIter};
+use crate::removed::Removed;
+use http_header::{HeaderName, HeaderValue};
+use indexmap::IndexMap;
+use std::alloc::{AllocError, Global};
+use std::mem;
+
+impl HeaderMap {
+    /// Removes every name, and keeps the memory.
+    pub fn clear(&mut self)
+        ensures { self.new ≡ [] }
+    {
+        self.names.clear();
+        self.len = 0;
+    }
+
+    /// Puts the value in place of all those under the name, whose place among the names stays, and
+    /// gives those. A new name goes last. It grows first, so want of memory leaves the map as it was.
+    pub fn insert(&mut self, name: HeaderName, val: HeaderValue) -> Result<Removed, NoMemory>
+        ensures ok { OnOk result (self.new ≡ insert self.old name val) }
+        ensures removed { IfOk result (λ removed. removed ≡ get_all self.old name) }
+        ensures err { OnErr result (self.new ≡ self.old) }
+    {
+        let len = self.len.checked_add(1).ok_or(AllocError)?;
+        let removed = insert_value(&mut self.names, name, val)?;
+        self.len = len - removed.len();
+        Ok(Removed::new(removed))
+    }
+
+    /// Adds the value after those under the name. A new name goes last. It grows first, so want of
+    /// memory leaves the map as it was.
+    pub fn append(&mut self, key: HeaderName, value: HeaderValue) -> Result<(), NoMemory>
+        ensures ok { OnOk result (self.new ≡ append self.old key value) }
+        ensures err { OnErr result (self.new ≡ self.old) }
+    {
+        let len = self.len.checked_add(1).ok_or(AllocError)?;
+        append_value(&mut self.names, key, value)?;
+        self.len = len;
+        Ok(())
+    }
+
+    /// Removes the name, and gives its values. Later names close up. It takes no memory.
+    pub fn remove<K: AsHeaderName>(&mut self, key: K) -> Removed
+        ensures values { result ≡ get_all self.old (K.name key) }
+        ensures after { self.new ≡ remove self.old (K.name key) }
+    {
+        let removed = remove_values(&mut self.names, key.as_name_bytes());
+        self.len -= removed.len();
+        Removed::new(removed)
+    }
+
+    /// Makes room for so many more names.
+    pub fn reserve(&mut self, additional: usize) -> Result<(), NoMemory>
+        ensures { self.new ≡ self.old }
+    {
+        self.names.reserve(additional)
+    }
+    /// Keeps the values for which `keep` answers true, in their order. A name whose values all went
+    /// goes too.
+    pub fn retain<F: Fn(&HeaderName, &HeaderValue) -> bool + Drop>(&mut self, keep: F)
+        requires { F.IsAlwaysCallable keep }
+        ensures { (test : List ℕ → FieldValue → Bool) → Computes (F.post keep) test
+            → self.new ≡ retain test self.old }
+    {
+        retain_rows(&mut self.names, &keep);
+        self.len = count_values(&self.names);
+    }
+
+    /// Takes everything out. The map is empty at once.
+    pub fn drain(&mut self) -> Drain
+        ensures values { result ≡ drained self.old }
+        ensures emptied { self.new ≡ [] }
+    {
+        let alloc = *self.names.allocator();
+        let names = mem::replace(&mut self.names, IndexMap::new(alloc));
+        let left = self.len;
+        self.len = 0;
+        Drain::new(alloc, names.into_iter(), left)
+    }
+
+    /// A map of these pairs, each appended in turn.
+    pub fn try_from_pairs<I: Iterator<Item = (HeaderName, HeaderValue)> + Drop>(
+        alloc: Global,
+        pairs: I,
+    ) -> Result<HeaderMap, NoMemory>
+        requires can { I.can_next pairs }
+        requires ends { IsFinite (I.remaining pairs) }
+        ensures { IfOk result (λ map. (items : List Pair) × Drains I.next_gives pairs items
+            × (map ≡ append_all [] items)) }
+    {
+        let mut map = HeaderMap::new(alloc);
+        for (name, value) in pairs {
+            map.append(name, value)?;
+        }
+        Ok(map)
+    }
+
+    /// The first value under the name, for writing.
+    pub fn get_mut<K: AsHeaderName>(&mut self, key: K) -> Option<&mut HeaderValue>
+        ensures* writes_back { sem 𝓛 (lends_first self.entry (K.name key) result) }
+        ensures value { option_copied_mut result ≡ get self.old (K.name key) }
+    {
+        let found = self.names.get_index_of(AnyCase {
+            bytes: key.as_name_bytes(),
+        });
+        match found {
+            Some(index) => Some(self.first_mut_at(index)),
+            None => None,
+        }
+    }
+
+    fn first_mut_at(&mut self, index: usize) -> &mut HeaderValue
+        requires { index < length self.old }
+        ensures* writes_back { sem 𝓛 (lends_first_at self.entry index result) }
+        ensures value { Some result.now ≡ slice_get (values_at self.old index) 0 }
+    {
+        let values = &mut self.names[index];
+        &mut values[0]
+    }
+}
+
+impl IntoIterator for HeaderMap {
+    type Item = Result<(HeaderName, HeaderValue), NoMemory>;
+
+    type IntoIter = IntoIter;
+
+    ghost into_iter_gives = { λ map it. it ≡ pairs map };
+
+    fn into_iter(self) -> IntoIter {
+        let HeaderMap { names, len } = self;
+        let alloc = *names.allocator();
+        IntoIter::new(alloc, names.into_iter(), len)
+    }
+}

@@ -1,0 +1,194 @@
+//! The iterators that take a map apart. A contract sees each as the list of what it has left.
+ghost use Rattle.std.specs.Prelude.{◌≡◌, ℕ, List, [], ◌∷◌, Option, IfNone, IfSome};
+ghost use Rattle.std.specs.Vec.Iter.{into_iter_items};
+ghost use Rattle.std.specs.Iterator.{YieldsFirst, item_count};
+ghost use Rattle.http_map.specs.Layout.{rows};
+ghost use Rattle.http_map.specs.Owned.{entries_left, GivesFirst};
+
+use crate::NoMemory;
+use http_header::{HeaderName, HeaderValue};
+use indexmap::{IndexMap, map};
+use std::alloc::Global;
+use std::iter::FusedIterator;
+use std::marker::Model;
+use std::vec;
+
+type Later = map::IntoIter<HeaderName, Vec<HeaderValue>>;
+
+type Values = vec::IntoIter<HeaderValue>;
+
+/// Every value that `drain` took out of a map. A name comes with its first value alone.
+#[derive(Drop)]
+pub struct Drain {
+    // Those values of the name in hand that are left, and that follow its first.
+    values: Values,
+    later: Later,
+    // How many values are left.
+    left: usize,
+}
+
+impl Model for Drain {
+    ghost use Rattle.std.specs.Prelude.{◌≡◌, ℕ, List, [], ◌∷◌, Option, IfNone, IfSome};
+    ghost use Rattle.std.specs.Vec.Iter.{into_iter_items};
+    ghost use Rattle.http_header.specs.FieldValue.{FieldValue};
+    ghost use Rattle.http_map.specs.Layout.{rows};
+    ghost use Rattle.http_map.specs.Owned.{drained_left, IsDrain};
+
+    ghost Value = { List (Option (List ℕ) × FieldValue) };
+
+    ghost view = { λ it. drained_left it.values (rows it.later) };
+
+    ghost invariant = { λ it. IsDrain it.values (rows it.later) it.left };
+}
+
+impl Drain {
+    ghost use Rattle.std.specs.Prelude.{◌≡◌, ◌<◌, length, All};
+    ghost use Rattle.http_map.specs.HeaderMap.{value_count};
+    ghost use Rattle.http_map.specs.Layout.{rows};
+    ghost use Rattle.http_map.specs.Owned.{drained};
+
+    pub(crate) fn new(alloc: Global, later: Later, left: usize) -> Drain
+        requires counted { left ≡ value_count (rows later) }
+        requires filled { All (λ e. 0 < length e.1) (rows later) }
+        ensures { result ≡ drained (rows later) }
+    {
+        Drain {
+            values: Vec::new(alloc).into_iter(),
+            later,
+            left,
+        }
+    }
+}
+
+impl Iterator for Drain {
+    type Item = (Option<HeaderName>, HeaderValue);
+
+    ghost next_gives = { YieldsFirst (λ it. it) };
+
+    ghost remaining = { item_count (λ it. it) };
+
+    fn next(&mut self) -> Option<(Option<HeaderName>, HeaderValue)> {
+        if let Some(value) = self.values.next() {
+            self.left -= 1;
+            return Some((None, value));
+        }
+        let (name, values) = self.later.next()?;
+        let mut values = values.into_iter();
+        let value = values.next().unwrap();
+        self.values = values;
+        self.left -= 1;
+        Some((Some(name), value))
+    }
+
+    fn size_hint(&self) -> (usize, Option<usize>) {
+        (self.left, Some(self.left))
+    }
+}
+
+impl ExactSizeIterator for Drain {
+    fn len(&self) -> usize {
+        self.left
+    }
+}
+
+impl FusedIterator for Drain {}
+
+/// Every value of a map beside its name, name by name. It copies a name for each of its values but
+/// the last, and where there is no memory for that it gives the error and ends.
+#[derive(Drop)]
+pub struct IntoIter {
+    alloc: Global,
+    // The name in hand, and those of its values that are left, at least one.
+    current: Option<(HeaderName, Values)>,
+    later: Later,
+    // How many pairs are left.
+    left: usize,
+}
+
+impl Model for IntoIter {
+    ghost use Rattle.std.specs.Prelude.{List};
+    ghost use Rattle.http_map.specs.HeaderMap.{Pair, pairs};
+    ghost use Rattle.http_map.specs.Layout.{rows};
+    ghost use Rattle.http_map.specs.Owned.{entries_left, IsIntoIter};
+
+    ghost Value = { List Pair };
+
+    ghost view = { λ it. pairs (entries_left it.current (rows it.later)) };
+
+    ghost invariant = { λ it. IsIntoIter it.current (rows it.later) it.left };
+}
+
+impl IntoIter {
+    ghost use Rattle.std.specs.Prelude.{◌≡◌, ◌<◌, length, All};
+    ghost use Rattle.http_map.specs.HeaderMap.{pairs, value_count};
+    ghost use Rattle.http_map.specs.Layout.{rows};
+
+    pub(crate) fn new(alloc: Global, later: Later, left: usize) -> IntoIter
+        requires counted { left ≡ value_count (rows later) }
+        requires filled { All (λ e. 0 < length e.1) (rows later) }
+        ensures { result ≡ pairs (rows later) }
+    {
+        IntoIter {
+            alloc,
+            current: None,
+            later,
+            left,
+        }
+    }
+}
+
+// The name in hand, or else the first of the later ones.
+fn in_hand(current: Option<(HeaderName, Values)>, later: &mut Later) -> Option<(HeaderName, Values)>
+    ensures none { IfNone result ((entries_left current (rows later.old) ≡ []) × (rows later.new ≡ [])) }
+    ensures some { IfSome result (λ p. entries_left current (rows later.old)
+        ≡ (p.0, into_iter_items p.1) ∷ rows later.new) }
+{
+    match current {
+        Some(current) => Some(current),
+        None => {
+            let (name, values) = later.next()?;
+            Some((name, values.into_iter()))
+        }
+    }
+}
+
+impl Iterator for IntoIter {
+    type Item = Result<(HeaderName, HeaderValue), NoMemory>;
+
+    ghost next_gives = { GivesFirst };
+
+    ghost remaining = { item_count (λ it. it) };
+
+    fn next(&mut self) -> Option<Result<(HeaderName, HeaderValue), NoMemory>> {
+        let (name, mut values) = in_hand(self.current.take(), &mut self.later)?;
+        let value = values.next().unwrap();
+        if values.len() == 0 {
+            self.left -= 1;
+            return Some(Ok((name, value)));
+        }
+        match name.clone() {
+            Ok(copy) => {
+                self.current = Some((name, values));
+                self.left -= 1;
+                Some(Ok((copy, value)))
+            }
+            Err(e) => {
+                self.later = IndexMap::new(self.alloc).into_iter();
+                self.left = 0;
+                Some(Err(e))
+            }
+        }
+    }
+
+    fn size_hint(&self) -> (usize, Option<usize>) {
+        (0, Some(self.left))
+    }
+}
+
+impl ExactSizeIterator for IntoIter {
+    fn len(&self) -> usize {
+        self.left
+    }
+}
+
+impl FusedIterator for IntoIter {}

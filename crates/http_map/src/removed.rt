@@ -1,0 +1,68 @@
+//! The values that an insertion or a removal took out of a map.
+ghost use Rattle.std.specs.Prelude.{◌≡◌, ◌==◌, length};
+ghost use Rattle.std.specs.Iterator.{YieldsFirst, item_count};
+
+use http_header::HeaderValue;
+use std::iter::FusedIterator;
+use std::marker::Model;
+use std::vec;
+
+/// The values that a name had, in the order in which they were added.
+///
+/// A contract sees it as the list of those that are left.
+#[derive(Drop)]
+pub struct Removed {
+    values: vec::IntoIter<HeaderValue>,
+}
+
+impl Model for Removed {
+    ghost use Rattle.std.specs.Prelude.{List};
+    ghost use Rattle.std.specs.Vec.Iter.{into_iter_items};
+    ghost use Rattle.http_header.specs.FieldValue.{FieldValue};
+
+    ghost Value = { List FieldValue };
+
+    ghost view = { λ it. into_iter_items it.values };
+}
+
+impl Removed {
+    pub(crate) fn new(values: Vec<HeaderValue>) -> Removed
+        ensures { result ≡ values.items }
+    {
+        Removed {
+            values: values.into_iter(),
+        }
+    }
+
+    /// Whether no value is left.
+    pub fn is_empty(&self) -> bool
+        ensures { result ≡ (length self.now == 0) }
+    {
+        self.values.len() == 0
+    }
+}
+
+impl Iterator for Removed {
+    type Item = HeaderValue;
+
+    ghost next_gives = { YieldsFirst (λ it. it) };
+
+    ghost remaining = { item_count (λ it. it) };
+
+    fn next(&mut self) -> Option<HeaderValue> {
+        self.values.next()
+    }
+
+    fn size_hint(&self) -> (usize, Option<usize>) {
+        let len = self.values.len();
+        (len, Some(len))
+    }
+}
+
+impl ExactSizeIterator for Removed {
+    fn len(&self) -> usize {
+        self.values.len()
+    }
+}
+
+impl FusedIterator for Removed {}

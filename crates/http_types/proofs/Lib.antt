@@ -1,0 +1,2 @@
+mod RequestHeadEquality
+pub mod UriEquality

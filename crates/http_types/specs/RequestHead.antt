@@ -1,0 +1,12 @@
+-- A request's head beside its fields.
+use Rattle.std.specs.Prelude.{◌≡◌}
+use Rattle.http_types.specs.declared.message.Flags.{Flags}
+use Rattle.http_types.specs.declared.requests.head.RequestHead.{RequestHead}
+
+-- the marks of a head
+abbrev pub request_flags : RequestHead → Flags
+request_flags head = head.flags
+
+-- new is old with these marks
+abbrev pub HasRequestFlags : RequestHead → RequestHead → Flags → Type 0
+HasRequestFlags old new flags = new ≡ record old { flags = flags }

@@ -1,0 +1,4 @@
+//! What heads say of their bodies.
+mod size;
+
+pub use size::BodySize;

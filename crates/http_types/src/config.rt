@@ -1,0 +1,212 @@
+//! The settings of a connection. All durations and moments are milliseconds.
+ghost use Rattle.std.specs.Prelude.{◌≡◌, ◌<◌, ℕ, unwrap_or, IfOk, IsErr, ◌↔◌, IsTrue};
+ghost use Rattle.http_types.specs.Config.{Settings, default_settings};
+ghost use Rattle.http_types.specs.Deadline.{deadline_of};
+ghost use Rattle.http_types.specs.KeepAlive.{normalized, timeout_of};
+
+use crate::KeepAlive;
+use std::marker::Model;
+use thiserror::Error;
+
+const DEFAULT_CLIENT_REQUEST_TIMEOUT: u64 = 5000;
+
+const DEFAULT_CLIENT_DISCONNECT_TIMEOUT: u64 = 0;
+
+const DEFAULT_H1_WRITE_BUFFER_SIZE: usize = 32_768;
+
+/// A write buffer of no bytes was asked for.
+#[derive(Clone, Copy, Debug, PartialEq, Eq, Error)]
+#[error("the write buffer has no room")]
+pub struct ZeroBuffer;
+
+/// The settings of a connection.
+#[derive(Clone, Copy, Debug, PartialEq, Eq)]
+pub struct ServiceConfig {
+    keep_alive: KeepAlive,
+    client_request_timeout: u64,
+    client_disconnect_timeout: u64,
+    h1_allow_half_closed: bool,
+    h1_write_buffer_size: usize,
+}
+
+impl Model for ServiceConfig {
+    ghost use Rattle.http_types.specs.Config.{Settings, AreUsable};
+
+    ghost Value = { Settings };
+
+    ghost view = { λ c. record {
+      keep_alive = c.keep_alive;
+      client_request_timeout = c.client_request_timeout;
+      client_disconnect_timeout = c.client_disconnect_timeout;
+      h1_allow_half_closed = c.h1_allow_half_closed;
+      h1_write_buffer_size = c.h1_write_buffer_size;
+    } };
+
+    ghost invariant = { λ c. AreUsable (record {
+      keep_alive = c.keep_alive;
+      client_request_timeout = c.client_request_timeout;
+      client_disconnect_timeout = c.client_disconnect_timeout;
+      h1_allow_half_closed = c.h1_allow_half_closed;
+      h1_write_buffer_size = c.h1_write_buffer_size;
+    }) };
+
+    ghost inverse = { λ s. record {
+      keep_alive = s.keep_alive;
+      client_request_timeout = s.client_request_timeout;
+      client_disconnect_timeout = s.client_disconnect_timeout;
+      h1_allow_half_closed = s.h1_allow_half_closed;
+      h1_write_buffer_size = s.h1_write_buffer_size;
+    } };
+}
+
+impl ServiceConfig {
+    /// The keep-alive setting, which is never a timeout of 0.
+    pub fn keep_alive(&self) -> KeepAlive
+        ensures value { result ≡ self.now.keep_alive }
+        ensures normal { normalized result ≡ result }
+    {
+        self.keep_alive
+    }
+
+    /// When a connection that was idle since `now` is closed.
+    pub fn keep_alive_deadline(&self, now: u64) -> Option<u64>
+        ensures { result ≡ deadline_of now (unwrap_or (timeout_of self.now.keep_alive) 0) }
+    {
+        deadline(now, self.keep_alive.duration().unwrap_or(0))
+    }
+
+    /// When the head of a connection's first request must have come.
+    pub fn client_request_deadline(&self, now: u64) -> Option<u64>
+        ensures { result ≡ deadline_of now self.now.client_request_timeout }
+    {
+        deadline(now, self.client_request_timeout)
+    }
+
+    /// When a connection whose end was asked for is given up.
+    pub fn client_disconnect_deadline(&self, now: u64) -> Option<u64>
+        ensures { result ≡ deadline_of now self.now.client_disconnect_timeout }
+    {
+        deadline(now, self.client_disconnect_timeout)
+    }
+
+    /// Whether a client that has closed its sending side still gets its answers.
+    pub fn h1_allow_half_closed(&self) -> bool
+        ensures { result ≡ self.now.h1_allow_half_closed }
+    {
+        self.h1_allow_half_closed
+    }
+
+    /// How many bytes of answers are gathered before they are written out: at least one.
+    pub fn h1_write_buffer_size(&self) -> usize
+        ensures value { result ≡ self.now.h1_write_buffer_size }
+        ensures room { 0 < result }
+    {
+        self.h1_write_buffer_size
+    }
+}
+
+// The moment `duration` past `now`, where the duration is on and the moment fits.
+fn deadline(now: u64, duration: u64) -> Option<u64>
+    ensures { result ≡ deadline_of now duration }
+{
+    if duration == 0 {
+        return None;
+    }
+    now.checked_add(duration)
+}
+
+/// Makes a [`ServiceConfig`], setting by setting.
+#[derive(Clone, Copy, Debug, PartialEq, Eq)]
+pub struct ServiceConfigBuilder {
+    config: ServiceConfig,
+}
+
+impl Model for ServiceConfigBuilder {
+    ghost use Rattle.http_types.specs.Config.{Settings};
+
+    ghost Value = { Settings };
+
+    ghost view = { λ b. b.config };
+
+    ghost inverse = { λ s. record { config = s } };
+}
+
+impl ServiceConfigBuilder {
+    /// All settings at their defaults: keep-alive and request timeout of 5000 milliseconds, no
+    /// disconnect timeout, half-closed connections allowed, a write buffer of 32768 bytes.
+    pub fn new() -> Self
+        ensures { result ≡ default_settings }
+    {
+        ServiceConfigBuilder {
+            config: ServiceConfig {
+                keep_alive: KeepAlive::Timeout(5000),
+                client_request_timeout: DEFAULT_CLIENT_REQUEST_TIMEOUT,
+                client_disconnect_timeout: DEFAULT_CLIENT_DISCONNECT_TIMEOUT,
+                h1_allow_half_closed: true,
+                h1_write_buffer_size: DEFAULT_H1_WRITE_BUFFER_SIZE,
+            },
+        }
+    }
+
+    /// A timeout of 0 becomes `Disabled`.
+    pub fn keep_alive(mut self, keep_alive: KeepAlive) -> Self
+        ensures { result ≡ record self { keep_alive = normalized keep_alive } }
+    {
+        self.config.keep_alive = keep_alive.normalize();
+        self
+    }
+
+    /// How long the head of a connection's first request may take, in milliseconds; 0 is no limit.
+    pub fn client_request_timeout(mut self, timeout: u64) -> Self
+        ensures { result ≡ record self { client_request_timeout = timeout } }
+    {
+        self.config.client_request_timeout = timeout;
+        self
+    }
+
+    /// How long a closing connection may take, in milliseconds; 0 is no limit.
+    pub fn client_disconnect_timeout(mut self, timeout: u64) -> Self
+        ensures { result ≡ record self { client_disconnect_timeout = timeout } }
+    {
+        self.config.client_disconnect_timeout = timeout;
+        self
+    }
+
+    /// Whether a client that has closed its sending side still gets its answers.
+    pub fn h1_allow_half_closed(mut self, allow: bool) -> Self
+        ensures { result ≡ record self { h1_allow_half_closed = allow } }
+    {
+        self.config.h1_allow_half_closed = allow;
+        self
+    }
+
+    /// How many bytes of answers are gathered before they are written out. Of no bytes: `ZeroBuffer`.
+    pub fn h1_write_buffer_size(mut self, size: usize) -> Result<Self, ZeroBuffer>
+        ensures ok { IfOk result (λ builder. builder ≡ record self { h1_write_buffer_size = size }) }
+        ensures zero { IsErr result ↔ (size ≡ 0) }
+    {
+        if size == 0 {
+            return Err(ZeroBuffer);
+        }
+        self.config.h1_write_buffer_size = size;
+        Ok(self)
+    }
+
+    /// The configuration with these settings.
+    pub fn build(self) -> ServiceConfig
+        ensures { result ≡ self }
+    {
+        self.config
+    }
+}
+
+impl Default for ServiceConfigBuilder {
+    ghost use Rattle.std.specs.Prelude.{◌≡◌};
+    ghost use Rattle.http_types.specs.Config.{default_settings};
+
+    ghost is_default = { λ builder. builder ≡ default_settings };
+
+    fn default() -> Self {
+        ServiceConfigBuilder::new()
+    }
+}

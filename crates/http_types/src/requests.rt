@@ -1,0 +1,4 @@
+//! Requests.
+mod head;
+
+pub use head::RequestHead;

@@ -1,0 +1,4 @@
+//! Responses.
+mod head;
+
+pub use head::{BadReason, ResponseHead};

@@ -1,0 +1,3 @@
+mod ends;
+mod heads;
+mod settings;
