@@ -159,10 +159,13 @@ pub front_fits : (reader : Reader) (u : Bool) (bytes : List ℕ) → FitsIn (len
 unfolding front_frame
 front_fits reader u [] = tt
 front_fits reader u (first ∷ []) = tt
-front_fits reader u (first ∷ second ∷ bytes) = subst (λ k. FitsIn k (front_of_rest reader u first second bytes (start_error reader first second))) (omega arith) (fits_rest reader u first second bytes (start_error reader first second))
+front_fits reader u (first ∷ second ∷ bytes) =
+    let broken = start_error reader first second in
+    subst (λ k. FitsIn k (front_of_rest reader u first second bytes broken)) (omega arith) (fits_rest reader u first second bytes broken)
 
 -- a whole frame has two bytes at least, and lies within the bytes
-pub whole_fits : (reader : Reader) (u : Bool) (bytes : List ℕ) (f : Frame) (len : ℕ) → front_frame reader u bytes ≡ whole f len → (2 ≤ len) × (len ≤ length bytes)
+pub whole_fits : (reader : Reader) (u : Bool) (bytes : List ℕ) (f : Frame) (len : ℕ) → front_frame reader u bytes ≡ whole f len
+    → (2 ≤ len) × (len ≤ length bytes)
 whole_fits reader u bytes f len e = subst (FitsIn (length bytes)) e (front_fits reader u bytes)
 
 -- ---- the frames of the bytes

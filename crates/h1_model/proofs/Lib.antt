@@ -22,3 +22,4 @@ pub mod ReadingDecisions
 pub mod MessageExistence
 pub mod HandedLemmas
 pub mod PastExistence
+pub mod MovedLemmas

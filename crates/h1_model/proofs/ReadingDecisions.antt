@@ -1,15 +1,15 @@
 -- Each piece has a reading.
-use Rattle.std.proofs.Common.{◌≡◌, ℕ, Bool, true, List, [], length, map, Option, Some, None, All, refl, sym, ◌∙◌, subst, inl, inr}
+use Rattle.std.proofs.Common.{◌≡◌, ℕ, List, [], length, map, Option, Some, None, All, refl, sym, ◌∙◌, subst, inl, inr}
 use Rattle.std.proofs.lemmas.Bool.{cases_lt}
 use Rattle.httparse.specs.Grammar.{RequestHead, ReadsRequest, Field, field_value}
 use Rattle.httparse.proofs.GrammarLemmas.{request_unique}
-use Rattle.http_header.specs.Token.{AllPass, IsToken, is_token_byte, is_value_byte}
+use Rattle.http_header.specs.Token.{IsToken, is_token_byte, is_value_byte}
 use Rattle.h1_model.specs.Limits.{MAX_HEADER_LINES}
 use Rattle.h1_model.specs.HeadPiece.{header_lines}
 use Rattle.h1_model.specs.LengthTable.{body_kind, connection_of, expects_continue}
 use Rattle.h1_model.specs.Request.{BodyKind, Head, Reading, too_large, malformed, head_is}
 use Rattle.h1_model.specs.RequestHead.{IsTarget, IsHeaderField, header_of, IsHeadOf, IsReading}
-use Rattle.h1_model.proofs.Decisions.{dec_like, dec_both, dec_pass, dec_true, dec_below, dec_most, dec_all}
+use Rattle.h1_model.proofs.Decisions.{dec_like, dec_both, dec_pass, dec_below, dec_most, dec_all}
 use Rattle.h1_model.proofs.RequestDecisions.{request_decided}
 use Rattle.h1_model.proofs.TargetDecisions.{target_decided}
 

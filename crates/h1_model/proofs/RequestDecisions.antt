@@ -12,7 +12,7 @@ use Rattle.httparse.proofs.PieceLemmas.{IsDeterministic, Then_deterministic, Bla
 use Rattle.httparse.proofs.GrammarLemmas.{RequestTree, request_tree, request_head, request_pieces, request_from_pieces}
 use Rattle.h1_model.specs.HeadPiece.{BeginsBlank}
 use Rattle.h1_model.proofs.BlankLemmas.{blank_unique, blank_front}
-use Rattle.h1_model.proofs.Decisions.{dec_like, dec_both, dec_pass, dec_either, dec_true, dec_below, dec_all, dec_front, dec_cut}
+use Rattle.h1_model.proofs.Decisions.{dec_like, dec_both, dec_pass, dec_either, dec_true, dec_below, dec_front, dec_cut}
 
 -- each text begins with the piece or doesn't
 abbrev pub IsDecided : {A : Type 0} → Piece A → Type 0

@@ -1,10 +1,10 @@
 -- Whether a text is a request target is decided.
-use Rattle.std.proofs.Common.{◌≡◌, ◌≢◌, ℕ, ◌-◌, ◌≤◌, ◌⊎◌, Bool, List, [], ◌++◌, length, take, slice_index, codes, Option, Some, None, IsTrue, refl, ap, ◌∙◌, inl, inr}
+use Rattle.std.proofs.Common.{◌≡◌, ◌≢◌, ℕ, ◌-◌, ◌≤◌, ◌⊎◌, List, [], ◌++◌, length, take, slice_index, codes, Option, Some, None, IsTrue, refl, ap, ◌∙◌, inl, inr}
 use Rattle.std.specs.Option.{IfSome}
 use Rattle.http_uri.specs.ByteClasses.{is_scheme_byte, is_authority_byte, is_path_byte, is_query_byte, is_delimiter, count_of, split_once_front, split_once_back, at_sign, colon, left_bracket, percent_sign, question_mark, right_bracket, slash}
 use Rattle.http_uri.specs.Grammar.{AllPass, IsScheme, normal_scheme, last_piece, MayFollow, IsAuthority, IsPathAndQuery, without_fragment, IsPathInput, IsTail, IsAbsoluteForm, IsOriginForm, IsForm}
 use Rattle.h1_model.specs.RequestHead.{IsTarget}
-use Rattle.h1_model.proofs.Decisions.{dec_like, dec_both, dec_pass, dec_either, dec_where, dec_not, dec_true, dec_same, dec_below, dec_most, dec_each, dec_all, dec_bytes, HasCut, dec_cut}
+use Rattle.h1_model.proofs.Decisions.{dec_like, dec_both, dec_pass, dec_either, dec_where, dec_not, dec_true, dec_same, dec_below, dec_most, dec_each, dec_bytes, HasCut, dec_cut}
 use Rattle.h1_model.proofs.RequestDecisions.{dec_utf8}
 
 -- ---- the parts

@@ -1,5 +1,5 @@
 -- A body in chunks (RFC 7230, section 4.1): a tree and its text. Trailers are refused.
-use Rattle.std.specs.Prelude.{◌≡◌, ℕ, ◌+◌, ◌^◌, ◌<◌, ◌≤◌, List, [], ◌∷◌, ◌++◌, length, take, min, nat_lt, if◌then◌else◌, Option, Some, None, IsTrue, unwrap_or, flat_map}
+use Rattle.std.specs.Prelude.{◌≡◌, ℕ, ◌+◌, ◌^◌, ◌<◌, ◌≤◌, List, [], ◌∷◌, ◌++◌, length, take, min, nat_lt, if◌then◌else◌, Option, IsTrue, unwrap_or, flat_map}
 use Rattle.std.specs.List.{list_all, AllByRecursion}
 use Rattle.std.specs.Str.Parse.{digits_value, AllDigits}
 use Rattle.httparse.specs.Grammar.{is_ows, is_value_byte, print_extension}

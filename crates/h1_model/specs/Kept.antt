@@ -6,7 +6,7 @@ use Rattle.h1_model.specs.Request.{Head}
 use Rattle.h1_model.specs.Setting.{Setting}
 use Rattle.h1_model.specs.Parse.{Message}
 use Rattle.h1_model.specs.End.{End}
-use Rattle.h1_model.specs.Sums.{Step, Answered, taken, has_ended, is_draining, is_upgraded, request, answered, answer_len, is_complete, is_sending, is_receiving, last_tick, first_tick, completed_at, since_head, was_pulled, was_dropped, was_told_to_go_on}
+use Rattle.h1_model.specs.Sums.{Answered, taken, has_ended, is_draining, is_upgraded, request, answered, answer_len, is_complete, is_sending, is_receiving, last_tick, first_tick, completed_at, since_head, was_pulled, was_dropped, was_told_to_go_on}
 use Rattle.h1_model.specs.Past.{Moment, steps, current, passed, given_bytes, given_frames}
 use Rattle.h1_model.specs.Text.{buffered}
 use Rattle.h1_model.specs.Closing.{closing, closing_since}

@@ -16,6 +16,7 @@ pub mod Event
 pub mod Sums
 pub mod Handed
 pub mod Growth
+pub mod Moved
 pub mod Past
 pub mod Text
 pub mod Closing

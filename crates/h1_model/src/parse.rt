@@ -3,6 +3,7 @@
 ghost use Rattle.std.specs.Prelude.{◌≡◌, ℕ, ◌≤◌, false, List, ◌∷◌, ◌++◌, length, drop, map, Some};
 ghost use Rattle.h1_model.specs.Parse.{Input, Message, next_start, AreMessages, IsParse};
 ghost use Rattle.h1_model.specs.Growth.{GrowTo};
+ghost use Rattle.h1_model.specs.Moved.{moved};
 
 /// The bytes are parsed in one way.
 pub fn parse_is_unique()
@@ -24,4 +25,12 @@ pub fn parse_goes_on()
 /// All bytes have a parse.
 pub fn parse_exists()
     ensures { (i : Input) → (ms : List Message) × IsParse i ms }
+{}
+
+/// The messages from a place on are those of the bytes from there on, their places counted from the front.
+pub fn parse_is_local()
+    ensures parsed { (i : Input) (place : ℕ) (ms : List Message) → place ≤ length i.bytes
+        → IsParse (record i { bytes = drop place i.bytes }) ms → AreMessages i place (map (moved place) ms) }
+    ensures no_others { (i : Input) (place : ℕ) (ms : List Message) → place ≤ length i.bytes → AreMessages i place ms
+        → (rest : List Message) × IsParse (record i { bytes = drop place i.bytes }) rest × (ms ≡ map (moved place) rest) }
 {}
