@@ -23,3 +23,12 @@ pub mod MessageExistence
 pub mod HandedLemmas
 pub mod PastExistence
 pub mod MovedLemmas
+pub mod PastLemmas
+pub mod PlaceLemmas
+pub mod StepLemmas
+pub mod BodySteps
+pub mod TraceGrowth
+pub mod PulledLemmas
+pub mod CarriedLemmas
+pub mod HeldLemmas
+pub mod WrittenLemmas

@@ -5,7 +5,8 @@ ghost use Rattle.h1_model.specs.Answer.{AnswerHead, size_of, shape_none};
 ghost use Rattle.h1_model.specs.AnswerText.{head_text, chunk_text, camel_case};
 ghost use Rattle.h1_model.specs.HeadPiece.{IsHeadPiece};
 ghost use Rattle.h1_model.specs.LengthTable.{body_kind, connection_of};
-ghost use Rattle.h1_model.specs.Request.{Header, fixed_body, keep_alive};
+ghost use Rattle.h1_model.specs.Request.{Header, no_body, fixed_body, keep_alive, head_is};
+ghost use Rattle.h1_model.specs.Parse.{IsParse, content, ended_at};
 
 /// An empty line in front of the head is passed over, and the head ends with its first empty line.
 pub fn head_behind_an_empty_line()
@@ -70,4 +71,19 @@ pub fn one_chunk()
 pub fn camel_names()
     ensures usual { camel_case (codes "content-length") ≡ codes "Content-Length" }
     ensures hyphens { camel_case (codes "a--b") ≡ codes "A--b" }
+{}
+
+/// The bytes of one request are one message: its head is read, it has no body, and it asks to keep the connection.
+pub fn first_request()
+    ensures { IsParse
+        (record { bytes = codes "GET / HTTP/1.1\r\nhost: a\r\n\r\n"; upgraded = false; ended = false })
+        (record {
+          reading = head_is (record {
+            method = codes "GET"; target = codes "/"; minor = 1;
+            headers = record { name = codes "host"; value = codes "a" } ∷ [];
+            body = no_body; connection = keep_alive; expects = false
+          });
+          body_start = 27;
+          body = content [] (ended_at 27)
+        } ∷ []) }
 {}

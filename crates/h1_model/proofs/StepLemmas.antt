@@ -1,0 +1,276 @@
+-- What one more step does to the sums of a trace, and which steps there are.
+use Rattle.std.proofs.Common.{◌≡◌, ℕ, suc, ◌+◌, ◌-◌, min, Bool, true, false, cond, List, [], ◌∷◌, ◌++◌, length, Option, Some, None, refl, sym, ap, ◌∙◌, subst, arith, append-nil}
+use Rattle.std.specs.Prelude.{IsTrue, is_some, ◌||◌, ◌==◌, unwrap_or, option_map, option_and_then}
+use Rattle.std.specs.List.{list_any}
+use Rattle.std.proofs.lemmas.Bool.{cond-true, cond-false, cond_both, or_right, and_parts, not-true, false≢true}
+use Rattle.std.proofs.lemmas.List.Sums.{sum_by-cons}
+use Rattle.h1_model.specs.Request.{Head, Reading, too_large, malformed, head_is}
+use Rattle.h1_model.specs.Setting.{Setting}
+use Rattle.h1_model.specs.Frame.{ProtocolError}
+use Rattle.h1_model.specs.Parse.{Input, Message, IsParse}
+use Rattle.h1_model.specs.Handshake.{HandshakeError, handshake_error}
+use Rattle.h1_model.specs.End as ends
+use Rattle.h1_model.specs.End.{End}
+use Rattle.h1_model.specs.Event.{Event, Outcome}
+use Rattle.h1_model.specs.Event as on
+use Rattle.h1_model.specs.Sums.{Step, step_taken, taken, is_eof, is_pull, is_accepted, has_ended, is_upgraded, head_of, since_head, completes, is_complete, was_pulled, was_dropped, request}
+use Rattle.h1_model.specs.Limits.{MAX_HELD}
+use Rattle.h1_model.specs.Past.{Moment, steps, input_of, parse_of, head_count, current, upcoming, step_bytes, step_frames, given_bytes, given_frames, held}
+use Rattle.h1_model.specs.Closing.{closing}
+use Rattle.h1_model.specs.Allowed.{is_allowed_running, is_allowed_closing, is_allowed, is_unanswered}
+use Rattle.h1_model.specs.OutcomeTable.{head_outcome, upcoming_outcome, next_outcome, pull_outcome, tick_outcome, is_abandoned, is_slow, is_idle, send_outcome, outcome_of}
+use Rattle.h1_model.proofs.MessageLemmas.{messages_unique}
+use Rattle.h1_model.proofs.MessageGrowth.{piece_long}
+use Rattle.h1_model.proofs.PastLemmas.{Legal}
+
+-- ---- the sums of one more step
+
+-- the bytes taken
+pub taken-nil : taken [] ≡ []
+unfolding taken
+taken-nil = refl
+
+pub taken-cons : (s : Step) (before : List Step) → taken (s ∷ before) ≡ taken before ++ step_taken s.event s.outcome
+unfolding taken
+taken-cons s before = refl
+
+-- the steps behind the head
+pub since_head-more : (s : Step) (before : List Step) → head_of s.outcome ≡ None → since_head (s ∷ before) ≡ s ∷ since_head before
+unfolding since_head
+since_head-more s before none = cond-false _ _ _ (ap is_some none)
+
+pub since_head-head : (s : Step) (before : List Step) (h : Head) → head_of s.outcome ≡ Some h → since_head (s ∷ before) ≡ []
+unfolding since_head
+since_head-head s before h some = cond-true _ _ _ (ap is_some some)
+
+-- how many heads were handed out
+pub head_count-more : (s : Step) (before : List Step) → head_of s.outcome ≡ None → head_count (s ∷ before) ≡ head_count before
+head_count-more s before none =
+    sum_by-cons _ s before ∙ ap (λ (o : Option Head). cond (is_some o) 1 0 + head_count before) none ∙ omega arith
+
+pub head_count-head : (s : Step) (before : List Step) (h : Head) → head_of s.outcome ≡ Some h → head_count (s ∷ before) ≡ suc (head_count before)
+head_count-head s before h some =
+    sum_by-cons _ s before ∙ ap (λ (o : Option Head). cond (is_some o) 1 0 + head_count before) some ∙ omega arith
+
+-- how much was given of the body
+pub given_bytes-more : (s : Step) (before : List Step) → head_of s.outcome ≡ None
+    → given_bytes (s ∷ before) ≡ given_bytes before + step_bytes s.outcome
+given_bytes-more s before none = rw (since_head-more s before none) (sum_by-cons _ s (since_head before) ∙ omega arith)
+
+pub given_bytes-head : (s : Step) (before : List Step) (h : Head) → head_of s.outcome ≡ Some h → given_bytes (s ∷ before) ≡ 0
+given_bytes-head s before h some = rw (since_head-head s before h some) refl
+
+pub given_frames-more : (s : Step) (before : List Step) → head_of s.outcome ≡ None
+    → given_frames (s ∷ before) ≡ given_frames before + step_frames s.outcome
+given_frames-more s before none = rw (since_head-more s before none) (sum_by-cons _ s (since_head before) ∙ omega arith)
+
+pub given_frames-head : (s : Step) (before : List Step) (h : Head) → head_of s.outcome ≡ Some h → given_frames (s ∷ before) ≡ 0
+given_frames-head s before h some = rw (since_head-head s before h some) refl
+
+-- ---- a complete answer
+
+-- behind a head nothing is complete
+pub complete-head : (s : Step) (before : List Step) (h : Head) → head_of s.outcome ≡ Some h → is_complete (s ∷ before) ≡ false
+complete-head s before h some = ap (list_any (λ t. completes t.event)) (since_head-head s before h some)
+
+-- behind another step, an answer is complete by it or was before
+pub complete-more : (s : Step) (before : List Step) → head_of s.outcome ≡ None → is_complete (s ∷ before) ≡ (completes s.event || is_complete before)
+complete-more s before none = ap (list_any (λ t. completes t.event)) (since_head-more s before none)
+
+-- what is complete stays so until the next head
+pub complete_stays : (s : Step) (before : List Step) → head_of s.outcome ≡ None → is_complete before ≡ true → is_complete (s ∷ before) ≡ true
+complete_stays s before none x = complete-more s before none ∙ or_right (completes s.event) (is_complete before) x
+
+-- ---- allowed events
+
+-- what isn't allowed while the connection closes is allowed while it is open
+open_test : (closes closed opened : Bool) → cond closes closed opened ≡ true → closed ≡ false → opened ≡ true
+open_test true closed opened x shut = absurd (false≢true (sym shut ∙ x))
+open_test false closed opened x shut = x
+
+pub allowed_open : (setting : Setting) (past : List Moment) (e : Event) → is_allowed_closing (steps past) e ≡ false
+    → IsTrue (is_allowed setting past e) → is_allowed_running setting (steps past) e ≡ true
+unfolding is_allowed
+allowed_open setting past e shut x = open_test (is_some (closing setting past)) _ _ (and_parts _ _ x).1 shut
+
+-- ---- which steps there are
+
+-- the outcome hands out nothing of a message
+abbrev IsMute : Outcome → Type 0
+IsMute o = (head_of o ≡ None) × (step_bytes o ≡ 0) × (step_frames o ≡ 0)
+
+-- A step that takes no bytes, hands out nothing, is no pull, and changes neither the end of the input nor
+-- the protocol.
+pub record Quiet (before : List Moment) (s : Step) : Type 0 where
+  pub taken : step_taken s.event s.outcome ≡ []
+  pub eof : is_eof s.event ≡ false
+  pub accepted : is_accepted s.event s.outcome ≡ false
+  pub pull : is_pull s.event ≡ false
+  pub head : head_of s.outcome ≡ None
+  pub bytes : step_bytes s.outcome ≡ 0
+  pub frames : step_frames s.outcome ≡ 0
+
+-- bytes were read before the end of the input
+pub record Reads (before : List Moment) (s : Step) : Type 0 where
+  pub bytes : List ℕ
+  pub event : s.event ≡ on.read bytes
+  pub outcome : s.outcome ≡ on.took (min (length bytes) (MAX_HELD - held before))
+  pub unended : has_ended (steps before) ≡ false
+
+-- the input ended
+pub record Ends (before : List Moment) (s : Step) : Type 0 where
+  pub event : s.event ≡ on.eof
+  pub outcome : s.outcome ≡ on.done
+  pub unended : has_ended (steps before) ≡ false
+
+-- a WebSocket was accepted, before any pull
+pub record Accepts (before : List Moment) (s : Step) : Type 0 where
+  pub event : s.event ≡ on.accept
+  pub outcome : s.outcome ≡ on.done
+  pub unanswered : is_unanswered (steps before) ≡ true
+  pub unpulled : (was_pulled (steps before) || was_dropped (steps before)) ≡ false
+
+-- a head was handed out
+pub record Begins (before : List Moment) (s : Step) : Type 0 where
+  pub message : Message
+  pub head : Head
+  pub event : s.event ≡ on.next
+  pub outcome : s.outcome ≡ on.head head
+  pub upcoming_is : upcoming before ≡ Some message
+  pub reading : message.reading ≡ head_is head
+
+-- more of the body was asked for
+pub record Pulls (before : List Moment) (s : Step) : Type 0 where
+  pub event : s.event ≡ on.pull
+  pub outcome : s.outcome ≡ pull_outcome (steps before) (current before)
+
+pub data StepCase (before : List Moment) (s : Step) : Type 0 where
+  quiet : Quiet before s → StepCase before s
+  reads : Reads before s → StepCase before s
+  stops : Ends before s → StepCase before s
+  accepts : Accepts before s → StepCase before s
+  begins : Begins before s → StepCase before s
+  pulls : Pulls before s → StepCase before s
+
+-- a step
+abbrev pub step : Event → Outcome → Step
+step e o = record { event = e; outcome = o }
+
+-- an outcome that is a mute one
+mute : (o o' : Outcome) → o ≡ o' → IsMute o' → IsMute o
+mute o o' e x = subst IsMute (sym e) x
+
+-- a quiet step
+silent : (before : List Moment) (e : Event) (o o' : Outcome) → o ≡ o' → IsMute o' → step_taken e o' ≡ [] → is_eof e ≡ false
+    → is_accepted e o' ≡ false → is_pull e ≡ false → StepCase before (step e o)
+silent before e o o' same x taken eof accepted pull =
+    let m = mute o o' same x in
+    quiet (record {
+      taken = ap (step_taken e) same ∙ taken;
+      eof = eof;
+      accepted = ap (is_accepted e) same ∙ accepted;
+      pull = pull;
+      head = m.0;
+      bytes = m.1;
+      frames = m.2;
+    })
+
+-- the head of a message that is to come, or its fault
+head_case : (before : List Moment) (o : Outcome) (m : Message) (r : Reading) → upcoming before ≡ Some m → m.reading ≡ r → o ≡ head_outcome r
+    → StepCase before (step on.next o)
+head_case before o m (head_is h) e read x =
+    begins (record { message = m; head = h; event = refl; outcome = x; upcoming_is = e; reading = read })
+head_case before o m malformed e read x = silent before on.next o _ x (refl, refl, refl) refl refl refl refl
+head_case before o m too_large e read x = silent before on.next o _ x (refl, refl, refl) refl refl refl refl
+
+-- where no message is to come
+none_mute : (past : List Moment) → IsMute (upcoming_outcome past None)
+none_mute past =
+    cond_both (held past == MAX_HELD) (on.fault on.too_large) on.pending IsMute
+    (λ _. (refl, refl, refl)) (λ _. (refl, refl, refl))
+
+-- Next while the connection is open, by the message that is to come
+coming_case : (before : List Moment) (o : Outcome) (m : Option Message) → upcoming before ≡ m → o ≡ upcoming_outcome before m
+    → StepCase before (step on.next o)
+coming_case before o (Some m) e x = head_case before o m m.reading e refl x
+coming_case before o None e x = silent before on.next o _ x (none_mute before) refl refl refl refl
+
+-- Next, by what closes the connection
+next_case : (before : List Moment) (o : Outcome) (end : Option End) → o ≡ next_outcome before end → StepCase before (step on.next o)
+next_case before o (Some end) x = silent before on.next o _ x (refl, refl, refl) refl refl refl refl
+next_case before o None x = coming_case before o (upcoming before) refl x
+
+-- a tick hands out nothing
+tick_mute : (setting : Setting) (past : List Moment) (end : Option End) (first ms : ℕ) → IsMute (tick_outcome setting past end first ms)
+tick_mute setting past (Some end) first ms =
+    cond_both (is_abandoned setting past first ms) on.abandoned on.done IsMute
+    (λ _. (refl, refl, refl)) (λ _. (refl, refl, refl))
+tick_mute setting past None first ms =
+    cond_both (is_slow setting past first ms) (on.expired ends.slow_request) _ IsMute
+    (λ _. (refl, refl, refl))
+    (λ _. cond_both (is_idle setting past first ms) (on.expired ends.keep_alive_expired) on.done IsMute
+    (λ _. (refl, refl, refl)) (λ _. (refl, refl, refl)))
+
+-- nor does a message that is sent
+send_mute : (e : Option ProtocolError) → IsMute (send_outcome e)
+send_mute None = (refl, refl, refl)
+send_mute (Some e) = (refl, refl, refl)
+
+-- Accept, by what is wrong with the handshake
+accept_case : (before : List Moment) (o : Outcome) (wrong : Option HandshakeError) → o ≡ unwrap_or (option_map on.refused wrong) on.done
+    → is_unanswered (steps before) ≡ true
+    → (was_pulled (steps before) || was_dropped (steps before)) ≡ false → StepCase before (step on.accept o)
+accept_case before o (Some e) x unanswered unpulled =
+    silent before on.accept o (on.refused e) x (refl, refl, refl) refl refl refl refl
+accept_case before o None x unanswered unpulled =
+    accepts (record { event = refl; outcome = x; unanswered = unanswered; unpulled = unpulled })
+
+-- each event that is allowed
+pub step_case : (setting : Setting) (before : List Moment) (e : Event) (o : Outcome) → IsTrue (is_allowed setting before e)
+    → o ≡ outcome_of setting before e → StepCase before (step e o)
+unfolding outcome_of
+step_case setting before (on.read bytes) o ok x =
+    reads (record { bytes = bytes; event = refl; outcome = x; unended = not-true _ (allowed_open setting before (on.read bytes) refl ok) })
+step_case setting before on.eof o ok x =
+    stops (record { event = refl; outcome = x; unended = not-true _ (allowed_open setting before on.eof refl ok) })
+step_case setting before on.next o ok x = next_case before o (closing setting before) x
+step_case setting before on.pull o ok x = pulls (record { event = refl; outcome = x })
+step_case setting before on.drop_body o ok x = silent before on.drop_body o on.done x (refl, refl, refl) refl refl refl refl
+step_case setting before on.go_on o ok x = silent before on.go_on o on.done x (refl, refl, refl) refl refl refl refl
+step_case setting before (on.answer head size) o ok x =
+    silent before (on.answer head size) o on.done x (refl, refl, refl) refl refl refl refl
+step_case setting before (on.chunk bytes) o ok x = silent before (on.chunk bytes) o on.done x (refl, refl, refl) refl refl refl refl
+step_case setting before on.body_end o ok x = silent before on.body_end o on.done x (refl, refl, refl) refl refl refl refl
+step_case setting before on.body_error o ok x = silent before on.body_error o on.done x (refl, refl, refl) refl refl refl refl
+step_case setting before (on.write n) o ok x = silent before (on.write n) o _ x (refl, refl, refl) refl refl refl refl
+step_case setting before (on.tick ms) o ok x = silent before (on.tick ms) o _ x (tick_mute setting before (closing setting before) _ ms) refl refl refl refl
+step_case setting before on.drain o ok x = silent before on.drain o on.done x (refl, refl, refl) refl refl refl refl
+step_case setting before on.accept o ok x =
+    let test = allowed_open setting before on.accept refl ok in
+    let parts = and_parts _ _ test in
+    accept_case before o (option_and_then handshake_error (request (steps before))) x (and_parts _ _ parts.0).0 (not-true _ parts.1)
+step_case setting before (on.send m) o ok x = silent before (on.send m) o _ x (send_mute _) refl refl refl refl
+
+-- ---- the parse
+
+-- no bytes have no head
+pub nothing_parsed : IsParse (input_of []) []
+unfolding taken
+nothing_parsed = λ s e x. absurd (omega (arith, piece_long [] 0 s e x))
+
+-- the parse of a legal past is that of the bytes taken
+pub parsed : (setting : Setting) (past : List Moment) → Legal setting past → IsParse (input_of (steps past)) (parse_of past)
+parsed setting [] x = nothing_parsed
+parsed setting (m ∷ before) x = x.0
+
+-- a step that changes neither bytes nor protocol nor the end leaves the input
+pub same_input : (s : Step) (before : List Step) → step_taken s.event s.outcome ≡ [] → is_eof s.event ≡ false → is_accepted s.event s.outcome ≡ false
+    → input_of (s ∷ before) ≡ input_of before
+same_input s before none eof accepted =
+    let bytes : taken (s ∷ before) ≡ taken before = taken-cons s before ∙ ap (λ t. taken before ++ t) none ∙ append-nil (taken before) in
+    λ i. record { bytes = bytes i; upgraded = accepted i || is_upgraded before; ended = eof i || has_ended before }
+
+-- and with it the parse
+pub same_parse : (x : Moment) (before : List Moment) → input_of (x.step ∷ steps before) ≡ input_of (steps before)
+    → IsParse (input_of (x.step ∷ steps before)) x.parse → IsParse (input_of (steps before)) (parse_of before) → x.parse ≡ parse_of before
+same_parse x before same p q = messages_unique (input_of (steps before)) 0 x.parse (parse_of before) (subst (λ (i : Input). IsParse i x.parse) same p) q

@@ -1,0 +1,157 @@
+-- The messages of a parse, and the current one, from one step of a trace to the next.
+use Rattle.std.proofs.Common.{◌≡◌, ℕ, zero, suc, ◌+◌, ◌-◌, ◌≤◌, Bool, true, false, List, [], ◌∷◌, length, drop, slice_range, Option, Some, None, ◌⊎◌, MatchOption, refl, sym, ap, ◌∙◌, subst, subst₂, inl, inr, arith, length-drop}
+use Rattle.std.specs.Prelude.{slice_get}
+use Rattle.std.proofs.lemmas.Option.{none-some, same_Some}
+use Rattle.std.proofs.lemmas.Bool.{cond-false, ne_eqb}
+use Rattle.h1_model.specs.RequestHead.{IsReading}
+use Rattle.h1_model.specs.Frame.{ProtocolError}
+use Rattle.h1_model.specs.FrameText.{PlacedFrame}
+use Rattle.h1_model.specs.Request.{BodyKind, no_body, fixed_body, chunked_body, raw_body, Reading, too_large, malformed, head_is}
+use Rattle.h1_model.specs.Parse.{Input, Message, Body, content, frames, next_start, raw_content, shifted, chunked_stop, IsBodyOf, IsBodyAfter, IsMessageAt, AreMessages}
+use Rattle.h1_model.specs.Growth.{MessageGrows, GrowTo}
+use Rattle.h1_model.specs.Past.{Moment, steps, parse_of, head_count, current}
+use Rattle.h1_model.proofs.HeadPieceLemmas.{head_piece_unique}
+use Rattle.h1_model.proofs.ReadingLemmas.{reading_unique}
+use Rattle.h1_model.proofs.ChunkLaws.{chunked_unique}
+use Rattle.h1_model.proofs.BodyLemmas.{input}
+use Rattle.h1_model.proofs.MessageGrowth.{piece_long}
+use Rattle.h1_model.proofs.BodySteps.{Lies, body_lies}
+
+-- ---- the message at a place of the list
+
+-- A message that was parsed: its body is the one that follows its head, and lies within the bytes.
+pub record IsParsed (i : Input) (m : Message) : Type 0 where
+  pub body : IsBodyAfter i m.reading m.body_start m.body
+  pub lies : Lies (length i.bytes) m.body_start m.body
+
+-- the message at a place of the bytes
+at_place : (i : Input) (place : ℕ) (m : Message) → IsMessageAt i place m → place ≤ length i.bytes → IsParsed i m
+at_place i place m x within =
+    let start : m.body_start ≤ length i.bytes = omega (arith, x.body_start, x.piece.in_range, length-drop place i.bytes) in
+    record { body = x.body; lies = body_lies i m.reading m.body_start m.body start x.body }
+
+-- what stands behind a message is there where the message has ended
+pub rest_of : (i : Input) (o : Option ℕ) (ms : List Message) (k : ℕ) (m : Message) → MatchOption o (ms ≡ []) (λ next. AreMessages i next ms)
+    → slice_get ms k ≡ Some m → (next : ℕ) × (o ≡ Some next) × AreMessages i next ms
+rest_of i None ms k m x e = absurd (none-some m (sym (ap (λ (l : List Message). slice_get l k) x) ∙ e))
+rest_of i (Some next) ms k m x e = (next, refl, x)
+
+-- a message of the list, if those behind each place are parsed
+pub message_at : (i : Input) (place : ℕ) (ms : List Message) (k : ℕ) (m : Message) → AreMessages i place ms → place ≤ length i.bytes
+    → slice_get ms k ≡ Some m → IsParsed i m
+message_at i place [] k m x within e = absurd (none-some m e)
+message_at i place (q ∷ ms) zero m x within e = subst (IsParsed i) (same_Some q m e) (at_place i place q x.0 within)
+message_at i place (q ∷ ms) (suc k) m x within e =
+    let rest = rest_of i (next_start q.body) ms k m x.1 e in
+    let end = (at_place i place q x.0 within).lies.next rest.0 rest.1 in
+    message_at i rest.0 ms k m rest.2 end.1 e
+
+-- the first message of the list
+first_at : (i : Input) (place : ℕ) (ms : List Message) (m : Message) → AreMessages i place ms → slice_get ms 0 ≡ Some m → IsMessageAt i place m
+first_at i place [] m x e = absurd (none-some m e)
+first_at i place (q ∷ ms) m x e = subst (IsMessageAt i place) (same_Some q m e) x.0
+
+-- The message behind another starts where that one's body ends.
+pub message_behind : (i : Input) (place : ℕ) (ms : List Message) (k : ℕ) (m n : Message) → AreMessages i place ms → slice_get ms k ≡ Some m
+    → slice_get ms (suc k) ≡ Some n → (next : ℕ) × (next_start m.body ≡ Some next) × IsMessageAt i next n
+message_behind i place [] k m n x e f = absurd (none-some m e)
+message_behind i place (q ∷ ms) zero m n x e f =
+    let rest = rest_of i (next_start q.body) ms 0 n x.1 f in
+    (rest.0, sym (ap (λ (p : Message). next_start p.body) (same_Some q m e)) ∙ rest.1, first_at i rest.0 ms n rest.2 f)
+message_behind i place (q ∷ ms) (suc k) m n x e f =
+    let rest = rest_of i (next_start q.body) ms k m x.1 e in
+    message_behind i rest.0 ms k m n rest.2 e f
+
+-- ---- growth
+
+-- the message in the same place of the grown list
+pub grown_at : (front all : List ℕ) (ms ns : List Message) (k : ℕ) (m : Message) → GrowTo front all ms ns → slice_get ms k ≡ Some m
+    → (n : Message) × (slice_get ns k ≡ Some n) × MessageGrows front all m n
+grown_at front all [] ns k m x e = absurd (none-some m e)
+grown_at front all (q ∷ ms) [] k m x e = absurd x
+grown_at front all (q ∷ ms) (r ∷ ns) zero m x e = (r, refl, subst (λ p. MessageGrows front all p r) (same_Some q m e) x.0)
+grown_at front all (q ∷ ms) (r ∷ ns) (suc k) m x e = grown_at front all ms ns k m x.1 e
+
+-- ---- a WebSocket is accepted
+
+-- the body is the same, or it is frames now, and nothing stood behind it
+abbrev pub BodyAccepted : ℕ → Body → Body → Type 0
+BodyAccepted len a b =
+    (a ≡ b) ⊎ ((placed : List PlacedFrame) × (fail : Option ProtocolError) × (b ≡ frames placed fail)
+    × ((next : ℕ) → next_start a ≡ Some next → len ≤ next))
+
+pub record Accepted (len : ℕ) (m n : Message) : Type 0 where
+  pub reading : m.reading ≡ n.reading
+  pub body_start : m.body_start ≡ n.body_start
+  pub body : BodyAccepted len m.body n.body
+
+-- a raw body has ended with the bytes, or hasn't ended
+raw_last : (bytes : List ℕ) (ended : Bool) (place next : ℕ) → next_start (raw_content (input bytes false ended) place) ≡ Some next
+    → length bytes ≤ next
+raw_last bytes true place next e = let same : length bytes ≡ next = cc in omega arith
+raw_last bytes false place next e = absurd (none-some next e)
+
+-- each kind of body
+kind_accepted : (bytes : List ℕ) (ended : Bool) (kind : BodyKind) (place : ℕ) (a b : Body) → IsBodyOf (input bytes false ended) kind place a
+    → IsBodyOf (input bytes true ended) kind place b → BodyAccepted (length bytes) a b
+kind_accepted bytes ended no_body place a b x y = inl (x ∙ sym y)
+kind_accepted bytes ended (fixed_body n) place a b x y = inl (x ∙ sym y)
+kind_accepted bytes ended chunked_body place a b x y =
+    let same = chunked_unique (drop place bytes) x.0 y.0 x.1 y.1 x.2 y.2 in
+    inl (x.3 ∙ (λ j. content (shifted place (same.1 j)) (chunked_stop (input bytes true ended) place (same.0 j))) ∙ sym y.3)
+kind_accepted bytes ended raw_body place a b x y =
+    inr (y.0, y.1, y.3, λ next e. raw_last bytes ended place next (sym (ap next_start x) ∙ e))
+
+body_accepted : (bytes : List ℕ) (ended : Bool) (r : Reading) (place : ℕ) (a b : Body) → IsBodyAfter (input bytes false ended) r place a
+    → IsBodyAfter (input bytes true ended) r place b → BodyAccepted (length bytes) a b
+body_accepted bytes ended too_large place a b x y = inl (x ∙ sym y)
+body_accepted bytes ended malformed place a b x y = inl (x ∙ sym y)
+body_accepted bytes ended (head_is h) place a b x y = kind_accepted bytes ended h.body place a b x y
+
+-- the message at a place of the bytes
+pub message_accepted : (bytes : List ℕ) (ended : Bool) (place : ℕ) (m n : Message) → IsMessageAt (input bytes false ended) place m
+    → IsMessageAt (input bytes true ended) place n → Accepted (length bytes) m n
+message_accepted bytes ended place m n x y =
+    let text = drop place bytes in
+    let piece = head_piece_unique text x.start x.end y.start y.end x.piece y.piece in
+    let body_start : m.body_start ≡ n.body_start = x.body_start ∙ ap (λ e. place + e) piece.1 ∙ sym y.body_start in
+    let read = subst₂ (λ s e. IsReading (slice_range text s e) n.reading) (sym piece.0) (sym piece.1) y.reading in
+    let reading = reading_unique (slice_range text x.start x.end) m.reading n.reading x.reading read in
+    let behind = subst₂ (λ r p. IsBodyAfter (input bytes true ended) r p n.body) (sym reading) (sym body_start) y.body in
+    record { reading = reading; body_start = body_start; body = body_accepted bytes ended m.reading m.body_start m.body n.body x.body behind }
+
+-- nothing stands behind the end of the bytes
+pub none_behind : (bytes : List ℕ) (u ended : Bool) (place : ℕ) (ms : List Message) (k : ℕ) (m : Message) → AreMessages (input bytes u ended) place ms
+    → length bytes ≤ place → slice_get ms k ≡ Some m → ⊥
+none_behind bytes u ended place [] k m x past e = none-some m e
+none_behind bytes u ended place (q ∷ ms) k m x past e = omega (arith, piece_long bytes place x.0.start x.0.end x.0.piece)
+
+-- the message in the same place, behind the acceptance
+pub accepted_at : (bytes : List ℕ) (ended : Bool) (place : ℕ) (ms ns : List Message) (k : ℕ) (m : Message)
+    → AreMessages (input bytes false ended) place ms → AreMessages (input bytes true ended) place ns → slice_get ms k ≡ Some m
+    → (n : Message) × (slice_get ns k ≡ Some n) × Accepted (length bytes) m n
+accepted_at bytes ended place [] ns k m x y e = absurd (none-some m e)
+accepted_at bytes ended place (q ∷ ms) [] k m x y e = absurd (y x.0.start x.0.end x.0.piece)
+accepted_at bytes ended place (q ∷ ms) (r ∷ ns) zero m x y e =
+    (r, refl, subst (λ p. Accepted (length bytes) p r) (same_Some q m e) (message_accepted bytes ended place q r x.0 y.0))
+accepted_at bytes ended place (q ∷ ms) (r ∷ ns) (suc k) m x y e =
+    let rest = rest_of (input bytes false ended) (next_start q.body) ms k m x.1 e in
+    elim (message_accepted bytes ended place q r x.0 y.0).body [
+      | inl same ↦
+          let next = sym (ap next_start same) ∙ rest.1 in
+          let behind = subst (λ (o : Option ℕ). MatchOption o (ns ≡ []) (λ p. AreMessages (input bytes true ended) p ns)) next y.1 in
+          accepted_at bytes ended rest.0 ms ns k m rest.2 behind e
+      | inr framed ↦ absurd (none_behind bytes false ended rest.0 ms k m rest.2 (framed.3 rest.0 rest.1) e)
+    ]
+
+-- ---- the current message
+
+-- it is the last one whose head was handed out
+pub current_at : (past : List Moment) (k : ℕ) → head_count (steps past) ≡ suc k → current past ≡ slice_get (parse_of past) k
+current_at past k e =
+    let less : suc k - 1 ≡ k = omega arith in
+    rw (e, less) (cond-false _ _ _ (ne_eqb (suc k) 0 (omega arith)))
+
+-- where no head was handed out there is none
+pub current_none : (past : List Moment) → head_count (steps past) ≡ 0 → current past ≡ None
+current_none past e = rw e refl
