@@ -32,3 +32,10 @@ pub mod PulledLemmas
 pub mod CarriedLemmas
 pub mod HeldLemmas
 pub mod WrittenLemmas
+pub mod HandedPrefix
+pub mod HandedRuns
+pub mod HandedTrace
+pub mod HandedSteps
+pub mod HandedPulls
+pub mod HandedHeads
+pub mod HandedParsed

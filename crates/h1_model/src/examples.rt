@@ -79,11 +79,15 @@ pub fn first_request()
         (record { bytes = codes "GET / HTTP/1.1\r\nhost: a\r\n\r\n"; upgraded = false; ended = false })
         (record {
           reading = head_is (record {
-            method = codes "GET"; target = codes "/"; minor = 1;
+            method = codes "GET";
+            target = codes "/";
+            minor = 1;
             headers = record { name = codes "host"; value = codes "a" } ∷ [];
-            body = no_body; connection = keep_alive; expects = false
+            body = no_body;
+            connection = keep_alive;
+            expects = false;
           });
           body_start = 27;
-          body = content [] (ended_at 27)
+          body = content [] (ended_at 27);
         } ∷ []) }
 {}

@@ -1,12 +1,12 @@
 -- The head's text is written out; each class of bytes is a test that computes.
-use Rattle.std.proofs.Common.{◌≡◌, ℕ, ◌+◌, ◌-◌, ◌<◌, ◌≤◌, Bool, true, false, List, [], ◌∷◌, length, slice_range, codes, All, IsTrue, Some, None, refl, sym, ◌∙◌, arith, inl, inr}
+use Rattle.std.proofs.Common.{◌≡◌, ℕ, ◌+◌, ◌-◌, ◌<◌, true, false, List, [], ◌∷◌, length, slice_range, codes, All, None, refl, sym, ◌∙◌, arith, inl, inr}
 use Rattle.std.specs.List.{list_all}
 use Rattle.std.proofs.lemmas.Grind.{common_steps}
 use Rattle.std.proofs.lemmas.List.Sums.{AllPass-from_list_all}
 use Rattle.std.proofs.lemmas.Bool.{agree_below_at, false≢true}
 use Rattle.httparse.specs.Grammar.{RequestHead, ReadsRequest, Field, IsField, crlf, is_token_byte, is_uri_byte, is_value_byte, print_request, trim_ows}
 use Rattle.http_header.specs.Token.{is_token_byte as is_name_byte, is_value_byte as is_field_byte}
-use Rattle.h1_model.specs.Request.{Head, no_body, keep_alive}
+use Rattle.h1_model.specs.Request.{no_body, keep_alive}
 use Rattle.h1_model.specs.RequestHead.{IsHeadOf, IsTarget, IsHeaderField}
 use Rattle.h1_model.specs.HeadPiece.{IsHeadPiece, HasNoHeadPiece}
 use Rattle.h1_model.proofs.BlankLemmas.{begins_no_cr, ends_blank_true, ends_blank_long}
@@ -48,13 +48,16 @@ token bytes e = AllPass-from_list_all is_token_byte bytes e
 
 reads : ReadsRequest text tree []
 unfolding print_request is_token_byte encode
-reads = (record {
+reads = (
+  record {
     method = (omega arith, token (codes "GET") refl);
     target = (omega arith, AllPass-from_list_all is_uri_byte (codes "/") refl);
     target_text = (codes "/", (refl, refl));
     minor = omega arith;
     fields = All-from_recursion IsField (host ∷ []) (record { name = (omega arith, token (codes "host") refl); raw = AllPass-from_list_all is_value_byte (codes " a") refl }, tt);
-  }, refl)
+  },
+  refl,
+)
 
 kept : IsPathAndQuery (codes "/")
 unfolding encode
@@ -70,10 +73,14 @@ target : IsTarget (codes "/")
 target = (None, None, codes "/", (omega arith, ((inr refl, record { start = inr refl; short = omega arith; kept = kept }), refl)))
 
 is_head : IsHeadOf text (record {
-            method = codes "GET"; target = codes "/"; minor = 1;
-            headers = record { name = codes "host"; value = codes "a" } ∷ [];
-            body = no_body; connection = keep_alive; expects = false
-          })
+  method = codes "GET";
+  target = codes "/";
+  minor = 1;
+  headers = record { name = codes "host"; value = codes "a" } ∷ [];
+  body = no_body;
+  connection = keep_alive;
+  expects = false;
+})
 unfolding trim_ows is_name_byte
 is_head = record {
   text = tree;
