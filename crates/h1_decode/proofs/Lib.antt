@@ -1,0 +1,7 @@
+pub mod FeedLemmas
+pub mod HeadPieceLemmas
+pub mod LineEndLemmas
+pub mod LinesLemmas
+pub mod PlainHeadLemmas
+pub mod ReadingLemmas
+pub mod SaysHeadLemmas

@@ -1,0 +1,9 @@
+pub mod HeadItem
+pub mod HeadMap
+pub mod HeadPosition
+pub mod HeadScan
+pub mod LineEnds
+pub mod ReadParts
+pub mod Refusal
+pub mod SimpleHead
+pub mod WholeHead
