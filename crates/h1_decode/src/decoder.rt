@@ -1,5 +1,5 @@
 //! What the head of a request says (RFC 7230, section 3).
-ghost use Rattle.std.specs.Prelude.{◌≡◌, ◌⊎◌, ◌≤◌, false, length, codes, bytes_eq, Err, IfOk, IfErr, IfSome, IfNone, All};
+ghost use Rattle.std.specs.Prelude.{◌≡◌, ◌⊎◌, false, length, codes, bytes_eq, Err, IfOk, IfErr, IfSome, IfNone, All};
 ghost use Rattle.http_header.specs.Token.{IsToken};
 ghost use Rattle.http_uri.specs.Uri.{Spells, SpellsNone};
 ghost use Rattle.httparse.specs.Spans.{IsHeaderWithin, IsRequestWithin, IsWithin};
@@ -23,6 +23,9 @@ use std::alloc::Global;
 
 /// The most header lines that a head may have.
 const MAX_HEADERS: usize = 96;
+
+/// The minor version of the heads that are read: HTTP/1.1.
+const MINOR_VERSION: u8 = 1;
 
 /// Where the body of a message ends (RFC 7230, section 3.3.3).
 #[derive(Clone, Copy, Debug, PartialEq, Eq)]
@@ -131,7 +134,7 @@ fn read_parts(
     ensures says { IfOk result (SaysPartsAt piece.now spans fields.now) }
     ensures refused { IfErr result (λ e. UnlessNoMemory e (¬ (AreSimpleAt piece.now spans fields.now))) }
 {
-    if spans.version != 1 {
+    if spans.version != MINOR_VERSION {
         return Err(ParseError::NotYet);
     }
     let target = share(piece, spans.path)?;

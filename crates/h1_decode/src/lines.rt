@@ -1,5 +1,5 @@
 //! The header lines of a head (RFC 7230, section 3.2).
-ghost use Rattle.std.specs.Prelude.{◌≡◌, ◌≤◌, false, length, map, IfOk, IfErr, All};
+ghost use Rattle.std.specs.Prelude.{◌≡◌, false, length, map, IfOk, IfErr, All};
 ghost use Rattle.http_header.specs.FieldName.{IsFieldName};
 ghost use Rattle.http_header.specs.FieldValue.{IsFieldValue, plain_value};
 ghost use Rattle.http_header.specs.Token.{lowercase};

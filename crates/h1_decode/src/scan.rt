@@ -1,7 +1,6 @@
 //! Where the head of a message begins and ends (RFC 7230, sections 3 and 3.5).
-ghost use Rattle.std.specs.Prelude.{◌≡◌, ℕ, List, ◌+◌, ◌<◌, ◌≤◌, ◌++◌, length, take, drop, slice_range, IfSome, IfNone};
-ghost use Rattle.httparse.specs.Grammar.{LineEnd, print_end};
-ghost use Rattle.h1_model.specs.HeadPiece.{AreBlankLines, BeginsBlank, EndsBlank, IsHeadPiece};
+ghost use Rattle.std.specs.Prelude.{◌≡◌, ℕ, List, ◌≤◌, length, take, drop, IfSome, IfNone};
+ghost use Rattle.h1_model.specs.HeadPiece.{AreBlankLines, BeginsBlank, IsHeadPiece};
 ghost use Rattle.h1_decode.specs.HeadPosition.{HasScanned};
 ghost use Rattle.h1_decode.specs.HeadScan.{AnswersScan};
 ghost use Rattle.h1_decode.specs.LineEnds.{IsLineEndAt, IsFirstEnd, HasNoEnd};
@@ -28,8 +27,9 @@ pub fn scan_head(bytes: &[u8]) -> HeadScan
     HeadScanner::new().scan(bytes)
 }
 
-/// How far the search for a head has come. It is given a buffer that grows, and passes over what
-/// it saw before, so that a head that comes byte by byte costs what it costs in one piece.
+/// How far the search for a head has come. It is given a buffer that grows. Of what it saw before it
+/// looks again at two bytes where the head begins and at the last two, so that a head that comes byte
+/// by byte costs what it costs in one piece.
 #[derive(Clone, Copy, Debug)]
 pub struct HeadScanner {
     /// Where the head begins, as far as the bytes tell.

@@ -1,3 +1,4 @@
+pub mod CallerLemmas
 pub mod HashLemmas
 pub mod LendsLemmas
 pub mod MapLemmas

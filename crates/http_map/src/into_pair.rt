@@ -55,7 +55,7 @@ pub trait TryIntoHeaderPair: Drop {
 /// A text that is to be a header name.
 ///
 /// A contract sees it as its bytes.
-#[derive(Drop)]
+#[derive(Debug, Drop)]
 pub struct NameText<'a> {
     name: &'a [u8],
 }

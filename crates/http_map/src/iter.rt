@@ -8,7 +8,7 @@ use std::iter::FusedIterator;
 use std::marker::Model;
 
 /// Every value of a map beside its name, name by name.
-#[derive(Drop)]
+#[derive(Debug, Drop)]
 pub struct Iter<'a> {
     // The name in hand, and those of its values that are left.
     current: Option<(&'a HeaderName, &'a [HeaderValue])>,
@@ -84,7 +84,7 @@ impl<'a> ExactSizeIterator for Iter<'a> {
 impl<'a> FusedIterator for Iter<'a> {}
 
 /// Every name of a map once.
-#[derive(Drop)]
+#[derive(Debug, Drop)]
 pub struct Keys<'a> {
     names: map::Keys<'a, HeaderName, Vec<HeaderValue>>,
 }

@@ -11,6 +11,8 @@ mod iter;
 mod map;
 mod owned;
 mod removed;
+#[cfg(test)]
+mod tests;
 
 pub use as_name::AsHeaderName;
 pub use common::cache_status;
@@ -110,6 +112,13 @@ pub use http_header::X_CONTENT_TYPE_OPTIONS;
 pub use http_header::X_DNS_PREFETCH_CONTROL;
 pub use http_header::X_FRAME_OPTIONS;
 pub use http_header::X_XSS_PROTECTION;
+pub use into_pair::InvalidHeaderPart;
+pub use into_pair::NameText;
+pub use into_pair::TryIntoHeaderPair;
+pub use into_value::TryIntoHeaderValue;
+pub use into_value::ValueError;
+pub use into_value::value_of_bytes;
+pub use into_value::value_of_str;
 pub use iter::Iter;
 pub use iter::Keys;
 pub use map::HeaderMap;

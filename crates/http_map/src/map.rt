@@ -1,5 +1,5 @@
 //! The map from header names to their values.
-ghost use Rattle.std.specs.Prelude.{◌≡◌, ◌==◌, [], length, option_copied, IfOk, IsOk};
+ghost use Rattle.std.specs.Prelude.{◌≡◌, ◌<◌, ◌^◌, ◌==◌, [], length, option_copied, IfOk, IsOk};
 ghost use Rattle.std.specs.Slice.Iter.{iter_rest};
 ghost use Rattle.std.specs.Iterator.Adapters.{IterYieldsInOrder};
 ghost use Rattle.http_header.specs.FieldValue.{FieldValue};
@@ -18,13 +18,15 @@ use std::alloc::Global;
 use std::marker::Model;
 use std::slice;
 
+// A `SmallVec` would keep a single value with no allocation, but fills its unused places with a
+// default value, which a `HeaderValue` has not.
 type Names = IndexMap<HeaderName, Vec<HeaderValue>>;
 
 /// A map from header names to one or more values each. The names stand in the order of their
 /// first insertion, and each name's values in the order in which they were added.
 ///
 /// A contract sees it as that list of names, each with the list of its values.
-#[derive(Drop)]
+#[derive(Debug, Drop)]
 pub struct HeaderMap {
     names: Names,
     // The number of values, under all names.
@@ -108,9 +110,11 @@ impl HeaderMap {
         })?;
         values.first()
     }
+
     /// The values under the name, in the order in which they were added.
     pub fn get_all<K: AsHeaderName>(&self, key: K) -> slice::Iter<'_, HeaderValue>
         ensures values { iter_rest result ≡ get_all self.now (K.name key) }
+        ensures fits { length (iter_rest result) < 2 ^ 64 }
         ensures runs { IterYieldsInOrder FieldValue }
     {
         let found = self.names.get(AnyCase {
@@ -125,14 +129,18 @@ impl HeaderMap {
 
     /// Every value beside its name, name by name.
     pub fn iter(&self) -> Iter<'_>
-        ensures { result ≡ pairs self.now }
+        ensures pairs { result ≡ pairs self.now }
+        ensures count { length result ≡ value_count self.now }
+        ensures fits { length result < 2 ^ 64 }
     {
         Iter::new(self.names.iter(), self.len)
     }
 
     /// Every name once.
     pub fn keys(&self) -> Keys<'_>
-        ensures { result ≡ keys self.now }
+        ensures names { result ≡ keys self.now }
+        ensures count { length result ≡ length self.now }
+        ensures fits { length result < 2 ^ 64 }
     {
         Keys::new(self.names.keys())
     }

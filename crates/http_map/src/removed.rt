@@ -10,7 +10,7 @@ use std::vec;
 /// The values that a name had, in the order in which they were added.
 ///
 /// A contract sees it as the list of those that are left.
-#[derive(Drop)]
+#[derive(Debug, Drop)]
 pub struct Removed {
     values: vec::IntoIter<HeaderValue>,
 }

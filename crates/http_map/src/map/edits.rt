@@ -1,5 +1,5 @@
 //! The calls that change a map.
-ghost use Rattle.std.specs.Prelude.{◌≡◌, ◌<◌, ℕ, List, Bool, [], length, slice_get, Some, IfOk, OnOk, OnErr};
+ghost use Rattle.std.specs.Prelude.{◌≡◌, ◌≢◌, ◌<◌, ℕ, List, Bool, [], ◌∷◌, ◌++◌, length, slice_get, Some, IfOk, OnOk, OnErr};
 ghost use Rattle.std.specs.Borrow.{sem};
 ghost use Rattle.std.specs.Iterator.{IsFinite, Drains};
 ghost use Rattle.std.specs.Option.{option_copied_mut};
@@ -33,6 +33,9 @@ impl HeaderMap {
     /// gives those. A new name goes last. It grows first, so want of memory leaves the map as it was.
     pub fn insert(&mut self, name: HeaderName, val: HeaderValue) -> Result<Removed, NoMemory>
         ensures ok { OnOk result (self.new ≡ insert self.old name val) }
+        ensures values { OnOk result (get_all self.new name ≡ val ∷ []) }
+        ensures others { OnOk result ((other : List ℕ) → other ≢ name
+            → get_all self.new other ≡ get_all self.old other) }
         ensures removed { IfOk result (λ removed. removed ≡ get_all self.old name) }
         ensures err { OnErr result (self.new ≡ self.old) }
     {
@@ -46,6 +49,9 @@ impl HeaderMap {
     /// memory leaves the map as it was.
     pub fn append(&mut self, key: HeaderName, value: HeaderValue) -> Result<(), NoMemory>
         ensures ok { OnOk result (self.new ≡ append self.old key value) }
+        ensures values { OnOk result (get_all self.new key ≡ get_all self.old key ++ value ∷ []) }
+        ensures others { OnOk result ((other : List ℕ) → other ≢ key
+            → get_all self.new other ≡ get_all self.old other) }
         ensures err { OnErr result (self.new ≡ self.old) }
     {
         let len = self.len.checked_add(1).ok_or(AllocError)?;
@@ -58,6 +64,9 @@ impl HeaderMap {
     pub fn remove<K: AsHeaderName>(&mut self, key: K) -> Removed
         ensures values { result ≡ get_all self.old (K.name key) }
         ensures after { self.new ≡ remove self.old (K.name key) }
+        ensures gone { get_all self.new (K.name key) ≡ [] }
+        ensures others { (other : List ℕ) → other ≢ K.name key
+            → get_all self.new other ≡ get_all self.old other }
     {
         let removed = remove_values(&mut self.names, key.as_name_bytes());
         self.len -= removed.len();
@@ -70,6 +79,7 @@ impl HeaderMap {
     {
         self.names.reserve(additional)
     }
+
     /// Keeps the values for which `keep` answers true, in their order. A name whose values all went
     /// goes too.
     pub fn retain<F: Fn(&HeaderName, &HeaderValue) -> bool + Drop>(&mut self, keep: F)

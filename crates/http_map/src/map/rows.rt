@@ -57,6 +57,7 @@ pub(super) fn insert_value(
 pub(super) fn remove_values(names: &mut Names, bytes: &[u8]) -> Vec<HeaderValue>
     ensures removed { result.items ≡ get_all (rows names.old.entries) (lowercase bytes.now) }
     ensures after { rows names.new.entries ≡ remove (rows names.old.entries) (lowercase bytes.now) }
+    ensures gone { get_all (rows names.new.entries) (lowercase bytes.now) ≡ [] }
 {
     let alloc = *names.allocator();
     let removed = names.shift_remove(AnyCase { bytes });

@@ -8,7 +8,7 @@ use crate::{HeaderMap, Method, NoMemory, Uri, Version};
 use std::net::SocketAddr;
 
 /// What a request says before its body (RFC 7230, section 3).
-#[derive(Drop)]
+#[derive(Debug, Drop)]
 pub struct RequestHead {
     pub method: Method,
     pub uri: Uri,

@@ -20,7 +20,7 @@ const UNKNOWN_STATUS: &str = "<unknown status code>";
 pub struct BadReason;
 
 /// What a response says before its body (RFC 7230, section 3).
-#[derive(Drop)]
+#[derive(Debug, Drop)]
 pub struct ResponseHead {
     pub version: Version,
     pub status: StatusCode,

@@ -14,7 +14,7 @@ returns-clause-simple c =
     let path : c.as_slice-2.result.now ≡ span_bytes c.args.piece.now spans.path =
     c.as_slice-2.ensures ∙ c.in_ok-target.ensures.bytes in
     record {
-      minor_is = c.if-spans-ne1.false;
+      minor_is = c.if-spans-ne-MINOR_VERSION.false;
       method_is = subst IsToken method c.in_ok-method.ensures.token;
       no_tunnel = subst (λ (m : List ℕ). bytes_eq m (codes "CONNECT") ≡ false) method c.in_ok-method.ensures.no_tunnel;
       target_is =

@@ -1,5 +1,6 @@
 use Rattle.std.proofs.Common.{length, ap, arith}
 use Rattle.http_map.specs.Layout.{rows}
+use Rattle.http_map.proofs.CallerLemmas.{get_all-insert_same, get_all-insert_other}
 use Rattle.http_map.proofs.MapLemmas.{value_count-insert, IsFilled-insert}
 use Rattle.http_map.proofs.map.HeaderMap.insert.Goals as goal
 
@@ -18,3 +19,11 @@ invariant_of-self-2 c =
       fits = omega (arith, more);
       filled = IsFilled-insert c.args.name c.args.val (rows c.self.inside.names.entries) c.self.invariant.filled;
     })
+
+pub returns-clause-values : goal.returns-clause-values
+returns-clause-values c =
+    rw c.in_ok-removed.ensures.ok (get_all-insert_same c.args.name c.args.val (rows c.self.inside.names.entries))
+
+pub returns-clause-others : goal.returns-clause-others
+returns-clause-others c other apart =
+    rw (c.in_ok-removed.ensures.ok, ← c.self.view_is) (get_all-insert_other c.args.name c.args.val other apart (rows c.self.inside.names.entries))

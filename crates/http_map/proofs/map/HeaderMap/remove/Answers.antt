@@ -1,6 +1,7 @@
-use Rattle.std.proofs.Common.{length, ap, arith}
+use Rattle.std.proofs.Common.{◌≢◌, length, ap, ◌∙◌, arith}
 use Rattle.http_header.specs.Token.{lowercase}
 use Rattle.http_map.specs.Layout.{rows}
+use Rattle.http_map.proofs.CallerLemmas.{get_all-remove_other}
 use Rattle.http_map.proofs.MapLemmas.{value_count-remove, IsFilled-remove}
 use Rattle.http_map.proofs.map.HeaderMap.remove.Goals as goal
 
@@ -17,3 +18,9 @@ invariant_of-self g c =
       fits = omega (arith, c.self.invariant.fits);
       filled = IsFilled-remove (lowercase c.as_name_bytes.result.now) (rows c.self.inside.names.entries) c.self.invariant.filled;
     })
+
+pub returns-clause-others : goal.returns-clause-others
+returns-clause-others g c other apart =
+    let bytes = c.as_name_bytes.result.now in
+    let away : other ≢ lowercase bytes = λ is. apart (is ∙ c.as_name_bytes.ensures.lowered) in
+    rw (c.remove_values-removed.ensures.after, ← c.self.view_is) (get_all-remove_other (lowercase bytes) other away (rows c.self.inside.names.entries))

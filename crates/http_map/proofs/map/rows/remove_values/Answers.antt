@@ -11,3 +11,7 @@ returns-clause-removed c =
 pub returns-clause-after : goal.returns-clause-after
 returns-clause-after c =
     rw c.shift_remove-removed.ensures.entries (sym (remove-rows (lowercase c.args.bytes.now) c.args.names.now.entries))
+
+pub returns-clause-gone : goal.returns-clause-gone
+returns-clause-gone c =
+    rw get_all-rows (ap items_or_none c.shift_remove-removed.ensures.updates.1)

@@ -1,0 +1,6 @@
+pub mod Allowed
+pub mod AnswerText
+pub mod Held
+pub mod Run
+pub mod State
+pub mod Stepping

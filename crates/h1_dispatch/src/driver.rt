@@ -1,0 +1,48 @@
+//! A connection's answers to a list of events.
+ghost use Rattle.std.specs.Prelude.{◌≡◌, IfOk, IfErr};
+ghost use Rattle.h1_dispatch.specs.State.{closing_of};
+ghost use Rattle.h1_dispatch.specs.Run.{IsWhole, IsStop};
+
+use crate::{Connection, DriveError, Event, StepError, Steps, Trace};
+use bytes::Bytes;
+use http_types::{NoMemory, ServiceConfig};
+use std::alloc::Global;
+
+/// Brings the events to a new connection, one after the other, up to the first that is not allowed or not served.
+pub fn drive(alloc: Global, config: &ServiceConfig, events: &[Event]) -> Result<Trace, DriveError>
+    ensures ok { IfOk result (IsWhole config.now events.now) }
+    ensures stopped { IfErr result (IsStop config.now events.now) }
+{
+    let mut connection = Connection::new(alloc, *config);
+    let mut steps = Steps::with_capacity(alloc, events.len())?;
+    for (index, event) in events.iter().enumerate() {
+        if !connection.allowed(event) {
+            let trace = trace_of(alloc, &connection, steps)?;
+            return Err(DriveError::Misplaced(index, trace));
+        }
+        match connection.step(event) {
+            Ok(outcome) => steps.push(event.copy()?, outcome)?,
+            Err(StepError::NotYet) => {
+                let trace = trace_of(alloc, &connection, steps)?;
+                return Err(DriveError::NotYet(index, trace));
+            }
+            Err(StepError::NoMemory) => return Err(DriveError::NoMemory),
+        }
+    }
+    let trace = trace_of(alloc, &connection, steps)?;
+    Ok(trace)
+}
+
+// The trace of these steps, which left the connection as it is.
+fn trace_of(alloc: Global, connection: &Connection, steps: Steps) -> Result<Trace, NoMemory>
+    ensures steps { IfOk result (λ trace. trace.steps ≡ steps) }
+    ensures buffered { IfOk result (λ trace. trace.buffered ≡ connection.now.buffered) }
+    ensures closing { IfOk result (λ trace. trace.closing ≡ closing_of connection.now) }
+{
+    let buffered = Bytes::copy_from_slice(alloc, connection.output())?;
+    Ok(Trace {
+        steps,
+        buffered,
+        closing: connection.closing(),
+    })
+}
