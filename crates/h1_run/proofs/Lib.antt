@@ -1,0 +1,6 @@
+pub mod Answering
+pub mod Cuts
+pub mod Digits
+pub mod EventLines
+pub mod ReportLines
+pub mod Writing

@@ -1,0 +1,10 @@
+pub mod Input
+pub mod Output
+pub mod Pieces
+pub mod Reading
+pub mod Reply
+pub mod Report
+pub mod Run
+pub mod Script
+pub mod Text
+pub mod Word
