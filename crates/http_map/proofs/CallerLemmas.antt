@@ -1,8 +1,8 @@
 -- What a caller cites of a map's list: what a look-up finds after an edit, and what a map's names and counts are.
-use Rattle.std.proofs.Common.{◌≡◌, ◌≢◌, ℕ, ◌+◌, ◌<◌, Bool, true, false, cond, if◌then◌else◌, List, [], ◌∷◌, ◌++◌, ◌||◌, length, bytes_eq, is_some, slice_get, All, refl, sym, ap, ◌∙◌, arith}
+use Rattle.std.proofs.Common.{◌≡◌, ◌≢◌, ℕ, ◌<◌, Bool, true, false, if◌then◌else◌, List, [], ◌∷◌, ◌++◌, ◌||◌, length, bytes_eq, is_some, slice_get, refl, sym, ap, ◌∙◌, arith}
 use Rattle.std.proofs.lemmas.Slice.Eq.{bytes_eq-Decides}
 use Rattle.http_header.specs.FieldValue.{FieldValue}
-use Rattle.http_map.specs.HeaderMap.{Entry, Entries, keys, value_count, contains_key, get, get_all, insert, append, remove, pairs}
+use Rattle.http_map.specs.HeaderMap.{Entry, Entries, contains_key, get, get_all, insert, append, remove}
 use Rattle.http_map.proofs.MapLemmas.{IsFilled, filled_head, filled_tail}
 
 pub same_bytes : (a b : List ℕ) → bytes_eq a b ≡ true → a ≡ b

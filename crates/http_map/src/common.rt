@@ -31,7 +31,7 @@ pub fn cross_origin_embedder_policy() -> HeaderName
     HeaderName::from_static("cross-origin-embedder-policy")
 }
 
-/// `cross-origin-opener-policy`: whether a document shares its group with documents of other origins.
+/// `cross-origin-opener-policy`: whether a document shares its group with those of other origins.
 pub fn cross_origin_opener_policy() -> HeaderName
     ensures { result ≡ codes "cross-origin-opener-policy" }
 {

@@ -48,7 +48,8 @@ pub trait TryIntoHeaderPair: Drop {
         ensures ok { IfOk result (λ pair. pair ≡ (lowercase (name_text self), field_value self)) }
         ensures name { IsErrOf result InvalidHeaderPart.Name ↔ ¬ (IsFieldName (name_text self)) }
         ensures value_name { IsErrOf result InvalidHeaderPart.Value → IsFieldName (name_text self) }
-        ensures value { IsErrOf result InvalidHeaderPart.Value → ¬ (IsFieldValue (field_value self).bytes) }
+        ensures value { IsErrOf result InvalidHeaderPart.Value
+            → ¬ (IsFieldValue (field_value self).bytes) }
         ensures refused { ¬ (IsFieldValue (field_value self).bytes) → IsErr result };
 }
 
@@ -84,7 +85,8 @@ fn pair_of<V: TryIntoHeaderValue>(
 ) -> Result<(HeaderName, HeaderValue), InvalidHeaderPart>
     ensures ok { IfOk result (λ pair. pair ≡ (name, V.field_value value)) }
     ensures name { IfErr result (λ e. e ≢ InvalidHeaderPart.Name) }
-    ensures value { IsErrOf result InvalidHeaderPart.Value ↔ ¬ (IsFieldValue (V.field_value value).bytes) }
+    ensures value { IsErrOf result InvalidHeaderPart.Value
+        ↔ ¬ (IsFieldValue (V.field_value value).bytes) }
 {
     match value.try_into_value(alloc) {
         Ok(value) => Ok((name, value)),
@@ -101,7 +103,8 @@ fn pair_of_text<V: TryIntoHeaderValue>(
     ensures ok { IfOk result (λ pair. pair ≡ (lowercase name.now, V.field_value value)) }
     ensures name { IsErrOf result InvalidHeaderPart.Name ↔ ¬ (IsFieldName name.now) }
     ensures value_name { IsErrOf result InvalidHeaderPart.Value → IsFieldName name.now }
-    ensures value { IsErrOf result InvalidHeaderPart.Value → ¬ (IsFieldValue (V.field_value value).bytes) }
+    ensures value { IsErrOf result InvalidHeaderPart.Value
+        → ¬ (IsFieldValue (V.field_value value).bytes) }
     ensures refused { ¬ (IsFieldValue (V.field_value value).bytes) → IsErr result }
 {
     match HeaderName::from_bytes(alloc, name) {

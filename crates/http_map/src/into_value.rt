@@ -47,7 +47,8 @@ pub trait TryIntoHeaderValue: Drop {
     /// The header value. `Invalid` comes exactly where a byte may stand in none.
     fn try_into_value(self, alloc: Global) -> Result<HeaderValue, ValueError>
         ensures ok { IfOk result (λ v. v ≡ field_value self) }
-        ensures invalid { IsErrOf result ValueError.Invalid ↔ ¬ (IsFieldValue (field_value self).bytes) };
+        ensures invalid { IsErrOf result ValueError.Invalid
+            ↔ ¬ (IsFieldValue (field_value self).bytes) };
 }
 
 /// Copies a text into a header value. `Invalid` comes exactly where a byte may stand in none.

@@ -1,6 +1,7 @@
 //! The iterators of a map. A contract sees each as the list of what it has left.
-ghost use Rattle.std.specs.Prelude.{ℕ, List};
-ghost use Rattle.std.specs.Iterator.{YieldsFirstBy, YieldsFirstRef, item_count};
+ghost use Rattle.std.specs.Prelude.{◌≡◌, ℕ, List, length, Some, IfSome};
+ghost use Rattle.std.specs.Iterator.SizeHint.{IsWithinCount};
+ghost use Rattle.std.specs.Iterator.{UpTo, at_most, YieldsFirstBy, YieldsFirstRef, item_count};
 
 use http_header::{HeaderName, HeaderValue};
 use indexmap::map;
@@ -70,7 +71,11 @@ impl<'a> Iterator for Iter<'a> {
         Some((name, value))
     }
 
-    fn size_hint(&self) -> (usize, Option<usize>) {
+    fn size_hint(&self) -> (usize, Option<usize>)
+        ensures lower { IsWithinCount result.0 (at_most (length self.now)) }
+        ensures upper { IfSome result.1 (UpTo (at_most (length self.now))) }
+        ensures exact { result ≡ (length self.now, Some (length self.now)) }
+    {
         (self.left, Some(self.left))
     }
 }
@@ -116,7 +121,11 @@ impl<'a> Iterator for Keys<'a> {
         self.names.next()
     }
 
-    fn size_hint(&self) -> (usize, Option<usize>) {
+    fn size_hint(&self) -> (usize, Option<usize>)
+        ensures lower { IsWithinCount result.0 (at_most (length self.now)) }
+        ensures upper { IfSome result.1 (UpTo (at_most (length self.now))) }
+        ensures exact { result ≡ (length self.now, Some (length self.now)) }
+    {
         let len = self.names.len();
         (len, Some(len))
     }

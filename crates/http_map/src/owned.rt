@@ -1,7 +1,8 @@
 //! The iterators that take a map apart. A contract sees each as the list of what it has left.
-ghost use Rattle.std.specs.Prelude.{◌≡◌, ℕ, List, [], ◌∷◌, Option, IfNone, IfSome};
+ghost use Rattle.std.specs.Prelude.{◌≡◌, ℕ, List, [], ◌∷◌, length, Option, Some, IfNone, IfSome};
 ghost use Rattle.std.specs.Vec.Iter.{into_iter_items};
-ghost use Rattle.std.specs.Iterator.{YieldsFirst, item_count};
+ghost use Rattle.std.specs.Iterator.SizeHint.{IsWithinCount};
+ghost use Rattle.std.specs.Iterator.{UpTo, at_most, YieldsFirst, item_count};
 ghost use Rattle.http_map.specs.Layout.{rows};
 ghost use Rattle.http_map.specs.Owned.{entries_left, GivesFirst};
 
@@ -28,7 +29,7 @@ pub struct Drain {
 }
 
 impl Model for Drain {
-    ghost use Rattle.std.specs.Prelude.{◌≡◌, ℕ, List, [], ◌∷◌, Option, IfNone, IfSome};
+    ghost use Rattle.std.specs.Prelude.{◌≡◌, ℕ, List, [], ◌∷◌, length, Option, Some, IfNone, IfSome};
     ghost use Rattle.std.specs.Vec.Iter.{into_iter_items};
     ghost use Rattle.http_header.specs.FieldValue.{FieldValue};
     ghost use Rattle.http_map.specs.Layout.{rows};
@@ -80,7 +81,11 @@ impl Iterator for Drain {
         Some((Some(name), value))
     }
 
-    fn size_hint(&self) -> (usize, Option<usize>) {
+    fn size_hint(&self) -> (usize, Option<usize>)
+        ensures lower { IsWithinCount result.0 (at_most (length self.now)) }
+        ensures upper { IfSome result.1 (UpTo (at_most (length self.now))) }
+        ensures exact { result ≡ (length self.now, Some (length self.now)) }
+    {
         (self.left, Some(self.left))
     }
 }
@@ -139,7 +144,8 @@ impl IntoIter {
 
 // The name in hand, or else the first of the later ones.
 fn in_hand(current: Option<(HeaderName, Values)>, later: &mut Later) -> Option<(HeaderName, Values)>
-    ensures none { IfNone result ((entries_left current (rows later.old) ≡ []) × (rows later.new ≡ [])) }
+    ensures none { IfNone result ((entries_left current (rows later.old) ≡ [])
+        × (rows later.new ≡ [])) }
     ensures some { IfSome result (λ p. entries_left current (rows later.old)
         ≡ (p.0, into_iter_items p.1) ∷ rows later.new) }
 {
@@ -180,7 +186,11 @@ impl Iterator for IntoIter {
         }
     }
 
-    fn size_hint(&self) -> (usize, Option<usize>) {
+    fn size_hint(&self) -> (usize, Option<usize>)
+        ensures lower { IsWithinCount result.0 (at_most (length self.now)) }
+        ensures upper { IfSome result.1 (UpTo (at_most (length self.now))) }
+        ensures exact { result ≡ (0, Some (length self.now)) }
+    {
         (0, Some(self.left))
     }
 }

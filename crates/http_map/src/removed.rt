@@ -1,6 +1,7 @@
 //! The values that an insertion or a removal took out of a map.
-ghost use Rattle.std.specs.Prelude.{◌≡◌, ◌==◌, length};
-ghost use Rattle.std.specs.Iterator.{YieldsFirst, item_count};
+ghost use Rattle.std.specs.Prelude.{◌≡◌, ◌==◌, length, Some, IfSome};
+ghost use Rattle.std.specs.Iterator.SizeHint.{IsWithinCount};
+ghost use Rattle.std.specs.Iterator.{UpTo, at_most, YieldsFirst, item_count};
 
 use http_header::HeaderValue;
 use std::iter::FusedIterator;
@@ -53,7 +54,11 @@ impl Iterator for Removed {
         self.values.next()
     }
 
-    fn size_hint(&self) -> (usize, Option<usize>) {
+    fn size_hint(&self) -> (usize, Option<usize>)
+        ensures lower { IsWithinCount result.0 (at_most (length self.now)) }
+        ensures upper { IfSome result.1 (UpTo (at_most (length self.now))) }
+        ensures exact { result ≡ (length self.now, Some (length self.now)) }
+    {
         let len = self.values.len();
         (len, Some(len))
     }

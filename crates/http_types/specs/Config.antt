@@ -1,5 +1,5 @@
 -- A configuration as the record of its settings.
-use Rattle.std.specs.Prelude.{◌≡◌, ◌<◌, ℕ, Bool, true, unwrap_or}
+use Rattle.std.specs.Prelude.{◌≡◌, ◌<◌, ℕ, Bool, true}
 use Rattle.http_types.specs.declared.keep_alive.KeepAlive.{KeepAlive}
 use Rattle.http_types.specs.declared.keep_alive.KeepAlive.TheVariants.{Timeout}
 use Rattle.http_types.specs.KeepAlive.{normalized}

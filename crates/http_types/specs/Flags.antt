@@ -1,5 +1,5 @@
 -- The marks of a head, and the connection type that they give.
-use Rattle.std.specs.Prelude.{Bool, true, false, if◌then◌else◌, Option, Some, None}
+use Rattle.std.specs.Prelude.{true, false, if◌then◌else◌, Option, Some, None}
 use Rattle.http_types.specs.declared.message.ConnectionType.{ConnectionType}
 use Rattle.http_types.specs.declared.message.ConnectionType.TheVariants.{Close, KeepAlive, Upgrade}
 use Rattle.http_types.specs.declared.message.Flags.{Flags}

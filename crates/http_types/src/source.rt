@@ -14,9 +14,9 @@ pub trait Source {
     /// How often the source has failed.
     ghost faults: { Self → ℕ };
 
-    /// Moves bytes from the front of what is left to the front of `buf`, and answers how many. It
-    /// answers 0 for a `buf` with room only at the end of input. After `Failed` the same bytes are
-    /// left.
+    /// Moves bytes from the front of what is left to the front of `buf`, and answers how many. What
+    /// `buf` holds behind them is open. It answers 0 for a `buf` with room only at the end of input.
+    /// After `Failed` the same bytes are left.
     fn read(&mut self, buf: &mut [u8]) -> Result<usize, Failed>
         ensures bound { ReadsAtMost result buf.new }
         ensures bytes { ReadConsumes (left self.old) (left self.new) result buf.new }

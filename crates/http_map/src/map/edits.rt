@@ -30,7 +30,8 @@ impl HeaderMap {
     }
 
     /// Puts the value in place of all those under the name, whose place among the names stays, and
-    /// gives those. A new name goes last. It grows first, so want of memory leaves the map as it was.
+    /// gives the old ones. A new name goes last. It grows first, so want of memory leaves the map as
+    /// it was.
     pub fn insert(&mut self, name: HeaderName, val: HeaderValue) -> Result<Removed, NoMemory>
         ensures ok { OnOk result (self.new ≡ insert self.old name val) }
         ensures values { OnOk result (get_all self.new name ≡ val ∷ []) }
