@@ -3,56 +3,21 @@ use Rattle.std.proofs.Common.{◌≡◌, ℕ, zero, suc, ◌+◌, ◌-◌, ◌<�
 use Rattle.std.proofs.lemmas.Bool.{cases_lt, cases_order}
 use Rattle.std.proofs.lemmas.List.{append_cancel_left, take-append-le, take-take, take-append-drop, drop-append-le, length-take-le}
 use Rattle.std.proofs.lemmas.Slice.{between_is}
-use Rattle.httparse.specs.Grammar.{LineEnd, crlf, lf, print_end, print_blank}
+use Rattle.httparse.specs.Grammar.{print_end}
 use Rattle.h1_model.specs.HeadPiece.{AreBlankLines, BeginsBlank, EndsBlank, IsHeadPiece, HasNoHeadPiece}
 use Rattle.h1_decode.specs.declared.scan.HeadScan.{HeadScan}
 use Rattle.h1_decode.specs.declared.scan.HeadScan.TheVariants.{Open, Piece}
 use Rattle.h1_decode.specs.HeadPosition.{HeadPosition, HasScanned}
 use Rattle.h1_decode.specs.HeadScan.{AnswersScan}
 use Rattle.h1_decode.specs.LineEnds.{HasEnd, HasNoEnd, IsFirstEnd}
+use Rattle.h1_model.proofs.HeadPieceLemmas.{start_unique, head_piece_unique}
 use Rattle.h1_decode.proofs.LineEndLemmas.{EndsBlank-at, EndsBlank-of, line_end_after, line_end_near}
-
--- the empty lines in front of what begins with none
-same_front : (ends ends' : List LineEnd) (rest rest' : List ℕ)
-    → print_blank ends ++ rest ≡ print_blank ends' ++ rest' → ¬ (BeginsBlank rest) → ¬ (BeginsBlank rest')
-    → print_blank ends ≡ print_blank ends'
-same_front [] [] rest rest' is begins begins' = refl
-same_front [] (e ∷ es) rest rest' is begins begins' = absurd (begins (e, print_blank es ++ rest', is ∙ append_assoc (print_end e) (print_blank es) rest'))
-same_front (e ∷ es) [] rest rest' is begins begins' = absurd (begins' (e, print_blank es ++ rest, sym is ∙ append_assoc (print_end e) (print_blank es) rest))
-same_front (crlf ∷ es) (crlf ∷ es') rest rest' is begins begins' =
-    ap (λ xs. print_end crlf ++ xs) (same_front es es' rest rest' (append_cancel_left (print_end crlf) _ _ (sym (append_assoc (print_end crlf) (print_blank es) rest) ∙ is ∙ append_assoc (print_end crlf) (print_blank es') rest')) begins begins')
-same_front (lf ∷ es) (lf ∷ es') rest rest' is begins begins' =
-    ap (λ xs. print_end lf ++ xs) (same_front es es' rest rest' (append_cancel_left (print_end lf) _ _ (sym (append_assoc (print_end lf) (print_blank es) rest) ∙ is ∙ append_assoc (print_end lf) (print_blank es') rest')) begins begins')
-same_front (crlf ∷ es) (lf ∷ es') rest rest' is begins begins' = absurd (cc (is))
-same_front (lf ∷ es) (crlf ∷ es') rest rest' is begins begins' = absurd (cc (is))
-
--- a head begins at one place
-pub start_unique : (bytes : List ℕ) (s s' : ℕ) → s ≤ length bytes → s' ≤ length bytes
-    → AreBlankLines (take s bytes) → ¬ (BeginsBlank (drop s bytes)) → AreBlankLines (take s' bytes) → ¬ (BeginsBlank (drop s' bytes)) → s ≡ s'
-start_unique bytes s s' fits fits' (ends, is) begins (ends', is') begins' =
-    let whole : print_blank ends ++ drop s bytes ≡ print_blank ends' ++ drop s' bytes =
-    ap (λ xs. xs ++ drop s bytes) (sym is) ∙ take-append-drop s bytes ∙ sym (take-append-drop s' bytes) ∙ ap (λ xs. xs ++ drop s' bytes) is' in
-    sym (length-take-le s bytes fits) ∙ ap length (is ∙ same_front ends ends' _ _ whole begins begins' ∙ sym is') ∙ length-take-le s' bytes fits'
-
--- a text with one head has no other
-pub head_unique : (bytes : List ℕ) (s e s' e' : ℕ) → IsHeadPiece bytes s e → IsHeadPiece bytes s' e' → (s ≡ s') × (e ≡ e')
-head_unique bytes s e s' e' one other =
-    let start : s ≡ s' = start_unique bytes s s' (omega (arith, one.ordered, one.in_range)) (omega (arith, other.ordered, other.in_range)) one.blank one.begins other.blank other.begins in (
-      start,
-      elim (cases_order e e') [
-        | inl same ↦ same
-        | inr apart ↦ elim apart [
-          | inl less ↦ absurd (other.first e (omega (arith, one.ordered)) less (subst (λ (k : ℕ). EndsBlank (slice_range bytes k e)) start one.ends))
-          | inr more ↦ absurd (one.first e' (omega (arith, other.ordered)) more (subst (λ (k : ℕ). EndsBlank (slice_range bytes k e')) (sym start) other.ends))
-        ]
-      ],
-    )
 
 -- the answer of a scan is the head, wherever there is one
 pub AnswersScan-found : (bytes : List ℕ) (answer : HeadScan) → AnswersScan bytes answer → (s e : ℕ) → IsHeadPiece bytes s e → answer ≡ Piece s e
 AnswersScan-found bytes Open none s e piece = absurd (none s e piece)
 AnswersScan-found bytes (Piece s' e') piece' s e piece =
-    let same = head_unique bytes s' e' s e piece' piece in
+    let same = head_piece_unique bytes s' e' s e piece' piece in
     let at_start : s' ≡ s = same.0 in
     let at_end : e' ≡ e = same.1 in
     ap (λ x. Piece x e') at_start ∙ ap (λ x. Piece s x) at_end
@@ -112,33 +77,8 @@ module _ (bytes : List ℕ) (s n : ℕ) (fits : n ≤ length bytes) (none : HasN
   -- with no end from that place on there is no head
   pub no_end_no_piece : (from : ℕ) → s ≤ length bytes → from ≤ max s (n - 2) → HasNoEnd bytes from → HasNoHeadPiece bytes
   no_end_no_piece from s_fits high no_end s' e piece =
-      let same : s' ≡ s = start_unique bytes s' s (omega (arith, piece.ordered, piece.in_range)) s_fits piece.blank piece.begins blank begins in
+      let same : s' ≡ s = start_unique bytes s' s (omega (arith, piece.ordered, piece.in_range)) s_fits piece.blank blank piece.begins begins in
       no_end e (ends_late from e high (omega (arith, piece.ordered)) piece.in_range (subst (λ (k : ℕ). EndsBlank (slice_range bytes k e)) same piece.ends))
-
--- what begins with no empty line, and is long enough to tell, begins with none when bytes follow
-begins_append : (xs more : List ℕ) → 2 ≤ length xs → ¬ (BeginsBlank xs) → ¬ (BeginsBlank (xs ++ more))
-begins_append (x ∷ y ∷ xs) more long begins (crlf, rest, is) = begins (crlf, xs, cc)
-begins_append (x ∷ y ∷ xs) more long begins (lf, rest, is) = begins (lf, y ∷ xs, cc)
-begins_append (x ∷ []) more long begins blank = absurd (omega arith)
-begins_append [] more long begins blank = absurd (omega arith)
-
--- the head stays the head when bytes follow
-pub IsHeadPiece-append : (bytes more : List ℕ) (s e : ℕ) → IsHeadPiece bytes s e → IsHeadPiece (bytes ++ more) s e
-IsHeadPiece-append bytes more s e piece =
-    let in_range : e ≤ length bytes = piece.in_range in
-    let low : s ≤ length bytes = omega (arith, piece.ordered, piece.in_range) in
-    let (p, p_low, empty) = EndsBlank-at bytes s e piece.ordered piece.in_range piece.ends in
-    let after : p + 1 < e = line_end_after bytes (p + 1) e empty.line in
-    let same = λ (k : ℕ) (fits : k ≤ length bytes).
-    between_is (bytes ++ more) s k ∙ ap (drop s) (take-append-le k bytes more fits) ∙ sym (between_is bytes s k) in
-    record {
-      ordered = piece.ordered;
-      in_range = omega (arith, length-append bytes more);
-      blank = subst AreBlankLines (sym (take-append-le s bytes more low)) piece.blank;
-      begins = λ b. begins_append (drop s bytes) more (omega (arith, length-drop s bytes)) piece.begins (subst BeginsBlank (drop-append-le s bytes more low) b);
-      ends = subst EndsBlank (sym (same e in_range)) piece.ends;
-      first = λ e' low' less ends. piece.first e' low' less (subst EndsBlank (same e' (omega arith)) ends);
-    }
 
 -- a position stays one when bytes follow
 pub HasScanned-append : (position : HeadPosition) (bytes more : List ℕ) → HasScanned position bytes → HasScanned position (bytes ++ more)
