@@ -1,11 +1,10 @@
 -- A write to the first value of a name.
 use Rattle.std.proofs.Common.{◌≡◌, ℕ, zero, suc, ◌+◌, ◌<◌, true, false, List, [], ◌∷◌, length, drop, get_or, set, bytes_eq, slice_get, Some, refl, sym, ap, ◌∙◌, arith, length-drop}
-use Rattle.std.specs.declared.vec.Vec.{Vec}
 use Rattle.std.specs.Map.{values_of}
 use Rattle.indexmap.specs.Layout.{set_value_at}
 use Rattle.http_header.specs.FieldValue.{FieldValue}
 use Rattle.http_map.specs.HeaderMap.{Entry, Entries, keys, value_count, get_all, set_first}
-use Rattle.http_map.specs.Layout.{rows, IsCounted}
+use Rattle.http_map.specs.Counted.{IsCounted}
 use Rattle.http_map.specs.Lends.{set_first_at, values_at}
 use Rattle.http_map.proofs.MapLemmas.{IsFilled, filled_cons, filled_head, filled_tail}
 
@@ -48,26 +47,20 @@ IsCounted-set_first_at m i w len counted = record {
   filled = IsFilled-set_first_at m i w counted.filled;
 }
 
-set_front : (vs : List FieldValue) (w : FieldValue) → 0 < length vs → set vs 0 w ≡ w ∷ drop 1 vs
-set_front [] w some = absurd (omega (arith, some))
-set_front (v ∷ vs) w some = refl
+-- the values of the name at an index, as the `IndexMap` gives them
+pub values_at-values_of : (m : Entries) (i : ℕ) (vs : List FieldValue) → slice_get (values_of m) i ≡ Some vs → values_at m i ≡ vs
+values_at-values_of [] i vs at = cc
+values_at-values_of (e ∷ m) zero vs at = cc
+values_at-values_of (e ∷ m) (suc i) vs at = values_at-values_of m i vs at
 
-module _ {Z : Type 0} where
-  pub values_at-rows : (es : List (List ℕ × Vec FieldValue Z)) (i : ℕ) (v : Vec FieldValue Z) → slice_get (values_of es) i ≡ Some v → values_at (rows es) i ≡ v.items
-  values_at-rows [] i v at = cc
-  values_at-rows (e ∷ es) zero v at = let same : e.1 ≡ v = cc in ap (λ x. x.items) same
-  values_at-rows (e ∷ es) (suc i) v at = values_at-rows es i v at
+-- a name of a filled map has a value
+pub filled_at : (m : Entries) (i : ℕ) (vs : List FieldValue) → IsFilled m → slice_get (values_of m) i ≡ Some vs → 0 < length vs
+filled_at [] i vs all at = cc
+filled_at (e ∷ m) zero vs all at = let same : e.1 ≡ vs = cc in rw (← same) (filled_head e m all)
+filled_at (e ∷ m) (suc i) vs all at = filled_at m i vs (filled_tail e m all) at
 
-  -- a vector in a filled map is not empty
-  pub filled_at : (es : List (List ℕ × Vec FieldValue Z)) (i : ℕ) (v : Vec FieldValue Z) → IsFilled (rows es) → slice_get (values_of es) i ≡ Some v → 0 < length v.items
-  filled_at [] i v all at = cc
-  filled_at (e ∷ es) zero v all at = let same : e.1 ≡ v = cc in rw (← same) (filled_head (e.0, e.1.items) (rows es) all)
-  filled_at (e ∷ es) (suc i) v all at = filled_at es i v (filled_tail (e.0, e.1.items) (rows es) all) at
-
-  -- the same vector with another first element
-  pub rows-set_value_at : (es : List (List ℕ × Vec FieldValue Z)) (i : ℕ) (v u : Vec FieldValue Z) (w : FieldValue) → slice_get (values_of es) i ≡ Some v → 0 < length v.items → u.items ≡ set v.items 0 w → rows (set_value_at es i u) ≡ set_first_at (rows es) i w
-  rows-set_value_at [] i v u w at some is = refl
-  rows-set_value_at (e ∷ es) zero v u w at some is =
-      let same : e.1 ≡ v = cc in
-      ap (λ vs. (e.0, vs) ∷ rows es) (is ∙ set_front v.items w some ∙ ap (λ x. w ∷ drop 1 x.items) (sym same))
-  rows-set_value_at (e ∷ es) (suc i) v u w at some is = ap (λ m. (e.0, e.1.items) ∷ m) (rows-set_value_at es i v u w at some is)
+-- the values of the name at an index with another first one
+pub set_value_at-first : (m : Entries) (i : ℕ) (vs : List FieldValue) (w : FieldValue) → slice_get (values_of m) i ≡ Some vs → set_value_at m i (w ∷ drop 1 vs) ≡ set_first_at m i w
+set_value_at-first [] i vs w at = refl
+set_value_at-first (e ∷ m) zero vs w at = let same : e.1 ≡ vs = cc in ap (λ x. (e.0, w ∷ drop 1 x) ∷ m) (sym same)
+set_value_at-first (e ∷ m) (suc i) vs w at = ap (λ n. e ∷ n) (set_value_at-first m i vs w at)

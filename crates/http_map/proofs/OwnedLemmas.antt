@@ -1,5 +1,5 @@
 -- How many items the iterators that take a map apart have left.
-use Rattle.std.proofs.Common.{◌≡◌, ℕ, ◌-◌, List, [], ◌∷◌, ◌++◌, length, Option, None, refl, ap, ◌∙◌, arith, length-append}
+use Rattle.std.proofs.Common.{◌≡◌, ℕ, ◌-◌, ◌<◌, List, [], ◌∷◌, ◌++◌, length, Option, None, Some, IsSome, MatchOption, refl, ap, ◌∙◌, arith, length-append}
 use Rattle.std.proofs.lemmas.List.{length-map}
 use Rattle.http_header.specs.FieldValue.{FieldValue}
 use Rattle.http_map.specs.HeaderMap.{Entries, value_count}
@@ -21,6 +21,11 @@ pub length-first_drained : (name : List ℕ) (value : FieldValue) (values others
 length-first_drained name value values others later left first count =
     let all : left ≡ length (drained ((name, value ∷ others) ∷ later)) = count ∙ ap (λ vs. length (drained ((name, vs) ∷ later))) first in
     omega (arith, all)
+
+-- a call of `next` gives an item where one is left
+pub given_first : {A : Type 0} (left after : List A) (item : Option A) → MatchOption item ((left ≡ []) × (after ≡ [])) (λ x. left ≡ x ∷ after) → 0 < length left → IsSome item
+given_first left after None none some = absurd (omega (arith, some, ap length none.0))
+given_first left after (Some x) first some = refl
 
 -- a list of no elements
 pub empty_from_length : {A : Type 0} (xs : List A) → length xs ≡ 0 → xs ≡ []

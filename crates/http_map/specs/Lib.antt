@@ -1,5 +1,8 @@
+pub mod Counted
 pub mod HeaderMap
 pub mod Iter
+pub mod Kept
 pub mod Lends
-pub mod Layout
 pub mod Owned
+pub mod Rest
+pub mod Values

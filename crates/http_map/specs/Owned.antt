@@ -1,9 +1,7 @@
 -- What the iterators that take a `HeaderMap` apart have left.
 use Rattle.std.specs.Prelude.{◌≡◌, ℕ, ◌<◌, List, [], ◌∷◌, ◌++◌, map, length, flat_map, All, Option, Some, None, MatchOption, Result, MatchResult}
-use Rattle.std.specs.declared.vec.IntoIter.{IntoIter}
-use Rattle.std.specs.Vec.Iter.{into_iter_items}
 use Rattle.http_header.specs.FieldValue.{FieldValue}
-use Rattle.http_map.specs.HeaderMap.{Pair, Entries, pairs}
+use Rattle.http_map.specs.HeaderMap.{Pair, Entry, Entries, pairs}
 
 -- values that follow the first of their name
 abbrev pub unnamed : List FieldValue → List (Option (List ℕ) × FieldValue)
@@ -19,25 +17,25 @@ abbrev pub drained : Entries → List (Option (List ℕ) × FieldValue)
 drained m = flat_map (λ e. drained_entry e.0 e.1) m
 
 -- what a `Drain` has left: the values of the name in hand, and then those of the later names
-abbrev pub drained_left : {Z : Type 0} → IntoIter FieldValue Z → Entries → List (Option (List ℕ) × FieldValue)
-drained_left values later = unnamed (into_iter_items values) ++ drained later
+abbrev pub drained_left : List FieldValue → Entries → List (Option (List ℕ) × FieldValue)
+drained_left values later = unnamed values ++ drained later
 
 -- the count is kept, and each later name has a value
-pub record IsDrain {Z : Type 0} (values : IntoIter FieldValue Z) (later : Entries) (left : ℕ) : Type 0 where
+pub record IsDrain (values : List FieldValue) (later : Entries) (left : ℕ) : Type 0 where
   pub count : left ≡ length (drained_left values later)
   pub filled : All (λ e. 0 < length e.1) later
 
 -- the name in hand with those of its values that are left
-abbrev pub current_entries : {Z : Type 0} → Option (List ℕ × IntoIter FieldValue Z) → Entries
+abbrev pub current_entries : Option Entry → Entries
 current_entries None = []
-current_entries (Some p) = (p.0, into_iter_items p.1) ∷ []
+current_entries (Some e) = e ∷ []
 
 -- the names that are left, each with those of its values that are left
-abbrev pub entries_left : {Z : Type 0} → Option (List ℕ × IntoIter FieldValue Z) → Entries → Entries
+abbrev pub entries_left : Option Entry → Entries → Entries
 entries_left current later = current_entries current ++ later
 
 -- the count is kept, and each name that is left has a value
-pub record IsIntoIter {Z : Type 0} (current : Option (List ℕ × IntoIter FieldValue Z)) (later : Entries) (left : ℕ) : Type 0 where
+pub record IsIntoIter (current : Option Entry) (later : Entries) (left : ℕ) : Type 0 where
   pub count : left ≡ length (pairs (entries_left current later))
   pub filled : All (λ e. 0 < length e.1) (entries_left current later)
 

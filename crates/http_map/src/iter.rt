@@ -3,6 +3,7 @@ ghost use Rattle.std.specs.Prelude.{◌≡◌, ℕ, List, length, Some, IfSome};
 ghost use Rattle.std.specs.Iterator.SizeHint.{IsWithinCount};
 ghost use Rattle.std.specs.Iterator.{UpTo, at_most, YieldsFirstBy, YieldsFirstRef, item_count};
 
+use crate::values::Values;
 use http_header::{HeaderName, HeaderValue};
 use indexmap::map;
 use std::iter::FusedIterator;
@@ -13,7 +14,7 @@ use std::marker::Model;
 pub struct Iter<'a> {
     // The name in hand, and those of its values that are left.
     current: Option<(&'a HeaderName, &'a [HeaderValue])>,
-    later: map::Iter<'a, HeaderName, Vec<HeaderValue>>,
+    later: map::Iter<'a, HeaderName, Values>,
     // How many pairs are left.
     left: usize,
 }
@@ -21,25 +22,23 @@ pub struct Iter<'a> {
 impl<'a> Model for Iter<'a> {
     ghost use Rattle.std.specs.Prelude.{List};
     ghost use Rattle.http_map.specs.HeaderMap.{Pair};
-    ghost use Rattle.http_map.specs.Layout.{rows};
     ghost use Rattle.http_map.specs.Iter.{pairs_left, IsIter};
 
     ghost Value = { List Pair };
 
-    ghost view = { λ it. pairs_left it.current (rows it.later) };
+    ghost view = { λ it. pairs_left it.current it.later };
 
-    ghost invariant = { λ it. IsIter it.current (rows it.later) it.left };
+    ghost invariant = { λ it. IsIter it.current it.later it.left };
 }
 
 impl<'a> Iter<'a> {
     ghost use Rattle.std.specs.Prelude.{◌≡◌, ◌<◌, length, All};
     ghost use Rattle.http_map.specs.HeaderMap.{pairs, value_count};
-    ghost use Rattle.http_map.specs.Layout.{rows};
 
-    pub(crate) fn new(later: map::Iter<'a, HeaderName, Vec<HeaderValue>>, left: usize) -> Iter<'a>
-        requires counted { left ≡ value_count (rows later) }
-        requires filled { All (λ e. 0 < length e.1) (rows later) }
-        ensures { result ≡ pairs (rows later.entry) }
+    pub(crate) fn new(later: map::Iter<'a, HeaderName, Values>, left: usize) -> Iter<'a>
+        requires counted { left ≡ value_count later }
+        requires filled { All (λ e. 0 < length e.1) later }
+        ensures { result ≡ pairs later.entry }
     {
         Iter {
             current: None,
@@ -91,7 +90,7 @@ impl<'a> FusedIterator for Iter<'a> {}
 /// Every name of a map once.
 #[derive(Debug, Drop)]
 pub struct Keys<'a> {
-    names: map::Keys<'a, HeaderName, Vec<HeaderValue>>,
+    names: map::Keys<'a, HeaderName, Values>,
 }
 
 impl<'a> Model for Keys<'a> {
@@ -103,7 +102,7 @@ impl<'a> Model for Keys<'a> {
 impl<'a> Keys<'a> {
     ghost use Rattle.std.specs.Prelude.{◌≡◌};
 
-    pub(crate) fn new(names: map::Keys<'a, HeaderName, Vec<HeaderValue>>) -> Keys<'a>
+    pub(crate) fn new(names: map::Keys<'a, HeaderName, Values>) -> Keys<'a>
         ensures { result ≡ names.entry }
     {
         Keys { names }

@@ -13,6 +13,7 @@ mod owned;
 mod removed;
 #[cfg(test)]
 mod tests;
+mod values;
 
 pub use as_name::AsHeaderName;
 pub use common::cache_status;

@@ -6,21 +6,20 @@ ghost use Rattle.http_header.specs.FieldValue.{FieldValue};
 ghost use Rattle.http_map.specs.HeaderMap.{keys, value_count, contains_key, get, get_all, pairs, IsHeaderMap};
 
 mod edits;
-mod rows;
+mod names;
 
 use crate::NoMemory;
 use crate::any_case::AnyCase;
 use crate::as_name::AsHeaderName;
 use crate::iter::{Iter, Keys};
+use crate::values::Values;
 use http_header::{HeaderName, HeaderValue};
 use indexmap::IndexMap;
 use std::alloc::Global;
 use std::marker::Model;
 use std::slice;
 
-// A `SmallVec` would keep a single value with no allocation, but fills its unused places with a
-// default value, which a `HeaderValue` has not.
-type Names = IndexMap<HeaderName, Vec<HeaderValue>>;
+type Names = IndexMap<HeaderName, Values>;
 
 /// A map from header names to one or more values each. The names stand in the order of their
 /// first insertion, and each name's values in the order in which they were added.
@@ -38,11 +37,11 @@ impl Model for HeaderMap {
 
     ghost Value = { Entries };
 
-    ghost use Rattle.http_map.specs.Layout.{rows, IsCounted};
+    ghost use Rattle.http_map.specs.Counted.{IsCounted};
 
-    ghost view = { λ m. rows m.names.entries };
+    ghost view = { λ m. m.names.entries };
 
-    ghost invariant = { λ m. IsCounted (rows m.names.entries) m.len };
+    ghost invariant = { λ m. IsCounted m.names.entries m.len };
 }
 
 impl HeaderMap {
@@ -108,7 +107,7 @@ impl HeaderMap {
         let values = self.names.get(AnyCase {
             bytes: key.as_name_bytes(),
         })?;
-        values.first()
+        values.as_slice().first()
     }
 
     /// The values under the name, in the order in which they were added.

@@ -1,28 +1,25 @@
 //! The iterators that take a map apart. A contract sees each as the list of what it has left.
 ghost use Rattle.std.specs.Prelude.{◌≡◌, ℕ, List, [], ◌∷◌, length, Option, Some, IfNone, IfSome};
-ghost use Rattle.std.specs.Vec.Iter.{into_iter_items};
 ghost use Rattle.std.specs.Iterator.SizeHint.{IsWithinCount};
 ghost use Rattle.std.specs.Iterator.{UpTo, at_most, YieldsFirst, item_count};
-ghost use Rattle.http_map.specs.Layout.{rows};
 ghost use Rattle.http_map.specs.Owned.{entries_left, GivesFirst};
 
 use crate::NoMemory;
+use crate::removed::Removed;
+use crate::values::Values;
 use http_header::{HeaderName, HeaderValue};
 use indexmap::{IndexMap, map};
 use std::alloc::Global;
 use std::iter::FusedIterator;
 use std::marker::Model;
-use std::vec;
 
-type Later = map::IntoIter<HeaderName, Vec<HeaderValue>>;
-
-type Values = vec::IntoIter<HeaderValue>;
+type Later = map::IntoIter<HeaderName, Values>;
 
 /// Every value that `drain` took out of a map. A name comes with its first value alone.
 #[derive(Drop)]
 pub struct Drain {
     // Those values of the name in hand that are left, and that follow its first.
-    values: Values,
+    values: Removed,
     later: Later,
     // How many values are left.
     left: usize,
@@ -30,31 +27,28 @@ pub struct Drain {
 
 impl Model for Drain {
     ghost use Rattle.std.specs.Prelude.{◌≡◌, ℕ, List, [], ◌∷◌, length, Option, Some, IfNone, IfSome};
-    ghost use Rattle.std.specs.Vec.Iter.{into_iter_items};
     ghost use Rattle.http_header.specs.FieldValue.{FieldValue};
-    ghost use Rattle.http_map.specs.Layout.{rows};
     ghost use Rattle.http_map.specs.Owned.{drained_left, IsDrain};
 
     ghost Value = { List (Option (List ℕ) × FieldValue) };
 
-    ghost view = { λ it. drained_left it.values (rows it.later) };
+    ghost view = { λ it. drained_left it.values it.later };
 
-    ghost invariant = { λ it. IsDrain it.values (rows it.later) it.left };
+    ghost invariant = { λ it. IsDrain it.values it.later it.left };
 }
 
 impl Drain {
     ghost use Rattle.std.specs.Prelude.{◌≡◌, ◌<◌, length, All};
     ghost use Rattle.http_map.specs.HeaderMap.{value_count};
-    ghost use Rattle.http_map.specs.Layout.{rows};
     ghost use Rattle.http_map.specs.Owned.{drained};
 
-    pub(crate) fn new(alloc: Global, later: Later, left: usize) -> Drain
-        requires counted { left ≡ value_count (rows later) }
-        requires filled { All (λ e. 0 < length e.1) (rows later) }
-        ensures { result ≡ drained (rows later) }
+    pub(crate) fn new(later: Later, left: usize) -> Drain
+        requires counted { left ≡ value_count later }
+        requires filled { All (λ e. 0 < length e.1) later }
+        ensures { result ≡ drained later }
     {
         Drain {
-            values: Vec::new(alloc).into_iter(),
+            values: Removed::none(),
             later,
             left,
         }
@@ -104,7 +98,7 @@ impl FusedIterator for Drain {}
 pub struct IntoIter {
     alloc: Global,
     // The name in hand, and those of its values that are left, at least one.
-    current: Option<(HeaderName, Values)>,
+    current: Option<(HeaderName, Removed)>,
     later: Later,
     // How many pairs are left.
     left: usize,
@@ -113,25 +107,23 @@ pub struct IntoIter {
 impl Model for IntoIter {
     ghost use Rattle.std.specs.Prelude.{List};
     ghost use Rattle.http_map.specs.HeaderMap.{Pair, pairs};
-    ghost use Rattle.http_map.specs.Layout.{rows};
     ghost use Rattle.http_map.specs.Owned.{entries_left, IsIntoIter};
 
     ghost Value = { List Pair };
 
-    ghost view = { λ it. pairs (entries_left it.current (rows it.later)) };
+    ghost view = { λ it. pairs (entries_left it.current it.later) };
 
-    ghost invariant = { λ it. IsIntoIter it.current (rows it.later) it.left };
+    ghost invariant = { λ it. IsIntoIter it.current it.later it.left };
 }
 
 impl IntoIter {
     ghost use Rattle.std.specs.Prelude.{◌≡◌, ◌<◌, length, All};
     ghost use Rattle.http_map.specs.HeaderMap.{pairs, value_count};
-    ghost use Rattle.http_map.specs.Layout.{rows};
 
     pub(crate) fn new(alloc: Global, later: Later, left: usize) -> IntoIter
-        requires counted { left ≡ value_count (rows later) }
-        requires filled { All (λ e. 0 < length e.1) (rows later) }
-        ensures { result ≡ pairs (rows later) }
+        requires counted { left ≡ value_count later }
+        requires filled { All (λ e. 0 < length e.1) later }
+        ensures { result ≡ pairs later }
     {
         IntoIter {
             alloc,
@@ -143,11 +135,9 @@ impl IntoIter {
 }
 
 // The name in hand, or else the first of the later ones.
-fn in_hand(current: Option<(HeaderName, Values)>, later: &mut Later) -> Option<(HeaderName, Values)>
-    ensures none { IfNone result ((entries_left current (rows later.old) ≡ [])
-        × (rows later.new ≡ [])) }
-    ensures some { IfSome result (λ p. entries_left current (rows later.old)
-        ≡ (p.0, into_iter_items p.1) ∷ rows later.new) }
+fn in_hand(current: Option<(HeaderName, Removed)>, later: &mut Later) -> Option<(HeaderName, Removed)>
+    ensures none { IfNone result ((entries_left current later.old ≡ []) × (later.new ≡ [])) }
+    ensures some { IfSome result (λ e. entries_left current later.old ≡ e ∷ later.new) }
 {
     match current {
         Some(current) => Some(current),
@@ -168,7 +158,7 @@ impl Iterator for IntoIter {
     fn next(&mut self) -> Option<Result<(HeaderName, HeaderValue), NoMemory>> {
         let (name, mut values) = in_hand(self.current.take(), &mut self.later)?;
         let value = values.next().unwrap();
-        if values.len() == 0 {
+        if values.is_empty() {
             self.left -= 1;
             return Some(Ok((name, value)));
         }

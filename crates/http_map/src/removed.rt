@@ -1,5 +1,5 @@
 //! The values that an insertion or a removal took out of a map.
-ghost use Rattle.std.specs.Prelude.{◌≡◌, ◌==◌, length, Some, IfSome};
+ghost use Rattle.std.specs.Prelude.{◌≡◌, ◌==◌, [], ◌∷◌, length, Some, IfSome};
 ghost use Rattle.std.specs.Iterator.SizeHint.{IsWithinCount};
 ghost use Rattle.std.specs.Iterator.{UpTo, at_most, YieldsFirst, item_count};
 
@@ -13,25 +13,49 @@ use std::vec;
 /// A contract sees it as the list of those that are left.
 #[derive(Debug, Drop)]
 pub struct Removed {
-    values: vec::IntoIter<HeaderValue>,
+    rest: Rest,
+}
+
+// A single value needs no vector.
+#[derive(Debug, Drop)]
+enum Rest {
+    One(Option<HeaderValue>),
+    More(vec::IntoIter<HeaderValue>),
 }
 
 impl Model for Removed {
     ghost use Rattle.std.specs.Prelude.{List};
-    ghost use Rattle.std.specs.Vec.Iter.{into_iter_items};
     ghost use Rattle.http_header.specs.FieldValue.{FieldValue};
 
     ghost Value = { List FieldValue };
 
-    ghost view = { λ it. into_iter_items it.values };
+    ghost use Rattle.http_map.specs.Rest.{rest_listed};
+
+    ghost view = { λ it. rest_listed it.rest };
 }
 
 impl Removed {
-    pub(crate) fn new(values: Vec<HeaderValue>) -> Removed
+    pub(crate) fn none() -> Removed
+        ensures { result ≡ [] }
+    {
+        Removed {
+            rest: Rest::One(None),
+        }
+    }
+
+    pub(crate) fn one(value: HeaderValue) -> Removed
+        ensures { result ≡ value ∷ [] }
+    {
+        Removed {
+            rest: Rest::One(Some(value)),
+        }
+    }
+
+    pub(crate) fn more(values: Vec<HeaderValue>) -> Removed
         ensures { result ≡ values.items }
     {
         Removed {
-            values: values.into_iter(),
+            rest: Rest::More(values.into_iter()),
         }
     }
 
@@ -39,7 +63,7 @@ impl Removed {
     pub fn is_empty(&self) -> bool
         ensures { result ≡ (length self.now == 0) }
     {
-        self.values.len() == 0
+        self.len() == 0
     }
 }
 
@@ -51,7 +75,10 @@ impl Iterator for Removed {
     ghost remaining = { item_count (λ it. it) };
 
     fn next(&mut self) -> Option<HeaderValue> {
-        self.values.next()
+        match &mut self.rest {
+            Rest::One(value) => value.take(),
+            Rest::More(values) => values.next(),
+        }
     }
 
     fn size_hint(&self) -> (usize, Option<usize>)
@@ -59,14 +86,17 @@ impl Iterator for Removed {
         ensures upper { IfSome result.1 (UpTo (at_most (length self.now))) }
         ensures exact { result ≡ (length self.now, Some (length self.now)) }
     {
-        let len = self.values.len();
+        let len = self.len();
         (len, Some(len))
     }
 }
 
 impl ExactSizeIterator for Removed {
     fn len(&self) -> usize {
-        self.values.len()
+        match &self.rest {
+            Rest::One(value) => usize::from(value.is_some()),
+            Rest::More(values) => values.len(),
+        }
     }
 }
 

@@ -9,7 +9,7 @@ ghost use Rattle.http_map.specs.Lends.{lends_first, lends_first_at, values_at};
 ghost use Rattle.http_map.specs.Owned.{drained};
 
 use super::HeaderMap;
-use super::rows::{append_value, count_values, insert_value, remove_values, retain_rows};
+use super::names::{append_value, count_values, insert_value, remove_values, retain_names};
 use crate::NoMemory;
 use crate::any_case::AnyCase;
 use crate::as_name::AsHeaderName;
@@ -43,7 +43,7 @@ impl HeaderMap {
         let len = self.len.checked_add(1).ok_or(AllocError)?;
         let removed = insert_value(&mut self.names, name, val)?;
         self.len = len - removed.len();
-        Ok(Removed::new(removed))
+        Ok(removed)
     }
 
     /// Adds the value after those under the name. A new name goes last. It grows first, so want of
@@ -71,7 +71,7 @@ impl HeaderMap {
     {
         let removed = remove_values(&mut self.names, key.as_name_bytes());
         self.len -= removed.len();
-        Removed::new(removed)
+        removed
     }
 
     /// Makes room for so many more names.
@@ -88,7 +88,7 @@ impl HeaderMap {
         ensures { (test : List ℕ → FieldValue → Bool) → Computes (F.post keep) test
             → self.new ≡ retain test self.old }
     {
-        retain_rows(&mut self.names, &keep);
+        retain_names(&mut self.names, &keep);
         self.len = count_values(&self.names);
     }
 
@@ -101,7 +101,7 @@ impl HeaderMap {
         let names = mem::replace(&mut self.names, IndexMap::new(alloc));
         let left = self.len;
         self.len = 0;
-        Drain::new(alloc, names.into_iter(), left)
+        Drain::new(names.into_iter(), left)
     }
 
     /// A map of these pairs, each appended in turn.
@@ -141,7 +141,7 @@ impl HeaderMap {
         ensures value { Some result.now ≡ slice_get (values_at self.old index) 0 }
     {
         let values = &mut self.names[index];
-        &mut values[0]
+        values.first_mut()
     }
 }
 

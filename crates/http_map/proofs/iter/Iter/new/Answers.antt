@@ -1,10 +1,9 @@
 use Rattle.std.proofs.Common.{◌∙◌, sym}
-use Rattle.http_map.specs.Layout.{rows}
 use Rattle.http_map.proofs.MapLemmas.{length-pairs}
 use Rattle.http_map.proofs.iter.Iter.new.Goals as goal
 
 pub invariant_of-result : goal.invariant_of-result
 invariant_of-result c = record {
-  count = c.requires.counted ∙ sym (length-pairs (rows c.args.later));
+  count = c.requires.counted ∙ sym (length-pairs c.args.later);
   filled = c.requires.filled;
 }

@@ -1,8 +1,8 @@
-use Rattle.http_map.proofs.RowLemmas.{get_all-rows}
+use Rattle.http_map.proofs.EntryLemmas.{get_all-lookup}
 use Rattle.http_map.proofs.map.HeaderMap.get_all.Goals as goal
 use Rattle.http_map.proofs.map.HeaderMap.get_all.Goals.{in-Some, in-None}
 
 pub returns-clause-values : goal.returns-clause-values
 returns-clause-values g c =
-    rw (← c.self.view_is, ← c.as_name_bytes.ensures.lowered, get_all-rows, c.iter.ensures.rest)
+    rw (← c.self.view_is, ← c.as_name_bytes.ensures.lowered, get_all-lookup, c.iter.ensures.rest)
     (elim c.match-found.branch [ in-Some w ↦ rw (w.values-is, w.as_slice-values.ensures.value, ← w.in-Some.ensures.value) | in-None w ↦ rw (w.values-is, ← w.in-None.ensures.value) ])

@@ -3,18 +3,17 @@ use Rattle.std.proofs.lemmas.List.Quantifiers.{position-Some}
 use Rattle.std.proofs.lemmas.List.{length-map}
 use Rattle.http_header.specs.FieldValue.{FieldValue}
 use Rattle.http_header.specs.Token.{lowercase}
-use Rattle.http_map.specs.Layout.{rows}
 use Rattle.http_map.specs.HeaderMap.{keys, Entry, set_first}
 use Rattle.http_map.specs.Lends.{set_first_at}
-use Rattle.http_map.proofs.RowLemmas.{keys-rows, get_all-rows_absent}
+use Rattle.http_map.proofs.EntryLemmas.{get_all-absent}
 use Rattle.http_map.proofs.LendsLemmas.{StandsAt, set_first-at, get_all-at}
 use Rattle.http_map.proofs.map.HeaderMap.get_mut.Goals as goal
 
 pub returns-in-Some : goal.returns-in-Some
 returns-in-Some g c =
     let name = lowercase c.as_name_bytes.result.now in
-    let m = rows c.self.inside.names.entries in
-    let at = position-Some (bytes_eq name) (keys m) c.in-Some.index [] (rw keys-rows (sym c.in-Some.ensures.index)) in
+    let m = c.self.inside.names.entries in
+    let at = position-Some (bytes_eq name) (keys m) c.in-Some.index [] (sym c.in-Some.ensures.index) in
     let first : Entry → _ = λ e. e.0 in
     let within : c.in-Some.index < length m = omega (arith, at.0, length-map m first) in
     let stands : StandsAt m name c.in-Some.index = record { here = at.1; before = at.2 } in
@@ -31,6 +30,6 @@ returns g c = (
   refl,
   record {
     writes_back = tt;
-    value = rw (← c.self.view_is, ← c.as_name_bytes.ensures.lowered, get_all-rows_absent (lowercase c.as_name_bytes.result.now) c.self.inside.names.entries c.in-None.ensures.found);
+    value = rw (← c.self.view_is, ← c.as_name_bytes.ensures.lowered, get_all-absent (lowercase c.as_name_bytes.result.now) c.self.inside.names.entries c.in-None.ensures.found);
   },
 )

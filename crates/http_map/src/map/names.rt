@@ -1,0 +1,92 @@
+//! The steps that change the `IndexMap` under a `HeaderMap`.
+ghost use Rattle.std.specs.Prelude.{◌≡◌, ◌<◌, ◌≤◌, ◌^◌, ℕ, List, Bool, [], length, filter, unwrap_or, All, IsTrue, IfOk, OnOk, OnErr, if◌then◌else◌};
+ghost use Rattle.http_header.specs.Token.{lowercase};
+ghost use Rattle.http_header.specs.FieldValue.{FieldValue};
+ghost use Rattle.http_map.specs.HeaderMap.{value_count, get_all, insert, append, remove, retain, Computes};
+
+use super::Names;
+use crate::NoMemory;
+use crate::any_case::AnyCase;
+use crate::removed::Removed;
+use crate::values::Values;
+use http_header::{HeaderName, HeaderValue};
+
+pub(super) fn append_value(
+    names: &mut Names,
+    key: HeaderName,
+    value: HeaderValue,
+) -> Result<(), NoMemory>
+    ensures ok { OnOk result (names.new.entries ≡ append names.old.entries key value) }
+    ensures err { OnErr result (names.new.entries ≡ names.old.entries) }
+{
+    let alloc = *names.allocator();
+    match names.get_mut(&key) {
+        Some(values) => values.push(alloc, value)?,
+        None => {
+            names.insert(key, Values::one(value))?;
+        }
+    }
+    Ok(())
+}
+
+// The values of a name that may be there.
+fn removed(found: Option<Values>) -> Removed
+    ensures { result ≡ unwrap_or found [] }
+{
+    match found {
+        Some(values) => values.into_iter(),
+        None => Removed::none(),
+    }
+}
+
+// Gives the values that the name had.
+pub(super) fn insert_value(
+    names: &mut Names,
+    name: HeaderName,
+    value: HeaderValue,
+) -> Result<Removed, NoMemory>
+    ensures ok { OnOk result (names.new.entries ≡ insert names.old.entries name value) }
+    ensures removed { IfOk result (λ values. values ≡ get_all names.old.entries name) }
+    ensures err { OnErr result (names.new.entries ≡ names.old.entries) }
+{
+    Ok(removed(names.insert(name, Values::one(value))?))
+}
+
+// Gives the values that the name had.
+pub(super) fn remove_values(names: &mut Names, bytes: &[u8]) -> Removed
+    ensures removed { result ≡ get_all names.old.entries (lowercase bytes.now) }
+    ensures after { names.new.entries ≡ remove names.old.entries (lowercase bytes.now) }
+    ensures gone { get_all names.new.entries (lowercase bytes.now) ≡ [] }
+{
+    removed(names.shift_remove(AnyCase { bytes }))
+}
+
+// The number of values, under all names.
+pub(super) fn count_values(names: &Names) -> usize
+    requires { value_count names.now.entries < 2 ^ 64 }
+    ensures { result ≡ value_count names.now.entries }
+{
+    let mut count = 0;
+    for values in names.values() {
+        count += values.as_slice().len();
+    }
+    count
+}
+
+pub(super) fn retain_names<F: Fn(&HeaderName, &HeaderValue) -> bool>(names: &mut Names, keep: &F)
+    requires { F.IsAlwaysCallable keep.now }
+    ensures bound { value_count names.new.entries ≤ value_count names.old.entries }
+    ensures filled { All (λ e. 0 < length e.1) names.new.entries }
+    ensures kept { (test : List ℕ → FieldValue → Bool) → Computes (F.post keep.now) test
+        → names.new.entries ≡ retain test names.old.entries }
+{
+    names.retain(
+        |name: &HeaderName, values: &mut Values| -> bool
+            requires { F.IsAlwaysCallable keep.now }
+            ensures bound { length values.new ≤ length values.old }
+            ensures filled { IsTrue result → 0 < length values.new }
+            ensures kept { (test : List ℕ → FieldValue → Bool) → Computes (F.post keep.entry.now) test
+                → (if result then values.new else []) ≡ filter (test name.now) values.old }
+        { values.retain(name, keep) },
+    );
+}

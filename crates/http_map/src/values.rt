@@ -1,0 +1,157 @@
+//! The values of one name.
+ghost use Rattle.std.specs.Prelude.{◌≡◌, ◌<◌, ◌≤◌, ℕ, List, Bool, [], ◌∷◌, ◌++◌, length, filter, drop, slice_get, Some, IsTrue, OnOk, OnErr, if◌then◌else◌};
+ghost use Rattle.std.specs.Borrow.{sem};
+ghost use Rattle.http_header.specs.FieldValue.{FieldValue};
+ghost use Rattle.http_map.specs.HeaderMap.{Computes};
+
+use crate::NoMemory;
+use crate::removed::Removed;
+use http_header::{HeaderName, HeaderValue};
+use std::alloc::{AllocError, Global};
+use std::marker::Model;
+use std::mem;
+use std::slice;
+
+/// The values of one name, in the order in which they were added. Most names have one, which stands
+/// here itself and takes no memory of its own.
+///
+/// A contract sees them as a list.
+#[derive(Debug, Drop)]
+pub(crate) struct Values {
+    kept: Kept,
+}
+
+impl Model for Values {
+    ghost use Rattle.std.specs.Prelude.{List};
+    ghost use Rattle.http_header.specs.FieldValue.{FieldValue};
+
+    ghost Value = { List FieldValue };
+
+    ghost use Rattle.http_map.specs.Kept.{listed};
+
+    ghost view = { λ values. listed values.kept };
+}
+
+#[derive(Debug, Drop)]
+enum Kept {
+    One(HeaderValue),
+    More(Vec<HeaderValue>),
+}
+
+impl Kept {
+    ghost use Rattle.http_map.specs.Kept.{listed, kept_lends_first};
+
+    fn first_mut(&mut self) -> &mut HeaderValue
+        requires { 0 < length (listed self.old) }
+        ensures* writes_back { sem 𝓛 (kept_lends_first self.entry result) }
+        ensures value { Some result.now ≡ slice_get (listed self.old) 0 }
+    {
+        match self {
+            Kept::One(value) => value,
+            Kept::More(values) => &mut values[0],
+        }
+    }
+}
+
+impl Values {
+    ghost use Rattle.http_map.specs.Values.{lends_first_of};
+
+    /// One value, without memory.
+    pub(crate) fn one(value: HeaderValue) -> Values
+        ensures { result ≡ value ∷ [] }
+    {
+        Values {
+            kept: Kept::One(value),
+        }
+    }
+
+    pub(crate) fn as_slice(&self) -> &[HeaderValue]
+        ensures value { result.now ≡ self.now }
+    {
+        match &self.kept {
+            Kept::One(value) => slice::from_ref(value),
+            Kept::More(values) => values.as_slice(),
+        }
+    }
+
+    /// Adds the value after the others. It grows first, so want of memory changes nothing.
+    pub(crate) fn push(&mut self, alloc: Global, value: HeaderValue) -> Result<(), NoMemory>
+        ensures ok { OnOk result (self.new ≡ self.old ++ value ∷ []) }
+        ensures err { OnErr result (self.new ≡ self.old) }
+    {
+        match &mut self.kept {
+            Kept::One(only) => {
+                let mut values = Vec::with_capacity(alloc, 2)?;
+                values.push_reserved(mem::replace(only, HeaderValue::from_static("")));
+                values.push_reserved(value);
+                self.kept = Kept::More(values);
+            }
+            Kept::More(values) => values.push(value)?,
+        }
+        Ok(())
+    }
+
+    /// The first value, for writing.
+    pub(crate) fn first_mut(&mut self) -> &mut HeaderValue
+        requires { 0 < length self.old }
+        ensures* writes_back { sem 𝓛 (lends_first_of self.entry result) }
+        ensures value { Some result.now ≡ slice_get self.old 0 }
+    {
+        self.kept.first_mut()
+    }
+
+    /// Keeps the values for which `keep` answers true, in their order, and says whether there is one.
+    /// Where there is none, what is left is of no use.
+    pub(crate) fn retain<F: Fn(&HeaderName, &HeaderValue) -> bool>(
+        &mut self,
+        name: &HeaderName,
+        keep: &F,
+    ) -> bool
+        requires { F.IsAlwaysCallable keep.now }
+        ensures bound { length self.new ≤ length self.old }
+        ensures filled { IsTrue result → 0 < length self.new }
+        ensures kept { (test : List ℕ → FieldValue → Bool) → Computes (F.post keep.now) test
+            → (if result then self.new else []) ≡ filter (test name.now) self.old }
+    {
+        match &mut self.kept {
+            Kept::One(value) => keep(name, value),
+            Kept::More(values) => {
+                values.retain(
+                    |value: &HeaderValue| -> bool
+                        requires { F.IsAlwaysCallable keep.now }
+                        ensures { (test : List ℕ → FieldValue → Bool) → Computes (F.post keep.entry.now) test
+                            → result ≡ test name.entry.now value.now }
+                    { keep(name, value) },
+                );
+                !values.is_empty()
+            }
+        }
+    }
+}
+
+impl Clone for Values {
+    ghost is_clone = { λ values copy. copy ≡ values };
+
+    fn clone(&self) -> Result<Values, AllocError> {
+        let kept = match &self.kept {
+            Kept::One(value) => Kept::One(value.clone()?),
+            Kept::More(values) => Kept::More(values.clone()?),
+        };
+        Ok(Values { kept })
+    }
+}
+
+impl IntoIterator for Values {
+    type Item = HeaderValue;
+
+    type IntoIter = Removed;
+
+    ghost into_iter_gives = { λ values it. it ≡ values };
+
+    fn into_iter(self) -> Removed {
+        match self.kept {
+            Kept::One(value) => Removed::one(value),
+            Kept::More(values) => Removed::more(values),
+        }
+    }
+}
