@@ -1,9 +1,12 @@
 -- What a caller cites of a map's list: what a look-up finds after an edit, and what a map's names and counts are.
-use Rattle.std.proofs.Common.{◌≡◌, ◌≢◌, ℕ, ◌<◌, Bool, true, false, if◌then◌else◌, List, [], ◌∷◌, ◌++◌, ◌||◌, length, bytes_eq, is_some, slice_get, refl, sym, ap, ◌∙◌, arith}
+use Rattle.std.proofs.Common.{◌≡◌, ◌≢◌, ℕ, ◌<◌, Bool, true, false, if◌then◌else◌, List, [], ◌∷◌, ◌++◌, ◌||◌, length, All, bytes_eq, is_some, slice_get, None, Option, Some, IsNone, option_copied, Bor, refl, sym, ap, ◌∙◌, arith}
 use Rattle.std.proofs.lemmas.Slice.Eq.{bytes_eq-Decides}
+use Rattle.http_header.proofs.TokenLemmas.{IsFieldName-from_lowercase}
+use Rattle.http_header.specs.Token.{lowercase}
+use Rattle.http_header.specs.FieldName.{IsFieldName}
 use Rattle.http_header.specs.FieldValue.{FieldValue}
-use Rattle.http_map.specs.HeaderMap.{Entry, Entries, contains_key, get, get_all, insert, append, remove}
-use Rattle.http_map.proofs.MapLemmas.{IsFilled, filled_head, filled_tail}
+use Rattle.http_map.specs.HeaderMap.{Entry, Entries, IsEntry, keys, contains_key, get, get_all, insert, append, remove}
+use Rattle.http_map.proofs.MapLemmas.{first_entry, later_entries}
 
 pub same_bytes : (a b : List ℕ) → bytes_eq a b ≡ true → a ≡ b
 same_bytes a b h = (bytes_eq-Decides a b).0 h
@@ -86,12 +89,37 @@ module _ (name other : List ℕ) (apart : other ≢ name) where
         | false ↦ (λ h. ap (λ r. if bytes_eq other e.0 then e.1 else r) (get_all-remove_other m))
       ]) refl
 
+-- a text that is no name is none of a map's names, in any case
+pub get_all-no_name : (m : Entries) (text : List ℕ) → All IsEntry m → (IsFieldName text → ⊥) → get_all m (lowercase text) ≡ []
+get_all-no_name [] text all none = refl
+get_all-no_name (e ∷ m) text all none =
+    (elim (bytes_eq (lowercase text) e.0) as (λ b. bytes_eq (lowercase text) e.0 ≡ b → (if b then e.1 else get_all m (lowercase text)) ≡ []) [
+      | true ↦ (λ h. absurd (none (IsFieldName-from_lowercase text (rw (same_bytes (lowercase text) e.0 h) (first_entry e m all).named.0))))
+      | false ↦ (λ h. get_all-no_name m text (later_entries e m all) none)
+    ]) refl
+
+pub get-no_name : (m : Entries) (text : List ℕ) → All IsEntry m → (IsFieldName text → ⊥) → get m (lowercase text) ≡ None
+get-no_name m text all none = ap (λ vs. slice_get vs 0) (get_all-no_name m text all none)
+
+-- a reference is there where what it points to is
+pub IsNone-option_copied : {T : Type 0} (found : Option (Bor T)) → option_copied found ≡ None → IsNone found
+IsNone-option_copied None nothing = refl
+IsNone-option_copied (Some x) nothing = cc
+
+pub contains_key-no_name : (m : Entries) (text : List ℕ) → All IsEntry m → (IsFieldName text → ⊥) → contains_key m (lowercase text) ≡ false
+contains_key-no_name [] text all none = refl
+contains_key-no_name (e ∷ m) text all none =
+    (elim (bytes_eq (lowercase text) e.0) as (λ b. bytes_eq (lowercase text) e.0 ≡ b → (b || contains_key m (lowercase text)) ≡ false) [
+      | true ↦ (λ h. absurd (none (IsFieldName-from_lowercase text (rw (same_bytes (lowercase text) e.0 h) (first_entry e m all).named.0))))
+      | false ↦ (λ h. contains_key-no_name m text (later_entries e m all) none)
+    ]) refl
+
 -- a name of the map has a first value, and no other name has
-pub contains_key-get : (m : Entries) (name : List ℕ) → IsFilled m → contains_key m name ≡ is_some (get m name)
+pub contains_key-get : (m : Entries) (name : List ℕ) → All IsEntry m → contains_key m name ≡ is_some (get m name)
 contains_key-get [] name all = refl
 contains_key-get (e ∷ m) name all =
     elim (bytes_eq name e.0) as (λ b. (b || contains_key m name) ≡ is_some (slice_get (if b then e.1 else get_all m name) 0))
-    [ true ↦ some_first e.1 (filled_head e m all) | false ↦ contains_key-get m name (filled_tail e m all) ]
+    [ true ↦ some_first e.1 (first_entry e m all).filled | false ↦ contains_key-get m name (later_entries e m all) ]
   where
     some_first : (vs : List FieldValue) → 0 < length vs → true ≡ is_some (slice_get vs 0)
     some_first [] some = absurd (omega (arith, some))

@@ -1,12 +1,12 @@
 -- A write to the first value of a name.
-use Rattle.std.proofs.Common.{◌≡◌, ℕ, zero, suc, ◌+◌, ◌<◌, true, false, List, [], ◌∷◌, length, drop, get_or, set, bytes_eq, slice_get, Some, refl, sym, ap, ◌∙◌, arith, length-drop}
+use Rattle.std.proofs.Common.{◌≡◌, ℕ, zero, suc, ◌+◌, ◌<◌, true, false, List, [], ◌∷◌, length, All, drop, get_or, set, bytes_eq, slice_get, Some, refl, sym, ap, ◌∙◌, arith, length-drop}
 use Rattle.std.specs.Map.{values_of}
 use Rattle.indexmap.specs.Layout.{set_value_at}
 use Rattle.http_header.specs.FieldValue.{FieldValue}
-use Rattle.http_map.specs.HeaderMap.{Entry, Entries, keys, value_count, get_all, set_first}
+use Rattle.http_map.specs.HeaderMap.{Entry, Entries, IsEntry, keys, value_count, get_all, set_first}
 use Rattle.http_map.specs.Counted.{IsCounted}
 use Rattle.http_map.specs.Lends.{set_first_at, values_at}
-use Rattle.http_map.proofs.MapLemmas.{IsFilled, filled_cons, filled_head, filled_tail}
+use Rattle.http_map.proofs.MapLemmas.{entries_cons, first_entry, later_entries, with_values}
 
 -- the name stands at the index, and not before it
 pub record StandsAt (m : Entries) (name : List ℕ) (i : ℕ) : Type 0 where
@@ -30,21 +30,21 @@ module _ (name : List ℕ) where
       rw (at.before 0 (omega arith)) (get_all-at m i (omega (arith, within)) (stands_later e m name i at))
 
 -- a first value in place of another leaves the count
-value_count-set_first_at : (m : Entries) (i : ℕ) (w : FieldValue) → IsFilled m → value_count (set_first_at m i w) ≡ value_count m
+value_count-set_first_at : (m : Entries) (i : ℕ) (w : FieldValue) → All IsEntry m → value_count (set_first_at m i w) ≡ value_count m
 value_count-set_first_at [] i w all = refl
-value_count-set_first_at (e ∷ m) zero w all = omega (arith, length-drop 1 e.1, filled_head e m all)
-value_count-set_first_at (e ∷ m) (suc i) w all = ap (λ n. length e.1 + n) (value_count-set_first_at m i w (filled_tail e m all))
+value_count-set_first_at (e ∷ m) zero w all = omega (arith, length-drop 1 e.1, (first_entry e m all).filled)
+value_count-set_first_at (e ∷ m) (suc i) w all = ap (λ n. length e.1 + n) (value_count-set_first_at m i w (later_entries e m all))
 
-IsFilled-set_first_at : (m : Entries) (i : ℕ) (w : FieldValue) → IsFilled m → IsFilled (set_first_at m i w)
-IsFilled-set_first_at [] i w all = all
-IsFilled-set_first_at (e ∷ m) zero w all = filled_cons (e.0, w ∷ drop 1 e.1) m (omega arith) (filled_tail e m all)
-IsFilled-set_first_at (e ∷ m) (suc i) w all = filled_cons e (set_first_at m i w) (filled_head e m all) (IsFilled-set_first_at m i w (filled_tail e m all))
+entries-set_first_at : (m : Entries) (i : ℕ) (w : FieldValue) → All IsEntry m → All IsEntry (set_first_at m i w)
+entries-set_first_at [] i w all = all
+entries-set_first_at (e ∷ m) zero w all = entries_cons (e.0, w ∷ drop 1 e.1) m (with_values e (w ∷ drop 1 e.1) (first_entry e m all) (omega arith)) (later_entries e m all)
+entries-set_first_at (e ∷ m) (suc i) w all = entries_cons e (set_first_at m i w) (first_entry e m all) (entries-set_first_at m i w (later_entries e m all))
 
 pub IsCounted-set_first_at : (m : Entries) (i : ℕ) (w : FieldValue) (len : ℕ) → IsCounted m len → IsCounted (set_first_at m i w) len
 IsCounted-set_first_at m i w len counted = record {
-  count = counted.count ∙ sym (value_count-set_first_at m i w counted.filled);
+  count = counted.count ∙ sym (value_count-set_first_at m i w counted.entries);
   fits = counted.fits;
-  filled = IsFilled-set_first_at m i w counted.filled;
+  entries = entries-set_first_at m i w counted.entries;
 }
 
 -- the values of the name at an index, as the `IndexMap` gives them
@@ -53,11 +53,11 @@ values_at-values_of [] i vs at = cc
 values_at-values_of (e ∷ m) zero vs at = cc
 values_at-values_of (e ∷ m) (suc i) vs at = values_at-values_of m i vs at
 
--- a name of a filled map has a value
-pub filled_at : (m : Entries) (i : ℕ) (vs : List FieldValue) → IsFilled m → slice_get (values_of m) i ≡ Some vs → 0 < length vs
+-- a name of a map has a value
+pub filled_at : (m : Entries) (i : ℕ) (vs : List FieldValue) → All IsEntry m → slice_get (values_of m) i ≡ Some vs → 0 < length vs
 filled_at [] i vs all at = cc
-filled_at (e ∷ m) zero vs all at = let same : e.1 ≡ vs = cc in rw (← same) (filled_head e m all)
-filled_at (e ∷ m) (suc i) vs all at = filled_at m i vs (filled_tail e m all) at
+filled_at (e ∷ m) zero vs all at = let same : e.1 ≡ vs = cc in rw (← same) (first_entry e m all).filled
+filled_at (e ∷ m) (suc i) vs all at = filled_at m i vs (later_entries e m all) at
 
 -- the values of the name at an index with another first one
 pub set_value_at-first : (m : Entries) (i : ℕ) (vs : List FieldValue) (w : FieldValue) → slice_get (values_of m) i ≡ Some vs → set_value_at m i (w ∷ drop 1 vs) ≡ set_first_at m i w

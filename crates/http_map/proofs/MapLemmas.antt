@@ -2,26 +2,27 @@
 use Rattle.std.proofs.Common.{◌≡◌, ℕ, ◌+◌, ◌-◌, ◌<◌, ap, ◌∙◌, Bool, true, false, if◌then◌else◌, List, [], ◌∷◌, ◌++◌, length, bytes_eq, All, refl, arith, length-append}
 use Rattle.std.proofs.lemmas.List.Elements.{All-cons, All-head, All-tail}
 use Rattle.std.proofs.lemmas.List.{length-map}
+use Rattle.http_header.specs.FieldName.{IsHeaderName}
 use Rattle.http_header.specs.FieldValue.{FieldValue}
-use Rattle.http_map.specs.HeaderMap.{Entry, Entries, value_count, get_all, insert, append, remove, Pair, entry_pairs, pairs}
-
--- each name has a value
-abbrev pub IsFilled : Entries → Type 0
-IsFilled m = All (λ e. 0 < length e.1) m
+use Rattle.http_map.specs.HeaderMap.{Entry, Entries, IsEntry, value_count, get_all, insert, append, remove, Pair, entry_pairs, pairs}
 
 -- a test decides which of two maps an edit gives
 both : (b : Bool) {A B : Entries} (P : Entries → Type 0) → P A → P B → P (if b then A else B)
 both true P a b = a
 both false P a b = b
 
-pub filled_cons : (e : Entry) (m : Entries) → 0 < length e.1 → IsFilled m → IsFilled (e ∷ m)
-filled_cons e m h all = All-cons (λ x. 0 < length x.1) e m h all
+pub entries_cons : (e : Entry) (m : Entries) → IsEntry e → All IsEntry m → All IsEntry (e ∷ m)
+entries_cons e m first all = All-cons IsEntry e m first all
 
-pub filled_head : (e : Entry) (m : Entries) → IsFilled (e ∷ m) → 0 < length e.1
-filled_head e m all = All-head (λ x. 0 < length x.1) e m all
+pub first_entry : (e : Entry) (m : Entries) → All IsEntry (e ∷ m) → IsEntry e
+first_entry e m all = All-head IsEntry e m all
 
-pub filled_tail : (e : Entry) (m : Entries) → IsFilled (e ∷ m) → IsFilled m
-filled_tail e m all = All-tail (λ x. 0 < length x.1) e m all
+pub later_entries : (e : Entry) (m : Entries) → All IsEntry (e ∷ m) → All IsEntry m
+later_entries e m all = All-tail IsEntry e m all
+
+-- the same name with other values
+pub with_values : (e : Entry) (values : List FieldValue) → IsEntry e → 0 < length values → IsEntry (e.0, values)
+with_values e values is some = record { named = is.named; filled = some }
 
 module _ (name : List ℕ) (value : FieldValue) where
   pub value_count-append : (m : Entries) → value_count (append m name value) ≡ value_count m + 1
@@ -36,19 +37,20 @@ module _ (name : List ℕ) (value : FieldValue) where
       elim (bytes_eq name e.0) as (λ b. value_count (if b then (e.0, value ∷ []) ∷ m else e ∷ insert m name value) + length (if b then e.1 else get_all m name) ≡ length e.1 + value_count m + 1)
       [ true ↦ omega arith | false ↦ omega (arith, value_count-insert m) ]
 
-  pub IsFilled-append : (m : Entries) → IsFilled m → IsFilled (append m name value)
-  IsFilled-append [] all = filled_cons (name, value ∷ []) [] (omega arith) all
-  IsFilled-append (e ∷ m) all =
-      both (bytes_eq name e.0) IsFilled
-      (filled_cons (e.0, e.1 ++ value ∷ []) m (omega (arith, length-append e.1 (value ∷ []))) (filled_tail e m all))
-      (filled_cons e (append m name value) (filled_head e m all) (IsFilled-append m (filled_tail e m all)))
+  module _ (named : IsHeaderName name) where
+    pub entries-append : (m : Entries) → All IsEntry m → All IsEntry (append m name value)
+    entries-append [] all = entries_cons (name, value ∷ []) [] (record { named = named; filled = omega arith }) all
+    entries-append (e ∷ m) all =
+        both (bytes_eq name e.0) (All IsEntry)
+        (entries_cons (e.0, e.1 ++ value ∷ []) m (with_values e (e.1 ++ value ∷ []) (first_entry e m all) (omega (arith, length-append e.1 (value ∷ [])))) (later_entries e m all))
+        (entries_cons e (append m name value) (first_entry e m all) (entries-append m (later_entries e m all)))
 
-  pub IsFilled-insert : (m : Entries) → IsFilled m → IsFilled (insert m name value)
-  IsFilled-insert [] all = filled_cons (name, value ∷ []) [] (omega arith) all
-  IsFilled-insert (e ∷ m) all =
-      both (bytes_eq name e.0) IsFilled
-      (filled_cons (e.0, value ∷ []) m (omega arith) (filled_tail e m all))
-      (filled_cons e (insert m name value) (filled_head e m all) (IsFilled-insert m (filled_tail e m all)))
+    pub entries-insert : (m : Entries) → All IsEntry m → All IsEntry (insert m name value)
+    entries-insert [] all = entries_cons (name, value ∷ []) [] (record { named = named; filled = omega arith }) all
+    entries-insert (e ∷ m) all =
+        both (bytes_eq name e.0) (All IsEntry)
+        (entries_cons (e.0, value ∷ []) m (with_values e (value ∷ []) (first_entry e m all) (omega arith)) (later_entries e m all))
+        (entries_cons e (insert m name value) (first_entry e m all) (entries-insert m (later_entries e m all)))
 
 module _ (name : List ℕ) where
   pub value_count-remove : (m : Entries) → value_count (remove m name) + length (get_all m name) ≡ value_count m
@@ -57,11 +59,11 @@ module _ (name : List ℕ) where
       elim (bytes_eq name e.0) as (λ b. value_count (if b then m else e ∷ remove m name) + length (if b then e.1 else get_all m name) ≡ length e.1 + value_count m)
       [ true ↦ omega arith | false ↦ omega (arith, value_count-remove m) ]
 
-  pub IsFilled-remove : (m : Entries) → IsFilled m → IsFilled (remove m name)
-  IsFilled-remove [] all = all
-  IsFilled-remove (e ∷ m) all =
-      both (bytes_eq name e.0) IsFilled (filled_tail e m all)
-      (filled_cons e (remove m name) (filled_head e m all) (IsFilled-remove m (filled_tail e m all)))
+  pub entries-remove : (m : Entries) → All IsEntry m → All IsEntry (remove m name)
+  entries-remove [] all = all
+  entries-remove (e ∷ m) all =
+      both (bytes_eq name e.0) (All IsEntry) (later_entries e m all)
+      (entries_cons e (remove m name) (first_entry e m all) (entries-remove m (later_entries e m all)))
 
 -- there are as many pairs as values
 pub length-pairs : (m : Entries) → length (pairs m) ≡ value_count m

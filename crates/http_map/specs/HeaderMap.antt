@@ -3,6 +3,7 @@
 use Rattle.std.specs.Prelude.{◌≡◌, ℕ, ◌+◌, ◌<◌, ◌^◌, Bool, List, [], ◌∷◌, ◌++◌, map, filter, fold, drop, length, flat_map, bytes_eq, slice_get, All, Option, if◌then◌else◌}
 use Rattle.std.specs.Borrow.{Bor}
 use Rattle.std.specs.List.{list_any, IsDistinct}
+use Rattle.http_header.specs.FieldName.{IsHeaderName}
 use Rattle.http_header.specs.FieldValue.{FieldValue}
 
 -- a name with its values
@@ -85,8 +86,13 @@ entry_pairs e = map (λ value. (e.0, value)) e.1
 abbrev pub pairs : Entries → List Pair
 pairs m = flat_map entry_pairs m
 
+-- a header name in lower case, with at least one value
+pub record IsEntry (e : Entry) : Type 0 where
+  pub named : IsHeaderName e.0
+  pub filled : 0 < length e.1
+
 -- what holds of every map
 pub record IsHeaderMap (m : Entries) : Type 0 where
   pub distinct : IsDistinct bytes_eq (keys m)
-  pub filled : All (λ e. 0 < length e.1) m
+  pub entries : All IsEntry m
   pub counted : value_count m < 2 ^ 64

@@ -2,7 +2,7 @@
 use Rattle.std.specs.Prelude.{◌≡◌, ℕ, ◌<◌, List, [], ◌++◌, length, All, Option, Some, None}
 use Rattle.std.specs.Borrow.{Bor}
 use Rattle.http_header.specs.FieldValue.{FieldValue}
-use Rattle.http_map.specs.HeaderMap.{Pair, Entries, entry_pairs, pairs}
+use Rattle.http_map.specs.HeaderMap.{Pair, Entries, IsEntry, entry_pairs, pairs}
 
 -- the pairs that are left of the name in hand
 abbrev pub current_pairs : Option (Bor (List ℕ) × Bor (List FieldValue)) → List Pair
@@ -13,7 +13,7 @@ current_pairs (Some p) = entry_pairs (p.0.now, p.1.now)
 abbrev pub pairs_left : Option (Bor (List ℕ) × Bor (List FieldValue)) → Entries → List Pair
 pairs_left current later = current_pairs current ++ pairs later
 
--- the count is kept, and each later name has a value
+-- the count is kept, and each later entry is one of a map
 pub record IsIter (current : Option (Bor (List ℕ) × Bor (List FieldValue))) (later : Entries) (left : ℕ) : Type 0 where
   pub count : left ≡ length (pairs_left current later)
-  pub filled : All (λ e. 0 < length e.1) later
+  pub entries : All IsEntry later

@@ -1,7 +1,7 @@
 -- What the iterators that take a `HeaderMap` apart have left.
 use Rattle.std.specs.Prelude.{◌≡◌, ℕ, ◌<◌, List, [], ◌∷◌, ◌++◌, map, length, flat_map, All, Option, Some, None, MatchOption, Result, MatchResult}
 use Rattle.http_header.specs.FieldValue.{FieldValue}
-use Rattle.http_map.specs.HeaderMap.{Pair, Entry, Entries, pairs}
+use Rattle.http_map.specs.HeaderMap.{Pair, Entry, Entries, IsEntry, pairs}
 
 -- values that follow the first of their name
 abbrev pub unnamed : List FieldValue → List (Option (List ℕ) × FieldValue)
@@ -20,10 +20,10 @@ drained m = flat_map (λ e. drained_entry e.0 e.1) m
 abbrev pub drained_left : List FieldValue → Entries → List (Option (List ℕ) × FieldValue)
 drained_left values later = unnamed values ++ drained later
 
--- the count is kept, and each later name has a value
+-- the count is kept, and each later entry is one of a map
 pub record IsDrain (values : List FieldValue) (later : Entries) (left : ℕ) : Type 0 where
   pub count : left ≡ length (drained_left values later)
-  pub filled : All (λ e. 0 < length e.1) later
+  pub entries : All IsEntry later
 
 -- the name in hand with those of its values that are left
 abbrev pub current_entries : Option Entry → Entries
@@ -34,10 +34,10 @@ current_entries (Some e) = e ∷ []
 abbrev pub entries_left : Option Entry → Entries → Entries
 entries_left current later = current_entries current ++ later
 
--- the count is kept, and each name that is left has a value
+-- the count is kept, and each entry that is left is one of a map
 pub record IsIntoIter (current : Option Entry) (later : Entries) (left : ℕ) : Type 0 where
   pub count : left ≡ length (pairs (entries_left current later))
-  pub filled : All (λ e. 0 < length e.1) (entries_left current later)
+  pub entries : All IsEntry (entries_left current later)
 
 -- a call of `next` on an iterator with `before` left gave the first pair, or an error, after which nothing is left
 abbrev pub GivesFirst : {E : Type 0} → List Pair → Option (Result Pair E) → List Pair → Type 0

@@ -33,11 +33,11 @@ impl<'a> Model for Iter<'a> {
 
 impl<'a> Iter<'a> {
     ghost use Rattle.std.specs.Prelude.{◌≡◌, ◌<◌, length, All};
-    ghost use Rattle.http_map.specs.HeaderMap.{pairs, value_count};
+    ghost use Rattle.http_map.specs.HeaderMap.{IsEntry, pairs, value_count};
 
     pub(crate) fn new(later: map::Iter<'a, HeaderName, Values>, left: usize) -> Iter<'a>
         requires counted { left ≡ value_count later }
-        requires filled { All (λ e. 0 < length e.1) later }
+        requires entries { All IsEntry later }
         ensures { result ≡ pairs later.entry }
     {
         Iter {

@@ -1,7 +1,8 @@
 //! The map from header names to their values.
-ghost use Rattle.std.specs.Prelude.{◌≡◌, ◌<◌, ◌^◌, ◌==◌, [], length, option_copied, IfOk, IsOk};
+ghost use Rattle.std.specs.Prelude.{◌≡◌, ◌<◌, ◌^◌, ◌==◌, [], false, length, option_copied, IsNone, IfOk, IsOk};
 ghost use Rattle.std.specs.Slice.Iter.{iter_rest};
 ghost use Rattle.std.specs.Iterator.Adapters.{IterYieldsInOrder};
+ghost use Rattle.http_header.specs.FieldName.{IsFieldName};
 ghost use Rattle.http_header.specs.FieldValue.{FieldValue};
 ghost use Rattle.http_map.specs.HeaderMap.{keys, value_count, contains_key, get, get_all, pairs, IsHeaderMap};
 
@@ -93,7 +94,8 @@ impl HeaderMap {
 
     /// Whether the map has the name.
     pub fn contains_key<K: AsHeaderName>(&self, key: K) -> bool
-        ensures { result ≡ contains_key self.now (K.name key) }
+        ensures value { result ≡ contains_key self.now (K.name key) }
+        ensures no_name { ¬ (IsFieldName (K.text key)) → result ≡ false }
     {
         self.names.contains_key(AnyCase {
             bytes: key.as_name_bytes(),
@@ -102,7 +104,8 @@ impl HeaderMap {
 
     /// The first value under the name.
     pub fn get<K: AsHeaderName>(&self, key: K) -> Option<&HeaderValue>
-        ensures { option_copied result ≡ get self.now (K.name key) }
+        ensures value { option_copied result ≡ get self.now (K.name key) }
+        ensures no_name { ¬ (IsFieldName (K.text key)) → IsNone result }
     {
         let values = self.names.get(AnyCase {
             bytes: key.as_name_bytes(),
@@ -113,6 +116,7 @@ impl HeaderMap {
     /// The values under the name, in the order in which they were added.
     pub fn get_all<K: AsHeaderName>(&self, key: K) -> slice::Iter<'_, HeaderValue>
         ensures values { iter_rest result ≡ get_all self.now (K.name key) }
+        ensures no_name { ¬ (IsFieldName (K.text key)) → iter_rest result ≡ [] }
         ensures fits { length (iter_rest result) < 2 ^ 64 }
         ensures runs { IterYieldsInOrder FieldValue }
     {

@@ -39,12 +39,12 @@ impl Model for Drain {
 
 impl Drain {
     ghost use Rattle.std.specs.Prelude.{◌≡◌, ◌<◌, length, All};
-    ghost use Rattle.http_map.specs.HeaderMap.{value_count};
+    ghost use Rattle.http_map.specs.HeaderMap.{IsEntry, value_count};
     ghost use Rattle.http_map.specs.Owned.{drained};
 
     pub(crate) fn new(later: Later, left: usize) -> Drain
         requires counted { left ≡ value_count later }
-        requires filled { All (λ e. 0 < length e.1) later }
+        requires entries { All IsEntry later }
         ensures { result ≡ drained later }
     {
         Drain {
@@ -118,11 +118,11 @@ impl Model for IntoIter {
 
 impl IntoIter {
     ghost use Rattle.std.specs.Prelude.{◌≡◌, ◌<◌, length, All};
-    ghost use Rattle.http_map.specs.HeaderMap.{pairs, value_count};
+    ghost use Rattle.http_map.specs.HeaderMap.{IsEntry, pairs, value_count};
 
     pub(crate) fn new(alloc: Global, later: Later, left: usize) -> IntoIter
         requires counted { left ≡ value_count later }
-        requires filled { All (λ e. 0 < length e.1) later }
+        requires entries { All IsEntry later }
         ensures { result ≡ pairs later }
     {
         IntoIter {

@@ -1,8 +1,9 @@
 //! The calls that change a map.
-ghost use Rattle.std.specs.Prelude.{◌≡◌, ◌≢◌, ◌<◌, ℕ, List, Bool, [], ◌∷◌, ◌++◌, length, slice_get, Some, IfOk, OnOk, OnErr};
+ghost use Rattle.std.specs.Prelude.{◌≡◌, ◌≢◌, ◌<◌, ℕ, List, Bool, [], ◌∷◌, ◌++◌, length, slice_get, Some, IsNone, IfOk, OnOk, OnErr};
 ghost use Rattle.std.specs.Borrow.{sem};
 ghost use Rattle.std.specs.Iterator.{IsFinite, Drains};
 ghost use Rattle.std.specs.Option.{option_copied_mut};
+ghost use Rattle.http_header.specs.FieldName.{IsFieldName};
 ghost use Rattle.http_header.specs.FieldValue.{FieldValue};
 ghost use Rattle.http_map.specs.HeaderMap.{Pair, get, get_all, insert, append, append_all, remove, retain, pairs, Computes};
 ghost use Rattle.http_map.specs.Lends.{lends_first, lends_first_at, values_at};
@@ -40,6 +41,7 @@ impl HeaderMap {
         ensures removed { IfOk result (λ removed. removed ≡ get_all self.old name) }
         ensures err { OnErr result (self.new ≡ self.old) }
     {
+        let _valid = name.as_bytes();
         let len = self.len.checked_add(1).ok_or(AllocError)?;
         let removed = insert_value(&mut self.names, name, val)?;
         self.len = len - removed.len();
@@ -55,6 +57,7 @@ impl HeaderMap {
             → get_all self.new other ≡ get_all self.old other) }
         ensures err { OnErr result (self.new ≡ self.old) }
     {
+        let _valid = key.as_bytes();
         let len = self.len.checked_add(1).ok_or(AllocError)?;
         append_value(&mut self.names, key, value)?;
         self.len = len;
@@ -68,6 +71,7 @@ impl HeaderMap {
         ensures gone { get_all self.new (K.name key) ≡ [] }
         ensures others { (other : List ℕ) → other ≢ K.name key
             → get_all self.new other ≡ get_all self.old other }
+        ensures no_name { ¬ (IsFieldName (K.text key)) → result ≡ [] }
     {
         let removed = remove_values(&mut self.names, key.as_name_bytes());
         self.len -= removed.len();
@@ -125,6 +129,7 @@ impl HeaderMap {
     pub fn get_mut<K: AsHeaderName>(&mut self, key: K) -> Option<&mut HeaderValue>
         ensures* writes_back { sem 𝓛 (lends_first self.entry (K.name key) result) }
         ensures value { option_copied_mut result ≡ get self.old (K.name key) }
+        ensures no_name { ¬ (IsFieldName (K.text key)) → IsNone result }
     {
         let found = self.names.get_index_of(AnyCase {
             bytes: key.as_name_bytes(),

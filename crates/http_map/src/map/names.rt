@@ -2,7 +2,7 @@
 ghost use Rattle.std.specs.Prelude.{◌≡◌, ◌<◌, ◌≤◌, ◌^◌, ℕ, List, Bool, [], length, filter, unwrap_or, All, IsTrue, IfOk, OnOk, OnErr, if◌then◌else◌};
 ghost use Rattle.http_header.specs.Token.{lowercase};
 ghost use Rattle.http_header.specs.FieldValue.{FieldValue};
-ghost use Rattle.http_map.specs.HeaderMap.{value_count, get_all, insert, append, remove, retain, Computes};
+ghost use Rattle.http_map.specs.HeaderMap.{IsEntry, value_count, get_all, insert, append, remove, retain, Computes};
 
 use super::Names;
 use crate::NoMemory;
@@ -76,7 +76,7 @@ pub(super) fn count_values(names: &Names) -> usize
 pub(super) fn retain_names<F: Fn(&HeaderName, &HeaderValue) -> bool>(names: &mut Names, keep: &F)
     requires { F.IsAlwaysCallable keep.now }
     ensures bound { value_count names.new.entries ≤ value_count names.old.entries }
-    ensures filled { All (λ e. 0 < length e.1) names.new.entries }
+    ensures entries { All IsEntry names.old.entries → All IsEntry names.new.entries }
     ensures kept { (test : List ℕ → FieldValue → Bool) → Computes (F.post keep.now) test
         → names.new.entries ≡ retain test names.old.entries }
 {

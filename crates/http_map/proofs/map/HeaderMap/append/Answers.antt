@@ -1,6 +1,6 @@
 use Rattle.std.proofs.Common.{arith}
 use Rattle.http_map.proofs.CallerLemmas.{get_all-append_same, get_all-append_other}
-use Rattle.http_map.proofs.MapLemmas.{value_count-append, IsFilled-append}
+use Rattle.http_map.proofs.MapLemmas.{value_count-append, entries-append}
 use Rattle.http_map.proofs.map.HeaderMap.append.Goals as goal
 
 pub invariant_of-self-2 : goal.invariant_of-self-2
@@ -9,7 +9,7 @@ invariant_of-self-2 c =
     rw c.in_ok-append_value.ensures.ok (record {
       count = omega (arith, more, c.self.invariant.count, value_count-append c.args.key c.args.value c.self.inside.names.entries);
       fits = omega (arith, more);
-      filled = IsFilled-append c.args.key c.args.value c.self.inside.names.entries c.self.invariant.filled;
+      entries = entries-append c.args.key c.args.value c.as_bytes-valid.ensures.valid c.self.inside.names.entries c.self.invariant.entries;
     })
 
 pub returns-clause-values : goal.returns-clause-values

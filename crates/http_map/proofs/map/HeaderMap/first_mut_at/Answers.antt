@@ -3,7 +3,7 @@ use Rattle.http_map.proofs.LendsLemmas.{filled_at, values_at-values_of, set_valu
 use Rattle.http_map.proofs.map.HeaderMap.first_mut_at.Goals as goal
 
 pub first_mut-requires : goal.first_mut-requires
-first_mut-requires c = filled_at c.self.inside.names.entries c.args.index c.index_mut-values.result.now c.self.invariant.filled c.index_mut-values.ensures.value
+first_mut-requires c = filled_at c.self.inside.names.entries c.args.index c.index_mut-values.result.now c.self.invariant.entries c.index_mut-values.ensures.value
 
 pub invariant_of-self-lent : goal.invariant_of-self-lent
 invariant_of-self-lent c w =

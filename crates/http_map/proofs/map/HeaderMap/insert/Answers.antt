@@ -1,6 +1,6 @@
 use Rattle.std.proofs.Common.{length, ap, arith}
 use Rattle.http_map.proofs.CallerLemmas.{get_all-insert_same, get_all-insert_other}
-use Rattle.http_map.proofs.MapLemmas.{value_count-insert, IsFilled-insert}
+use Rattle.http_map.proofs.MapLemmas.{value_count-insert, entries-insert}
 use Rattle.http_map.proofs.map.HeaderMap.insert.Goals as goal
 
 pub overflow_sub-self : goal.overflow_sub-self
@@ -16,7 +16,7 @@ invariant_of-self-2 c =
     rw c.in_ok-removed.ensures.ok (record {
       count = omega (arith, more, gone, c.len.ensures, c.self.invariant.count, value_count-insert c.args.name c.args.val c.self.inside.names.entries);
       fits = omega (arith, more);
-      filled = IsFilled-insert c.args.name c.args.val c.self.inside.names.entries c.self.invariant.filled;
+      entries = entries-insert c.args.name c.args.val c.as_bytes-valid.ensures.valid c.self.inside.names.entries c.self.invariant.entries;
     })
 
 pub returns-clause-values : goal.returns-clause-values

@@ -1,7 +1,8 @@
-use Rattle.std.proofs.Common.{◌≢◌, length, ap, ◌∙◌, arith}
+use Rattle.std.proofs.Common.{◌≢◌, length, ap, subst, ◌∙◌, arith}
 use Rattle.http_header.specs.Token.{lowercase}
-use Rattle.http_map.proofs.CallerLemmas.{get_all-remove_other}
-use Rattle.http_map.proofs.MapLemmas.{value_count-remove, IsFilled-remove}
+use Rattle.http_header.specs.FieldName.{IsFieldName}
+use Rattle.http_map.proofs.CallerLemmas.{get_all-remove_other, get_all-no_name}
+use Rattle.http_map.proofs.MapLemmas.{value_count-remove, entries-remove}
 use Rattle.http_map.proofs.map.HeaderMap.remove.Goals as goal
 
 pub overflow_sub-self : goal.overflow_sub-self
@@ -15,7 +16,7 @@ invariant_of-self g c =
     rw c.remove_values-removed.ensures.after (record {
       count = omega (arith, gone, c.len.ensures, c.self.invariant.count, value_count-remove (lowercase c.as_name_bytes.result.now) c.self.inside.names.entries);
       fits = omega (arith, c.self.invariant.fits);
-      filled = IsFilled-remove (lowercase c.as_name_bytes.result.now) c.self.inside.names.entries c.self.invariant.filled;
+      entries = entries-remove (lowercase c.as_name_bytes.result.now) c.self.inside.names.entries c.self.invariant.entries;
     })
 
 pub returns-clause-others : goal.returns-clause-others
@@ -23,3 +24,7 @@ returns-clause-others g c other apart =
     let bytes = c.as_name_bytes.result.now in
     let away : other ≢ lowercase bytes = λ is. apart (is ∙ c.as_name_bytes.ensures.lowered) in
     rw (c.remove_values-removed.ensures.after, ← c.self.view_is) (get_all-remove_other (lowercase bytes) other away c.self.inside.names.entries)
+
+pub returns-clause-no_name : goal.returns-clause-no_name
+returns-clause-no_name g c none =
+    c.remove_values-removed.ensures.removed ∙ get_all-no_name c.self.inside.names.entries c.as_name_bytes.result.now c.self.invariant.entries (λ is. none (subst IsFieldName c.as_name_bytes.ensures.value is))

@@ -8,5 +8,5 @@ pub invariant_of-self : goal.invariant_of-self
 invariant_of-self g c = record {
   count = c.count_values-self-inside.ensures;
   fits = omega (arith, c.self.invariant.count, c.self.invariant.fits, c.retain_names.ensures.bound, c.count_values-self-inside.ensures);
-  filled = c.retain_names.ensures.filled;
+  entries = c.retain_names.ensures.entries c.self.invariant.entries;
 }

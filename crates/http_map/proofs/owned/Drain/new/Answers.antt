@@ -6,5 +6,5 @@ use Rattle.http_map.proofs.owned.Drain.new.Goals as goal
 pub invariant_of-result : goal.invariant_of-result
 invariant_of-result c = record {
   count = c.requires.counted ∙ sym (ap (λ vs. length (unnamed vs ++ drained c.args.later)) c.none.ensures ∙ length-drained c.args.later);
-  filled = c.requires.filled;
+  entries = c.requires.entries;
 }

@@ -5,5 +5,5 @@ use Rattle.http_map.proofs.owned.IntoIter.new.Goals as goal
 pub invariant_of-result : goal.invariant_of-result
 invariant_of-result c = record {
   count = c.requires.counted ∙ sym (length-pairs c.args.later);
-  filled = c.requires.filled;
+  entries = c.requires.entries;
 }
