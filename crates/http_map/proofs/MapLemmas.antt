@@ -1,10 +1,10 @@
 -- Facts on a map's list of names with their values.
-use Rattle.std.proofs.Common.{◌≡◌, ℕ, ◌+◌, ◌-◌, ◌<◌, ap, ◌∙◌, Bool, true, false, if◌then◌else◌, List, [], ◌∷◌, ◌++◌, length, bytes_eq, All, refl, arith, length-append}
+use Rattle.std.proofs.Common.{◌≡◌, ℕ, ◌+◌, ◌-◌, ◌<◌, ap, ◌∙◌, Bool, true, false, if◌then◌else◌, List, [], ◌∷◌, ◌++◌, ◌||◌, length, bytes_eq, All, refl, arith, length-append}
 use Rattle.std.proofs.lemmas.List.Elements.{All-cons, All-head, All-tail}
 use Rattle.std.proofs.lemmas.List.{length-map}
 use Rattle.http_header.specs.FieldName.{IsHeaderName}
 use Rattle.http_header.specs.FieldValue.{FieldValue}
-use Rattle.http_map.specs.HeaderMap.{Entry, Entries, IsEntry, value_count, get_all, insert, append, remove, Pair, entry_pairs, pairs}
+use Rattle.http_map.specs.HeaderMap.{Entry, Entries, IsEntry, value_count, contains_key, get_all, insert, append, remove, Pair, entry_pairs, pairs}
 
 -- a test decides which of two maps an edit gives
 both : (b : Bool) {A B : Entries} (P : Entries → Type 0) → P A → P B → P (if b then A else B)
@@ -58,6 +58,13 @@ module _ (name : List ℕ) where
   value_count-remove (e ∷ m) =
       elim (bytes_eq name e.0) as (λ b. value_count (if b then m else e ∷ remove m name) + length (if b then e.1 else get_all m name) ≡ length e.1 + value_count m)
       [ true ↦ omega arith | false ↦ omega (arith, value_count-remove m) ]
+
+  -- a name of the map has a value
+  pub some-get_all : (m : Entries) → All IsEntry m → contains_key m name ≡ true → 0 < length (get_all m name)
+  some-get_all [] all = λ there. cc
+  some-get_all (e ∷ m) all =
+      elim (bytes_eq name e.0) as (λ b. (b || contains_key m name) ≡ true → 0 < length (if b then e.1 else get_all m name))
+      [ true ↦ (λ there. (first_entry e m all).filled) | false ↦ some-get_all m (later_entries e m all) ]
 
   pub entries-remove : (m : Entries) → All IsEntry m → All IsEntry (remove m name)
   entries-remove [] all = all

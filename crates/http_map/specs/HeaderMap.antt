@@ -1,7 +1,6 @@
 -- What a contract sees of a `HeaderMap`: its names in the order of their first insertion, each with the list of its values.
 -- A name is written in lower case, as a `HeaderName` holds it.
 use Rattle.std.specs.Prelude.{◌≡◌, ℕ, ◌+◌, ◌<◌, ◌^◌, Bool, List, [], ◌∷◌, ◌++◌, map, filter, fold, drop, length, flat_map, bytes_eq, slice_get, All, Option, if◌then◌else◌}
-use Rattle.std.specs.Borrow.{Bor}
 use Rattle.std.specs.List.{list_any, IsDistinct}
 use Rattle.http_header.specs.FieldName.{IsHeaderName}
 use Rattle.http_header.specs.FieldValue.{FieldValue}
@@ -73,10 +72,6 @@ filled_first name (value ∷ values) m = (name, value ∷ values) ∷ m
 abbrev pub retain : (List ℕ → FieldValue → Bool) → Entries → Entries
 retain test [] = []
 retain test (e ∷ m) = filled_first e.0 (filter (test e.0) e.1) (retain test m)
-
--- the closure answers as the test does
-abbrev pub Computes : (Bor (List ℕ) → Bor FieldValue → Bool → Type 0) → (List ℕ → FieldValue → Bool) → Type 0
-Computes answers test = (name : Bor (List ℕ)) (value : Bor FieldValue) (answer : Bool) → answers name value answer → answer ≡ test name.now value.now
 
 -- the values of one name, each beside it
 abbrev pub entry_pairs : Entry → List Pair

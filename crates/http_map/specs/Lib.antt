@@ -5,4 +5,5 @@ pub mod Kept
 pub mod Lends
 pub mod Owned
 pub mod Rest
+pub mod Retain
 pub mod Values

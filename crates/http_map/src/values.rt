@@ -1,8 +1,7 @@
 //! The values of one name.
-ghost use Rattle.std.specs.Prelude.{◌≡◌, ◌<◌, ◌≤◌, ℕ, List, Bool, [], ◌∷◌, ◌++◌, length, filter, drop, slice_get, Some, IsTrue, OnOk, OnErr, if◌then◌else◌};
+ghost use Rattle.std.specs.Prelude.{◌≡◌, ◌<◌, [], ◌∷◌, ◌++◌, length, drop, slice_get, Some, IsTrue, OnOk, OnErr, if◌then◌else◌};
 ghost use Rattle.std.specs.Borrow.{sem};
-ghost use Rattle.http_header.specs.FieldValue.{FieldValue};
-ghost use Rattle.http_map.specs.HeaderMap.{Computes};
+ghost use Rattle.http_map.specs.Retain.{MayAnswer, KeepsValues};
 
 use crate::NoMemory;
 use crate::removed::Removed;
@@ -82,7 +81,9 @@ impl Values {
         match &mut self.kept {
             Kept::One(only) => {
                 let mut values = Vec::with_capacity(alloc, 2)?;
-                values.push_reserved(mem::replace(only, HeaderValue::from_static("")));
+                // An empty value stands in for the one that moves to the vector.
+                let first = mem::replace(only, HeaderValue::from_static(""));
+                values.push_reserved(first);
                 values.push_reserved(value);
                 self.kept = Kept::More(values);
             }
@@ -108,10 +109,9 @@ impl Values {
         keep: &F,
     ) -> bool
         requires { F.IsAlwaysCallable keep.now }
-        ensures bound { length self.new ≤ length self.old }
         ensures filled { IsTrue result → 0 < length self.new }
-        ensures kept { (test : List ℕ → FieldValue → Bool) → Computes (F.post keep.now) test
-            → (if result then self.new else []) ≡ filter (test name.now) self.old }
+        ensures kept { KeepsValues (MayAnswer (F.post keep.now) name.now) self.old
+            (if result then self.new else []) }
     {
         match &mut self.kept {
             Kept::One(value) => keep(name, value),
@@ -119,8 +119,7 @@ impl Values {
                 values.retain(
                     |value: &HeaderValue| -> bool
                         requires { F.IsAlwaysCallable keep.now }
-                        ensures { (test : List ℕ → FieldValue → Bool) → Computes (F.post keep.entry.now) test
-                            → result ≡ test name.entry.now value.now }
+                        ensures { MayAnswer (F.post keep.entry.now) name.entry.now value.now result }
                     { keep(name, value) },
                 );
                 !values.is_empty()

@@ -1,13 +1,14 @@
 //! The calls that change a map.
-ghost use Rattle.std.specs.Prelude.{◌≡◌, ◌≢◌, ◌<◌, ℕ, List, Bool, [], ◌∷◌, ◌++◌, length, slice_get, Some, IsNone, IfOk, OnOk, OnErr};
+ghost use Rattle.std.specs.Prelude.{◌≡◌, ◌≢◌, ◌+◌, ◌<◌, ◌^◌, ℕ, List, Bool, [], ◌∷◌, ◌++◌, length, slice_get, Some, IsNone, IsTrue, true, IfOk, IsOk, OnOk, OnErr};
 ghost use Rattle.std.specs.Borrow.{sem};
 ghost use Rattle.std.specs.Iterator.{IsFinite, Drains};
 ghost use Rattle.std.specs.Option.{option_copied_mut};
 ghost use Rattle.http_header.specs.FieldName.{IsFieldName};
 ghost use Rattle.http_header.specs.FieldValue.{FieldValue};
-ghost use Rattle.http_map.specs.HeaderMap.{Pair, get, get_all, insert, append, append_all, remove, retain, pairs, Computes};
+ghost use Rattle.http_map.specs.HeaderMap.{Pair, contains_key, get, get_all, insert, append, append_all, remove, retain, pairs, value_count};
 ghost use Rattle.http_map.specs.Lends.{lends_first, lends_first_at, values_at};
 ghost use Rattle.http_map.specs.Owned.{drained};
+ghost use Rattle.http_map.specs.Retain.{MayAnswer, Retains, Computes};
 
 use super::HeaderMap;
 use super::names::{append_value, count_values, insert_value, remove_values, retain_names};
@@ -31,8 +32,8 @@ impl HeaderMap {
     }
 
     /// Puts the value in place of all those under the name, whose place among the names stays, and
-    /// gives the old ones. A new name goes last. It grows first, so want of memory leaves the map as
-    /// it was.
+    /// gives the old ones. A new name goes last. Only a new name may want memory, and where there is
+    /// none the map is left as it was.
     pub fn insert(&mut self, name: HeaderName, val: HeaderValue) -> Result<Removed, NoMemory>
         ensures ok { OnOk result (self.new ≡ insert self.old name val) }
         ensures values { OnOk result (get_all self.new name ≡ val ∷ []) }
@@ -40,12 +41,24 @@ impl HeaderMap {
             → get_all self.new other ≡ get_all self.old other) }
         ensures removed { IfOk result (λ removed. removed ≡ get_all self.old name) }
         ensures err { OnErr result (self.new ≡ self.old) }
+        ensures no_memory_needed { contains_key self.old name ≡ true → IsOk result }
     {
         let _valid = name.as_bytes();
-        let len = self.len.checked_add(1).ok_or(AllocError)?;
+        if !self.can_count_one_in(&name) {
+            return Err(AllocError);
+        }
         let removed = insert_value(&mut self.names, name, val)?;
-        self.len = len - removed.len();
+        self.len = self.len - removed.len() + 1;
         Ok(removed)
+    }
+
+    // Whether the number of values fits, with one in place of those under the name.
+    fn can_count_one_in(&self, name: &HeaderName) -> bool
+        ensures fits { IsTrue result
+            → value_count self.now + 1 < 2 ^ 64 + length (get_all self.now name.now) }
+        ensures replaced { contains_key self.now name.now ≡ true → result ≡ true }
+    {
+        self.len < usize::MAX || self.names.contains_key(name)
     }
 
     /// Adds the value after those under the name. A new name goes last. It grows first, so want of
@@ -89,7 +102,8 @@ impl HeaderMap {
     /// goes too.
     pub fn retain<F: Fn(&HeaderName, &HeaderValue) -> bool + Drop>(&mut self, keep: F)
         requires { F.IsAlwaysCallable keep }
-        ensures { (test : List ℕ → FieldValue → Bool) → Computes (F.post keep) test
+        ensures kept { Retains (MayAnswer (F.post keep)) self.old self.new }
+        ensures computed { (test : List ℕ → FieldValue → Bool) → Computes (F.post keep) test
             → self.new ≡ retain test self.old }
     {
         retain_names(&mut self.names, &keep);

@@ -1,8 +1,8 @@
 //! The steps that change the `IndexMap` under a `HeaderMap`.
-ghost use Rattle.std.specs.Prelude.{◌≡◌, ◌<◌, ◌≤◌, ◌^◌, ℕ, List, Bool, [], length, filter, unwrap_or, All, IsTrue, IfOk, OnOk, OnErr, if◌then◌else◌};
+ghost use Rattle.std.specs.Prelude.{◌≡◌, ◌<◌, ◌^◌, [], length, unwrap_or, true, IsTrue, IsOk, IfOk, OnOk, OnErr, if◌then◌else◌};
 ghost use Rattle.http_header.specs.Token.{lowercase};
-ghost use Rattle.http_header.specs.FieldValue.{FieldValue};
-ghost use Rattle.http_map.specs.HeaderMap.{IsEntry, value_count, get_all, insert, append, remove, retain, Computes};
+ghost use Rattle.http_map.specs.HeaderMap.{value_count, contains_key, get_all, insert, append, remove};
+ghost use Rattle.http_map.specs.Retain.{MayAnswer, KeepsValues, Retains};
 
 use super::Names;
 use crate::NoMemory;
@@ -48,6 +48,7 @@ pub(super) fn insert_value(
     ensures ok { OnOk result (names.new.entries ≡ insert names.old.entries name value) }
     ensures removed { IfOk result (λ values. values ≡ get_all names.old.entries name) }
     ensures err { OnErr result (names.new.entries ≡ names.old.entries) }
+    ensures no_memory_needed { contains_key names.old.entries name ≡ true → IsOk result }
 {
     Ok(removed(names.insert(name, Values::one(value))?))
 }
@@ -75,18 +76,14 @@ pub(super) fn count_values(names: &Names) -> usize
 
 pub(super) fn retain_names<F: Fn(&HeaderName, &HeaderValue) -> bool>(names: &mut Names, keep: &F)
     requires { F.IsAlwaysCallable keep.now }
-    ensures bound { value_count names.new.entries ≤ value_count names.old.entries }
-    ensures entries { All IsEntry names.old.entries → All IsEntry names.new.entries }
-    ensures kept { (test : List ℕ → FieldValue → Bool) → Computes (F.post keep.now) test
-        → names.new.entries ≡ retain test names.old.entries }
+    ensures { Retains (MayAnswer (F.post keep.now)) names.old.entries names.new.entries }
 {
     names.retain(
         |name: &HeaderName, values: &mut Values| -> bool
             requires { F.IsAlwaysCallable keep.now }
-            ensures bound { length values.new ≤ length values.old }
             ensures filled { IsTrue result → 0 < length values.new }
-            ensures kept { (test : List ℕ → FieldValue → Bool) → Computes (F.post keep.entry.now) test
-                → (if result then values.new else []) ≡ filter (test name.now) values.old }
+            ensures kept { KeepsValues (MayAnswer (F.post keep.entry.now) name.now) values.old
+                (if result then values.new else []) }
         { values.retain(name, keep) },
     );
 }

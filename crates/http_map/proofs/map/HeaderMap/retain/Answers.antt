@@ -1,12 +1,27 @@
-use Rattle.std.proofs.Common.{arith}
+use Rattle.std.proofs.Common.{◌≤◌, arith}
+use Rattle.http_map.specs.HeaderMap.{value_count}
+use Rattle.http_map.specs.Retain.{MayAnswer, Retains}
+use Rattle.http_map.specs.contracts.map.HeaderMap.retain.F-Fn.{words}
+use Rattle.http_map.proofs.RetainLemmas.{value_count-Retains, entries-Retains, retain-Retains}
 use Rattle.http_map.proofs.map.HeaderMap.retain.Goals as goal
 
 pub count_values-self-inside-requires : goal.count_values-self-inside-requires
-count_values-self-inside-requires g c = omega (arith, c.self.invariant.count, c.self.invariant.fits, c.retain_names.ensures.bound)
+count_values-self-inside-requires g c =
+    let fewer = value_count-Retains (MayAnswer ((words g.row.F g.F.Fn).post c.args.keep)) c.self.inside.names.entries c.retain_names.new.names.entries c.retain_names.ensures in
+    omega (arith, c.self.invariant.count, c.self.invariant.fits, fewer)
 
 pub invariant_of-self : goal.invariant_of-self
-invariant_of-self g c = record {
-  count = c.count_values-self-inside.ensures;
-  fits = omega (arith, c.self.invariant.count, c.self.invariant.fits, c.retain_names.ensures.bound, c.count_values-self-inside.ensures);
-  entries = c.retain_names.ensures.entries c.self.invariant.entries;
-}
+invariant_of-self g c =
+    let fewer = value_count-Retains (MayAnswer ((words g.row.F g.F.Fn).post c.args.keep)) c.self.inside.names.entries c.retain_names.new.names.entries c.retain_names.ensures in
+    record {
+      count = c.count_values-self-inside.ensures;
+      fits = omega (arith, c.self.invariant.count, c.self.invariant.fits, fewer, c.count_values-self-inside.ensures);
+      entries = entries-Retains (MayAnswer ((words g.row.F g.F.Fn).post c.args.keep)) c.self.inside.names.entries c.retain_names.new.names.entries c.self.invariant.entries c.retain_names.ensures;
+    }
+
+pub returns-clause-kept : goal.returns-clause-kept
+returns-clause-kept g c = rw (← c.self.view_is) c.retain_names.ensures
+
+pub returns-clause-computed : goal.returns-clause-computed
+returns-clause-computed g c test computes =
+    retain-Retains ((words g.row.F g.F.Fn).post c.args.keep) test computes c.args.self.now c.retain_names.new.names.entries (returns-clause-kept g c)
