@@ -74,7 +74,6 @@ impl TryIntoHeaderValue for HeaderValue {
     ghost field_value = { λ v. v };
 
     fn try_into_value(self, _alloc: Global) -> Result<HeaderValue, ValueError> {
-        let _valid = self.as_bytes();
         Ok(self)
     }
 }

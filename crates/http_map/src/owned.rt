@@ -135,7 +135,10 @@ impl IntoIter {
 }
 
 // The name in hand, or else the first of the later ones.
-fn in_hand(current: Option<(HeaderName, Removed)>, later: &mut Later) -> Option<(HeaderName, Removed)>
+fn in_hand(
+    current: Option<(HeaderName, Removed)>,
+    later: &mut Later,
+) -> Option<(HeaderName, Removed)>
     ensures none { IfNone result ((entries_left current later.old ≡ []) × (later.new ≡ [])) }
     ensures some { IfSome result (λ e. entries_left current later.old ≡ e ∷ later.new) }
 {

@@ -8,8 +8,7 @@ use crate::removed::Removed;
 use http_header::{HeaderName, HeaderValue};
 use std::alloc::{AllocError, Global};
 use std::marker::Model;
-use std::mem;
-use std::slice;
+use std::{mem, slice};
 
 /// The values of one name, in the order in which they were added. Most names have one, which stands
 /// here itself and takes no memory of its own.

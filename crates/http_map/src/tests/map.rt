@@ -1,69 +1,182 @@
 //! The map, its iterators and the names of headers.
 use crate::{
-    ACCEPT, COOKIE, DATE, HOST, HeaderMap, HeaderName, HeaderValue, Removed, SET_COOKIE,
-    cache_status, cdn_cache_control, clear_site_data, cross_origin_embedder_policy,
-    cross_origin_opener_policy, cross_origin_resource_policy, permissions_policy, x_forwarded_for,
+    ACCEPT, HOST, HeaderMap, HeaderName, Removed, SET_COOKIE, cache_status, cdn_cache_control,
+    clear_site_data, cross_origin_embedder_policy, cross_origin_opener_policy,
+    cross_origin_resource_policy, permissions_policy, value_of_str, x_forwarded_for,
     x_forwarded_host, x_forwarded_proto,
 };
 use std::alloc::Global;
 use std::test::Fail;
 
-const ONE: &[u8] = b"one=1";
-
-const TWO: &[u8] = b"two=2";
-
-const PLAIN: &[u8] = b"text/plain";
-
 // Two cookies, with a line of another name between them.
-fn cookies(alloc: Global) -> Result<HeaderMap, Fail> {
+const COOKIES: [(&str, &str); 3] = [
+    ("set-cookie", "one=1"),
+    ("accept", "text/plain"),
+    ("set-cookie", "two=2"),
+];
+
+#[derive(Clone, Copy)]
+enum Edit {
+    Insert(&'static str, &'static str),
+    Append(&'static str, &'static str),
+    Remove(&'static str),
+    KeepValuesWith(u8),
+    Clear,
+}
+
+// The values that the edit took out of the map.
+fn edited(alloc: Global, map: &mut HeaderMap, edit: Edit) -> Result<Removed, Fail> {
+    match edit {
+        Edit::Insert(name, value) => {
+            let name = HeaderName::from_bytes(alloc, name.as_bytes())?;
+            return Ok(map.insert(name, value_of_str(alloc, value)?)?);
+        }
+        Edit::Append(name, value) => {
+            let name = HeaderName::from_bytes(alloc, name.as_bytes())?;
+            map.append(name, value_of_str(alloc, value)?)?;
+        }
+        Edit::Remove(name) => return Ok(map.remove(name)),
+        Edit::KeepValuesWith(byte) => map.retain(|_name, value| value.as_bytes().contains(&byte)),
+        Edit::Clear => map.clear(),
+    }
+    Ok(map.remove(""))
+}
+
+// A map to which these lines were appended.
+fn map_of(alloc: Global, lines: &[(&str, &str)]) -> Result<HeaderMap, Fail> {
     let mut map = HeaderMap::new(alloc);
-    map.append(SET_COOKIE, HeaderValue::from_static("one=1"))?;
-    map.append(ACCEPT, HeaderValue::from_static("text/plain"))?;
-    map.append(SET_COOKIE, HeaderValue::from_static("two=2"))?;
+    for line in lines {
+        let name = HeaderName::from_bytes(alloc, line.0.as_bytes())?;
+        map.append(name, value_of_str(alloc, line.1)?)?;
+    }
     Ok(map)
 }
 
-// Whether the map gives these pairs, and no more.
-fn gives(map: &HeaderMap, pairs: &[(&str, &[u8])]) -> bool {
+// Whether the map gives these pairs, and then none for good.
+fn gives(map: &HeaderMap, pairs: &[(&str, &str)]) -> bool {
     let mut given = map.iter();
+    let mut same = map.len() == pairs.len() && given.len() == pairs.len();
     for pair in pairs {
-        match given.next() {
+        same &= match given.next() {
             Some((name, value)) => {
-                if name.as_str() != pair.0 || value.as_bytes() != pair.1 {
-                    return false;
-                }
+                name.as_str() == pair.0 && value.as_bytes() == pair.1.as_bytes()
             }
-            None => return false,
-        }
+            None => false,
+        };
     }
-    given.next().is_none()
+    same && given.next().is_none() && given.next().is_none()
 }
 
-// Whether the values are these, and no more.
-fn are(mut removed: Removed, bytes: &[&[u8]]) -> bool {
-    for want in bytes {
-        match removed.next() {
-            Some(value) => {
-                if value.as_bytes() != *want {
-                    return false;
-                }
-            }
-            None => return false,
-        }
+// Whether the values are these, and then none for good.
+fn are(mut removed: Removed, values: &[&str]) -> bool {
+    let mut same = removed.len() == values.len();
+    for value in values {
+        same &= match removed.next() {
+            Some(given) => given.as_bytes() == value.as_bytes(),
+            None => false,
+        };
     }
-    removed.is_empty()
+    same && removed.is_empty() && removed.next().is_none()
+}
+
+// Whether the text finds these values, and no more.
+fn finds(map: &HeaderMap, name: &str, values: &[&str]) -> bool {
+    let is_found = !values.is_empty();
+    let mut same = map.contains_key(name) == is_found && map.get(name).is_some() == is_found;
+    let mut given = map.get_all(name);
+    for value in values {
+        same &= match given.next() {
+            Some(given) => given.as_bytes() == value.as_bytes(),
+            None => false,
+        };
+    }
+    same && given.next().is_none()
+}
+
+#[test]
+fn edits_change_a_map(rt: HostRuntime) -> Result<(), Fail> {
+    // The edit, the values that it takes out, and what is left behind it of the cookies.
+    let rows: [(Edit, &[&str], &[(&str, &str)]); 10] = [
+        (
+            Edit::Append("Set-Cookie", "three=3"),
+            &[],
+            &[
+                ("set-cookie", "one=1"),
+                ("set-cookie", "two=2"),
+                ("set-cookie", "three=3"),
+                ("accept", "text/plain"),
+            ],
+        ),
+        (
+            Edit::Append("host", "duck.com"),
+            &[],
+            &[
+                ("set-cookie", "one=1"),
+                ("set-cookie", "two=2"),
+                ("accept", "text/plain"),
+                ("host", "duck.com"),
+            ],
+        ),
+        (
+            Edit::Insert("accept", "text/csv"),
+            &["text/plain"],
+            &[
+                ("set-cookie", "one=1"),
+                ("set-cookie", "two=2"),
+                ("accept", "text/csv"),
+            ],
+        ),
+        (
+            Edit::Insert("set-cookie", "six=6"),
+            &["one=1", "two=2"],
+            &[("set-cookie", "six=6"), ("accept", "text/plain")],
+        ),
+        (
+            Edit::Insert("date", ""),
+            &[],
+            &[
+                ("set-cookie", "one=1"),
+                ("set-cookie", "two=2"),
+                ("accept", "text/plain"),
+                ("date", ""),
+            ],
+        ),
+        (
+            Edit::Remove("SET-cookie"),
+            &["one=1", "two=2"],
+            &[("accept", "text/plain")],
+        ),
+        (
+            Edit::Remove("accept"),
+            &["text/plain"],
+            &[("set-cookie", "one=1"), ("set-cookie", "two=2")],
+        ),
+        (
+            Edit::Remove("INVALID HEADER NAME"),
+            &[],
+            &[
+                ("set-cookie", "one=1"),
+                ("set-cookie", "two=2"),
+                ("accept", "text/plain"),
+            ],
+        ),
+        (Edit::KeepValuesWith(b'1'), &[], &[("set-cookie", "one=1")]),
+        (Edit::Clear, &[], &[]),
+    ];
+    for (edit, taken, left) in rows {
+        let mut map = map_of(rt.alloc(), &COOKIES)?;
+        assert!(rt; are(edited(rt.alloc(), &mut map, edit)?, taken));
+        assert!(rt; gives(&map, left) && gives(&map.copy()?, left));
+        assert!(rt; map.is_empty() == left.is_empty());
+    }
+    Ok(())
 }
 
 #[test]
 fn looks_names_up_in_any_case(rt: HostRuntime) -> Result<(), Fail> {
-    let map = cookies(rt.alloc())?;
-    for (name, first, count) in [("Set-Cookie", ONE, 2), ("ACCEPT", PLAIN, 1)] {
-        match map.get(name) {
-            Some(value) => assert!(rt; value.as_bytes() == first),
-            None => assert!(rt; false),
-        }
-        assert!(rt; map.contains_key(name) && map.get_all(name).len() == count);
-    }
+    let map = map_of(rt.alloc(), &COOKIES)?;
+    assert!(rt; finds(&map, "Set-Cookie", &["one=1", "two=2"]));
+    assert!(rt; finds(&map, "ACCEPT", &["text/plain"]));
     for name in [
         "INVALID HEADER NAME",
         "set-cooki",
@@ -71,79 +184,51 @@ fn looks_names_up_in_any_case(rt: HostRuntime) -> Result<(), Fail> {
         "",
         "host",
     ] {
-        assert!(rt; map.get(name).is_none() && !map.contains_key(name));
-        assert!(rt; map.get_all(name).len() == 0);
+        assert!(rt; finds(&map, name, &[]));
     }
-    assert!(rt; map.contains_key(&ACCEPT) && !map.contains_key(HOST));
+    let text = String::from_str(rt.alloc(), "Accept")?;
+    match map.get(&text) {
+        Some(value) => assert!(rt; value.as_bytes() == b"text/plain".as_slice()),
+        None => assert!(rt; false),
+    }
+    assert!(rt; map.contains_key(text) && map.contains_key(&ACCEPT));
+    assert!(rt; map.contains_key(SET_COOKIE) && !map.contains_key(HOST));
     Ok(())
 }
 
 #[test]
-fn appends_behind_the_values_of_a_name(rt: HostRuntime) -> Result<(), Fail> {
-    let map = cookies(rt.alloc())?.copy()?;
-    assert!(rt; map.len() == 3 && map.len_keys() == 2 && map.keys().len() == 2);
-    assert!(rt;
-        gives(
-            &map,
-            &[("set-cookie", ONE), ("set-cookie", TWO), ("accept", PLAIN)]
-        )
-    );
-    Ok(())
-}
-
-#[test]
-fn inserts_in_the_place_of_a_name(rt: HostRuntime) -> Result<(), Fail> {
-    let mut map = cookies(rt.alloc())?;
-    let removed = map.insert(SET_COOKIE, HeaderValue::from_static("six=6"))?;
-    assert!(rt; are(removed, &[ONE, TWO]));
-    assert!(rt;
-        map.insert(HOST, HeaderValue::from_static("duck.com"))?
-            .is_empty()
-    );
-    assert!(rt;
-        gives(
-            &map,
-            &[
-                ("set-cookie", b"six=6"),
-                ("accept", PLAIN),
-                ("host", b"duck.com")
-            ]
-        )
-    );
-    Ok(())
-}
-
-#[test]
-fn closes_up_where_a_name_is_removed(rt: HostRuntime) -> Result<(), Fail> {
-    let mut map = cookies(rt.alloc())?;
-    map.append(HOST, HeaderValue::from_static("duck.com"))?;
-    map.append(DATE, HeaderValue::from_static(""))?;
-    assert!(rt; are(map.remove("SET-cookie"), &[ONE, TWO]));
-    assert!(rt; map.remove("set-cookie").is_empty());
-    assert!(rt;
-        gives(
-            &map,
-            &[("accept", PLAIN), ("host", b"duck.com"), ("date", b"")]
-        )
-    );
-    map.clear();
-    assert!(rt; map.is_empty());
+fn names_come_once_in_the_order_of_their_insertion(rt: HostRuntime) -> Result<(), Fail> {
+    let map = map_of(rt.alloc(), &COOKIES)?;
+    let mut keys = map.keys();
+    assert!(rt; map.len_keys() == 2 && keys.len() == 2);
+    for name in ["set-cookie", "accept"] {
+        match keys.next() {
+            Some(key) => assert!(rt; key.as_str() == name),
+            None => assert!(rt; false),
+        }
+    }
+    assert!(rt; keys.next().is_none() && keys.next().is_none());
     Ok(())
 }
 
 #[test]
 fn writes_through_to_the_first_value(rt: HostRuntime) -> Result<(), Fail> {
-    let mut map = cookies(rt.alloc())?;
-    if let Some(first) = map.get_mut("Set-Cookie") {
-        *first = HeaderValue::from_static("three=3");
+    let mut map = map_of(rt.alloc(), &COOKIES)?;
+    for (name, value) in [("Set-Cookie", "three=3"), ("accept", "*/*")] {
+        let value = value_of_str(rt.alloc(), value)?;
+        match map.get_mut(name) {
+            Some(first) => *first = value,
+            None => assert!(rt; false),
+        }
     }
+    assert!(rt; map.get_mut("host").is_none());
     assert!(rt;
         gives(
             &map,
             &[
-                ("set-cookie", b"three=3"),
-                ("set-cookie", TWO),
-                ("accept", PLAIN)
+                ("set-cookie", "three=3"),
+                ("set-cookie", "two=2"),
+                ("accept", "*/*")
             ]
         )
     );
@@ -151,46 +236,56 @@ fn writes_through_to_the_first_value(rt: HostRuntime) -> Result<(), Fail> {
 }
 
 #[test]
-fn retains_values_that_pass(rt: HostRuntime) -> Result<(), Fail> {
-    let mut map = cookies(rt.alloc())?;
-    map.retain(|_name, value| value.len() == 5 && value.as_bytes()[0] == b'o');
-    assert!(rt; map.len() == 1 && gives(&map, &[("set-cookie", ONE)]));
-    Ok(())
-}
-
-#[test]
 fn drains_every_value(rt: HostRuntime) -> Result<(), Fail> {
-    let mut map = cookies(rt.alloc())?;
+    let mut map = map_of(rt.alloc(), &COOKIES)?;
     let mut drain = map.drain();
     assert!(rt; map.is_empty() && drain.len() == 3);
-    for (is_named, bytes) in [(true, ONE), (false, TWO), (true, PLAIN)] {
+    for (name, value) in [
+        (Some("set-cookie"), "one=1"),
+        (None, "two=2"),
+        (Some("accept"), "text/plain"),
+    ] {
         match drain.next() {
-            Some((name, value)) => {
-                assert!(rt; name.is_some() == is_named && value.as_bytes() == bytes);
+            Some((given, bytes)) => {
+                assert!(rt; bytes.as_bytes() == value.as_bytes());
+                match (given, name) {
+                    (Some(given), Some(name)) => assert!(rt; given.as_str() == name),
+                    (given, name) => assert!(rt; given.is_none() && name.is_none()),
+                }
             }
             None => assert!(rt; false),
         }
     }
-    assert!(rt; drain.next().is_none());
+    assert!(rt; drain.next().is_none() && drain.next().is_none());
     Ok(())
 }
 
 #[test]
 fn is_made_of_pairs_and_gives_them_back(rt: HostRuntime) -> Result<(), Fail> {
-    let mut pairs = Vec::with_capacity(rt.alloc(), 2)?;
-    pairs.push((COOKIE, HeaderValue::from_static("foo=1")))?;
-    pairs.push((COOKIE, HeaderValue::from_static("bar=1")))?;
-    let map = HeaderMap::try_from_pairs(rt.alloc(), pairs.into_iter())?;
+    let alloc = rt.alloc();
+    let lines = [
+        ("content-type", "text/plain"),
+        ("cookie", "foo=1"),
+        ("cookie", "bar=1"),
+    ];
+    let mut pairs = Vec::with_capacity(alloc, 3)?;
+    for (name, value) in lines {
+        let name = HeaderName::from_bytes(alloc, name.as_bytes())?;
+        pairs.push((name, value_of_str(alloc, value)?))?;
+    }
+    let map = HeaderMap::try_from_pairs(alloc, pairs.into_iter())?;
+    assert!(rt; map.len() == 3 && map.len_keys() == 2);
     let mut owned = map.into_iter();
-    for bytes in [b"foo=1", b"bar=1"] {
+    assert!(rt; owned.len() == 3);
+    for line in lines {
         match owned.next() {
             Some(Ok((name, value))) => {
-                assert!(rt; name.as_str() == "cookie" && value.as_bytes() == bytes.as_slice());
+                assert!(rt; name.as_str() == line.0 && value.as_bytes() == line.1.as_bytes());
             }
             _ => assert!(rt; false),
         }
     }
-    assert!(rt; owned.next().is_none());
+    assert!(rt; owned.next().is_none() && owned.next().is_none());
     Ok(())
 }
 

@@ -27,10 +27,10 @@ returns-in-Some g c =
         writes_back = tt;
         value = value;
         no_name = λ none.
-          let nothing : get c.args.self.now (g.K.AsHeaderName.name c.args.key) ≡ None =
-          rw (← c.self.view_is, ← c.as_name_bytes.ensures.lowered) (get-no_name m c.as_name_bytes.result.now c.self.invariant.entries (λ is. none (subst IsFieldName c.as_name_bytes.ensures.value is))) in
-          let found : Some c.first_mut_at.result.now ≡ None = value ∙ nothing in
-          cc;
+            let nothing : get c.args.self.now (g.K.AsHeaderName.name c.args.key) ≡ None =
+            rw (← c.self.view_is, ← c.as_name_bytes.ensures.lowered) (get-no_name m c.as_name_bytes.result.now c.self.invariant.entries (λ is. none (subst IsFieldName c.as_name_bytes.ensures.value is))) in
+            let found : Some c.first_mut_at.result.now ≡ None = value ∙ nothing in
+            cc;
       },
     )
 

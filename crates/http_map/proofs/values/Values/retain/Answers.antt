@@ -19,10 +19,10 @@ returns-clause-kept g c =
     let answers = MayAnswer ((words g.row.F g.F.Fn).post c.args.keep.now) c.args.name.now in
     elim c.match-self.branch [
       | in-One w ↦
-        rw (← c.self.view_is, w.result-is, w.self-inside-is, w.in-One.is)
-        (w.keep.result, [], record { shown_name = c.args.name; shown_value = _; is_name = refl; is_value = refl; answered = w.keep.ensures }, refl, refl)
+          rw (← c.self.view_is, w.result-is, w.self-inside-is, w.in-One.is)
+          (w.keep.result, [], record { shown_name = c.args.name; shown_value = _; is_name = refl; is_value = refl; answered = w.keep.ensures }, refl, refl)
       | in-More w ↦
-        (let counted : vec_len w.retain.new.self ≡ length w.retain.new.self.items = omega (arith, w.retain.new.self.ok.0) in
-        rw (← c.self.view_is, w.result-is, w.self-inside-is, w.in-More.is, whole w.is_empty.result w.retain.new.self.items (w.is_empty.ensures ∙ ap (λ n. n == 0) counted))
-        (KeepsValues-IsFiltered _ answers _ (λ v b f call. search rules) _ _ w.retain.ensures.filtered))
+          (let counted : vec_len w.retain.new.self ≡ length w.retain.new.self.items = omega (arith, w.retain.new.self.ok.0) in
+          rw (← c.self.view_is, w.result-is, w.self-inside-is, w.in-More.is, whole w.is_empty.result w.retain.new.self.items (w.is_empty.ensures ∙ ap (λ n. n == 0) counted))
+          (KeepsValues-IsFiltered _ answers _ (λ v b f call. search rules) _ _ w.retain.ensures.filtered))
     ]
