@@ -98,6 +98,14 @@ get_all-no_name (e ∷ m) text all none =
       | false ↦ (λ h. get_all-no_name m text (later_entries e m all) none)
     ]) refl
 
+pub remove-no_name : (m : Entries) (text : List ℕ) → All IsEntry m → (IsFieldName text → ⊥) → remove m (lowercase text) ≡ m
+remove-no_name [] text all none = refl
+remove-no_name (e ∷ m) text all none =
+    (elim (bytes_eq (lowercase text) e.0) as (λ b. bytes_eq (lowercase text) e.0 ≡ b → (if b then m else e ∷ remove m (lowercase text)) ≡ e ∷ m) [
+      | true ↦ (λ h. absurd (none (IsFieldName-from_lowercase text (rw (same_bytes (lowercase text) e.0 h) (first_entry e m all).named.0))))
+      | false ↦ (λ h. ap (λ n. e ∷ n) (remove-no_name m text (later_entries e m all) none))
+    ]) refl
+
 pub get-no_name : (m : Entries) (text : List ℕ) → All IsEntry m → (IsFieldName text → ⊥) → get m (lowercase text) ≡ None
 get-no_name m text all none = ap (λ vs. slice_get vs 0) (get_all-no_name m text all none)
 

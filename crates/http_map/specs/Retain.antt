@@ -12,7 +12,7 @@ pub record MayAnswer (answers : Bor (List ℕ) → Bor FieldValue → Bool → T
   pub is_value : shown_value.now ≡ value
   pub answered : answers shown_name shown_value answer
 
--- the closure was asked at each value, and those stay, in their order, at which it answered true
+-- each value stays or goes, in order, by an answer that the closure may give at it
 abbrev pub KeepsValues : (FieldValue → Bool → Type 0) → List FieldValue → List FieldValue → Type 0
 KeepsValues answers [] kept = kept ≡ []
 KeepsValues answers (value ∷ values) kept =

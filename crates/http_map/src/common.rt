@@ -1,4 +1,4 @@
-//! The names of headers that newer standards define.
+//! The header names that actix-http defines beside the standard ones.
 ghost use Rattle.std.specs.Prelude.{◌≡◌, codes};
 
 use http_header::HeaderName;

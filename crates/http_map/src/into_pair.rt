@@ -119,7 +119,15 @@ impl<V: TryIntoHeaderValue> TryIntoHeaderPair for (HeaderName, V) {
 
     ghost field_value = { λ p. V.field_value p.1 };
 
-    fn try_into_pair(self, alloc: Global) -> Result<(HeaderName, HeaderValue), InvalidHeaderPart> {
+    fn try_into_pair(self, alloc: Global) -> Result<(HeaderName, HeaderValue), InvalidHeaderPart>
+        ensures ok { IfOk result (λ pair. pair ≡ (lowercase (self.0), V.field_value self.1)) }
+        ensures name { IsErrOf result InvalidHeaderPart.Name ↔ ¬ (IsFieldName (self.0)) }
+        ensures value_name { IsErrOf result InvalidHeaderPart.Value → IsFieldName (self.0) }
+        ensures value { IsErrOf result InvalidHeaderPart.Value
+            → ¬ (IsFieldValue (V.field_value self.1).bytes) }
+        ensures refused { ¬ (IsFieldValue (V.field_value self.1).bytes) → IsErr result }
+        ensures named { IfErr result (λ e. e ≢ InvalidHeaderPart.Name) }
+    {
         let (name, value) = self;
         let _valid = name.as_bytes();
         pair_of(alloc, name, value)
@@ -131,7 +139,15 @@ impl<V: TryIntoHeaderValue> TryIntoHeaderPair for (&HeaderName, V) {
 
     ghost field_value = { λ p. V.field_value p.1 };
 
-    fn try_into_pair(self, alloc: Global) -> Result<(HeaderName, HeaderValue), InvalidHeaderPart> {
+    fn try_into_pair(self, alloc: Global) -> Result<(HeaderName, HeaderValue), InvalidHeaderPart>
+        ensures ok { IfOk result (λ pair. pair ≡ (lowercase (self.entry.0.now), V.field_value self.entry.1)) }
+        ensures name { IsErrOf result InvalidHeaderPart.Name ↔ ¬ (IsFieldName (self.entry.0.now)) }
+        ensures value_name { IsErrOf result InvalidHeaderPart.Value → IsFieldName (self.entry.0.now) }
+        ensures value { IsErrOf result InvalidHeaderPart.Value
+            → ¬ (IsFieldValue (V.field_value self.entry.1).bytes) }
+        ensures refused { ¬ (IsFieldValue (V.field_value self.entry.1).bytes) → IsErr result }
+        ensures named { IfErr result (λ e. e ≢ InvalidHeaderPart.Name) }
+    {
         let (name, value) = self;
         let _valid = name.as_bytes();
         pair_of(alloc, name.clone()?, value)

@@ -136,7 +136,11 @@ fn value_of_i64(alloc: Global, num: i64) -> Result<HeaderValue, ValueError>
 impl TryIntoHeaderValue for u64 {
     ghost field_value = { λ n. plain_value (decimal n) };
 
-    fn try_into_value(self, alloc: Global) -> Result<HeaderValue, ValueError> {
+    fn try_into_value(self, alloc: Global) -> Result<HeaderValue, ValueError>
+        ensures ok { IfOk result (λ v. v ≡ plain_value (decimal self)) }
+        ensures invalid { IsErrOf result ValueError.Invalid ↔ ¬ (IsFieldValue (decimal self)) }
+        ensures number { IfErr result (λ e. e ≡ ValueError.NoMemory) }
+    {
         value_of_u64(alloc, self)
     }
 }
@@ -144,7 +148,11 @@ impl TryIntoHeaderValue for u64 {
 impl TryIntoHeaderValue for usize {
     ghost field_value = { λ n. plain_value (decimal n) };
 
-    fn try_into_value(self, alloc: Global) -> Result<HeaderValue, ValueError> {
+    fn try_into_value(self, alloc: Global) -> Result<HeaderValue, ValueError>
+        ensures ok { IfOk result (λ v. v ≡ plain_value (decimal self)) }
+        ensures invalid { IsErrOf result ValueError.Invalid ↔ ¬ (IsFieldValue (decimal self)) }
+        ensures number { IfErr result (λ e. e ≡ ValueError.NoMemory) }
+    {
         value_of_u64(alloc, self as u64)
     }
 }
@@ -152,7 +160,11 @@ impl TryIntoHeaderValue for usize {
 impl TryIntoHeaderValue for u32 {
     ghost field_value = { λ n. plain_value (decimal n) };
 
-    fn try_into_value(self, alloc: Global) -> Result<HeaderValue, ValueError> {
+    fn try_into_value(self, alloc: Global) -> Result<HeaderValue, ValueError>
+        ensures ok { IfOk result (λ v. v ≡ plain_value (decimal self)) }
+        ensures invalid { IsErrOf result ValueError.Invalid ↔ ¬ (IsFieldValue (decimal self)) }
+        ensures number { IfErr result (λ e. e ≡ ValueError.NoMemory) }
+    {
         value_of_u64(alloc, u64::from(self))
     }
 }
@@ -160,7 +172,11 @@ impl TryIntoHeaderValue for u32 {
 impl TryIntoHeaderValue for i64 {
     ghost field_value = { λ n. plain_value (signed_decimal n) };
 
-    fn try_into_value(self, alloc: Global) -> Result<HeaderValue, ValueError> {
+    fn try_into_value(self, alloc: Global) -> Result<HeaderValue, ValueError>
+        ensures ok { IfOk result (λ v. v ≡ plain_value (signed_decimal self)) }
+        ensures invalid { IsErrOf result ValueError.Invalid ↔ ¬ (IsFieldValue (signed_decimal self)) }
+        ensures number { IfErr result (λ e. e ≡ ValueError.NoMemory) }
+    {
         value_of_i64(alloc, self)
     }
 }
@@ -168,7 +184,11 @@ impl TryIntoHeaderValue for i64 {
 impl TryIntoHeaderValue for i32 {
     ghost field_value = { λ n. plain_value (signed_decimal n) };
 
-    fn try_into_value(self, alloc: Global) -> Result<HeaderValue, ValueError> {
+    fn try_into_value(self, alloc: Global) -> Result<HeaderValue, ValueError>
+        ensures ok { IfOk result (λ v. v ≡ plain_value (signed_decimal self)) }
+        ensures invalid { IsErrOf result ValueError.Invalid ↔ ¬ (IsFieldValue (signed_decimal self)) }
+        ensures number { IfErr result (λ e. e ≡ ValueError.NoMemory) }
+    {
         value_of_i64(alloc, i64::from(self))
     }
 }

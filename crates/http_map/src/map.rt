@@ -1,5 +1,5 @@
 //! The map from header names to their values.
-ghost use Rattle.std.specs.Prelude.{◌≡◌, ◌<◌, ◌^◌, ◌==◌, [], false, length, option_copied, IsNone, IfOk, IsOk};
+ghost use Rattle.std.specs.Prelude.{◌≡◌, ◌<◌, ◌^◌, ◌==◌, [], false, length, is_some, option_copied, IsNone, IfOk, IsOk};
 ghost use Rattle.std.specs.Slice.Iter.{iter_rest};
 ghost use Rattle.std.specs.Iterator.Adapters.{IterYieldsInOrder};
 ghost use Rattle.http_header.specs.FieldName.{IsFieldName};
@@ -46,7 +46,7 @@ impl Model for HeaderMap {
 }
 
 impl HeaderMap {
-    /// An empty map, which takes no memory before the first insertion.
+    /// An empty map, which takes no memory.
     pub fn new(alloc: Global) -> HeaderMap
         ensures { result ≡ [] }
     {
@@ -56,7 +56,7 @@ impl HeaderMap {
         }
     }
 
-    /// An empty map with room for so many names.
+    /// An empty map that asked for room for so many names.
     pub fn with_capacity(alloc: Global, capacity: usize) -> Result<HeaderMap, NoMemory>
         ensures empty { IfOk result (λ map. map ≡ []) }
         ensures no_memory_needed { capacity ≡ 0 → IsOk result }
@@ -95,6 +95,7 @@ impl HeaderMap {
     /// Whether the map has the name.
     pub fn contains_key<K: AsHeaderName>(&self, key: K) -> bool
         ensures value { result ≡ contains_key self.now (K.name key) }
+        ensures found { result ≡ is_some (get self.now (K.name key)) }
         ensures no_name { ¬ (IsFieldName (K.text key)) → result ≡ false }
     {
         self.names.contains_key(AnyCase {
@@ -164,7 +165,7 @@ impl<'a> IntoIterator for &'a HeaderMap {
 
     type IntoIter = Iter<'a>;
 
-    ghost into_iter_gives = { λ map it. it ≡ pairs map.now };
+    ghost into_iter_gives = { λ map it. (it ≡ pairs map.now) × (length it ≡ value_count map.now) × (length it < 2 ^ 64) };
 
     fn into_iter(self) -> Iter<'a> {
         self.iter()

@@ -20,6 +20,7 @@ pub use config::{ServiceConfig, ServiceConfigBuilder, ZeroBuffer};
 pub use error::ParseError;
 pub use failed::Failed;
 pub use http::{Method, StatusCode, Version};
+pub use http_map as header;
 pub use http_map::{AsHeaderName, HeaderMap, HeaderName, HeaderValue, NoMemory};
 pub use http_uri::Uri;
 pub use keep_alive::KeepAlive;

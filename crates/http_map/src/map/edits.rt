@@ -23,7 +23,7 @@ use std::alloc::{AllocError, Global};
 use std::mem;
 
 impl HeaderMap {
-    /// Removes every name, and keeps the memory.
+    /// Removes every name.
     pub fn clear(&mut self)
         ensures { self.new ≡ [] }
     {
@@ -84,14 +84,14 @@ impl HeaderMap {
         ensures gone { get_all self.new (K.name key) ≡ [] }
         ensures others { (other : List ℕ) → other ≢ K.name key
             → get_all self.new other ≡ get_all self.old other }
-        ensures no_name { ¬ (IsFieldName (K.text key)) → result ≡ [] }
+        ensures no_name { ¬ (IsFieldName (K.text key)) → (result ≡ []) × (self.new ≡ self.old) }
     {
         let removed = remove_values(&mut self.names, key.as_name_bytes());
         self.len -= removed.len();
         removed
     }
 
-    /// Makes room for so many more names.
+    /// Asks for room for so many more names.
     pub fn reserve(&mut self, additional: usize) -> Result<(), NoMemory>
         ensures { self.new ≡ self.old }
     {
@@ -113,6 +113,8 @@ impl HeaderMap {
     /// Takes everything out. The map is empty at once.
     pub fn drain(&mut self) -> Drain
         ensures values { result ≡ drained self.old }
+        ensures count { length result ≡ value_count self.old }
+        ensures fits { length result < 2 ^ 64 }
         ensures emptied { self.new ≡ [] }
     {
         let alloc = *self.names.allocator();
@@ -123,7 +125,7 @@ impl HeaderMap {
     }
 
     /// A map of these pairs, each appended in turn.
-    pub fn try_from_pairs<I: Iterator<Item = (HeaderName, HeaderValue)> + Drop>(
+    pub fn try_from_pairs<I: Iterator<Item = (HeaderName, HeaderValue)>>(
         alloc: Global,
         pairs: I,
     ) -> Result<HeaderMap, NoMemory>
@@ -169,7 +171,7 @@ impl IntoIterator for HeaderMap {
 
     type IntoIter = IntoIter;
 
-    ghost into_iter_gives = { λ map it. it ≡ pairs map };
+    ghost into_iter_gives = { λ map it. (it ≡ pairs map) × (length it ≡ value_count map) × (length it < 2 ^ 64) };
 
     fn into_iter(self) -> IntoIter {
         let HeaderMap { names, len } = self;

@@ -89,9 +89,18 @@ fn the_name_is_tried_before_the_value(rt: HostRuntime) {
 
 #[test]
 fn errors_print_what_is_wrong(rt: HostRuntime) -> Result<(), Fail> {
-    let printed = ValueError::Invalid.to_string(rt.alloc())?;
-    assert!(rt; printed.as_str() == "invalid HTTP header value");
-    let printed = InvalidHeaderPart::Name.to_string(rt.alloc())?;
-    assert!(rt; printed.as_str() == "invalid HTTP header name");
+    for (error, text) in [
+        (ValueError::Invalid, "invalid HTTP header value"),
+        (ValueError::NoMemory, "out of memory"),
+    ] {
+        assert!(rt; error.to_string(rt.alloc())?.as_str() == text);
+    }
+    for (error, text) in [
+        (InvalidHeaderPart::Name, "invalid HTTP header name"),
+        (InvalidHeaderPart::Value, "invalid HTTP header value"),
+        (InvalidHeaderPart::NoMemory, "out of memory"),
+    ] {
+        assert!(rt; error.to_string(rt.alloc())?.as_str() == text);
+    }
     Ok(())
 }

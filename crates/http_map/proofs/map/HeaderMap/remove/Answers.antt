@@ -1,7 +1,7 @@
 use Rattle.std.proofs.Common.{◌≢◌, length, ap, subst, ◌∙◌, arith}
 use Rattle.http_header.specs.Token.{lowercase}
 use Rattle.http_header.specs.FieldName.{IsFieldName}
-use Rattle.http_map.proofs.CallerLemmas.{get_all-remove_other, get_all-no_name}
+use Rattle.http_map.proofs.CallerLemmas.{get_all-remove_other, get_all-no_name, remove-no_name}
 use Rattle.http_map.proofs.MapLemmas.{value_count-remove, entries-remove}
 use Rattle.http_map.proofs.map.HeaderMap.remove.Goals as goal
 
@@ -27,4 +27,8 @@ returns-clause-others g c other apart =
 
 pub returns-clause-no_name : goal.returns-clause-no_name
 returns-clause-no_name g c none =
-    c.remove_values-removed.ensures.removed ∙ get_all-no_name c.self.inside.names.entries c.as_name_bytes.result.now c.self.invariant.entries (λ is. none (subst IsFieldName c.as_name_bytes.ensures.value is))
+    let text = c.as_name_bytes.result.now in
+    let no_name : IsFieldName text → ⊥ = λ is. none (subst IsFieldName c.as_name_bytes.ensures.value is) in (
+      c.remove_values-removed.ensures.removed ∙ get_all-no_name c.self.inside.names.entries text c.self.invariant.entries no_name,
+      c.remove_values-removed.ensures.after ∙ remove-no_name c.self.inside.names.entries text c.self.invariant.entries no_name ∙ c.self.view_is,
+    )
