@@ -1,6 +1,6 @@
 -- What the calls of the `IndexMap` under a `HeaderMap` do to the list that a contract sees.
 use Rattle.std.proofs.Common.{◌≡◌, ℕ, ◌+◌, true, false, cond, if◌then◌else◌, List, [], ◌∷◌, ◌++◌, ◌||◌, length, bytes_eq, is_some, unwrap_or, Option, Some, None, refl, sym, ap, ◌∙◌}
-use Rattle.std.specs.Map.{values_of, lookup, set_value, remove_entry}
+use Rattle.std.specs.Map.{values_of, lookup, remove_entry}
 use Rattle.http_header.specs.FieldValue.{FieldValue}
 use Rattle.indexmap.specs.IndexMap.{insert_entry}
 use Rattle.http_map.specs.HeaderMap.{Entries, value_count, contains_key, get_all, insert, append, remove}
@@ -40,12 +40,12 @@ module _ (name : List ℕ) where
   remove-remove_entry (e ∷ m) = ap (λ n. if bytes_eq name e.0 then m else e ∷ n) (remove-remove_entry m)
 
   -- the values that a name has, put in their own place, change nothing
-  pub set_value-same : (m : Entries) (vs : List FieldValue) → lookup (bytes_eq name) m ≡ Some vs → set_value (bytes_eq name) m vs ≡ m
-  set_value-same [] vs there = refl
-  set_value-same (e ∷ m) vs there =
-      (elim (bytes_eq name e.0) as (λ b. cond b (Some e.1) (lookup (bytes_eq name) m) ≡ Some vs → cond b ((e.0, vs) ∷ m) (e ∷ set_value (bytes_eq name) m vs) ≡ e ∷ m) [
+  pub insert_entry-same : (m : Entries) (vs : List FieldValue) → lookup (bytes_eq name) m ≡ Some vs → insert_entry bytes_eq m name vs ≡ m
+  insert_entry-same [] vs there = cc
+  insert_entry-same (e ∷ m) vs there =
+      (elim (bytes_eq name e.0) as (λ b. cond b (Some e.1) (lookup (bytes_eq name) m) ≡ Some vs → (if b then (e.0, vs) ∷ m else e ∷ insert_entry bytes_eq m name vs) ≡ e ∷ m) [
         | true ↦ (λ t. let same : e.1 ≡ vs = cc in ap (λ ws. (e.0, ws) ∷ m) (sym same))
-        | false ↦ (λ t. ap (λ n. e ∷ n) (set_value-same m vs t))
+        | false ↦ (λ t. ap (λ n. e ∷ n) (insert_entry-same m vs t))
       ]) there
 
   module _ (value : FieldValue) where
@@ -54,10 +54,10 @@ module _ (name : List ℕ) where
     insert-insert_entry (e ∷ m) = ap (λ n. if bytes_eq name e.0 then (e.0, value ∷ []) ∷ m else e ∷ n) (insert-insert_entry m)
 
     -- a name that is there gets one more value
-    pub append-present : (m : Entries) (vs : List FieldValue) → lookup (bytes_eq name) m ≡ Some vs → append m name value ≡ set_value (bytes_eq name) m (vs ++ value ∷ [])
+    pub append-present : (m : Entries) (vs : List FieldValue) → lookup (bytes_eq name) m ≡ Some vs → append m name value ≡ insert_entry bytes_eq m name (vs ++ value ∷ [])
     append-present [] vs there = cc
     append-present (e ∷ m) vs there =
-        (elim (bytes_eq name e.0) as (λ b. cond b (Some e.1) (lookup (bytes_eq name) m) ≡ Some vs → (if b then (e.0, e.1 ++ value ∷ []) ∷ m else e ∷ append m name value) ≡ cond b ((e.0, vs ++ value ∷ []) ∷ m) (e ∷ set_value (bytes_eq name) m (vs ++ value ∷ []))) [
+        (elim (bytes_eq name e.0) as (λ b. cond b (Some e.1) (lookup (bytes_eq name) m) ≡ Some vs → (if b then (e.0, e.1 ++ value ∷ []) ∷ m else e ∷ append m name value) ≡ (if b then (e.0, vs ++ value ∷ []) ∷ m else e ∷ insert_entry bytes_eq m name (vs ++ value ∷ []))) [
           | true ↦ (λ t. let same : e.1 ≡ vs = cc in ap (λ ws. (e.0, ws ++ value ∷ []) ∷ m) same)
           | false ↦ (λ t. ap (λ n. e ∷ n) (append-present m vs t))
         ]) there

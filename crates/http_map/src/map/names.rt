@@ -10,6 +10,7 @@ use crate::any_case::AnyCase;
 use crate::removed::Removed;
 use crate::values::Values;
 use http_header::{HeaderName, HeaderValue};
+use indexmap::map::Entry;
 
 pub(super) fn append_value(
     names: &mut Names,
@@ -20,10 +21,10 @@ pub(super) fn append_value(
     ensures err { OnErr result (names.new.entries ≡ names.old.entries) }
 {
     let alloc = *names.allocator();
-    match names.get_mut(&key) {
-        Some(values) => values.push(alloc, value)?,
-        None => {
-            names.insert(key, Values::one(value))?;
+    match names.entry(key)? {
+        Entry::Occupied(entry) => entry.into_mut().push(alloc, value)?,
+        Entry::Vacant(entry) => {
+            entry.insert(Values::one(value));
         }
     }
     Ok(())

@@ -1,20 +1,33 @@
-use Rattle.std.proofs.Common.{◌≡◌, sym, rules}
-use Rattle.http_map.proofs.EntryLemmas.{append-present, append-absent, set_value-same}
+use Rattle.std.proofs.Common.{◌≡◌, ◌∷◌, ◌++◌, [], bytes_eq, Some, None, sym, ap, ◌∙◌, rules}
+use Rattle.std.specs.Map.{lookup}
+use Rattle.indexmap.specs.Entry.{map_with_value}
+use Rattle.http_map.specs.HeaderMap.{append}
+use Rattle.http_map.proofs.EntryLemmas.{append-present, append-absent, insert_entry-same}
 use Rattle.http_map.proofs.map.names.append_value.Goals as goal
 
-pub returns-in_err-push-in-Some-clause-err : goal.returns-in_err-push-in-Some-clause-err
-returns-in_err-push-in-Some-clause-err c =
-    let kept : (c.get_mut.follows.lender c.push.new.self).entries ≡ c.args.names.now.entries =
-    rw ((c.get_mut.follows.holds c.push.new.self).0, c.in_err-push-in-Some.ensures.err)
-    (set_value-same c.args.key c.args.names.now.entries c.in-Some.values.now (sym c.in-Some.ensures.value)) in
+pub returns-in_err-push-in-Occupied-clause-err : goal.returns-in_err-push-in-Occupied-clause-err
+returns-in_err-push-in-Occupied-clause-err c =
+    let there : lookup (bytes_eq c.args.key) c.args.names.now.entries ≡ Some c.into_mut.result.now = sym (rw c.in-Occupied.is at c.in_ok-entry.ensures.value) ∙ c.into_mut.ensures.value in
+    let written : (map_with_value c.in_ok-entry.field-0 c.push.new.self).entries ≡ c.args.names.now.entries =
+    c.in_ok-entry.ensures.update.1 c.push.new.self ∙ rw c.in_err-push-in-Occupied.ensures.err (insert_entry-same c.args.key c.args.names.now.entries c.into_mut.result.now there) in
+    let ended = rw c.in-Occupied.is at written in
+    let borrowed = rw c.in-Occupied.is at c.in_ok-entry.ensures.same_map in
     search rules
 
-pub returns-in_ok-push-in-Some-clause-ok : goal.returns-in_ok-push-in-Some-clause-ok
-returns-in_ok-push-in-Some-clause-ok c =
-    rw ((c.get_mut.follows.holds c.push.new.self).0, c.in_ok-push-in-Some.ensures.ok)
-    (sym (append-present c.args.key c.args.value c.args.names.now.entries c.in-Some.values.now (sym c.in-Some.ensures.value)))
+pub returns-in_ok-push-in-Occupied-clause-ok : goal.returns-in_ok-push-in-Occupied-clause-ok
+returns-in_ok-push-in-Occupied-clause-ok c =
+    let there : lookup (bytes_eq c.args.key) c.args.names.now.entries ≡ Some c.into_mut.result.now = sym (rw c.in-Occupied.is at c.in_ok-entry.ensures.value) ∙ c.into_mut.ensures.value in
+    let written : (map_with_value c.in_ok-entry.field-0 c.push.new.self).entries ≡ append c.args.names.now.entries c.args.key c.args.value =
+    c.in_ok-entry.ensures.update.1 c.push.new.self ∙ rw c.in_ok-push-in-Occupied.ensures.ok (sym (append-present c.args.key c.args.value c.args.names.now.entries c.into_mut.result.now there)) in
+    let ended = rw c.in-Occupied.is at written in
+    let borrowed = rw c.in-Occupied.is at c.in_ok-entry.ensures.same_map in
+    search rules
 
-pub returns-in_ok-insert-in-None-clause-ok : goal.returns-in_ok-insert-in-None-clause-ok
-returns-in_ok-insert-in-None-clause-ok c =
-    rw (c.in_ok-insert-in-None.ensures.entries, c.one.ensures, c.get_mut.follows.holds-at-none)
-    (sym (append-absent c.args.key c.args.value c.args.names.now.entries (sym c.in-None.ensures.value)))
+pub returns-in-Vacant-clause-ok : goal.returns-in-Vacant-clause-ok
+returns-in-Vacant-clause-ok c =
+    let absent : lookup (bytes_eq c.args.key) c.args.names.now.entries ≡ None = rw c.in-Vacant.is at c.in_ok-entry.ensures.found in
+    let written : (map_with_value c.in_ok-entry.field-0 c.insert.result.now).entries ≡ append c.args.names.now.entries c.args.key c.args.value =
+    c.in_ok-entry.ensures.update.1 c.insert.result.now ∙ rw (c.insert.ensures.value, c.one.ensures) (sym (append-absent c.args.key c.args.value c.args.names.now.entries absent)) in
+    let ended = rw c.in-Vacant.is at written in
+    let borrowed = rw c.in-Vacant.is at c.in_ok-entry.ensures.same_map in
+    search rules
