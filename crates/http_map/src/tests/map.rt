@@ -20,7 +20,7 @@ enum Edit {
     Insert(&'static str, &'static str),
     Append(&'static str, &'static str),
     Remove(&'static str),
-    KeepValuesWith(u8),
+    KeepValuesThatBegin(&'static str),
     Clear,
 }
 
@@ -36,7 +36,9 @@ fn edited(alloc: Global, map: &mut HeaderMap, edit: Edit) -> Result<Removed, Fai
             map.append(name, value_of_str(alloc, value)?)?;
         }
         Edit::Remove(name) => return Ok(map.remove(name)),
-        Edit::KeepValuesWith(byte) => map.retain(|_name, value| value.as_bytes().contains(&byte)),
+        Edit::KeepValuesThatBegin(text) => {
+            map.retain(|_name, value| value.as_bytes().starts_with(text.as_bytes()));
+        }
         Edit::Clear => map.clear(),
     }
     Ok(map.remove(""))
@@ -160,7 +162,11 @@ fn edits_change_a_map(rt: HostRuntime) -> Result<(), Fail> {
                 ("accept", "text/plain"),
             ],
         ),
-        (Edit::KeepValuesWith(b'1'), &[], &[("set-cookie", "one=1")]),
+        (
+            Edit::KeepValuesThatBegin("one"),
+            &[],
+            &[("set-cookie", "one=1")],
+        ),
         (Edit::Clear, &[], &[]),
     ];
     for (edit, taken, left) in rows {
@@ -236,14 +242,23 @@ fn writes_through_to_the_first_value(rt: HostRuntime) -> Result<(), Fail> {
 }
 
 #[test]
-fn drains_every_value(rt: HostRuntime) -> Result<(), Fail> {
-    let mut map = map_of(rt.alloc(), &COOKIES)?;
+fn is_filled_and_drained(rt: HostRuntime) -> Result<(), Fail> {
+    let mut map = HeaderMap::new(rt.alloc());
+    for edit in [
+        Edit::Insert("set-cookie", "one=1"),
+        Edit::Append("set-cookie", "two=2"),
+        Edit::Insert("accept", "text/plain"),
+    ] {
+        assert!(rt; edited(rt.alloc(), &mut map, edit)?.is_empty());
+    }
+    let replaced = edited(rt.alloc(), &mut map, Edit::Insert("accept", "text/csv"))?;
+    assert!(rt; are(replaced, &["text/plain"]) && map.len() == 3);
     let mut drain = map.drain();
     assert!(rt; map.is_empty() && drain.len() == 3);
     for (name, value) in [
         (Some("set-cookie"), "one=1"),
         (None, "two=2"),
-        (Some("accept"), "text/plain"),
+        (Some("accept"), "text/csv"),
     ] {
         match drain.next() {
             Some((given, bytes)) => {
