@@ -5,7 +5,7 @@ use Rattle.http_header.proofs.TokenLemmas.{IsFieldName-from_lowercase}
 use Rattle.http_header.specs.Token.{lowercase}
 use Rattle.http_header.specs.FieldName.{IsFieldName}
 use Rattle.http_header.specs.FieldValue.{FieldValue}
-use Rattle.http_map.specs.HeaderMap.{Entry, Entries, IsEntry, keys, contains_key, get, get_all, insert, append, remove}
+use Rattle.http_map.specs.HeaderMap.{Entry, Entries, IsEntry, contains_key, get, get_all, insert, append, remove}
 use Rattle.http_map.proofs.MapLemmas.{first_entry, later_entries}
 
 pub same_bytes : (a b : List ℕ) → bytes_eq a b ≡ true → a ≡ b

@@ -1,5 +1,5 @@
 -- A write to the first value of a name.
-use Rattle.std.proofs.Common.{◌≡◌, ℕ, zero, suc, ◌+◌, ◌<◌, true, false, List, [], ◌∷◌, length, All, drop, get_or, set, bytes_eq, slice_get, Some, refl, sym, ap, ◌∙◌, arith, length-drop}
+use Rattle.std.proofs.Common.{◌≡◌, ℕ, zero, suc, ◌+◌, ◌<◌, true, false, List, [], ◌∷◌, length, All, drop, get_or, bytes_eq, slice_get, Some, refl, sym, ap, ◌∙◌, arith, length-drop}
 use Rattle.std.specs.Map.{values_of}
 use Rattle.indexmap.specs.Layout.{set_value_at}
 use Rattle.http_header.specs.FieldValue.{FieldValue}

@@ -1,6 +1,6 @@
 -- What a contract sees of a `HeaderMap`: its names in the order of their first insertion, each with the list of its values.
 -- A name is written in lower case, as a `HeaderName` holds it.
-use Rattle.std.specs.Prelude.{◌≡◌, ℕ, ◌+◌, ◌<◌, ◌^◌, Bool, List, [], ◌∷◌, ◌++◌, map, filter, fold, drop, length, flat_map, bytes_eq, slice_get, All, Option, if◌then◌else◌}
+use Rattle.std.specs.Prelude.{ℕ, ◌+◌, ◌<◌, ◌^◌, Bool, List, [], ◌∷◌, ◌++◌, map, filter, fold, drop, length, flat_map, bytes_eq, slice_get, All, Option, if◌then◌else◌}
 use Rattle.std.specs.List.{list_any, IsDistinct}
 use Rattle.http_header.specs.FieldName.{IsHeaderName}
 use Rattle.http_header.specs.FieldValue.{FieldValue}

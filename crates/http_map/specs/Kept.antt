@@ -1,5 +1,5 @@
 -- Where the values of one name stand: a single one by itself, more in a vector.
-use Rattle.std.specs.Prelude.{ℕ, List, [], ◌∷◌}
+use Rattle.std.specs.Prelude.{List, [], ◌∷◌}
 use Rattle.std.specs.Borrow.{Lends, Fml, MutBor}
 use Rattle.std.specs.Vec as vec
 use Rattle.http_header.specs.FieldValue.{FieldValue}

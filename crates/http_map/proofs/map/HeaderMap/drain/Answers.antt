@@ -1,5 +1,4 @@
 use Rattle.std.proofs.Common.{◌≡◌, ap, ◌∙◌}
-use Rattle.http_map.specs.HeaderMap.{Entries}
 use Rattle.http_map.proofs.OwnedLemmas.{length-drained}
 use Rattle.http_map.proofs.map.HeaderMap.drain.Goals as goal
 

@@ -1,6 +1,5 @@
-use Rattle.std.proofs.Common.{◌≤◌, arith}
-use Rattle.http_map.specs.HeaderMap.{value_count}
-use Rattle.http_map.specs.Retain.{MayAnswer, Retains}
+use Rattle.std.proofs.Common.{arith}
+use Rattle.http_map.specs.Retain.{MayAnswer}
 use Rattle.http_map.specs.contracts.map.HeaderMap.retain.F-Fn.{words}
 use Rattle.http_map.proofs.RetainLemmas.{value_count-Retains, entries-Retains, retain-Retains}
 use Rattle.http_map.proofs.map.HeaderMap.retain.Goals as goal

@@ -1,4 +1,4 @@
-use Rattle.std.proofs.Common.{◌≡◌, ◌∷◌, ◌++◌, [], bytes_eq, Some, None, sym, ap, ◌∙◌, rules}
+use Rattle.std.proofs.Common.{◌≡◌, bytes_eq, Some, None, sym, ◌∙◌, rules}
 use Rattle.std.specs.Map.{lookup}
 use Rattle.indexmap.specs.Entry.{map_with_value}
 use Rattle.http_map.specs.HeaderMap.{append}
