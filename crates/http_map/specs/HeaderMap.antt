@@ -1,6 +1,6 @@
 -- What a contract sees of a `HeaderMap`: its names in the order of their first insertion, each with the list of its values.
 -- A name is written in lower case, as a `HeaderName` holds it.
-use Rattle.std.specs.Prelude.{ℕ, ◌+◌, ◌<◌, ◌^◌, Bool, List, [], ◌∷◌, ◌++◌, map, filter, fold, drop, length, flat_map, bytes_eq, slice_get, All, Option, if◌then◌else◌}
+use Rattle.std.specs.Prelude.{◌≡◌, ℕ, ◌+◌, ◌<◌, ◌^◌, Bool, List, [], ◌∷◌, ◌++◌, map, filter, fold, drop, length, flat_map, bytes_eq, slice_get, All, Option, if◌then◌else◌}
 use Rattle.std.specs.List.{list_any, IsDistinct}
 use Rattle.http_header.specs.FieldName.{IsHeaderName}
 use Rattle.http_header.specs.FieldValue.{FieldValue}
@@ -80,6 +80,10 @@ entry_pairs e = map (λ value. (e.0, value)) e.1
 -- every name with every value, name by name
 abbrev pub pairs : Entries → List Pair
 pairs m = flat_map entry_pairs m
+
+-- what an iterator has left that gives every pair: as many as there are values
+abbrev pub GivesPairs : Entries → List Pair → Type 0
+GivesPairs m left = (left ≡ pairs m) × (length left ≡ value_count m) × (length left < 2 ^ 64)
 
 -- a header name in lower case, with at least one value
 pub record IsEntry (e : Entry) : Type 0 where

@@ -120,9 +120,9 @@ impl<V: TryIntoHeaderValue> TryIntoHeaderPair for (HeaderName, V) {
     ghost field_value = { λ p. V.field_value p.1 };
 
     fn try_into_pair(self, alloc: Global) -> Result<(HeaderName, HeaderValue), InvalidHeaderPart>
-        ensures ok { IfOk result (λ pair. pair ≡ (lowercase (self.0), V.field_value self.1)) }
-        ensures name { IsErrOf result InvalidHeaderPart.Name ↔ ¬ (IsFieldName (self.0)) }
-        ensures value_name { IsErrOf result InvalidHeaderPart.Value → IsFieldName (self.0) }
+        ensures ok { IfOk result (λ pair. pair ≡ (lowercase self.0, V.field_value self.1)) }
+        ensures name { IsErrOf result InvalidHeaderPart.Name ↔ ¬ (IsFieldName self.0) }
+        ensures value_name { IsErrOf result InvalidHeaderPart.Value → IsFieldName self.0 }
         ensures value { IsErrOf result InvalidHeaderPart.Value
             → ¬ (IsFieldValue (V.field_value self.1).bytes) }
         ensures refused { ¬ (IsFieldValue (V.field_value self.1).bytes) → IsErr result }
@@ -140,9 +140,10 @@ impl<V: TryIntoHeaderValue> TryIntoHeaderPair for (&HeaderName, V) {
     ghost field_value = { λ p. V.field_value p.1 };
 
     fn try_into_pair(self, alloc: Global) -> Result<(HeaderName, HeaderValue), InvalidHeaderPart>
-        ensures ok { IfOk result (λ pair. pair ≡ (lowercase (self.entry.0.now), V.field_value self.entry.1)) }
-        ensures name { IsErrOf result InvalidHeaderPart.Name ↔ ¬ (IsFieldName (self.entry.0.now)) }
-        ensures value_name { IsErrOf result InvalidHeaderPart.Value → IsFieldName (self.entry.0.now) }
+        ensures ok { IfOk result (λ pair. pair
+            ≡ (lowercase self.entry.0.now, V.field_value self.entry.1)) }
+        ensures name { IsErrOf result InvalidHeaderPart.Name ↔ ¬ (IsFieldName self.entry.0.now) }
+        ensures value_name { IsErrOf result InvalidHeaderPart.Value → IsFieldName self.entry.0.now }
         ensures value { IsErrOf result InvalidHeaderPart.Value
             → ¬ (IsFieldValue (V.field_value self.entry.1).bytes) }
         ensures refused { ¬ (IsFieldValue (V.field_value self.entry.1).bytes) → IsErr result }

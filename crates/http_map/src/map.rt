@@ -4,7 +4,7 @@ ghost use Rattle.std.specs.Slice.Iter.{iter_rest};
 ghost use Rattle.std.specs.Iterator.Adapters.{IterYieldsInOrder};
 ghost use Rattle.http_header.specs.FieldName.{IsFieldName};
 ghost use Rattle.http_header.specs.FieldValue.{FieldValue};
-ghost use Rattle.http_map.specs.HeaderMap.{keys, value_count, contains_key, get, get_all, pairs, IsHeaderMap};
+ghost use Rattle.http_map.specs.HeaderMap.{keys, value_count, contains_key, get, get_all, pairs, GivesPairs, IsHeaderMap};
 
 mod edits;
 mod names;
@@ -165,7 +165,7 @@ impl<'a> IntoIterator for &'a HeaderMap {
 
     type IntoIter = Iter<'a>;
 
-    ghost into_iter_gives = { λ map it. (it ≡ pairs map.now) × (length it ≡ value_count map.now) × (length it < 2 ^ 64) };
+    ghost into_iter_gives = { λ map it. GivesPairs map.now it };
 
     fn into_iter(self) -> Iter<'a> {
         self.iter()

@@ -5,7 +5,7 @@ ghost use Rattle.std.specs.Iterator.{IsFinite, Drains};
 ghost use Rattle.std.specs.Option.{option_copied_mut};
 ghost use Rattle.http_header.specs.FieldName.{IsFieldName};
 ghost use Rattle.http_header.specs.FieldValue.{FieldValue};
-ghost use Rattle.http_map.specs.HeaderMap.{Pair, contains_key, get, get_all, insert, append, append_all, remove, retain, pairs, value_count};
+ghost use Rattle.http_map.specs.HeaderMap.{Pair, contains_key, get, get_all, insert, append, append_all, remove, retain, GivesPairs, value_count};
 ghost use Rattle.http_map.specs.Lends.{lends_first, lends_first_at, values_at};
 ghost use Rattle.http_map.specs.Owned.{drained};
 ghost use Rattle.http_map.specs.Retain.{MayAnswer, Retains, Computes};
@@ -171,7 +171,7 @@ impl IntoIterator for HeaderMap {
 
     type IntoIter = IntoIter;
 
-    ghost into_iter_gives = { λ map it. (it ≡ pairs map) × (length it ≡ value_count map) × (length it < 2 ^ 64) };
+    ghost into_iter_gives = { λ map it. GivesPairs map it };
 
     fn into_iter(self) -> IntoIter {
         let HeaderMap { names, len } = self;

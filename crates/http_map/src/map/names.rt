@@ -12,6 +12,7 @@ use crate::values::Values;
 use http_header::{HeaderName, HeaderValue};
 use indexmap::map::Entry;
 
+// Adds the value after those of the name, which is looked up once.
 pub(super) fn append_value(
     names: &mut Names,
     key: HeaderName,
@@ -40,7 +41,7 @@ fn removed(found: Option<Values>) -> Removed
     }
 }
 
-// Gives the values that the name had.
+// Puts the value in place of those of the name, and gives them.
 pub(super) fn insert_value(
     names: &mut Names,
     name: HeaderName,
@@ -54,7 +55,7 @@ pub(super) fn insert_value(
     Ok(removed(names.insert(name, Values::one(value))?))
 }
 
-// Gives the values that the name had.
+// Takes the name out, and gives the values that it had.
 pub(super) fn remove_values(names: &mut Names, bytes: &[u8]) -> Removed
     ensures removed { result ≡ get_all names.old.entries (lowercase bytes.now) }
     ensures after { names.new.entries ≡ remove names.old.entries (lowercase bytes.now) }
@@ -75,6 +76,7 @@ pub(super) fn count_values(names: &Names) -> usize
     count
 }
 
+// Keeps the values for which `keep` answers true, and the names that have such a value.
 pub(super) fn retain_names<F: Fn(&HeaderName, &HeaderValue) -> bool>(names: &mut Names, keep: &F)
     requires { F.IsAlwaysCallable keep.now }
     ensures { Retains (MayAnswer (F.post keep.now)) names.old.entries names.new.entries }
