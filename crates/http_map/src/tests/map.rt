@@ -8,12 +8,16 @@ use crate::{
 use std::alloc::Global;
 use std::test::Fail;
 
+type Line = (&'static str, &'static str);
+
+const ONE: Line = ("set-cookie", "one=1");
+
+const TWO: Line = ("set-cookie", "two=2");
+
+const PLAIN: Line = ("accept", "text/plain");
+
 // Two cookies, with a line of another name between them.
-const COOKIES: [(&str, &str); 3] = [
-    ("set-cookie", "one=1"),
-    ("accept", "text/plain"),
-    ("set-cookie", "two=2"),
-];
+const COOKIES: [Line; 3] = [ONE, PLAIN, TWO];
 
 #[derive(Clone, Copy)]
 enum Edit {
@@ -98,75 +102,36 @@ fn finds(map: &HeaderMap, name: &str, values: &[&str]) -> bool {
 #[test]
 fn edits_change_a_map(rt: HostRuntime) -> Result<(), Fail> {
     // The edit, the values that it takes out, and what is left behind it of the cookies.
-    let rows: [(Edit, &[&str], &[(&str, &str)]); 10] = [
+    let rows: [(Edit, &[&str], &[Line]); 10] = [
         (
             Edit::Append("Set-Cookie", "three=3"),
             &[],
-            &[
-                ("set-cookie", "one=1"),
-                ("set-cookie", "two=2"),
-                ("set-cookie", "three=3"),
-                ("accept", "text/plain"),
-            ],
+            &[ONE, TWO, ("set-cookie", "three=3"), PLAIN],
         ),
         (
             Edit::Append("host", "duck.com"),
             &[],
-            &[
-                ("set-cookie", "one=1"),
-                ("set-cookie", "two=2"),
-                ("accept", "text/plain"),
-                ("host", "duck.com"),
-            ],
+            &[ONE, TWO, PLAIN, ("host", "duck.com")],
         ),
         (
             Edit::Insert("accept", "text/csv"),
             &["text/plain"],
-            &[
-                ("set-cookie", "one=1"),
-                ("set-cookie", "two=2"),
-                ("accept", "text/csv"),
-            ],
+            &[ONE, TWO, ("accept", "text/csv")],
         ),
         (
             Edit::Insert("set-cookie", "six=6"),
             &["one=1", "two=2"],
-            &[("set-cookie", "six=6"), ("accept", "text/plain")],
+            &[("set-cookie", "six=6"), PLAIN],
         ),
         (
             Edit::Insert("date", ""),
             &[],
-            &[
-                ("set-cookie", "one=1"),
-                ("set-cookie", "two=2"),
-                ("accept", "text/plain"),
-                ("date", ""),
-            ],
+            &[ONE, TWO, PLAIN, ("date", "")],
         ),
-        (
-            Edit::Remove("SET-cookie"),
-            &["one=1", "two=2"],
-            &[("accept", "text/plain")],
-        ),
-        (
-            Edit::Remove("accept"),
-            &["text/plain"],
-            &[("set-cookie", "one=1"), ("set-cookie", "two=2")],
-        ),
-        (
-            Edit::Remove("INVALID HEADER NAME"),
-            &[],
-            &[
-                ("set-cookie", "one=1"),
-                ("set-cookie", "two=2"),
-                ("accept", "text/plain"),
-            ],
-        ),
-        (
-            Edit::KeepValuesThatBegin("one"),
-            &[],
-            &[("set-cookie", "one=1")],
-        ),
+        (Edit::Remove("SET-cookie"), &["one=1", "two=2"], &[PLAIN]),
+        (Edit::Remove("accept"), &["text/plain"], &[ONE, TWO]),
+        (Edit::Remove("INVALID HEADER NAME"), &[], &[ONE, TWO, PLAIN]),
+        (Edit::KeepValuesThatBegin("one"), &[], &[ONE]),
         (Edit::Clear, &[], &[]),
     ];
     for (edit, taken, left) in rows {
