@@ -4,14 +4,15 @@ use Rattle.std.proofs.lemmas.Bool.{cond-true, cond-false, cases_lt, le-leb, lt-l
 use Rattle.std.proofs.lemmas.List.{drop-append-le, map-append}
 use Rattle.h1_model.specs.Frame.{ProtocolError}
 use Rattle.h1_model.specs.FrameText.{PlacedFrame, ReadsFrames}
-use Rattle.h1_model.specs.ChunkedText.{Chunked, whole, unfinished, not_chunked, Run, IsChunked}
+use Rattle.h1_chunks.specs.Chunked.{Chunked, whole, unfinished, not_chunked, IsChunked}
+use Rattle.h1_chunks.specs.Runs.{Run}
 use Rattle.h1_model.specs.Request.{BodyKind, no_body, fixed_body, chunked_body, raw_body, Reading, too_large, malformed, head_is}
 use Rattle.h1_model.specs.Parse.{connection_reader, Body, no_content, content, frames, Stop, ended_at, still_open, run_between, open_or_cut, fixed_content, shifted, chunked_stop, IsBodyOf, IsBodyAfter}
 use Rattle.h1_model.specs.Handed.{Begins, run_bytes, body_bytes, body_frames}
-use Rattle.h1_model.specs.Growth.{BodyGrows}
+use Rattle.h1_model.specs.Laws.Growth.{BodyGrows}
 use Rattle.h1_model.proofs.HeadPieceLemmas.{slice_range-append}
 use Rattle.h1_model.proofs.FrameLemmas.{frames_unique, frames_begin, frames_broken}
-use Rattle.h1_model.proofs.ChunkLaws.{chunked_unique, whole_stays, broken_stays, runs_grow}
+use Rattle.h1_model.proofs.ChunkStubs.{chunked_unique, whole_stays, broken_stays, runs_grow}
 use Rattle.h1_model.proofs.RunLemmas.{begins_same, slice_longer, chunked_ordered, runs_more, cut_begins, run_bytes_shifted, run_bytes_between}
 use Rattle.h1_model.proofs.BodyLemmas.{input}
 

@@ -2,7 +2,7 @@
 use Rattle.std.proofs.Common.{◌≡◌, ℕ, Bool, true, false, List, drop, sym, ◌∙◌}
 use Rattle.h1_model.specs.Request.{BodyKind, no_body, fixed_body, chunked_body, raw_body, Reading, too_large, malformed, head_is}
 use Rattle.h1_model.specs.Parse.{Input, connection_reader, Body, content, frames, shifted, chunked_stop, IsBodyOf, IsBodyAfter}
-use Rattle.h1_model.proofs.ChunkLaws.{chunked_unique}
+use Rattle.h1_model.proofs.ChunkStubs.{chunked_unique}
 use Rattle.h1_model.proofs.FrameLemmas.{frames_unique}
 
 -- the input with these parts

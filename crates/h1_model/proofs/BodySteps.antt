@@ -5,12 +5,13 @@ use Rattle.std.proofs.lemmas.Bool.{cases_lt, false≢true}
 use Rattle.std.proofs.lemmas.List.{drop-append-le, take-append-le, take-take, length-take-le}
 use Rattle.h1_model.specs.Frame.{ProtocolError}
 use Rattle.h1_model.specs.FrameText.{Reader, PlacedFrame, ReadsFrames, is_under_way}
-use Rattle.h1_model.specs.ChunkedText.{Chunked, whole, unfinished, not_chunked, Run, cut_runs, SpellsBody, IsChunked}
+use Rattle.h1_chunks.specs.Chunked.{Chunked, whole, unfinished, not_chunked, Spells, IsChunked}
+use Rattle.h1_chunks.specs.Runs.{Run, cut_runs}
 use Rattle.h1_model.specs.Request.{BodyKind, no_body, fixed_body, chunked_body, raw_body, Head, Reading, too_large, malformed, head_is}
 use Rattle.h1_model.specs.Parse.{Input, Body, no_content, content, frames, Stop, ended_at, still_open, broken, next_start, runs_of, frames_of, connection_reader, run_between, open_or_cut, fixed_content, shifted, chunked_stop, IsBodyOf, IsBodyAfter}
 use Rattle.h1_model.specs.Past.{has_chunks}
 use Rattle.h1_model.proofs.FrameLemmas.{frames_begin, whole_fits}
-use Rattle.h1_model.proofs.ChunkLaws.{chunked_unique, whole_stays, broken_stays, runs_grow}
+use Rattle.h1_model.proofs.ChunkStubs.{chunked_unique, whole_stays, broken_stays, runs_grow}
 use Rattle.h1_model.proofs.RunLemmas.{IsOrdered, chunked_ordered, cut_nil, ordered_wider}
 use Rattle.h1_model.proofs.BodyLemmas.{input}
 use Rattle.h1_model.proofs.BodyGrowth.{fixed_whole, fixed_part}

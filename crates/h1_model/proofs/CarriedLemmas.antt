@@ -5,7 +5,7 @@ use Rattle.std.proofs.lemmas.Option.{none-some, same_Some, slice_get_within}
 use Rattle.std.proofs.lemmas.Bool.{cond-true, cond-false, cases_Bool}
 use Rattle.h1_model.specs.Parse.{Message, Body, next_start}
 use Rattle.h1_model.specs.Sums.{taken, head_of, is_complete}
-use Rattle.h1_model.specs.Past.{Moment, steps, parse_of, head_count, current, pulled_to, message_passed, passed}
+use Rattle.h1_model.specs.Past.{ParsedStep, steps, parse_of, head_count, current, pulled_to, message_passed, passed}
 use Rattle.h1_model.proofs.PlaceLemmas.{get_before}
 use Rattle.h1_model.proofs.StepLemmas.{head_count-more, complete_stays}
 use Rattle.h1_model.proofs.TraceGrowth.{current_at, current_none}
@@ -14,10 +14,10 @@ use Rattle.h1_model.proofs.PulledLemmas.{Holds}
 -- ---- what is passed of the current message
 
 -- where no head was handed out nothing is passed
-pub passed_none : (past : List Moment) → current past ≡ None → passed past ≡ 0
+pub passed_none : (past : List ParsedStep) → current past ≡ None → passed past ≡ 0
 passed_none past e = rw e refl
 
-pub passed_some : (past : List Moment) (m : Message) → current past ≡ Some m → passed past ≡ message_passed past m
+pub passed_some : (past : List ParsedStep) (m : Message) → current past ≡ Some m → passed past ≡ message_passed past m
 passed_some past m e = rw e refl
 
 -- the end of the body, or else of the bytes
@@ -25,11 +25,11 @@ abbrev pub end_of : ℕ → Body → ℕ
 end_of len b = unwrap_or (next_start b) len
 
 -- what is passed of a message
-pub passed_complete : (past : List Moment) (m : Message) → is_complete (steps past) ≡ true
+pub passed_complete : (past : List ParsedStep) (m : Message) → is_complete (steps past) ≡ true
     → message_passed past m ≡ end_of (length (taken (steps past))) m.body
 passed_complete past m e = cond-true (is_complete (steps past)) _ _ e
 
-pub passed_pulled : (past : List Moment) (m : Message) → is_complete (steps past) ≡ false → message_passed past m ≡ pulled_to m (steps past)
+pub passed_pulled : (past : List ParsedStep) (m : Message) → is_complete (steps past) ≡ false → message_passed past m ≡ pulled_to m (steps past)
 passed_pulled past m e = cond-false (is_complete (steps past)) _ _ e
 
 -- a number that is at most the end, by whether the body has one
@@ -45,18 +45,18 @@ end_below len place (Some next) within ended = ended next refl
 -- ---- from one past to the next
 
 -- A head was handed out for each message up to the current one, of which the facts hold.
-pub record Sound (past : List Moment) : Type 0 where
+pub record Sound (past : List ParsedStep) : Type 0 where
   pub count : head_count (steps past) ≤ length (parse_of past)
   pub holds : (m : Message) → current past ≡ Some m → Holds (length (taken (steps past))) m (steps past)
 
 -- The current message behind a step stands for the one before it, and no less of it is passed.
-pub record Advance (before : List Moment) (x : Moment) (m n : Message) : Type 0 where
+pub record Advance (before : List ParsedStep) (x : ParsedStep) (m n : Message) : Type 0 where
   pub holds : Holds (length (taken (x.step ∷ steps before))) n (x.step ∷ steps before)
   pub pulled : pulled_to m (steps before) ≤ pulled_to n (x.step ∷ steps before)
   pub ended : is_complete (steps before) ≡ true → end_of (length (taken (steps before))) m.body ≤ end_of (length (taken (x.step ∷ steps before))) n.body
 
 -- what is passed of a message that advances
-advance_passed : (before : List Moment) (x : Moment) (m n : Message) → head_of x.step.outcome ≡ None → Advance before x m n
+advance_passed : (before : List ParsedStep) (x : ParsedStep) (m n : Message) → head_of x.step.outcome ≡ None → Advance before x m n
     → message_passed before m ≤ message_passed (x ∷ before) n
 advance_passed before x m n none a =
     elim (cases_Bool (is_complete (steps before))) [
@@ -73,11 +73,11 @@ advance_passed before x m n none a =
     ]
 
 -- what a step is shown to do
-abbrev pub Result : List Moment → Moment → Type 0
+abbrev pub Result : List ParsedStep → ParsedStep → Type 0
 Result before x = Sound (x ∷ before) × (passed before ≤ passed (x ∷ before))
 
 -- a step that hands out no head, by how it carries the current message
-pub carry : (before : List Moment) (x : Moment) (count : ℕ) → head_count (steps before) ≡ count → head_of x.step.outcome ≡ None → Sound before
+pub carry : (before : List ParsedStep) (x : ParsedStep) (count : ℕ) → head_count (steps before) ≡ count → head_of x.step.outcome ≡ None → Sound before
     → ((k : ℕ) (m : Message) → slice_get (parse_of before) k ≡ Some m → current before ≡ Some m → (n : Message) × (slice_get x.parse k ≡ Some n) × Advance before x m n)
     → Result before x
 carry before x zero e none s f =

@@ -12,7 +12,7 @@ use Rattle.h1_model.specs.Event.{Outcome, Fault}
 use Rattle.h1_model.specs.Event as on
 use Rattle.h1_model.specs.Sums.{Step, step_taken, taken, is_eof, is_pull, is_accepted, head_of, completes, is_complete, is_open, request}
 use Rattle.h1_model.specs.Handed.{Handed, newly_handed, fault_reading, handing, marking_answered, handed_out, IsPrefixOf}
-use Rattle.h1_model.specs.Past.{Moment, steps, input_of, parse_of, head_count, current, upcoming, held}
+use Rattle.h1_model.specs.Past.{ParsedStep, steps, input_of, parse_of, head_count, current, upcoming, held}
 use Rattle.h1_model.specs.Closing.{told_end, fault_end}
 use Rattle.h1_model.specs.OutcomeTable.{head_outcome, upcoming_outcome}
 use Rattle.h1_model.proofs.StepLemmas.{head_count-more, head_count-head, given_bytes-head, given_frames-head, complete-head, same_input, same_parse}
@@ -36,7 +36,7 @@ come_input : (s : Step) (before : List Step) → s.event ≡ on.next → input_o
 come_input s before event = same_input s before (ap (λ e. step_taken e s.outcome) event) (ap is_eof event) (ap (λ e. is_accepted e s.outcome) event)
 
 -- Behind a step: Next was asked for, and what was handed out by then are messages that have ended.
-record Behind (x : Moment) (before : List Moment) (handed : List Handed) : Type 0 where
+record Behind (x : ParsedStep) (before : List ParsedStep) (handed : List Handed) : Type 0 where
   new : IsParse (input_of (x.step ∷ steps before)) x.parse
   old : IsParse (input_of (steps before)) (parse_of before)
   event : x.step.event ≡ on.next
@@ -45,7 +45,7 @@ record Behind (x : Moment) (before : List Moment) (handed : List Handed) : Type 
   count : head_count (steps before) ≡ length handed
 
 -- a fault behind them
-fault_sound : (x : Moment) (before : List Moment) (handed : List Handed) (f : Fault) → Behind x before handed → x.step.outcome ≡ on.fault f
+fault_sound : (x : ParsedStep) (before : List ParsedStep) (handed : List Handed) (f : Fault) → Behind x before handed → x.step.outcome ≡ on.fault f
     → IsPrefixOf (taken (steps before)) (reverse handed ++ newly_handed (fault_reading f) ∷ []) (parse_of before) → Sound (x ∷ before)
 fault_sound x before handed f b outcome prefix =
     let s = x.step in
@@ -59,7 +59,7 @@ fault_sound x before handed f b outcome prefix =
     (told-here s (steps before) (fault_end f) (ap told_end outcome))
 
 -- a head behind them
-head_sound : (x : Moment) (before : List Moment) (handed : List Handed) (h : Head) (n : Message) → Behind x before handed → x.step.outcome ≡ on.head h
+head_sound : (x : ParsedStep) (before : List ParsedStep) (handed : List Handed) (h : Head) (n : Message) → Behind x before handed → x.step.outcome ≡ on.head h
     → slice_get (parse_of before) (length handed) ≡ Some n → n.reading ≡ head_is h → Sound (x ∷ before)
 head_sound x before handed h n b outcome there reading =
     let s = x.step in
@@ -84,7 +84,7 @@ head_sound x before handed h n b outcome there reading =
     (subst₂ (λ (i : Input) ms. Running i.bytes ms (s ∷ steps before) (newly_handed (head_is h)) handed) (sym same) (sym parse) now)
 
 -- the next message, by its reading
-message_sound : (x : Moment) (before : List Moment) (handed : List Handed) (n : Message) (r : Reading) → Behind x before handed
+message_sound : (x : ParsedStep) (before : List ParsedStep) (handed : List Handed) (n : Message) (r : Reading) → Behind x before handed
     → x.step.outcome ≡ head_outcome r → slice_get (parse_of before) (length handed) ≡ Some n → n.reading ≡ r → Sound (x ∷ before)
 message_sound x before handed n (head_is h) b outcome there reading = head_sound x before handed h n b outcome there reading
 message_sound x before handed n malformed b outcome there reading =
@@ -101,7 +101,7 @@ message_sound x before handed n too_large b outcome there reading =
 -- ---- where no message is to come
 
 -- so many bytes are held of which none begins a whole head
-over_sound : (x : Moment) (before : List Moment) (handed : List Handed) (end : ℕ) → Behind x before handed → x.step.outcome ≡ on.fault on.too_large
+over_sound : (x : ParsedStep) (before : List ParsedStep) (handed : List Handed) (end : ℕ) → Behind x before handed → x.step.outcome ≡ on.fault on.too_large
     → length handed ≡ length (parse_of before) → end_of 0 (parse_of before) ≡ end → length (taken (steps before)) - end ≡ MAX_HELD
     → HasNoHeadPiece (drop end (taken (steps before))) → Sound (x ∷ before)
 over_sound x before handed end b outcome count behind many none =
@@ -113,16 +113,16 @@ over_sound x before handed end b outcome count behind many none =
     (subst HasNoHeadPiece (sym all) none))
 
 -- what is held behind a message whose answer is complete
-held_done : (past : List Moment) (m : Message) → current past ≡ Some m → is_complete (steps past) ≡ true
+held_done : (past : List ParsedStep) (m : Message) → current past ≡ Some m → is_complete (steps past) ≡ true
     → held past ≡ length (taken (steps past)) - unwrap_or (next_start m.body) (length (taken (steps past)))
 held_done past m e complete = rw (e, complete) refl
 
 -- and before the first message
-held_first : (past : List Moment) → current past ≡ None → held past ≡ length (taken (steps past)) - 0
+held_first : (past : List ParsedStep) → current past ≡ None → held past ≡ length (taken (steps past)) - 0
 held_first past e = rw e refl
 
 -- where nothing was handed out
-first_over : (x : Moment) (before : List Moment) → Behind x before [] → x.step.outcome ≡ on.fault on.too_large
+first_over : (x : ParsedStep) (before : List ParsedStep) → Behind x before [] → x.step.outcome ≡ on.fault on.too_large
     → slice_get (parse_of before) 0 ≡ None → held before ≡ MAX_HELD → Sound (x ∷ before)
 first_over x before b outcome none full =
     let text = taken (steps before) in
@@ -133,7 +133,7 @@ first_over x before b outcome none full =
 -- ---- Next, before the first message
 
 -- a step that tells that nothing has come
-pending_step : (x : Moment) → x.step.event ≡ on.next → x.step.outcome ≡ on.pending → Other x.step
+pending_step : (x : ParsedStep) → x.step.event ≡ on.next → x.step.outcome ≡ on.pending → Other x.step
 pending_step x event outcome =
     let s = x.step in
     record {
@@ -145,7 +145,7 @@ pending_step x event outcome =
     }
 
 -- by what is held, where no message is to come
-waits : (x : Moment) (before : List Moment) → x.step.outcome ≡ upcoming_outcome before None → (x.step.outcome ≡ on.fault on.too_large → held before ≡ MAX_HELD → Sound (x ∷ before))
+waits : (x : ParsedStep) (before : List ParsedStep) → x.step.outcome ≡ upcoming_outcome before None → (x.step.outcome ≡ on.fault on.too_large → held before ≡ MAX_HELD → Sound (x ∷ before))
     → (x.step.outcome ≡ on.pending → Sound (x ∷ before)) → Sound (x ∷ before)
 waits x before outcome over pends =
     elim (cases_Bool (held before == MAX_HELD)) [
@@ -154,7 +154,7 @@ waits x before outcome over pends =
     ]
 
 -- by the message that is to come
-first_by : (x : Moment) (before : List Moment) (coming : Option Message) → Behind x before [] → upcoming before ≡ coming
+first_by : (x : ParsedStep) (before : List ParsedStep) (coming : Option Message) → Behind x before [] → upcoming before ≡ coming
     → x.step.outcome ≡ upcoming_outcome before coming → Sound (x ∷ before)
 first_by x before (Some n) b e outcome =
     message_sound x before [] n n.reading b outcome (sym (ap (slice_get (parse_of before)) b.count) ∙ e) refl
@@ -167,7 +167,7 @@ first_by x before None b e outcome =
     nothing (still_nothing x.step (steps before) o.silent b.handed_is) (head_count-more x.step (steps before) mute.head ∙ b.count))
 
 -- Next where nothing was handed out
-pub first_step : (x : Moment) (before : List Moment) → IsParse (input_of (x.step ∷ steps before)) x.parse → IsParse (input_of (steps before)) (parse_of before)
+pub first_step : (x : ParsedStep) (before : List ParsedStep) → IsParse (input_of (x.step ∷ steps before)) x.parse → IsParse (input_of (steps before)) (parse_of before)
     → Comes before x.step → handed_out (steps before) ≡ [] → head_count (steps before) ≡ 0 → Sound (x ∷ before)
 first_step x before p q o handed count =
     first_by x before (upcoming before) (record { new = p; old = q; event = o.event; handed_is = handed; ended = tt; count = count }) refl o.outcome
@@ -183,7 +183,7 @@ is_done trace asked shut =
     ]
 
 -- the messages that have ended, where another one follows or stands at an end
-behind : (x : Moment) (before : List Moment) → IsParse (input_of (x.step ∷ steps before)) x.parse → IsParse (input_of (steps before)) (parse_of before)
+behind : (x : ParsedStep) (before : List ParsedStep) → IsParse (input_of (x.step ∷ steps before)) x.parse → IsParse (input_of (steps before)) (parse_of before)
     → x.step.event ≡ on.next → (h : Handed) (hs : List Handed) → handed_out (steps before) ≡ h ∷ hs
     → (r : Running (taken (steps before)) (parse_of before) (steps before) h hs) → is_complete (steps before) ≡ true
     → (next : ℕ) → next_start r.message.body ≡ Some next → Behind x before (h ∷ hs)
@@ -201,7 +201,7 @@ behind x before p q event h hs handed r done next ends =
     }
 
 -- where no message is to come, by where the last one ends
-none_by : (x : Moment) (before : List Moment) → IsParse (input_of (x.step ∷ steps before)) x.parse → IsParse (input_of (steps before)) (parse_of before)
+none_by : (x : ParsedStep) (before : List ParsedStep) → IsParse (input_of (x.step ∷ steps before)) x.parse → IsParse (input_of (steps before)) (parse_of before)
     → x.step.event ≡ on.next → (h : Handed) (hs : List Handed) → handed_out (steps before) ≡ h ∷ hs
     → (r : Running (taken (steps before)) (parse_of before) (steps before) h hs) → is_complete (steps before) ≡ true
     → (next : Option ℕ) → next_start r.message.body ≡ next → slice_get (parse_of before) (suc (length hs)) ≡ None
@@ -221,7 +221,7 @@ none_by x before p q event h hs handed r done (Some next) ends none fault full =
     (nothing_behind (input_of (steps before)) 0 (parse_of before) (length hs) r.message next q r.there len ends)
 
 -- by the message that is to come
-next_by : (x : Moment) (before : List Moment) (coming : Option Message) → IsParse (input_of (x.step ∷ steps before)) x.parse
+next_by : (x : ParsedStep) (before : List ParsedStep) (coming : Option Message) → IsParse (input_of (x.step ∷ steps before)) x.parse
     → IsParse (input_of (steps before)) (parse_of before) → x.step.event ≡ on.next → (h : Handed) (hs : List Handed) → handed_out (steps before) ≡ h ∷ hs
     → Running (taken (steps before)) (parse_of before) (steps before) h hs → is_complete (steps before) ≡ true
     → slice_get (parse_of before) (suc (length hs)) ≡ coming → x.step.outcome ≡ upcoming_outcome before coming → Sound (x ∷ before)
@@ -235,7 +235,7 @@ next_by x before None p q event h hs handed r done e outcome =
     running (marked (completes x.step.event) h) hs (still_newest x.step (steps before) h hs o.silent handed) (other_step x before p q o h hs r))
 
 -- Next behind a message
-pub next_step : (x : Moment) (before : List Moment) → IsParse (input_of (x.step ∷ steps before)) x.parse → IsParse (input_of (steps before)) (parse_of before)
+pub next_step : (x : ParsedStep) (before : List ParsedStep) → IsParse (input_of (x.step ∷ steps before)) x.parse → IsParse (input_of (steps before)) (parse_of before)
     → Comes before x.step → (h : Handed) (hs : List Handed) → handed_out (steps before) ≡ h ∷ hs
     → Running (taken (steps before)) (parse_of before) (steps before) h hs → Sound (x ∷ before)
 next_step x before p q o h hs handed r =

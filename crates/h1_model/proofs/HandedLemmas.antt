@@ -2,7 +2,7 @@
 use Rattle.std.proofs.Common.{◌≡◌, ℕ, ◌<◌, ◌≤◌, false, List, [], ◌∷◌, ◌++◌, length, Some, None, IsSome, is_some, unwrap_or, refl, sym, ap, ◌∙◌, subst, arith, append_assoc}
 use Rattle.h1_model.specs.Parse.{Message, Body, no_content, content, frames, ended_at, still_open, broken, cut, next_start}
 use Rattle.h1_model.specs.Handed.{Handed, Begins, body_bytes, body_frames, body_fault, Agrees, IsLastOrEnded, IsPrefixFrom}
-use Rattle.h1_model.specs.Growth.{may_grow, MessageGrows, GrowTo}
+use Rattle.h1_model.specs.Laws.Growth.{may_grow, MessageGrows, GrowTo}
 
 -- the beginning of a beginning
 pub begins_trans : {A : Type 0} (a b c : List A) → Begins a b → Begins b c → Begins a c

@@ -5,7 +5,7 @@ use Rattle.h1_model.specs.Setting.{Setting}
 use Rattle.h1_model.specs.Parse.{Input, IsParse}
 use Rattle.h1_model.specs.Sums.{Step, taken, completes}
 use Rattle.h1_model.specs.Handed.{Handed, handed_out, IsPrefixOf, HandsOutPrefix}
-use Rattle.h1_model.specs.Past.{Moment, steps, input_of, parse_of, head_count}
+use Rattle.h1_model.specs.Past.{ParsedStep, steps, input_of, parse_of, head_count}
 use Rattle.h1_model.specs.Closing.{told}
 use Rattle.h1_model.specs.OutcomeTable.{pull_outcome}
 use Rattle.h1_model.specs.Trace.{IsPastOf, IsTrace}
@@ -22,13 +22,13 @@ use Rattle.std.proofs.lemmas.List.{length-reverse}
 -- ---- one more step
 
 -- nothing was handed out, and a step hands out nothing
-none_more : (x : Moment) (before : List Moment) → is_silent x.step.outcome ≡ true → handed_out (steps before) ≡ [] → head_count (steps before) ≡ 0 → Sound (x ∷ before)
+none_more : (x : ParsedStep) (before : List ParsedStep) → is_silent x.step.outcome ≡ true → handed_out (steps before) ≡ [] → head_count (steps before) ≡ 0 → Sound (x ∷ before)
 none_more x before silent none count =
     let mute = silent_mute x.step.outcome silent in
     nothing (still_nothing x.step (steps before) silent none) (head_count-more x.step (steps before) mute.head ∙ count)
 
 -- nothing was handed out
-none_step : (x : Moment) (before : List Moment) → IsParse (input_of (x.step ∷ steps before)) x.parse → IsParse (input_of (steps before)) (parse_of before)
+none_step : (x : ParsedStep) (before : List ParsedStep) → IsParse (input_of (x.step ∷ steps before)) x.parse → IsParse (input_of (steps before)) (parse_of before)
     → StepCase before x.step → handed_out (steps before) ≡ [] → head_count (steps before) ≡ 0 → Sound (x ∷ before)
 none_step x before p q (other o) none count = none_more x before o.silent none count
 none_step x before p q (grows o) none count = none_more x before o.silent none count
@@ -38,7 +38,7 @@ none_step x before p q (pulls o) none count =
     none_more x before (ap is_silent (o.outcome ∙ ap (pull_outcome (steps before)) (current_none before count))) none count
 
 -- a message goes on
-running_step : (x : Moment) (before : List Moment) → IsParse (input_of (x.step ∷ steps before)) x.parse → IsParse (input_of (steps before)) (parse_of before)
+running_step : (x : ParsedStep) (before : List ParsedStep) → IsParse (input_of (x.step ∷ steps before)) x.parse → IsParse (input_of (steps before)) (parse_of before)
     → StepCase before x.step → (h : Handed) (hs : List Handed) → handed_out (steps before) ≡ h ∷ hs
     → Running (taken (steps before)) (parse_of before) (steps before) h hs → Sound (x ∷ before)
 running_step x before p q (other o) h hs handed r =
@@ -53,7 +53,7 @@ running_step x before p q (pulls o) h hs handed r =
     running here.0 hs here.1 here.2
 
 -- a fault was told
-faulty_step : (x : Moment) (before : List Moment) → IsParse (input_of (x.step ∷ steps before)) x.parse → IsParse (input_of (steps before)) (parse_of before)
+faulty_step : (x : ParsedStep) (before : List ParsedStep) → IsParse (input_of (x.step ∷ steps before)) x.parse → IsParse (input_of (steps before)) (parse_of before)
     → Closed x.step → IsPrefixOf (taken (steps before)) (reverse (handed_out (steps before))) (parse_of before) → is_some (told (steps before)) ≡ true
     → Sound (x ∷ before)
 faulty_step x before p q c prefix fault =
@@ -69,7 +69,7 @@ faulty_step x before p q c prefix fault =
 -- ---- all steps
 
 -- by induction on the past
-sound : (setting : Setting) (past : List Moment) → Legal setting past → Sound past
+sound : (setting : Setting) (past : List ParsedStep) → Legal setting past → Sound past
 sound setting [] x = nothing handed_out-nil refl
 sound setting (m ∷ before) x =
     let q = parsed setting before x.3 in
@@ -82,7 +82,7 @@ sound setting (m ∷ before) x =
     ]
 
 -- what was handed out begins the parse
-sound_prefix : (past : List Moment) → Sound past → HandsOutPrefix (steps past) (parse_of past)
+sound_prefix : (past : List ParsedStep) → Sound past → HandsOutPrefix (steps past) (parse_of past)
 sound_prefix past (nothing none count) =
     subst (λ hs. IsPrefixOf (taken (steps past)) (reverse hs) (parse_of past)) (sym none) (prefix_none (taken (steps past)) 0 (parse_of past))
 sound_prefix past (running h hs handed r) =
@@ -92,6 +92,6 @@ sound_prefix past (running h hs handed r) =
 sound_prefix past (faulty prefix fault) = prefix
 
 -- what a trace handed out begins the parse of its past
-pub handed_prefix : (setting : Setting) (trace : List Step) (past : List Moment) → IsTrace setting trace → IsPastOf trace past → HandsOutPrefix trace (parse_of past)
+pub handed_prefix : (setting : Setting) (trace : List Step) (past : List ParsedStep) → IsTrace setting trace → IsPastOf trace past → HandsOutPrefix trace (parse_of past)
 handed_prefix setting trace past x y =
     subst (λ t. HandsOutPrefix t (parse_of past)) y.same (sound_prefix past (sound setting past (legal_of setting trace past x y)))

@@ -8,7 +8,7 @@ use Rattle.h1_model.specs.Request.{too_large}
 use Rattle.h1_model.specs.Limits.{MAX_HELD}
 use Rattle.h1_model.specs.Parse.{Input, Message, next_start, AreMessages}
 use Rattle.h1_model.specs.Handed.{Handed, newly_handed, Begins, body_bytes, body_frames, body_fault, Agrees, IsLastOrEnded, IsOversized, IsPrefixFrom}
-use Rattle.h1_model.specs.Growth.{GrowTo}
+use Rattle.h1_model.specs.Laws.Growth.{GrowTo}
 use Rattle.h1_model.proofs.BodyLemmas.{input}
 use Rattle.h1_model.proofs.HandedLemmas.{ended_closed, agrees_grows}
 use Rattle.h1_model.proofs.TraceGrowth.{rest_of, message_accepted, none_behind}

@@ -5,13 +5,13 @@ use Rattle.std.proofs.lemmas.Bool.{true≢false}
 use Rattle.h1_model.specs.Request.{Reading}
 use Rattle.h1_model.specs.Frame.{ProtocolError}
 use Rattle.h1_model.specs.FrameText.{PlacedFrame}
-use Rattle.h1_model.specs.ChunkedText.{Run}
+use Rattle.h1_chunks.specs.Runs.{Run}
 use Rattle.h1_model.specs.Parse.{Input, Message, Body, no_content, content, frames, Stop, ended_at, still_open, broken, cut, runs_of, IsParse}
 use Rattle.h1_model.specs.Event.{Event, Outcome, corrupted, incomplete}
 use Rattle.h1_model.specs.Event as on
 use Rattle.h1_model.specs.Sums.{Step, step_taken, taken, is_eof, is_pull, is_accepted, head_of, completes, is_complete, was_pulled}
 use Rattle.h1_model.specs.Handed.{Handed, handing, marking_answered, handed_out, run_bytes, body_frames, Agrees}
-use Rattle.h1_model.specs.Past.{Moment, steps, input_of, parse_of, step_bytes, step_frames, given_bytes, given_frames}
+use Rattle.h1_model.specs.Past.{ParsedStep, steps, input_of, parse_of, step_bytes, step_frames, given_bytes, given_frames}
 use Rattle.h1_model.specs.OutcomeTable.{run_left, stop_outcome, run_outcome, frame_outcome, body_outcome, pull_outcome}
 use Rattle.h1_model.proofs.RunLemmas.{IsOrdered}
 use Rattle.h1_model.proofs.StepLemmas.{head_count-more, given_bytes-more, given_frames-more, complete-more, same_input, same_parse}
@@ -177,7 +177,7 @@ body_hands trace reading start (frames placed fail) h ordered x bytes fs =
 -- ---- the step
 
 -- the newest message goes on with what the pull adds
-pub pulls_step : (x : Moment) (before : List Moment) → IsParse (input_of (x.step ∷ steps before)) x.parse → IsParse (input_of (steps before)) (parse_of before)
+pub pulls_step : (x : ParsedStep) (before : List ParsedStep) → IsParse (input_of (x.step ∷ steps before)) x.parse → IsParse (input_of (steps before)) (parse_of before)
     → Pulls before x.step → (h : Handed) (hs : List Handed) → handed_out (steps before) ≡ h ∷ hs
     → Running (taken (steps before)) (parse_of before) (steps before) h hs
     → (next : Handed) × (handed_out (x.step ∷ steps before) ≡ next ∷ hs) × Running (taken (x.step ∷ steps before)) x.parse (x.step ∷ steps before) next hs

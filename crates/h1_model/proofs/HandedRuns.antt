@@ -6,7 +6,7 @@ use Rattle.std.proofs.lemmas.Bool.{cases_lt}
 use Rattle.std.proofs.lemmas.List.{drop_at, drop-drop, drop-take, drop-append-le, drop_all, length-take-le, nil_from_length}
 use Rattle.h1_model.specs.Frame.{Frame}
 use Rattle.h1_model.specs.FrameText.{PlacedFrame}
-use Rattle.h1_model.specs.ChunkedText.{Run}
+use Rattle.h1_chunks.specs.Runs.{Run}
 use Rattle.h1_model.specs.Handed.{Begins, run_bytes}
 use Rattle.h1_model.specs.OutcomeTable.{run_left}
 use Rattle.h1_model.proofs.RunLemmas.{IsOrdered, ordered_bound}

@@ -6,7 +6,7 @@ use Rattle.std.proofs.lemmas.List.{length-reverse}
 use Rattle.h1_model.specs.Parse.{Input, Message, IsParse}
 use Rattle.h1_model.specs.Sums.{Step, step_taken, taken, is_eof, is_accepted, has_ended, is_upgraded, head_of, completes, is_complete, was_pulled, request}
 use Rattle.h1_model.specs.Handed.{Handed, handing, marking_answered, handed_out, Begins, body_bytes, body_frames, Agrees, IsPrefixOf}
-use Rattle.h1_model.specs.Past.{Moment, steps, input_of, parse_of, head_count, given_bytes, given_frames}
+use Rattle.h1_model.specs.Past.{ParsedStep, steps, input_of, parse_of, head_count, given_bytes, given_frames}
 use Rattle.h1_model.specs.Closing.{told}
 use Rattle.h1_model.proofs.BodyLemmas.{input}
 use Rattle.h1_model.proofs.MessageGrowth.{parse_grows}
@@ -40,7 +40,7 @@ pub record Running (bytes : List ℕ) (ms : List Message) (trace : List Step) (h
   pub untouched : was_pulled trace ≡ false → IsUntouched h
 
 -- nothing was handed out, or a message goes on, or a fault was told
-pub data Sound (past : List Moment) : Type 0 where
+pub data Sound (past : List ParsedStep) : Type 0 where
   nothing : handed_out (steps past) ≡ [] → head_count (steps past) ≡ 0 → Sound past
   running : (h : Handed) (hs : List Handed) → handed_out (steps past) ≡ h ∷ hs → Running (taken (steps past)) (parse_of past) (steps past) h hs → Sound past
   faulty : IsPrefixOf (taken (steps past)) (reverse (handed_out (steps past))) (parse_of past) → is_some (told (steps past)) ≡ true → Sound past
@@ -133,7 +133,7 @@ no_pull : (s : Step) (before : List Step) → head_of s.outcome ≡ None → was
 no_pull s before none e = (or_parts _ _ (sym (was_pulled-more s before none) ∙ e)).1
 
 -- the step leaves what was parsed
-pub other_step : (x : Moment) (before : List Moment) → IsParse (input_of (x.step ∷ steps before)) x.parse → IsParse (input_of (steps before)) (parse_of before)
+pub other_step : (x : ParsedStep) (before : List ParsedStep) → IsParse (input_of (x.step ∷ steps before)) x.parse → IsParse (input_of (steps before)) (parse_of before)
     → Other x.step → (h : Handed) (hs : List Handed) → Running (taken (steps before)) (parse_of before) (steps before) h hs
     → Running (taken (x.step ∷ steps before)) x.parse (x.step ∷ steps before) (marked (completes x.step.event) h) hs
 other_step x before p q o h hs r =
@@ -147,7 +147,7 @@ other_step x before p q o h hs r =
 -- ---- steps that make the parse grow
 
 -- bytes follow, or the input ends
-pub grows_step : (x : Moment) (before : List Moment) → IsParse (input_of (x.step ∷ steps before)) x.parse → IsParse (input_of (steps before)) (parse_of before)
+pub grows_step : (x : ParsedStep) (before : List ParsedStep) → IsParse (input_of (x.step ∷ steps before)) x.parse → IsParse (input_of (steps before)) (parse_of before)
     → Grows before x.step → (h : Handed) (hs : List Handed) → Running (taken (steps before)) (parse_of before) (steps before) h hs
     → Running (taken (x.step ∷ steps before)) x.parse (x.step ∷ steps before) (marked (completes x.step.event) h) hs
 grows_step x before p q o h hs r =
@@ -174,7 +174,7 @@ untouched_agrees bytes h n u reading = record {
 }
 
 -- a raw body becomes frames, of which nothing was handed out
-pub accepts_step : (x : Moment) (before : List Moment) → IsParse (input_of (x.step ∷ steps before)) x.parse → IsParse (input_of (steps before)) (parse_of before)
+pub accepts_step : (x : ParsedStep) (before : List ParsedStep) → IsParse (input_of (x.step ∷ steps before)) x.parse → IsParse (input_of (steps before)) (parse_of before)
     → Accepts before x.step → (h : Handed) (hs : List Handed) → Running (taken (steps before)) (parse_of before) (steps before) h hs
     → Running (taken (x.step ∷ steps before)) x.parse (x.step ∷ steps before) (marked (completes x.step.event) h) hs
 accepts_step x before p q o h hs r =

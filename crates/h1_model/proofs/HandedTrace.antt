@@ -14,7 +14,7 @@ use Rattle.h1_model.specs.Event.{Event, Outcome}
 use Rattle.h1_model.specs.Event as on
 use Rattle.h1_model.specs.Sums.{Step, step_taken, is_eof, is_pull, is_accepted, has_ended, is_upgraded, head_of, completes, was_pulled, was_dropped, is_open, request}
 use Rattle.h1_model.specs.Handed.{Handed, handing, marking_answered, handed_out}
-use Rattle.h1_model.specs.Past.{Moment, steps, current, upcoming, step_bytes, step_frames}
+use Rattle.h1_model.specs.Past.{ParsedStep, steps, current, upcoming, step_bytes, step_frames}
 use Rattle.h1_model.specs.Closing.{told_end, told, closing}
 use Rattle.h1_model.specs.Allowed.{is_allowed_closing, is_allowed, is_unanswered}
 use Rattle.h1_model.specs.OutcomeTable.{upcoming_outcome, next_outcome, pull_outcome, tick_outcome, is_abandoned, is_slow, is_idle, send_outcome, outcome_of}
@@ -61,7 +61,7 @@ unfolding told
 told-here s before end e = ap (λ (o : Option End). is_some (option_or o (told before))) e
 
 -- a connection that told an end closes
-pub told_closes : (setting : Setting) (past : List Moment) → is_some (told (steps past)) ≡ true → is_some (closing setting past) ≡ true
+pub told_closes : (setting : Setting) (past : List ParsedStep) → is_some (told (steps past)) ≡ true → is_some (closing setting past) ≡ true
 unfolding closing
 told_closes setting past some = first (told (steps past)) _ some
   where
@@ -120,32 +120,32 @@ pub record Other (s : Step) : Type 0 where
   pub silent : is_silent s.outcome ≡ true
 
 -- bytes were read, or the input ended
-pub record Grows (before : List Moment) (s : Step) : Type 0 where
+pub record Grows (before : List ParsedStep) (s : Step) : Type 0 where
   pub unended : has_ended (steps before) ≡ false
   pub accepted : is_accepted s.event s.outcome ≡ false
   pub pull : is_pull s.event ≡ false
   pub silent : is_silent s.outcome ≡ true
 
 -- a WebSocket was accepted, before any pull
-pub record Accepts (before : List Moment) (s : Step) : Type 0 where
+pub record Accepts (before : List ParsedStep) (s : Step) : Type 0 where
   pub event : s.event ≡ on.accept
   pub outcome : s.outcome ≡ on.done
   pub upgraded : is_upgraded (steps before) ≡ false
   pub pulled : was_pulled (steps before) ≡ false
 
 -- the next head was asked for
-pub record Comes (before : List Moment) (s : Step) : Type 0 where
+pub record Comes (before : List ParsedStep) (s : Step) : Type 0 where
   pub event : s.event ≡ on.next
   pub outcome : s.outcome ≡ upcoming_outcome before (upcoming before)
   pub done : is_open (steps before) ≡ false
 
 -- more of the body was asked for
-pub record Pulls (before : List Moment) (s : Step) : Type 0 where
+pub record Pulls (before : List ParsedStep) (s : Step) : Type 0 where
   pub event : s.event ≡ on.pull
   pub outcome : s.outcome ≡ pull_outcome (steps before) (current before)
 
 -- each step is one of these
-pub data StepCase (before : List Moment) (s : Step) : Type 0 where
+pub data StepCase (before : List ParsedStep) (s : Step) : Type 0 where
   other : Other s → StepCase before s
   grows : Grows before s → StepCase before s
   accepts : Accepts before s → StepCase before s
@@ -168,7 +168,7 @@ still e o o' same silent taken eof accepted pull = record {
 }
 
 -- a tick hands out nothing
-tick_silent : (setting : Setting) (past : List Moment) (end : Option End) (first ms : ℕ) → is_silent (tick_outcome setting past end first ms) ≡ true
+tick_silent : (setting : Setting) (past : List ParsedStep) (end : Option End) (first ms : ℕ) → is_silent (tick_outcome setting past end first ms) ≡ true
 tick_silent setting past (Some end) first ms =
     cond_both (is_abandoned setting past first ms) on.abandoned on.done (λ o. is_silent o ≡ true) (λ _. refl) (λ _. refl)
 tick_silent setting past None first ms =
@@ -181,7 +181,7 @@ send_silent None = refl
 send_silent (Some e) = refl
 
 -- Next, by what closes the connection
-next_case : (setting : Setting) (before : List Moment) (o : Outcome) (end : Option End) → closing setting before ≡ end
+next_case : (setting : Setting) (before : List ParsedStep) (o : Outcome) (end : Option End) → closing setting before ≡ end
     → IsTrue (is_allowed setting before on.next) → o ≡ next_outcome before end → StepCase before (step on.next o)
 unfolding is_allowed
 next_case setting before o (Some end) e ok x = other (still on.next o (on.closed end) x refl refl refl refl refl)
@@ -190,7 +190,7 @@ next_case setting before o None e ok x =
     comes (record { event = refl; outcome = x; done = not-true _ test })
 
 -- Accept, by what is wrong with the handshake
-accept_case : (before : List Moment) (o : Outcome) (wrong : Option HandshakeError) → o ≡ unwrap_or (option_map on.refused wrong) on.done
+accept_case : (before : List ParsedStep) (o : Outcome) (wrong : Option HandshakeError) → o ≡ unwrap_or (option_map on.refused wrong) on.done
     → is_unanswered (steps before) ≡ true → (was_pulled (steps before) || was_dropped (steps before)) ≡ false → StepCase before (step on.accept o)
 accept_case before o (Some e) x unanswered unpulled = other (still on.accept o (on.refused e) x refl refl refl refl refl)
 accept_case before o None x unanswered unpulled =
@@ -202,7 +202,7 @@ accept_case before o None x unanswered unpulled =
     })
 
 -- each event that is allowed
-pub step_case : (setting : Setting) (before : List Moment) (e : Event) (o : Outcome) → IsTrue (is_allowed setting before e)
+pub step_case : (setting : Setting) (before : List ParsedStep) (e : Event) (o : Outcome) → IsTrue (is_allowed setting before e)
     → o ≡ outcome_of setting before e → StepCase before (step e o)
 unfolding outcome_of
 step_case setting before (on.read bytes) o ok x =
@@ -244,18 +244,18 @@ pub record Closed (s : Step) : Type 0 where
   pub completes : completes s.event ≡ false
 
 -- what is allowed while the connection closes
-allowed_closing : (setting : Setting) (past : List Moment) (e : Event) → is_some (closing setting past) ≡ true
+allowed_closing : (setting : Setting) (past : List ParsedStep) (e : Event) → is_some (closing setting past) ≡ true
     → IsTrue (is_allowed setting past e) → is_allowed_closing (steps past) e ≡ true
 unfolding is_allowed
 allowed_closing setting past e closes x = sym (cond-true (is_some (closing setting past)) _ _ closes) ∙ (and_parts _ _ x).1
 
 -- Next tells that it closes
-closed_next : (before : List Moment) (o : Outcome) (end : Option End) → is_some end ≡ true → o ≡ next_outcome before end → Closed (step on.next o)
+closed_next : (before : List ParsedStep) (o : Outcome) (end : Option End) → is_some end ≡ true → o ≡ next_outcome before end → Closed (step on.next o)
 closed_next before o (Some end) some x = record { other = still on.next o (on.closed end) x refl refl refl refl refl; completes = refl }
 closed_next before o None some x = absurd (false≢true some)
 
 -- each event that is allowed then
-pub closing_case : (setting : Setting) (before : List Moment) (e : Event) (o : Outcome) → is_some (closing setting before) ≡ true
+pub closing_case : (setting : Setting) (before : List ParsedStep) (e : Event) (o : Outcome) → is_some (closing setting before) ≡ true
     → IsTrue (is_allowed setting before e) → o ≡ outcome_of setting before e → Closed (step e o)
 unfolding outcome_of
 closing_case setting before on.next o closes ok x = closed_next before o (closing setting before) closes x

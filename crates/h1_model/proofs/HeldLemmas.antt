@@ -9,12 +9,12 @@ use Rattle.h1_model.specs.Limits.{MAX_HELD}
 use Rattle.h1_model.specs.Setting.{Setting}
 use Rattle.h1_model.specs.Frame.{ProtocolError}
 use Rattle.h1_model.specs.FrameText.{PlacedFrame}
-use Rattle.h1_model.specs.ChunkedText.{Run}
+use Rattle.h1_chunks.specs.Runs.{Run}
 use Rattle.h1_model.specs.Parse.{Input, Message, Body, no_content, content, frames, Stop, ended_at, still_open, broken, cut, next_start, IsBodyAfter, IsParse}
 use Rattle.h1_model.specs.Event.{Event, Outcome}
 use Rattle.h1_model.specs.Event as on
 use Rattle.h1_model.specs.Sums.{Step, step_taken, taken, is_pull, is_eof, is_accepted, head_of, since_head, request, answered, has_ended, is_upgraded, is_complete, is_open, was_pulled, was_dropped}
-use Rattle.h1_model.specs.Past.{Moment, steps, input_of, parse_of, head_count, current, step_bytes, step_frames, given_bytes, given_frames, pulled_to, passed, held}
+use Rattle.h1_model.specs.Past.{ParsedStep, steps, input_of, parse_of, head_count, current, step_bytes, step_frames, given_bytes, given_frames, pulled_to, passed, held}
 use Rattle.h1_model.specs.Allowed.{is_unanswered}
 use Rattle.h1_model.specs.OutcomeTable.{run_left, run_outcome, frame_outcome, body_outcome, pull_outcome}
 use Rattle.h1_model.proofs.MessageGrowth.{parse_grows}
@@ -30,25 +30,25 @@ use Rattle.h1_model.proofs.CarriedLemmas.{passed_none, passed_some, end_of, pass
 -- ---- idle steps
 
 -- all but a head and a pull
-quiet_idle : (before : List Moment) (s : Step) → Quiet before s → Idle s
+quiet_idle : (before : List ParsedStep) (s : Step) → Quiet before s → Idle s
 quiet_idle before s q = record { pull = q.pull; head = q.head; bytes = q.bytes; frames = q.frames }
 
-reads_idle : (before : List Moment) (s : Step) → Reads before s → Idle s
+reads_idle : (before : List ParsedStep) (s : Step) → Reads before s → Idle s
 reads_idle before s r =
     record { pull = ap is_pull r.event; head = ap head_of r.outcome; bytes = ap step_bytes r.outcome; frames = ap step_frames r.outcome }
 
-ends_idle : (before : List Moment) (s : Step) → Ends before s → Idle s
+ends_idle : (before : List ParsedStep) (s : Step) → Ends before s → Idle s
 ends_idle before s e =
     record { pull = ap is_pull e.event; head = ap head_of e.outcome; bytes = ap step_bytes e.outcome; frames = ap step_frames e.outcome }
 
-accepts_idle : (before : List Moment) (s : Step) → Accepts before s → Idle s
+accepts_idle : (before : List ParsedStep) (s : Step) → Accepts before s → Idle s
 accepts_idle before s a =
     record { pull = ap is_pull a.event; head = ap head_of a.outcome; bytes = ap step_bytes a.outcome; frames = ap step_frames a.outcome }
 
 -- ---- steps that leave the parse
 
 -- a message advances to itself by an idle step that takes nothing
-idle_advance : (before : List Moment) (x : Moment) (m : Message) → Idle x.step → step_taken x.step.event x.step.outcome ≡ []
+idle_advance : (before : List ParsedStep) (x : ParsedStep) (m : Message) → Idle x.step → step_taken x.step.event x.step.outcome ≡ []
     → Holds (length (taken (steps before))) m (steps before) → Advance before x m m
 idle_advance before x m idle none holds =
     let len : length (taken (x.step ∷ steps before)) ≡ length (taken (steps before)) =
@@ -61,7 +61,7 @@ idle_advance before x m idle none holds =
     }
 
 -- a quiet step
-quiet_step : (before : List Moment) (x : Moment) → Quiet before x.step → IsParse (input_of (x.step ∷ steps before)) x.parse
+quiet_step : (before : List ParsedStep) (x : ParsedStep) → Quiet before x.step → IsParse (input_of (x.step ∷ steps before)) x.parse
     → IsParse (input_of (steps before)) (parse_of before) → Sound before → Result before x
 quiet_step before x q here there s =
     let same = same_parse x before (same_input x.step (steps before) q.taken q.eof q.accepted) here there in
@@ -92,7 +92,7 @@ pull_no_head trace None = refl
 pull_no_head trace (Some m) = body_no_head trace m.body
 
 -- a message advances by a pull
-pull_advance : (before : List Moment) (x : Moment) (m : Message) → x.step.event ≡ on.pull → x.step.outcome ≡ body_outcome (steps before) m.body
+pull_advance : (before : List ParsedStep) (x : ParsedStep) (m : Message) → x.step.event ≡ on.pull → x.step.outcome ≡ body_outcome (steps before) m.body
     → IsParsed (input_of (steps before)) m → Holds (length (taken (steps before))) m (steps before) → Advance before x m m
 pull_advance before x m event outcome parsed holds =
     let o = body_outcome (steps before) m.body in
@@ -109,7 +109,7 @@ pull_advance before x m event outcome parsed holds =
     }
 
 -- a pull
-pull_step : (before : List Moment) (x : Moment) → Pulls before x.step → IsParse (input_of (x.step ∷ steps before)) x.parse
+pull_step : (before : List ParsedStep) (x : ParsedStep) → Pulls before x.step → IsParse (input_of (x.step ∷ steps before)) x.parse
     → IsParse (input_of (steps before)) (parse_of before) → Sound before → Result before x
 pull_step before x p here there s =
     let i = input_of (steps before) in
@@ -123,7 +123,7 @@ pull_step before x p here there s =
     ))
 
 -- what is passed lies in front of the body of the message that is to come
-head_behind : (before : List Moment) (n : Message) (count : ℕ) → head_count (steps before) ≡ count
+head_behind : (before : List ParsedStep) (n : Message) (count : ℕ) → head_count (steps before) ≡ count
     → IsParse (input_of (steps before)) (parse_of before)
     → slice_get (parse_of before) count ≡ Some n → Sound before → passed before ≤ n.body_start
 head_behind before n zero e there at s = let none = passed_none before (current_none before e) in omega arith
@@ -144,7 +144,7 @@ head_behind before n (suc k) e there at s =
     ])
 
 -- a head is handed out
-head_step : (before : List Moment) (x : Moment) → Begins before x.step → IsParse (input_of (x.step ∷ steps before)) x.parse
+head_step : (before : List ParsedStep) (x : ParsedStep) → Begins before x.step → IsParse (input_of (x.step ∷ steps before)) x.parse
     → IsParse (input_of (steps before)) (parse_of before) → Sound before → Result before x
 head_step before x b here there s =
     let i = input_of (steps before) in
@@ -214,7 +214,7 @@ grown_end len longer a b (inr opened) less =
     subst (λ o. unwrap_or o len ≤ end_of longer b) (sym opened.next) (end_later len longer (next_start b) less opened.later)
 
 -- a message advances by an idle step, as the parse grows
-grown_advance : (before : List Moment) (x : Moment) (m n : Message) → Idle x.step → m.reading ≡ n.reading → m.body_start ≡ n.body_start
+grown_advance : (before : List ParsedStep) (x : ParsedStep) (m n : Message) → Idle x.step → m.reading ≡ n.reading → m.body_start ≡ n.body_start
     → Moves (length (taken (steps before))) m.body n.body → IsParsed (input_of (x.step ∷ steps before)) n
     → length (taken (steps before)) ≤ length (taken (x.step ∷ steps before)) → Holds (length (taken (steps before))) m (steps before)
     → Advance before x m n
@@ -230,7 +230,7 @@ grown_advance before x m n idle reading start body parsed less holds =
     }
 
 -- bytes are read
-read_step : (before : List Moment) (x : Moment) → Reads before x.step → IsParse (input_of (x.step ∷ steps before)) x.parse
+read_step : (before : List ParsedStep) (x : ParsedStep) → Reads before x.step → IsParse (input_of (x.step ∷ steps before)) x.parse
     → IsParse (input_of (steps before)) (parse_of before) → Sound before → Result before x
 read_step before x r here there s =
     let i = input_of (steps before) in
@@ -246,7 +246,7 @@ read_step before x r here there s =
     (n.0, n.1, grown_advance before x m n.0 idle n.2 n.3 n.4 n.5 (omega arith) (s.holds m now)))
 
 -- the input ends
-end_step : (before : List Moment) (x : Moment) → Ends before x.step → IsParse (input_of (x.step ∷ steps before)) x.parse
+end_step : (before : List ParsedStep) (x : ParsedStep) → Ends before x.step → IsParse (input_of (x.step ∷ steps before)) x.parse
     → IsParse (input_of (steps before)) (parse_of before) → Sound before → Result before x
 end_step before x r here there s =
     let i = input_of (steps before) in
@@ -264,7 +264,7 @@ end_step before x r here there s =
 -- ---- a WebSocket is accepted
 
 -- an idle step, behind steps that gave nothing
-idle_given : (before : List Moment) (s : Step) → Idle s → was_pulled (s ∷ steps before) ≡ false
+idle_given : (before : List ParsedStep) (s : Step) → Idle s → was_pulled (s ∷ steps before) ≡ false
     → (was_pulled (steps before) ≡ false → (given_bytes (steps before) ≡ 0) × (given_frames (steps before) ≡ 0))
     → (given_bytes (s ∷ steps before) ≡ 0) × (given_frames (s ∷ steps before) ≡ 0)
 idle_given before s idle e old =
@@ -274,7 +274,7 @@ idle_given before s idle e old =
     (omega (arith, given_bytes-more s t idle.head, idle.bytes), omega (arith, given_frames-more s t idle.head, idle.frames))
 
 -- nothing was given of a body that wasn't asked for
-pub unpulled_given : (setting : Setting) (past : List Moment) → Legal setting past → was_pulled (steps past) ≡ false
+pub unpulled_given : (setting : Setting) (past : List ParsedStep) → Legal setting past → was_pulled (steps past) ≡ false
     → (given_bytes (steps past) ≡ 0) × (given_frames (steps past) ≡ 0)
 unfolding since_head
 unpulled_given setting [] x e = (refl, refl)
@@ -310,7 +310,7 @@ not_upgraded : (trace : List Step) → is_unanswered trace ≡ true → is_upgra
 not_upgraded trace x = not-true (is_upgraded trace) (and_parts (is_open trace && is_none (answered trace)) (not (is_upgraded trace)) x).1
 
 -- a message advances by the acceptance
-accept_advance : (setting : Setting) (before : List Moment) (x : Moment) (m n : Message) → Accepts before x.step → Legal setting before
+accept_advance : (setting : Setting) (before : List ParsedStep) (x : ParsedStep) (m n : Message) → Accepts before x.step → Legal setting before
     → m.body_start ≡ n.body_start → IsParsed (input_of (x.step ∷ steps before)) n
     → length (taken (x.step ∷ steps before)) ≡ length (taken (steps before)) → Advance before x m n
 accept_advance setting before x m n a old start parsed len =
@@ -329,7 +329,7 @@ accept_advance setting before x m n a old start parsed len =
     }
 
 -- a WebSocket is accepted
-accept_step : (setting : Setting) (before : List Moment) (x : Moment) → Accepts before x.step → Legal setting before
+accept_step : (setting : Setting) (before : List ParsedStep) (x : ParsedStep) → Accepts before x.step → Legal setting before
     → IsParse (input_of (x.step ∷ steps before)) x.parse
     → IsParse (input_of (steps before)) (parse_of before) → Sound before → Result before x
 accept_step setting before x a old here there s =
@@ -350,7 +350,7 @@ accept_step setting before x a old here there s =
 -- ---- every past
 
 -- each step
-next_sound : (setting : Setting) (before : List Moment) (x : Moment) → Legal setting (x ∷ before) → Sound before → Result before x
+next_sound : (setting : Setting) (before : List ParsedStep) (x : ParsedStep) → Legal setting (x ∷ before) → Sound before → Result before x
 next_sound setting before x l s =
     let there = parsed setting before l.3 in
     elim (step_case setting before x.step.event x.step.outcome l.1 l.2) [
@@ -363,7 +363,7 @@ next_sound setting before x l s =
     ]
 
 -- no more is taken than there is room for
-pub taken_room : (setting : Setting) (before : List Moment) (x : Moment) → Legal setting (x ∷ before)
+pub taken_room : (setting : Setting) (before : List ParsedStep) (x : ParsedStep) → Legal setting (x ∷ before)
     → length (step_taken x.step.event x.step.outcome) ≤ MAX_HELD - held before
 taken_room setting before x l =
     elim (step_case setting before x.step.event x.step.outcome l.1 l.2) [
@@ -379,7 +379,7 @@ taken_room setting before x l =
     ]
 
 -- no more is passed than was taken
-passed_taken : (past : List Moment) (count : ℕ) → head_count (steps past) ≡ count → IsParse (input_of (steps past)) (parse_of past) → Sound past
+passed_taken : (past : List ParsedStep) (count : ℕ) → head_count (steps past) ≡ count → IsParse (input_of (steps past)) (parse_of past) → Sound past
     → passed past ≤ length (taken (steps past))
 passed_taken past zero e x s = let none = passed_none past (current_none past e) in omega arith
 passed_taken past (suc k) e x s =
@@ -395,12 +395,12 @@ passed_taken past (suc k) e x s =
     ])
 
 -- what is shown of every past
-pub record Bounded (past : List Moment) : Type 0 where
+pub record Bounded (past : List ParsedStep) : Type 0 where
   pub sound : Sound past
   pub passed : passed past ≤ length (taken (steps past))
   pub held : held past ≤ MAX_HELD
 
-pub bounded : (setting : Setting) (past : List Moment) → Legal setting past → Bounded past
+pub bounded : (setting : Setting) (past : List ParsedStep) → Legal setting past → Bounded past
 bounded setting [] l =
     let none = passed_none [] refl in
     let empty = ap length taken-nil in
@@ -423,5 +423,5 @@ bounded setting (x ∷ before) l =
     }
 
 -- what is passed never falls
-pub passed_grows : (setting : Setting) (before : List Moment) (x : Moment) → Legal setting (x ∷ before) → passed before ≤ passed (x ∷ before)
+pub passed_grows : (setting : Setting) (before : List ParsedStep) (x : ParsedStep) → Legal setting (x ∷ before) → passed before ≤ passed (x ∷ before)
 passed_grows setting before x l = (next_sound setting before x l (bounded setting before l.3).sound).1

@@ -1,15 +1,9 @@
+pub mod ChunkStubs
 pub mod SearchLemmas
 pub mod BlankLemmas
 pub mod HeadPieceLemmas
 pub mod ReadingLemmas
 pub mod FrameLemmas
-pub mod ChunkMachine
-pub mod ChunkReads
-pub mod ChunkCuts
-pub mod ChunkBeginnings
-pub mod ChunkTrees
-pub mod ChunkVerdicts
-pub mod ChunkLaws
 pub mod BodyLemmas
 pub mod MessageLemmas
 pub mod RunLemmas

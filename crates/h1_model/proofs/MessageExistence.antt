@@ -2,12 +2,13 @@
 use Rattle.std.proofs.Common.{◌≡◌, ℕ, zero, suc, ◌+◌, ◌-◌, ◌<◌, ◌≤◌, Bool, true, false, List, [], ◌∷◌, length, drop, slice_range, Option, Some, None, MatchOption, refl, sym, subst, inl, inr, arith, length-drop}
 use Rattle.std.proofs.lemmas.Bool.{cases_lt}
 use Rattle.h1_model.specs.HeadPiece.{IsHeadPiece}
-use Rattle.h1_model.specs.ChunkedText.{Chunked, whole, unfinished, not_chunked, Run}
+use Rattle.h1_chunks.specs.Chunked.{Chunked, whole, unfinished, not_chunked}
+use Rattle.h1_chunks.specs.Runs.{Run}
 use Rattle.h1_model.specs.Request.{BodyKind, no_body, fixed_body, chunked_body, raw_body, Reading, too_large, malformed, head_is}
 use Rattle.h1_model.specs.Parse.{Input, connection_reader, Message, Body, no_content, content, frames, Stop, ended_at, still_open, broken, cut, open_or_cut, run_between, fixed_content, raw_content, shifted, chunked_stop, next_start, IsBodyOf, IsBodyAfter, IsMessageAt, AreMessages, IsParse}
 use Rattle.h1_model.proofs.HeadPieceLemmas.{head_piece_decided}
 use Rattle.h1_model.proofs.FrameLemmas.{frames_read}
-use Rattle.h1_model.proofs.ChunkVerdicts.{text_is_read}
+use Rattle.h1_model.proofs.ChunkStubs.{every_text_read}
 use Rattle.h1_model.proofs.BodyLemmas.{input}
 use Rattle.h1_model.proofs.BodyGrowth.{fixed_whole, fixed_part}
 use Rattle.h1_model.proofs.MessageGrowth.{piece_end, piece_long}

@@ -4,7 +4,7 @@ use Rattle.std.proofs.lemmas.List.{drop-append-le, length-take}
 use Rattle.h1_model.specs.HeadPiece.{IsHeadPiece}
 use Rattle.h1_model.specs.RequestHead.{IsReading}
 use Rattle.h1_model.specs.Parse.{Input, Message, Body, no_content, content, frames, ended_at, still_open, broken, cut, next_start, IsBodyAfter, IsMessageAt, AreMessages, IsParse}
-use Rattle.h1_model.specs.Growth.{may_grow, MessageGrows, GrowTo}
+use Rattle.h1_model.specs.Laws.Growth.{may_grow, MessageGrows, GrowTo}
 use Rattle.h1_model.proofs.BlankLemmas.{ends_blank_long}
 use Rattle.h1_model.proofs.HeadPieceLemmas.{head_piece_unique, head_piece_append, slice_range-append}
 use Rattle.h1_model.proofs.ReadingLemmas.{reading_unique}

@@ -5,12 +5,13 @@ use Rattle.std.proofs.lemmas.List.{drop-drop}
 use Rattle.h1_model.specs.HeadPiece.{IsHeadPiece, HasNoHeadPiece}
 use Rattle.h1_model.specs.RequestHead.{IsReading}
 use Rattle.h1_model.specs.FrameText.{Reader, front_frame, is_under_way, PlacedFrame, StopsWith, ReadsFrames}
-use Rattle.h1_model.specs.ChunkedText.{Chunked, unfinished, not_chunked, Run, IsChunked}
-use Rattle.h1_model.specs.ChunkedText as chunked
+use Rattle.h1_chunks.specs.Chunked.{Chunked, unfinished, not_chunked, IsChunked}
+use Rattle.h1_chunks.specs.Runs.{Run}
+use Rattle.h1_chunks.specs.Chunked as chunked
 use Rattle.h1_model.specs.Frame.{ProtocolError}
 use Rattle.h1_model.specs.Request.{BodyKind, no_body, fixed_body, chunked_body, raw_body, Reading, too_large, malformed, head_is}
 use Rattle.h1_model.specs.Parse.{Message, Body, no_content, content, frames, ended_at, still_open, broken, cut, run_between, open_or_cut, fixed_content, raw_content, shifted, chunked_stop, connection_reader, next_start, IsBodyOf, IsBodyAfter, IsMessageAt, AreMessages}
-use Rattle.h1_model.specs.Moved.{moved_stop, moved_frame, moved_body, moved}
+use Rattle.h1_model.specs.Laws.Moved.{moved_stop, moved_frame, moved_body, moved}
 use Rattle.h1_model.proofs.BodyLemmas.{input}
 use Rattle.h1_model.proofs.BodyGrowth.{fixed_whole, fixed_part}
 use Rattle.h1_model.proofs.MessageLemmas.{messages_unique}

@@ -2,12 +2,12 @@
 use Rattle.std.proofs.Common.{List, [], ◌∷◌, refl, sym, ap, subst}
 use Rattle.h1_model.specs.Parse.{IsParse}
 use Rattle.h1_model.specs.Sums.{Step}
-use Rattle.h1_model.specs.Past.{Moment, input_of}
+use Rattle.h1_model.specs.Past.{ParsedStep, input_of}
 use Rattle.h1_model.specs.Trace.{IsPastOf}
 use Rattle.h1_model.proofs.MessageExistence.{parse_exists}
 
 -- the past of the steps before, and the parse of all bytes taken by now
-pub past_exists : (trace : List Step) → (past : List Moment) × IsPastOf trace past
+pub past_exists : (trace : List Step) → (past : List ParsedStep) × IsPastOf trace past
 past_exists [] = ([], record { same = refl; right = tt })
 past_exists (s ∷ before) =
     let earlier = past_exists before in

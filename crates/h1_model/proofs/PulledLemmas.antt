@@ -8,7 +8,7 @@ use Rattle.httparse.proofs.RunLemmas.{length-slice_range}
 use Rattle.h1_model.specs.Request.{Head, Reading}
 use Rattle.h1_model.specs.Frame.{ProtocolError}
 use Rattle.h1_model.specs.FrameText.{PlacedFrame}
-use Rattle.h1_model.specs.ChunkedText.{Run, cut_runs}
+use Rattle.h1_chunks.specs.Runs.{Run, cut_runs}
 use Rattle.h1_model.specs.Parse.{Message, Body, no_content, content, frames, Stop, ended_at, still_open, broken, cut, next_start, runs_of, frames_of}
 use Rattle.h1_model.specs.Event.{Event, Outcome}
 use Rattle.h1_model.specs.Event as on

@@ -3,7 +3,9 @@ use Rattle.std.proofs.Common.{◌≡◌, ℕ, ◌+◌, ◌-◌, ◌<◌, ◌≤�
 use Rattle.std.specs.Prelude.{flat_map}
 use Rattle.std.proofs.lemmas.Bool.{cond-true, cond-false, cases_lt}
 use Rattle.std.proofs.lemmas.List.{take-append-drop, take-take, drop-drop, length-take}
-use Rattle.h1_model.specs.ChunkedText.{Chunk, print_chunk, print_size_line, Chunked, whole, unfinished, not_chunked, Run, chunk_runs, cut_runs, IsChunked}
+use Rattle.h1_chunks.specs.ChunkedText.{Segment, segment_text}
+use Rattle.h1_chunks.specs.Chunked.{Chunked, whole, unfinished, not_chunked, IsChunked}
+use Rattle.h1_chunks.specs.Runs.{Run, segment_runs, cut_runs}
 use Rattle.httparse.specs.Ascii.{crlf_bytes}
 use Rattle.h1_model.specs.Parse.{shifted, run_between}
 use Rattle.h1_model.specs.Handed.{Begins, run_bytes}

@@ -15,7 +15,7 @@ use Rattle.h1_model.specs.Event.{Event, Outcome}
 use Rattle.h1_model.specs.Event as on
 use Rattle.h1_model.specs.Sums.{Step, step_taken, taken, is_eof, is_pull, is_accepted, has_ended, is_upgraded, head_of, since_head, completes, is_complete, was_pulled, was_dropped, request}
 use Rattle.h1_model.specs.Limits.{MAX_HELD}
-use Rattle.h1_model.specs.Past.{Moment, steps, input_of, parse_of, head_count, current, upcoming, step_bytes, step_frames, given_bytes, given_frames, held}
+use Rattle.h1_model.specs.Past.{ParsedStep, steps, input_of, parse_of, head_count, current, upcoming, step_bytes, step_frames, given_bytes, given_frames, held}
 use Rattle.h1_model.specs.Closing.{closing}
 use Rattle.h1_model.specs.Allowed.{is_allowed_running, is_allowed_closing, is_allowed, is_unanswered}
 use Rattle.h1_model.specs.OutcomeTable.{head_outcome, upcoming_outcome, next_outcome, pull_outcome, tick_outcome, is_abandoned, is_slow, is_idle, send_outcome, outcome_of}
@@ -88,7 +88,7 @@ open_test : (closes closed opened : Bool) → cond closes closed opened ≡ true
 open_test true closed opened x shut = absurd (false≢true (sym shut ∙ x))
 open_test false closed opened x shut = x
 
-pub allowed_open : (setting : Setting) (past : List Moment) (e : Event) → is_allowed_closing (steps past) e ≡ false
+pub allowed_open : (setting : Setting) (past : List ParsedStep) (e : Event) → is_allowed_closing (steps past) e ≡ false
     → IsTrue (is_allowed setting past e) → is_allowed_running setting (steps past) e ≡ true
 unfolding is_allowed
 allowed_open setting past e shut x = open_test (is_some (closing setting past)) _ _ (and_parts _ _ x).1 shut
@@ -101,7 +101,7 @@ IsMute o = (head_of o ≡ None) × (step_bytes o ≡ 0) × (step_frames o ≡ 0)
 
 -- A step that takes no bytes, hands out nothing, is no pull, and changes neither the end of the input nor
 -- the protocol.
-pub record Quiet (before : List Moment) (s : Step) : Type 0 where
+pub record Quiet (before : List ParsedStep) (s : Step) : Type 0 where
   pub taken : step_taken s.event s.outcome ≡ []
   pub eof : is_eof s.event ≡ false
   pub accepted : is_accepted s.event s.outcome ≡ false
@@ -111,27 +111,27 @@ pub record Quiet (before : List Moment) (s : Step) : Type 0 where
   pub frames : step_frames s.outcome ≡ 0
 
 -- bytes were read before the end of the input
-pub record Reads (before : List Moment) (s : Step) : Type 0 where
+pub record Reads (before : List ParsedStep) (s : Step) : Type 0 where
   pub bytes : List ℕ
   pub event : s.event ≡ on.read bytes
   pub outcome : s.outcome ≡ on.took (min (length bytes) (MAX_HELD - held before))
   pub unended : has_ended (steps before) ≡ false
 
 -- the input ended
-pub record Ends (before : List Moment) (s : Step) : Type 0 where
+pub record Ends (before : List ParsedStep) (s : Step) : Type 0 where
   pub event : s.event ≡ on.eof
   pub outcome : s.outcome ≡ on.done
   pub unended : has_ended (steps before) ≡ false
 
 -- a WebSocket was accepted, before any pull
-pub record Accepts (before : List Moment) (s : Step) : Type 0 where
+pub record Accepts (before : List ParsedStep) (s : Step) : Type 0 where
   pub event : s.event ≡ on.accept
   pub outcome : s.outcome ≡ on.done
   pub unanswered : is_unanswered (steps before) ≡ true
   pub unpulled : (was_pulled (steps before) || was_dropped (steps before)) ≡ false
 
 -- a head was handed out
-pub record Begins (before : List Moment) (s : Step) : Type 0 where
+pub record Begins (before : List ParsedStep) (s : Step) : Type 0 where
   pub message : Message
   pub head : Head
   pub event : s.event ≡ on.next
@@ -140,11 +140,11 @@ pub record Begins (before : List Moment) (s : Step) : Type 0 where
   pub reading : message.reading ≡ head_is head
 
 -- more of the body was asked for
-pub record Pulls (before : List Moment) (s : Step) : Type 0 where
+pub record Pulls (before : List ParsedStep) (s : Step) : Type 0 where
   pub event : s.event ≡ on.pull
   pub outcome : s.outcome ≡ pull_outcome (steps before) (current before)
 
-pub data StepCase (before : List Moment) (s : Step) : Type 0 where
+pub data StepCase (before : List ParsedStep) (s : Step) : Type 0 where
   quiet : Quiet before s → StepCase before s
   reads : Reads before s → StepCase before s
   stops : Ends before s → StepCase before s
@@ -161,7 +161,7 @@ mute : (o o' : Outcome) → o ≡ o' → IsMute o' → IsMute o
 mute o o' e x = subst IsMute (sym e) x
 
 -- a quiet step
-silent : (before : List Moment) (e : Event) (o o' : Outcome) → o ≡ o' → IsMute o' → step_taken e o' ≡ [] → is_eof e ≡ false
+silent : (before : List ParsedStep) (e : Event) (o o' : Outcome) → o ≡ o' → IsMute o' → step_taken e o' ≡ [] → is_eof e ≡ false
     → is_accepted e o' ≡ false → is_pull e ≡ false → StepCase before (step e o)
 silent before e o o' same x taken eof accepted pull =
     let m = mute o o' same x in
@@ -176,7 +176,7 @@ silent before e o o' same x taken eof accepted pull =
     })
 
 -- the head of a message that is to come, or its fault
-head_case : (before : List Moment) (o : Outcome) (m : Message) (r : Reading) → upcoming before ≡ Some m → m.reading ≡ r → o ≡ head_outcome r
+head_case : (before : List ParsedStep) (o : Outcome) (m : Message) (r : Reading) → upcoming before ≡ Some m → m.reading ≡ r → o ≡ head_outcome r
     → StepCase before (step on.next o)
 head_case before o m (head_is h) e read x =
     begins (record { message = m; head = h; event = refl; outcome = x; upcoming_is = e; reading = read })
@@ -184,24 +184,24 @@ head_case before o m malformed e read x = silent before on.next o _ x (refl, ref
 head_case before o m too_large e read x = silent before on.next o _ x (refl, refl, refl) refl refl refl refl
 
 -- where no message is to come
-none_mute : (past : List Moment) → IsMute (upcoming_outcome past None)
+none_mute : (past : List ParsedStep) → IsMute (upcoming_outcome past None)
 none_mute past =
     cond_both (held past == MAX_HELD) (on.fault on.too_large) on.pending IsMute
     (λ _. (refl, refl, refl)) (λ _. (refl, refl, refl))
 
 -- Next while the connection is open, by the message that is to come
-coming_case : (before : List Moment) (o : Outcome) (m : Option Message) → upcoming before ≡ m → o ≡ upcoming_outcome before m
+coming_case : (before : List ParsedStep) (o : Outcome) (m : Option Message) → upcoming before ≡ m → o ≡ upcoming_outcome before m
     → StepCase before (step on.next o)
 coming_case before o (Some m) e x = head_case before o m m.reading e refl x
 coming_case before o None e x = silent before on.next o _ x (none_mute before) refl refl refl refl
 
 -- Next, by what closes the connection
-next_case : (before : List Moment) (o : Outcome) (end : Option End) → o ≡ next_outcome before end → StepCase before (step on.next o)
+next_case : (before : List ParsedStep) (o : Outcome) (end : Option End) → o ≡ next_outcome before end → StepCase before (step on.next o)
 next_case before o (Some end) x = silent before on.next o _ x (refl, refl, refl) refl refl refl refl
 next_case before o None x = coming_case before o (upcoming before) refl x
 
 -- a tick hands out nothing
-tick_mute : (setting : Setting) (past : List Moment) (end : Option End) (first ms : ℕ) → IsMute (tick_outcome setting past end first ms)
+tick_mute : (setting : Setting) (past : List ParsedStep) (end : Option End) (first ms : ℕ) → IsMute (tick_outcome setting past end first ms)
 tick_mute setting past (Some end) first ms =
     cond_both (is_abandoned setting past first ms) on.abandoned on.done IsMute
     (λ _. (refl, refl, refl)) (λ _. (refl, refl, refl))
@@ -217,7 +217,7 @@ send_mute None = (refl, refl, refl)
 send_mute (Some e) = (refl, refl, refl)
 
 -- Accept, by what is wrong with the handshake
-accept_case : (before : List Moment) (o : Outcome) (wrong : Option HandshakeError) → o ≡ unwrap_or (option_map on.refused wrong) on.done
+accept_case : (before : List ParsedStep) (o : Outcome) (wrong : Option HandshakeError) → o ≡ unwrap_or (option_map on.refused wrong) on.done
     → is_unanswered (steps before) ≡ true
     → (was_pulled (steps before) || was_dropped (steps before)) ≡ false → StepCase before (step on.accept o)
 accept_case before o (Some e) x unanswered unpulled =
@@ -226,7 +226,7 @@ accept_case before o None x unanswered unpulled =
     accepts (record { event = refl; outcome = x; unanswered = unanswered; unpulled = unpulled })
 
 -- each event that is allowed
-pub step_case : (setting : Setting) (before : List Moment) (e : Event) (o : Outcome) → IsTrue (is_allowed setting before e)
+pub step_case : (setting : Setting) (before : List ParsedStep) (e : Event) (o : Outcome) → IsTrue (is_allowed setting before e)
     → o ≡ outcome_of setting before e → StepCase before (step e o)
 unfolding outcome_of
 step_case setting before (on.read bytes) o ok x =
@@ -259,7 +259,7 @@ unfolding taken
 nothing_parsed = λ s e x. absurd (omega (arith, piece_long [] 0 s e x))
 
 -- the parse of a legal past is that of the bytes taken
-pub parsed : (setting : Setting) (past : List Moment) → Legal setting past → IsParse (input_of (steps past)) (parse_of past)
+pub parsed : (setting : Setting) (past : List ParsedStep) → Legal setting past → IsParse (input_of (steps past)) (parse_of past)
 parsed setting [] x = nothing_parsed
 parsed setting (m ∷ before) x = x.0
 
@@ -271,6 +271,6 @@ same_input s before none eof accepted =
     λ i. record { bytes = bytes i; upgraded = accepted i || is_upgraded before; ended = eof i || has_ended before }
 
 -- and with it the parse
-pub same_parse : (x : Moment) (before : List Moment) → input_of (x.step ∷ steps before) ≡ input_of (steps before)
+pub same_parse : (x : ParsedStep) (before : List ParsedStep) → input_of (x.step ∷ steps before) ≡ input_of (steps before)
     → IsParse (input_of (x.step ∷ steps before)) x.parse → IsParse (input_of (steps before)) (parse_of before) → x.parse ≡ parse_of before
 same_parse x before same p q = messages_unique (input_of (steps before)) 0 x.parse (parse_of before) (subst (λ (i : Input). IsParse i x.parse) same p) q

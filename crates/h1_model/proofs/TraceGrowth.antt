@@ -8,11 +8,11 @@ use Rattle.h1_model.specs.Frame.{ProtocolError}
 use Rattle.h1_model.specs.FrameText.{PlacedFrame}
 use Rattle.h1_model.specs.Request.{BodyKind, no_body, fixed_body, chunked_body, raw_body, Reading, too_large, malformed, head_is}
 use Rattle.h1_model.specs.Parse.{Input, Message, Body, content, frames, next_start, raw_content, shifted, chunked_stop, IsBodyOf, IsBodyAfter, IsMessageAt, AreMessages}
-use Rattle.h1_model.specs.Growth.{MessageGrows, GrowTo}
-use Rattle.h1_model.specs.Past.{Moment, steps, parse_of, head_count, current}
+use Rattle.h1_model.specs.Laws.Growth.{MessageGrows, GrowTo}
+use Rattle.h1_model.specs.Past.{ParsedStep, steps, parse_of, head_count, current}
 use Rattle.h1_model.proofs.HeadPieceLemmas.{head_piece_unique}
 use Rattle.h1_model.proofs.ReadingLemmas.{reading_unique}
-use Rattle.h1_model.proofs.ChunkLaws.{chunked_unique}
+use Rattle.h1_model.proofs.ChunkStubs.{chunked_unique}
 use Rattle.h1_model.proofs.BodyLemmas.{input}
 use Rattle.h1_model.proofs.MessageGrowth.{piece_long}
 use Rattle.h1_model.proofs.BodySteps.{Lies, body_lies}
@@ -147,11 +147,11 @@ accepted_at bytes ended place (q ∷ ms) (r ∷ ns) (suc k) m x y e =
 -- ---- the current message
 
 -- it is the last one whose head was handed out
-pub current_at : (past : List Moment) (k : ℕ) → head_count (steps past) ≡ suc k → current past ≡ slice_get (parse_of past) k
+pub current_at : (past : List ParsedStep) (k : ℕ) → head_count (steps past) ≡ suc k → current past ≡ slice_get (parse_of past) k
 current_at past k e =
     let less : suc k - 1 ≡ k = omega arith in
     rw (e, less) (cond-false _ _ _ (ne_eqb (suc k) 0 (omega arith)))
 
 -- where no head was handed out there is none
-pub current_none : (past : List Moment) → head_count (steps past) ≡ 0 → current past ≡ None
+pub current_none : (past : List ParsedStep) → head_count (steps past) ≡ 0 → current past ≡ None
 current_none past e = rw e refl

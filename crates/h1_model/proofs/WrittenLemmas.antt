@@ -7,7 +7,7 @@ use Rattle.h1_model.specs.Setting.{Setting}
 use Rattle.h1_model.specs.Request.{Reading, too_large, malformed, head_is}
 use Rattle.h1_model.specs.Frame.{ProtocolError}
 use Rattle.h1_model.specs.FrameText.{PlacedFrame, send_error}
-use Rattle.h1_model.specs.ChunkedText.{Run}
+use Rattle.h1_chunks.specs.Runs.{Run}
 use Rattle.h1_model.specs.Parse.{Message, Body, no_content, content, frames, Stop, ended_at, still_open, broken, cut}
 use Rattle.h1_model.specs.Handshake.{HandshakeError, handshake_error}
 use Rattle.h1_model.specs.Limits.{MAX_HELD}
@@ -16,7 +16,7 @@ use Rattle.h1_model.specs.End.{End}
 use Rattle.h1_model.specs.Event.{Event, Outcome}
 use Rattle.h1_model.specs.Event as on
 use Rattle.h1_model.specs.Sums.{Step, taken, step_written, written, request, is_sending}
-use Rattle.h1_model.specs.Past.{Moment, steps, current, upcoming, given_bytes, given_frames, held}
+use Rattle.h1_model.specs.Past.{ParsedStep, steps, current, upcoming, given_bytes, given_frames, held}
 use Rattle.h1_model.specs.Handed.{Begins}
 use Rattle.h1_model.specs.Text.{step_text, text, buffered}
 use Rattle.h1_model.specs.Closing.{closing}
@@ -57,12 +57,12 @@ head_writes_none (head_is h) = refl
 head_writes_none malformed = refl
 head_writes_none too_large = refl
 
-upcoming_writes_none : (past : List Moment) (m : Option Message) → step_written (upcoming_outcome past m) ≡ []
+upcoming_writes_none : (past : List ParsedStep) (m : Option Message) → step_written (upcoming_outcome past m) ≡ []
 upcoming_writes_none past (Some m) = head_writes_none m.reading
 upcoming_writes_none past None =
     cond_both (held past == MAX_HELD) (on.fault on.too_large) on.pending (λ o. step_written o ≡ []) (λ _. refl) (λ _. refl)
 
-next_writes_none : (past : List Moment) (end : Option End) → step_written (next_outcome past end) ≡ []
+next_writes_none : (past : List ParsedStep) (end : Option End) → step_written (next_outcome past end) ≡ []
 next_writes_none past (Some end) = refl
 next_writes_none past None = upcoming_writes_none past (upcoming past)
 
@@ -89,7 +89,7 @@ pull_writes_none trace None = refl
 pull_writes_none trace (Some m) = body_writes_none trace m.body
 
 -- Tick
-tick_writes_none : (setting : Setting) (past : List Moment) (end : Option End) (first ms : ℕ)
+tick_writes_none : (setting : Setting) (past : List ParsedStep) (end : Option End) (first ms : ℕ)
     → step_written (tick_outcome setting past end first ms) ≡ []
 tick_writes_none setting past (Some end) first ms =
     cond_both (is_abandoned setting past first ms) on.abandoned on.done (λ o. step_written o ≡ []) (λ _. refl) (λ _. refl)
@@ -123,7 +123,7 @@ write_begins w t n x =
     )
 
 -- each event, behind a past
-event_begins : (setting : Setting) (past : List Moment) (e : Event) → Begins (written (steps past)) (text setting (steps past))
+event_begins : (setting : Setting) (past : List ParsedStep) (e : Event) → Begins (written (steps past)) (text setting (steps past))
     → Begins (written (steps past) ++ step_written (outcome_of setting past e)) (text setting (steps past) ++ step_text setting (steps past) e (outcome_of setting past e))
 unfolding outcome_of
 event_begins setting past (on.write n) x =

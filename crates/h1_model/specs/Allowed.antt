@@ -1,13 +1,13 @@
 -- Which events are allowed behind a past.
-use Rattle.std.specs.Prelude.{ℕ, Bool, true, false, not, ◌&&◌, ◌||◌, List, length, nat_lt, nat_le, if◌then◌else◌, Option, Some, None, is_some, is_none}
+use Rattle.std.specs.Prelude.{ℕ, ◌+◌, Bool, true, false, not, ◌&&◌, ◌||◌, List, length, nat_lt, nat_le, if◌then◌else◌, Option, Some, None, is_some, is_none}
 use Rattle.std.specs.List.{list_any}
 use Rattle.h1_model.specs.Request.{Head, has_body, is_raw_kind}
 use Rattle.h1_model.specs.Setting.{Setting}
 use Rattle.h1_model.specs.Event.{Event, Outcome}
 use Rattle.h1_model.specs.Event as on
 use Rattle.h1_model.specs.Sums.{Step, request, since_head, answered, is_open, is_upgraded, is_answering, has_ended, is_draining, was_pulled, was_dropped, was_told_to_go_on, now}
-use Rattle.h1_model.specs.Limits.{MAX_MOMENT}
-use Rattle.h1_model.specs.Past.{Moment, steps}
+use Rattle.h1_model.specs.Limits.{MAX_FRAME_HEAD, MAX_MOMENT}
+use Rattle.h1_model.specs.Past.{ParsedStep, steps}
 use Rattle.h1_model.specs.Text.{buffered}
 use Rattle.h1_model.specs.Closing.{closing}
 
@@ -69,8 +69,9 @@ is_allowed_running setting trace on.body_end = is_answering trace
 is_allowed_running setting trace on.body_error = is_answering trace
 is_allowed_running setting trace (on.write n) = true
 is_allowed_running setting trace (on.tick ms) = is_moment trace ms
-is_allowed_running setting trace on.accept =
+is_allowed_running setting trace (on.accept limit) =
     is_unanswered trace && asks_raw (request trace) && not (was_pulled trace || was_dropped trace)
+    && nat_le (limit + MAX_FRAME_HEAD) setting.hold_size
 is_allowed_running setting trace (on.send m) = is_upgraded trace && has_room setting trace
 
 -- what is allowed once it closes
@@ -81,7 +82,7 @@ is_allowed_closing trace (on.tick ms) = is_moment trace ms
 is_allowed_closing trace _ = false
 
 -- the event is allowed
-unfoldable pub is_allowed : Setting → List Moment → Event → Bool
+unfoldable pub is_allowed : Setting → List ParsedStep → Event → Bool
 is_allowed setting past event =
     not (is_over (steps past))
     && (if is_some (closing setting past) then is_allowed_closing (steps past) event

@@ -2,16 +2,16 @@
 use Rattle.std.specs.Prelude.{ℕ, Bool, true, false, not, ◌&&◌, ◌||◌, List, [], ◌∷◌, length, nat_lt, if◌then◌else◌, Option, Some, None, is_some, is_none}
 use Rattle.std.specs.List.{list_any}
 use Rattle.std.specs.Option.{option_or}
-use Rattle.h1_model.specs.Request.{ConnectionType, keep_alive, Head}
+use Rattle.h1_model.specs.Request.{ConnectionType, keep_alive, Head, Fault, malformed, too_large}
 use Rattle.h1_model.specs.Setting.{Setting}
 use Rattle.h1_model.specs.Answer.{Shape, shape_length, shape_of, type_of, is_head_method}
 use Rattle.h1_model.specs.Parse.{Message, Body, content, still_open, broken, cut, frames_of, fail_of}
-use Rattle.h1_model.specs.Event.{Outcome, Fault}
+use Rattle.h1_model.specs.Event.{Outcome}
 use Rattle.h1_model.specs.Event as on
 use Rattle.h1_model.specs.End as ends
 use Rattle.h1_model.specs.End.{End}
 use Rattle.h1_model.specs.Sums.{Step, Answered, request, answered, answer_len, came_since_head, was_dropped, is_complete, is_open, is_upgraded, has_ended, is_draining, is_body_end, is_body_error, last_tick}
-use Rattle.h1_model.specs.Past.{Moment, steps, current, upcoming, given_frames, has_chunks}
+use Rattle.h1_model.specs.Past.{ParsedStep, steps, current, upcoming, given_frames, has_chunks}
 
 -- this end, where it holds
 abbrev pub end_where : Bool → End → Option End
@@ -20,8 +20,8 @@ end_where holds end = if holds then Some end else None
 -- ---- a fault, an expiry or a broken rule was told
 
 abbrev pub fault_end : Fault → End
-fault_end on.malformed = ends.malformed
-fault_end on.too_large = ends.too_large
+fault_end malformed = ends.malformed
+fault_end too_large = ends.too_large
 
 abbrev pub told_end : Outcome → Option End
 told_end (on.fault f) = Some (fault_end f)
@@ -71,7 +71,7 @@ abbrev pub unread_by : List Step → Option Message → Option End
 unread_by trace None = None
 unread_by trace (Some m) = unread_end m.body (has_chunks m.reading && was_dropped trace)
 
-abbrev pub answered_end : Setting → List Moment → Option End
+abbrev pub answered_end : Setting → List ParsedStep → Option End
 answered_end setting past =
     if is_complete (steps past)
     then option_or (asked_by setting (request (steps past)) (answered (steps past))) (unread_by (steps past) (current past))
@@ -85,12 +85,12 @@ has_more_frames trace None = false
 has_more_frames trace (Some m) = nat_lt (given_frames trace) (length (frames_of m.body)) || is_some (fail_of m.body)
 
 -- nothing more comes that could be handed out
-abbrev pub is_exhausted : List Moment → Bool
+abbrev pub is_exhausted : List ParsedStep → Bool
 is_exhausted past =
     if is_upgraded (steps past) then not (has_more_frames (steps past) (current past))
     else not (is_open (steps past)) && is_none (upcoming past)
 
-abbrev pub input_end : Setting → List Moment → Option End
+abbrev pub input_end : Setting → List ParsedStep → Option End
 input_end setting past =
     if has_ended (steps past)
     then option_or (end_where (not setting.allows_half_closed) ends.half_closed) (end_where (is_exhausted past) ends.input_ended)
@@ -100,7 +100,7 @@ abbrev pub drained_end : List Step → Option End
 drained_end trace = end_where (is_draining trace && (not (is_open trace) || is_upgraded trace)) ends.drained
 
 -- why the connection closes, if it does
-unfoldable pub closing : Setting → List Moment → Option End
+unfoldable pub closing : Setting → List ParsedStep → Option End
 closing setting past =
     option_or (told (steps past))
     (option_or (body_end_of (steps past))
@@ -109,7 +109,7 @@ closing setting past =
 
 -- the last tick before the connection began to close: none where it doesn't close, and where it closes
 -- Some of that tick, of which there may be none
-unfoldable pub closing_since : Setting → List Moment → Option (Option ℕ)
+unfoldable pub closing_since : Setting → List ParsedStep → Option (Option ℕ)
 closing_since setting [] = None
 closing_since setting (m ∷ before) =
     option_or (closing_since setting before)

@@ -1,6 +1,6 @@
 -- How a request's header lines frame its body (RFC 7230, section 3.3.3) and what they ask of the
 -- connection (section 6.1; RFC 7231, section 5.1.1). Each is a function of the whole list of lines.
-use Rattle.std.specs.Prelude.{ℕ, ◌^◌, Bool, true, false, ◌&&◌, List, [], ◌∷◌, map, filter, length, codes, bytes_eq, nat_eq, nat_lt, ◌==◌, if◌then◌else◌, Option, Some, None, option_and_then, option_map, unwrap_or}
+use Rattle.std.specs.Prelude.{ℕ, ◌^◌, Bool, true, false, not, ◌&&◌, ◌||◌, List, [], ◌∷◌, map, filter, length, codes, bytes_eq, nat_eq, nat_lt, ◌==◌, if◌then◌else◌, Option, Some, None, is_none, option_and_then, unwrap_or}
 use Rattle.std.specs.List.{list_all, list_any, last_or, starts_with}
 use Rattle.std.specs.Char.{is_ascii_digit}
 use Rattle.std.specs.Str.Parse.{digits_value}
@@ -22,46 +22,61 @@ length_value text =
     if nat_lt 0 (length text) && list_all is_ascii_digit text && nat_lt (digits_value 10 text) (2 ^ 64)
     then Some (digits_value 10 text) else None
 
--- what the Content-Length lines state, nothing where there is none; two lines are refused
-abbrev pub stated_length : List (List ℕ) → Option (Option ℕ)
-stated_length [] = Some None
-stated_length (value ∷ []) = option_map Some (length_value (trim_ows value))
-stated_length (value ∷ second ∷ more) = None
+-- the length that the first Content-Length line states, nothing where there is none
+abbrev pub stated_length : List (List ℕ) → Option ℕ
+stated_length [] = None
+stated_length (value ∷ more) = length_value (trim_ows value)
 
--- Whether the Transfer-Encoding lines say chunked. HTTP/1.1 takes one line of that word, and all
--- else is refused.
-abbrev pub is_chunked : ℕ → List (List ℕ) → Option Bool
-is_chunked minor [] = Some false
-is_chunked minor (value ∷ []) = if (minor == 1) && says value (codes "chunked") then Some true else None
-is_chunked minor (value ∷ second ∷ more) = None
+-- two Content-Length lines, or one that spells no number
+abbrev pub is_length_refused : List (List ℕ) → Bool
+is_length_refused [] = false
+is_length_refused (value ∷ []) = is_none (length_value (trim_ows value))
+is_length_refused (value ∷ second ∷ more) = true
+
+-- HTTP/1.1 takes one Transfer-Encoding line, and it says chunked
+abbrev pub is_coding_refused : ℕ → List (List ℕ) → Bool
+is_coding_refused minor [] = false
+is_coding_refused minor (value ∷ []) = not ((minor == 1) && says value (codes "chunked"))
+is_coding_refused minor (value ∷ second ∷ more) = true
+
+-- there is such a line
+abbrev pub is_there : List (List ℕ) → Bool
+is_there [] = false
+is_there (value ∷ more) = true
 
 -- some Upgrade line asks for a WebSocket (RFC 6455, section 4.1)
 abbrev pub asks_websocket : List Header → Bool
 asks_websocket headers = list_any (λ value. says value (codes "websocket")) (values_of (codes "upgrade") headers)
 
--- the body of a request that has no chunks and asks for no WebSocket, by its method and its stated length
-abbrev pub plain_body : ℕ → List ℕ → Option ℕ → Option BodyKind
-plain_body minor method (Some n) =
-    if nat_lt 0 n then Some (fixed_body n)
-    else (if bytes_eq method (codes "CONNECT") then Some raw_body else Some no_body)
-plain_body minor method None =
-    if (minor == 0) && bytes_eq method (codes "POST") then None
-    else (if bytes_eq method (codes "CONNECT") then Some raw_body else Some no_body)
+-- an HTTP/1.0 client can't say where the body of a POST ends but by its length, unless it asks for a WebSocket
+abbrev pub lacks_length : ℕ → List ℕ → List Header → Bool
+lacks_length minor method headers =
+    (minor == 0) && bytes_eq method (codes "POST") && not (is_there (values_of (codes "content-length") headers))
+    && not (asks_websocket headers)
 
--- A length beside chunks is refused; a WebSocket has no body but the frames.
-abbrev pub framed_body : ℕ → List ℕ → Bool → Bool → Option ℕ → Option BodyKind
-framed_body minor method websocket true (Some n) = None
-framed_body minor method websocket true None = Some chunked_body
-framed_body minor method true false length = Some raw_body
-framed_body minor method false false length = plain_body minor method length
+-- the lines frame no body: a length or a coding that is refused, both together, or none where one is needed
+abbrev pub is_framing_refused : ℕ → List ℕ → List Header → Bool
+is_framing_refused minor method headers =
+    let lengths = values_of (codes "content-length") headers in
+    let codings = values_of (codes "transfer-encoding") headers in
+    is_length_refused lengths || is_coding_refused minor codings || (is_there lengths && is_there codings)
+    || lacks_length minor method headers
+
+-- the body of a request without chunks that asks for no WebSocket
+abbrev pub plain_body : List ℕ → ℕ → BodyKind
+plain_body method length =
+    if nat_lt 0 length then fixed_body length else (if bytes_eq method (codes "CONNECT") then raw_body else no_body)
+
+-- where the body of a request ends whose lines aren't refused: chunks before a WebSocket before a length
+abbrev pub framed_body : List ℕ → List Header → BodyKind
+framed_body method headers =
+    if is_there (values_of (codes "transfer-encoding") headers) then chunked_body
+    else (if asks_websocket headers then raw_body
+    else plain_body method (unwrap_or (stated_length (values_of (codes "content-length") headers)) 0))
 
 -- the body of a request, or none where its lines are refused
 abbrev pub body_kind : ℕ → List ℕ → List Header → Option BodyKind
-body_kind minor method headers =
-    option_and_then
-    (λ chunked. option_and_then (framed_body minor method (asks_websocket headers) chunked)
-    (stated_length (values_of (codes "content-length") headers)))
-    (is_chunked minor (values_of (codes "transfer-encoding") headers))
+body_kind minor method headers = if is_framing_refused minor method headers then None else Some (framed_body method headers)
 
 -- the type that a Connection line names, if it is one of three words and no more
 abbrev pub named_type : List ℕ → Option ConnectionType

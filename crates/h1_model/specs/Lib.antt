@@ -3,7 +3,6 @@ pub mod HeadPiece
 pub mod Request
 pub mod LengthTable
 pub mod RequestHead
-pub mod ChunkedText
 pub mod Frame
 pub mod FrameText
 pub mod Parse
@@ -15,12 +14,10 @@ pub mod End
 pub mod Event
 pub mod Sums
 pub mod Handed
-pub mod Growth
-pub mod Moved
 pub mod Past
 pub mod Text
 pub mod Closing
 pub mod Allowed
 pub mod OutcomeTable
 pub mod Trace
-pub mod Kept
+pub mod Laws

@@ -1,14 +1,19 @@
--- The limits of a connection.
+-- The limits of a connection. How many bytes it holds is a part of its setting; those of a trailer section stand
+-- with the grammar of chunks.
 use Rattle.std.specs.Prelude.{ℕ}
-
--- the most bytes that are taken and not passed
-abbrev pub MAX_HELD : ℕ
-MAX_HELD = 131072
 
 -- the most header lines of a head
 abbrev pub MAX_HEADER_LINES : ℕ
 MAX_HEADER_LINES = 96
 
--- moments are below the first millisecond of the year 10000
+-- the most bytes of a frame that are not its payload: two, the further bytes of its length, and its mask
+abbrev pub MAX_FRAME_HEAD : ℕ
+MAX_FRAME_HEAD = 14
+
+-- the most bytes that the payload of a control frame may have (RFC 6455, section 5.5)
+abbrev pub MAX_CONTROL_PAYLOAD : ℕ
+MAX_CONTROL_PAYLOAD = 125
+
+-- moments, in milliseconds since 1970, are below the first one of the year 10000
 abbrev pub MAX_MOMENT : ℕ
 MAX_MOMENT = 253402300800000

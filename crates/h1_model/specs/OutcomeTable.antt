@@ -1,8 +1,9 @@
 -- What a connection answers to an allowed event: a function of the past.
-use Rattle.std.specs.Prelude.{ℕ, ◌+◌, ◌-◌, Bool, false, not, ◌&&◌, List, [], ◌∷◌, length, take, min, nat_lt, nat_le, ◌==◌, if◌then◌else◌, Option, Some, None, is_some, unwrap_or, option_map, option_and_then, slice_get, slice_range}
-use Rattle.h1_model.specs.Request.{Head, Reading, too_large, malformed, head_is}
+use Rattle.std.specs.Prelude.{ℕ, ◌+◌, ◌-◌, Bool, true, false, not, ◌&&◌, List, [], ◌∷◌, length, take, min, nat_lt, nat_le, ◌==◌, if◌then◌else◌, Option, Some, None, is_some, unwrap_or, option_map, option_and_then, slice_get, slice_range}
+use Rattle.std.specs.List.{list_any}
+use Rattle.h1_model.specs.Request.{Header, Head, too_large, Reading, head_is, faulty}
 use Rattle.h1_model.specs.Setting.{Setting, KeepAlive, timeout}
-use Rattle.h1_model.specs.ChunkedText.{Run}
+use Rattle.h1_chunks.specs.Runs.{Run}
 use Rattle.h1_model.specs.Frame.{ProtocolError}
 use Rattle.h1_model.specs.FrameText.{PlacedFrame, send_error}
 use Rattle.h1_model.specs.Parse as parsed
@@ -12,9 +13,8 @@ use Rattle.h1_model.specs.Event.{Event, Outcome, corrupted, incomplete}
 use Rattle.h1_model.specs.Event as on
 use Rattle.h1_model.specs.End as ends
 use Rattle.h1_model.specs.End.{End}
-use Rattle.h1_model.specs.Sums.{Step, taken, request, is_open, is_complete, is_sending, first_tick, completed_at}
-use Rattle.h1_model.specs.Limits.{MAX_HELD}
-use Rattle.h1_model.specs.Past.{Moment, steps, parse_of, current, upcoming, given_bytes, given_frames, held}
+use Rattle.h1_model.specs.Sums.{Step, taken, request, since_head, is_open, is_complete, is_sending, first_tick, completed_at}
+use Rattle.h1_model.specs.Past.{ParsedStep, steps, parse_of, current, upcoming, given_bytes, given_frames, held}
 use Rattle.h1_model.specs.Text.{buffered}
 use Rattle.h1_model.specs.Closing.{closing, closing_since}
 
@@ -22,17 +22,16 @@ use Rattle.h1_model.specs.Closing.{closing, closing_since}
 
 abbrev pub head_outcome : Reading → Outcome
 head_outcome (head_is h) = on.head h
-head_outcome malformed = on.fault on.malformed
-head_outcome too_large = on.fault on.too_large
+head_outcome (faulty fault) = on.fault fault
 
 -- the next message's head, or a fault where no more bytes could be taken for one
-abbrev pub upcoming_outcome : List Moment → Option parsed.Message → Outcome
-upcoming_outcome past (Some m) = head_outcome m.reading
-upcoming_outcome past None = if held past == MAX_HELD then on.fault on.too_large else on.pending
+abbrev pub upcoming_outcome : Setting → List ParsedStep → Option parsed.Message → Outcome
+upcoming_outcome setting past (Some m) = head_outcome m.reading
+upcoming_outcome setting past None = if held past == setting.hold_size then on.fault too_large else on.pending
 
-abbrev pub next_outcome : List Moment → Option End → Outcome
-next_outcome past (Some end) = on.closed end
-next_outcome past None = upcoming_outcome past (upcoming past)
+abbrev pub next_outcome : Setting → List ParsedStep → Option End → Outcome
+next_outcome setting past (Some end) = on.closed end
+next_outcome setting past None = upcoming_outcome setting past (upcoming past)
 
 -- ---- Pull
 
@@ -43,16 +42,29 @@ run_left given (r ∷ rs) =
     if nat_lt given (r.end - r.start) then Some (record { start = r.start + given; end = r.end })
     else run_left (given - (r.end - r.start)) rs
 
-abbrev pub stop_outcome : Stop → Outcome
-stop_outcome (ended_at place) = on.body_ended
-stop_outcome broken = on.broken_by corrupted
-stop_outcome cut = on.broken_by incomplete
-stop_outcome still_open = on.pending
+-- trailers were handed out since the head
+abbrev pub is_trailers : Outcome → Bool
+is_trailers (on.trailers lines) = true
+is_trailers _ = false
+
+abbrev pub gave_trailers : List Step → Bool
+gave_trailers trace = list_any (λ s. is_trailers s.outcome) (since_head trace)
+
+-- the trailers of an ended body, once, and then its end
+abbrev pub ended_outcome : Bool → List Header → Outcome
+ended_outcome given [] = on.body_ended
+ended_outcome given (line ∷ more) = if given then on.body_ended else on.trailers (line ∷ more)
+
+abbrev pub stop_outcome : Bool → Stop → Outcome
+stop_outcome given (ended_at place trailers) = ended_outcome given trailers
+stop_outcome given broken = on.broken_by corrupted
+stop_outcome given cut = on.broken_by incomplete
+stop_outcome given still_open = on.pending
 
 -- all bytes of the run that were taken and not given, and else how the body stops
-abbrev pub run_outcome : List ℕ → Stop → Option Run → Outcome
-run_outcome bytes stop (Some r) = on.bytes (slice_range bytes r.start r.end)
-run_outcome bytes stop None = stop_outcome stop
+abbrev pub run_outcome : List Step → Stop → Option Run → Outcome
+run_outcome trace stop (Some r) = on.bytes (slice_range (taken trace) r.start r.end)
+run_outcome trace stop None = stop_outcome (gave_trailers trace) stop
 
 -- the next frame, and else the rule that the bytes behind it break
 abbrev pub frame_outcome : Option ProtocolError → Option PlacedFrame → Outcome
@@ -61,7 +73,7 @@ frame_outcome fail None = unwrap_or (option_map on.protocol fail) on.pending
 
 abbrev pub body_outcome : List Step → Body → Outcome
 body_outcome trace no_content = on.pending
-body_outcome trace (content runs stop) = run_outcome (taken trace) stop (run_left (given_bytes trace) runs)
+body_outcome trace (content runs stop) = run_outcome trace stop (run_left (given_bytes trace) runs)
 body_outcome trace (frames placed fail) = frame_outcome fail (slice_get placed (given_frames trace))
 
 abbrev pub pull_outcome : List Step → Option parsed.Message → Outcome
@@ -79,13 +91,13 @@ abbrev pub has_run_out : ℕ → ℕ → ℕ → Bool
 has_run_out wait since ms = not (wait == 0) && nat_le (since + wait) ms
 
 -- bytes are left that the peer doesn't take
-abbrev pub is_abandoned : Setting → List Moment → ℕ → ℕ → Bool
+abbrev pub is_abandoned : Setting → List ParsedStep → ℕ → ℕ → Bool
 is_abandoned setting past first ms =
     not (length (buffered setting (steps past)) == 0)
     && has_run_out setting.disconnect_timeout (counted_from first (unwrap_or (closing_since setting past) None)) ms
 
 -- no head has come whole
-abbrev pub is_slow : Setting → List Moment → ℕ → ℕ → Bool
+abbrev pub is_slow : Setting → List ParsedStep → ℕ → ℕ → Bool
 is_slow setting past first ms =
     (length (parse_of past) == 0) && has_run_out setting.request_timeout first ms
 
@@ -99,12 +111,12 @@ has_ended_body None = false
 has_ended_body (Some m) = is_some (next_start m.body)
 
 -- the last answer is complete, nothing is left of its request, and no other one has begun
-abbrev pub is_idle : Setting → List Moment → ℕ → ℕ → Bool
+abbrev pub is_idle : Setting → List ParsedStep → ℕ → ℕ → Bool
 is_idle setting past first ms =
     is_complete (steps past) && not (is_open (steps past)) && has_ended_body (current past) && (held past == 0)
     && is_kept_too_long setting.keep_alive (counted_from first (completed_at (steps past))) ms
 
-abbrev pub tick_outcome : Setting → List Moment → Option End → ℕ → ℕ → Outcome
+abbrev pub tick_outcome : Setting → List ParsedStep → Option End → ℕ → ℕ → Outcome
 tick_outcome setting past (Some end) first ms = if is_abandoned setting past first ms then on.abandoned else on.done
 tick_outcome setting past None first ms =
     if is_slow setting past first ms then on.expired ends.slow_request
@@ -119,13 +131,13 @@ abbrev pub send_outcome : Option ProtocolError → Outcome
 send_outcome error = unwrap_or (option_map on.protocol error) on.done
 
 -- the outcome of an event that is allowed
-unfoldable pub outcome_of : Setting → List Moment → Event → Outcome
-outcome_of setting past (on.read bytes) = on.took (min (length bytes) (MAX_HELD - held past))
-outcome_of setting past on.next = next_outcome past (closing setting past)
+unfoldable pub outcome_of : Setting → List ParsedStep → Event → Outcome
+outcome_of setting past (on.read bytes) = on.took (min (length bytes) (setting.hold_size - held past))
+outcome_of setting past on.next = next_outcome setting past (closing setting past)
 outcome_of setting past on.pull = pull_outcome (steps past) (current past)
 outcome_of setting past (on.write n) = on.gave (take n (buffered setting (steps past)))
 outcome_of setting past (on.tick ms) =
     tick_outcome setting past (closing setting past) (unwrap_or (first_tick (steps past)) ms) ms
-outcome_of setting past on.accept = accept_outcome (request (steps past))
+outcome_of setting past (on.accept limit) = accept_outcome (request (steps past))
 outcome_of setting past (on.send m) = send_outcome (send_error (is_sending (steps past)) m)
 outcome_of setting past _ = on.done

@@ -2,33 +2,35 @@
 -- passed, and what is held.
 use Rattle.std.specs.Prelude.{ℕ, ◌+◌, ◌-◌, Bool, false, List, [], ◌∷◌, length, map, sum_by, count_by, nat_le, ◌==◌, if◌then◌else◌, Option, Some, None, unwrap_or, is_some, slice_get, ⊤}
 use Rattle.h1_model.specs.Request.{Reading, head_is, is_chunked_kind}
-use Rattle.h1_model.specs.ChunkedText.{Run}
+use Rattle.h1_model.specs.Setting.{Setting}
+use Rattle.h1_chunks.specs.Runs.{Run}
 use Rattle.h1_model.specs.FrameText.{PlacedFrame}
 use Rattle.h1_model.specs.Parse.{Input, Message, next_start, runs_of, frames_of, IsParse}
 use Rattle.h1_model.specs.Event.{Event, Outcome}
 use Rattle.h1_model.specs.Event as on
-use Rattle.h1_model.specs.Sums.{Step, taken, has_ended, is_upgraded, is_complete, since_head, head_of}
+use Rattle.h1_model.specs.Sums.{Step, taken, has_ended, accepted, is_complete, since_head, head_of}
 
 -- a step, and the parse of all bytes taken by then
-pub record Moment : Type 0 where
+pub record ParsedStep : Type 0 where
   pub step : Step
   pub parse : List Message
 
 -- the steps of a past, the newest first as there
-abbrev pub steps : List Moment → List Step
+abbrev pub steps : List ParsedStep → List Step
 steps past = map (λ m. m.step) past
 
--- what the bytes taken are parsed as
-abbrev pub input_of : List Step → Input
-input_of trace = record { bytes = taken trace; upgraded = is_upgraded trace; ended = has_ended trace }
+-- what is parsed behind a trace
+abbrev pub input_of : Setting → List Step → Input
+input_of setting trace =
+    record { bytes = taken trace; upgraded = accepted trace; ended = has_ended trace; hold_size = setting.hold_size }
 
 -- each parse is the one of the bytes taken by then
-abbrev pub IsPast : List Moment → Type 0
-IsPast [] = ⊤
-IsPast (m ∷ before) = IsParse (input_of (m.step ∷ steps before)) m.parse × IsPast before
+abbrev pub IsPast : Setting → List ParsedStep → Type 0
+IsPast setting [] = ⊤
+IsPast setting (m ∷ before) = IsParse (input_of setting (m.step ∷ steps before)) m.parse × IsPast setting before
 
 -- the messages that were parsed so far
-abbrev pub parse_of : List Moment → List Message
+abbrev pub parse_of : List ParsedStep → List Message
 parse_of [] = []
 parse_of (m ∷ before) = m.parse
 
@@ -39,11 +41,11 @@ abbrev pub head_count : List Step → ℕ
 head_count trace = count_by (λ s. is_some (head_of s.outcome)) trace
 
 -- the message whose head was handed out last, as it is parsed now
-abbrev pub current : List Moment → Option Message
+abbrev pub current : List ParsedStep → Option Message
 current past = if head_count (steps past) == 0 then None else slice_get (parse_of past) (head_count (steps past) - 1)
 
 -- the message behind it
-abbrev pub upcoming : List Moment → Option Message
+abbrev pub upcoming : List ParsedStep → Option Message
 upcoming past = slice_get (parse_of past) (head_count (steps past))
 
 -- how many bytes of its body, and how many frames, were handed out
@@ -82,10 +84,11 @@ abbrev pub has_chunks : Reading → Bool
 has_chunks (head_is h) = is_chunked_kind h.body
 has_chunks _ = false
 
--- What a pull passes: bytes up to their end, an end or a frame up to it. A chunked body of which nothing
--- can be given is read past as far as it was taken.
+-- What a pull passes: bytes or a frame up to their end, trailers and the end up to the body's. A chunked body
+-- of which nothing can be given is read past as far as it was taken.
 abbrev pub pulled_place : Message → List Step → Event → Outcome → Option ℕ
 pulled_place m trace on.pull (on.bytes more) = Some (place_behind m.body_start (given_bytes trace) (runs_of m.body))
+pulled_place m trace on.pull (on.trailers lines) = next_start m.body
 pulled_place m trace on.pull on.body_ended = next_start m.body
 pulled_place m trace on.pull (on.frame f) = Some (frame_end m.body_start (given_frames trace) (frames_of m.body))
 pulled_place m trace on.pull on.pending = if has_chunks m.reading then Some (length (taken trace)) else None
@@ -100,12 +103,12 @@ pulled_to m (s ∷ before) =
 
 -- A message whose answer is complete is passed up to its end, or as far as it was taken. A fault passes
 -- nothing.
-abbrev pub message_passed : List Moment → Message → ℕ
+abbrev pub message_passed : List ParsedStep → Message → ℕ
 message_passed past m =
     if is_complete (steps past) then unwrap_or (next_start m.body) (length (taken (steps past))) else pulled_to m (steps past)
 
 -- how far the bytes taken are passed
-abbrev pub passed : List Moment → ℕ
+abbrev pub passed : List ParsedStep → ℕ
 passed past = passed_by (current past)
   where
     passed_by : Option Message → ℕ
@@ -113,5 +116,5 @@ passed past = passed_by (current past)
     passed_by (Some m) = message_passed past m
 
 -- how many bytes are taken and not passed
-abbrev pub held : List Moment → ℕ
+abbrev pub held : List ParsedStep → ℕ
 held past = length (taken (steps past)) - passed past

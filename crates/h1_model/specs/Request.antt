@@ -38,7 +38,11 @@ pub record Head : Type 0 where
   pub connection : ConnectionType
   pub expects : Bool
 
+-- what is wrong with a head
+pub data Fault : Type 0 where
+  malformed too_large : Fault
+
 -- what a whole head is read as
 pub data Reading : Type 0 where
-  too_large malformed : Reading
   head_is : Head → Reading
+  faulty : Fault → Reading

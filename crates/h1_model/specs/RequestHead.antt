@@ -1,6 +1,6 @@
 -- What a whole head is read as (RFC 7230, sections 3 and 5.3): the grammar is httparse's, and the method,
 -- the target, the names and the values are those that http, http_uri and http_header take.
-use Rattle.std.specs.Prelude.{◌≡◌, ℕ, ◌<◌, ◌≤◌, List, [], map, All, Option, Some}
+use Rattle.std.specs.Prelude.{◌≡◌, ℕ, ◌<◌, ◌≤◌, ◌⊎◌, List, [], length, map, All, Option, Some}
 use Rattle.httparse.specs.Grammar.{RequestHead, ReadsRequest, Field, field_value}
 use Rattle.http_header.specs.Token.{IsToken, lowercase}
 use Rattle.http_header.specs.FieldName.{IsFieldName}
@@ -9,7 +9,7 @@ use Rattle.http_uri.specs.Grammar.{IsUriText}
 use Rattle.h1_model.specs.HeadPiece.{header_lines}
 use Rattle.h1_model.specs.Limits.{MAX_HEADER_LINES}
 use Rattle.h1_model.specs.LengthTable.{body_kind, connection_of, expects_continue}
-use Rattle.h1_model.specs.Request.{Header, Head, Reading, too_large, malformed, head_is}
+use Rattle.h1_model.specs.Request.{Header, Head, malformed, too_large, Reading, head_is, faulty}
 
 -- a field line as a header
 abbrev pub header_of : Field → Header
@@ -39,6 +39,11 @@ pub record IsHeadOf (piece : List ℕ) (h : Head) : Type 0 where
 
 -- Too many lines are judged before all else; what then is no head is malformed.
 abbrev pub IsReading : List ℕ → Reading → Type 0
-IsReading piece too_large = MAX_HEADER_LINES < header_lines piece
-IsReading piece malformed = (header_lines piece ≤ MAX_HEADER_LINES) × ((h : Head) → ¬ (IsHeadOf piece h))
+IsReading piece (faulty too_large) = MAX_HEADER_LINES < header_lines piece
+IsReading piece (faulty malformed) = (header_lines piece ≤ MAX_HEADER_LINES) × ((h : Head) → ¬ (IsHeadOf piece h))
 IsReading piece (head_is h) = (header_lines piece ≤ MAX_HEADER_LINES) × IsHeadOf piece h
+
+-- a piece longer than a connection may hold is too large, whatever it says
+abbrev pub IsReadingWithin : ℕ → List ℕ → Reading → Type 0
+IsReadingWithin hold_size piece reading =
+    ((length piece ≤ hold_size) × IsReading piece reading) ⊎ ((hold_size < length piece) × (reading ≡ faulty too_large))

@@ -6,13 +6,15 @@ pub data KeepAlive : Type 0 where
   timeout : ℕ → KeepAlive
   by_system disabled : KeepAlive
 
--- a request or disconnect timeout of 0 is off; write_buffer is in bytes
+-- A request or disconnect timeout of 0 is off. hold_size is the most bytes that are taken and not passed;
+-- a piece of an answer waits while write_buffer bytes are to be written.
 pub record Setting : Type 0 where
   pub keep_alive : KeepAlive
   pub request_timeout : ℕ
   pub disconnect_timeout : ℕ
   pub allows_half_closed : Bool
   pub write_buffer : ℕ
+  pub hold_size : ℕ
 
 -- answers may leave the connection open
 abbrev pub keeps : KeepAlive → Bool

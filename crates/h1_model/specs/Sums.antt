@@ -64,9 +64,10 @@ abbrev pub is_body_error : Event → Bool
 is_body_error on.body_error = true
 is_body_error _ = false
 
-abbrev pub is_accepted : Event → Outcome → Bool
-is_accepted on.accept on.done = true
-is_accepted _ _ = false
+-- the limit of payloads of a WebSocket that was accepted
+abbrev pub accepted_limit : Event → Outcome → Option ℕ
+accepted_limit (on.accept limit) on.done = Some limit
+accepted_limit _ _ = None
 
 -- the input has ended
 abbrev pub has_ended : List Step → Bool
@@ -76,9 +77,14 @@ has_ended steps = list_any (λ s. is_eof s.event) steps
 abbrev pub is_draining : List Step → Bool
 is_draining steps = list_any (λ s. is_drain s.event) steps
 
+-- the limit of payloads on a connection that speaks WebSocket, and nothing on one that doesn't
+unfoldable pub accepted : List Step → Option ℕ
+accepted [] = None
+accepted (s ∷ before) = option_or (accepted_limit s.event s.outcome) (accepted before)
+
 -- the connection speaks WebSocket
 abbrev pub is_upgraded : List Step → Bool
-is_upgraded steps = list_any (λ s. is_accepted s.event s.outcome) steps
+is_upgraded steps = is_some (accepted steps)
 
 -- ---- moments
 

@@ -1,13 +1,13 @@
 -- The text that a connection writes: the texts of its steps, in order.
 use Rattle.std.specs.Prelude.{ℕ, List, [], ◌∷◌, ◌++◌, length, drop, Option, Some, None}
-use Rattle.h1_model.specs.Request.{Head}
+use Rattle.h1_model.specs.Request.{Head, Fault, malformed, too_large}
 use Rattle.h1_model.specs.Setting.{Setting}
 use Rattle.h1_model.specs.Answer.{AnswerHead, BodySize, size_stream, shape_of, type_of}
 use Rattle.h1_model.specs.AnswerText.{head_text, sent_piece, sent_end, interim_text, bad_request_text, too_large_text, timeout_text}
 use Rattle.h1_model.specs.Handshake.{accepting_head}
 use Rattle.h1_model.specs.Frame as frames
 use Rattle.h1_model.specs.FrameText.{frame_text}
-use Rattle.h1_model.specs.Event.{Event, Outcome, Fault}
+use Rattle.h1_model.specs.Event.{Event, Outcome}
 use Rattle.h1_model.specs.End as ends
 use Rattle.h1_model.specs.End.{End}
 use Rattle.h1_model.specs.Event as on
@@ -34,8 +34,8 @@ accept_text setting before None = []
 accept_text setting before (Some h) = answer_text setting before (accepting_head h) size_stream (Some h)
 
 abbrev pub fault_answer : Fault → ℕ → List ℕ
-fault_answer on.malformed now = bad_request_text now
-fault_answer on.too_large now = too_large_text now
+fault_answer malformed now = bad_request_text now
+fault_answer too_large now = too_large_text now
 
 -- a request that is too slow is answered, with the moment of this tick; a connection that is only kept isn't
 abbrev pub expiry_text : End → ℕ → List ℕ
@@ -52,7 +52,7 @@ step_text setting before (on.answer head size) on.done = answer_text setting bef
 step_text setting before (on.chunk bytes) on.done = chunk_sent (answer_len before) bytes (request before) (answered before)
 step_text setting before on.body_end on.done = end_sent (request before) (answered before)
 step_text setting before on.go_on on.done = interim_text
-step_text setting before on.accept on.done = accept_text setting before (request before)
+step_text setting before (on.accept limit) on.done = accept_text setting before (request before)
 step_text setting before (on.send m) on.done = message_text m
 step_text setting before on.next (on.fault f) = fault_answer f (now before)
 step_text setting before (on.tick ms) (on.expired end) = expiry_text end ms

@@ -4,27 +4,27 @@ use Rattle.std.specs.Prelude.{◌≡◌, List, [], ◌∷◌, IsTrue, IsFalse, �
 use Rattle.h1_model.specs.Setting.{Setting}
 use Rattle.h1_model.specs.Event.{Event, Outcome}
 use Rattle.h1_model.specs.Sums.{Step}
-use Rattle.h1_model.specs.Past.{Moment, steps, IsPast}
+use Rattle.h1_model.specs.Past.{ParsedStep, steps, IsPast}
 use Rattle.h1_model.specs.Allowed.{is_allowed}
 use Rattle.h1_model.specs.OutcomeTable.{outcome_of}
 
 -- the past is that of this trace
-pub record IsPastOf (trace : List Step) (past : List Moment) : Type 0 where
+pub record IsPastOf (setting : Setting) (trace : List Step) (past : List ParsedStep) : Type 0 where
   pub same : steps past ≡ trace
-  pub right : IsPast past
+  pub right : IsPast setting past
 
 -- the event is allowed behind the trace
 abbrev pub IsAllowed : Setting → List Step → Event → Type 0
-IsAllowed setting trace event = (past : List Moment) × IsPastOf trace past × IsTrue (is_allowed setting past event)
+IsAllowed setting trace event = (past : List ParsedStep) × IsPastOf setting trace past × IsTrue (is_allowed setting past event)
 
 -- the event isn't allowed behind the trace
 abbrev pub IsMisplaced : Setting → List Step → Event → Type 0
-IsMisplaced setting trace event = (past : List Moment) × IsPastOf trace past × IsFalse (is_allowed setting past event)
+IsMisplaced setting trace event = (past : List ParsedStep) × IsPastOf setting trace past × IsFalse (is_allowed setting past event)
 
 -- the event's outcome behind the trace
 abbrev pub IsOutcome : Setting → List Step → Event → Outcome → Type 0
 IsOutcome setting trace event outcome =
-    (past : List Moment) × IsPastOf trace past × (outcome ≡ outcome_of setting past event)
+    (past : List ParsedStep) × IsPastOf setting trace past × (outcome ≡ outcome_of setting past event)
 
 -- each event is allowed where it comes, and its outcome is the table's
 abbrev pub IsTrace : Setting → List Step → Type 0

@@ -5,7 +5,7 @@ ghost use Rattle.h1_model.specs.Setting.{Setting};
 ghost use Rattle.h1_model.specs.Parse.{Input, Message, IsParse};
 ghost use Rattle.h1_model.specs.Sums.{Step};
 ghost use Rattle.h1_model.specs.Handed.{Handed, IsPrefixOf, HandsOutPrefix};
-ghost use Rattle.h1_model.specs.Past.{Moment, parse_of};
+ghost use Rattle.h1_model.specs.Past.{ParsedStep, parse_of};
 ghost use Rattle.h1_model.specs.Trace.{IsPastOf, IsTrace};
 
 /// What was handed out stays the beginning of the parse when bytes follow, if no fault stands behind the parse.
@@ -18,6 +18,6 @@ pub fn handed_out_stays()
 /// All that a trace hands out is the beginning of the parse of the bytes taken: heads, bodies, ends, frames
 /// and faults, in order.
 pub fn handed_out_is_parsed()
-    ensures { (setting : Setting) (trace : List Step) (past : List Moment) → IsTrace setting trace → IsPastOf trace past
+    ensures { (setting : Setting) (trace : List Step) (past : List ParsedStep) → IsTrace setting trace → IsPastOf trace past
         → HandsOutPrefix trace (parse_of past) }
 {}

@@ -2,8 +2,8 @@
 
 ghost use Rattle.std.specs.Prelude.{◌≡◌, ℕ, ◌≤◌, false, List, ◌∷◌, ◌++◌, length, drop, map, Some};
 ghost use Rattle.h1_model.specs.Parse.{Input, Message, next_start, AreMessages, IsParse};
-ghost use Rattle.h1_model.specs.Growth.{GrowTo};
-ghost use Rattle.h1_model.specs.Moved.{moved};
+ghost use Rattle.h1_model.specs.Laws.Growth.{GrowTo};
+ghost use Rattle.h1_model.specs.Laws.Moved.{moved};
 
 /// The bytes are parsed in one way.
 pub fn parse_is_unique()

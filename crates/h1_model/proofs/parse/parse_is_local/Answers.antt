@@ -1,6 +1,6 @@
 use Rattle.std.proofs.Common.{◌≡◌, ◌+◌, map, subst, arith}
 use Rattle.h1_model.specs.Parse.{AreMessages}
-use Rattle.h1_model.specs.Moved.{moved}
+use Rattle.h1_model.specs.Laws.Moved.{moved}
 use Rattle.h1_model.proofs.MovedLemmas.{moved_messages, moved_from}
 use Rattle.h1_model.proofs.parse.parse_is_local.Goals as goal
 

@@ -4,7 +4,7 @@ use Rattle.h1_model.specs.FrameText.{PlacedFrame}
 use Rattle.h1_model.specs.Parse.{Message, Body, no_content, content, frames, Stop, ended_at, shifted}
 
 abbrev pub moved_stop : ℕ → Stop → Stop
-moved_stop len (ended_at place) = ended_at (len + place)
+moved_stop len (ended_at place trailers) = ended_at (len + place) trailers
 moved_stop len stop = stop
 
 abbrev pub moved_frame : ℕ → PlacedFrame → PlacedFrame
