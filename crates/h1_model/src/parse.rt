@@ -1,9 +1,10 @@
 //! The laws of the parse of all bytes taken.
 
-ghost use Rattle.std.specs.Prelude.{◌≡◌, ℕ, ◌≤◌, false, List, ◌∷◌, ◌++◌, length, drop, map, Some};
+ghost use Rattle.std.specs.Prelude.{◌≡◌, ℕ, ◌≤◌, false, List, ◌∷◌, ◌++◌, length, drop, map, Option, Some, None};
 ghost use Rattle.h1_model.specs.Parse.{Input, Message, next_start, AreMessages, IsParse};
 ghost use Rattle.h1_model.specs.Laws.Growth.{GrowTo};
 ghost use Rattle.h1_model.specs.Laws.Moved.{moved};
+ghost use Rattle.h1_model.specs.Laws.Upgrade.{StayUpgraded};
 
 /// The bytes are parsed in one way.
 pub fn parse_is_unique()
@@ -13,7 +14,13 @@ pub fn parse_is_unique()
 /// When bytes follow, each message that was parsed stays where it was, with what there was of its body.
 pub fn parse_stays()
     ensures { (i j : Input) (more : List ℕ) (ms ns : List Message) → j.bytes ≡ i.bytes ++ more → j.upgraded ≡ i.upgraded
-        → i.ended ≡ false → IsParse i ms → IsParse j ns → GrowTo i.bytes j.bytes ms ns }
+        → j.hold_size ≡ i.hold_size → i.ended ≡ false → IsParse i ms → IsParse j ns → GrowTo i.bytes j.bytes ms ns }
+{}
+
+/// Accepting a WebSocket leaves every message as it was but for a raw body, which is the last one's.
+pub fn accepting_leaves_the_messages()
+    ensures { (i : Input) (limit : ℕ) (ms ns : List Message) → i.upgraded ≡ None → IsParse i ms
+        → IsParse (record i { upgraded = Some limit }) ns → StayUpgraded ms ns }
 {}
 
 /// The messages behind a body that has ended are those from its end on.

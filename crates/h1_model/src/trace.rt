@@ -1,23 +1,24 @@
-//! Laws of traces: one past, one outcome, and a bound on what a connection holds.
+//! Laws of traces: one past, one outcome for each event, and a bound on what a connection holds.
 
-ghost use Rattle.std.specs.Prelude.{◌≡◌, ◌≤◌, List, ◌++◌, length, IsTrue};
+ghost use Rattle.std.specs.Prelude.{◌≡◌, ◌≤◌, ◌⊎◌, List, [], ◌∷◌, ◌++◌, length, map, Some, IsTrue};
 ghost use Rattle.h1_model.specs.Setting.{Setting};
+ghost use Rattle.h1_model.specs.End.{End};
 ghost use Rattle.h1_model.specs.Event.{Event, Outcome};
 ghost use Rattle.h1_model.specs.Sums.{Step, taken, written};
-ghost use Rattle.h1_model.specs.Limits.{MAX_HELD};
 ghost use Rattle.h1_model.specs.Past.{ParsedStep, passed, held};
 ghost use Rattle.h1_model.specs.Text.{text, buffered};
+ghost use Rattle.h1_model.specs.Closing.{closing};
 ghost use Rattle.h1_model.specs.Allowed.{is_allowed};
-ghost use Rattle.h1_model.specs.Trace.{IsPastOf, IsAllowed, IsOutcome, IsTrace};
+ghost use Rattle.h1_model.specs.Trace.{IsPastOf, IsAllowed, IsMisplaced, IsOutcome, IsTrace};
 
 /// Each trace has a past: the bytes taken are parsed behind each of its steps.
 pub fn trace_has_a_past()
-    ensures { (trace : List Step) → (past : List ParsedStep) × IsPastOf trace past }
+    ensures { (setting : Setting) (trace : List Step) → (past : List ParsedStep) × IsPastOf setting trace past }
 {}
 
 /// A trace has one past: the parse beside each step is fixed.
 pub fn past_is_unique()
-    ensures { (trace : List Step) (p q : List ParsedStep) → IsPastOf trace p → IsPastOf trace q → p ≡ q }
+    ensures { (setting : Setting) (trace : List Step) (p q : List ParsedStep) → IsPastOf setting trace p → IsPastOf setting trace q → p ≡ q }
 {}
 
 /// An event has one outcome behind a trace.
@@ -25,14 +26,31 @@ pub fn outcome_is_unique()
     ensures { (setting : Setting) (trace : List Step) (event : Event) (a b : Outcome) → IsOutcome setting trace event a → IsOutcome setting trace event b → a ≡ b }
 {}
 
-/// Whether an event is allowed behind a trace does not depend on the past that shows it.
-pub fn what_is_allowed_is_one()
-    ensures { (setting : Setting) (trace : List Step) (event : Event) (past : List ParsedStep) → IsAllowed setting trace event → IsPastOf trace past → IsTrue (is_allowed setting past event) }
+/// Behind a trace each event is allowed or misplaced, and never both.
+pub fn allowed_or_misplaced()
+    ensures one { (setting : Setting) (trace : List Step) (event : Event) → IsAllowed setting trace event ⊎ IsMisplaced setting trace event }
+    ensures not_both { (setting : Setting) (trace : List Step) (event : Event) → IsAllowed setting trace event → ¬ (IsMisplaced setting trace event) }
 {}
 
-/// No more is passed than was taken, and what is held stays below the bound.
+/// Whether an event is allowed behind a trace does not depend on the past that shows it.
+pub fn what_is_allowed_is_one()
+    ensures { (setting : Setting) (trace : List Step) (event : Event) (past : List ParsedStep) → IsAllowed setting trace event → IsPastOf setting trace past → IsTrue (is_allowed setting past event) }
+{}
+
+/// The events fix the trace: a connection that is driven by the same events answers the same.
+pub fn events_fix_the_trace()
+    ensures { (setting : Setting) (a b : List Step) → IsTrace setting a → IsTrace setting b → map (λ s. s.event) a ≡ map (λ s. s.event) b → a ≡ b }
+{}
+
+/// No more is passed than was taken, and what is held stays within the hold size.
 pub fn held_is_bounded()
-    ensures { (setting : Setting) (trace : List Step) (past : List ParsedStep) → IsTrace setting trace → IsPastOf trace past → (passed past ≤ length (taken trace)) × (held past ≤ MAX_HELD) }
+    ensures passed { (setting : Setting) (trace : List Step) (past : List ParsedStep) → IsTrace setting trace → IsPastOf setting trace past → passed past ≤ length (taken trace) }
+    ensures held { (setting : Setting) (trace : List Step) (past : List ParsedStep) → IsTrace setting trace → IsPastOf setting trace past → held past ≤ setting.hold_size }
+{}
+
+/// A connection that closes keeps its reason, whatever comes.
+pub fn closing_keeps_its_reason()
+    ensures { (setting : Setting) (s : Step) (before : List Step) (p q : List ParsedStep) (end : End) → IsTrace setting (s ∷ before) → IsPastOf setting before p → IsPastOf setting (s ∷ before) q → closing setting p ≡ Some end → closing setting q ≡ Some end }
 {}
 
 /// What was handed out for writing, and what is still to be, is the whole text.
