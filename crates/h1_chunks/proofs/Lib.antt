@@ -8,3 +8,5 @@ pub mod RunsOfText
 pub mod Cuts
 pub mod Beginnings
 pub mod Verdicts
+pub mod Laws
+pub mod RunBytes

@@ -45,7 +45,7 @@ runs_of-append place at (x ∷ xs) ys =
 -- ---- behind the last size line
 
 -- behind the last size line, or nowhere in a body
-abbrev is_late : Place → Bool
+abbrev pub is_late : Place → Bool
 is_late (in_section at lines room) = true
 is_late end_cr = true
 is_late done = true
@@ -68,7 +68,7 @@ late_or_kept b c to x lines room late =
     late_choice b x (cond c (kept to lines room) broken) late (late_choice c (kept to lines room) broken (late_kept to lines room) refl)
 
 -- so does any byte of a section
-late_section : (at : InLine) (lines room b : ℕ) → is_late (section_step at lines room b) ≡ true
+pub late_section : (at : InLine) (lines room b : ℕ) → is_late (section_step at lines room b) ≡ true
 late_section line_start lines room b =
     late_or_kept (eqb b carriage_return) (ltb 0 lines && is_token_byte b) in_name end_cr lines room refl
 late_section in_name lines room b =
@@ -79,7 +79,7 @@ late_section line_cr lines room b =
     late_choice (eqb b line_feed) (kept line_start (lines - 1) room) broken (late_kept line_start (lines - 1) room) refl
 
 -- nothing leads back
-late_step : (at : Place) (b : ℕ) → is_late at ≡ true → is_late (step at b) ≡ true
+pub late_step : (at : Place) (b : ℕ) → is_late at ≡ true → is_late (step at b) ≡ true
 late_step (in_section at lines room) b late = late_section at lines room b
 late_step end_cr b late = late_choice (eqb b line_feed) done broken refl refl
 late_step done b late = refl

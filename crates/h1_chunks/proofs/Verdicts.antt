@@ -26,8 +26,8 @@ verdict done = inl refl
 verdict broken = inr (inl refl)
 verdict place = inr (inr (record { not_done = λ e. cc; not_broken = λ e. cc }))
 
--- no byte ends such a body or breaks it
-live_end : (place : Place) → IsLive place → at_end place ≡ goes_on
+-- such a body neither ends there nor is broken
+pub live_end : (place : Place) → IsLive place → at_end place ≡ goes_on
 live_end done live = absurd (live.not_done refl)
 live_end broken live = absurd (live.not_broken refl)
 live_end place live = refl
