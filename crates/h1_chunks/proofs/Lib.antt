@@ -10,3 +10,5 @@ pub mod Beginnings
 pub mod Verdicts
 pub mod Laws
 pub mod RunBytes
+pub mod Agreement
+pub mod WalkedRuns
