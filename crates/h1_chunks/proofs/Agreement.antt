@@ -62,7 +62,7 @@ cut_read_all bytes =
 -- ---- what is broken
 
 -- a byte of a chunk breaks nothing
-bytes_unbroken : (more : ℕ) → bytes_step more ≡ broken → ⊥
+pub bytes_unbroken : (more : ℕ) → bytes_step more ≡ broken → ⊥
 bytes_unbroken more = cond_both (eqb more 0) bytes_end (in_bytes (more - 1)) (λ p. p ≡ broken → ⊥) (λ _ e. cc) (λ _ e. cc)
 
 -- the byte that breaks is none of the body's
@@ -81,7 +81,7 @@ read_breaks place (b ∷ bytes) live e =
     ∙ ap (λ p. read p bytes) breaks ∙ read-broken bytes
 
 -- the byte behind a front
-one_more : (bytes : List ℕ) (n : ℕ) → after (after start (take n bytes)) (take 1 (drop n bytes)) ≡ after start (take (n + 1) bytes)
+pub one_more : (bytes : List ℕ) (n : ℕ) → after (after start (take n bytes)) (take 1 (drop n bytes)) ≡ after start (take (n + 1) bytes)
 one_more bytes n =
     let front = take-take n (n + 1) bytes (omega arith) in
     let last = drop-take n 1 bytes in

@@ -139,3 +139,25 @@ broken_reading_stays done (b ∷ xs) ys e = cc
 broken_reading_stays place (b ∷ xs) ys e =
     ap (noted place (step place b) b)
     (broken_reading_stays (step place b) xs ys (sym (noted_ending place (step place b) b (read (step place b) xs)) ∙ e))
+
+-- an ending in place of another is noted alike
+noted-ending : (place next : Place) (b : ℕ) (r : Reading) (ending : Ending) → noted place next b (record r { ending = ending }) ≡ record (noted place next b r) { ending = ending }
+noted-ending (in_bytes more) next b r ending = refl
+noted-ending (in_section at lines room) (in_section at' lines' room') b r ending = refl
+noted-ending place next b r ending = refl
+
+-- where a body has ended, what follows stands behind the bytes that followed it
+pub ended_reading_stays : (place : Place) (xs ys rest : List ℕ) → (read place xs).ending ≡ has_ended rest → read place (xs ++ ys) ≡ record (read place xs) { ending = has_ended (rest ++ ys) }
+unfolding read
+ended_reading_stays done [] ys rest e =
+    let none : [] ≡ rest = cc in
+    read-done ys ∙ ap (λ l. only (has_ended (l ++ ys))) none
+ended_reading_stays place [] ys rest e = cc
+ended_reading_stays done (b ∷ xs) ys rest e =
+    let same : b ∷ xs ≡ rest = cc in
+    ap (λ l. only (has_ended (l ++ ys))) same
+ended_reading_stays place (b ∷ xs) ys rest e =
+    let next = step place b in
+    ap (noted place next b)
+    (ended_reading_stays next xs ys rest (sym (noted_ending place next b (read next xs)) ∙ e))
+    ∙ noted-ending place next b (read next xs) (has_ended (rest ++ ys))

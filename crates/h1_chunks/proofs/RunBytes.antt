@@ -87,12 +87,12 @@ cut_bytes (b ∷ text) bytes len place at =
 -- ---- runs and what is read
 
 -- in a chunk
-abbrev in_chunk : Place → Bool
+abbrev pub in_chunk : Place → Bool
 in_chunk (in_bytes more) = true
 in_chunk at = false
 
 -- the rest of the run at a place in a chunk
-abbrev current : ℕ → Place → List Run
+abbrev pub current : ℕ → Place → List Run
 current place (in_bytes more) = record { start = place; end = place + more + 1 } ∷ []
 current place at = []
 
@@ -141,7 +141,7 @@ opened_line place n = elim (cases_eq n 0) [
 ]
 
 -- the run that begins behind a byte outside of a chunk goes on there
-opened_is_current : (place : ℕ) (at : Place) (b : ℕ) → in_chunk at ≡ false → opened place at b ≡ current (place + 1) (step at b)
+pub opened_is_current : (place : ℕ) (at : Place) (b : ℕ) → in_chunk at ≡ false → opened place at b ≡ current (place + 1) (step at b)
 opened_is_current place (in_size n) b outside = sym (current_size (place + 1) n b)
 opened_is_current place (in_blanks n) b outside = sym (current_after_digits (place + 1) n b)
 opened_is_current place (in_extension n) b outside = sym (current_extension (place + 1) n b)
