@@ -18,12 +18,14 @@ use Rattle.h1_chunks.proofs.Verdicts.{IsLive, live_end, unfinished_after, next_b
 -- ---- whole bodies
 
 -- what is read where a front of the bytes is a whole body
-pub read_whole : (bytes : List ℕ) (k : ℕ) (t : ChunkedText) → Spells (take k bytes) t → read start bytes ≡ record { body = content t; trailers = section_text t.trailers; ending = has_ended (drop k bytes) }
+pub read_whole : (bytes : List ℕ) (k : ℕ) (t : ChunkedText) → Spells (take k bytes) t
+    → read start bytes ≡ record { body = content t; trailers = section_text t.trailers; ending = has_ended (drop k bytes) }
 read_whole bytes k t x =
     ap (read start) (sym (take-append-drop k bytes) ∙ ap (λ l. l ++ drop k bytes) x.1) ∙ text_read t (drop k bytes) x.0
 
 -- a whole body's end and trailers
-pub whole_read : (bytes : List ℕ) (k : ℕ) (trailers : List Trailer) (runs : List Run) → IsChunked bytes (whole k trailers) runs → ((read start bytes).ending ≡ has_ended (drop k bytes)) × ((read start bytes).trailers ≡ section_text trailers)
+pub whole_read : (bytes : List ℕ) (k : ℕ) (trailers : List Trailer) (runs : List Run) → IsChunked bytes (whole k trailers) runs
+    → ((read start bytes).ending ≡ has_ended (drop k bytes)) × ((read start bytes).trailers ≡ section_text trailers)
 whole_read bytes k trailers runs x =
     let r = read_whole bytes k x.0 x.2 in
     (ap (λ (r : Reading). r.ending) r, ap (λ (r : Reading). r.trailers) r ∙ ap section_text (sym x.3))
@@ -35,7 +37,8 @@ runs_hold bytes t x =
     ∙ ap (λ l. (read start l).body) (x.1 ∙ sym (append-nil (chunked_text t))) ∙ ap (λ (r : Reading). r.body) (text_read t [] x.0)
 
 -- its runs hold what is read as the body
-whole_bytes : (bytes : List ℕ) (k : ℕ) (t : ChunkedText) → Spells (take k bytes) t → (read start bytes).body ≡ run_bytes bytes (segment_runs 0 t.segments)
+whole_bytes : (bytes : List ℕ) (k : ℕ) (t : ChunkedText) → Spells (take k bytes) t
+    → (read start bytes).body ≡ run_bytes bytes (segment_runs 0 t.segments)
 whole_bytes bytes k t x =
     body_is_walked bytes
     ∙ ap (λ l. run_bytes bytes (runs_of 0 start l)) (sym (take-append-drop k bytes) ∙ ap (λ l. l ++ drop k bytes) x.1)
@@ -89,7 +92,8 @@ one_more bytes n =
     ∙ ap (after start) ((λ i. sym front i ++ sym last i) ∙ take-append-drop n (take (n + 1) bytes))
 
 -- what is read of bytes that begin no body is what is read of their longest beginning, and that it is broken
-read_longest : (bytes : List ℕ) (len : ℕ) (t : ChunkedText) → IsLongestBeginning bytes len t → ((k : ℕ) (u : ChunkedText) → ¬ (Spells (take k bytes) u)) → read start bytes ≡ joined (read start (take len bytes)) (only is_broken)
+read_longest : (bytes : List ℕ) (len : ℕ) (t : ChunkedText) → IsLongestBeginning bytes len t
+    → ((k : ℕ) (u : ChunkedText) → ¬ (Spells (take k bytes) u)) → read start bytes ≡ joined (read start (take len bytes)) (only is_broken)
 read_longest bytes len t x none =
     let front = take len bytes in
     let live : IsLive (after start front) =

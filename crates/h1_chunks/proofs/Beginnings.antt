@@ -78,12 +78,14 @@ pub whole_not_begun : (bytes : List ℕ) (t u : ChunkedText) → Spells bytes t 
 whole_not_begun bytes t u x y = begins_not_done bytes u y (after-body bytes t x)
 
 -- the runs of a body that the bytes begin, as far as they reach
-pub begins_runs : (bytes : List ℕ) (t : ChunkedText) → Begins bytes t → cut_runs (length bytes) (segment_runs 0 t.segments) ≡ cut_runs (length bytes) (runs_of 0 start bytes)
+pub begins_runs : (bytes : List ℕ) (t : ChunkedText) → Begins bytes t
+    → cut_runs (length bytes) (segment_runs 0 t.segments) ≡ cut_runs (length bytes) (runs_of 0 start bytes)
 begins_runs bytes t x =
     ap (cut_runs (length bytes)) (sym (runs_of-body (bytes ++ x.0) t x.2)) ∙ cut_runs_front bytes x.0
 
 -- the same of a front of the bytes
-pub begins_take_runs : (n : ℕ) (bytes : List ℕ) (t : ChunkedText) → n ≤ length bytes → Begins (take n bytes) t → cut_runs n (segment_runs 0 t.segments) ≡ cut_runs n (runs_of 0 start (take n bytes))
+pub begins_take_runs : (n : ℕ) (bytes : List ℕ) (t : ChunkedText) → n ≤ length bytes → Begins (take n bytes) t
+    → cut_runs n (segment_runs 0 t.segments) ≡ cut_runs n (runs_of 0 start (take n bytes))
 begins_take_runs n bytes t within x =
     subst (λ m. cut_runs m (segment_runs 0 t.segments) ≡ cut_runs m (runs_of 0 start (take n bytes)))
     (length-take-le n bytes within) (begins_runs (take n bytes) t x)

@@ -16,7 +16,8 @@ run_at_past len place n rest past e =
     cond_both (ltb 0 n) _ _ (λ l. cut_runs len (l ++ rest) ≡ []) (λ _. cut_runs-past len _ rest past) (λ _. e)
 
 -- a run that the walk finds begins behind its byte
-opened_past : (at : Place) (b place len : ℕ) (rest : List Run) → len ≤ place + 1 → cut_runs len rest ≡ [] → cut_runs len (opened place at b ++ rest) ≡ []
+opened_past : (at : Place) (b place len : ℕ) (rest : List Run) → len ≤ place + 1 → cut_runs len rest ≡ []
+    → cut_runs len (opened place at b ++ rest) ≡ []
 opened_past (size_cr n) b place len rest past e =
     cond_both (eqb b 10) _ _ (λ l. cut_runs len (l ++ rest) ≡ []) (λ _. run_at_past len (place + 1) n rest past e) (λ _. e)
 opened_past at b place len rest past e = e
@@ -37,20 +38,23 @@ cut_runs-append len (r ∷ xs) ys e =
     ap (λ l. cond (ltb r.start len) (record { start = r.start; end = min r.end len } ∷ l) []) (cut_runs-append len xs ys e)
 
 -- the runs that begin within a front of the bytes are found in it
-pub cut_runs_front : (front rest : List ℕ) → cut_runs (length front) (runs_of 0 start (front ++ rest)) ≡ cut_runs (length front) (runs_of 0 start front)
+pub cut_runs_front : (front rest : List ℕ)
+    → cut_runs (length front) (runs_of 0 start (front ++ rest)) ≡ cut_runs (length front) (runs_of 0 start front)
 cut_runs_front front rest =
     ap (cut_runs (length front)) (runs_of-append 0 start front rest)
     ∙ cut_runs-append (length front) _ _ (runs_of_past rest (0 + length front) (length front) _ (omega arith))
 
 -- one run cut twice
 cut_twice_more : (r : Run) (len longer : ℕ) (twice once : List Run) → len ≤ longer → twice ≡ once
-    → cond (ltb r.start len) (record { start = r.start; end = min (min r.end longer) len } ∷ twice) [] ≡ cond (ltb r.start len) (record { start = r.start; end = min r.end len } ∷ once) []
+    → cond (ltb r.start len) (record { start = r.start; end = min (min r.end longer) len } ∷ twice) []
+        ≡ cond (ltb r.start len) (record { start = r.start; end = min r.end len } ∷ once) []
 cut_twice_more r len longer twice once short e =
     let same : min (min r.end longer) len ≡ min r.end len = omega arith in
     λ i. cond (ltb r.start len) (record { start = r.start; end = same i } ∷ e i) []
 
 -- the same, for a run that the longer cut keeps or leaves out
-cut_twice_cons : (r : Run) (len longer : ℕ) (rs : List Run) → len ≤ longer → cut_runs len (cut_runs longer rs) ≡ cut_runs len rs → cut_runs len (cut_runs longer (r ∷ rs)) ≡ cut_runs len (r ∷ rs)
+cut_twice_cons : (r : Run) (len longer : ℕ) (rs : List Run) → len ≤ longer → cut_runs len (cut_runs longer rs) ≡ cut_runs len rs
+    → cut_runs len (cut_runs longer (r ∷ rs)) ≡ cut_runs len (r ∷ rs)
 unfolding cut_runs
 cut_twice_cons r len longer rs short e =
     cond_both (ltb r.start longer) _ _ (λ l. cut_runs len l ≡ cut_runs len (r ∷ rs))

@@ -16,7 +16,8 @@ use Rattle.h1_chunks.proofs.Beginnings.{runs_of-body, begins_front, begins_take,
 -- ---- one way
 
 -- two whole bodies at the front of the bytes end at one place
-same_end : (bytes : List ℕ) (j k : ℕ) (t u : ChunkedText) → j ≤ length bytes → k ≤ length bytes → Spells (take j bytes) t → Spells (take k bytes) u → j ≡ k
+same_end : (bytes : List ℕ) (j k : ℕ) (t u : ChunkedText) → j ≤ length bytes → k ≤ length bytes → Spells (take j bytes) t → Spells (take k bytes) u
+    → j ≡ k
 same_end bytes j k t u j_in k_in x y = elim (cases_order j k) [
   | inl same ↦ same
   | inr (inl less) ↦ absurd (whole_not_begun (take j bytes) t u x (whole_begins j k bytes u less k_in y))
@@ -47,7 +48,8 @@ no_longest bytes t u n x y =
     y.longest (length bytes) y.within (omega arith) t (subst (λ l. Begins l t) (sym (take_all (length bytes) bytes (omega arith))) x)
 
 -- two whole bodies at the front of the bytes
-whole_unique : (bytes : List ℕ) (j k : ℕ) (a b : List Trailer) (runs runs' : List Run) → IsChunked bytes (whole j a) runs → IsChunked bytes (whole k b) runs' → (whole j a ≡ whole k b) × (runs ≡ runs')
+whole_unique : (bytes : List ℕ) (j k : ℕ) (a b : List Trailer) (runs runs' : List Run) → IsChunked bytes (whole j a) runs
+    → IsChunked bytes (whole k b) runs' → (whole j a ≡ whole k b) × (runs ≡ runs')
 whole_unique bytes j k a b runs runs' x y =
     let same = same_end bytes j k x.0 y.0 x.1 y.1 x.2 y.2 in
     let trailers = same_trailers (take j bytes) x.0 y.0 x.2 (subst (λ n. Spells (take n bytes) y.0) (sym same) y.2) in
@@ -59,7 +61,8 @@ whole_unique bytes j k a b runs runs' x y =
 
 -- by the kinds of the two readings; two that differ exclude each other
 -- bytes stand in one way to the bodies in chunks, and have one list of runs
-pub chunked_unique : (bytes : List ℕ) (a b : Chunked) (runs runs' : List Run) → IsChunked bytes a runs → IsChunked bytes b runs' → (a ≡ b) × (runs ≡ runs')
+pub chunked_unique : (bytes : List ℕ) (a b : Chunked) (runs runs' : List Run) → IsChunked bytes a runs → IsChunked bytes b runs'
+    → (a ≡ b) × (runs ≡ runs')
 chunked_unique bytes (whole j a) (whole k b) runs runs' x y = whole_unique bytes j k a b runs runs' x y
 chunked_unique bytes (whole j a) unfinished runs runs' x y =
     absurd (whole_not_begun (take j bytes) x.0 y.0 x.2 (begins_take j bytes y.0 y.1))
@@ -82,7 +85,8 @@ chunked_unique bytes not_chunked not_chunked runs runs' x y =
 -- ---- when bytes follow
 
 -- a whole body stays
-pub whole_stays : (bytes more : List ℕ) (k : ℕ) (trailers : List Trailer) (runs : List Run) → IsChunked bytes (whole k trailers) runs → IsChunked (bytes ++ more) (whole k trailers) runs
+pub whole_stays : (bytes more : List ℕ) (k : ℕ) (trailers : List Trailer) (runs : List Run) → IsChunked bytes (whole k trailers) runs
+    → IsChunked (bytes ++ more) (whole k trailers) runs
 whole_stays bytes more k trailers runs x =
     (x.0, omega (arith, x.1, length-append bytes more), subst (λ l. Spells l x.0) (sym (take-append-le k bytes more x.1)) x.2, x.3, x.4)
 
@@ -91,7 +95,8 @@ begins_shorter : (bytes more : List ℕ) (n : ℕ) (t : ChunkedText) → n ≤ l
 begins_shorter bytes more n t within x = subst (λ l. Begins l t) (take-append-le n bytes more within) x
 
 -- the longer text has no longer beginning
-longest_stays : (bytes more : List ℕ) (len n : ℕ) (t u : ChunkedText) → IsLongestBeginning bytes len t → len < n → Begins (take n (bytes ++ more)) u → ⊥
+longest_stays : (bytes more : List ℕ) (len n : ℕ) (t u : ChunkedText) → IsLongestBeginning bytes len t → len < n → Begins (take n (bytes ++ more)) u
+    → ⊥
 longest_stays bytes more len n t u x longer y = elim (cases_lt (length bytes) n) [
   | inl past ↦
       let begun = longer_begins (length bytes) n (bytes ++ more) u (omega arith) y in
@@ -100,7 +105,8 @@ longest_stays bytes more len n t u x longer y = elim (cases_lt (length bytes) n)
 ]
 
 -- where some bytes follow, no front of the longer text is a whole body
-no_whole_longer : (bytes more : List ℕ) (len k : ℕ) (t u : ChunkedText) → IsLongestBeginning bytes len t → ((j : ℕ) (d : ChunkedText) → ¬ (Spells (take j bytes) d)) → 0 < length more → Spells (take k (bytes ++ more)) u → ⊥
+no_whole_longer : (bytes more : List ℕ) (len k : ℕ) (t u : ChunkedText) → IsLongestBeginning bytes len t
+    → ((j : ℕ) (d : ChunkedText) → ¬ (Spells (take j bytes) d)) → 0 < length more → Spells (take k (bytes ++ more)) u → ⊥
 no_whole_longer bytes more len k t u x none some y = elim (cases_lt (length bytes) k) [
   | inl past ↦
       let text = take k (bytes ++ more) in
@@ -112,7 +118,8 @@ no_whole_longer bytes more len k t u x none some y = elim (cases_lt (length byte
 ]
 
 -- nor where none follow
-no_whole_stays : (bytes more : List ℕ) (len k : ℕ) (t u : ChunkedText) → IsLongestBeginning bytes len t → ((j : ℕ) (d : ChunkedText) → ¬ (Spells (take j bytes) d)) → Spells (take k (bytes ++ more)) u → ⊥
+no_whole_stays : (bytes more : List ℕ) (len k : ℕ) (t u : ChunkedText) → IsLongestBeginning bytes len t
+    → ((j : ℕ) (d : ChunkedText) → ¬ (Spells (take j bytes) d)) → Spells (take k (bytes ++ more)) u → ⊥
 no_whole_stays bytes more len k t u x none y = elim (cases_lt 0 (length more)) [
   | inl some ↦ no_whole_longer bytes more len k t u x none some y
   | inr empty ↦
@@ -160,12 +167,14 @@ reaches bytes more len t u x y = elim (cases_lt len (length bytes)) [
 ]
 
 -- the runs of two bodies that the bytes begin
-same_runs : (bytes : List ℕ) (t u : ChunkedText) → Begins bytes t → Begins bytes u → cut_runs (length bytes) (segment_runs 0 t.segments) ≡ cut_runs (length bytes) (segment_runs 0 u.segments)
+same_runs : (bytes : List ℕ) (t u : ChunkedText) → Begins bytes t → Begins bytes u
+    → cut_runs (length bytes) (segment_runs 0 t.segments) ≡ cut_runs (length bytes) (segment_runs 0 u.segments)
 same_runs bytes t u x y = begins_runs bytes t x ∙ sym (begins_runs bytes u y)
 
 -- by the kind of the longer text
 -- the runs of a beginning are those of any longer text, as far as it reaches
-pub runs_grow : (bytes more : List ℕ) (a : Chunked) (runs runs' : List Run) → IsChunked bytes unfinished runs → IsChunked (bytes ++ more) a runs' → runs ≡ cut_runs (length bytes) runs'
+pub runs_grow : (bytes more : List ℕ) (a : Chunked) (runs runs' : List Run) → IsChunked bytes unfinished runs → IsChunked (bytes ++ more) a runs'
+    → runs ≡ cut_runs (length bytes) runs'
 runs_grow bytes more (whole k trailers) runs runs' x y =
     let later = ends_later bytes more k x.0 y.0 x.1 y.2 in
     let begun = front_begins bytes more y.0 (whole_begins (length bytes) k (bytes ++ more) y.0 later y.1 y.2) in

@@ -46,7 +46,8 @@ unfolding read
 read-nil place = refl
 
 -- one more byte in front, unless the body has ended
-pub read-cons : (place : Place) (b : ℕ) (bytes : List ℕ) → (place ≡ done → ⊥) → read place (b ∷ bytes) ≡ noted place (step place b) b (read (step place b) bytes)
+pub read-cons : (place : Place) (b : ℕ) (bytes : List ℕ) → (place ≡ done → ⊥)
+    → read place (b ∷ bytes) ≡ noted place (step place b) b (read (step place b) bytes)
 unfolding read
 read-cons done b bytes unended = absurd (unended refl)
 read-cons place b bytes unended = refl
@@ -85,7 +86,8 @@ noted-joined (in_section at lines room) (in_section at' lines' room') b r more =
 noted-joined place next b r more = refl
 
 -- two pieces, one behind the other, where the first isn't broken
-pub read-append : (place : Place) (xs ys : List ℕ) → (after place xs ≡ broken → ⊥) → read place (xs ++ ys) ≡ joined (read place xs) (read (after place xs) ys)
+pub read-append : (place : Place) (xs ys : List ℕ) → (after place xs ≡ broken → ⊥)
+    → read place (xs ++ ys) ≡ joined (read place xs) (read (after place xs) ys)
 unfolding after
 read-append place [] ys unbroken = ap (λ r. joined r (read place ys)) (sym (read-nil place))
 read-append place (x ∷ xs) ys unbroken =
@@ -141,13 +143,15 @@ broken_reading_stays place (b ∷ xs) ys e =
     (broken_reading_stays (step place b) xs ys (sym (noted_ending place (step place b) b (read (step place b) xs)) ∙ e))
 
 -- an ending in place of another is noted alike
-noted-ending : (place next : Place) (b : ℕ) (r : Reading) (ending : Ending) → noted place next b (record r { ending = ending }) ≡ record (noted place next b r) { ending = ending }
+noted-ending : (place next : Place) (b : ℕ) (r : Reading) (ending : Ending)
+    → noted place next b (record r { ending = ending }) ≡ record (noted place next b r) { ending = ending }
 noted-ending (in_bytes more) next b r ending = refl
 noted-ending (in_section at lines room) (in_section at' lines' room') b r ending = refl
 noted-ending place next b r ending = refl
 
 -- where a body has ended, what follows stands behind the bytes that followed it
-pub ended_reading_stays : (place : Place) (xs ys rest : List ℕ) → (read place xs).ending ≡ has_ended rest → read place (xs ++ ys) ≡ record (read place xs) { ending = has_ended (rest ++ ys) }
+pub ended_reading_stays : (place : Place) (xs ys rest : List ℕ) → (read place xs).ending ≡ has_ended rest
+    → read place (xs ++ ys) ≡ record (read place xs) { ending = has_ended (rest ++ ys) }
 unfolding read
 ended_reading_stays done [] ys rest e =
     let none : [] ≡ rest = cc in

@@ -52,7 +52,8 @@ slice_cut bytes from to len = elim (cases_lt len to) [
 ]
 
 -- one more run in front of those that are cut
-cut_bytes_more : (bytes : List ℕ) (len : ℕ) (r : Run) (rs : List Run) → (len ≤ r.start → run_bytes (take len bytes) rs ≡ []) → run_bytes bytes (cut_runs len rs) ≡ run_bytes (take len bytes) rs
+cut_bytes_more : (bytes : List ℕ) (len : ℕ) (r : Run) (rs : List Run) → (len ≤ r.start → run_bytes (take len bytes) rs ≡ [])
+    → run_bytes bytes (cut_runs len rs) ≡ run_bytes (take len bytes) rs
     → run_bytes bytes (cut_runs len (r ∷ rs)) ≡ run_bytes (take len bytes) (r ∷ rs)
 unfolding cut_runs
 cut_bytes_more bytes len r rs none e =
@@ -64,7 +65,8 @@ cut_bytes_more bytes len r rs none e =
         sym (λ i. empty i ++ none past i))
 
 -- the run that begins behind a byte, in front of those that are cut
-cut_bytes_opened : (bytes : List ℕ) (len place : ℕ) (at : Place) (b : ℕ) (rs : List Run) → (len ≤ place + 1 → run_bytes (take len bytes) rs ≡ []) → run_bytes bytes (cut_runs len rs) ≡ run_bytes (take len bytes) rs
+cut_bytes_opened : (bytes : List ℕ) (len place : ℕ) (at : Place) (b : ℕ) (rs : List Run) → (len ≤ place + 1 → run_bytes (take len bytes) rs ≡ [])
+    → run_bytes bytes (cut_runs len rs) ≡ run_bytes (take len bytes) rs
     → run_bytes bytes (cut_runs len (opened place at b ++ rs)) ≡ run_bytes (take len bytes) (opened place at b ++ rs)
 cut_bytes_opened bytes len place (size_cr n) b rs none e =
     let holds = λ (l : List Run). run_bytes bytes (cut_runs len (l ++ rs)) ≡ run_bytes (take len bytes) (l ++ rs) in
@@ -75,7 +77,8 @@ cut_bytes_opened bytes len place (size_cr n) b rs none e =
 cut_bytes_opened bytes len place at b rs none e = e
 
 -- the runs cut to a length hold the bytes of a front of that length
-pub cut_bytes : (text bytes : List ℕ) (len place : ℕ) (at : Place) → run_bytes bytes (cut_runs len (runs_of place at text)) ≡ run_bytes (take len bytes) (runs_of place at text)
+pub cut_bytes : (text bytes : List ℕ) (len place : ℕ) (at : Place)
+    → run_bytes bytes (cut_runs len (runs_of place at text)) ≡ run_bytes (take len bytes) (runs_of place at text)
 unfolding runs_of cut_runs
 cut_bytes [] bytes len place at = refl
 cut_bytes (b ∷ text) bytes len place at =
@@ -185,7 +188,8 @@ current_at_end bytes place (in_bytes more) e =
 current_at_end bytes place at e = refl
 
 -- the runs that go on at a place and those that follow hold what is read as the body
-walked_bytes : (text bytes : List ℕ) (place : ℕ) (at : Place) → drop place bytes ≡ text → (read at text).body ≡ run_bytes bytes (current place at ++ runs_of place at text)
+walked_bytes : (text bytes : List ℕ) (place : ℕ) (at : Place) → drop place bytes ≡ text
+    → (read at text).body ≡ run_bytes bytes (current place at ++ runs_of place at text)
 unfolding runs_of read
 walked_bytes [] bytes place at e =
     sym (current_at_end bytes place at e) ∙ ap (run_bytes bytes) (sym (append-nil (current place at)))

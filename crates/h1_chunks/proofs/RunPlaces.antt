@@ -26,12 +26,14 @@ unfolding runs_of
 runs_of-nil place at = refl
 
 -- one more byte in front may open a run
-pub runs_of-cons : (place : ℕ) (at : Place) (b : ℕ) (bytes : List ℕ) → runs_of place at (b ∷ bytes) ≡ opened place at b ++ runs_of (place + 1) (step at b) bytes
+pub runs_of-cons : (place : ℕ) (at : Place) (b : ℕ) (bytes : List ℕ)
+    → runs_of place at (b ∷ bytes) ≡ opened place at b ++ runs_of (place + 1) (step at b) bytes
 unfolding runs_of
 runs_of-cons place at b bytes = refl
 
 -- the runs of two pieces, one behind the other
-pub runs_of-append : (place : ℕ) (at : Place) (xs ys : List ℕ) → runs_of place at (xs ++ ys) ≡ runs_of place at xs ++ runs_of (place + length xs) (after at xs) ys
+pub runs_of-append : (place : ℕ) (at : Place) (xs ys : List ℕ)
+    → runs_of place at (xs ++ ys) ≡ runs_of place at xs ++ runs_of (place + length xs) (after at xs) ys
 unfolding runs_of after
 runs_of-append place at [] ys =
     let same : place ≡ place + 0 = omega arith in

@@ -24,7 +24,8 @@ passes_none : (s : Place) → Passes s [] s 0
 passes_none s = record { ends = after-nil s; runs = λ place. runs_of-nil place s }
 
 -- one more byte in front
-passes_more : (s next t : Place) (b : ℕ) (text : List ℕ) (n : ℕ) → step s b ≡ next → ((place : ℕ) → opened place s b ≡ []) → Passes next text t n → Passes s (b ∷ text) t n
+passes_more : (s next t : Place) (b : ℕ) (text : List ℕ) (n : ℕ) → step s b ≡ next → ((place : ℕ) → opened place s b ≡ []) → Passes next text t n
+    → Passes s (b ∷ text) t n
 passes_more s next t b text n e quiet p = record {
   ends = after-cons s b text ∙ ap (λ u. after u text) e ∙ p.ends;
   runs = λ place.
@@ -86,7 +87,8 @@ passes_text (b ∷ text) n ok =
     passes_more _ _ _ b _ n (step_text n b parts.0) (λ _. refl) (passes_text text n parts.1)
 
 -- what follows the blanks, from a place that takes a semicolon and CR
-passes_extension : (e : List ℕ) (s : Place) (n : ℕ) → step s 59 ≡ in_extension n → step s 13 ≡ size_cr n → ((place b : ℕ) → opened place s b ≡ []) → IsExtension e → Passes s (e ++ crlf_bytes) (after_line n) n
+passes_extension : (e : List ℕ) (s : Place) (n : ℕ) → step s 59 ≡ in_extension n → step s 13 ≡ size_cr n → ((place b : ℕ) → opened place s b ≡ [])
+    → IsExtension e → Passes s (e ++ crlf_bytes) (after_line n) n
 passes_extension e s n semicolon cr quiet ok =
     ⊎_elim
     (λ none. subst (λ l. Passes s (l ++ crlf_bytes) (after_line n) n) (sym none) (passes_crlf s n cr (λ place. quiet place 13)))
@@ -95,14 +97,16 @@ passes_extension e s n semicolon cr quiet ok =
     ok
 
 -- blanks and what follows them
-passes_blanks : (blanks e : List ℕ) (n : ℕ) → list_all is_ows blanks ≡ true → IsExtension e → Passes (in_blanks n) (blanks ++ (e ++ crlf_bytes)) (after_line n) n
+passes_blanks : (blanks e : List ℕ) (n : ℕ) → list_all is_ows blanks ≡ true → IsExtension e
+    → Passes (in_blanks n) (blanks ++ (e ++ crlf_bytes)) (after_line n) n
 passes_blanks [] e n blank ok = passes_extension e (in_blanks n) n refl refl (λ _ _. refl) ok
 passes_blanks (b ∷ blanks) e n blank ok =
     let parts = and_parts _ _ blank in
     passes_more _ _ _ b _ n (step_blank n b parts.0) (λ _. refl) (passes_blanks blanks e n parts.1 ok)
 
 -- what follows the digits
-passes_line_end : (blanks e : List ℕ) (n : ℕ) → list_all is_ows blanks ≡ true → IsExtension e → Passes (in_size n) (blanks ++ (e ++ crlf_bytes)) (after_line n) n
+passes_line_end : (blanks e : List ℕ) (n : ℕ) → list_all is_ows blanks ≡ true → IsExtension e
+    → Passes (in_size n) (blanks ++ (e ++ crlf_bytes)) (after_line n) n
 passes_line_end [] e n blank ok = passes_extension e (in_size n) n refl refl (λ _ _. refl) ok
 passes_line_end (b ∷ blanks) e n blank ok =
     let parts = and_parts _ _ blank in
@@ -114,7 +118,8 @@ digits_grow [] n = omega arith
 digits_grow (d ∷ ds) n = omega (arith, digits_grow ds (n * 16 + digit_value d))
 
 -- digits and what follows them
-passes_digits : (ds : List ℕ) (n m : ℕ) (rest : List ℕ) (t : Place) → AllDigits 16 ds → digits_value_after 16 n ds < 2 ^ 64 → Passes (in_size (digits_value_after 16 n ds)) rest t m → Passes (in_size n) (ds ++ rest) t m
+passes_digits : (ds : List ℕ) (n m : ℕ) (rest : List ℕ) (t : Place) → AllDigits 16 ds → digits_value_after 16 n ds < 2 ^ 64
+    → Passes (in_size (digits_value_after 16 n ds)) rest t m → Passes (in_size n) (ds ++ rest) t m
 passes_digits [] n m rest t hex fits p = p
 passes_digits (d ∷ ds) n m rest t hex fits p =
     let grows = digits_grow ds (n * 16 + digit_value d) in
@@ -179,7 +184,8 @@ runs_of-segment place s ok =
     ∙ ap (λ l. run_of place s ∷ l) (bytes.runs from)
 
 -- the walk finds the runs of the segments, if what follows has none
-runs_of-segments : (ss : List Segment) (place : ℕ) (rest : List ℕ) → AllByRecursion IsSegment ss → ((at : ℕ) → runs_of at start rest ≡ []) → runs_of place start (flat_map segment_text ss ++ rest) ≡ segment_runs place ss
+runs_of-segments : (ss : List Segment) (place : ℕ) (rest : List ℕ) → AllByRecursion IsSegment ss → ((at : ℕ) → runs_of at start rest ≡ [])
+    → runs_of place start (flat_map segment_text ss ++ rest) ≡ segment_runs place ss
 unfolding segment_runs
 runs_of-segments [] place rest ok quiet = quiet place
 runs_of-segments (s ∷ ss) place rest ok quiet =
@@ -208,6 +214,7 @@ pub runs_of-text : (t : ChunkedText) (rest : List ℕ) → IsChunkedText t → r
 runs_of-text t rest ok =
     let tail = section_text t.trailers ++ crlf_bytes in
     let regrouped : chunked_text t ++ rest ≡ flat_map segment_text t.segments ++ (t.last ++ (tail ++ rest)) =
-        append_assoc (flat_map segment_text t.segments) (t.last ++ tail) rest ∙ ap (λ l. flat_map segment_text t.segments ++ l) (append_assoc t.last tail rest) in
+        append_assoc (flat_map segment_text t.segments) (t.last ++ tail) rest
+        ∙ ap (λ l. flat_map segment_text t.segments ++ l) (append_assoc t.last tail rest) in
     ap (runs_of 0 start) regrouped
     ∙ runs_of-segments t.segments 0 (t.last ++ (tail ++ rest)) ok.segments (λ at. runs_of-last t.last (tail ++ rest) at ok.last)

@@ -21,7 +21,8 @@ unfolding is_token_byte
 colon_is_no_token = refl
 
 -- the bytes up to the first that a test refuses
-first_refused : (p : ℕ → Bool) (c : ℕ) (xs ys u v : List ℕ) → p c ≡ false → list_all p xs ≡ true → list_all p ys ≡ true → xs ++ c ∷ u ≡ ys ++ c ∷ v → (xs ≡ ys) × (u ≡ v)
+first_refused : (p : ℕ → Bool) (c : ℕ) (xs ys u v : List ℕ) → p c ≡ false → list_all p xs ≡ true → list_all p ys ≡ true → xs ++ c ∷ u ≡ ys ++ c ∷ v
+    → (xs ≡ ys) × (u ≡ v)
 first_refused p c [] [] u v refused all_xs all_ys e = (refl, cc)
 first_refused p c [] (y ∷ ys) u v refused all_xs all_ys e =
     absurd (not_refused p c y refused (and_parts _ _ all_ys).0 (cc))

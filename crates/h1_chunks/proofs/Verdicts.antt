@@ -85,12 +85,14 @@ front_with front rest b k longer =
     ∙ take_at (front ++ b ∷ []) rest (length front + 1) here
 
 -- the byte behind the front breaks each longer front
-longer_breaks : (front rest : List ℕ) (b k : ℕ) → after start (front ++ b ∷ []) ≡ broken → length front < k → after start (take k (front ++ b ∷ rest)) ≡ broken
+longer_breaks : (front rest : List ℕ) (b k : ℕ) → after start (front ++ b ∷ []) ≡ broken → length front < k
+    → after start (take k (front ++ b ∷ rest)) ≡ broken
 longer_breaks front rest b k breaks longer =
     broken_from_front (length front + 1) (take k (front ++ b ∷ rest)) (front ++ b ∷ []) (front_with front rest b k longer) breaks
 
 -- no front of the text is a whole body
-no_whole : (front rest : List ℕ) (b k : ℕ) (t u : ChunkedText) → Begins front u → after start (front ++ b ∷ []) ≡ broken → Spells (take k (front ++ b ∷ rest)) t → ⊥
+no_whole : (front rest : List ℕ) (b k : ℕ) (t u : ChunkedText) → Begins front u → after start (front ++ b ∷ []) ≡ broken
+    → Spells (take k (front ++ b ∷ rest)) t → ⊥
 no_whole front rest b k t u begun breaks x = elim (cases_lt (length front) k) [
   | inl longer ↦
       let ends = after-body (take k (front ++ b ∷ rest)) t x in
@@ -102,7 +104,8 @@ no_whole front rest b k t u begun breaks x = elim (cases_lt (length front) k) [
 ]
 
 -- a byte that breaks a body that goes on
-not_chunked_from_broken : (front rest : List ℕ) (b : ℕ) → IsLive (after start front) → after start (front ++ b ∷ []) ≡ broken → IsChunked (front ++ b ∷ rest) not_chunked (cut_runs (length front) (runs_of 0 start front))
+not_chunked_from_broken : (front rest : List ℕ) (b : ℕ) → IsLive (after start front) → after start (front ++ b ∷ []) ≡ broken
+    → IsChunked (front ++ b ∷ rest) not_chunked (cut_runs (length front) (runs_of 0 start front))
 not_chunked_from_broken front rest b live breaks =
     let t = begins_from_live front live in (
       t.0,
@@ -142,7 +145,8 @@ every_text_read bytes = read_on bytes [] start_is_live
 -- ---- from the grammar to places
 
 -- the bytes of a whole body lead behind it
-pub whole_after : (bytes : List ℕ) (k : ℕ) (trailers : List Trailer) (runs : List Run) → IsChunked bytes (whole k trailers) runs → after start (take k bytes) ≡ done
+pub whole_after : (bytes : List ℕ) (k : ℕ) (trailers : List Trailer) (runs : List Run) → IsChunked bytes (whole k trailers) runs
+    → after start (take k bytes) ≡ done
 whole_after bytes k trailers runs x = after-body (take k bytes) x.0 x.2
 
 -- behind an unfinished body's bytes it goes on
@@ -150,7 +154,8 @@ pub unfinished_after : (bytes : List ℕ) (runs : List Run) → IsChunked bytes 
 unfinished_after bytes runs x = record { not_done = begins_not_done bytes x.0 x.1; not_broken = begins_not_broken bytes x.0 x.1 }
 
 -- behind the longest beginning one more byte breaks it
-pub next_breaks : (bytes : List ℕ) (len : ℕ) (t : ChunkedText) → IsLongestBeginning bytes len t → ((k : ℕ) (u : ChunkedText) → ¬ (Spells (take k bytes) u)) → after start (take (len + 1) bytes) ≡ broken
+pub next_breaks : (bytes : List ℕ) (len : ℕ) (t : ChunkedText) → IsLongestBeginning bytes len t
+    → ((k : ℕ) (u : ChunkedText) → ¬ (Spells (take k bytes) u)) → after start (take (len + 1) bytes) ≡ broken
 next_breaks bytes len t x none = elim (verdict (after start (take (len + 1) bytes))) [
   | inl ends ↦
       let u = spells_from_done (take (len + 1) bytes) ends in
