@@ -1,19 +1,19 @@
 -- The grammar and the reading agree, byte by byte.
-use Rattle.std.proofs.Common.{◌≡◌, ℕ, ◌+◌, ◌-◌, ◌≤◌, eqb, List, [], ◌∷◌, ◌++◌, length, take, drop, refl, sym, ap, ◌∙◌, arith}
+use Rattle.std.proofs.Common.{◌≡◌, ℕ, ◌+◌, ◌-◌, eqb, List, [], ◌∷◌, ◌++◌, length, take, drop, refl, sym, ap, ◌∙◌, arith}
 use Rattle.std.proofs.lemmas.Bool.{cond_both}
 use Rattle.std.proofs.lemmas.List.{append-nil, take-take, take_all, drop-take, take-append-drop}
 use Rattle.h1_chunks.specs.ChunkedText.{Trailer, ChunkedText, section_text, chunked_text, content}
 use Rattle.h1_chunks.specs.Runs.{Run, segment_runs, cut_runs, run_bytes}
-use Rattle.h1_chunks.specs.Chunked.{Chunked, whole, unfinished, not_chunked, Spells, Begins, IsLongestBeginning, IsChunked}
-use Rattle.h1_chunks.specs.Place.{Place, in_bytes, bytes_end, in_section, done, broken, start, bytes_step, step, after}
+use Rattle.h1_chunks.specs.Chunked.{Chunked, whole, unfinished, not_chunked, Spells, IsLongestBeginning, IsChunked}
+use Rattle.h1_chunks.specs.Place.{Place, in_bytes, bytes_end, in_section, broken, start, bytes_step, step, after}
 use Rattle.h1_chunks.specs.Reading.{goes_on, is_broken, has_ended, Reading, only, noted, read}
 use Rattle.h1_chunks.proofs.Complete.{text_read}
 use Rattle.h1_chunks.proofs.ReadAfter.{after-nil, after-cons, after-append, read-cons, read-broken, read-append, joined, ending_after}
 use Rattle.h1_chunks.proofs.RunPlaces.{runs_of}
 use Rattle.h1_chunks.proofs.RunsOfText.{runs_of-text}
 use Rattle.h1_chunks.proofs.RunBytes.{cut_bytes, body_is_walked}
-use Rattle.h1_chunks.proofs.Beginnings.{runs_of-body, begins_runs, begins_take_runs, begins_not_broken, begins_not_done}
-use Rattle.h1_chunks.proofs.Verdicts.{IsLive, live_end, unfinished_after, next_breaks}
+use Rattle.h1_chunks.proofs.Beginnings.{runs_of-body, begins_runs, begins_take_runs}
+use Rattle.h1_chunks.proofs.Verdicts.{IsLive, live_end, begins_live, unfinished_after, next_breaks}
 
 -- ---- whole bodies
 
@@ -96,8 +96,7 @@ read_longest : (bytes : List ℕ) (len : ℕ) (t : ChunkedText) → IsLongestBeg
     → ((k : ℕ) (u : ChunkedText) → ¬ (Spells (take k bytes) u)) → read start bytes ≡ joined (read start (take len bytes)) (only is_broken)
 read_longest bytes len t x none =
     let front = take len bytes in
-    let live : IsLive (after start front) =
-        record { not_done = begins_not_done front t x.begins; not_broken = begins_not_broken front t x.begins } in
+    let live = begins_live front t x.begins in
     ap (read start) (sym (take-append-drop len bytes))
     ∙ read-append start front (drop len bytes) live.not_broken
     ∙ ap (joined (read start front)) (read_breaks (after start front) (drop len bytes) live (one_more bytes len ∙ next_breaks bytes len t x none))
@@ -108,8 +107,7 @@ broken_read bytes runs x = ap (λ (r : Reading). r.ending) (read_longest bytes x
 
 -- ---- the body's bytes
 
--- by the kind of the bytes
--- the runs hold what is read as the body
+-- the runs hold what is read as the body, whatever the kind of the bytes
 pub runs_read : (bytes : List ℕ) (a : Chunked) (runs : List Run) → IsChunked bytes a runs → (read start bytes).body ≡ run_bytes bytes runs
 runs_read bytes (whole k trailers) runs x = whole_bytes bytes k x.0 x.2 ∙ ap (run_bytes bytes) (sym x.4)
 runs_read bytes unfinished runs x =

@@ -5,7 +5,7 @@ use Rattle.h1_chunks.specs.ChunkedText.{ChunkedText, chunked_text}
 use Rattle.h1_chunks.specs.Runs.{segment_runs, cut_runs}
 use Rattle.h1_chunks.specs.Chunked.{Spells, Begins}
 use Rattle.h1_chunks.specs.Place.{done, broken, start, after}
-use Rattle.h1_chunks.specs.Reading.{Reading, read}
+use Rattle.h1_chunks.specs.Reading.{Reading}
 use Rattle.h1_chunks.proofs.Complete.{text_read}
 use Rattle.h1_chunks.proofs.ReadAfter.{after-append, after-broken, done_stops, done_from_ended}
 use Rattle.h1_chunks.proofs.RunPlaces.{runs_of}

@@ -47,7 +47,7 @@ cut_runs_front front rest =
 -- one run cut twice
 cut_twice_more : (r : Run) (len longer : ℕ) (twice once : List Run) → len ≤ longer → twice ≡ once
     → cond (ltb r.start len) (record { start = r.start; end = min (min r.end longer) len } ∷ twice) []
-        ≡ cond (ltb r.start len) (record { start = r.start; end = min r.end len } ∷ once) []
+    ≡ cond (ltb r.start len) (record { start = r.start; end = min r.end len } ∷ once) []
 cut_twice_more r len longer twice once short e =
     let same : min (min r.end longer) len ≡ min r.end len = omega arith in
     λ i. cond (ltb r.start len) (record { start = r.start; end = same i } ∷ e i) []

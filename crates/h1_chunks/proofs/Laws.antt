@@ -59,8 +59,7 @@ whole_unique bytes j k a b runs runs' x y =
           ∙ runs_of-body (take k bytes) y.0 y.2 ∙ sym y.4,
     )
 
--- by the kinds of the two readings; two that differ exclude each other
--- bytes stand in one way to the bodies in chunks, and have one list of runs
+-- bytes stand in one way to the bodies in chunks, and have one list of runs: two kinds exclude each other
 pub chunked_unique : (bytes : List ℕ) (a b : Chunked) (runs runs' : List Run) → IsChunked bytes a runs → IsChunked bytes b runs'
     → (a ≡ b) × (runs ≡ runs')
 chunked_unique bytes (whole j a) (whole k b) runs runs' x y = whole_unique bytes j k a b runs runs' x y
@@ -127,8 +126,7 @@ no_whole_stays bytes more len k t u x none y = elim (cases_lt 0 (length more)) [
       none k u (subst (λ l. Spells (take k l) u) same y)
 ]
 
--- the same tree, length and runs serve the longer text
--- bytes that begin no body stay so
+-- bytes that begin no body stay so: the same tree, length and runs serve the longer text
 pub broken_stays : (bytes more : List ℕ) (runs : List Run) → IsChunked bytes not_chunked runs → IsChunked (bytes ++ more) not_chunked runs
 broken_stays bytes more runs x = (
   x.0,
@@ -171,7 +169,6 @@ same_runs : (bytes : List ℕ) (t u : ChunkedText) → Begins bytes t → Begins
     → cut_runs (length bytes) (segment_runs 0 t.segments) ≡ cut_runs (length bytes) (segment_runs 0 u.segments)
 same_runs bytes t u x y = begins_runs bytes t x ∙ sym (begins_runs bytes u y)
 
--- by the kind of the longer text
 -- the runs of a beginning are those of any longer text, as far as it reaches
 pub runs_grow : (bytes more : List ℕ) (a : Chunked) (runs runs' : List Run) → IsChunked bytes unfinished runs → IsChunked (bytes ++ more) a runs'
     → runs ≡ cut_runs (length bytes) runs'

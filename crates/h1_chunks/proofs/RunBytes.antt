@@ -1,5 +1,5 @@
 -- The runs hold the bytes that are read as the body's.
-use Rattle.std.proofs.Common.{◌≡◌, ℕ, suc, ◌+◌, ◌-◌, ◌*◌, ◌^◌, ◌≤◌, ◌<◌, Bool, true, false, cond, eqb, ltb, min, List, [], ◌∷◌, ◌++◌, length, take, drop, refl, sym, ap, ◌∙◌, arith, inl, inr}
+use Rattle.std.proofs.Common.{◌≡◌, ℕ, suc, ◌+◌, ◌-◌, ◌*◌, ◌^◌, ◌≤◌, Bool, true, false, cond, eqb, ltb, min, List, [], ◌∷◌, ◌++◌, length, take, drop, refl, sym, ap, ◌∙◌, arith, inl, inr}
 use Rattle.std.specs.Prelude.{slice_range}
 use Rattle.std.specs.Char.{digit_value}
 use Rattle.std.proofs.lemmas.List.{append-nil, drop_all, drop-drop, length-take, length-drop, take-take, take_all}
@@ -23,7 +23,7 @@ opened_bytes_past : (bytes : List ℕ) (place : ℕ) (at : Place) (b : ℕ) → 
 opened_bytes_past bytes place (size_cr n) b past =
     cond_both (eqb b 10) (run_at (place + 1) n) [] (λ l. run_bytes bytes l ≡ [])
     (λ _. cond_both (ltb 0 n) (record { start = place + 1; end = place + 1 + n } ∷ []) [] (λ l. run_bytes bytes l ≡ [])
-        (λ _. ap (λ l. l ++ []) (slice_past bytes (place + 1) (place + 1 + n) (omega arith))) (λ _. refl))
+    (λ _. ap (λ l. l ++ []) (slice_past bytes (place + 1) (place + 1 + n) (omega arith))) (λ _. refl))
     (λ _. refl)
 opened_bytes_past bytes place at b past = refl
 
@@ -60,9 +60,9 @@ cut_bytes_more bytes len r rs none e =
     cond_both (ltb r.start len) _ _ (λ l. run_bytes bytes l ≡ run_bytes (take len bytes) (r ∷ rs))
     (λ _. λ i. slice_cut bytes r.start r.end len i ++ e i)
     (λ late.
-        let past : len ≤ r.start = ltb-false r.start len late in
-        let empty = slice_past (take len bytes) r.start r.end (omega (arith, length-take len bytes)) in
-        sym (λ i. empty i ++ none past i))
+    let past : len ≤ r.start = ltb-false r.start len late in
+    let empty = slice_past (take len bytes) r.start r.end (omega (arith, length-take len bytes)) in
+    sym (λ i. empty i ++ none past i))
 
 -- the run that begins behind a byte, in front of those that are cut
 cut_bytes_opened : (bytes : List ℕ) (len place : ℕ) (at : Place) (b : ℕ) (rs : List Run) → (len ≤ place + 1 → run_bytes (take len bytes) rs ≡ [])
@@ -72,7 +72,7 @@ cut_bytes_opened bytes len place (size_cr n) b rs none e =
     let holds = λ (l : List Run). run_bytes bytes (cut_runs len (l ++ rs)) ≡ run_bytes (take len bytes) (l ++ rs) in
     cond_both (eqb b 10) (run_at (place + 1) n) [] holds
     (λ _. cond_both (ltb 0 n) (record { start = place + 1; end = place + 1 + n } ∷ []) [] holds
-        (λ _. cut_bytes_more bytes len (record { start = place + 1; end = place + 1 + n }) rs none e) (λ _. e))
+    (λ _. cut_bytes_more bytes len (record { start = place + 1; end = place + 1 + n }) rs none e) (λ _. e))
     (λ _. e)
 cut_bytes_opened bytes len place at b rs none e = e
 

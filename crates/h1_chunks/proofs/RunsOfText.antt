@@ -93,7 +93,7 @@ passes_extension e s n semicolon cr quiet ok =
     ⊎_elim
     (λ none. subst (λ l. Passes s (l ++ crlf_bytes) (after_line n) n) (sym none) (passes_crlf s n cr (λ place. quiet place 13)))
     (λ some. subst (λ l. Passes s (l ++ crlf_bytes) (after_line n) n) (sym some.1)
-        (passes_more _ _ _ 59 _ n semicolon (λ place. quiet place 59) (passes_text some.0 n some.2)))
+    (passes_more _ _ _ 59 _ n semicolon (λ place. quiet place 59) (passes_text some.0 n some.2)))
     ok
 
 -- blanks and what follows them
@@ -214,7 +214,7 @@ pub runs_of-text : (t : ChunkedText) (rest : List ℕ) → IsChunkedText t → r
 runs_of-text t rest ok =
     let tail = section_text t.trailers ++ crlf_bytes in
     let regrouped : chunked_text t ++ rest ≡ flat_map segment_text t.segments ++ (t.last ++ (tail ++ rest)) =
-        append_assoc (flat_map segment_text t.segments) (t.last ++ tail) rest
-        ∙ ap (λ l. flat_map segment_text t.segments ++ l) (append_assoc t.last tail rest) in
+    append_assoc (flat_map segment_text t.segments) (t.last ++ tail) rest
+    ∙ ap (λ l. flat_map segment_text t.segments ++ l) (append_assoc t.last tail rest) in
     ap (runs_of 0 start) regrouped
     ∙ runs_of-segments t.segments 0 (t.last ++ (tail ++ rest)) ok.segments (λ at. runs_of-last t.last (tail ++ rest) at ok.last)

@@ -4,7 +4,7 @@ use Rattle.std.specs.List.{list_all, AllByRecursion}
 use Rattle.std.proofs.lemmas.Bool.{and_parts, true≢false}
 use Rattle.std.proofs.lemmas.List.{append_assoc}
 use Rattle.httparse.specs.Grammar.{is_value_byte, is_token_byte}
-use Rattle.httparse.specs.Ascii.{colon, carriage_return, crlf_bytes}
+use Rattle.httparse.specs.Ascii.{colon, carriage_return}
 use Rattle.h1_chunks.specs.ChunkedText.{Trailer, IsTrailer, trailer_text, section_text}
 
 -- a byte that a test refuses is none of those that pass

@@ -1,8 +1,8 @@
 -- What the places decide of bytes: they are a whole body with what follows it, the beginning of one, or neither.
-use Rattle.std.proofs.Common.{◌≡◌, ℕ, ◌+◌, ◌<◌, ◌≤◌, ◌⊎◌, List, [], ◌∷◌, ◌++◌, length, take, drop, refl, sym, ap, ◌∙◌, subst, inl, inr, arith}
+use Rattle.std.proofs.Common.{◌≡◌, ℕ, ◌+◌, ◌<◌, ◌⊎◌, List, [], ◌∷◌, ◌++◌, length, take, drop, refl, sym, ap, ◌∙◌, subst, inl, inr, arith}
 use Rattle.std.proofs.lemmas.List.{append_assoc, append-nil, length-append, take-append-le, take_at, take-take, take-append-drop}
 use Rattle.std.proofs.lemmas.Bool.{cases_lt}
-use Rattle.h1_chunks.specs.ChunkedText.{Trailer, ChunkedText, chunked_text, IsChunkedText}
+use Rattle.h1_chunks.specs.ChunkedText.{Trailer, ChunkedText, chunked_text}
 use Rattle.h1_chunks.specs.Runs.{Run, cut_runs}
 use Rattle.h1_chunks.specs.Chunked.{Chunked, whole, unfinished, not_chunked, Spells, Begins, IsLongestBeginning, IsChunked}
 use Rattle.h1_chunks.specs.Place.{Place, done, broken, start, after}
@@ -149,9 +149,13 @@ pub whole_after : (bytes : List ℕ) (k : ℕ) (trailers : List Trailer) (runs :
     → after start (take k bytes) ≡ done
 whole_after bytes k trailers runs x = after-body (take k bytes) x.0 x.2
 
+-- behind bytes that begin a body it goes on
+pub begins_live : (bytes : List ℕ) (t : ChunkedText) → Begins bytes t → IsLive (after start bytes)
+begins_live bytes t x = record { not_done = begins_not_done bytes t x; not_broken = begins_not_broken bytes t x }
+
 -- behind an unfinished body's bytes it goes on
 pub unfinished_after : (bytes : List ℕ) (runs : List Run) → IsChunked bytes unfinished runs → IsLive (after start bytes)
-unfinished_after bytes runs x = record { not_done = begins_not_done bytes x.0 x.1; not_broken = begins_not_broken bytes x.0 x.1 }
+unfinished_after bytes runs x = begins_live bytes x.0 x.1
 
 -- behind the longest beginning one more byte breaks it
 pub next_breaks : (bytes : List ℕ) (len : ℕ) (t : ChunkedText) → IsLongestBeginning bytes len t

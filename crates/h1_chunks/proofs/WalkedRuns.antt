@@ -5,15 +5,15 @@ use Rattle.std.specs.List.{AllByRecursion}
 use Rattle.std.proofs.lemmas.Bool.{cond-true, cond-false, lt-ltb, ne_eqb, cases_eq}
 use Rattle.std.proofs.lemmas.List.{append-nil, length-append, length-take, length-take-le, take_all, take-append-drop}
 use Rattle.httparse.specs.Ascii.{crlf_bytes}
-use Rattle.h1_chunks.specs.ChunkedText.{Trailer, Segment, segment_text, section_text, ChunkedText, chunked_text}
+use Rattle.h1_chunks.specs.ChunkedText.{Trailer, Segment, segment_text, section_text, ChunkedText}
 use Rattle.h1_chunks.specs.Runs.{Run, segment_runs, cut_runs}
 use Rattle.h1_chunks.specs.Chunked.{Chunked, whole, unfinished, not_chunked, Spells, IsLongestBeginning, IsChunked}
 use Rattle.h1_chunks.specs.Place.{Place, in_bytes, bytes_end, broken, start, bytes_step, step, after}
 use Rattle.h1_chunks.proofs.RunPlaces.{runs_of, runs_of-append, runs_of_late}
 use Rattle.h1_chunks.proofs.RunsOfText.{runs_of-text}
 use Rattle.h1_chunks.proofs.RunBytes.{in_chunk, current, opened_is_current}
-use Rattle.h1_chunks.proofs.Beginnings.{runs_of-body, begins_runs, begins_take_runs, begins_not_done, begins_not_broken}
-use Rattle.h1_chunks.proofs.Verdicts.{IsLive, next_breaks}
+use Rattle.h1_chunks.proofs.Beginnings.{runs_of-body, begins_runs, begins_take_runs}
+use Rattle.h1_chunks.proofs.Verdicts.{IsLive, begins_live, next_breaks}
 use Rattle.h1_chunks.proofs.Agreement.{bytes_unbroken, one_more}
 
 -- a run that ends within a length is not cut there
@@ -48,8 +48,7 @@ reach bytes (whole k trailers) runs x = k
 reach bytes unfinished runs x = length bytes
 reach bytes not_chunked runs x = x.1
 
--- by the kind of the bytes
--- the runs are those that the walk finds so far
+-- the runs are those that the walk finds so far, whatever the kind of the bytes
 pub runs_walked : (bytes : List ℕ) (a : Chunked) (runs : List Run) (x : IsChunked bytes a runs)
     → runs ≡ cut_runs (reach bytes a runs x) (runs_of 0 start (take (reach bytes a runs x) bytes))
 runs_walked bytes (whole k trailers) runs x =
@@ -130,10 +129,7 @@ breaks_runs place at (b ∷ bytes) outside e =
 longest_outside : (bytes : List ℕ) (len : ℕ) (t : ChunkedText) → IsLongestBeginning bytes len t
     → after (after start (take len bytes)) (take 1 (drop len bytes)) ≡ broken → in_chunk (after start (take len bytes)) ≡ false
 longest_outside bytes len t x breaks =
-    let front = take len bytes in
-    let live : IsLive (after start front) =
-        record { not_done = begins_not_done front t x.begins; not_broken = begins_not_broken front t x.begins } in
-    breaks_outside (after start front) (drop len bytes) live breaks
+    breaks_outside (after start (take len bytes)) (drop len bytes) (begins_live (take len bytes) t x.begins) breaks
 
 -- so the walk finds no more runs than in the longest beginning, and all lie within it
 longest_runs : (bytes : List ℕ) (len n : ℕ) (t : ChunkedText) → IsLongestBeginning bytes len t
@@ -157,7 +153,6 @@ broken_runs bytes runs x =
     let walked = longest_runs bytes x.1 x.1 x.0 x.2 x.3 (omega arith) in
     runs_walked bytes not_chunked runs x ∙ walked.1 ∙ walked.0
 
--- by the kind of the bytes
 -- the runs of any bytes are those that the walk finds in them, as far as they reach
 pub runs_cut : (bytes : List ℕ) (a : Chunked) (runs : List Run) → IsChunked bytes a runs → runs ≡ cut_runs (length bytes) (runs_of 0 start bytes)
 runs_cut bytes (whole k trailers) runs x =
