@@ -1,0 +1,14 @@
+pub mod Complete
+pub mod Sound
+pub mod Live
+pub mod ReadAfter
+pub mod Trailers
+pub mod RunPlaces
+pub mod RunsOfText
+pub mod Cuts
+pub mod Beginnings
+pub mod Verdicts
+pub mod Laws
+pub mod RunBytes
+pub mod Agreement
+pub mod WalkedRuns
