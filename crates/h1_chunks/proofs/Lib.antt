@@ -1,2 +1,4 @@
 pub mod ReadSteps
 pub mod Complete
+pub mod Rests
+pub mod Sound
