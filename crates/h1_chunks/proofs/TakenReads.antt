@@ -25,7 +25,7 @@ bytes_all bytes more z within =
     let front = take (more + 1) bytes in
     let behind = drop (more + 1) bytes in
     let parts : front ++ behind ≡ bytes = take-append-drop (more + 1) bytes in
-    let sized : length front ≡ more + 1 = length-take (more + 1) bytes (omega arith) in
+    let sized : length front ≡ more + 1 = omega (arith, length-take (more + 1) bytes) in
     ap (λ (l : List ℕ). read (in_bytes more) (l ++ z)) (sym parts)
     ∙ ap (read (in_bytes more)) (append_assoc front behind z)
     ∙ bytes_read front more (behind ++ z) sized
