@@ -9,7 +9,7 @@ use Rattle.httparse.specs.Grammar.{is_ows, is_value_byte, is_token_byte}
 use Rattle.httparse.specs.Ascii.{crlf_bytes}
 use Rattle.h1_chunks.specs.ChunkedText.{IsExtension, SaysSize, Segment, IsSegment, segment_text, Trailer, IsTrailer, trailer_text, section_text, ChunkedText, chunked_text, IsChunkedText, content}
 use Rattle.h1_chunks.specs.Place.{Place, in_size, in_blanks, in_extension, size_cr, in_bytes, bytes_end, bytes_cr, in_section, end_cr, done, line_start, in_name, in_value, line_cr, start, section_start, after_line, section_step, step}
-use Rattle.h1_chunks.specs.Reading.{Reading, has_ended, only, with_bytes, with_trailers, read}
+use Rattle.h1_chunks.specs.Reading.{has_ended, only, with_bytes, with_trailers, read}
 use Rattle.h1_chunks.proofs.ReadSteps.{IsQuiet, read-cons, read_quiet, read_body_byte, read_line_byte, read_done, with_bytes-append, with_trailers-append}
 
 -- the text leads from one place to another, and says nothing of the body

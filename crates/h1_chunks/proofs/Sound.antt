@@ -1,14 +1,12 @@
 -- What is read up to an end is the text of a body: one byte back at each place, from the end to the start.
-use Rattle.std.proofs.Common.{◌≡◌, ℕ, ◌+◌, ◌-◌, ◌*◌, ◌^◌, ◌<◌, ◌≤◌, ◌&&◌, cond, eqb, ltb, List, [], ◌∷◌, ◌++◌, length, refl, sym, ap, ◌∙◌, subst, arith, append_assoc, append-nil}
+use Rattle.std.proofs.Common.{◌≡◌, ℕ, ◌+◌, ◌-◌, ◌*◌, ◌^◌, ◌<◌, ◌&&◌, cond, eqb, ltb, List, [], ◌∷◌, ◌++◌, refl, sym, ap, ◌∙◌, subst, arith}
 use Rattle.std.specs.Prelude.{IsTrue}
-use Rattle.std.specs.List.{list_all}
 use Rattle.std.proofs.lemmas.Bool.{and_from, and_parts, eqb-true, eqb-false, ltb-true, cond_both}
 use Rattle.std.specs.Char.{digit_value}
 use Rattle.httparse.specs.Grammar.{is_ows, is_value_byte, is_token_byte}
-use Rattle.httparse.specs.Ascii.{colon, crlf_bytes}
-use Rattle.h1_chunks.specs.ChunkedText.{Trailer, ChunkedText, chunked_text, IsChunkedText}
+use Rattle.h1_chunks.specs.ChunkedText.{ChunkedText, chunked_text, IsChunkedText}
 use Rattle.h1_chunks.specs.Place.{InLine, Place, in_size, in_blanks, in_extension, size_cr, in_bytes, bytes_end, bytes_cr, in_section, end_cr, done, broken, line_start, in_name, in_value, line_cr, start, section_start, expect, after_digits, size_step, extension_step, after_line, bytes_step, needs, kept, section_step, step}
-use Rattle.h1_chunks.specs.Reading.{Ending, goes_on, is_broken, has_ended, Reading, only, at_end, read}
+use Rattle.h1_chunks.specs.Reading.{has_ended, Reading, at_end, read}
 use Rattle.h1_chunks.proofs.ReadSteps.{read-nil, read_done, ending-cons}
 use Rattle.h1_chunks.proofs.Rests.{HasBody, Section, LineThen, ValueForm, NameForm, TrailerForm, line_from, section_from, section_ends, BytesThen, bytes_from, Completes, section_completes, bytes_complete, SizeThen, size_from, ExtensionForm, BlankForm, DigitForm, blank_from, semicolon_from, line_end_from, digit_from, no_digit_from, says_size}
 

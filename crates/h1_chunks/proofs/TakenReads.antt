@@ -1,7 +1,7 @@
 -- Taking what comes next is reading: the bytes of a chunk at once, and all others one by one.
 use Rattle.std.proofs.Common.{◌≡◌, ℕ, suc, ◌+◌, ◌-◌, ◌<◌, ◌≤◌, eqb, ltb, List, [], ◌∷◌, ◌++◌, length, take, drop, refl, sym, ap, ◌∙◌, arith, append_assoc, take-append-drop, length-take}
 use Rattle.std.proofs.lemmas.Bool.{cond-false, cond_both, ltb-true, ltb-false, ne_eqb}
-use Rattle.h1_chunks.specs.Place.{InLine, Place, in_bytes, bytes_end, in_section, done, broken, bytes_step, step}
+use Rattle.h1_chunks.specs.Place.{InLine, Place, in_bytes, bytes_end, in_section, done, broken, step}
 use Rattle.h1_chunks.specs.Reading.{Reading, with_bytes, with_trailers, noted, read}
 use Rattle.h1_chunks.specs.TakeNext.{Next, chunk, Taken, of_chunk, noted_line, take_next, says}
 use Rattle.h1_chunks.proofs.ReadSteps.{read-cons, read_quiet, read_body_byte, read_done, read_broken}
