@@ -1,5 +1,5 @@
 -- The text of a body is read as its bytes, its trailers and its end: a lemma for each part of the text.
-use Rattle.std.proofs.Common.{◌≡◌, ℕ, suc, ◌+◌, ◌-◌, ◌*◌, ◌^◌, ◌<◌, ◌≤◌, true, false, eqb, ltb, List, [], ◌∷◌, ◌++◌, length, refl, sym, ap, ap₂, ◌∙◌, subst, arith, ⊎_elim, append_assoc, append-nil, length-append}
+use Rattle.std.proofs.Common.{◌≡◌, ℕ, suc, ◌+◌, ◌-◌, ◌*◌, ◌^◌, ◌<◌, ◌≤◌, true, false, eqb, ltb, List, [], ◌∷◌, ◌++◌, length, refl, sym, ap, ap₂, ◌∙◌, subst, subst₂, arith, ⊎_elim, append_assoc, append-nil, length-append}
 use Rattle.std.specs.Prelude.{IsTrue}
 use Rattle.std.specs.List.{flat_map, list_all, AllByRecursion}
 use Rattle.std.proofs.lemmas.Bool.{and_parts, and_from, or_cases, ne_eqb, eq-eqb, eqb-true, lt-ltb, cond-true, cond-false, false≢true}
@@ -8,7 +8,7 @@ use Rattle.std.specs.Str.Parse.{digits_value_after, AllDigits}
 use Rattle.httparse.specs.Grammar.{is_ows, is_value_byte, is_token_byte}
 use Rattle.httparse.specs.Ascii.{crlf_bytes}
 use Rattle.h1_chunks.specs.ChunkedText.{IsExtension, SaysSize, Segment, IsSegment, segment_text, Trailer, IsTrailer, trailer_text, section_text, ChunkedText, chunked_text, IsChunkedText, content}
-use Rattle.h1_chunks.specs.Place.{Place, in_size, in_blanks, in_extension, size_cr, in_bytes, bytes_end, bytes_cr, in_section, end_cr, done, line_start, in_name, in_value, line_cr, start, section_start, after_line, section_step, step}
+use Rattle.h1_chunks.specs.Place.{InLine, Place, in_size, in_blanks, in_extension, size_cr, in_bytes, bytes_end, bytes_cr, in_section, end_cr, done, line_start, in_name, in_value, line_cr, start, section_start, after_line, section_step, step}
 use Rattle.h1_chunks.specs.Reading.{has_ended, only, with_bytes, with_trailers, read}
 use Rattle.h1_chunks.proofs.ReadSteps.{IsQuiet, read-cons, read_quiet, read_body_byte, read_line_byte, read_done, with_bytes-append, with_trailers-append}
 
@@ -184,67 +184,106 @@ step_lf lines room left e =
     let same : room - 1 ≡ left = omega arith in
     cond-true _ _ _ (lt-ltb 0 room (omega arith)) ∙ ap (in_section line_start (lines - 1)) same
 
+-- the text is read as text of trailer lines, and leads from one place to another
+record Keeps (p : Place) (text : List ℕ) (q : Place) : Type 0 where
+  reads : (rest : List ℕ) → read p (text ++ rest) ≡ with_trailers text (read q rest)
+
+-- no text
+keeps_none : (p : Place) → Keeps p [] p
+keeps_none p = record { reads = λ rest. refl }
+
+-- one more byte in front
+keeps_on : (at to : InLine) (lines room lines' room' b : ℕ) (text : List ℕ) (q : Place) → section_step at lines room b ≡ in_section to lines' room' → Keeps (in_section to lines' room') text q → Keeps (in_section at lines room) (b ∷ text) q
+keeps_on at to lines room lines' room' b text q e k = record {
+  reads = λ rest.
+      read_line_byte at to lines room lines' room' b (text ++ rest) e ∙ ap (with_trailers (b ∷ [])) (k.reads rest);
+}
+
+-- one text, and then another
+keeps_both : (p q r : Place) (xs ys : List ℕ) → Keeps p xs q → Keeps q ys r → Keeps p (xs ++ ys) r
+keeps_both p q r xs ys first second = record {
+  reads = λ rest.
+      ap (read p) (append_assoc xs ys rest)
+      ∙ first.reads (ys ++ rest)
+      ∙ ap (with_trailers xs) (second.reads rest)
+      ∙ with_trailers-append xs ys (read r rest);
+}
+
+-- in front of a trailer line
+abbrev between : ℕ → ℕ → Place
+between lines room = in_section line_start lines room
+
 -- a value and the end of its line
-value_read : (value : List ℕ) (lines room left : ℕ) (rest : List ℕ) → IsTrue (list_all is_value_byte value) → room ≡ length value + (left + 2) → read (in_section in_value lines room) ((value ++ crlf_bytes) ++ rest) ≡ with_trailers (value ++ crlf_bytes) (read (in_section line_start (lines - 1) left) rest)
-value_read [] lines room left rest ok fits =
-    read_line_byte in_value line_cr lines room lines (room - 1) 13 (10 ∷ rest) (step_cr lines room (omega arith))
-    ∙ ap (with_trailers (13 ∷ [])) (read_line_byte line_cr line_start lines (room - 1) (lines - 1) left 10 rest (step_lf lines (room - 1) left (omega arith)))
-value_read (b ∷ value) lines room left rest ok fits =
+keeps_value : (value : List ℕ) (lines room left : ℕ) → IsTrue (list_all is_value_byte value) → room ≡ length value + (left + 2) → Keeps (in_section in_value lines room) (value ++ crlf_bytes) (between (lines - 1) left)
+keeps_value [] lines room left ok fits =
+    let behind = between (lines - 1) left in
+    keeps_on in_value line_cr lines room lines (room - 1) 13 (10 ∷ []) behind (step_cr lines room (omega arith))
+    (keeps_on line_cr line_start lines (room - 1) (lines - 1) left 10 [] behind (step_lf lines (room - 1) left (omega arith)) (keeps_none behind))
+keeps_value (b ∷ value) lines room left ok fits =
     let parts = and_parts _ _ ok in
-    read_line_byte in_value in_value lines room lines (room - 1) b ((value ++ crlf_bytes) ++ rest) (step_value lines room b parts.0 (omega arith))
-    ∙ ap (with_trailers (b ∷ [])) (value_read value lines (room - 1) left rest parts.1 (omega arith))
+    let behind = between (lines - 1) left in
+    keeps_on in_value in_value lines room lines (room - 1) b (value ++ crlf_bytes) behind (step_value lines room b parts.0 (omega arith))
+    (keeps_value value lines (room - 1) left parts.1 (omega arith))
 
 -- the rest of a name, its colon, and the value
-name_read : (name value : List ℕ) (lines room left : ℕ) (rest : List ℕ) → IsTrue (list_all is_token_byte name) → IsTrue (list_all is_value_byte value) → room ≡ length name + (length value + (left + 3)) → read (in_section in_name lines room) ((name ++ (58 ∷ (value ++ crlf_bytes))) ++ rest) ≡ with_trailers (name ++ (58 ∷ (value ++ crlf_bytes))) (read (in_section line_start (lines - 1) left) rest)
-name_read [] value lines room left rest token ok fits =
-    read_line_byte in_name in_value lines room lines (room - 1) 58 ((value ++ crlf_bytes) ++ rest) (step_colon lines room (omega arith))
-    ∙ ap (with_trailers (58 ∷ [])) (value_read value lines (room - 1) left rest ok (omega arith))
-name_read (b ∷ name) value lines room left rest token ok fits =
+keeps_name : (name value : List ℕ) (lines room left : ℕ) → IsTrue (list_all is_token_byte name) → IsTrue (list_all is_value_byte value) → room ≡ length name + (length value + (left + 3)) → Keeps (in_section in_name lines room) (name ++ (58 ∷ (value ++ crlf_bytes))) (between (lines - 1) left)
+keeps_name [] value lines room left token ok fits =
+    let behind = between (lines - 1) left in
+    keeps_on in_name in_value lines room lines (room - 1) 58 (value ++ crlf_bytes) behind (step_colon lines room (omega arith))
+    (keeps_value value lines (room - 1) left ok (omega arith))
+keeps_name (b ∷ name) value lines room left token ok fits =
     let parts = and_parts _ _ token in
-    read_line_byte in_name in_name lines room lines (room - 1) b ((name ++ (58 ∷ (value ++ crlf_bytes))) ++ rest) (step_name lines room b parts.0 (omega arith))
-    ∙ ap (with_trailers (b ∷ [])) (name_read name value lines (room - 1) left rest parts.1 ok (omega arith))
+    let text = name ++ (58 ∷ (value ++ crlf_bytes)) in
+    let behind = between (lines - 1) left in
+    keeps_on in_name in_name lines room lines (room - 1) b text behind (step_name lines room b parts.0 (omega arith))
+    (keeps_name name value lines (room - 1) left parts.1 ok (omega arith))
 
--- a trailer line
-line_read : (name value : List ℕ) (lines room left : ℕ) (rest : List ℕ) → 0 < length name → IsTrue (list_all is_token_byte name) → IsTrue (list_all is_value_byte value) → 0 < lines → room ≡ length name + (length value + (left + 3)) → read (in_section line_start lines room) ((name ++ (58 ∷ (value ++ crlf_bytes))) ++ rest) ≡ with_trailers (name ++ (58 ∷ (value ++ crlf_bytes))) (read (in_section line_start (lines - 1) left) rest)
-line_read [] value lines room left rest named token ok some fits = absurd (omega arith)
-line_read (b ∷ name) value lines room left rest named token ok some fits =
-    let parts = and_parts _ _ token in
-    read_line_byte line_start in_name lines room lines (room - 1) b ((name ++ (58 ∷ (value ++ crlf_bytes))) ++ rest) (step_first lines room b parts.0 some (omega arith))
-    ∙ ap (with_trailers (b ∷ [])) (name_read name value lines (room - 1) left rest parts.1 ok (omega arith))
+-- a trailer line, by its name and value
+keeps_line : (name value : List ℕ) (lines room left : ℕ) → IsTrailer (record { name = name; value = value }) → 0 < lines → room ≡ length name + (length value + (left + 3)) → Keeps (between lines room) (name ++ (58 ∷ (value ++ crlf_bytes))) (between (lines - 1) left)
+keeps_line [] value lines room left ok some fits =
+    let named = ok.0 in
+    absurd (omega arith)
+keeps_line (b ∷ name) value lines room left ok some fits =
+    let parts = and_parts _ _ ok.1 in
+    let text = name ++ (58 ∷ (value ++ crlf_bytes)) in
+    let behind = between (lines - 1) left in
+    keeps_on line_start in_name lines room lines (room - 1) b text behind (step_first lines room b parts.0 some (omega arith))
+    (keeps_name name value lines (room - 1) left parts.1 ok.2 (omega arith))
 
 -- how many bytes a trailer line has
-pub trailer_length : (t : Trailer) → length (trailer_text t) ≡ length t.name + (length t.value + 3)
+trailer_length : (t : Trailer) → length (trailer_text t) ≡ length t.name + (length t.value + 3)
 trailer_length t = simp length-append (omega arith)
 
 -- trailer lines
-section_read : (trailers : List Trailer) (lines room left : ℕ) (rest : List ℕ) → AllByRecursion IsTrailer trailers → length trailers ≤ lines → room ≡ length (section_text trailers) + left → read (in_section line_start lines room) (section_text trailers ++ rest) ≡ with_trailers (section_text trailers) (read (in_section line_start (lines - length trailers) left) rest)
-section_read [] lines room left rest ok few fits =
+keeps_lines : (trailers : List Trailer) (lines room left : ℕ) → AllByRecursion IsTrailer trailers → length trailers ≤ lines → room ≡ length (section_text trailers) + left → Keeps (between lines room) (section_text trailers) (between (lines - length trailers) left)
+keeps_lines [] lines room left ok few fits =
     let same : room ≡ left = omega arith in
     let all : lines ≡ lines - 0 = omega arith in
-    ap₂ (λ l r. read (in_section line_start l r) rest) all same
-section_read (t ∷ trailers) lines room left rest ok few fits =
+    subst₂ (λ l r. Keeps (between lines room) [] (between l r)) all same (keeps_none (between lines room))
+keeps_lines (t ∷ trailers) lines room left ok few fits =
     let text = section_text trailers in
     let long : length (trailer_text t ++ text) ≡ length (trailer_text t) + length text = length-append (trailer_text t) text in
     let line = trailer_length t in
+    let room' = length text + left in
     let fewer : lines - 1 - length trailers ≡ lines - suc (length trailers) = omega arith in
-    ap (read (in_section line_start lines room)) (append_assoc (trailer_text t) text rest)
-    ∙ line_read t.name t.value lines room (length text + left) (text ++ rest) ok.0.0 ok.0.1 ok.0.2 (omega arith) (omega arith)
-    ∙ ap (with_trailers (trailer_text t)) (section_read trailers (lines - 1) (length text + left) left rest ok.1 (omega arith) refl)
-    ∙ with_trailers-append (trailer_text t) text (read (in_section line_start (lines - 1 - length trailers) left) rest)
-    ∙ ap (λ l. with_trailers (trailer_text t ++ text) (read (in_section line_start l left) rest)) fewer
+    subst (λ l. Keeps (between lines room) (trailer_text t ++ text) (between l left)) fewer
+    (keeps_both (between lines room) (between (lines - 1) room') (between (lines - 1 - length trailers) left) (trailer_text t) text
+    (keeps_line t.name t.value lines room room' ok.0 (omega arith) (omega arith))
+    (keeps_lines trailers (lines - 1) room' left ok.1 (omega arith) refl))
 
 -- the empty line behind them
-end_read : (lines room : ℕ) (rest : List ℕ) → read (in_section line_start lines room) (crlf_bytes ++ rest) ≡ only (has_ended rest)
+end_read : (lines room : ℕ) (rest : List ℕ) → read (between lines room) (crlf_bytes ++ rest) ≡ only (has_ended rest)
 end_read lines room rest =
-    read-cons (in_section line_start lines room) 13 (10 ∷ rest) tt ∙ read_quiet end_cr done 10 rest tt refl ∙ read_done rest
+    read-cons (between lines room) 13 (10 ∷ rest) tt ∙ read_quiet end_cr done 10 rest tt refl ∙ read_done rest
 
 -- the trailer section and the empty line
-trailers_read : (t : ChunkedText) (rest : List ℕ) → IsChunkedText t → read section_start (section_text t.trailers ++ (crlf_bytes ++ rest)) ≡ with_trailers (section_text t.trailers) (only (has_ended rest))
-trailers_read t rest ok =
+section_read : (t : ChunkedText) (rest : List ℕ) → IsChunkedText t → read section_start (section_text t.trailers ++ (crlf_bytes ++ rest)) ≡ with_trailers (section_text t.trailers) (only (has_ended rest))
+section_read t rest ok =
+    let text = section_text t.trailers in
     let room = ok.room in
-    let left = 8192 - length (section_text t.trailers) in
-    section_read t.trailers 64 8192 left (crlf_bytes ++ rest) ok.trailers ok.lines (omega arith)
-    ∙ ap (with_trailers (section_text t.trailers)) (end_read (64 - length t.trailers) left rest)
+    let left = 8192 - length text in
+    (keeps_lines t.trailers 64 8192 left ok.trailers ok.lines (omega arith)).reads (crlf_bytes ++ rest)
+    ∙ ap (with_trailers text) (end_read (64 - length t.trailers) left rest)
 
 -- the text of a body is read as its bytes, its trailers and its end
 pub text_read : (t : ChunkedText) (rest : List ℕ) → IsChunkedText t → read start (chunked_text t ++ rest) ≡ record { body = content t; trailers = section_text t.trailers; ending = has_ended rest }
@@ -253,5 +292,5 @@ text_read t rest ok =
     let regrouped : chunked_text t ++ rest ≡ flat_map segment_text t.segments ++ (t.last ++ behind) = simp append_assoc in
     ap (read start) regrouped
     ∙ segments_read t.segments (t.last ++ behind) ok.segments
-    ∙ ap (with_bytes (content t)) ((leads_size_line t.last 0 ok.last).reads behind ∙ trailers_read t rest ok)
+    ∙ ap (with_bytes (content t)) ((leads_size_line t.last 0 ok.last).reads behind ∙ section_read t rest ok)
     ∙ ap₂ (λ (b s : List ℕ). record { body = b; trailers = s; ending = has_ended rest }) (append-nil (content t)) (append-nil (section_text t.trailers))
