@@ -14,6 +14,14 @@ use Rattle.h1_chunks.specs.ChunkedText.{IsExtension, SaysSize, Segment, IsSegmen
 abbrev pub HasBody : List ℕ → Type 0
 HasBody text = (t : ChunkedText) × IsChunkedText t × (text ≡ chunked_text t)
 
+-- the last byte of a line
+abbrev pub EndForm : List ℕ → Type 0
+EndForm line = line ≡ 10 ∷ []
+
+-- the text of an extension, or a value, and the line's end
+abbrev pub TextForm : List ℕ → Type 0
+TextForm line = (text : List ℕ) × IsTrue (list_all is_value_byte text) × (line ≡ text ++ crlf_bytes)
+
 -- trailer lines within these limits, and the empty line
 pub record Section (lines : ℕ) (room : ℕ) (text : List ℕ) : Type 0 where
   pub trailers : List Trailer
@@ -31,10 +39,6 @@ pub record LineThen (Form : List ℕ → Type 0) (lines : ℕ) (room : ℕ) (tex
   pub within : length line + spare ≤ room
   pub section : Section (lines - 1) spare behind
   pub spelled : text ≡ line ++ behind
-
--- a value and its line's end
-abbrev pub ValueForm : List ℕ → Type 0
-ValueForm line = (value : List ℕ) × IsTrue (list_all is_value_byte value) × (line ≡ value ++ crlf_bytes)
 
 -- the rest of a name, and then a value
 pub record NameForm (line : List ℕ) : Type 0 where
@@ -76,7 +80,10 @@ section_from lines room text some r =
       well_formed = (r.form.1, s.well_formed);
       few = omega arith;
       small = omega arith;
-      spelled = r.spelled ∙ ap (λ (l : List ℕ). l ++ r.behind) r.form.2 ∙ ap (λ (l : List ℕ). trailer_text t ++ l) s.spelled ∙ sym (append_assoc (trailer_text t) rest crlf_bytes);
+      spelled = r.spelled
+      ∙ ap (λ (l : List ℕ). l ++ r.behind) r.form.2
+      ∙ ap (λ (l : List ℕ). trailer_text t ++ l) s.spelled
+      ∙ sym (append_assoc (trailer_text t) rest crlf_bytes);
     }
 
 -- no further line
@@ -164,10 +171,6 @@ size_from P Q size b text grows r = record {
   spelled = ap (λ (l : List ℕ). b ∷ l) r.spelled;
 }
 
--- the text of an extension and the line's end
-abbrev pub ExtensionForm : List ℕ → Type 0
-ExtensionForm line = (text : List ℕ) × IsTrue (list_all is_value_byte text) × (line ≡ text ++ crlf_bytes)
-
 -- blanks, perhaps an extension, and the line's end
 pub record BlankForm (line : List ℕ) : Type 0 where
   pub blanks : List ℕ
@@ -197,7 +200,7 @@ blank_from b line blank f = record {
 }
 
 -- a semicolon in front of an extension's text
-pub semicolon_from : (b : ℕ) (line : List ℕ) → b ≡ 59 → ExtensionForm line → BlankForm (b ∷ line)
+pub semicolon_from : (b : ℕ) (line : List ℕ) → b ≡ 59 → TextForm line → BlankForm (b ∷ line)
 semicolon_from b line is f = record {
   blanks = [];
   extension = semicolon ∷ f.0;
@@ -207,7 +210,7 @@ semicolon_from b line is f = record {
 }
 
 -- a line with no extension ends
-pub line_end_from : (b : ℕ) (line : List ℕ) → b ≡ 13 → line ≡ 10 ∷ [] → BlankForm (b ∷ line)
+pub line_end_from : (b : ℕ) (line : List ℕ) → b ≡ 13 → EndForm line → BlankForm (b ∷ line)
 line_end_from b line is lf = record {
   blanks = [];
   extension = [];
