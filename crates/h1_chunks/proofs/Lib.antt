@@ -1,4 +1,6 @@
 pub mod ReadSteps
+pub mod SizeLines
+pub mod TrailerLines
 pub mod Complete
 pub mod Rests
 pub mod Sound

@@ -144,10 +144,11 @@ way_start : Way start
 way_start =
     way_on start (size_cr 0) 13 tt refl (way_on (size_cr 0) section_start 10 tt refl (way_line_start 64 8192))
 
--- behind a chunk's bytes
+-- behind the CR of a chunk
 way_bytes_cr : Way bytes_cr
 way_bytes_cr = way_on bytes_cr start 10 tt refl way_start
 
+-- behind a chunk's bytes
 way_bytes_end : Way bytes_end
 way_bytes_end = way_on bytes_end bytes_cr 13 tt refl way_bytes_cr
 

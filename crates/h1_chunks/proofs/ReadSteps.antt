@@ -4,7 +4,7 @@ use Rattle.std.specs.Prelude.{⊤}
 use Rattle.h1_chunks.specs.Place.{InLine, Place, in_bytes, in_section, done, broken, bytes_step, section_step, step}
 use Rattle.h1_chunks.specs.Reading.{Reading, has_ended, is_broken, only, with_bytes, with_trailers, noted, at_end, read}
 
--- a byte may follow here
+-- any place but the one behind a whole body
 abbrev pub HasNext : Place → Type 0
 HasNext done = ⊥
 HasNext place = ⊤

@@ -81,9 +81,9 @@ section_from lines room text some r =
       few = omega arith;
       small = omega arith;
       spelled = r.spelled
-      ∙ ap (λ (l : List ℕ). l ++ r.behind) r.form.2
-      ∙ ap (λ (l : List ℕ). trailer_text t ++ l) s.spelled
-      ∙ sym (append_assoc (trailer_text t) rest crlf_bytes);
+          ∙ ap (λ (l : List ℕ). l ++ r.behind) r.form.2
+          ∙ ap (λ (l : List ℕ). trailer_text t ++ l) s.spelled
+          ∙ sym (append_assoc (trailer_text t) rest crlf_bytes);
     }
 
 -- no further line
