@@ -12,3 +12,9 @@ pub mod Laws
 pub mod RunBytes
 pub mod Agreement
 pub mod WalkedRuns
+pub mod ReadSteps
+pub mod SizeLines
+pub mod TrailerLines
+pub mod Rests
+pub mod Broken
+pub mod TakenReads
