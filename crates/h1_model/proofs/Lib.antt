@@ -17,6 +17,7 @@ pub mod MessageExistence
 pub mod HandedLemmas
 pub mod PastExistence
 pub mod MovedLemmas
+pub mod UpgradeLemmas
 pub mod PastLemmas
 pub mod PlaceLemmas
 pub mod StepLemmas
