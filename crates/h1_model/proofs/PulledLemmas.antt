@@ -1,11 +1,11 @@
 -- How far pulls pass the current message: never behind what was taken or what is left of it, and never back.
-use Rattle.std.proofs.Common.{◌≡◌, ℕ, suc, ◌+◌, ◌≤◌, true, false, cond, List, [], ◌∷◌, length, slice_range, Option, Some, None, refl, sym, ap, ◌∙◌, subst, subst₂, inl, inr, arith, append-nil, length-append}
+use Rattle.std.proofs.Common.{◌≡◌, ℕ, suc, ◌+◌, ◌≤◌, Bool, true, false, cond, List, [], ◌∷◌, length, slice_range, Option, Some, None, refl, sym, ap, ◌∙◌, subst, subst₂, inl, inr, arith, append-nil, length-append}
 use Rattle.std.specs.Prelude.{is_some, unwrap_or, slice_get, IsSome, ⊤}
 use Rattle.std.specs.List.{list_any}
 use Rattle.std.proofs.lemmas.Option.{none-some, same_Some, slice_get_within}
 use Rattle.std.proofs.lemmas.Bool.{cond-true, cond-false, cases_Bool, true≢false, false≢true, or_parts}
 use Rattle.httparse.proofs.RunLemmas.{length-slice_range}
-use Rattle.h1_model.specs.Request.{Head, Reading}
+use Rattle.h1_model.specs.Request.{Header, Head, Reading}
 use Rattle.h1_model.specs.Frame.{ProtocolError}
 use Rattle.h1_model.specs.FrameText.{PlacedFrame}
 use Rattle.h1_chunks.specs.Runs.{Run, cut_runs}
@@ -14,7 +14,7 @@ use Rattle.h1_model.specs.Event.{Event, Outcome}
 use Rattle.h1_model.specs.Event as on
 use Rattle.h1_model.specs.Sums.{Step, taken, is_pull, head_of, was_pulled}
 use Rattle.h1_model.specs.Past.{step_bytes, step_frames, given_bytes, given_frames, place_behind, frame_end, has_chunks, pulled_place, pulled_to}
-use Rattle.h1_model.specs.OutcomeTable.{run_left, run_outcome, frame_outcome, stop_outcome, body_outcome}
+use Rattle.h1_model.specs.OutcomeTable.{run_left, gave_trailers, ended_outcome, stop_outcome, run_outcome, frame_outcome, body_outcome}
 use Rattle.h1_model.proofs.RunLemmas.{IsOrdered}
 use Rattle.h1_model.proofs.PlaceLemmas.{run_len, runs_len, left_some, left_within, left_place, left_len, left_next, IsBeforeLeft, cut_len, cut_place, cut_before, frame_end-at, frame_within, frame_next, frame_end_within, frame_end-append}
 use Rattle.h1_model.proofs.BodySteps.{is_frames, Opens, Lies}
@@ -48,6 +48,7 @@ not_pulled m trace _ o no_pull = refl
 -- what was given by a pull is part of the message as it is parsed now
 abbrev pub PullFits : Message → List Step → Event → Outcome → Type 0
 PullFits m trace on.pull (on.bytes more) = given_bytes trace ≤ runs_len (runs_of m.body)
+PullFits m trace on.pull (on.trailers lines) = IsSome (next_start m.body)
 PullFits m trace on.pull on.body_ended = IsSome (next_start m.body)
 PullFits m trace on.pull (on.frame f) = given_frames trace ≤ length (frames_of m.body)
 PullFits m trace _ _ = ⊤
@@ -108,6 +109,7 @@ place_grows len from upto m n trace on.pull (on.bytes more) g ordered fits =
           ∙ cut_place len n.body_start from upto (given_bytes trace) (runs_of n.body) ordered cut),
       omega arith,
     )
+place_grows len from upto m n trace on.pull (on.trailers lines) g ordered fits = absurd (false≢true (sym (ap is_some g.body.next) ∙ fits))
 place_grows len from upto m n trace on.pull on.body_ended g ordered fits = absurd (false≢true (sym (ap is_some g.body.next) ∙ fits))
 place_grows len from upto m n trace on.pull (on.frame f) g ordered fits =
     let rest = g.body.frames.0 in
@@ -334,15 +336,17 @@ bytes_pulled m before r left unframed lies x =
       passes = omega (arith, x.before_left r left);
     }
 
--- the end is given
-end_pulled : (m : Message) (before : List Step) (place : ℕ) → next_start m.body ≡ Some place → run_left (given_bytes before) (runs_of m.body) ≡ None
+-- what is given passes the message up to its end: its trailers, or the end
+end_pulled : (m : Message) (before : List Step) (o : Outcome) (place : ℕ) → head_of o ≡ None
+    → pulled_place m (step on.pull o ∷ before) on.pull o ≡ next_start m.body → step_bytes o ≡ 0 → step_frames o ≡ 0
+    → PullFits m (step on.pull o ∷ before) on.pull o → next_start m.body ≡ Some place → run_left (given_bytes before) (runs_of m.body) ≡ None
     → is_frames m.body ≡ false → Lies (length (taken before)) m.body_start m.body → Holds (length (taken before)) m before
-    → Pulled m before on.body_ended
-end_pulled m before place next none_left unframed lies x =
-    let s = step on.pull on.body_ended in
-    let at = pulled_at m before on.body_ended place refl next in
-    let given : given_bytes (s ∷ before) ≡ given_bytes before = omega (arith, given_bytes-more s before refl) in
-    let given' : given_frames (s ∷ before) ≡ given_frames before = omega (arith, given_frames-more s before refl) in
+    → Pulled m before o
+end_pulled m before o place none passes bytes count fits next none_left unframed lies x =
+    let s = step on.pull o in
+    let at = pulled_at m before o place none (passes ∙ next) in
+    let given : given_bytes (s ∷ before) ≡ given_bytes before = omega (arith, given_bytes-more s before none) in
+    let given' : given_frames (s ∷ before) ≡ given_frames before = omega (arith, given_frames-more s before none) in
     let inside = lies.next place next in
     record {
       holds = record {
@@ -352,7 +356,7 @@ end_pulled m before place next none_left unframed lies x =
         before_frames = λ framed. absurd (false≢true (sym unframed ∙ framed));
         bytes_fit = omega (arith, x.bytes_fit);
         frames_fit = omega (arith, x.frames_fit);
-        pulls_fit = fit-more m s before refl (ap is_some next) x.pulls_fit;
+        pulls_fit = fit-more m s before none fits x.pulls_fit;
       };
       passes = omega (arith, x.before_next place next);
     }
@@ -389,22 +393,36 @@ frame_pulled m before f here unended framed none_left lies x =
 abbrev pub message : Reading → ℕ → Body → Message
 message r place b = record { reading = r; body_start = place; body = b }
 
+-- the trailers of an ended body, or its end
+ended_pulled : (r : Reading) (place : ℕ) (runs : List Run) (end : ℕ) (trailers lines : List Header) (given : Bool) (before : List Step)
+    → run_left (given_bytes before) runs ≡ None → Lies (length (taken before)) place (content runs (ended_at end trailers))
+    → Holds (length (taken before)) (message r place (content runs (ended_at end trailers))) before
+    → Pulled (message r place (content runs (ended_at end trailers))) before (ended_outcome given lines)
+ended_pulled r place runs end trailers [] given before none_left lies x =
+    end_pulled (message r place (content runs (ended_at end trailers))) before on.body_ended end refl refl refl refl refl refl none_left refl lies x
+ended_pulled r place runs end trailers (line ∷ more) true before none_left lies x =
+    end_pulled (message r place (content runs (ended_at end trailers))) before on.body_ended end refl refl refl refl refl refl none_left refl lies x
+ended_pulled r place runs end trailers (line ∷ more) false before none_left lies x =
+    end_pulled (message r place (content runs (ended_at end trailers))) before _ end refl refl refl refl refl refl none_left refl lies x
+
 -- content, by how it stops, where all that is there was given
-stop_pulled : (r : Reading) (place : ℕ) (runs : List Run) (stop : Stop) (before : List Step) → run_left (given_bytes before) runs ≡ None
+stop_pulled : (r : Reading) (place : ℕ) (runs : List Run) (stop : Stop) (given : Bool) (before : List Step) → run_left (given_bytes before) runs ≡ None
     → Lies (length (taken before)) place (content runs stop) → Holds (length (taken before)) (message r place (content runs stop)) before
-    → Pulled (message r place (content runs stop)) before (stop_outcome stop)
-stop_pulled r place runs (ended_at end) before none_left lies x = end_pulled (message r place (content runs (ended_at end))) before end refl none_left refl lies x
-stop_pulled r place runs broken before none_left lies x = nothing_pulled (message r place (content runs broken)) before _ refl refl refl refl tt x
-stop_pulled r place runs cut before none_left lies x = nothing_pulled (message r place (content runs cut)) before _ refl refl refl refl tt x
-stop_pulled r place runs still_open before none_left lies x = pending_pulled (message r place (content runs still_open)) before refl none_left (λ _. refl) x
+    → Pulled (message r place (content runs stop)) before (stop_outcome given stop)
+stop_pulled r place runs (ended_at end trailers) given before none_left lies x =
+    ended_pulled r place runs end trailers trailers given before none_left lies x
+stop_pulled r place runs broken given before none_left lies x = nothing_pulled (message r place (content runs broken)) before _ refl refl refl refl tt x
+stop_pulled r place runs cut given before none_left lies x = nothing_pulled (message r place (content runs cut)) before _ refl refl refl refl tt x
+stop_pulled r place runs still_open given before none_left lies x =
+    pending_pulled (message r place (content runs still_open)) before refl none_left (λ _. refl) x
 
 -- content, by the run in which the next byte lies
 content_pulled : (r : Reading) (place : ℕ) (runs : List Run) (stop : Stop) (before : List Step) (left : Option Run)
     → run_left (given_bytes before) runs ≡ left
     → Lies (length (taken before)) place (content runs stop) → Holds (length (taken before)) (message r place (content runs stop)) before
-    → Pulled (message r place (content runs stop)) before (run_outcome (taken before) stop left)
+    → Pulled (message r place (content runs stop)) before (run_outcome before stop left)
 content_pulled r place runs stop before (Some q) e lies x = bytes_pulled (message r place (content runs stop)) before q e refl lies x
-content_pulled r place runs stop before None e lies x = stop_pulled r place runs stop before e lies x
+content_pulled r place runs stop before None e lies x = stop_pulled r place runs stop (gave_trailers before) before e lies x
 
 -- of no run nothing is left
 left_nothing : (given : ℕ) → run_left given [] ≡ None
