@@ -12,7 +12,7 @@ use Rattle.h1_model.specs.Request.{Header, BodyKind, no_body, fixed_body, chunke
 use Rattle.h1_model.specs.Parse.{Input, Body, no_content, content, frames, Stop, ended_at, still_open, broken, next_start, runs_of, frames_of, connection_reader, run_between, open_or_cut, fixed_content, shifted, trailer_header, chunked_stop, IsBodyOf, IsBodyAfter}
 use Rattle.h1_model.specs.Past.{has_chunks}
 use Rattle.h1_model.proofs.FrameLemmas.{frames_begin, whole_fits}
-use Rattle.h1_model.proofs.ChunkStubs.{chunked_unique, whole_stays, broken_stays, runs_grow}
+use Rattle.h1_chunks.proofs.Laws.{chunked_unique, whole_stays, broken_stays, runs_grow}
 use Rattle.h1_model.proofs.RunLemmas.{IsOrdered, chunked_ordered, cut_nil, ordered_wider}
 use Rattle.h1_model.proofs.BodyLemmas.{input}
 use Rattle.h1_model.proofs.BodyGrowth.{fixed_whole, fixed_part}

@@ -1,4 +1,3 @@
-pub mod ChunkStubs
 pub mod SearchLemmas
 pub mod BlankLemmas
 pub mod HeadPieceLemmas

@@ -12,7 +12,7 @@ use Rattle.h1_model.specs.Laws.Growth.{MessageGrows, GrowTo}
 use Rattle.h1_model.specs.Past.{ParsedStep, steps, parse_of, head_count, current}
 use Rattle.h1_model.proofs.HeadPieceLemmas.{head_piece_unique}
 use Rattle.h1_model.proofs.ReadingLemmas.{reading_within_unique}
-use Rattle.h1_model.proofs.ChunkStubs.{chunked_unique}
+use Rattle.h1_chunks.proofs.Laws.{chunked_unique}
 use Rattle.h1_model.proofs.BodyLemmas.{input}
 use Rattle.h1_model.proofs.MessageGrowth.{piece_long}
 use Rattle.h1_model.proofs.BodySteps.{Lies, body_lies}
