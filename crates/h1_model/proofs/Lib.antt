@@ -33,3 +33,5 @@ pub mod HandedSteps
 pub mod HandedPulls
 pub mod HandedHeads
 pub mod HandedParsed
+pub mod ClosingLemmas
+pub mod EventLemmas
