@@ -5,7 +5,7 @@ use Rattle.std.specs.Prelude.{slice_range}
 use Rattle.h1_chunks.specs.ChunkedText.{Trailer, IsTrailer, section_text}
 use Rattle.h1_chunks.specs.Place.{Place}
 use Rattle.h1_chunks.specs.TakeNext.{Next, chunk, waits, ended, breaks, take_next}
-use Rattle.h1_chunks.proofs.Trailers.{section_unique}
+use Rattle.h1_chunks.proofs.Trailers.{section_tells}
 use Rattle.h1_model.specs.HeadPiece.{IsHeadPiece, HasNoHeadPiece}
 use Rattle.h1_model.specs.Request.{Reading}
 use Rattle.h1_model.specs.RequestHead.{IsReadingWithin}
@@ -28,7 +28,7 @@ use Rattle.h1_machine.specs.Change.{behind_head, IsUpcoming, IsNext, pulled_from
 ends_one : (section behind : List ℕ) (p q : Pulled) → EndsWith section behind p → EndsWith section behind q → p ≡ q
 ends_one [] behind p q x y = x ∙ sym y
 ends_one (b ∷ section) behind p q x y =
-    let lines = section_unique x.0 y.0 x.1 y.1 (x.2 ∙ sym y.2) in
+    let lines = section_tells x.0 y.0 x.1 y.1 (x.2 ∙ sym y.2) in
     x.3 ∙ ap (λ (l : List Trailer). gives (on.trailers (map trailer_header l)) no_rest behind) lines ∙ sym y.3
 
 chunks_one : (is_ended : Bool) (place : Place) (section bytes : List ℕ) (next : Next) (noted : List ℕ) (p q : Pulled)
