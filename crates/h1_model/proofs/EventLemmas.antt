@@ -1,8 +1,8 @@
 -- What a trace says of the next event: allowed or not; and the events say the whole trace.
-use Rattle.std.proofs.Common.{◌≡◌, List, [], ◌∷◌, ◌⊎◌, map, refl, sym, ap, ◌∙◌, subst, subst₂, inl, inr}
+use Rattle.std.proofs.Common.{◌≡◌, List, [], ◌∷◌, ◌⊎◌, map, refl, sym, ◌∙◌, subst₂, inl, inr}
 use Rattle.std.proofs.lemmas.Bool.{cases_Bool, true≢false}
 use Rattle.h1_model.specs.Setting.{Setting}
-use Rattle.h1_model.specs.Event.{Event, Outcome}
+use Rattle.h1_model.specs.Event.{Event}
 use Rattle.h1_model.specs.Sums.{Step}
 use Rattle.h1_model.specs.Allowed.{is_allowed}
 use Rattle.h1_model.specs.Trace.{IsAllowed, IsMisplaced, IsOutcome, IsTrace}
