@@ -145,7 +145,8 @@ taken_room setting before x l =
     ]
 
 -- no more is passed than was taken
-passed_taken : (setting : Setting) (past : List ParsedStep) (count : ℕ) → head_count (steps past) ≡ count → IsParse (input_of setting (steps past)) (parse_of past) → Sound past
+passed_taken : (setting : Setting) (past : List ParsedStep) (count : ℕ) → head_count (steps past) ≡ count
+    → IsParse (input_of setting (steps past)) (parse_of past) → Sound past
     → passed past ≤ length (taken (steps past))
 passed_taken setting past zero e x s = let none = passed_none past (current_none past e) in omega arith
 passed_taken setting past (suc k) e x s =

@@ -58,7 +58,8 @@ idle_advance before x m idle none holds =
     }
 
 -- a quiet step
-pub quiet_step : (setting : Setting) (before : List ParsedStep) (x : ParsedStep) → Quiet before x.step → IsParse (input_of setting (x.step ∷ steps before)) x.parse
+pub quiet_step : (setting : Setting) (before : List ParsedStep) (x : ParsedStep) → Quiet before x.step
+    → IsParse (input_of setting (x.step ∷ steps before)) x.parse
     → IsParse (input_of setting (steps before)) (parse_of before) → Sound before → Result before x
 quiet_step setting before x q here there s =
     let same = same_parse setting x before (same_input setting x.step (steps before) q.taken q.eof q.accepted) here there in
@@ -94,7 +95,8 @@ pull_no_head trace None = refl
 pull_no_head trace (Some m) = body_no_head trace m.body
 
 -- a message advances by a pull
-pull_advance : (setting : Setting) (before : List ParsedStep) (x : ParsedStep) (m : Message) → x.step.event ≡ on.pull → x.step.outcome ≡ body_outcome (steps before) m.body
+pull_advance : (setting : Setting) (before : List ParsedStep) (x : ParsedStep) (m : Message) → x.step.event ≡ on.pull
+    → x.step.outcome ≡ body_outcome (steps before) m.body
     → IsParsed (input_of setting (steps before)) m → Holds (length (taken (steps before))) m (steps before) → Advance before x m m
 pull_advance setting before x m event outcome parsed holds =
     let o = body_outcome (steps before) m.body in
@@ -111,17 +113,20 @@ pull_advance setting before x m event outcome parsed holds =
     }
 
 -- a pull
-pub pull_step : (setting : Setting) (before : List ParsedStep) (x : ParsedStep) → Pulls before x.step → IsParse (input_of setting (x.step ∷ steps before)) x.parse
+pub pull_step : (setting : Setting) (before : List ParsedStep) (x : ParsedStep) → Pulls before x.step
+    → IsParse (input_of setting (x.step ∷ steps before)) x.parse
     → IsParse (input_of setting (steps before)) (parse_of before) → Sound before → Result before x
 pull_step setting before x p here there s =
     let i = input_of setting (steps before) in
     let none : step_taken x.step.event x.step.outcome ≡ [] = ap (λ e. step_taken e x.step.outcome) p.event in
-    let same = same_parse setting x before (same_input setting x.step (steps before) none (ap is_eof p.event) (ap (λ e. accepted_limit e x.step.outcome) p.event)) here there in
+    let unaccepted = ap (λ e. accepted_limit e x.step.outcome) p.event in
+    let same = same_parse setting x before (same_input setting x.step (steps before) none (ap is_eof p.event) unaccepted) here there in
     carry before x (head_count (steps before)) refl (ap head_of p.outcome ∙ pull_no_head (steps before) (current before)) s
     (λ k m at now. (
       m,
       ap (λ (l : List Message). slice_get l k) same ∙ at,
-      pull_advance setting before x m p.event (p.outcome ∙ ap (pull_outcome (steps before)) now) (message_at i 0 (parse_of before) k m there (omega arith) at) (s.holds m now),
+      pull_advance setting before x m p.event (p.outcome ∙ ap (pull_outcome (steps before)) now)
+          (message_at i 0 (parse_of before) k m there (omega arith) at) (s.holds m now),
     ))
 
 -- what is passed lies in front of the body of the message that is to come
@@ -146,14 +151,16 @@ head_behind setting before n (suc k) e there at s =
     ])
 
 -- a head is handed out
-pub head_step : (setting : Setting) (before : List ParsedStep) (x : ParsedStep) → Begins before x.step → IsParse (input_of setting (x.step ∷ steps before)) x.parse
+pub head_step : (setting : Setting) (before : List ParsedStep) (x : ParsedStep) → Begins before x.step
+    → IsParse (input_of setting (x.step ∷ steps before)) x.parse
     → IsParse (input_of setting (steps before)) (parse_of before) → Sound before → Result before x
 head_step setting before x b here there s =
     let i = input_of setting (steps before) in
     let n = head_count (steps before) in
     let m = b.message in
     let none : step_taken x.step.event x.step.outcome ≡ [] = ap (λ e. step_taken e x.step.outcome) b.event in
-    let same = same_parse setting x before (same_input setting x.step (steps before) none (ap is_eof b.event) (ap (λ e. accepted_limit e x.step.outcome) b.event)) here there in
+    let unaccepted = ap (λ e. accepted_limit e x.step.outcome) b.event in
+    let same = same_parse setting x before (same_input setting x.step (steps before) none (ap is_eof b.event) unaccepted) here there in
     let at : slice_get x.parse n ≡ Some m = ap (λ (l : List Message). slice_get l n) same ∙ b.upcoming_is in
     let some : head_of x.step.outcome ≡ Some b.head = ap head_of b.outcome in
     let count = head_count-head x.step (steps before) b.head some in
@@ -186,7 +193,8 @@ grows_at i j more ms ns k m bytes upgraded size ended x y at =
     let is : j ≡ input (i.bytes ++ more) i.upgraded j.ended i.hold_size = λ k. input (bytes k) (upgraded k) j.ended (size k) in
     let b = subst (λ (l : Input). IsBodyAfter l n.0.reading n.0.body_start n.0.body) is new.body in
     let b' = subst₂ (λ r p. IsBodyAfter (input (i.bytes ++ more) i.upgraded j.ended i.hold_size) r p n.0.body) (sym n.2.reading) (sym n.2.body_start) b in
-    (n.0, n.1, n.2.reading, n.2.body_start, body_moves i.bytes more i.upgraded j.ended i.hold_size m.reading m.body_start m.body n.0.body old.lies.start a b', new)
+    let moves = body_moves i.bytes more i.upgraded j.ended i.hold_size m.reading m.body_start m.body n.0.body old.lies.start a b' in
+    (n.0, n.1, n.2.reading, n.2.body_start, moves, new)
 
 -- what holds of a message holds of the grown one, and pulls pass as much of it
 grown_message : (len longer : ℕ) (m n : Message) (trace : List Step) → m.reading ≡ n.reading → m.body_start ≡ n.body_start → Moves len m.body n.body
@@ -216,7 +224,8 @@ grown_end len longer a b (inr opened) less =
     subst (λ o. unwrap_or o len ≤ end_of longer b) (sym opened.next) (end_later len longer (next_start b) less opened.later)
 
 -- a message advances by an idle step, as the parse grows
-grown_advance : (setting : Setting) (before : List ParsedStep) (x : ParsedStep) (m n : Message) → Idle x.step → m.reading ≡ n.reading → m.body_start ≡ n.body_start
+grown_advance : (setting : Setting) (before : List ParsedStep) (x : ParsedStep) (m n : Message) → Idle x.step → m.reading ≡ n.reading
+    → m.body_start ≡ n.body_start
     → Moves (length (taken (steps before))) m.body n.body → IsParsed (input_of setting (x.step ∷ steps before)) n
     → length (taken (steps before)) ≤ length (taken (x.step ∷ steps before)) → Holds (length (taken (steps before))) m (steps before)
     → Advance before x m n
@@ -232,7 +241,8 @@ grown_advance setting before x m n idle reading start body parsed less holds =
     }
 
 -- bytes are read
-pub read_step : (setting : Setting) (before : List ParsedStep) (x : ParsedStep) → Reads setting before x.step → IsParse (input_of setting (x.step ∷ steps before)) x.parse
+pub read_step : (setting : Setting) (before : List ParsedStep) (x : ParsedStep) → Reads setting before x.step
+    → IsParse (input_of setting (x.step ∷ steps before)) x.parse
     → IsParse (input_of setting (steps before)) (parse_of before) → Sound before → Result before x
 read_step setting before x r here there s =
     let i = input_of setting (steps before) in
@@ -249,7 +259,8 @@ read_step setting before x r here there s =
     (n.0, n.1, grown_advance setting before x m n.0 idle n.2 n.3 n.4 n.5 (omega arith) (s.holds m now)))
 
 -- the input ends
-pub end_step : (setting : Setting) (before : List ParsedStep) (x : ParsedStep) → Ends before x.step → IsParse (input_of setting (x.step ∷ steps before)) x.parse
+pub end_step : (setting : Setting) (before : List ParsedStep) (x : ParsedStep) → Ends before x.step
+    → IsParse (input_of setting (x.step ∷ steps before)) x.parse
     → IsParse (input_of setting (steps before)) (parse_of before) → Sound before → Result before x
 end_step setting before x r here there s =
     let i = input_of setting (steps before) in

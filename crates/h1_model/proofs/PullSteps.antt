@@ -218,7 +218,8 @@ frames_pulled : (r : Reading) (place : ℕ) (placed : List PlacedFrame) (fail : 
     → Pulled (message r place (frames placed fail)) before (frame_outcome fail next)
 frames_pulled r place placed fail before (Some f) e plain lies x =
     frame_pulled (message r place (frames placed fail)) before f e refl refl (left_nothing (given_bytes before)) lies x
-frames_pulled r place placed (Some error) before None e plain lies x = nothing_pulled (message r place (frames placed (Some error))) before _ refl refl refl refl tt x
+frames_pulled r place placed (Some error) before None e plain lies x =
+    nothing_pulled (message r place (frames placed (Some error))) before _ refl refl refl refl tt x
 frames_pulled r place placed None before None e plain lies x =
     pending_pulled (message r place (frames placed None)) before refl (left_nothing (given_bytes before)) (λ chunks. absurd (false≢true (sym plain ∙ chunks))) x
 
@@ -236,6 +237,7 @@ pub body_pulled : (r : Reading) (place : ℕ) (b : Body) (before : List Step) �
     → Holds (length (taken before)) (message r place b) before → Pulled (message r place b) before (body_outcome before b)
 body_pulled r place no_content before unframed lies x =
     pending_pulled (message r place no_content) before refl (left_nothing (given_bytes before)) (λ _. refl) x
-body_pulled r place (content runs stop) before unframed lies x = content_pulled r place runs stop before (run_left (given_bytes before) runs) refl lies x
+body_pulled r place (content runs stop) before unframed lies x =
+    content_pulled r place runs stop before (run_left (given_bytes before) runs) refl lies x
 body_pulled r place (frames placed fail) before unframed lies x =
     frames_pulled r place placed fail before (slice_get placed (given_frames before)) refl (plain_frames r unframed) lies x
