@@ -1,20 +1,19 @@
 -- A connection that closes does little more, and keeps its reason.
-use Rattle.std.proofs.Common.{◌≡◌, ℕ, ◌+◌, Bool, true, false, cond, List, [], ◌∷◌, length, Option, Some, None, refl, sym, ap, ◌∙◌, subst, arith}
+use Rattle.std.proofs.Common.{◌≡◌, Bool, true, false, cond, List, [], ◌∷◌, length, drop, Option, Some, None, refl, sym, ap, ◌∙◌, subst, arith}
 use Rattle.std.specs.Prelude.{IsTrue, is_some, is_none, slice_get, unwrap_or, nat_lt, not, ◌&&◌, ◌||◌, ◌-◌, ◌==◌, if◌then◌else◌}
 use Rattle.std.specs.List.{list_any}
 use Rattle.std.specs.Option.{option_or}
-use Rattle.std.proofs.lemmas.Bool.{cond-true, cond-false, cond_both, and_parts, false≢true}
-use Rattle.h1_model.specs.Request.{Head}
+use Rattle.std.proofs.lemmas.Bool.{cond-false, cond_both, and_parts, false≢true}
 use Rattle.h1_model.specs.Setting.{Setting}
 use Rattle.h1_model.specs.Parse.{Message, frames_of, fail_of}
 use Rattle.h1_model.specs.End as ends
 use Rattle.h1_model.specs.End.{End}
 use Rattle.h1_model.specs.Event.{Event, Outcome}
 use Rattle.h1_model.specs.Event as on
-use Rattle.h1_model.specs.Sums.{Step, Answered, step_taken, is_eof, is_drain, is_drop, is_body_end, is_body_error, accepted_limit, has_ended, is_draining, accepted, is_upgraded, first_tick, head_of, request, since_head, answered_by, answered, completes, came_since_head, is_complete, was_dropped, is_open, chunk_len, answer_len}
-use Rattle.h1_model.specs.Past.{ParsedStep, steps, input_of, parse_of, head_count, current, upcoming, step_frames, given_frames, has_chunks}
+use Rattle.h1_model.specs.Sums.{Step, step_taken, is_eof, is_drain, is_drop, is_body_end, is_body_error, accepted_limit, has_ended, is_draining, accepted, first_tick, head_of, request, answered_by, answered, completes, came_since_head, is_complete, was_dropped, is_open, chunk_len, answer_len}
+use Rattle.h1_model.specs.Past.{ParsedStep, steps, parse_of, head_count, current, upcoming, step_frames, given_frames, has_chunks}
 use Rattle.h1_model.specs.Closing.{end_where, told_end, told, is_short, body_end_of, asked_by, unread_end, unread_by, answered_end, has_more_frames, is_exhausted, input_end, drained_end, closing}
-use Rattle.h1_model.specs.Allowed.{is_allowed_running, is_allowed_closing, is_allowed}
+use Rattle.h1_model.specs.Allowed.{is_allowed_closing, is_allowed}
 use Rattle.h1_model.specs.OutcomeTable.{next_outcome, tick_outcome, is_abandoned, outcome_of}
 use Rattle.h1_model.specs.Trace.{IsPastOf, IsTrace}
 use Rattle.h1_model.proofs.PastLemmas.{Legal, legal_of, past_of_unique}
@@ -52,16 +51,40 @@ IsPlain o = (head_of o ≡ None) × (told_end o ≡ None) × (step_frames o ≡ 
 -- such are the events that are allowed then
 still : (trace : List Step) (e : Event) → is_allowed_closing trace e ≡ true → IsStill e
 still trace (on.write n) x = record {
-  takes = λ o. refl; accepts = λ o. refl; answers = λ d. refl; eof = refl; drain = refl; drop = refl; body_end = refl;
-  body_error = refl; completes = refl; chunk = refl;
+  takes = λ o. refl;
+  accepts = λ o. refl;
+  answers = λ d. refl;
+  eof = refl;
+  drain = refl;
+  drop = refl;
+  body_end = refl;
+  body_error = refl;
+  completes = refl;
+  chunk = refl;
 }
 still trace on.next x = record {
-  takes = λ o. refl; accepts = λ o. refl; answers = λ d. refl; eof = refl; drain = refl; drop = refl; body_end = refl;
-  body_error = refl; completes = refl; chunk = refl;
+  takes = λ o. refl;
+  accepts = λ o. refl;
+  answers = λ d. refl;
+  eof = refl;
+  drain = refl;
+  drop = refl;
+  body_end = refl;
+  body_error = refl;
+  completes = refl;
+  chunk = refl;
 }
 still trace (on.tick ms) x = record {
-  takes = λ o. refl; accepts = λ o. refl; answers = λ d. refl; eof = refl; drain = refl; drop = refl; body_end = refl;
-  body_error = refl; completes = refl; chunk = refl;
+  takes = λ o. refl;
+  accepts = λ o. refl;
+  answers = λ d. refl;
+  eof = refl;
+  drain = refl;
+  drop = refl;
+  body_end = refl;
+  body_error = refl;
+  completes = refl;
+  chunk = refl;
 }
 still trace _ x = absurd (false≢true x)
 
@@ -219,20 +242,12 @@ reason_stays setting x before end legal closes =
     let parse = same_parse setting x before same legal.0 (parsed setting before legal.3) in
     closing_same setting x before (leaves x.step (steps before) e o) parse ∙ closes
 
--- no step is not some
-no_step : (s : Step) (ss : List Step) → [] ≡ s ∷ ss → ⊥
-no_step s ss e = cc
-
--- the steps behind the newest
-other_steps : (s t : Step) (ss ts : List Step) → s ∷ ss ≡ t ∷ ts → ss ≡ ts
-other_steps s t ss ts e = cc
-
 -- behind a trace
 pub reason_kept : (setting : Setting) (s : Step) (before : List Step) (p q : List ParsedStep) (end : End) → IsTrace setting (s ∷ before)
     → IsPastOf setting before p → IsPastOf setting (s ∷ before) q → closing setting p ≡ Some end → closing setting q ≡ Some end
-reason_kept setting s before p [] end t x y closes = absurd (no_step s before y.same)
+reason_kept setting s before p [] end t x y closes = absurd (omega (arith, ap length y.same))
 reason_kept setting s before p (m ∷ after) end t x y closes =
     let earlier : IsPastOf setting before after =
-    record { same = other_steps m.step s (steps after) before y.same; right = y.right.1 } in
+    record { same = ap (drop 1) y.same; right = y.right.1 } in
     let same = past_of_unique setting before p after x earlier in
     reason_stays setting m after end (legal_of setting (s ∷ before) (m ∷ after) t y) (sym (ap (closing setting) same) ∙ closes)

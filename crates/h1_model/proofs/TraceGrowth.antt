@@ -92,7 +92,8 @@ raw_last bytes true size place next e = let same : length bytes ≡ next = cc in
 raw_last bytes false size place next e = absurd (none-some next e)
 
 -- each kind of body
-kind_accepted : (bytes : List ℕ) (limit : ℕ) (ended : Bool) (size : ℕ) (kind : BodyKind) (place : ℕ) (a b : Body) → IsBodyOf (input bytes None ended size) kind place a
+kind_accepted : (bytes : List ℕ) (limit : ℕ) (ended : Bool) (size : ℕ) (kind : BodyKind) (place : ℕ) (a b : Body)
+    → IsBodyOf (input bytes None ended size) kind place a
     → IsBodyOf (input bytes (Some limit) ended size) kind place b → BodyAccepted (length bytes) a b
 kind_accepted bytes limit ended size no_body place a b x y = inl (x ∙ sym y)
 kind_accepted bytes limit ended size (fixed_body n) place a b x y = inl (x ∙ sym y)
@@ -102,13 +103,15 @@ kind_accepted bytes limit ended size chunked_body place a b x y =
 kind_accepted bytes limit ended size raw_body place a b x y =
     inr (y.0, y.1, y.3, λ next e. raw_last bytes ended size place next (sym (ap next_start x) ∙ e))
 
-body_accepted : (bytes : List ℕ) (limit : ℕ) (ended : Bool) (size : ℕ) (r : Reading) (place : ℕ) (a b : Body) → IsBodyAfter (input bytes None ended size) r place a
+body_accepted : (bytes : List ℕ) (limit : ℕ) (ended : Bool) (size : ℕ) (r : Reading) (place : ℕ) (a b : Body)
+    → IsBodyAfter (input bytes None ended size) r place a
     → IsBodyAfter (input bytes (Some limit) ended size) r place b → BodyAccepted (length bytes) a b
 body_accepted bytes limit ended size (faulty fault) place a b x y = inl (x ∙ sym y)
 body_accepted bytes limit ended size (head_is h) place a b x y = kind_accepted bytes limit ended size h.body place a b x y
 
 -- the message at a place of the bytes
-pub message_accepted : (bytes : List ℕ) (limit : ℕ) (ended : Bool) (size : ℕ) (place : ℕ) (m n : Message) → IsMessageAt (input bytes None ended size) place m
+pub message_accepted : (bytes : List ℕ) (limit : ℕ) (ended : Bool) (size : ℕ) (place : ℕ) (m n : Message)
+    → IsMessageAt (input bytes None ended size) place m
     → IsMessageAt (input bytes (Some limit) ended size) place n → Accepted (length bytes) m n
 message_accepted bytes limit ended size place m n x y =
     let text = drop place bytes in
@@ -120,7 +123,8 @@ message_accepted bytes limit ended size place m n x y =
     record { reading = reading; body_start = body_start; body = body_accepted bytes limit ended size m.reading m.body_start m.body n.body x.body behind }
 
 -- nothing stands behind the end of the bytes
-pub none_behind : (bytes : List ℕ) (u : Option ℕ) (ended : Bool) (size : ℕ) (place : ℕ) (ms : List Message) (k : ℕ) (m : Message) → AreMessages (input bytes u ended size) place ms
+pub none_behind : (bytes : List ℕ) (u : Option ℕ) (ended : Bool) (size : ℕ) (place : ℕ) (ms : List Message) (k : ℕ) (m : Message)
+    → AreMessages (input bytes u ended size) place ms
     → length bytes ≤ place → slice_get ms k ≡ Some m → ⊥
 none_behind bytes u ended size place [] k m x past e = none-some m e
 none_behind bytes u ended size place (q ∷ ms) k m x past e = omega (arith, piece_long bytes place x.0.start x.0.end x.0.piece)

@@ -12,7 +12,7 @@ use Rattle.h1_model.specs.Parse.{Message, Body, no_content, content, frames, Sto
 use Rattle.h1_model.specs.Handshake.{HandshakeError, handshake_error}
 use Rattle.h1_model.specs.End as ends
 use Rattle.h1_model.specs.End.{End}
-use Rattle.h1_model.specs.Event.{Event, Outcome}
+use Rattle.h1_model.specs.Event.{Event}
 use Rattle.h1_model.specs.Event as on
 use Rattle.h1_model.specs.Sums.{Step, step_written, written, request, is_sending}
 use Rattle.h1_model.specs.Past.{ParsedStep, steps, current, upcoming, given_bytes, given_frames, held}
