@@ -24,9 +24,13 @@ pub mod StepLemmas
 pub mod BodySteps
 pub mod TraceGrowth
 pub mod PulledLemmas
+pub mod PullSteps
 pub mod CarriedLemmas
+pub mod HeldSteps
 pub mod HeldLemmas
 pub mod WrittenLemmas
+pub mod EventLemmas
+pub mod ClosingLemmas
 pub mod HandedPrefix
 pub mod HandedRuns
 pub mod HandedTrace
@@ -34,5 +38,3 @@ pub mod HandedSteps
 pub mod HandedPulls
 pub mod HandedHeads
 pub mod HandedParsed
-pub mod ClosingLemmas
-pub mod EventLemmas
