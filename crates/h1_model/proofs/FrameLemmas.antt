@@ -57,7 +57,7 @@ body_settled : (reader : Reader) (u : Bool) (header : FrameHeader) (body more : 
     → front_of_body reader u header (body ++ more) ≡ front_of_body reader u header body
 body_settled reader u header body more s =
     let judge = λ (payload : List ℕ). cond (nat_lt reader.max_payload header.payload_length) (breaks overflow)
-        (front_of_judged (header.header_length + header.payload_length) (judged_frame u header.start payload)) in
+    (front_of_judged (header.header_length + header.payload_length) (judged_frame u header.start payload)) in
     payload_settled header.start.is_masked judge header.payload_length body more s
 
 -- the frame behind its length
