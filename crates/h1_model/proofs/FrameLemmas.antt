@@ -43,12 +43,14 @@ parts_settled judge k n body more s =
     let rest = ap (take n) (drop-append-le k body more (omega arith)) ∙ take-append-le n (drop k body) more (omega (arith, length-drop k body)) in
     cond-false _ partial _ enough' ∙ ap₂ judge front rest ∙ sym (cond-false _ partial _ enough)
 
--- the payload, with a mask and without one
-payload_settled : (masked : Bool) (judge : List ℕ → Front) (n : ℕ) (body more : List ℕ)
-    → IsSettled (cond (nat_lt (length body) (cond masked 4 0 + n)) partial (judge (cond masked (unmask (take 4 body) 0 (take n (drop 4 body))) (take n body))))
-    → cond (nat_lt (length (body ++ more)) (cond masked 4 0 + n)) partial
-    (judge (cond masked (unmask (take 4 (body ++ more)) 0 (take n (drop 4 (body ++ more)))) (take n (body ++ more))))
-    ≡ cond (nat_lt (length body) (cond masked 4 0 + n)) partial (judge (cond masked (unmask (take 4 body) 0 (take n (drop 4 body))) (take n body)))
+-- what a payload of n bytes is judged to be, if it is there with its mask
+abbrev front_of_payload : Bool → (List ℕ → Front) → ℕ → List ℕ → Front
+front_of_payload masked judge n body =
+    cond (nat_lt (length body) (cond masked 4 0 + n)) partial (judge (cond masked (unmask (take 4 body) 0 (take n (drop 4 body))) (take n body)))
+
+-- it stays when bytes follow, with a mask and without one
+payload_settled : (masked : Bool) (judge : List ℕ → Front) (n : ℕ) (body more : List ℕ) → IsSettled (front_of_payload masked judge n body)
+    → front_of_payload masked judge n (body ++ more) ≡ front_of_payload masked judge n body
 payload_settled true judge n body more s = parts_settled (λ mask payload. judge (unmask mask 0 payload)) 4 n body more s
 payload_settled false judge n body more s = parts_settled (λ none payload. judge payload) 0 n body more s
 
@@ -68,7 +70,8 @@ header_settled reader u header body more s =
     (front_of_body reader u header (body ++ more)) (body_settled reader u header body more) s
 
 -- a header whose length is there stays
-header_stays : (start : FrameStart) (bytes more : List ℕ) → length_bytes start ≤ length bytes → frame_header start (bytes ++ more) ≡ frame_header start bytes
+header_stays : (start : FrameStart) (bytes more : List ℕ) → length_bytes start ≤ length bytes
+    → frame_header start (bytes ++ more) ≡ frame_header start bytes
 header_stays start bytes more fits =
     let same = take-append-le (length_bytes start) bytes more fits in
     ap (λ (t : List ℕ). record {
@@ -92,7 +95,8 @@ start_settled reader u start bytes more s =
     ∙ sym (cond-false _ partial _ enough)
 
 -- behind the rules of the first two bytes
-unless_settled : (e : Option ProtocolError) (x y : Front) → (IsSettled x → y ≡ x) → IsSettled (unless_broken e x) → unless_broken e y ≡ unless_broken e x
+unless_settled : (e : Option ProtocolError) (x y : Front) → (IsSettled x → y ≡ x) → IsSettled (unless_broken e x)
+    → unless_broken e y ≡ unless_broken e x
 unless_settled None x y stays s = stays s
 unless_settled (Some e) x y stays s = refl
 

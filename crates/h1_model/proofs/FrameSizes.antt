@@ -44,7 +44,8 @@ behind_header reader u (first ∷ second ∷ more) header is =
 
 -- without a header no size is judged
 no_length : (reader : Reader) (u : Bool) (e : Option ProtocolError) (start : FrameStart) (more : List ℕ) → header_behind e start more ≡ None
-    → unless_broken e (front_of_start (judging when_whole reader) u start more) ≡ unless_broken e (front_of_start (judging at_length reader) u start more)
+    → unless_broken e (front_of_start (judging when_whole reader) u start more)
+    ≡ unless_broken e (front_of_start (judging at_length reader) u start more)
 no_length reader u (Some e) start more is = refl
 no_length reader u None start more is = by_test (nat_lt (length more) (length_bytes start)) refl
   where

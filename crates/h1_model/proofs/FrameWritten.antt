@@ -63,7 +63,8 @@ record IsPlain (first : ℕ) : Type 0 where
   known : opcode_error (opcode_of (first % 16)) ≡ None
 
 -- it breaks no rule of a reader without masks
-no_start_error : (reader : Reader) (first short : ℕ) → reader.wants_mask ≡ false → IsPlain first → start_error reader (plain_start first short) ≡ None
+no_start_error : (reader : Reader) (first short : ℕ) → reader.wants_mask ≡ false → IsPlain first
+    → start_error reader (plain_start first short) ≡ None
 no_start_error reader first short no_mask plain =
     let bits = plain.bits in
     let known = plain.known in
@@ -146,20 +147,24 @@ short_form reader u first payload more no_mask plain small within =
       is_masked = mask i;
       short_length = rest i;
     } in
-    let width : length_bytes (plain_start first n) ≡ 0 = cond-false _ 2 _ (ne_eqb n 126 (λ e. omega arith)) ∙ cond-false _ 8 0 (ne_eqb n 127 (λ e. omega arith)) in
-    let size : payload_length_of (plain_start first n) (payload ++ more) ≡ n = ap (λ k. cond (k == 0) n (big_endian (take k (payload ++ more)))) width in
+    let width : length_bytes (plain_start first n) ≡ 0 =
+        cond-false _ 2 _ (ne_eqb n 126 (λ e. omega arith)) ∙ cond-false _ 8 0 (ne_eqb n 127 (λ e. omega arith)) in
+    let size : payload_length_of (plain_start first n) (payload ++ more) ≡ n =
+        ap (λ k. cond (k == 0) n (big_endian (take k (payload ++ more)))) width in
     read_behind reader u first n n [] payload more no_mask plain starts width size within (omega arith)
 
 -- one below 65,536 stands in two further bytes
 middle_form : (reader : Reader) (u : Bool) (first : ℕ) (payload more : List ℕ) → reader.wants_mask ≡ false → IsPlain first
-    → length payload < 65536 → length payload ≤ reader.max_payload → IsReadBehind reader u first payload more (126 ∷ bytes_high_first 2 (length payload))
+    → length payload < 65536 → length payload ≤ reader.max_payload
+    → IsReadBehind reader u first payload more (126 ∷ bytes_high_first 2 (length payload))
 middle_form reader u first payload more no_mask plain small within =
     let n = length payload in
     read_behind reader u first 126 126 (bytes_high_first 2 n) payload more no_mask plain refl refl (spelled 2 n small) within (omega arith)
 
 -- and any other in eight
 long_form : (reader : Reader) (u : Bool) (first : ℕ) (payload more : List ℕ) → reader.wants_mask ≡ false → IsPlain first
-    → length payload < 2 ^ 63 → length payload ≤ reader.max_payload → IsReadBehind reader u first payload more (127 ∷ bytes_high_first 8 (length payload))
+    → length payload < 2 ^ 63 → length payload ≤ reader.max_payload
+    → IsReadBehind reader u first payload more (127 ∷ bytes_high_first 8 (length payload))
 long_form reader u first payload more no_mask plain small within =
     let n = length payload in
     read_behind reader u first 127 127 (bytes_high_first 8 n) payload more no_mask plain refl refl (spelled 8 n (omega arith)) within (omega arith)
@@ -194,7 +199,8 @@ code_is_small : (code : ℕ) → is_close_code code ≡ true → code < 65536
 code_is_small code h = grind (arith, nat_tests)
 
 -- the text of a reason is read back
-close_text_back : (d : Option (List ℕ)) → is_close_text d ≡ true → (is_utf8 (unwrap_or d []) ≡ true) × (description_of (unwrap_or d []) ≡ d)
+close_text_back : (d : Option (List ℕ)) → is_close_text d ≡ true
+    → (is_utf8 (unwrap_or d []) ≡ true) × (description_of (unwrap_or d []) ≡ d)
 unfolding is_utf8 chars
 close_text_back None h = (refl, refl)
 close_text_back (Some []) h = cc
@@ -222,38 +228,47 @@ going_on_back : (u : Bool) (f : Frame) → u ≡ true → going_on u f ≡ Ok f
 going_on_back true f h = refl
 going_on_back false f h = cc
 
+-- a frame that is written is read back, if its first byte and its payload say what it is
+printed_back : (reader : Reader) (u : Bool) (first : ℕ) (payload more : List ℕ) (f : Frame) → reader.wants_mask ≡ false → IsPlain first
+    → length payload < 2 ^ 63 → length payload ≤ reader.max_payload → ((short : ℕ) → judged_frame u (plain_start first short) payload ≡ Ok f)
+    → front_frame reader u ((first ∷ length_field (length payload) ++ payload) ++ more)
+    ≡ whole f (length (first ∷ length_field (length payload) ++ payload))
+printed_back reader u first payload more f no_mask plain small within judged =
+    let front = printed_front reader u first payload more no_mask plain small within in
+    front.1 ∙ ap (front_of_judged (length (first ∷ length_field (length payload) ++ payload))) (judged front.0)
+
 -- a frame that keeps the rules is read back
 pub read_back : (reader : Reader) (u : Bool) (f : Frame) (more : List ℕ) → reader.wants_mask ≡ false → KeepsRules reader u f
     → front_frame reader u (frame_text f ++ more) ≡ whole f (length (frame_text f))
 unfolding frame_text
 read_back reader u (text payload) more no_mask keeps =
-    let front = printed_front reader u 129 payload more no_mask (record { bits = refl; known = refl }) keeps.size keeps.limit in
-    front.1 ∙ ap (front_of_judged _) (starting_back u (text payload) keeps.place)
+    printed_back reader u 129 payload more (text payload) no_mask (record { bits = refl; known = refl })
+    keeps.size keeps.limit (λ short. starting_back u (text payload) keeps.place)
 read_back reader u (binary payload) more no_mask keeps =
-    let front = printed_front reader u 130 payload more no_mask (record { bits = refl; known = refl }) keeps.size keeps.limit in
-    front.1 ∙ ap (front_of_judged _) (starting_back u (binary payload) keeps.place)
+    printed_back reader u 130 payload more (binary payload) no_mask (record { bits = refl; known = refl })
+    keeps.size keeps.limit (λ short. starting_back u (binary payload) keeps.place)
 read_back reader u (first_text payload) more no_mask keeps =
-    let front = printed_front reader u 1 payload more no_mask (record { bits = refl; known = refl }) keeps.size keeps.limit in
-    front.1 ∙ ap (front_of_judged _) (starting_back u (first_text payload) keeps.place)
+    printed_back reader u 1 payload more (first_text payload) no_mask (record { bits = refl; known = refl })
+    keeps.size keeps.limit (λ short. starting_back u (first_text payload) keeps.place)
 read_back reader u (first_binary payload) more no_mask keeps =
-    let front = printed_front reader u 2 payload more no_mask (record { bits = refl; known = refl }) keeps.size keeps.limit in
-    front.1 ∙ ap (front_of_judged _) (starting_back u (first_binary payload) keeps.place)
+    printed_back reader u 2 payload more (first_binary payload) no_mask (record { bits = refl; known = refl })
+    keeps.size keeps.limit (λ short. starting_back u (first_binary payload) keeps.place)
 read_back reader u (continuation payload) more no_mask keeps =
-    let front = printed_front reader u 0 payload more no_mask (record { bits = refl; known = refl }) keeps.size keeps.limit in
-    front.1 ∙ ap (front_of_judged _) (going_on_back u (continuation payload) keeps.place)
+    printed_back reader u 0 payload more (continuation payload) no_mask (record { bits = refl; known = refl })
+    keeps.size keeps.limit (λ short. going_on_back u (continuation payload) keeps.place)
 read_back reader u (last payload) more no_mask keeps =
-    let front = printed_front reader u 128 payload more no_mask (record { bits = refl; known = refl }) keeps.size keeps.limit in
-    front.1 ∙ ap (front_of_judged _) (going_on_back u (last payload) keeps.place)
+    printed_back reader u 128 payload more (last payload) no_mask (record { bits = refl; known = refl })
+    keeps.size keeps.limit (λ short. going_on_back u (last payload) keeps.place)
 read_back reader u (ping payload) more no_mask keeps =
-    let front = printed_front reader u 137 payload more no_mask (record { bits = refl; known = refl }) keeps.size keeps.limit in
-    front.1 ∙ ap (front_of_judged _) (cond-false _ _ (Ok (ping payload)) (le-ltb 125 (length payload) (keeps.control refl)))
+    printed_back reader u 137 payload more (ping payload) no_mask (record { bits = refl; known = refl })
+    keeps.size keeps.limit (λ short. cond-false _ _ (Ok (ping payload)) (le-ltb 125 (length payload) (keeps.control refl)))
 read_back reader u (pong payload) more no_mask keeps =
-    let front = printed_front reader u 138 payload more no_mask (record { bits = refl; known = refl }) keeps.size keeps.limit in
-    front.1 ∙ ap (front_of_judged _) (cond-false _ _ (Ok (pong payload)) (le-ltb 125 (length payload) (keeps.control refl)))
+    printed_back reader u 138 payload more (pong payload) no_mask (record { bits = refl; known = refl })
+    keeps.size keeps.limit (λ short. cond-false _ _ (Ok (pong payload)) (le-ltb 125 (length payload) (keeps.control refl)))
 read_back reader u (close None) more no_mask keeps =
-    let front = printed_front reader u 136 [] more no_mask (record { bits = refl; known = refl }) keeps.size keeps.limit in
-    front.1
+    printed_back reader u 136 [] more (close None) no_mask (record { bits = refl; known = refl })
+    keeps.size keeps.limit (λ short. refl)
 read_back reader u (close (Some reason)) more no_mask keeps =
-    let payload = close_payload (Some reason) in
-    let front = printed_front reader u 136 payload more no_mask (record { bits = refl; known = refl }) keeps.size keeps.limit in
-    front.1 ∙ ap (front_of_judged _) (cond-false _ _ (close_frame payload) (le-ltb 125 (length payload) (keeps.control refl)) ∙ close_back reason keeps.reason)
+    printed_back reader u 136 (close_payload (Some reason)) more (close (Some reason)) no_mask (record { bits = refl; known = refl })
+    keeps.size keeps.limit (λ short. cond-false _ _ (close_frame (close_payload (Some reason))) (le-ltb 125 (length (close_payload (Some reason))) (keeps.control refl))
+    ∙ close_back reason keeps.reason)

@@ -13,8 +13,7 @@ use Rattle.h1_model.specs.Limits.{MAX_CONTROL_PAYLOAD}
 pub data JudgesSize : Type 0 where
   at_length when_whole : JudgesSize
 
--- Who reads: a server wants a mask on each frame, and a client takes none (section 5.1). And the most bytes
--- that a frame's payload may have, and where a longer one is refused.
+-- Who reads: a server wants a mask on each frame, a client none (section 5.1); and the most bytes of a payload, and where more are refused.
 pub record Reader : Type 0 where
   pub wants_mask : Bool
   pub max_payload : ℕ
@@ -22,7 +21,7 @@ pub record Reader : Type 0 where
 
 -- ---- the first two bytes
 
--- what a frame is; those of close, ping and pong are the control frames (section 5.2)
+-- what a frame is (section 5.2)
 pub data Opcode : Type 0 where
   continuation_opcode text_opcode binary_opcode close_opcode ping_opcode pong_opcode : Opcode
   unknown_opcode : ℕ → Opcode
@@ -38,7 +37,7 @@ opcode_of number =
     else (if number == 10 then pong_opcode
     else unknown_opcode number)))))
 
--- and the number of an opcode
+-- the number that stands for an opcode (section 5.2)
 abbrev pub opcode_number : Opcode → ℕ
 opcode_number continuation_opcode = 0
 opcode_number text_opcode = 1
@@ -48,8 +47,7 @@ opcode_number ping_opcode = 9
 opcode_number pong_opcode = 10
 opcode_number (unknown_opcode number) = number
 
--- The first two bytes (section 5.2): is the frame the last of its message (FIN), the reserved bits (RSV1 to RSV3),
--- the opcode, does a mask follow (MASK), and the length in seven bits, of which 126 and 127 announce a longer form.
+-- The first two bytes (section 5.2): FIN, RSV1 to RSV3, opcode, MASK, and the length, where 126 and 127 stand for longer forms.
 pub record FrameStart : Type 0 where
   pub is_final : Bool
   pub reserved_bits : ℕ
@@ -57,7 +55,7 @@ pub record FrameStart : Type 0 where
   pub is_masked : Bool
   pub short_length : ℕ
 
--- these two bytes, part by part, the highest bit first
+-- the two bytes, part by part, from the highest bit on (section 5.2)
 abbrev pub frame_start : ℕ → ℕ → FrameStart
 frame_start first second = record {
   is_final = nat_le 128 first;
@@ -78,7 +76,7 @@ abbrev pub opcode_error : Opcode → Option ProtocolError
 opcode_error (unknown_opcode number) = Some (frames.invalid_opcode number)
 opcode_error _ = None
 
--- the first rule that the first two bytes break: reserved bits are none, as no extension is spoken (section 5.2)
+-- the first rule that the first two bytes break: no reserved bit is set without an extension, the mask, the opcode (section 5.2)
 abbrev pub start_error : Reader → FrameStart → Option ProtocolError
 start_error reader start =
     if not (start.reserved_bits == 0) then Some frames.invalid_reserved_bits
@@ -86,7 +84,7 @@ start_error reader start =
 
 -- ---- the length and the mask
 
--- the number that bytes in network order spell
+-- the number that bytes in network order spell (section 5.2)
 abbrev pub big_endian : List ℕ → ℕ
 big_endian bytes = fold (λ n b. n * 256 + b) 0 bytes
 
@@ -94,7 +92,7 @@ big_endian bytes = fold (λ n b. n * 256 + b) 0 bytes
 abbrev pub length_bytes : FrameStart → ℕ
 length_bytes start = if start.short_length == 126 then 2 else (if start.short_length == 127 then 8 else 0)
 
--- the payload's length, also in a longer form than needed; behind the first two bytes stand these
+-- the payload's length, in a longer form than needed too; behind the first two bytes stand these (section 5.2)
 abbrev pub payload_length_of : FrameStart → List ℕ → ℕ
 payload_length_of start more =
     if length_bytes start == 0 then start.short_length else big_endian (take (length_bytes start) more)
@@ -103,13 +101,13 @@ payload_length_of start more =
 abbrev pub mask_bytes : FrameStart → ℕ
 mask_bytes start = if start.is_masked then 4 else 0
 
--- what stands in front of a payload: its first two bytes, how many bytes it has, the mask's too, and the payload's length
+-- what stands in front of a payload: the first two bytes, how many bytes it all has, and the payload's length (section 5.2)
 pub record FrameHeader : Type 0 where
   pub start : FrameStart
   pub header_length : ℕ
   pub payload_length : ℕ
 
--- the header that begins so; behind its first two bytes stand these
+-- the header that begins so: two bytes, those of the length and the mask; behind the first two stand these (section 5.2)
 abbrev pub frame_header : FrameStart → List ℕ → FrameHeader
 frame_header start more = record {
   start = start;
@@ -117,7 +115,7 @@ frame_header start more = record {
   payload_length = payload_length_of start more;
 }
 
--- byte k of a payload under the mask, from the byte with this number on (section 5.3)
+-- bytes of a payload under the mask, from the byte with this number on (section 5.3)
 unfoldable pub unmask : List ℕ → ℕ → List ℕ → List ℕ
 unmask mask k [] = []
 unmask mask k (b ∷ bytes) = bit_xor b (slice_index mask (k % 4)) ∷ unmask mask (k + 1) bytes
@@ -135,7 +133,7 @@ abbrev pub is_close_code : ℕ → Bool
 is_close_code code =
     (nat_le 1000 code && nat_le code 1003) || (nat_le 1007 code && nat_le code 1014) || (nat_le 3000 code && nat_le code 4999)
 
--- the text behind a code, if there is one
+-- the text behind a code, if there is one (section 5.5.1)
 abbrev pub description_of : List ℕ → Option (List ℕ)
 description_of [] = None
 description_of (b ∷ bytes) = Some (b ∷ bytes)
@@ -181,12 +179,12 @@ is_control ping_opcode = true
 is_control pong_opcode = true
 is_control _ = false
 
--- A control frame above the length of control frames (section 5.5). A Close counts as one without payload.
+-- a control frame with more payload than these have: it is refused, but a Close counts as one without payload (section 5.5)
 abbrev pub long_control_frame : Opcode → ℕ → Result Frame ProtocolError
 long_control_frame close_opcode payload_length = Ok (frames.close None)
 long_control_frame opcode payload_length = Err (frames.invalid_length payload_length)
 
--- a whole frame: the length of control frames is judged first, then the fragments, then the payload of a Close
+-- a whole frame: the length of control frames is judged first, then the fragments, then the payload of a Close (sections 5.4 and 5.5)
 abbrev pub judged_frame : Bool → FrameStart → List ℕ → Result Frame ProtocolError
 judged_frame under_way start payload =
     if is_control start.opcode && nat_lt MAX_CONTROL_PAYLOAD (length payload) then long_control_frame start.opcode (length payload)
@@ -211,17 +209,20 @@ abbrev pub front_of_judged : ℕ → Result Frame ProtocolError → Front
 front_of_judged len (Ok frame) = whole frame len
 front_of_judged len (Err e) = breaks e
 
--- the most bytes of a frame: a place is a number below 2 ^ 64
+-- the most bytes that a whole frame may have: places are numbers below 2 ^ 64
 abbrev pub MAX_FRAME : ℕ
 MAX_FRAME = 2 ^ 64 - 1
 
--- A frame is refused at its length: for its payload's size, where this is judged there; elsewhere only
--- where the frame can never be whole.
+-- header and payload pass this, so the frame can never be whole
+abbrev pub is_never_whole : FrameHeader → Bool
+is_never_whole header = nat_lt MAX_FRAME (header.header_length + header.payload_length)
+
+-- the frame is refused as soon as its length has come: for its size, where that is judged there, else if it can never be whole
 abbrev pub overflows_at_length : JudgesSize → Reader → FrameHeader → Bool
 overflows_at_length at_length reader header = nat_lt reader.max_payload header.payload_length
-overflows_at_length when_whole reader header = nat_lt MAX_FRAME (header.header_length + header.payload_length)
+overflows_at_length when_whole reader header = is_never_whole header
 
--- a frame whose size may come: behind the length stand its mask and its payload, as far as they are there
+-- a frame that wasn't refused at its length; behind the length stand its mask and its payload, as far as they are there
 abbrev pub front_of_body : Reader → Bool → FrameHeader → List ℕ → Front
 front_of_body reader under_way header body =
     if nat_lt (length body) (mask_bytes header.start + header.payload_length) then partial
@@ -240,8 +241,7 @@ front_of_start reader under_way start more =
     if nat_lt (length more) (length_bytes start) then partial
     else front_of_header reader under_way (frame_header start more) (drop (length_bytes start) more)
 
--- The frame at the front. The rules of the first two bytes are judged once these are there, the size once the
--- length is or the frame is whole, as the reader says, and the others once the frame is whole.
+-- the frame at the front: its first two bytes are judged once these are there, the size as the reader says, and the rest once it is whole
 unfoldable pub front_frame : Reader → Bool → List ℕ → Front
 front_frame reader under_way [] = partial
 front_frame reader under_way (first ∷ []) = partial
@@ -268,8 +268,7 @@ StopsWith partial fail = fail ≡ None
 StopsWith (whole frame len) fail = ⊥
 StopsWith (breaks e) fail = fail ≡ Some e
 
--- From this place on the bytes are these frames, one after another; behind them stands no further
--- whole frame, and the rule that the rest breaks, if any, is fail.
+-- from this place on the bytes are these frames; behind them stands no further whole frame, and the rest breaks the rule fail, or none
 abbrev pub ReadsFrames : Reader → Bool → ℕ → List ℕ → List PlacedFrame → Option ProtocolError → Type 0
 ReadsFrames reader under_way place bytes [] fail = StopsWith (front_frame reader under_way (drop place bytes)) fail
 ReadsFrames reader under_way place bytes (f ∷ fs) fail =

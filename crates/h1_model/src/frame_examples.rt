@@ -35,25 +35,30 @@ pub fn hello_for_a_client()
 
 /// It refuses a mask at the second byte.
 pub fn masked_for_a_client()
-    ensures { front_frame (record { wants_mask = false; max_payload = 100; judges_size = at_length }) false (0x81 ∷ 0x85 ∷ []) ≡ breaks masked_frame }
+    ensures { front_frame (record { wants_mask = false; max_payload = 100; judges_size = at_length }) false
+        (0x81 ∷ 0x85 ∷ []) ≡ breaks masked_frame }
 {}
 
 /// The limit is the reader's: 200 bytes are too many where 100 may come.
 pub fn over_the_limit()
-    ensures { front_frame (record { wants_mask = true; max_payload = 100; judges_size = at_length }) false (0x82 ∷ 0xfe ∷ 0x00 ∷ 0xc8 ∷ []) ≡ breaks overflow }
+    ensures { front_frame (record { wants_mask = true; max_payload = 100; judges_size = at_length }) false
+        (0x82 ∷ 0xfe ∷ 0x00 ∷ 0xc8 ∷ []) ≡ breaks overflow }
 {}
 
 /// A reader that judges sizes once a frame is whole waits for the payload before it refuses 2 bytes where 1 may come.
 pub fn refused_once_whole()
-    ensures waits { front_frame (record { wants_mask = false; max_payload = 1; judges_size = when_whole }) false (0x82 ∷ 0x02 ∷ 0x00 ∷ []) ≡ partial }
-    ensures refuses { front_frame (record { wants_mask = false; max_payload = 1; judges_size = when_whole }) false (0x82 ∷ 0x02 ∷ 0x00 ∷ 0x00 ∷ [])
-        ≡ breaks overflow }
+    ensures waits { front_frame (record { wants_mask = false; max_payload = 1; judges_size = when_whole }) false
+        (0x82 ∷ 0x02 ∷ 0x00 ∷ []) ≡ partial }
+    ensures refuses { front_frame (record { wants_mask = false; max_payload = 1; judges_size = when_whole }) false
+        (0x82 ∷ 0x02 ∷ 0x00 ∷ 0x00 ∷ []) ≡ breaks overflow }
 {}
 
-/// But it refuses at its length a frame that ends behind every place, however many bytes may come.
+/// But where header and payload pass 2 ^ 64 - 1, it refuses the frame at its length, however many bytes may come.
 pub fn never_whole()
-    ensures { front_frame (record { wants_mask = false; max_payload = 0xffff_ffff_ffff_ffff; judges_size = when_whole }) false
-        (0x82 ∷ 0x7f ∷ 0xff ∷ 0xff ∷ 0xff ∷ 0xff ∷ 0xff ∷ 0xff ∷ 0xff ∷ 0xff ∷ []) ≡ breaks overflow }
+    ensures at_most { front_frame (record { wants_mask = false; max_payload = 0xffff_ffff_ffff_ffff; judges_size = when_whole }) false
+        (0x82 ∷ 0x7f ∷ 0xff ∷ 0xff ∷ 0xff ∷ 0xff ∷ 0xff ∷ 0xff ∷ 0xff ∷ 0xf5 ∷ []) ≡ partial }
+    ensures above { front_frame (record { wants_mask = false; max_payload = 0xffff_ffff_ffff_ffff; judges_size = when_whole }) false
+        (0x82 ∷ 0x7f ∷ 0xff ∷ 0xff ∷ 0xff ∷ 0xff ∷ 0xff ∷ 0xff ∷ 0xff ∷ 0xf6 ∷ []) ≡ breaks overflow }
 {}
 
 /// A reserved bit is refused, before anything else is.
@@ -74,33 +79,40 @@ pub fn long_ping()
 
 /// A Close of 126 bytes counts as one without payload, unfinished too.
 pub fn long_close()
-    ensures finished { front_frame (connection_reader 65536) false (0x88 ∷ 0xfe ∷ 0x00 ∷ 0x7e ∷ replicate 130 0x00) ≡ whole (close None) 134 }
-    ensures unfinished { front_frame (connection_reader 65536) false (0x08 ∷ 0xfe ∷ 0x00 ∷ 0x7e ∷ replicate 130 0x00) ≡ whole (close None) 134 }
+    ensures finished { front_frame (connection_reader 65536) false (0x88 ∷ 0xfe ∷ 0x00 ∷ 0x7e ∷ replicate 130 0x00)
+        ≡ whole (close None) 134 }
+    ensures unfinished { front_frame (connection_reader 65536) false (0x08 ∷ 0xfe ∷ 0x00 ∷ 0x7e ∷ replicate 130 0x00)
+        ≡ whole (close None) 134 }
 {}
 
 /// While a message in fragments is under way, none is started.
 pub fn started_inside()
-    ensures { front_frame (connection_reader 65536) true (0x01 ∷ 0x80 ∷ 0x00 ∷ 0x00 ∷ 0x00 ∷ 0x00 ∷ []) ≡ breaks continuation_started }
+    ensures { front_frame (connection_reader 65536) true (0x01 ∷ 0x80 ∷ 0x00 ∷ 0x00 ∷ 0x00 ∷ 0x00 ∷ [])
+        ≡ breaks continuation_started }
 {}
 
 /// Where none is under way, none goes on.
 pub fn goes_on_without_a_start()
-    ensures { front_frame (connection_reader 65536) false (0x80 ∷ 0x80 ∷ 0x00 ∷ 0x00 ∷ 0x00 ∷ 0x00 ∷ []) ≡ breaks continuation_not_started }
+    ensures { front_frame (connection_reader 65536) false (0x80 ∷ 0x80 ∷ 0x00 ∷ 0x00 ∷ 0x00 ∷ 0x00 ∷ [])
+        ≡ breaks continuation_not_started }
 {}
 
 /// A Ping comes in one piece.
 pub fn unfinished_ping()
-    ensures { front_frame (connection_reader 65536) false (0x09 ∷ 0x80 ∷ 0x00 ∷ 0x00 ∷ 0x00 ∷ 0x00 ∷ []) ≡ breaks (continuation_fragment 9) }
+    ensures { front_frame (connection_reader 65536) false (0x09 ∷ 0x80 ∷ 0x00 ∷ 0x00 ∷ 0x00 ∷ 0x00 ∷ [])
+        ≡ breaks (continuation_fragment 9) }
 {}
 
 /// The code 1005 says that there is none, and no frame may carry it.
 pub fn close_code_1005()
-    ensures { front_frame (connection_reader 65536) false (0x88 ∷ 0x82 ∷ 0x00 ∷ 0x00 ∷ 0x00 ∷ 0x00 ∷ 0x03 ∷ 0xed ∷ []) ≡ breaks bad_op_code }
+    ensures { front_frame (connection_reader 65536) false (0x88 ∷ 0x82 ∷ 0x00 ∷ 0x00 ∷ 0x00 ∷ 0x00 ∷ 0x03 ∷ 0xed ∷ [])
+        ≡ breaks bad_op_code }
 {}
 
 /// One byte is half a code.
 pub fn close_of_one_byte()
-    ensures { front_frame (connection_reader 65536) false (0x88 ∷ 0x81 ∷ 0x00 ∷ 0x00 ∷ 0x00 ∷ 0x00 ∷ 0x03 ∷ []) ≡ breaks (invalid_length 1) }
+    ensures { front_frame (connection_reader 65536) false (0x88 ∷ 0x81 ∷ 0x00 ∷ 0x00 ∷ 0x00 ∷ 0x00 ∷ 0x03 ∷ [])
+        ≡ breaks (invalid_length 1) }
 {}
 
 /// A length may stand in a longer form than it needs.

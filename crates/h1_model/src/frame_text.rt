@@ -59,7 +59,8 @@ pub fn size_may_be_judged_late()
         → front_frame (judging when_whole reader) under_way bytes ≡ front_frame (judging at_length reader) under_way bytes }
     ensures above_limit { (reader : Reader) (under_way : Bool) (bytes : List ℕ) (header : FrameHeader) → front_header reader bytes ≡ Some header
         → reader.max_payload < header.payload_length → frame_length header ≤ MAX_FRAME
-        → front_frame (judging when_whole reader) under_way bytes ≡ (if nat_lt (length bytes) (frame_length header) then partial else breaks overflow) }
+        → front_frame (judging when_whole reader) under_way bytes
+        ≡ (if nat_lt (length bytes) (frame_length header) then partial else breaks overflow) }
     ensures never_whole { (reader : Reader) (under_way : Bool) (bytes : List ℕ) (header : FrameHeader) → front_header reader bytes ≡ Some header
         → MAX_FRAME < frame_length header → front_frame (judging when_whole reader) under_way bytes ≡ breaks overflow }
 {}

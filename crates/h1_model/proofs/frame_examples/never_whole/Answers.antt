@@ -4,4 +4,4 @@ use Rattle.h1_model.proofs.frame_examples.never_whole.Goals as goal
 
 pub returns : goal.returns
 unfolding front_frame unmask
-returns c = refl
+returns c = record { at_most = refl; above = refl }
