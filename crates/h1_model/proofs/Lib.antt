@@ -14,6 +14,7 @@ pub mod RequestDecisions
 pub mod TargetDecisions
 pub mod ReadingDecisions
 pub mod MessageExistence
+pub mod HandedItems
 pub mod HandedLemmas
 pub mod PastExistence
 pub mod MovedLemmas
