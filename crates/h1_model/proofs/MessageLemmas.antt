@@ -1,9 +1,9 @@
 -- The messages of the bytes are parsed in one way.
 use Rattle.std.proofs.Common.{◌≡◌, ℕ, ◌+◌, List, [], ◌∷◌, drop, slice_range, Option, Some, None, MatchOption, refl, sym, ap, ◌∙◌, subst, subst₂}
-use Rattle.h1_model.specs.RequestHead.{IsReading}
+use Rattle.h1_model.specs.RequestHead.{IsReadingWithin}
 use Rattle.h1_model.specs.Parse.{Input, Message, next_start, IsBodyAfter, IsMessageAt, AreMessages}
 use Rattle.h1_model.proofs.HeadPieceLemmas.{head_piece_unique}
-use Rattle.h1_model.proofs.ReadingLemmas.{reading_unique}
+use Rattle.h1_model.proofs.ReadingLemmas.{reading_within_unique}
 use Rattle.h1_model.proofs.BodyLemmas.{body_unique}
 
 -- at one place there is one message
@@ -12,8 +12,8 @@ message_unique i place m n x y =
     let bytes = drop place i.bytes in
     let piece = head_piece_unique bytes x.start x.end y.start y.end x.piece y.piece in
     let body_start : m.body_start ≡ n.body_start = x.body_start ∙ ap (λ e. place + e) piece.1 ∙ sym y.body_start in
-    let read = subst₂ (λ s e. IsReading (slice_range bytes s e) n.reading) (sym piece.0) (sym piece.1) y.reading in
-    let reading = reading_unique (slice_range bytes x.start x.end) m.reading n.reading x.reading read in
+    let read = subst₂ (λ s e. IsReadingWithin i.hold_size (slice_range bytes s e) n.reading) (sym piece.0) (sym piece.1) y.reading in
+    let reading = reading_within_unique i.hold_size (slice_range bytes x.start x.end) m.reading n.reading x.reading read in
     let behind = subst₂ (λ r p. IsBodyAfter i r p n.body) (sym reading) (sym body_start) y.body in
     let body = body_unique i m.reading m.body_start m.body n.body x.body behind in
     λ j. record { reading = reading j; body_start = body_start j; body = body j }

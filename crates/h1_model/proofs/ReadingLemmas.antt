@@ -1,10 +1,10 @@
 -- A piece is read in one way.
-use Rattle.std.proofs.Common.{◌≡◌, ℕ, List, refl, sym, ap, ◌∙◌, arith, Some, map}
+use Rattle.std.proofs.Common.{◌≡◌, ℕ, List, refl, sym, ap, ◌∙◌, arith, Some, map, inl, inr}
 use Rattle.httparse.specs.Grammar.{RequestHead}
 use Rattle.httparse.proofs.GrammarLemmas.{request_unique}
 use Rattle.h1_model.specs.LengthTable.{body_kind, connection_of, expects_continue}
-use Rattle.h1_model.specs.Request.{Head, Reading, too_large, malformed, head_is}
-use Rattle.h1_model.specs.RequestHead.{IsHeadOf, IsReading, header_of}
+use Rattle.h1_model.specs.Request.{Head, too_large, malformed, Reading, head_is, faulty}
+use Rattle.h1_model.specs.RequestHead.{IsHeadOf, IsReading, IsReadingWithin, header_of}
 
 -- a piece is the text of one head
 pub head_unique : (piece : List ℕ) (h k : Head) → IsHeadOf piece h → IsHeadOf piece k → h ≡ k
@@ -30,12 +30,19 @@ head_unique piece h k x y =
 
 -- a piece has one reading
 pub reading_unique : (piece : List ℕ) (a b : Reading) → IsReading piece a → IsReading piece b → a ≡ b
-reading_unique piece too_large too_large x y = refl
-reading_unique piece too_large malformed x y = absurd (omega (arith, y.0))
-reading_unique piece too_large (head_is k) x y = absurd (omega (arith, y.0))
-reading_unique piece malformed too_large x y = absurd (omega (arith, x.0))
-reading_unique piece malformed malformed x y = refl
-reading_unique piece malformed (head_is k) x y = absurd (x.1 k y.1)
-reading_unique piece (head_is h) too_large x y = absurd (omega (arith, x.0))
-reading_unique piece (head_is h) malformed x y = absurd (y.1 h x.1)
+reading_unique piece (faulty too_large) (faulty too_large) x y = refl
+reading_unique piece (faulty too_large) (faulty malformed) x y = absurd (omega (arith, y.0))
+reading_unique piece (faulty too_large) (head_is k) x y = absurd (omega (arith, y.0))
+reading_unique piece (faulty malformed) (faulty too_large) x y = absurd (omega (arith, x.0))
+reading_unique piece (faulty malformed) (faulty malformed) x y = refl
+reading_unique piece (faulty malformed) (head_is k) x y = absurd (x.1 k y.1)
+reading_unique piece (head_is h) (faulty too_large) x y = absurd (omega (arith, x.0))
+reading_unique piece (head_is h) (faulty malformed) x y = absurd (y.1 h x.1)
 reading_unique piece (head_is h) (head_is k) x y = ap head_is (head_unique piece h k x.1 y.1)
+
+-- and one within a size
+pub reading_within_unique : (size : ℕ) (piece : List ℕ) (a b : Reading) → IsReadingWithin size piece a → IsReadingWithin size piece b → a ≡ b
+reading_within_unique size piece a b (inl x) (inl y) = reading_unique piece a b x.1 y.1
+reading_within_unique size piece a b (inl x) (inr y) = absurd (omega (arith, x.0, y.0))
+reading_within_unique size piece a b (inr x) (inl y) = absurd (omega (arith, x.0, y.0))
+reading_within_unique size piece a b (inr x) (inr y) = x.1 ∙ sym y.1

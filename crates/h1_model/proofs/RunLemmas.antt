@@ -3,18 +3,18 @@ use Rattle.std.proofs.Common.{◌≡◌, ℕ, ◌+◌, ◌-◌, ◌<◌, ◌≤�
 use Rattle.std.specs.Prelude.{flat_map}
 use Rattle.std.proofs.lemmas.Bool.{cond-true, cond-false, cases_lt}
 use Rattle.std.proofs.lemmas.List.{take-append-drop, take-take, drop-drop, length-take}
-use Rattle.h1_chunks.specs.ChunkedText.{Segment, segment_text}
+use Rattle.h1_chunks.specs.ChunkedText.{Segment, segment_text, section_text}
 use Rattle.h1_chunks.specs.Chunked.{Chunked, whole, unfinished, not_chunked, IsChunked}
-use Rattle.h1_chunks.specs.Runs.{Run, segment_runs, cut_runs}
+use Rattle.h1_chunks.specs.Runs.{Run, segment_runs, cut_runs, run_bytes}
 use Rattle.httparse.specs.Ascii.{crlf_bytes}
 use Rattle.h1_model.specs.Parse.{shifted, run_between}
-use Rattle.h1_model.specs.Handed.{Begins, run_bytes}
+use Rattle.h1_model.specs.Handed.{Begins}
 use Rattle.h1_model.proofs.HeadPieceLemmas.{slice_range-append}
 
 -- ---- a list that begins another
 
 -- a list begins the same list
-pub begins_same : (a b : List ℕ) → a ≡ b → Begins a b
+pub begins_same : {A : Type 0} → (a b : List A) → a ≡ b → Begins a b
 begins_same a b e = ([], sym e ∙ sym (append-nil a))
 
 -- fewer elements of a list begin more of them
@@ -48,19 +48,19 @@ pub ordered_sooner : (sooner from upto : ℕ) (rs : List Run) → sooner ≤ fro
 ordered_sooner sooner from upto [] less x = omega arith
 ordered_sooner sooner from upto (r ∷ rs) less x = (omega (arith, x.0), x.1, x.2)
 
--- the runs of chunks are in order, within the text of the chunks
-chunk_runs_ordered : (place : ℕ) (cs : List Chunk) → IsOrdered place (place + length (flat_map print_chunk cs)) (chunk_runs place cs)
-unfolding chunk_runs
-chunk_runs_ordered place [] = omega arith
-chunk_runs_ordered place (c ∷ cs) =
-    let line = print_size_line c.line in
-    let len = length-append line (c.bytes ++ crlf_bytes) in
-    let len' = length-append c.bytes crlf_bytes in
-    let behind = place + length (print_chunk c) in
-    let all = length-append (print_chunk c) (flat_map print_chunk cs) in
-    let others = ordered_wider behind (behind + length (flat_map print_chunk cs)) (place + length (print_chunk c ++ flat_map print_chunk cs)) (chunk_runs behind cs)
-    (omega arith) (chunk_runs_ordered behind cs) in
-    (omega arith, omega arith, ordered_sooner (place + length line + length c.bytes) behind _ (chunk_runs behind cs) (omega arith) others)
+-- the runs of segments are in order, within the text of the segments
+segment_runs_ordered : (place : ℕ) (segments : List Segment)
+    → IsOrdered place (place + length (flat_map segment_text segments)) (segment_runs place segments)
+unfolding segment_runs
+segment_runs_ordered place [] = omega arith
+segment_runs_ordered place (s ∷ more) =
+    let len = length-append s.line (s.bytes ++ crlf_bytes) in
+    let len' = length-append s.bytes crlf_bytes in
+    let behind = place + length (segment_text s) in
+    let all = length-append (segment_text s) (flat_map segment_text more) in
+    let others = ordered_wider behind (behind + length (flat_map segment_text more)) (place + length (segment_text s ++ flat_map segment_text more))
+    (segment_runs behind more) (omega arith) (segment_runs_ordered behind more) in
+    (omega arith, omega arith, ordered_sooner (place + length s.line + length s.bytes) behind _ (segment_runs behind more) (omega arith) others)
 
 -- a run that begins before the cut
 pub cut_more : (n : ℕ) (r : Run) (rs : List Run) → r.start < n → cut_runs n (r ∷ rs) ≡ record { start = r.start; end = min r.end n } ∷ cut_runs n rs
@@ -100,16 +100,18 @@ cut_ordered n from upto (r ∷ rs) less x =
 
 -- the runs of a text in chunks are in order and within the text
 pub chunked_ordered : (bytes : List ℕ) (a : Chunked) (runs : List Run) → IsChunked bytes a runs → IsOrdered 0 (length bytes) runs
-chunked_ordered bytes (whole k) runs x =
-    let b = x.0 in
+chunked_ordered bytes (whole k trailers) runs x =
+    let t = x.0 in
     let text = ap length x.2.1 in
-    let parts = length-append (flat_map print_chunk b.chunks) (print_size_line b.last ++ crlf_bytes) in
-    subst (IsOrdered 0 (length bytes)) (sym x.3)
-    (ordered_wider 0 (0 + length (flat_map print_chunk b.chunks)) (length bytes) (chunk_runs 0 b.chunks) (omega (arith, length-take k bytes)) (chunk_runs_ordered 0 b.chunks))
+    let parts = length-append (flat_map segment_text t.segments) (t.last ++ (section_text t.trailers ++ crlf_bytes)) in
+    subst (IsOrdered 0 (length bytes)) (sym x.4)
+    (ordered_wider 0 (0 + length (flat_map segment_text t.segments)) (length bytes) (segment_runs 0 t.segments) (omega (arith, length-take k bytes))
+    (segment_runs_ordered 0 t.segments))
 chunked_ordered bytes unfinished runs x =
-    subst (IsOrdered 0 (length bytes)) (sym x.2) (cut_ordered (length bytes) 0 _ (chunk_runs 0 x.0.chunks) (omega arith) (chunk_runs_ordered 0 x.0.chunks))
+    subst (IsOrdered 0 (length bytes)) (sym x.2)
+    (cut_ordered (length bytes) 0 _ (segment_runs 0 x.0.segments) (omega arith) (segment_runs_ordered 0 x.0.segments))
 chunked_ordered bytes not_chunked runs x =
-    let cut = cut_ordered x.1 0 _ (chunk_runs 0 x.0.chunks) (omega arith) (chunk_runs_ordered 0 x.0.chunks) in
+    let cut = cut_ordered x.1 0 _ (segment_runs 0 x.0.segments) (omega arith) (segment_runs_ordered 0 x.0.segments) in
     subst (IsOrdered 0 (length bytes)) (sym x.4) (ordered_wider 0 x.1 (length bytes) _ (omega (arith, x.2.within)) cut)
 
 -- ---- their bytes

@@ -1,7 +1,7 @@
 -- How a parse grows when bytes follow: what was parsed stays, and the last body may go on.
 use Rattle.std.specs.Prelude.{◌≡◌, ℕ, Bool, true, false, List, [], ◌∷◌, None, ⊤}
 use Rattle.h1_model.specs.Parse.{Message, Body, content, frames, still_open}
-use Rattle.h1_model.specs.Handed.{Begins, body_bytes, body_frames}
+use Rattle.h1_model.specs.Handed.{Begins, body_bytes, last_items}
 
 -- bytes that follow may belong to the body
 abbrev pub may_grow : Body → Bool
@@ -9,11 +9,11 @@ may_grow (content runs still_open) = true
 may_grow (frames placed None) = true
 may_grow _ = false
 
--- The body of a message from the first bytes, and from all: what was there comes first, and a body that
--- can't grow is the same.
+-- The body of a message from the first bytes, and from all: its bytes, and what follows these, come first, and a
+-- body that can't grow is the same.
 pub record BodyGrows (front all : List ℕ) (a b : Body) : Type 0 where
   pub bytes : Begins (body_bytes front a) (body_bytes all b)
-  pub frames : Begins (body_frames a) (body_frames b)
+  pub items : Begins (last_items a) (last_items b)
   pub closed : may_grow a ≡ false → (a ≡ b) × (body_bytes front a ≡ body_bytes all b)
 
 -- the message keeps its reading and its place
