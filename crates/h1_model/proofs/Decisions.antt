@@ -1,5 +1,6 @@
 -- Facts that are decided: each one holds or doesn't.
 use Rattle.std.proofs.Common.{◌≡◌, ℕ, zero, suc, ◌<◌, ◌≤◌, ◌⊎◌, Bool, true, false, List, [], ◌∷◌, ◌++◌, refl, sym, ap, subst, inl, inr, arith, All}
+use Rattle.std.specs.List.{AllByRecursion}
 use Rattle.std.proofs.lemmas.Bool.{cases_eq, cases_lt, both_ways}
 use Rattle.std.proofs.lemmas.List.Elements.{All-head, All-tail, All-cons}
 
@@ -69,6 +70,11 @@ pub dec_all : {A : Type 0} (P : A → Type 0) → ((x : A) → Dec (P x)) → (x
 dec_all P decide [] = yes (λ k d less. absurd (omega arith))
 dec_all P decide (x ∷ xs) =
     dec_like (λ y. All-cons P x xs y.0 y.1) (λ y. (All-head P x xs y, All-tail P x xs y)) (dec_both (decide x) (dec_all P decide xs))
+
+-- each element, one after another
+pub dec_by_recursion : {A : Type 0} (P : A → Type 0) → ((x : A) → Dec (P x)) → (xs : List A) → Dec (AllByRecursion P xs)
+dec_by_recursion P decide [] = yes tt
+dec_by_recursion P decide (x ∷ xs) = dec_both (decide x) (dec_by_recursion P decide xs)
 
 -- each byte passes the test
 pub dec_pass : (test : ℕ → Bool) (text : List ℕ) → Dec (All (λ b. test b ≡ true) text)

@@ -18,6 +18,7 @@ pub mod HandedItems
 pub mod HandedLemmas
 pub mod PastExistence
 pub mod MovedLemmas
+pub mod UpgradeLemmas
 pub mod PastLemmas
 pub mod PlaceLemmas
 pub mod StepLemmas

@@ -4,7 +4,7 @@ use Rattle.std.proofs.lemmas.Bool.{cases_lt}
 use Rattle.h1_model.specs.HeadPiece.{IsHeadPiece}
 use Rattle.h1_chunks.specs.Chunked.{Chunked, whole, unfinished, not_chunked}
 use Rattle.h1_chunks.specs.Runs.{Run}
-use Rattle.h1_model.specs.Request.{BodyKind, no_body, fixed_body, chunked_body, raw_body, Reading, too_large, malformed, head_is}
+use Rattle.h1_model.specs.Request.{BodyKind, no_body, fixed_body, chunked_body, raw_body, Reading, head_is, faulty}
 use Rattle.h1_model.specs.Parse.{Input, connection_reader, Message, Body, no_content, content, frames, Stop, ended_at, still_open, broken, cut, open_or_cut, run_between, fixed_content, raw_content, shifted, chunked_stop, next_start, IsBodyOf, IsBodyAfter, IsMessageAt, AreMessages, IsParse}
 use Rattle.h1_model.proofs.HeadPieceLemmas.{head_piece_decided}
 use Rattle.h1_model.proofs.FrameLemmas.{frames_read}
@@ -12,13 +12,13 @@ use Rattle.h1_model.proofs.ChunkStubs.{every_text_read}
 use Rattle.h1_model.proofs.BodyLemmas.{input}
 use Rattle.h1_model.proofs.BodyGrowth.{fixed_whole, fixed_part}
 use Rattle.h1_model.proofs.MessageGrowth.{piece_end, piece_long}
-use Rattle.h1_model.proofs.ReadingDecisions.{reading_of}
+use Rattle.h1_model.proofs.ReadingDecisions.{reading_within_of}
 
 -- ---- bodies
 
 -- a body that ends does so at the place or behind it
 abbrev StopsBehind : ℕ → Stop → Type 0
-StopsBehind place (ended_at next) = place ≤ next
+StopsBehind place (ended_at next trailers) = place ≤ next
 StopsBehind place still_open = Unit {0}
 StopsBehind place broken = Unit {0}
 StopsBehind place cut = Unit {0}
@@ -29,7 +29,7 @@ GoesOn place b = (next : ℕ) → next_start b ≡ Some next → place ≤ next
 
 -- content that stops so goes on so
 content_goes_on : (place : ℕ) (runs : List Run) (stop : Stop) → StopsBehind place stop → GoesOn place (content runs stop)
-content_goes_on place runs (ended_at end) behind next e =
+content_goes_on place runs (ended_at end trailers) behind next e =
     let same : end ≡ next = cc in
     omega arith
 content_goes_on place runs still_open behind next e = cc
@@ -46,85 +46,84 @@ abbrev HasBody : (Body → Type 0) → ℕ → Type 0
 HasBody Is place = (b : Body) × Is b × GoesOn place b
 
 -- a body of a fixed length
-fixed_body_of : (bytes : List ℕ) (u ended : Bool) (n place : ℕ) → GoesOn place (fixed_content (input bytes u ended) place n)
-fixed_body_of bytes u ended n place =
+fixed_body_of : (bytes : List ℕ) (u : Option ℕ) (ended : Bool) (size : ℕ) (n place : ℕ) → GoesOn place (fixed_content (input bytes u ended size) place n)
+fixed_body_of bytes u ended size n place =
     elim (cases_lt (length bytes) (place + n)) [
-      | inr fits ↦ subst (GoesOn place) (sym (fixed_whole bytes u ended place n fits))
-          (content_goes_on place (run_between place (place + n)) (ended_at (place + n)) (omega arith))
-      | inl short ↦ subst (GoesOn place) (sym (fixed_part bytes u ended place n short))
+      | inr fits ↦ subst (GoesOn place) (sym (fixed_whole bytes u ended size place n fits))
+          (content_goes_on place (run_between place (place + n)) (ended_at (place + n) []) (omega arith))
+      | inl short ↦ subst (GoesOn place) (sym (fixed_part bytes u ended size place n short))
           (content_goes_on place (run_between place (length bytes)) (open_or_cut ended) (open_or_cut_behind place ended))
     ]
 
 -- a body in chunks
-chunked_behind : (bytes : List ℕ) (u ended : Bool) (place : ℕ) (a : Chunked) → StopsBehind place (chunked_stop (input bytes u ended) place a)
-chunked_behind bytes u ended place (whole k) = omega arith
-chunked_behind bytes u ended place unfinished = open_or_cut_behind place ended
-chunked_behind bytes u ended place not_chunked = tt
+chunked_behind : (bytes : List ℕ) (u : Option ℕ) (ended : Bool) (size : ℕ) (place : ℕ) (a : Chunked) → StopsBehind place (chunked_stop (input bytes u ended size) place a)
+chunked_behind bytes u ended size place (whole k trailers) = omega arith
+chunked_behind bytes u ended size place unfinished = open_or_cut_behind place ended
+chunked_behind bytes u ended size place not_chunked = tt
 
 -- all bytes from the place on
-raw_goes_on : (bytes : List ℕ) (u ended : Bool) (place : ℕ) → place ≤ length bytes → GoesOn place (raw_content (input bytes u ended) place)
-raw_goes_on bytes u true place within = content_goes_on place (run_between place (length bytes)) (ended_at (length bytes)) within
-raw_goes_on bytes u false place within = content_goes_on place (run_between place (length bytes)) still_open tt
+raw_goes_on : (bytes : List ℕ) (u : Option ℕ) (ended : Bool) (size : ℕ) (place : ℕ) → place ≤ length bytes → GoesOn place (raw_content (input bytes u ended size) place)
+raw_goes_on bytes u true size place within = content_goes_on place (run_between place (length bytes)) (ended_at (length bytes) []) within
+raw_goes_on bytes u false size place within = content_goes_on place (run_between place (length bytes)) still_open tt
 
 -- each kind has a body at each place
-body_of_kind : (bytes : List ℕ) (u ended : Bool) (kind : BodyKind) (place : ℕ) → place ≤ length bytes
-    → HasBody (IsBodyOf (input bytes u ended) kind place) place
-body_of_kind bytes u ended no_body place within =
-    (content [] (ended_at place), refl, content_goes_on place [] (ended_at place) (omega arith))
-body_of_kind bytes u ended (fixed_body n) place within = (fixed_content (input bytes u ended) place n, refl, fixed_body_of bytes u ended n place)
-body_of_kind bytes u ended chunked_body place within =
-    let i = input bytes u ended in
-    let x = text_is_read (drop place bytes) in
+body_of_kind : (bytes : List ℕ) (u : Option ℕ) (ended : Bool) (size : ℕ) (kind : BodyKind) (place : ℕ) → place ≤ length bytes
+    → HasBody (IsBodyOf (input bytes u ended size) kind place) place
+body_of_kind bytes u ended size no_body place within =
+    (content [] (ended_at place []), refl, content_goes_on place [] (ended_at place []) (omega arith))
+body_of_kind bytes u ended size (fixed_body n) place within = (fixed_content (input bytes u ended size) place n, refl, fixed_body_of bytes u ended size n place)
+body_of_kind bytes u ended size chunked_body place within =
+    let i = input bytes u ended size in
+    let x = every_text_read (drop place bytes) in
     let stop = chunked_stop i place x.0 in
-    (content (shifted place x.1) stop, (x.0, x.1, x.2, refl), content_goes_on place (shifted place x.1) stop (chunked_behind bytes u ended place x.0))
-body_of_kind bytes false ended raw_body place within = (raw_content (input bytes false ended) place, refl, raw_goes_on bytes false ended place within)
-body_of_kind bytes true ended raw_body place within =
-    let x = frames_read connection_reader false place bytes in
+    (content (shifted place x.1) stop, (x.0, x.1, x.2, refl), content_goes_on place (shifted place x.1) stop (chunked_behind bytes u ended size place x.0))
+body_of_kind bytes None ended size raw_body place within = (raw_content (input bytes None ended size) place, refl, raw_goes_on bytes None ended size place within)
+body_of_kind bytes (Some limit) ended size raw_body place within =
+    let x = frames_read (connection_reader limit) false place bytes in
     (frames x.0 x.1, (x.0, x.1, x.2, refl), λ next e. cc)
 
 -- each reading has a body at each place
-body_after : (bytes : List ℕ) (u ended : Bool) (r : Reading) (place : ℕ) → place ≤ length bytes
-    → HasBody (IsBodyAfter (input bytes u ended) r place) place
-body_after bytes u ended too_large place within = (no_content, refl, λ next e. cc)
-body_after bytes u ended malformed place within = (no_content, refl, λ next e. cc)
-body_after bytes u ended (head_is h) place within = body_of_kind bytes u ended h.body place within
+body_after : (bytes : List ℕ) (u : Option ℕ) (ended : Bool) (size : ℕ) (r : Reading) (place : ℕ) → place ≤ length bytes
+    → HasBody (IsBodyAfter (input bytes u ended size) r place) place
+body_after bytes u ended size (faulty fault) place within = (no_content, refl, λ next e. cc)
+body_after bytes u ended size (head_is h) place within = body_of_kind bytes u ended size h.body place within
 
 -- ---- messages
 
 -- the messages from the place on
-abbrev HasMessages : List ℕ → Bool → Bool → ℕ → Type 0
-HasMessages bytes u ended place = (ms : List Message) × AreMessages (input bytes u ended) place ms
+abbrev HasMessages : List ℕ → Option ℕ → Bool → ℕ → ℕ → Type 0
+HasMessages bytes u ended size place = (ms : List Message) × AreMessages (input bytes u ended size) place ms
 
 -- a message, and those behind it
-message_then : (bytes : List ℕ) (u ended : Bool) (place : ℕ) (m : Message) (next : Option ℕ) → next_start m.body ≡ next
-    → IsMessageAt (input bytes u ended) place m → ((n : ℕ) → next ≡ Some n → HasMessages bytes u ended n) → HasMessages bytes u ended place
-message_then bytes u ended place m None is at later =
+message_then : (bytes : List ℕ) (u : Option ℕ) (ended : Bool) (size : ℕ) (place : ℕ) (m : Message) (next : Option ℕ) → next_start m.body ≡ next
+    → IsMessageAt (input bytes u ended size) place m → ((n : ℕ) → next ≡ Some n → HasMessages bytes u ended size n) → HasMessages bytes u ended size place
+message_then bytes u ended size place m None is at later =
     let none : List Message = [] in
-    (m ∷ none, (at, subst (λ o. MatchOption o (none ≡ none) (λ n. AreMessages (input bytes u ended) n none)) (sym is) refl))
-message_then bytes u ended place m (Some n) is at later =
+    (m ∷ none, (at, subst (λ o. MatchOption o (none ≡ none) (λ n. AreMessages (input bytes u ended size) n none)) (sym is) refl))
+message_then bytes u ended size place m (Some n) is at later =
     let others = later n refl in
-    (m ∷ others.0, (at, subst (λ o. MatchOption o (others.0 ≡ []) (λ k. AreMessages (input bytes u ended) k others.0)) (sym is) others.1))
+    (m ∷ others.0, (at, subst (λ o. MatchOption o (others.0 ≡ []) (λ k. AreMessages (input bytes u ended size) k others.0)) (sym is) others.1))
 
 -- the message whose head stands here, and those behind it
-messages_from : (bytes : List ℕ) (u ended : Bool) (place s e : ℕ) → IsHeadPiece (drop place bytes) s e
-    → ((next : ℕ) → place + 2 ≤ length bytes → place < next → HasMessages bytes u ended next) → HasMessages bytes u ended place
-messages_from bytes u ended place s e piece later =
-    let r = reading_of (slice_range (drop place bytes) s e) in
+messages_from : (bytes : List ℕ) (u : Option ℕ) (ended : Bool) (size : ℕ) (place s e : ℕ) → IsHeadPiece (drop place bytes) s e
+    → ((next : ℕ) → place + 2 ≤ length bytes → place < next → HasMessages bytes u ended size next) → HasMessages bytes u ended size place
+messages_from bytes u ended size place s e piece later =
+    let r = reading_within_of size (slice_range (drop place bytes) s e) in
     let long = piece_long bytes place s e piece in
-    let b = body_after bytes u ended r.0 (place + e) (omega (arith, piece.in_range, length-drop place bytes)) in
+    let b = body_after bytes u ended size r.0 (place + e) (omega (arith, piece.in_range, length-drop place bytes)) in
     let m : Message = record { reading = r.0; body_start = place + e; body = b.0 } in
-    let at : IsMessageAt (input bytes u ended) place m = record { start = s; end = e; piece = piece; body_start = refl; reading = r.1; body = b.1 } in
-    message_then bytes u ended place m (next_start b.0) refl at (λ n is. later n long (omega (arith, b.2 n is, piece_end (drop place bytes) s e piece)))
+    let at : IsMessageAt (input bytes u ended size) place m = record { start = s; end = e; piece = piece; body_start = refl; reading = r.1; body = b.1 } in
+    message_then bytes u ended size place m (next_start b.0) refl at (λ n is. later n long (omega (arith, b.2 n is, piece_end (drop place bytes) s e piece)))
 
 -- all of them; the fuel is above the bytes that are left
-messages_by_fuel : (fuel : ℕ) (bytes : List ℕ) (u ended : Bool) (place : ℕ) → length bytes - place < fuel → HasMessages bytes u ended place
-messages_by_fuel zero bytes u ended place enough = absurd (omega arith)
-messages_by_fuel (suc fuel) bytes u ended place enough =
+messages_by_fuel : (fuel : ℕ) (bytes : List ℕ) (u : Option ℕ) (ended : Bool) (size : ℕ) (place : ℕ) → length bytes - place < fuel → HasMessages bytes u ended size place
+messages_by_fuel zero bytes u ended size place enough = absurd (omega arith)
+messages_by_fuel (suc fuel) bytes u ended size place enough =
     elim (head_piece_decided (drop place bytes)) [
       | inl none ↦ ([], none)
-      | inr x ↦ messages_from bytes u ended place x.0 x.1 x.2 (λ next long less. messages_by_fuel fuel bytes u ended next (omega arith))
+      | inr x ↦ messages_from bytes u ended size place x.0 x.1 x.2 (λ next long less. messages_by_fuel fuel bytes u ended size next (omega arith))
     ]
 
 -- all bytes have a parse
 pub parse_exists : (i : Input) → (ms : List Message) × IsParse i ms
-parse_exists i = messages_by_fuel (suc (length i.bytes)) i.bytes i.upgraded i.ended 0 (omega arith)
+parse_exists i = messages_by_fuel (suc (length i.bytes)) i.bytes i.upgraded i.ended i.hold_size 0 (omega arith)

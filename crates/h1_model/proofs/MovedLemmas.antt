@@ -3,14 +3,14 @@ use Rattle.std.proofs.Common.{◌≡◌, ℕ, ◌+◌, ◌≤◌, Bool, true, fa
 use Rattle.std.proofs.lemmas.Bool.{cond-true, cond-false, cases_lt}
 use Rattle.std.proofs.lemmas.List.{drop-drop}
 use Rattle.h1_model.specs.HeadPiece.{IsHeadPiece, HasNoHeadPiece}
-use Rattle.h1_model.specs.RequestHead.{IsReading}
+use Rattle.h1_model.specs.RequestHead.{IsReadingWithin}
 use Rattle.h1_model.specs.FrameText.{Reader, front_frame, is_under_way, PlacedFrame, StopsWith, ReadsFrames}
 use Rattle.h1_chunks.specs.Chunked.{Chunked, unfinished, not_chunked, IsChunked}
 use Rattle.h1_chunks.specs.Runs.{Run}
 use Rattle.h1_chunks.specs.Chunked as chunked
 use Rattle.h1_model.specs.Frame.{ProtocolError}
-use Rattle.h1_model.specs.Request.{BodyKind, no_body, fixed_body, chunked_body, raw_body, Reading, too_large, malformed, head_is}
-use Rattle.h1_model.specs.Parse.{Message, Body, no_content, content, frames, ended_at, still_open, broken, cut, run_between, open_or_cut, fixed_content, raw_content, shifted, chunked_stop, connection_reader, next_start, IsBodyOf, IsBodyAfter, IsMessageAt, AreMessages}
+use Rattle.h1_model.specs.Request.{BodyKind, no_body, fixed_body, chunked_body, raw_body, Reading, head_is, faulty}
+use Rattle.h1_model.specs.Parse.{Message, Body, no_content, content, frames, ended_at, still_open, broken, cut, run_between, open_or_cut, fixed_content, raw_content, shifted, trailer_header, chunked_stop, connection_reader, next_start, IsBodyOf, IsBodyAfter, IsMessageAt, AreMessages}
 use Rattle.h1_model.specs.Laws.Moved.{moved_stop, moved_frame, moved_body, moved}
 use Rattle.h1_model.proofs.BodyLemmas.{input}
 use Rattle.h1_model.proofs.BodyGrowth.{fixed_whole, fixed_part}
@@ -45,45 +45,45 @@ moved_open_or_cut len true = refl
 moved_open_or_cut len false = refl
 
 -- how a body in chunks stops
-moved_chunked_stop : (len : ℕ) (bytes rest : List ℕ) (u ended : Bool) (place : ℕ) (a : Chunked)
-    → moved_stop len (chunked_stop (input rest u ended) place a) ≡ chunked_stop (input bytes u ended) (len + place) a
-moved_chunked_stop len bytes rest u ended place (chunked.whole k) =
+moved_chunked_stop : (len : ℕ) (bytes rest : List ℕ) (u : Option ℕ) (ended : Bool) (size : ℕ) (place : ℕ) (a : Chunked)
+    → moved_stop len (chunked_stop (input rest u ended size) place a) ≡ chunked_stop (input bytes u ended size) (len + place) a
+moved_chunked_stop len bytes rest u ended size place (chunked.whole k trailers) =
     let end : len + (place + k) ≡ len + place + k = omega arith in
-    ap ended_at end
-moved_chunked_stop len bytes rest u ended place unfinished = moved_open_or_cut len ended
-moved_chunked_stop len bytes rest u ended place not_chunked = refl
+    λ i. ended_at (end i) (map trailer_header trailers)
+moved_chunked_stop len bytes rest u ended size place unfinished = moved_open_or_cut len ended
+moved_chunked_stop len bytes rest u ended size place not_chunked = refl
 
 -- ---- bodies
 
 -- a body of a fixed length
-moved_fixed : (len : ℕ) (bytes : List ℕ) (u ended : Bool) (place n : ℕ) → len ≤ length bytes
-    → moved_body len (fixed_content (input (drop len bytes) u ended) place n) ≡ fixed_content (input bytes u ended) (len + place) n
-moved_fixed len bytes u ended place n within =
+moved_fixed : (len : ℕ) (bytes : List ℕ) (u : Option ℕ) (ended : Bool) (size : ℕ) (place n : ℕ) → len ≤ length bytes
+    → moved_body len (fixed_content (input (drop len bytes) u ended size) place n) ≡ fixed_content (input bytes u ended size) (len + place) n
+moved_fixed len bytes u ended size place n within =
     let rest = drop len bytes in
-    let size = length-drop len bytes in
+    let left = length-drop len bytes in
     elim (cases_lt (length rest) (place + n)) [
       | inr fits ↦
           let end : len + (place + n) ≡ len + place + n = omega arith in
-          ap (moved_body len) (fixed_whole rest u ended place n fits)
-          ∙ (λ i. content (moved_between len place (place + n) i) (ended_at (end i)))
-          ∙ (λ i. content (run_between (len + place) (end i)) (ended_at (len + place + n)))
-          ∙ sym (fixed_whole bytes u ended (len + place) n (omega arith))
+          ap (moved_body len) (fixed_whole rest u ended size place n fits)
+          ∙ (λ i. content (moved_between len place (place + n) i) (ended_at (end i) []))
+          ∙ (λ i. content (run_between (len + place) (end i)) (ended_at (len + place + n) []))
+          ∙ sym (fixed_whole bytes u ended size (len + place) n (omega arith))
       | inl short ↦
           let all : len + length rest ≡ length bytes = omega arith in
-          ap (moved_body len) (fixed_part rest u ended place n short)
+          ap (moved_body len) (fixed_part rest u ended size place n short)
           ∙ (λ i. content (moved_between len place (length rest) i) (moved_open_or_cut len ended i))
           ∙ (λ i. content (run_between (len + place) (all i)) (open_or_cut ended))
-          ∙ sym (fixed_part bytes u ended (len + place) n (omega arith))
+          ∙ sym (fixed_part bytes u ended size (len + place) n (omega arith))
     ]
 
 -- all bytes from a place on
-moved_raw : (len : ℕ) (bytes : List ℕ) (u ended : Bool) (place : ℕ) → len ≤ length bytes
-    → moved_body len (raw_content (input (drop len bytes) u ended) place) ≡ raw_content (input bytes u ended) (len + place)
-moved_raw len bytes u true place within =
+moved_raw : (len : ℕ) (bytes : List ℕ) (u : Option ℕ) (ended : Bool) (size : ℕ) (place : ℕ) → len ≤ length bytes
+    → moved_body len (raw_content (input (drop len bytes) u ended size) place) ≡ raw_content (input bytes u ended size) (len + place)
+moved_raw len bytes u true size place within =
     let all : len + length (drop len bytes) ≡ length bytes = omega (arith, length-drop len bytes) in
-    (λ i. content (moved_between len place (length (drop len bytes)) i) (ended_at (all i)))
-    ∙ (λ i. content (run_between (len + place) (all i)) (ended_at (length bytes)))
-moved_raw len bytes u false place within =
+    (λ i. content (moved_between len place (length (drop len bytes)) i) (ended_at (all i) []))
+    ∙ (λ i. content (run_between (len + place) (all i)) (ended_at (length bytes) []))
+moved_raw len bytes u false size place within =
     let all : len + length (drop len bytes) ≡ length bytes = omega (arith, length-drop len bytes) in
     (λ i. content (moved_between len place (length (drop len bytes)) i) still_open)
     ∙ (λ i. content (run_between (len + place) (all i)) still_open)
@@ -98,31 +98,30 @@ moved_frames reader u len place bytes (f ∷ fs) e x =
     (x.0, ap (front_frame reader u) (sym (drop-drop place len bytes)) ∙ x.1, end, others)
 
 -- each kind of body
-moved_of_kind : (len : ℕ) (bytes : List ℕ) (u ended : Bool) (kind : BodyKind) (place : ℕ) (b : Body) → len ≤ length bytes
-    → IsBodyOf (input (drop len bytes) u ended) kind place b → IsBodyOf (input bytes u ended) kind (len + place) (moved_body len b)
-moved_of_kind len bytes u ended no_body place b within x = ap (moved_body len) x
-moved_of_kind len bytes u ended (fixed_body n) place b within x = ap (moved_body len) x ∙ moved_fixed len bytes u ended place n within
-moved_of_kind len bytes u ended chunked_body place b within x = (
+moved_of_kind : (len : ℕ) (bytes : List ℕ) (u : Option ℕ) (ended : Bool) (size : ℕ) (kind : BodyKind) (place : ℕ) (b : Body) → len ≤ length bytes
+    → IsBodyOf (input (drop len bytes) u ended size) kind place b → IsBodyOf (input bytes u ended size) kind (len + place) (moved_body len b)
+moved_of_kind len bytes u ended size no_body place b within x = ap (moved_body len) x
+moved_of_kind len bytes u ended size (fixed_body n) place b within x = ap (moved_body len) x ∙ moved_fixed len bytes u ended size place n within
+moved_of_kind len bytes u ended size chunked_body place b within x = (
   x.0,
   x.1,
   subst (λ t. IsChunked t x.0 x.1) (drop-drop place len bytes) x.2,
-  ap (moved_body len) x.3 ∙ (λ i. content (shifted-shifted len place x.1 i) (moved_chunked_stop len bytes (drop len bytes) u ended place x.0 i)),
+  ap (moved_body len) x.3 ∙ (λ i. content (shifted-shifted len place x.1 i) (moved_chunked_stop len bytes (drop len bytes) u ended size place x.0 i)),
 )
-moved_of_kind len bytes false ended raw_body place b within x = ap (moved_body len) x ∙ moved_raw len bytes false ended place within
-moved_of_kind len bytes true ended raw_body place b within x =
-    (map (moved_frame len) x.0, x.1, moved_frames connection_reader false len place bytes x.0 x.1 x.2, ap (moved_body len) x.3)
+moved_of_kind len bytes None ended size raw_body place b within x = ap (moved_body len) x ∙ moved_raw len bytes None ended size place within
+moved_of_kind len bytes (Some limit) ended size raw_body place b within x =
+    (map (moved_frame len) x.0, x.1, moved_frames (connection_reader limit) false len place bytes x.0 x.1 x.2, ap (moved_body len) x.3)
 
 -- the body behind a reading
-moved_after : (len : ℕ) (bytes : List ℕ) (u ended : Bool) (r : Reading) (place : ℕ) (b : Body) → len ≤ length bytes
-    → IsBodyAfter (input (drop len bytes) u ended) r place b → IsBodyAfter (input bytes u ended) r (len + place) (moved_body len b)
-moved_after len bytes u ended too_large place b within x = ap (moved_body len) x
-moved_after len bytes u ended malformed place b within x = ap (moved_body len) x
-moved_after len bytes u ended (head_is h) place b within x = moved_of_kind len bytes u ended h.body place b within x
+moved_after : (len : ℕ) (bytes : List ℕ) (u : Option ℕ) (ended : Bool) (size : ℕ) (r : Reading) (place : ℕ) (b : Body) → len ≤ length bytes
+    → IsBodyAfter (input (drop len bytes) u ended size) r place b → IsBodyAfter (input bytes u ended size) r (len + place) (moved_body len b)
+moved_after len bytes u ended size (faulty fault) place b within x = ap (moved_body len) x
+moved_after len bytes u ended size (head_is h) place b within x = moved_of_kind len bytes u ended size h.body place b within x
 
 -- where the next message starts
 moved_next : (len : ℕ) (b : Body) → next_start (moved_body len b) ≡ option_map (λ place. len + place) (next_start b)
 moved_next len no_content = refl
-moved_next len (content runs (ended_at place)) = refl
+moved_next len (content runs (ended_at place trailers)) = refl
 moved_next len (content runs still_open) = refl
 moved_next len (content runs broken) = refl
 moved_next len (content runs cut) = refl
@@ -131,42 +130,42 @@ moved_next len (frames placed fail) = refl
 -- ---- messages
 
 -- a message
-moved_message : (len : ℕ) (bytes : List ℕ) (u ended : Bool) (place : ℕ) (m : Message) → len ≤ length bytes
-    → IsMessageAt (input (drop len bytes) u ended) place m → IsMessageAt (input bytes u ended) (len + place) (moved len m)
-moved_message len bytes u ended place m within x =
+moved_message : (len : ℕ) (bytes : List ℕ) (u : Option ℕ) (ended : Bool) (size : ℕ) (place : ℕ) (m : Message) → len ≤ length bytes
+    → IsMessageAt (input (drop len bytes) u ended size) place m → IsMessageAt (input bytes u ended size) (len + place) (moved len m)
+moved_message len bytes u ended size place m within x =
     let same = drop-drop place len bytes in
     record {
       start = x.start;
       end = x.end;
       piece = subst (λ t. IsHeadPiece t x.start x.end) same x.piece;
       body_start = omega (arith, x.body_start);
-      reading = subst (λ t. IsReading (slice_range t x.start x.end) m.reading) same x.reading;
-      body = moved_after len bytes u ended m.reading m.body_start m.body within x.body;
+      reading = subst (λ t. IsReadingWithin size (slice_range t x.start x.end) m.reading) same x.reading;
+      body = moved_after len bytes u ended size m.reading m.body_start m.body within x.body;
     }
 
 -- what stands behind a message
-moved_rest : (len : ℕ) (bytes : List ℕ) (u ended : Bool) (next : Option ℕ) (ms : List Message)
-    → ((place : ℕ) → AreMessages (input (drop len bytes) u ended) place ms → AreMessages (input bytes u ended) (len + place) (map (moved len) ms))
-    → MatchOption next (ms ≡ []) (λ place. AreMessages (input (drop len bytes) u ended) place ms)
-    → MatchOption (option_map (λ place. len + place) next) (map (moved len) ms ≡ []) (λ place. AreMessages (input bytes u ended) place (map (moved len) ms))
-moved_rest len bytes u ended None ms move x = ap (map (moved len)) x
-moved_rest len bytes u ended (Some place) ms move x = move place x
+moved_rest : (len : ℕ) (bytes : List ℕ) (u : Option ℕ) (ended : Bool) (size : ℕ) (next : Option ℕ) (ms : List Message)
+    → ((place : ℕ) → AreMessages (input (drop len bytes) u ended size) place ms → AreMessages (input bytes u ended size) (len + place) (map (moved len) ms))
+    → MatchOption next (ms ≡ []) (λ place. AreMessages (input (drop len bytes) u ended size) place ms)
+    → MatchOption (option_map (λ place. len + place) next) (map (moved len) ms ≡ []) (λ place. AreMessages (input bytes u ended size) place (map (moved len) ms))
+moved_rest len bytes u ended size None ms move x = ap (map (moved len)) x
+moved_rest len bytes u ended size (Some place) ms move x = move place x
 
 -- messages of the rest of the bytes are those from there on
-pub moved_messages : (len : ℕ) (bytes : List ℕ) (u ended : Bool) (place : ℕ) (ms : List Message) → len ≤ length bytes
-    → AreMessages (input (drop len bytes) u ended) place ms → AreMessages (input bytes u ended) (len + place) (map (moved len) ms)
-moved_messages len bytes u ended place [] within x = subst HasNoHeadPiece (drop-drop place len bytes) x
-moved_messages len bytes u ended place (m ∷ ms) within x =
-    let rest = moved_rest len bytes u ended (next_start m.body) ms (λ next y. moved_messages len bytes u ended next ms within y) x.1 in (
-      moved_message len bytes u ended place m within x.0,
-      subst (λ o. MatchOption o (map (moved len) ms ≡ []) (λ next. AreMessages (input bytes u ended) next (map (moved len) ms))) (sym (moved_next len m.body)) rest,
+pub moved_messages : (len : ℕ) (bytes : List ℕ) (u : Option ℕ) (ended : Bool) (size : ℕ) (place : ℕ) (ms : List Message) → len ≤ length bytes
+    → AreMessages (input (drop len bytes) u ended size) place ms → AreMessages (input bytes u ended size) (len + place) (map (moved len) ms)
+moved_messages len bytes u ended size place [] within x = subst HasNoHeadPiece (drop-drop place len bytes) x
+moved_messages len bytes u ended size place (m ∷ ms) within x =
+    let rest = moved_rest len bytes u ended size (next_start m.body) ms (λ next y. moved_messages len bytes u ended size next ms within y) x.1 in (
+      moved_message len bytes u ended size place m within x.0,
+      subst (λ o. MatchOption o (map (moved len) ms ≡ []) (λ next. AreMessages (input bytes u ended size) next (map (moved len) ms))) (sym (moved_next len m.body)) rest,
     )
 
 -- and there are no others
-pub moved_from : (len : ℕ) (bytes : List ℕ) (u ended : Bool) (ms : List Message) → len ≤ length bytes → AreMessages (input bytes u ended) len ms
-    → (ns : List Message) × AreMessages (input (drop len bytes) u ended) 0 ns × (ms ≡ map (moved len) ns)
-moved_from len bytes u ended ms within x =
-    let rest = parse_exists (input (drop len bytes) u ended) in
+pub moved_from : (len : ℕ) (bytes : List ℕ) (u : Option ℕ) (ended : Bool) (size : ℕ) (ms : List Message) → len ≤ length bytes → AreMessages (input bytes u ended size) len ms
+    → (ns : List Message) × AreMessages (input (drop len bytes) u ended size) 0 ns × (ms ≡ map (moved len) ns)
+moved_from len bytes u ended size ms within x =
+    let rest = parse_exists (input (drop len bytes) u ended size) in
     let here : len + 0 ≡ len = omega arith in
-    let there = subst (λ place. AreMessages (input bytes u ended) place (map (moved len) rest.0)) here (moved_messages len bytes u ended 0 rest.0 within rest.1) in
-    (rest.0, rest.1, messages_unique (input bytes u ended) len ms (map (moved len) rest.0) x there)
+    let there = subst (λ place. AreMessages (input bytes u ended size) place (map (moved len) rest.0)) here (moved_messages len bytes u ended size 0 rest.0 within rest.1) in
+    (rest.0, rest.1, messages_unique (input bytes u ended size) len ms (map (moved len) rest.0) x there)

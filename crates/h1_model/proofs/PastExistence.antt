@@ -1,5 +1,6 @@
 -- Each trace has a past.
 use Rattle.std.proofs.Common.{List, [], ◌∷◌, refl, sym, ap, subst}
+use Rattle.h1_model.specs.Setting.{Setting}
 use Rattle.h1_model.specs.Parse.{IsParse}
 use Rattle.h1_model.specs.Sums.{Step}
 use Rattle.h1_model.specs.Past.{ParsedStep, input_of}
@@ -7,14 +8,14 @@ use Rattle.h1_model.specs.Trace.{IsPastOf}
 use Rattle.h1_model.proofs.MessageExistence.{parse_exists}
 
 -- the past of the steps before, and the parse of all bytes taken by now
-pub past_exists : (trace : List Step) → (past : List ParsedStep) × IsPastOf trace past
-past_exists [] = ([], record { same = refl; right = tt })
-past_exists (s ∷ before) =
-    let earlier = past_exists before in
-    let now = parse_exists (input_of (s ∷ before)) in (
+pub past_exists : (setting : Setting) (trace : List Step) → (past : List ParsedStep) × IsPastOf setting trace past
+past_exists setting [] = ([], record { same = refl; right = tt })
+past_exists setting (s ∷ before) =
+    let earlier = past_exists setting before in
+    let now = parse_exists (input_of setting (s ∷ before)) in (
       record { step = s; parse = now.0 } ∷ earlier.0,
       record {
         same = ap (λ (l : List Step). s ∷ l) earlier.1.same;
-        right = (subst (λ l. IsParse (input_of (s ∷ l)) now.0) (sym earlier.1.same) now.1, earlier.1.right);
+        right = (subst (λ l. IsParse (input_of setting (s ∷ l)) now.0) (sym earlier.1.same) now.1, earlier.1.right);
       },
     )

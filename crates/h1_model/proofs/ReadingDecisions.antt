@@ -1,5 +1,6 @@
 -- Each piece has a reading.
-use Rattle.std.proofs.Common.{◌≡◌, ℕ, List, [], length, map, Option, Some, None, All, refl, sym, ◌∙◌, subst, inl, inr}
+use Rattle.std.proofs.Common.{◌≡◌, ℕ, List, [], length, map, Option, Some, None, ◌<◌, ◌≤◌, ◌⊎◌, refl, sym, ◌∙◌, subst, inl, inr}
+use Rattle.std.specs.List.{AllByRecursion}
 use Rattle.std.proofs.lemmas.Bool.{cases_lt}
 use Rattle.httparse.specs.Grammar.{RequestHead, ReadsRequest, Field, field_value}
 use Rattle.httparse.proofs.GrammarLemmas.{request_unique}
@@ -7,9 +8,9 @@ use Rattle.http_header.specs.Token.{IsToken, is_token_byte, is_value_byte}
 use Rattle.h1_model.specs.Limits.{MAX_HEADER_LINES}
 use Rattle.h1_model.specs.HeadPiece.{header_lines}
 use Rattle.h1_model.specs.LengthTable.{body_kind, connection_of, expects_continue}
-use Rattle.h1_model.specs.Request.{BodyKind, Head, Reading, too_large, malformed, head_is}
-use Rattle.h1_model.specs.RequestHead.{IsTarget, IsHeaderField, header_of, IsHeadOf, IsReading}
-use Rattle.h1_model.proofs.Decisions.{dec_like, dec_both, dec_pass, dec_below, dec_most, dec_all}
+use Rattle.h1_model.specs.Request.{BodyKind, Head, too_large, malformed, Reading, head_is, faulty}
+use Rattle.h1_model.specs.RequestHead.{IsTarget, IsHeaderField, header_of, IsHeadOf, IsReading, IsReadingWithin}
+use Rattle.h1_model.proofs.Decisions.{dec_like, dec_both, dec_pass, dec_below, dec_most, dec_by_recursion}
 use Rattle.h1_model.proofs.RequestDecisions.{request_decided}
 use Rattle.h1_model.proofs.TargetDecisions.{target_decided}
 
@@ -35,13 +36,13 @@ dec_some (Some x) = yes (x, refl)
 abbrev IsGood : RequestHead → Type 0
 IsGood text =
     IsToken text.method × (IsTarget text.target
-    × (All IsHeaderField text.fields × ((b : BodyKind) × (body_kind text.minor text.method (map header_of text.fields) ≡ Some b))))
+    × (AllByRecursion IsHeaderField text.fields × ((b : BodyKind) × (body_kind text.minor text.method (map header_of text.fields) ≡ Some b))))
 
 -- each part is decided
 dec_good : (text : RequestHead) → Dec (IsGood text)
 dec_good text =
     dec_both (dec_token text.method) (dec_both (target_decided text.target)
-    (dec_both (dec_all IsHeaderField dec_header text.fields) (dec_some (body_kind text.minor text.method (map header_of text.fields)))))
+    (dec_both (dec_by_recursion IsHeaderField dec_header text.fields) (dec_some (body_kind text.minor text.method (map header_of text.fields)))))
 
 -- the head of such a text
 head_from : (piece : List ℕ) (text : RequestHead) → ReadsRequest piece text [] → IsGood text → (h : Head) × IsHeadOf piece h
@@ -91,9 +92,19 @@ head_decided piece =
 pub reading_of : (piece : List ℕ) → (r : Reading) × IsReading piece r
 reading_of piece =
     elim (cases_lt MAX_HEADER_LINES (header_lines piece)) [
-      | inl many ↦ (too_large, many)
+      | inl many ↦ (faulty too_large, many)
       | inr few ↦ elim (head_decided piece) [
         | yes x ↦ (head_is x.0, (few, x.1))
-        | no none ↦ (malformed, (few, λ h x. none (h, x)))
+        | no none ↦ (faulty malformed, (few, λ h x. none (h, x)))
       ]
+    ]
+
+-- and one within a size
+pub reading_within_of : (size : ℕ) (piece : List ℕ) → (r : Reading) × IsReadingWithin size piece r
+reading_within_of size piece =
+    elim (cases_lt size (length piece)) [
+      | inl long ↦ (faulty too_large, inr (long, refl))
+      | inr fits ↦
+          let r = reading_of piece in
+          (r.0, inl (fits, r.1))
     ]

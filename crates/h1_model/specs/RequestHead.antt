@@ -1,6 +1,7 @@
 -- What a whole head is read as (RFC 7230, sections 3 and 5.3): the grammar is httparse's, and the method,
 -- the target, the names and the values are those that http, http_uri and http_header take.
-use Rattle.std.specs.Prelude.{◌≡◌, ℕ, ◌<◌, ◌≤◌, ◌⊎◌, List, [], length, map, All, Option, Some}
+use Rattle.std.specs.Prelude.{◌≡◌, ℕ, ◌<◌, ◌≤◌, ◌⊎◌, List, [], length, map, Option, Some}
+use Rattle.std.specs.List.{AllByRecursion}
 use Rattle.httparse.specs.Grammar.{RequestHead, ReadsRequest, Field, field_value}
 use Rattle.http_header.specs.Token.{IsToken, lowercase}
 use Rattle.http_header.specs.FieldName.{IsFieldName}
@@ -31,7 +32,7 @@ pub record IsHeadOf (piece : List ℕ) (h : Head) : Type 0 where
   pub method_is : IsToken text.method × (h.method ≡ text.method)
   pub target_is : IsTarget text.target × (h.target ≡ text.target)
   pub minor_is : h.minor ≡ text.minor
-  pub fields : All IsHeaderField text.fields
+  pub fields : AllByRecursion IsHeaderField text.fields
   pub headers_are : h.headers ≡ map header_of text.fields
   pub body_is : body_kind h.minor h.method h.headers ≡ Some h.body
   pub connection_is : h.connection ≡ connection_of h.minor h.headers

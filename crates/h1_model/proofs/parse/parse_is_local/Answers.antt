@@ -7,7 +7,7 @@ use Rattle.h1_model.proofs.parse.parse_is_local.Goals as goal
 pub returns-clause-parsed : goal.returns-clause-parsed
 returns-clause-parsed c i place ms within x =
     let here : place + 0 ≡ place = omega arith in
-    subst (λ p. AreMessages i p (map (moved place) ms)) here (moved_messages place i.bytes i.upgraded i.ended 0 ms within x)
+    subst (λ p. AreMessages i p (map (moved place) ms)) here (moved_messages place i.bytes i.upgraded i.ended i.hold_size 0 ms within x)
 
 pub returns-clause-no_others : goal.returns-clause-no_others
-returns-clause-no_others c i place ms within x = moved_from place i.bytes i.upgraded i.ended ms within x
+returns-clause-no_others c i place ms within x = moved_from place i.bytes i.upgraded i.ended i.hold_size ms within x
