@@ -112,6 +112,30 @@ pub last_ending : (items : List Item) (pieces : List (List ℕ)) (last : List It
 last_ending items pieces last e =
     ap have_ending e ∙ list_any-append is_ending (map item_bytes pieces) last ∙ ap (λ b. b || have_ending last) (pieces_ending pieces)
 
+-- ---- frames and stops
+
+-- each frame is one
+pub frames_counted : (placed : List PlacedFrame) → items_frames (map (λ (p : PlacedFrame). item_frame p.frame) placed) ≡ length placed
+frames_counted [] = refl
+frames_counted (f ∷ fs) =
+    sum_by-cons item_frames (item_frame f.frame) (map (λ (p : PlacedFrame). item_frame p.frame) fs) ∙ ap (λ n. 1 + n) (frames_counted fs) ∙ omega arith
+
+-- where content stops there is none
+pub stop_frames : (stop : Stop) → items_frames (stop_items stop) ≡ 0
+stop_frames (ended_at place []) = refl
+stop_frames (ended_at place (line ∷ more)) = refl
+stop_frames still_open = refl
+stop_frames broken = refl
+stop_frames cut = refl
+
+-- nor any bytes
+pub stop_len : (stop : Stop) → items_len (stop_items stop) ≡ 0
+stop_len (ended_at place []) = refl
+stop_len (ended_at place (line ∷ more)) = refl
+stop_len still_open = refl
+stop_len broken = refl
+stop_len cut = refl
+
 -- ---- the beginning of what may stand there
 
 -- the first of a list that begins another is its first

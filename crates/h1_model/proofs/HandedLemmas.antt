@@ -1,11 +1,12 @@
 -- What was handed out stays the beginning of the parse when bytes follow.
 use Rattle.std.proofs.Common.{◌≡◌, ℕ, ◌<◌, ◌≤◌, false, List, [], ◌∷◌, ◌++◌, length, Some, None, IsSome, unwrap_or, refl, sym, ap, ◌∙◌, subst, arith, append_assoc, length-append}
 use Rattle.std.proofs.lemmas.List.{length-map}
+use Rattle.std.proofs.lemmas.List.Sums.{sum_by-append}
 use Rattle.h1_model.specs.FrameText.{PlacedFrame}
 use Rattle.h1_model.specs.Parse.{Message, Body, no_content, content, frames, ended_at, still_open, broken, cut, next_start}
-use Rattle.h1_model.specs.Handed.{Item, Handed, Begins, body_bytes, body_frames, last_items, item_frame, AreItemsOf, Agrees, IsLastOrEnded, IsPrefixFrom}
+use Rattle.h1_model.specs.Handed.{Item, Handed, Begins, body_bytes, last_items, item_frame, AreItemsOf, Agrees, IsLastOrEnded, IsPrefixFrom}
 use Rattle.h1_model.specs.Laws.Growth.{may_grow, BodyGrows, MessageGrows, GrowTo}
-use Rattle.h1_model.proofs.HandedItems.{joined}
+use Rattle.h1_model.proofs.HandedItems.{item_frames, items_frames, joined, frames_counted, stop_frames}
 
 -- the beginning of a beginning
 pub begins_trans : {A : Type 0} (a b c : List A) → Begins a b → Begins b c → Begins a c
@@ -26,9 +27,9 @@ ended_closed (frames placed None) some = cc
 ended_closed (frames placed (Some fail)) some = refl
 
 -- a body with frames has no bytes of its own
-frames_alone : (text : List ℕ) (b : Body) → 0 < length (body_frames b) → body_bytes text b ≡ []
+frames_alone : (text : List ℕ) (b : Body) → 0 < items_frames (last_items b) → body_bytes text b ≡ []
 frames_alone text no_content some = refl
-frames_alone text (content runs stop) some = absurd (omega arith)
+frames_alone text (content runs stop) some = absurd (omega (arith, stop_frames stop))
 frames_alone text (frames placed fail) some = refl
 
 -- where something is handed out behind the bytes, no bytes follow
@@ -41,8 +42,9 @@ bytes_end front all (content runs broken) b last g x some = (g.closed refl).1
 bytes_end front all (content runs cut) b last g x some = (g.closed refl).1
 bytes_end front all (frames placed None) b last g x some =
     let here = begins_len last (last_items (frames placed None)) x in
-    let there = begins_len (body_frames (frames placed None)) (body_frames b) g.frames in
-    sym (frames_alone all b (omega (arith, length-map placed (λ (p : PlacedFrame). p.frame), length-map placed (λ (p : PlacedFrame). item_frame p.frame))))
+    let len = length-map placed (λ (p : PlacedFrame). item_frame p.frame) in
+    let there = ap items_frames g.items.1 ∙ sum_by-append item_frames (last_items (frames placed None)) g.items.0 in
+    sym (frames_alone all b (omega (arith, frames_counted placed)))
 bytes_end front all (frames placed (Some fail)) b last g x some = (g.closed refl).1
 
 -- the items of a body are those of the grown one
