@@ -31,6 +31,7 @@ pub mod WrittenLemmas
 pub mod HandedPrefix
 pub mod HandedRuns
 pub mod HandedTrace
+pub mod HandedCounts
 pub mod HandedSteps
 pub mod HandedPulls
 pub mod HandedHeads
