@@ -79,7 +79,8 @@ fixed_moves bytes more u ended size place n =
     ]
 
 -- a body that is whole in the longer text isn't whole in the shorter one, of which it is unfinished
-whole_later : (bytes more : List ℕ) (k : ℕ) (trailers : List Trailer) (runs runs' : List Run) → IsChunked bytes unfinished runs → IsChunked (bytes ++ more) (whole k trailers) runs'
+whole_later : (bytes more : List ℕ) (k : ℕ) (trailers : List Trailer) (runs runs' : List Run) → IsChunked bytes unfinished runs
+    → IsChunked (bytes ++ more) (whole k trailers) runs'
     → length bytes < k
 whole_later bytes more k trailers runs runs' x y =
     elim (cases_lt (length bytes) k) [
@@ -94,7 +95,8 @@ whole_later bytes more k trailers runs runs' x y =
     not_whole e = cc
 
 -- how a longer text of an unfinished body may stop
-chunks_later : (bytes more : List ℕ) (u : Option ℕ) (ended : Bool) (size : ℕ) (place : ℕ) (b : Chunked) (runs runs' shown : List Run) → place ≤ length bytes
+chunks_later : (bytes more : List ℕ) (u : Option ℕ) (ended : Bool) (size : ℕ) (place : ℕ) (b : Chunked) (runs runs' shown : List Run)
+    → place ≤ length bytes
     → IsChunked (drop place bytes) unfinished runs → IsChunked (drop place bytes ++ more) b runs'
     → (next : ℕ) → next_start (content shown (chunked_stop (input (bytes ++ more) u ended size) place b)) ≡ Some next → length bytes ≤ next
 chunks_later bytes more u ended size place (whole k trailers) runs runs' shown within x y next e =

@@ -19,6 +19,7 @@ pub mod HandedLemmas
 pub mod PastExistence
 pub mod MovedLemmas
 pub mod UpgradeLemmas
+pub mod ExampleLemmas
 pub mod PastLemmas
 pub mod PlaceLemmas
 pub mod StepLemmas

@@ -249,7 +249,8 @@ step_case setting before (on.chunk bytes) o ok x = silent setting before (on.chu
 step_case setting before on.body_end o ok x = silent setting before on.body_end o on.done x (refl, refl, refl) refl refl refl refl
 step_case setting before on.body_error o ok x = silent setting before on.body_error o on.done x (refl, refl, refl) refl refl refl refl
 step_case setting before (on.write n) o ok x = silent setting before (on.write n) o _ x (refl, refl, refl) refl refl refl refl
-step_case setting before (on.tick ms) o ok x = silent setting before (on.tick ms) o _ x (tick_mute setting before (closing setting before) _ ms) refl refl refl refl
+step_case setting before (on.tick ms) o ok x =
+    silent setting before (on.tick ms) o _ x (tick_mute setting before (closing setting before) _ ms) refl refl refl refl
 step_case setting before on.drain o ok x = silent setting before on.drain o on.done x (refl, refl, refl) refl refl refl refl
 step_case setting before (on.accept limit) o ok x =
     let test = allowed_open setting before (on.accept limit) refl ok in
@@ -278,7 +279,9 @@ same_input setting s before none eof unaccepted =
     λ i. record { bytes = bytes i; upgraded = upgraded i; ended = eof i || has_ended before; hold_size = setting.hold_size }
 
 -- and with it the parse
-pub same_parse : (setting : Setting) (x : ParsedStep) (before : List ParsedStep) → input_of setting (x.step ∷ steps before) ≡ input_of setting (steps before)
-    → IsParse (input_of setting (x.step ∷ steps before)) x.parse → IsParse (input_of setting (steps before)) (parse_of before) → x.parse ≡ parse_of before
+pub same_parse : (setting : Setting) (x : ParsedStep) (before : List ParsedStep)
+    → input_of setting (x.step ∷ steps before) ≡ input_of setting (steps before)
+    → IsParse (input_of setting (x.step ∷ steps before)) x.parse → IsParse (input_of setting (steps before)) (parse_of before)
+    → x.parse ≡ parse_of before
 same_parse setting x before same p q =
     messages_unique (input_of setting (steps before)) 0 x.parse (parse_of before) (subst (λ (i : Input). IsParse i x.parse) same p) q

@@ -76,7 +76,7 @@ pub fn camel_names()
 /// The bytes of one request are one message: its head is read, it has no body, and it asks to keep the connection.
 pub fn first_request()
     ensures { IsParse
-        (record { bytes = codes "GET / HTTP/1.1\r\nhost: a\r\n\r\n"; upgraded = false; ended = false })
+        (record { bytes = codes "GET / HTTP/1.1\r\nhost: a\r\n\r\n"; upgraded = None; ended = false; hold_size = 131072 })
         (record {
           reading = head_is (record {
             method = codes "GET";
@@ -88,6 +88,6 @@ pub fn first_request()
             expects = false;
           });
           body_start = 27;
-          body = content [] (ended_at 27);
+          body = content [] (ended_at 27 []);
         } ∷ []) }
 {}
