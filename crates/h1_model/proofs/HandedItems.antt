@@ -139,14 +139,14 @@ stop_len cut = refl
 -- ---- the beginning of what may stand there
 
 -- the first of a list that begins another is its first
-first_item : (a b : Item) (is js : List Item) → a ∷ is ≡ b ∷ js → a ≡ b
+pub first_item : (a b : Item) (is js : List Item) → a ∷ is ≡ b ∷ js → a ≡ b
 first_item a b is js e = cc
 
-other_items : (a b : Item) (is js : List Item) → a ∷ is ≡ b ∷ js → is ≡ js
+pub other_items : (a b : Item) (is js : List Item) → a ∷ is ≡ b ∷ js → is ≡ js
 other_items a b is js e = cc
 
 -- with no ending, nothing of a list that begins with one was handed out
-none_ended : (item : Item) (items last : List Item) → is_ending item ≡ true → Begins last (item ∷ items) → have_ending last ≡ false → last ≡ []
+pub none_ended : (item : Item) (items last : List Item) → is_ending item ≡ true → Begins last (item ∷ items) → have_ending last ≡ false → last ≡ []
 none_ended item items [] ends x none = refl
 none_ended item items (i ∷ is) ends x none =
     absurd (true≢false (sym (ap is_ending (sym (first_item item i items (is ++ x.0) x.1)) ∙ ends) ∙ (or_parts (is_ending i) (have_ending is) none).0))
