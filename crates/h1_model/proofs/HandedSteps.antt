@@ -126,10 +126,21 @@ marked_agrees true bytes h m x = record { reading = x.reading; items = x.items }
 -- ---- what a step makes of all that was handed out
 
 -- nothing stays nothing
-pub still_nothing : (s : Step) (before : List Step) → is_silent s.outcome ≡ true → handed_out before ≡ nothing_handed → handed_out (s ∷ before) ≡ nothing_handed
+still_nothing : (s : Step) (before : List Step) → is_silent s.outcome ≡ true → handed_out before ≡ nothing_handed → handed_out (s ∷ before) ≡ nothing_handed
 still_nothing s before silent none =
     handed_out-cons s before ∙ ap (marking_answered (completes s.event)) (silent_same s.outcome (handed_out before) silent ∙ none)
     ∙ marking_none (completes s.event)
+
+-- with no message that is to be answered
+pub still_empty : (s : Step) (before : List Step) → is_silent s.outcome ≡ true → accepted_limit s.event s.outcome ≡ None → Empty before → Empty (s ∷ before)
+still_empty s before silent unaccepted x =
+    let none = opening_head s.outcome (silent_opening s.outcome silent) in
+    record {
+      handed = still_nothing s before silent x.handed;
+      count = head_count-more s before none ∙ x.count;
+      asked = request-more s before none ∙ x.asked;
+      upgraded = upgraded-more s before unaccepted ∙ x.upgraded;
+    }
 
 -- the newest message goes on
 pub newest : (s : Step) (before : List Step) (h : Handed) (hs : List Handed) → is_opening s.outcome ≡ false → handed_out before ≡ only (h ∷ hs)
