@@ -1,5 +1,5 @@
 -- A connection that closes does little more, and keeps its reason.
-use Rattle.std.proofs.Common.{◌≡◌, Bool, true, false, cond, List, [], ◌∷◌, length, Option, Some, None, refl, sym, ap, ◌∙◌, subst, arith}
+use Rattle.std.proofs.Common.{◌≡◌, Bool, true, false, cond, List, [], ◌∷◌, length, drop, Option, Some, None, refl, sym, ap, ◌∙◌, subst, arith}
 use Rattle.std.specs.Prelude.{IsTrue, is_some, is_none, slice_get, unwrap_or, nat_lt, not, ◌&&◌, ◌||◌, ◌-◌, ◌==◌, if◌then◌else◌}
 use Rattle.std.specs.List.{list_any}
 use Rattle.std.specs.Option.{option_or}
@@ -242,20 +242,12 @@ reason_stays setting x before end legal closes =
     let parse = same_parse setting x before same legal.0 (parsed setting before legal.3) in
     closing_same setting x before (leaves x.step (steps before) e o) parse ∙ closes
 
--- no step is not some
-no_step : (s : Step) (ss : List Step) → [] ≡ s ∷ ss → ⊥
-no_step s ss e = cc
-
--- the steps behind the newest
-other_steps : (s t : Step) (ss ts : List Step) → s ∷ ss ≡ t ∷ ts → ss ≡ ts
-other_steps s t ss ts e = cc
-
 -- behind a trace
 pub reason_kept : (setting : Setting) (s : Step) (before : List Step) (p q : List ParsedStep) (end : End) → IsTrace setting (s ∷ before)
     → IsPastOf setting before p → IsPastOf setting (s ∷ before) q → closing setting p ≡ Some end → closing setting q ≡ Some end
-reason_kept setting s before p [] end t x y closes = absurd (no_step s before y.same)
+reason_kept setting s before p [] end t x y closes = absurd (omega (arith, ap length y.same))
 reason_kept setting s before p (m ∷ after) end t x y closes =
     let earlier : IsPastOf setting before after =
-    record { same = other_steps m.step s (steps after) before y.same; right = y.right.1 } in
+    record { same = ap (drop 1) y.same; right = y.right.1 } in
     let same = past_of_unique setting before p after x earlier in
     reason_stays setting m after end (legal_of setting (s ∷ before) (m ∷ after) t y) (sym (ap (closing setting) same) ∙ closes)

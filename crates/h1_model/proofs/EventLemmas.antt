@@ -1,5 +1,5 @@
 -- What a trace says of the next event: allowed or not; and the events say the whole trace.
-use Rattle.std.proofs.Common.{◌≡◌, List, [], ◌∷◌, ◌⊎◌, map, refl, sym, ◌∙◌, subst₂, inl, inr}
+use Rattle.std.proofs.Common.{◌≡◌, List, [], ◌∷◌, ◌⊎◌, length, drop, map, refl, sym, ap, ◌∙◌, subst₂, inl, inr, arith}
 use Rattle.std.proofs.lemmas.Bool.{cases_Bool, true≢false}
 use Rattle.h1_model.specs.Setting.{Setting}
 use Rattle.h1_model.specs.Event.{Event}
@@ -23,16 +23,9 @@ pub not_allowed_and_misplaced : (setting : Setting) (trace : List Step) (event :
     → ¬ (IsMisplaced setting trace event)
 not_allowed_and_misplaced setting trace event x y = true≢false (sym (allowed_behind setting trace event y.0 x y.1) ∙ y.2)
 
--- no event is not some
-no_event : (e : Event) (es : List Event) → [] ≡ e ∷ es → ⊥
-no_event e es same = cc
-
--- the first event and the others of a list of events
+-- the first event of a list
 first_event : (e f : Event) (es fs : List Event) → e ∷ es ≡ f ∷ fs → e ≡ f
 first_event e f es fs same = cc
-
-other_events : (e f : Event) (es fs : List Event) → e ∷ es ≡ f ∷ fs → es ≡ fs
-other_events e f es fs same = cc
 
 -- the events of a trace
 abbrev events : List Step → List Event
@@ -41,11 +34,11 @@ events trace = map (λ s. s.event) trace
 -- two traces of the same events are one
 pub same_events : (setting : Setting) (a b : List Step) → IsTrace setting a → IsTrace setting b → events a ≡ events b → a ≡ b
 same_events setting [] [] x y e = refl
-same_events setting [] (t ∷ after) x y e = absurd (no_event t.event (events after) e)
-same_events setting (s ∷ before) [] x y e = absurd (no_event s.event (events before) (sym e))
+same_events setting [] (t ∷ after) x y e = absurd (omega (arith, ap length e))
+same_events setting (s ∷ before) [] x y e = absurd (omega (arith, ap length e))
 same_events setting (s ∷ before) (t ∷ after) x y e =
     let event = first_event s.event t.event (events before) (events after) e in
-    let others = same_events setting before after x.2 y.2 (other_events s.event t.event (events before) (events after) e) in
+    let others = same_events setting before after x.2 y.2 (ap (drop 1) e) in
     let here = subst₂ (λ (trace : List Step) f. IsOutcome setting trace f s.outcome) others event x.1 in
     let outcome = outcome_unique setting after t.event s.outcome t.outcome here y.1 in
     λ i. record { event = event i; outcome = outcome i } ∷ others i
