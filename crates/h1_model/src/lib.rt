@@ -2,6 +2,7 @@
 #![tactic(auto)]
 
 pub mod examples;
+pub mod head_examples;
 pub mod frame_examples;
 pub mod frame_text;
 pub mod handed;
