@@ -21,7 +21,7 @@ use Rattle.h1_model.proofs.HandedLemmas.{agrees_grows}
 use Rattle.h1_model.proofs.StepLemmas.{taken-cons, accepted-cons, head_count-more, complete-more, same_input, same_parse}
 use Rattle.h1_model.proofs.TraceGrowth.{grown_at, accepted_at}
 use Rattle.h1_model.proofs.HandedPrefix.{Ended, ended_grows, ended_accepted, agrees_same}
-use Rattle.h1_model.proofs.HandedTrace.{handed_out-cons, request-more, upgraded-more, was_pulled-more, is_opening, is_silent, silent_same, silent_items, silent_opening, opening_head, Other, Grows, Accepts}
+use Rattle.h1_model.proofs.HandedTrace.{handed_out-nil, handed_out-cons, request-more, upgraded-more, was_pulled-more, is_opening, is_silent, silent_same, silent_items, silent_opening, opening_head, Other, Grows, Accepts}
 use Rattle.h1_model.proofs.HandedCounts.{Counts, counts_more}
 
 -- ---- the newest message that was handed out
@@ -130,6 +130,11 @@ still_nothing : (s : Step) (before : List Step) → is_silent s.outcome ≡ true
 still_nothing s before silent none =
     handed_out-cons s before ∙ ap (marking_answered (completes s.event)) (silent_same s.outcome (handed_out before) silent ∙ none)
     ∙ marking_none (completes s.event)
+
+-- before the first step
+pub nothing_yet : Empty []
+unfolding request accepted
+nothing_yet = record { handed = handed_out-nil; count = refl; asked = refl; upgraded = refl }
 
 -- with no message that is to be answered
 pub still_empty : (s : Step) (before : List Step) → is_silent s.outcome ≡ true → accepted_limit s.event s.outcome ≡ None → Empty before → Empty (s ∷ before)
