@@ -139,7 +139,8 @@ first_over setting x before b outcome none full =
     let text = taken (steps before) in
     let empty : parse_of before ≡ [] = nil_from_length (parse_of before) (let less = past_end (parse_of before) 0 none in omega arith) in
     let nothing_whole : HasNoHeadPiece (drop 0 text) = subst (IsParse (input_of setting (steps before))) empty b.old in
-    over_sound setting x before [] 0 b outcome (sym (ap length empty)) (ap (end_of 0) empty) (sym (held_first before (current_none before b.count)) ∙ full) nothing_whole
+    over_sound setting x before [] 0 b outcome (sym (ap length empty)) (ap (end_of 0) empty)
+    (sym (held_first before (current_none before b.count)) ∙ full) nothing_whole
 
 -- ---- Next, before the first message
 
@@ -175,7 +176,8 @@ first_by setting x before None b unasked e outcome =
     waits setting x before outcome (λ fault full. first_over setting x before b fault none full)
     (λ pends.
     let o = pending_step x b.event pends in
-    nothing (still_empty x.step (steps before) o.silent o.accepted (record { handed = b.handed_is; count = b.count; asked = unasked; upgraded = b.plain })))
+    let empty : Empty (steps before) = record { handed = b.handed_is; count = b.count; asked = unasked; upgraded = b.plain } in
+    nothing (still_empty x.step (steps before) o.silent o.accepted empty))
 
 -- Next where nothing was handed out
 pub first_step : (setting : Setting) (x : ParsedStep) (before : List ParsedStep) → IsParse (input_of setting (x.step ∷ steps before)) x.parse
@@ -195,7 +197,8 @@ first_step setting x before p q o none =
 -- ---- Next, behind a message
 
 -- Next is allowed behind a complete answer, on a connection that speaks no WebSocket
-is_done : (trace : List Step) (head : Head) → request trace ≡ Some head → is_open trace ≡ false → (is_upgraded trace ≡ false) × (is_complete trace ≡ true)
+is_done : (trace : List Step) (head : Head) → request trace ≡ Some head → is_open trace ≡ false
+    → (is_upgraded trace ≡ false) × (is_complete trace ≡ true)
 is_done trace head asked shut =
     elim (and_cases (is_some (request trace)) _ shut) [
       | inl none ↦ absurd (true≢false (sym (ap is_some asked) ∙ none))
@@ -270,8 +273,8 @@ next_by setting x before None h hs d e outcome =
 
 -- Next behind a message, where bytes may be held
 pub next_step : (setting : Setting) (x : ParsedStep) (before : List ParsedStep) → IsParse (input_of setting (x.step ∷ steps before)) x.parse
-    → IsParse (input_of setting (steps before)) (parse_of before) → 0 < setting.hold_size → Comes setting before x.step → (h : Handed) (hs : List Handed)
-    → handed_out (steps before) ≡ only (h ∷ hs) → Running (taken (steps before)) (parse_of before) (steps before) h hs → Sound setting (x ∷ before)
+    → IsParse (input_of setting (steps before)) (parse_of before) → 0 < setting.hold_size → Comes setting before x.step
+    → (h : Handed) (hs : List Handed) → handed_out (steps before) ≡ only (h ∷ hs) → Running (taken (steps before)) (parse_of before) (steps before) h hs → Sound setting (x ∷ before)
 next_step setting x before p q room o h hs handed r =
     let done = is_done (steps before) r.head r.asked o.done in
     let d : Done setting x before h hs = record {

@@ -1,20 +1,18 @@
 -- Items that are handed out: what each adds to those of a body.
-use Rattle.std.proofs.Common.{◌≡◌, ℕ, ◌+◌, ◌<◌, Bool, true, false, List, [], ◌∷◌, ◌++◌, length, map, flat_map, refl, sym, ap, ap₂, ◌∙◌, subst, arith, append_assoc, append-nil, length-append}
+use Rattle.std.proofs.Common.{◌≡◌, ℕ, ◌+◌, ◌<◌, Bool, true, false, List, [], ◌∷◌, ◌++◌, length, map, flat_map, refl, sym, ap, ap₂, ◌∙◌, arith, append_assoc, append-nil, length-append}
 use Rattle.std.specs.Prelude.{◌||◌, sum_by, ◌⊎◌}
 use Rattle.std.specs.List.{list_any}
 use Rattle.std.proofs.Common.{inl, inr}
 use Rattle.std.proofs.lemmas.Bool.{true≢false, or_parts}
-use Rattle.std.proofs.lemmas.List.{map-append, nil_from_length}
+use Rattle.std.proofs.lemmas.List.{map-append}
 use Rattle.std.proofs.lemmas.List.Concat.{flat_map-append}
 use Rattle.std.proofs.lemmas.List.Sums.{sum_by-append, sum_by-cons}
 use Rattle.std.proofs.lemmas.List.Folds.{list_any-append}
-use Rattle.h1_model.specs.Request.{Header}
-use Rattle.h1_model.specs.Frame.{Frame}
 use Rattle.h1_model.specs.FrameText.{PlacedFrame}
-use Rattle.h1_model.specs.Event.{Outcome, corrupted, incomplete}
+use Rattle.h1_model.specs.Event.{Outcome}
 use Rattle.h1_model.specs.Event as on
-use Rattle.h1_model.specs.Parse.{Body, no_content, content, frames, Stop, ended_at, still_open, broken, cut}
-use Rattle.h1_model.specs.Handed.{Item, item_bytes, item_trailers, item_end, item_fault, item_frame, Begins, trailer_items, stop_items, last_items, body_bytes, AreItemsOf}
+use Rattle.h1_model.specs.Parse.{Body, Stop, ended_at, still_open, broken, cut}
+use Rattle.h1_model.specs.Handed.{Item, item_bytes, item_trailers, item_end, item_fault, item_frame, Begins, stop_items, last_items, body_bytes, AreItemsOf}
 
 -- ---- what an item is
 
@@ -118,7 +116,8 @@ last_ending items pieces last e =
 pub frames_counted : (placed : List PlacedFrame) → items_frames (map (λ (p : PlacedFrame). item_frame p.frame) placed) ≡ length placed
 frames_counted [] = refl
 frames_counted (f ∷ fs) =
-    sum_by-cons item_frames (item_frame f.frame) (map (λ (p : PlacedFrame). item_frame p.frame) fs) ∙ ap (λ n. 1 + n) (frames_counted fs) ∙ omega arith
+    sum_by-cons item_frames (item_frame f.frame) (map (λ (p : PlacedFrame). item_frame p.frame) fs)
+    ∙ ap (λ n. 1 + n) (frames_counted fs) ∙ omega arith
 
 -- where content stops there is none
 pub stop_frames : (stop : Stop) → items_frames (stop_items stop) ≡ 0
@@ -166,13 +165,17 @@ pub add_piece : (text : List ℕ) (body : Body) (items : List Item) (more rest :
     → body_bytes text body ≡ joined x.pieces ++ (more ++ rest) → 0 < length more → AreItemsOf text body (items ++ item_bytes more ∷ [])
 add_piece text body items more rest x e some =
     let all = body_bytes text body in
-    let last : x.last ≡ [] = no_last x.last (λ has. omega (arith, ap length (x.behind has ∙ e), length-append (joined x.pieces) (more ++ rest), length-append more rest)) in
+    let len = length-append (joined x.pieces) (more ++ rest) in
+    let last : x.last ≡ [] = no_last x.last (λ has. omega (arith, ap length (x.behind has ∙ e), len, length-append more rest)) in
     let pieces = x.pieces ++ more ∷ [] in
-    let join : joined pieces ≡ joined x.pieces ++ more = flat_map-append (λ (piece : List ℕ). piece) x.pieces (more ∷ []) ∙ ap (λ (t : List ℕ). joined x.pieces ++ t) (append-nil more) in
+    let join : joined pieces ≡ joined x.pieces ++ more =
+    flat_map-append (λ (piece : List ℕ). piece) x.pieces (more ∷ []) ∙ ap (λ (t : List ℕ). joined x.pieces ++ t) (append-nil more) in
+    let front : items ≡ map item_bytes x.pieces =
+    x.are ∙ ap (λ (t : List Item). map item_bytes x.pieces ++ t) last ∙ append-nil (map item_bytes x.pieces) in
     record {
       pieces = pieces;
       last = [];
-      are = ap (λ (t : List Item). t ++ item_bytes more ∷ []) (x.are ∙ ap (λ (t : List Item). map item_bytes x.pieces ++ t) last ∙ append-nil (map item_bytes x.pieces))
+      are = ap (λ (t : List Item). t ++ item_bytes more ∷ []) front
           ∙ sym (map-append item_bytes x.pieces (more ∷ [])) ∙ sym (append-nil (map item_bytes pieces));
       begins = (rest, e ∙ sym (append_assoc (joined x.pieces) more rest) ∙ ap (λ (t : List ℕ). t ++ rest) (sym join));
       behind = λ has. absurd (omega arith);

@@ -66,7 +66,8 @@ agrees_grows front all h m n g x = record {
 }
 
 -- a message that has ended still has
-last_grows : (front all : List ℕ) (h : Handed) (m n : Message) (hs : List Handed) → MessageGrows front all m n → IsLastOrEnded h m hs → IsLastOrEnded h n hs
+last_grows : (front all : List ℕ) (h : Handed) (m n : Message) (hs : List Handed) → MessageGrows front all m n → IsLastOrEnded h m hs
+    → IsLastOrEnded h n hs
 last_grows front all h m n [] g x = tt
 last_grows front all h m n (next ∷ hs) g x =
     let same = g.body.closed (ended_closed m.body x.0) in
@@ -97,4 +98,5 @@ prefix_grows hold_size front all place (h ∷ hs) (m ∷ ms) (n ∷ ns) g few x 
     let others = prefix_grows hold_size front all here hs ms ns g.1 (omega arith) x.2 in
     let same : 0 < length hs → here ≡ unwrap_or (next_start n.body) place =
     λ some. ap (λ o. unwrap_or o place) (next_same front all h m n hs g.0 x.1 some) in
-    (agrees_grows front all h m n g.0 x.0, last_grows front all h m n hs g.0 x.1, prefix_place hold_size all here (unwrap_or (next_start n.body) place) hs ns same others)
+    let placed = prefix_place hold_size all here (unwrap_or (next_start n.body) place) hs ns same others in
+    (agrees_grows front all h m n g.0 x.0, last_grows front all h m n hs g.0 x.1, placed)

@@ -1,5 +1,5 @@
 -- All that a trace hands out is the beginning of the parse.
-use Rattle.std.proofs.Common.{◌≡◌, ℕ, zero, suc, ◌-◌, ◌<◌, true, min, List, [], ◌∷◌, ◌++◌, length, take, reverse, Some, None, is_some, inl, inr, refl, sym, ap, ap₂, ◌∙◌, subst, subst₂, arith}
+use Rattle.std.proofs.Common.{◌≡◌, ℕ, ◌-◌, ◌<◌, true, min, List, [], ◌∷◌, ◌++◌, length, take, reverse, Some, None, is_some, inl, inr, refl, sym, ap, ap₂, ◌∙◌, subst, subst₂, arith}
 use Rattle.std.specs.Prelude.{slice_get}
 use Rattle.std.proofs.lemmas.Bool.{cases_lt, false≢true}
 use Rattle.std.proofs.lemmas.List.{length-reverse}
@@ -8,7 +8,7 @@ use Rattle.h1_model.specs.Parse.{Input, Message, IsParse}
 use Rattle.h1_model.specs.Event.{Event, Outcome}
 use Rattle.h1_model.specs.Event as on
 use Rattle.h1_model.specs.Sums.{Step, step_taken, taken, accepted_limit, accepted, has_ended}
-use Rattle.h1_model.specs.Handed.{Handed, HandedOut, nothing_handed, handed_out, IsPrefixFrom, IsPrefixOf, HandsOutPrefix}
+use Rattle.h1_model.specs.Handed.{Handed, handed_out, IsPrefixFrom, IsPrefixOf, HandsOutPrefix}
 use Rattle.h1_model.specs.Past.{ParsedStep, steps, input_of, parse_of, held}
 use Rattle.h1_model.specs.Closing.{told}
 use Rattle.h1_model.specs.OutcomeTable.{pull_outcome, outcome_of}
@@ -20,7 +20,7 @@ use Rattle.h1_model.proofs.PastExistence.{past_exists}
 use Rattle.h1_model.proofs.StepLemmas.{taken-nil, taken-cons, parsed, same_input, same_parse}
 use Rattle.h1_model.proofs.TraceGrowth.{current_none, none_behind}
 use Rattle.h1_model.proofs.HandedPrefix.{reverse_push, prefix_none, prefix_last}
-use Rattle.h1_model.proofs.HandedTrace.{handed_out-nil, told-more, told_closes, is_opening, is_silent, silent_opening, Pulls, StepCase, other, grows, accepts, comes, pulls, step_case, Closed, closing_case}
+use Rattle.h1_model.proofs.HandedTrace.{told-more, told_closes, is_opening, is_silent, silent_opening, Pulls, StepCase, other, grows, accepts, comes, pulls, step_case, Closed, closing_case}
 use Rattle.h1_model.proofs.HandedSteps.{only, Running, Empty, Sound, nothing, running, failed, behind, nothing_yet, newest, still_empty, still_same, other_step, grows_step, accepts_step}
 use Rattle.h1_model.proofs.HandedPulls.{pulls_step}
 use Rattle.h1_model.proofs.HandedHeads.{first_step, next_step}
@@ -52,7 +52,8 @@ room setting past k m x e =
       | inl some ↦ some
       | inr none ↦
           let len = ap length (none_held setting past x (omega arith)) in
-          absurd (none_behind (taken trace) (accepted trace) (has_ended trace) setting.hold_size 0 (parse_of past) k m (parsed setting past x) (omega (arith, len)) e)
+          absurd (none_behind (taken trace) (accepted trace) (has_ended trace) setting.hold_size 0 (parse_of past) k m
+          (parsed setting past x) (omega (arith, len)) e)
     ]
 
 -- ---- one more step
@@ -129,7 +130,8 @@ sound setting (m ∷ before) x =
 sound_prefix : (setting : Setting) (past : List ParsedStep) → Sound setting past → HandsOutPrefix setting (steps past) (parse_of past)
 sound_prefix setting past (nothing none) =
     let text = taken (steps past) in
-    subst (λ out. IsPrefixOf setting.hold_size text out (parse_of past)) (sym none.handed) (refl, prefix_none setting.hold_size text 0 (parse_of past))
+    let size = setting.hold_size in
+    subst (λ out. IsPrefixOf size text out (parse_of past)) (sym none.handed) (refl, prefix_none size text 0 (parse_of past))
 sound_prefix setting past (running h hs handed r) =
     let text = taken (steps past) in
     let size = setting.hold_size in

@@ -1,5 +1,5 @@
 -- What was handed out as the beginning of a parse: all but the newest have ended and are answered.
-use Rattle.std.proofs.Common.{◌≡◌, ℕ, zero, suc, ◌≤◌, Bool, true, false, List, [], ◌∷◌, ◌++◌, length, take, drop, reverse, Option, Some, None, IsSome, IsTrue, unwrap_or, MatchOption, refl, sym, ap, ◌∙◌, subst, inl, inr, arith}
+use Rattle.std.proofs.Common.{◌≡◌, ℕ, zero, suc, ◌≤◌, Bool, List, [], ◌∷◌, ◌++◌, length, take, drop, reverse, Option, Some, None, IsSome, IsTrue, unwrap_or, MatchOption, refl, sym, ap, ◌∙◌, subst, inl, inr, arith}
 use Rattle.std.specs.Prelude.{slice_get, ⊤}
 use Rattle.std.proofs.lemmas.Option.{none-some, same_Some}
 use Rattle.std.proofs.lemmas.List.{reverse-append}
@@ -56,8 +56,8 @@ agrees_same bytes h m n reading body x = record {
 
 -- they still agree when a WebSocket is accepted, if a message stands behind them
 pub ended_accepted : (bytes : List ℕ) (limit : ℕ) (ended : Bool) (size : ℕ) (place : ℕ) (hs : List Handed) (ms ns : List Message) (m : Message)
-    → AreMessages (input bytes None ended size) place ms → AreMessages (input bytes (Some limit) ended size) place ns → slice_get ms (length hs) ≡ Some m
-    → Ended bytes hs ms → Ended bytes hs ns
+    → AreMessages (input bytes None ended size) place ms → AreMessages (input bytes (Some limit) ended size) place ns
+    → slice_get ms (length hs) ≡ Some m → Ended bytes hs ms → Ended bytes hs ns
 ended_accepted bytes limit ended size place [] ms ns m x y e z = tt
 ended_accepted bytes limit ended size place (g ∷ gs) [] ns m x y e z = absurd z
 ended_accepted bytes limit ended size place (g ∷ gs) (q ∷ ms) [] m x y e z = absurd (y x.0.start x.0.end x.0.piece)
@@ -66,8 +66,13 @@ ended_accepted bytes limit ended size place (g ∷ gs) (q ∷ ms) (r ∷ ns) m x
     let here = message_accepted bytes limit ended size place q r x.0 y.0 in
     elim here.body [
       | inl same ↦
-          let behind = subst (λ (o : Option ℕ). MatchOption o (ns ≡ []) (λ next. AreMessages (input bytes (Some limit) ended size) next ns)) (sym (ap next_start same) ∙ rest.1) y.1 in
-          (agrees_same bytes g q r here.reading same z.0, subst (λ b. IsSome (next_start b)) same z.1, z.2, ended_accepted bytes limit ended size rest.0 gs ms ns m rest.2 behind e z.3)
+          let next = sym (ap next_start same) ∙ rest.1 in
+          let behind = subst (λ (o : Option ℕ). MatchOption o (ns ≡ []) (λ p. AreMessages (input bytes (Some limit) ended size) p ns)) next y.1 in (
+            agrees_same bytes g q r here.reading same z.0,
+            subst (λ b. IsSome (next_start b)) same z.1,
+            z.2,
+            ended_accepted bytes limit ended size rest.0 gs ms ns m rest.2 behind e z.3,
+          )
       | inr framed ↦ absurd (none_behind bytes None ended size rest.0 ms (length gs) m rest.2 (framed.3 rest.0 rest.1) e)
     ]
 

@@ -1,10 +1,10 @@
 -- What a pull adds to what was handed out of a message.
-use Rattle.std.proofs.Common.{◌≡◌, ℕ, ◌+◌, Bool, true, false, List, [], ◌∷◌, ◌++◌, length, map, drop, slice_range, Option, Some, None, is_some, refl, sym, ap, ap₂, ◌∙◌, subst, subst₂, inl, inr, arith, append-nil, length-append}
+use Rattle.std.proofs.Common.{◌≡◌, ℕ, ◌+◌, Bool, true, false, List, [], ◌∷◌, ◌++◌, length, map, slice_range, Option, Some, None, is_some, refl, sym, ap, ap₂, ◌∙◌, subst, subst₂, inl, inr, arith, append-nil, length-append}
 use Rattle.std.specs.Prelude.{◌||◌, slice_get}
 use Rattle.std.proofs.lemmas.Bool.{cases_Bool, and_parts, not-true, true≢false}
 use Rattle.std.proofs.lemmas.List.{nil_from_length}
 use Rattle.std.proofs.lemmas.List.Sums.{sum_by-append, sum_by-cons}
-use Rattle.h1_model.specs.Request.{Header, Head, BodyKind, no_body, fixed_body, chunked_body, raw_body, is_raw_kind, Reading, head_is}
+use Rattle.h1_model.specs.Request.{Header, Head, BodyKind, no_body, fixed_body, chunked_body, raw_body, is_raw_kind, head_is}
 use Rattle.h1_model.specs.Setting.{Setting}
 use Rattle.h1_model.specs.Frame.{ProtocolError}
 use Rattle.h1_model.specs.FrameText.{PlacedFrame}
@@ -12,8 +12,8 @@ use Rattle.h1_chunks.specs.Runs.{Run, run_bytes}
 use Rattle.h1_model.specs.Parse.{Input, Message, Body, no_content, content, frames, Stop, ended_at, still_open, broken, cut, runs_of, IsBodyOf, IsBodyAfter, IsParse}
 use Rattle.h1_model.specs.Event.{Outcome, BodyFault, corrupted, incomplete}
 use Rattle.h1_model.specs.Event as on
-use Rattle.h1_model.specs.Sums.{Step, step_taken, taken, is_eof, is_pull, accepted_limit, accepted, is_upgraded, was_pulled, request}
-use Rattle.h1_model.specs.Handed.{Item, item_trailers, item_end, item_fault, item_frame, Handed, handed_out, Begins, stop_items, last_items, body_bytes, AreItemsOf, Agrees}
+use Rattle.h1_model.specs.Sums.{Step, step_taken, taken, is_eof, is_pull, accepted_limit, accepted, is_upgraded, was_pulled}
+use Rattle.h1_model.specs.Handed.{Item, item_trailers, item_end, item_fault, item_frame, Handed, handed_out, stop_items, last_items, AreItemsOf, Agrees}
 use Rattle.h1_model.specs.Past.{ParsedStep, steps, input_of, parse_of, given_bytes, given_frames}
 use Rattle.h1_model.specs.Allowed.{gives_up, has_body_left}
 use Rattle.h1_model.specs.OutcomeTable.{run_left, gave_trailers, ended_outcome, stop_outcome, run_outcome, frame_outcome, body_outcome, pull_outcome}
@@ -23,7 +23,7 @@ use Rattle.h1_model.proofs.StepLemmas.{same_input, same_parse}
 use Rattle.h1_model.proofs.TraceGrowth.{message_at, current_at}
 use Rattle.h1_model.proofs.HandedItems.{outcome_items, item_len, item_frames, items_len, items_frames, have_trailers, have_ending, joined, last_len, last_frames, last_trailers, last_ending, first_item, other_items, stop_len, none_ended, one_ended, add_piece, add_last}
 use Rattle.h1_model.proofs.HandedRuns.{given_then, given_all, left_bytes, left_more, left_all, left_frames}
-use Rattle.h1_model.proofs.HandedTrace.{upgraded-more, was_pulled-more, gave_up, is_opening, is_silent, silent_items, silent_opening, opening_head, Pulls}
+use Rattle.h1_model.proofs.HandedTrace.{upgraded-more, was_pulled-more, is_opening, is_silent, silent_items, silent_opening, opening_head, Pulls}
 use Rattle.h1_model.proofs.HandedCounts.{Counts, pull_ending}
 use Rattle.h1_model.proofs.HandedSteps.{only, Running, added, behind, newest, GoesOn, more_running}
 
@@ -34,7 +34,8 @@ abbrev Hands : Outcome → List ℕ → Body → List Item → Type 0
 Hands o text body items = (is_opening o ≡ false) × AreItemsOf text body (items ++ outcome_items o)
 
 -- nothing
-silent_hands : (o : Outcome) (text : List ℕ) (body : Body) (items : List Item) → is_silent o ≡ true → AreItemsOf text body items → Hands o text body items
+silent_hands : (o : Outcome) (text : List ℕ) (body : Body) (items : List Item) → is_silent o ≡ true → AreItemsOf text body items
+    → Hands o text body items
 silent_hands o text body items silent x =
     let same : items ≡ items ++ outcome_items o = sym (ap (λ (t : List Item). items ++ t) (silent_items o silent) ∙ append-nil items) in
     (silent_opening o silent, subst (AreItemsOf text body) same x)
@@ -66,8 +67,8 @@ ended_hands text runs place (line ∷ more) false items x all left told =
     ]
 
 -- a fault, where nothing stands behind the bytes yet
-fault_hands : (text : List ℕ) (runs : List Run) (stop : Stop) (fault : BodyFault) (items : List Item) → (x : AreItemsOf text (content runs stop) items)
-    → stop_items stop ≡ item_fault fault ∷ [] → joined x.pieces ≡ run_bytes text runs → have_ending x.last ≡ false
+fault_hands : (text : List ℕ) (runs : List Run) (stop : Stop) (fault : BodyFault) (items : List Item)
+    → (x : AreItemsOf text (content runs stop) items) → stop_items stop ≡ item_fault fault ∷ [] → joined x.pieces ≡ run_bytes text runs → have_ending x.last ≡ false
     → Hands (on.broken_by fault) text (content runs stop) items
 fault_hands text runs stop fault items x e all left =
     let none = none_ended (item_fault fault) [] x.last refl (x.follow.0, sym e ∙ x.follow.1) left in
@@ -85,16 +86,16 @@ stop_hands text runs still_open given items x all left told = silent_hands on.pe
 -- ---- bytes
 
 -- the pieces have the bytes that were given
-content_given : (text : List ℕ) (runs : List Run) (stop : Stop) (trace : List Step) (items : List Item) → (x : AreItemsOf text (content runs stop) items)
-    → Counts trace items → length (joined x.pieces) ≡ given_bytes trace
+content_given : (text : List ℕ) (runs : List Run) (stop : Stop) (trace : List Step) (items : List Item)
+    → (x : AreItemsOf text (content runs stop) items) → Counts trace items → length (joined x.pieces) ≡ given_bytes trace
 content_given text runs stop trace items x c =
     let none = sym (stop_len stop) ∙ ap items_len x.follow.1 ∙ sum_by-append item_len x.last x.follow.0 in
     omega (arith, c.bytes, last_len items x.pieces x.last x.are, none)
 
 -- by the run that is left
-runs_hands : (trace : List Step) (start : ℕ) (runs : List Run) (stop : Stop) (items : List Item) (left : Option Run) → run_left (given_bytes trace) runs ≡ left
-    → IsOrdered start (length (taken trace)) runs → AreItemsOf (taken trace) (content runs stop) items → Counts trace items → have_ending items ≡ false
-    → Hands (run_outcome trace stop left) (taken trace) (content runs stop) items
+runs_hands : (trace : List Step) (start : ℕ) (runs : List Run) (stop : Stop) (items : List Item) (left : Option Run)
+    → run_left (given_bytes trace) runs ≡ left → IsOrdered start (length (taken trace)) runs → AreItemsOf (taken trace) (content runs stop) items
+    → Counts trace items → have_ending items ≡ false → Hands (run_outcome trace stop left) (taken trace) (content runs stop) items
 runs_hands trace start runs stop items (Some q) e ordered x c open_end =
     let text = taken trace in
     let n = given_bytes trace in
@@ -123,19 +124,22 @@ each_frame [] (i ∷ is) rest e = absurd (no_items_left i (is ++ rest) e)
 each_frame (f ∷ fs) (i ∷ is) rest e =
     let others = map (λ (p : PlacedFrame). item_frame p.frame) fs in
     let one : item_frames i ≡ 1 = ap item_frames (sym (first_item (item_frame f.frame) i others (is ++ rest) e)) in
-    sum_by-cons item_frames i is ∙ ap₂ (λ a b. a + b) one (each_frame fs is rest (other_items (item_frame f.frame) i others (is ++ rest) e)) ∙ omega arith
+    let more = each_frame fs is rest (other_items (item_frame f.frame) i others (is ++ rest) e) in
+    sum_by-cons item_frames i is ∙ ap₂ (λ a b. a + b) one more ∙ omega arith
 
 -- by the next frame, or the rule that the bytes behind the frames break
-frames_hands : (trace : List Step) (text : List ℕ) (placed : List PlacedFrame) (fail : Option ProtocolError) (items : List Item) (left : Option PlacedFrame)
-    → slice_get placed (given_frames trace) ≡ left → AreItemsOf text (frames placed fail) items → Counts trace items
+frames_hands : (trace : List Step) (text : List ℕ) (placed : List PlacedFrame) (fail : Option ProtocolError) (items : List Item)
+    (left : Option PlacedFrame) → slice_get placed (given_frames trace) ≡ left → AreItemsOf text (frames placed fail) items → Counts trace items
     → Hands (frame_outcome fail left) text (frames placed fail) items
 frames_hands trace text placed fail items (Some f) e x c =
     let n = given_frames trace in
     let all = last_items (frames placed fail) in
     let next = left_frames placed n f e in
     let len = sym (each_frame placed x.last x.follow.0 x.follow.1) ∙ sym (last_frames items x.pieces x.last x.are) ∙ c.frames in
-    let none : joined x.pieces ≡ [] = nil_from_length (joined x.pieces) (omega (arith, ap length x.begins.1, length-append (joined x.pieces) x.begins.0)) in
-    (refl, add_last text (frames placed fail) items (item_frame f.frame) next.0 x none (given_then x.last all (item_frame f.frame ∷ next.0) n x.follow len next.1))
+    let none : joined x.pieces ≡ [] =
+    nil_from_length (joined x.pieces) (omega (arith, ap length x.begins.1, length-append (joined x.pieces) x.begins.0)) in
+    let follows = given_then x.last all (item_frame f.frame ∷ next.0) n x.follow len next.1 in
+    (refl, add_last text (frames placed fail) items (item_frame f.frame) next.0 x none follows)
 frames_hands trace text placed None items None e x c = silent_hands on.pending text (frames placed None) items refl x
 frames_hands trace text placed (Some fail) items None e x c = silent_hands (on.protocol fail) text (frames placed (Some fail)) items refl x
 
@@ -207,10 +211,12 @@ pulls_step setting x before p q o h hs handed r =
     let trace = steps before in
     let m = r.message in
     let at = message_at (input_of setting trace) 0 (parse_of before) (length hs) m q (omega arith) r.there in
-    let allowed : (is_upgraded trace || has_body_left trace (Some r.head)) ≡ true = sym (ap (λ a. is_upgraded trace || has_body_left trace a) r.asked) ∙ o.allowed in
+    let allowed : (is_upgraded trace || has_body_left trace (Some r.head)) ≡ true =
+    sym (ap (λ a. is_upgraded trace || has_body_left trace a) r.asked) ∙ o.allowed in
     let unended = pull_unended (input_of setting trace) trace m r.head h.items at.body (sym r.agrees.reading ∙ r.read) refl r.raw r.counts allowed in
     let here = body_hands trace m.body_start m.body h.items at.lies.runs r.agrees.items r.counts unended in
-    let outcome : body_outcome trace m.body ≡ s.outcome = sym (o.outcome ∙ ap (pull_outcome trace) (current_at before (length hs) r.count ∙ r.there)) in
+    let outcome : body_outcome trace m.body ≡ s.outcome =
+    sym (o.outcome ∙ ap (pull_outcome trace) (current_at before (length hs) r.count ∙ r.there)) in
     let hands : Hands s.outcome (taken trace) m.body h.items = subst (λ u. Hands u (taken trace) m.body h.items) outcome here in
     let none : accepted_limit s.event s.outcome ≡ None = ap (λ e. accepted_limit e s.outcome) o.event in
     let same = same_input setting s trace (ap (λ e. step_taken e s.outcome) o.event) (ap is_eof o.event) none in

@@ -1,9 +1,9 @@
 -- What a pull hands out of a body: the bytes behind those that were given, and the next frame.
-use Rattle.std.proofs.Common.{◌≡◌, ℕ, zero, suc, ◌+◌, ◌-◌, ◌<◌, ◌≤◌, List, [], ◌∷◌, ◌++◌, length, take, drop, map, slice_range, Some, None, refl, sym, ap, ◌∙◌, inl, inr, arith, append_assoc, append-nil, length-append, length-drop}
+use Rattle.std.proofs.Common.{◌≡◌, ℕ, zero, suc, ◌+◌, ◌-◌, ◌<◌, ◌≤◌, List, [], ◌∷◌, ◌++◌, length, take, drop, map, slice_range, Some, None, refl, sym, ap, ◌∙◌, inl, inr, arith, append-nil, length-drop}
 use Rattle.std.specs.Prelude.{slice_get}
 use Rattle.std.proofs.lemmas.Option.{none-some, same_Some}
 use Rattle.std.proofs.lemmas.Bool.{cases_lt}
-use Rattle.std.proofs.lemmas.List.{drop_at, drop-drop, drop-take, drop-append-le, drop_all, length-take-le, nil_from_length}
+use Rattle.std.proofs.lemmas.List.{drop_at, drop-drop, drop-take, drop-append-le, drop_all, length-take-le}
 use Rattle.h1_model.specs.FrameText.{PlacedFrame}
 use Rattle.h1_chunks.specs.Runs.{Run, run_bytes}
 use Rattle.h1_model.specs.Handed.{Item, item_frame, Begins}
@@ -65,7 +65,8 @@ left_bytes text from upto given (q ∷ rs) r within x e =
           let len = slice_len text q.start q.end (omega arith) in (
             run_bytes text rs,
             drop-append-le given (slice_range text q.start q.end) (run_bytes text rs) (omega arith)
-                ∙ ap (λ (t : List ℕ). t ++ run_bytes text rs) (slice_from text q.start q.end given (omega arith) ∙ ap (λ (s : Run). slice_range text s.start s.end) same),
+                ∙ ap (λ (t : List ℕ). t ++ run_bytes text rs)
+                (slice_from text q.start q.end given (omega arith) ∙ ap (λ (s : Run). slice_range text s.start s.end) same),
           )
       | inr past ↦
           let later = left_bytes text q.end upto (given - run_len q) rs r within x.2 (sym (left-past given q rs past) ∙ e) in
@@ -86,7 +87,8 @@ left_all text from upto given (q ∷ rs) within x e =
     let bound = ordered_bound q.end upto rs x.2 in
     elim (cases_lt given (run_len q)) [
       | inl here ↦ absurd (none-some _ (sym e ∙ left-within given q rs here))
-      | inr past ↦ runs_past text given q rs (omega arith) past ∙ left_all text q.end upto (given - run_len q) rs within x.2 (sym (left-past given q rs past) ∙ e)
+      | inr past ↦ runs_past text given q rs (omega arith) past
+          ∙ left_all text q.end upto (given - run_len q) rs within x.2 (sym (left-past given q rs past) ∙ e)
     ]
 
 -- ---- the next frame

@@ -1,5 +1,5 @@
 -- What a trace handed out is the beginning of the parse, from one step to the next.
-use Rattle.std.proofs.Common.{◌≡◌, ℕ, suc, Bool, true, false, List, [], ◌∷◌, ◌++◌, length, reverse, Option, Some, None, is_some, refl, sym, ap, ap₂, ◌∙◌, subst, subst₂, inl, inr, append-nil}
+use Rattle.std.proofs.Common.{◌≡◌, ℕ, suc, Bool, true, false, List, [], ◌∷◌, ◌++◌, length, reverse, Some, None, is_some, refl, sym, ap, ap₂, ◌∙◌, subst, subst₂, inl, inr, append-nil}
 use Rattle.std.specs.Prelude.{◌||◌, slice_get}
 use Rattle.std.specs.Option.{option_or}
 use Rattle.std.proofs.lemmas.Bool.{or_parts, true≢false}
@@ -9,7 +9,7 @@ use Rattle.h1_model.specs.Setting.{Setting}
 use Rattle.h1_model.specs.Parse.{Input, Message, IsParse}
 use Rattle.h1_model.specs.Event.{Outcome}
 use Rattle.h1_model.specs.Event as on
-use Rattle.h1_model.specs.Sums.{Step, step_taken, taken, is_eof, accepted_limit, accepted, has_ended, is_upgraded, head_of, completes, is_complete, was_pulled, request}
+use Rattle.h1_model.specs.Sums.{Step, step_taken, taken, is_eof, accepted_limit, accepted, has_ended, is_upgraded, completes, is_complete, was_pulled, request}
 use Rattle.h1_model.specs.Handed.{Handed, HandedOut, nothing_handed, handing, marking_answered, handed_out, AreItemsOf, Agrees, HandsOutPrefix}
 use Rattle.h1_model.specs.Past.{ParsedStep, steps, input_of, parse_of, head_count}
 use Rattle.h1_model.specs.Closing.{told}
@@ -126,7 +126,8 @@ marked_agrees true bytes h m x = record { reading = x.reading; items = x.items }
 -- ---- what a step makes of all that was handed out
 
 -- nothing stays nothing
-still_nothing : (s : Step) (before : List Step) → is_silent s.outcome ≡ true → handed_out before ≡ nothing_handed → handed_out (s ∷ before) ≡ nothing_handed
+still_nothing : (s : Step) (before : List Step) → is_silent s.outcome ≡ true → handed_out before ≡ nothing_handed
+    → handed_out (s ∷ before) ≡ nothing_handed
 still_nothing s before silent none =
     handed_out-cons s before ∙ ap (marking_answered (completes s.event)) (silent_same s.outcome (handed_out before) silent ∙ none)
     ∙ marking_none (completes s.event)
@@ -137,7 +138,8 @@ unfolding request accepted
 nothing_yet = record { handed = handed_out-nil; count = refl; asked = refl; upgraded = refl }
 
 -- with no message that is to be answered
-pub still_empty : (s : Step) (before : List Step) → is_silent s.outcome ≡ true → accepted_limit s.event s.outcome ≡ None → Empty before → Empty (s ∷ before)
+pub still_empty : (s : Step) (before : List Step) → is_silent s.outcome ≡ true → accepted_limit s.event s.outcome ≡ None → Empty before
+    → Empty (s ∷ before)
 still_empty s before silent unaccepted x =
     let none = opening_head s.outcome (silent_opening s.outcome silent) in
     record {
@@ -155,9 +157,11 @@ newest s before h hs same handed =
     ∙ ap (marking_answered (completes s.event)) (handing_more s.outcome h hs same) ∙ marking_more (completes s.event) (added s.outcome h) hs
 
 -- and where no answer is completed all stays
-pub still_same : (s : Step) (before : List Step) → is_silent s.outcome ≡ true → completes s.event ≡ false → handed_out (s ∷ before) ≡ handed_out before
+pub still_same : (s : Step) (before : List Step) → is_silent s.outcome ≡ true → completes s.event ≡ false
+    → handed_out (s ∷ before) ≡ handed_out before
 still_same s before silent none =
-    handed_out-cons s before ∙ ap (λ b. marking_answered b (handing s.outcome (handed_out before))) none ∙ silent_same s.outcome (handed_out before) silent
+    handed_out-cons s before ∙ ap (λ b. marking_answered b (handing s.outcome (handed_out before))) none
+    ∙ silent_same s.outcome (handed_out before) silent
 
 -- ---- the message goes on
 
@@ -262,9 +266,11 @@ accepts_step setting x before p q o h hs r =
     let ended = has_ended trace in
     let size = setting.hold_size in
     let bytes : taken (s ∷ trace) ≡ text = taken-cons s trace ∙ ap (λ e. text ++ step_taken e s.outcome) o.event ∙ append-nil text in
-    let upgraded : accepted (s ∷ trace) ≡ Some o.limit = accepted-cons s trace ∙ ap₂ (λ e u. option_or (accepted_limit e u) (accepted trace)) o.event o.outcome in
+    let upgraded : accepted (s ∷ trace) ≡ Some o.limit =
+    accepted-cons s trace ∙ ap₂ (λ e u. option_or (accepted_limit e u) (accepted trace)) o.event o.outcome in
     let open_end : has_ended (s ∷ trace) ≡ ended = ap (λ e. is_eof e || ended) o.event in
-    let old : IsParse (input text None ended size) (parse_of before) = subst (λ u. IsParse (input text u ended size) (parse_of before)) o.unaccepted q in
+    let old : IsParse (input text None ended size) (parse_of before) =
+    subst (λ u. IsParse (input text u ended size) (parse_of before)) o.unaccepted q in
     let same : input_of setting (s ∷ trace) ≡ input text (Some o.limit) ended size = λ i. input (bytes i) (upgraded i) (open_end i) size in
     let new : IsParse (input text (Some o.limit) ended size) x.parse = subst (λ (i : Input). IsParse i x.parse) same p in
     let here = accepted_at text o.limit ended size 0 (parse_of before) x.parse (length hs) r.message old new r.there in
@@ -275,6 +281,7 @@ accepts_step setting x before p q o h hs r =
     let silent : is_silent s.outcome ≡ true = ap is_silent o.outcome in
     let there = subst (λ k. slice_get (parse_of before) k ≡ Some r.message) (sym (length-reverse hs)) r.there in
     subst (λ t. Running t x.parse (s ∷ trace) (behind s h) hs) (sym bytes)
-    (more_running s trace text text (parse_of before) x.parse here.0 h hs r (silent_goes_on s trace silent) (λ up. sym (ap asks_raw r.asked) ∙ o.raw) here.1
+    (more_running s trace text text (parse_of before) x.parse here.0 h hs r (silent_goes_on s trace silent)
+    (λ up. sym (ap asks_raw r.asked) ∙ o.raw) here.1
     (subst (λ g. Agrees text g here.0) (added_none s.outcome h (silent_items s.outcome silent)) agrees)
     (ended_accepted text o.limit ended size 0 (reverse hs) (parse_of before) x.parse r.message old new there r.older))

@@ -29,7 +29,8 @@ unfolding handed_out
 handed_out-nil = refl
 
 -- one more step
-pub handed_out-cons : (s : Step) (before : List Step) → handed_out (s ∷ before) ≡ marking_answered (completes s.event) (handing s.outcome (handed_out before))
+pub handed_out-cons : (s : Step) (before : List Step)
+    → handed_out (s ∷ before) ≡ marking_answered (completes s.event) (handing s.outcome (handed_out before))
 unfolding handed_out
 handed_out-cons s before = refl
 
@@ -48,7 +49,8 @@ pub upgraded-more : (s : Step) (before : List Step) → accepted_limit s.event s
 upgraded-more s before none = ap is_some (accepted-cons s before ∙ ap (λ o. option_or o (accepted before)) none)
 
 -- trailers were handed out
-pub gave_trailers-more : (s : Step) (before : List Step) → head_of s.outcome ≡ None → gave_trailers (s ∷ before) ≡ (is_trailers s.outcome || gave_trailers before)
+pub gave_trailers-more : (s : Step) (before : List Step) → head_of s.outcome ≡ None
+    → gave_trailers (s ∷ before) ≡ (is_trailers s.outcome || gave_trailers before)
 gave_trailers-more s before none = ap (list_any (λ t. is_trailers t.outcome)) (since_head-more s before none)
 
 -- the body's end, fault or drop came
@@ -199,7 +201,8 @@ still e o o' same silent taken eof accepted pull = record {
 }
 
 -- a tick hands out nothing
-tick_silent : (setting : Setting) (past : List ParsedStep) (end : Option End) (first ms : ℕ) → is_silent (tick_outcome setting past end first ms) ≡ true
+tick_silent : (setting : Setting) (past : List ParsedStep) (end : Option End) (first ms : ℕ)
+    → is_silent (tick_outcome setting past end first ms) ≡ true
 tick_silent setting past (Some end) first ms =
     cond_both (is_abandoned setting past first ms) on.abandoned on.done (λ o. is_silent o ≡ true) (λ _. refl) (λ _. refl)
 tick_silent setting past None first ms =
@@ -291,7 +294,8 @@ unfolding is_allowed
 allowed_closing setting past e closes x = sym (cond-true (is_some (closing setting past)) _ _ closes) ∙ (and_parts _ _ x).1
 
 -- Next tells that it closes
-closed_next : (setting : Setting) (before : List ParsedStep) (o : Outcome) (end : Option End) → is_some end ≡ true → o ≡ next_outcome setting before end → Closed (step on.next o)
+closed_next : (setting : Setting) (before : List ParsedStep) (o : Outcome) (end : Option End) → is_some end ≡ true
+    → o ≡ next_outcome setting before end → Closed (step on.next o)
 closed_next setting before o (Some end) some x = record { other = still on.next o (on.closed end) x refl refl refl refl refl; completes = refl }
 closed_next setting before o None some x = absurd (false≢true some)
 

@@ -1,6 +1,6 @@
-use Rattle.std.proofs.Common.{List, length, reverse, sym, ◌∙◌, subst, arith}
+use Rattle.std.proofs.Common.{reverse, sym, subst, arith}
 use Rattle.std.proofs.lemmas.List.{length-reverse}
-use Rattle.h1_model.specs.Handed.{Handed, IsPrefixFrom}
+use Rattle.h1_model.specs.Handed.{IsPrefixFrom}
 use Rattle.h1_model.proofs.MessageGrowth.{parse_grows}
 use Rattle.h1_model.proofs.HandedLemmas.{prefix_grows}
 use Rattle.h1_model.proofs.handed.handed_out_stays.Goals as goal
