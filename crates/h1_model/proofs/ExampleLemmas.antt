@@ -1,19 +1,20 @@
 -- What worked examples of heads and of parses stand on: parts whose classes of bytes are tests that compute.
 use Rattle.std.proofs.Common.{◌≡◌, ℕ, ◌+◌, ◌-◌, ◌<◌, ◌≤◌, Bool, true, false, not, ◌&&◌, List, [], ◌∷◌, ◌++◌, length, map, slice_range, codes, All, Option, Some, None, nat_lt, nat_le, ◌==◌, refl, sym, ap, ◌∙◌, subst, arith, inl, inr}
-use Rattle.std.specs.List.{list_all, AllByRecursion}
+use Rattle.std.specs.List.{list_all, list_any, AllByRecursion}
 use Rattle.std.proofs.lemmas.Grind.{common_steps}
-use Rattle.std.proofs.lemmas.Bool.{agree_below, agree_below_at, and_parts, false≢true}
+use Rattle.std.proofs.lemmas.Bool.{agree_below, agree_below_at, or_left, or_right, false≢true}
+use Rattle.std.proofs.lemmas.List.Folds.{list_any-append}
 use Rattle.std.proofs.lemmas.List.Sums.{AllPass-from_list_all}
 use Rattle.std.proofs.lemmas.List.Elements.{All-from_recursion}
 use lib.Utf8.{encode}
-use Rattle.httparse.specs.Grammar.{RequestHead, ReadsRequest, IsRequestHead, Field, IsField, crlf, is_token_byte, is_uri_byte, is_value_byte, print_request, field_value}
+use Rattle.httparse.specs.Grammar.{RequestHead, ReadsRequest, IsRequestHead, Field, IsField, crlf, is_token_byte, is_uri_byte, is_value_byte, print_blank, print_version, print_end, print_section, print_request, field_value}
 use Rattle.http_header.specs.Token.{is_token_byte as is_name_byte, is_value_byte as is_field_byte}
 use Rattle.http_uri.specs.Grammar.{IsPathAndQuery}
 use Rattle.http_uri.specs.ByteClasses.{is_path_byte}
 use Rattle.h1_model.specs.HeadPiece.{EndsBlank, IsHeadPiece, HasNoHeadPiece}
 use Rattle.h1_model.specs.LengthTable.{body_kind, connection_of, expects_continue}
-use Rattle.h1_model.specs.Request.{Head}
-use Rattle.h1_model.specs.RequestHead.{IsHeadOf, IsTarget, IsHeaderField, header_of}
+use Rattle.h1_model.specs.Request.{Head, malformed, faulty}
+use Rattle.h1_model.specs.RequestHead.{IsHeadOf, IsTarget, IsHeaderField, header_of, IsReading}
 use Rattle.h1_model.proofs.BlankLemmas.{begins_no_cr, ends_blank, ends_blank_true, ends_blank_read, ends_blank_long}
 use Rattle.h1_model.proofs.HeadPieceLemmas.{ends_behind}
 
@@ -141,3 +142,37 @@ plain_head piece h fields x y = record {
   connection_is = y.connection;
   expects_is = y.expects;
 }
+
+-- ---- a text without a space
+
+-- the text has a space
+abbrev has_space : List ℕ → Bool
+has_space text = list_any (λ b. b == 32) text
+
+-- what has a space has it behind other bytes
+space_behind : (front text : List ℕ) → has_space (front ++ 32 ∷ text) ≡ true
+space_behind [] text = refl
+space_behind (b ∷ front) text = or_right _ _ (space_behind front text)
+
+-- what begins with a text that has a space has it
+space_in_front : (text more : List ℕ) → has_space text ≡ true → has_space (text ++ more) ≡ true
+space_in_front text more has = list_any-append (λ b. b == 32) text more ∙ or_left (has_space text) (has_space more) has
+
+-- the text of a head has a space
+head_has_space : (h : RequestHead) → has_space (print_request h ++ []) ≡ true
+unfolding print_request
+head_has_space h =
+    let words = print_blank h.blank ++ h.method ++ 32 ∷ h.target in
+    let line = words ++ 32 ∷ print_version h.minor in
+    let ended = line ++ print_end h.line_end in
+    space_in_front (ended ++ print_section h.fields h.last) [] (space_in_front ended (print_section h.fields h.last)
+    (space_in_front line (print_end h.line_end) (space_in_front words (32 ∷ print_version h.minor)
+    (space_behind (print_blank h.blank ++ h.method) h.target))))
+
+-- a method alone is no head
+no_head : (h : Head) → IsHeadOf (codes "GET\r\n\r\n") h → ⊥
+no_head h x = false≢true (ap has_space x.reads.1 ∙ head_has_space x.text)
+
+-- a method alone is malformed
+pub method_alone_refused : IsReading (codes "GET\r\n\r\n") (faulty malformed)
+method_alone_refused = (omega arith, no_head)

@@ -20,6 +20,7 @@ pub mod PastExistence
 pub mod MovedLemmas
 pub mod UpgradeLemmas
 pub mod ExampleLemmas
+pub mod ChunkExamples
 pub mod PastLemmas
 pub mod PlaceLemmas
 pub mod StepLemmas

@@ -8,5 +8,6 @@ pub mod frame_text;
 pub mod handed;
 pub mod head_piece;
 pub mod parse;
+pub mod parse_examples;
 pub mod request_head;
 pub mod trace;
