@@ -1,8 +1,7 @@
 -- Items that are handed out: what each adds to those of a body.
-use Rattle.std.proofs.Common.{◌≡◌, ℕ, ◌+◌, ◌<◌, Bool, true, false, List, [], ◌∷◌, ◌++◌, length, map, flat_map, refl, sym, ap, ap₂, ◌∙◌, arith, append_assoc, append-nil, length-append}
+use Rattle.std.proofs.Common.{◌≡◌, ℕ, ◌+◌, ◌<◌, Bool, true, false, List, [], ◌∷◌, ◌++◌, length, map, flat_map, refl, sym, ap, ap₂, ◌∙◌, inl, inr, arith, append_assoc, append-nil, length-append}
 use Rattle.std.specs.Prelude.{◌||◌, sum_by, ◌⊎◌}
 use Rattle.std.specs.List.{list_any}
-use Rattle.std.proofs.Common.{inl, inr}
 use Rattle.std.proofs.lemmas.Bool.{true≢false, or_parts}
 use Rattle.std.proofs.lemmas.List.{map-append}
 use Rattle.std.proofs.lemmas.List.Concat.{flat_map-append}
@@ -46,10 +45,11 @@ is_ending item_end = true
 is_ending (item_fault f) = true
 is_ending _ = false
 
--- how many bytes, and how many frames, the items have
+-- how many bytes the items have
 abbrev pub items_len : List Item → ℕ
 items_len items = sum_by item_len items
 
+-- how many frames
 abbrev pub items_frames : List Item → ℕ
 items_frames items = sum_by item_frames items
 
@@ -90,21 +90,24 @@ pieces_ending (p ∷ ps) = pieces_ending ps
 
 -- ---- what stands behind the pieces
 
--- what the items have, the pieces and what stands behind them have
+-- the bytes are those of the pieces and of what stands behind them
 pub last_len : (items : List Item) (pieces : List (List ℕ)) (last : List Item) → items ≡ map item_bytes pieces ++ last
     → items_len items ≡ length (joined pieces) + items_len last
 last_len items pieces last e = ap items_len e ∙ sum_by-append item_len (map item_bytes pieces) last ∙ ap (λ n. n + items_len last) (pieces_len pieces)
 
+-- the frames stand behind them
 pub last_frames : (items : List Item) (pieces : List (List ℕ)) (last : List Item) → items ≡ map item_bytes pieces ++ last
     → items_frames items ≡ items_frames last
 last_frames items pieces last e =
     ap items_frames e ∙ sum_by-append item_frames (map item_bytes pieces) last ∙ ap (λ n. n + items_frames last) (pieces_frames pieces) ∙ omega arith
 
+-- and so do the trailers
 pub last_trailers : (items : List Item) (pieces : List (List ℕ)) (last : List Item) → items ≡ map item_bytes pieces ++ last
     → have_trailers items ≡ have_trailers last
 last_trailers items pieces last e =
     ap have_trailers e ∙ list_any-append is_trailers_item (map item_bytes pieces) last ∙ ap (λ b. b || have_trailers last) (pieces_trailers pieces)
 
+-- and the ending
 pub last_ending : (items : List Item) (pieces : List (List ℕ)) (last : List Item) → items ≡ map item_bytes pieces ++ last
     → have_ending items ≡ have_ending last
 last_ending items pieces last e =
@@ -137,10 +140,11 @@ stop_len cut = refl
 
 -- ---- the beginning of what may stand there
 
--- the first of a list that begins another is its first
+-- equal lists have the same first item
 pub first_item : (a b : Item) (is js : List Item) → a ∷ is ≡ b ∷ js → a ≡ b
 first_item a b is js e = cc
 
+-- and the same others
 pub other_items : (a b : Item) (is js : List Item) → a ∷ is ≡ b ∷ js → is ≡ js
 other_items a b is js e = cc
 

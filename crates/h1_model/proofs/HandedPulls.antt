@@ -96,19 +96,19 @@ content_given text runs stop trace items x c =
 runs_hands : (trace : List Step) (start : ℕ) (runs : List Run) (stop : Stop) (items : List Item) (left : Option Run)
     → run_left (given_bytes trace) runs ≡ left → IsOrdered start (length (taken trace)) runs → AreItemsOf (taken trace) (content runs stop) items
     → Counts trace items → have_ending items ≡ false → Hands (run_outcome trace stop left) (taken trace) (content runs stop) items
-runs_hands trace start runs stop items (Some q) e ordered x c open_end =
+runs_hands trace start runs stop items (Some q) e ordered x c left_open =
     let text = taken trace in
     let n = given_bytes trace in
     let more = slice_range text q.start q.end in
     let rest = left_bytes text start (length text) n runs q (omega arith) ordered e in
     let all = given_then (joined x.pieces) (run_bytes text runs) (more ++ rest.0) n x.begins (content_given text runs stop trace items x c) rest.1 in
     (refl, add_piece text (content runs stop) items more rest.0 x all (left_more text start (length text) n runs q (omega arith) ordered e))
-runs_hands trace start runs stop items None e ordered x c open_end =
+runs_hands trace start runs stop items None e ordered x c left_open =
     let text = taken trace in
     let n = given_bytes trace in
     let all = given_all (joined x.pieces) (run_bytes text runs) n x.begins (content_given text runs stop trace items x c)
     (left_all text start (length text) n runs (omega arith) ordered e) in
-    stop_hands text runs stop (gave_trailers trace) items x all (sym (last_ending items x.pieces x.last x.are) ∙ open_end)
+    stop_hands text runs stop (gave_trailers trace) items x all (sym (last_ending items x.pieces x.last x.are) ∙ left_open)
     (sym (last_trailers items x.pieces x.last x.are) ∙ c.trailers)
 
 -- ---- frames
