@@ -110,7 +110,7 @@ messages_stay bytes limit ended size place (m ∷ ms) (n ∷ ns) x y =
       first,
       λ raw. body_is_last bytes None ended size m.reading m.body_start m.body ms raw x.0.body x.1,
       behind_stays bytes limit ended size place m n ms ns (has_raw_body m.reading) refl first x.0 y.0 x.1 y.1
-      (λ next. messages_stay bytes limit ended size next ms ns),
+          (λ next. messages_stay bytes limit ended size next ms ns),
     )
 
 -- the parse stays
