@@ -26,7 +26,8 @@ body_stays bytes limit ended size (faulty fault) place b other x = x
 body_stays bytes limit ended size (head_is h) place b other x = kind_stays bytes limit ended size h.body place b other x
 
 -- behind all bytes stands no message
-none_at_end : (bytes : List ℕ) (u : Option ℕ) (ended : Bool) (size : ℕ) (ms : List Message) → AreMessages (input bytes u ended size) (length bytes) ms → ms ≡ []
+none_at_end : (bytes : List ℕ) (u : Option ℕ) (ended : Bool) (size : ℕ) (ms : List Message)
+    → AreMessages (input bytes u ended size) (length bytes) ms → ms ≡ []
 none_at_end bytes u ended size [] x = refl
 none_at_end bytes u ended size (m ∷ ms) x =
     let long = piece_long bytes (length bytes) x.0.start x.0.end x.0.piece in
@@ -100,7 +101,8 @@ behind_stays bytes limit ended size place m n ms ns false is stays x y p q stay 
     (subst (λ b. AreBehind (input bytes (Some limit) ended size) b ns) (sym (stays.body is)) q)
 
 -- the messages from a place on stay
-messages_stay : (bytes : List ℕ) (limit : ℕ) (ended : Bool) (size place : ℕ) (ms ns : List Message) → AreMessages (input bytes None ended size) place ms
+messages_stay : (bytes : List ℕ) (limit : ℕ) (ended : Bool) (size place : ℕ) (ms ns : List Message)
+    → AreMessages (input bytes None ended size) place ms
     → AreMessages (input bytes (Some limit) ended size) place ns → StayUpgraded ms ns
 messages_stay bytes limit ended size place [] [] x y = tt
 messages_stay bytes limit ended size place [] (n ∷ ns) x y = absurd (x y.0.start y.0.end y.0.piece)
