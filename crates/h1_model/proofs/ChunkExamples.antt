@@ -8,8 +8,8 @@ use Rattle.std.specs.Str.Parse.{AllDigits}
 use Rattle.httparse.specs.Grammar.{is_ows, is_token_byte}
 use Rattle.httparse.specs.Ascii.{semicolon, crlf_bytes}
 use Rattle.h1_chunks.specs.ChunkedText.{IsExtension, SaysSize, Segment, IsSegment, segment_text, Trailer, section_text, ChunkedText, chunked_text, IsChunkedText}
-use Rattle.h1_chunks.specs.Runs.{Run, segment_runs, cut_runs}
-use Rattle.h1_chunks.specs.Chunked.{whole, not_chunked, Spells, Begins, IsLongestBeginning, IsChunked}
+use Rattle.h1_chunks.specs.Runs.{segment_runs, cut_runs}
+use Rattle.h1_chunks.specs.Chunked.{whole, not_chunked, Spells, Begins, IsChunked}
 
 -- ---- a whole body
 

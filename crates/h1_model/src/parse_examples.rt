@@ -48,16 +48,15 @@ pub fn two_requests()
 
 /// A body of three bytes is whole with them, and open with two; where the input ends there, it is cut.
 pub fn body_of_a_length()
-    ensures {
-        let head : Head = record {
-          method = codes "POST";
-          target = codes "/";
-          minor = 1;
-          headers = record { name = codes "content-length"; value = codes "3" } ∷ [];
-          body = fixed_body 3;
-          connection = keep_alive;
-          expects = false;
-        } in
+    ensures { let head : Head = record {
+      method = codes "POST";
+      target = codes "/";
+      minor = 1;
+      headers = record { name = codes "content-length"; value = codes "3" } ∷ [];
+      body = fixed_body 3;
+      connection = keep_alive;
+      expects = false;
+    } in
         IsParse
         (record { bytes = codes "POST / HTTP/1.1\r\ncontent-length: 3\r\n\r\nabc"; upgraded = None; ended = false; hold_size = 131072 })
         (record { reading = head_is head; body_start = 38; body = content (record { start = 38; end = 41 } ∷ []) (ended_at 41 []) } ∷ [])
@@ -66,23 +65,21 @@ pub fn body_of_a_length()
         (record { reading = head_is head; body_start = 38; body = content (record { start = 38; end = 40 } ∷ []) still_open } ∷ [])
         × IsParse
         (record { bytes = codes "POST / HTTP/1.1\r\ncontent-length: 3\r\n\r\nab"; upgraded = None; ended = true; hold_size = 131072 })
-        (record { reading = head_is head; body_start = 38; body = content (record { start = 38; end = 40 } ∷ []) cut } ∷ [])
-    }
+        (record { reading = head_is head; body_start = 38; body = content (record { start = 38; end = 40 } ∷ []) cut } ∷ []) }
 {}
 
 /// A body in chunks ends behind its trailers, which are headers as those of the head are. A byte that no body begins
 /// with breaks it.
 pub fn body_in_chunks()
-    ensures {
-        let head : Head = record {
-          method = codes "POST";
-          target = codes "/";
-          minor = 1;
-          headers = record { name = codes "transfer-encoding"; value = codes "chunked" } ∷ [];
-          body = chunked_body;
-          connection = keep_alive;
-          expects = false;
-        } in
+    ensures { let head : Head = record {
+      method = codes "POST";
+      target = codes "/";
+      minor = 1;
+      headers = record { name = codes "transfer-encoding"; value = codes "chunked" } ∷ [];
+      body = chunked_body;
+      connection = keep_alive;
+      expects = false;
+    } in
         IsParse
         (record {
           bytes = codes "POST / HTTP/1.1\r\ntransfer-encoding: chunked\r\n\r\n1\r\na\r\n0\r\nX: y \r\n\r\n";
@@ -97,23 +94,21 @@ pub fn body_in_chunks()
         } ∷ [])
         × IsParse
         (record { bytes = codes "POST / HTTP/1.1\r\ntransfer-encoding: chunked\r\n\r\ng"; upgraded = None; ended = false; hold_size = 131072 })
-        (record { reading = head_is head; body_start = 47; body = content [] broken } ∷ [])
-    }
+        (record { reading = head_is head; body_start = 47; body = content [] broken } ∷ []) }
 {}
 
 /// A raw body goes on to the end of the input. Once a WebSocket is accepted, it is frames: here a text, and the first
 /// byte of another one.
 pub fn raw_bodies()
-    ensures {
-        let head : Head = record {
-          method = codes "GET";
-          target = codes "/";
-          minor = 1;
-          headers = record { name = codes "upgrade"; value = codes "websocket" } ∷ [];
-          body = raw_body;
-          connection = keep_alive;
-          expects = false;
-        } in
+    ensures { let head : Head = record {
+      method = codes "GET";
+      target = codes "/";
+      minor = 1;
+      headers = record { name = codes "upgrade"; value = codes "websocket" } ∷ [];
+      body = raw_body;
+      connection = keep_alive;
+      expects = false;
+    } in
         IsParse
         (record { bytes = codes "GET / HTTP/1.1\r\nupgrade: websocket\r\n\r\nab"; upgraded = None; ended = false; hold_size = 131072 })
         (record { reading = head_is head; body_start = 38; body = content (record { start = 38; end = 40 } ∷ []) still_open } ∷ [])
@@ -123,11 +118,10 @@ pub fn raw_bodies()
         × IsParse
         (record {
           bytes = codes "GET / HTTP/1.1\r\nupgrade: websocket\r\n\r\n"
-            ++ (0x81 ∷ 0x85 ∷ 0x37 ∷ 0xfa ∷ 0x21 ∷ 0x3d ∷ 0x7f ∷ 0x9f ∷ 0x4d ∷ 0x51 ∷ 0x58 ∷ 0x81 ∷ []);
+              ++ (0x81 ∷ 0x85 ∷ 0x37 ∷ 0xfa ∷ 0x21 ∷ 0x3d ∷ 0x7f ∷ 0x9f ∷ 0x4d ∷ 0x51 ∷ 0x58 ∷ 0x81 ∷ []);
           upgraded = Some 100;
           ended = false;
           hold_size = 131072;
         })
-        (record { reading = head_is head; body_start = 38; body = frames (record { frame = text (codes "Hello"); end = 49 } ∷ []) None } ∷ [])
-    }
+        (record { reading = head_is head; body_start = 38; body = frames (record { frame = text (codes "Hello"); end = 49 } ∷ []) None } ∷ []) }
 {}

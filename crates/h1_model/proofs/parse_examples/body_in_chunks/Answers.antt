@@ -1,24 +1,26 @@
-use Rattle.std.proofs.Common.{ℕ, false, List, [], ◌∷◌, codes, refl, arith, inl}
+use Rattle.std.proofs.Common.{false, [], ◌∷◌, codes, refl, arith, inl}
 use Rattle.httparse.specs.Grammar.{Field, crlf, is_token_byte, print_request, trim_ows}
-use Rattle.http_header.specs.Token.{is_token_byte as is_name_byte}
 use Rattle.h1_chunks.specs.Chunked.{whole, not_chunked}
 use Rattle.h1_model.specs.Request.{Head, chunked_body, keep_alive}
 use Rattle.h1_model.specs.RequestHead.{IsHeadOf}
 use Rattle.h1_model.specs.HeadPiece.{IsHeadPiece}
-use Rattle.h1_model.proofs.ExampleLemmas.{plain_piece, nothing_behind, IsPlainHead, plain_head}
+use Rattle.h1_model.proofs.ExampleLemmas.{plain_piece, nothing_behind, plain_head}
 use Rattle.h1_model.proofs.ChunkExamples.{line as trailer, one_byte_read, g_read}
 use Rattle.h1_model.proofs.parse_examples.body_in_chunks.Goals as goal
 
--- the head with a whole body, and with what is none
+-- the head, and where it ends, with a whole body
 whole_piece : IsHeadPiece (codes "POST / HTTP/1.1\r\ntransfer-encoding: chunked\r\n\r\n1\r\na\r\n0\r\nX: y \r\n\r\n") 0 47
-whole_piece = plain_piece 80 79 _ 47 (record { no_line_feed = λ e. omega arith; no_return = λ e. omega arith; in_range = omega arith; ends = refl; first = refl })
+whole_piece = plain_piece _ 47 refl
 
+-- the same where no body follows
 broken_piece : IsHeadPiece (codes "POST / HTTP/1.1\r\ntransfer-encoding: chunked\r\n\r\ng") 0 47
-broken_piece = plain_piece 80 79 _ 47 (record { no_line_feed = λ e. omega arith; no_return = λ e. omega arith; in_range = omega arith; ends = refl; first = refl })
+broken_piece = plain_piece _ 47 refl
 
+-- its field line
 abbrev line : Field
 line = record { name = codes "transfer-encoding"; raw = codes " chunked"; end = crlf }
 
+-- what the head says
 abbrev head : Head
 head = record {
   method = codes "POST";
@@ -30,19 +32,10 @@ head = record {
   expects = false;
 }
 
-parts : IsPlainHead (codes "POST") 1 (line ∷ [])
-unfolding is_token_byte is_name_byte trim_ows
-parts = record {
-  some = omega arith;
-  method_grammar = refl;
-  method_token = refl;
-  version = omega arith;
-  each = (record { some = omega arith; short = omega arith; name = refl; raw = refl; header_name = refl; header_value = refl }, tt);
-}
-
+-- the text of the head
 is_head : IsHeadOf (codes "POST / HTTP/1.1\r\ntransfer-encoding: chunked\r\n\r\n") head
-unfolding print_request trim_ows
-is_head = plain_head _ head (line ∷ []) parts
+unfolding print_request is_token_byte trim_ows
+is_head = plain_head _ head (line ∷ []) refl
     (record { spelled = refl; target = refl; headers = refl; body = refl; connection = refl; expects = refl })
 
 pub returns : goal.returns

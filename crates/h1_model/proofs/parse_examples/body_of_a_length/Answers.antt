@@ -1,22 +1,24 @@
-use Rattle.std.proofs.Common.{ℕ, false, List, [], ◌∷◌, codes, refl, arith, inl}
+use Rattle.std.proofs.Common.{false, [], ◌∷◌, codes, refl, arith, inl}
 use Rattle.httparse.specs.Grammar.{Field, crlf, is_token_byte, print_request, trim_ows}
-use Rattle.http_header.specs.Token.{is_token_byte as is_name_byte}
 use Rattle.h1_model.specs.Request.{Head, fixed_body, keep_alive}
 use Rattle.h1_model.specs.RequestHead.{IsHeadOf}
 use Rattle.h1_model.specs.HeadPiece.{IsHeadPiece}
-use Rattle.h1_model.proofs.ExampleLemmas.{plain_piece, nothing_behind, IsPlainHead, plain_head}
+use Rattle.h1_model.proofs.ExampleLemmas.{plain_piece, nothing_behind, plain_head}
 use Rattle.h1_model.proofs.parse_examples.body_of_a_length.Goals as goal
 
--- the head with all of its body, and with two bytes of it
+-- the head, and where it ends, with all of its body
 whole_piece : IsHeadPiece (codes "POST / HTTP/1.1\r\ncontent-length: 3\r\n\r\nabc") 0 38
-whole_piece = plain_piece 80 79 _ 38 (record { no_line_feed = λ e. omega arith; no_return = λ e. omega arith; in_range = omega arith; ends = refl; first = refl })
+whole_piece = plain_piece _ 38 refl
 
+-- the same where a part of the body is there
 part_piece : IsHeadPiece (codes "POST / HTTP/1.1\r\ncontent-length: 3\r\n\r\nab") 0 38
-part_piece = plain_piece 80 79 _ 38 (record { no_line_feed = λ e. omega arith; no_return = λ e. omega arith; in_range = omega arith; ends = refl; first = refl })
+part_piece = plain_piece _ 38 refl
 
+-- its field line
 abbrev line : Field
 line = record { name = codes "content-length"; raw = codes " 3"; end = crlf }
 
+-- what the head says
 abbrev head : Head
 head = record {
   method = codes "POST";
@@ -28,19 +30,10 @@ head = record {
   expects = false;
 }
 
-parts : IsPlainHead (codes "POST") 1 (line ∷ [])
-unfolding is_token_byte is_name_byte trim_ows
-parts = record {
-  some = omega arith;
-  method_grammar = refl;
-  method_token = refl;
-  version = omega arith;
-  each = (record { some = omega arith; short = omega arith; name = refl; raw = refl; header_name = refl; header_value = refl }, tt);
-}
-
+-- the text of the head
 is_head : IsHeadOf (codes "POST / HTTP/1.1\r\ncontent-length: 3\r\n\r\n") head
-unfolding print_request trim_ows
-is_head = plain_head _ head (line ∷ []) parts
+unfolding print_request is_token_byte trim_ows
+is_head = plain_head _ head (line ∷ []) refl
     (record { spelled = refl; target = refl; headers = refl; body = refl; connection = refl; expects = refl })
 
 pub returns : goal.returns

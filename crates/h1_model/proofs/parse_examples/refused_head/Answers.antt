@@ -1,15 +1,15 @@
-use Rattle.std.proofs.Common.{ℕ, List, codes, refl, arith, inl, inr}
+use Rattle.std.proofs.Common.{codes, refl, arith, inl, inr}
 use Rattle.h1_model.specs.HeadPiece.{IsHeadPiece}
-use Rattle.h1_model.specs.Request.{malformed, faulty}
-use Rattle.h1_model.specs.RequestHead.{IsReading}
 use Rattle.h1_model.proofs.ExampleLemmas.{plain_piece, method_alone_refused}
 use Rattle.h1_model.proofs.parse_examples.refused_head.Goals as goal
 
+-- the first head, and where it ends
 malformed_piece : IsHeadPiece (codes "GET\r\n\r\nGET / HTTP/1.1\r\n\r\n") 0 7
-malformed_piece = plain_piece 71 69 _ 7 (record { no_line_feed = λ e. omega arith; no_return = λ e. omega arith; in_range = omega arith; ends = refl; first = refl })
+malformed_piece = plain_piece _ 7 refl
 
+-- the large head
 large_piece : IsHeadPiece (codes "GET / HTTP/1.1\r\n\r\n") 0 18
-large_piece = plain_piece 71 69 _ 18 (record { no_line_feed = λ e. omega arith; no_return = λ e. omega arith; in_range = omega arith; ends = refl; first = refl })
+large_piece = plain_piece _ 18 refl
 
 pub returns-clause-malformed : goal.returns-clause-malformed
 returns-clause-malformed c =

@@ -1,10 +1,9 @@
-use Rattle.std.proofs.Common.{ℕ, false, List, [], ◌∷◌, codes, refl, arith, inl}
+use Rattle.std.proofs.Common.{ℕ, false, List, [], codes, refl, arith, inl}
 use Rattle.httparse.specs.Grammar.{is_token_byte, print_request}
-use Rattle.http_header.specs.Token.{is_token_byte as is_name_byte}
 use Rattle.h1_model.specs.Request.{Head, no_body, close, keep_alive}
 use Rattle.h1_model.specs.RequestHead.{IsHeadOf}
 use Rattle.h1_model.specs.HeadPiece.{IsHeadPiece}
-use Rattle.h1_model.proofs.ExampleLemmas.{plain_piece, nothing_behind, IsPlainHead, plain_head}
+use Rattle.h1_model.proofs.ExampleLemmas.{plain_piece, nothing_behind, plain_head}
 use Rattle.h1_model.proofs.parse_examples.two_requests.Goals as goal
 
 -- the bytes of the second head
@@ -15,36 +14,34 @@ second_text = codes "HEAD / HTTP/1.0\r\n\r\n"
 abbrev text : List ℕ
 text = codes "GET / HTTP/1.1\r\n\r\nHEAD / HTTP/1.0\r\n\r\n"
 
+-- the first head, and where it ends
 first_piece : IsHeadPiece text 0 18
-first_piece = plain_piece 71 69 _ 18 (record { no_line_feed = λ e. omega arith; no_return = λ e. omega arith; in_range = omega arith; ends = refl; first = refl })
+first_piece = plain_piece _ 18 refl
 
+-- the second one
 second_piece : IsHeadPiece second_text 0 19
-second_piece = plain_piece 72 69 _ 19 (record { no_line_feed = λ e. omega arith; no_return = λ e. omega arith; in_range = omega arith; ends = refl; first = refl })
+second_piece = plain_piece _ 19 refl
 
+-- what the first head says
 abbrev first_head : Head
 first_head =
     record { method = codes "GET"; target = codes "/"; minor = 1; headers = []; body = no_body; connection = keep_alive; expects = false }
 
+-- what the second one says
 abbrev second_head : Head
 second_head =
     record { method = codes "HEAD"; target = codes "/"; minor = 0; headers = []; body = no_body; connection = close; expects = false }
 
-first_parts : IsPlainHead (codes "GET") 1 []
-unfolding is_token_byte is_name_byte
-first_parts = record { some = omega arith; method_grammar = refl; method_token = refl; version = omega arith; each = tt }
-
-second_parts : IsPlainHead (codes "HEAD") 0 []
-unfolding is_token_byte is_name_byte
-second_parts = record { some = omega arith; method_grammar = refl; method_token = refl; version = omega arith; each = tt }
-
+-- the text of the first head
 first_is_head : IsHeadOf (codes "GET / HTTP/1.1\r\n\r\n") first_head
-unfolding print_request
-first_is_head = plain_head _ first_head [] first_parts
+unfolding print_request is_token_byte
+first_is_head = plain_head _ first_head [] refl
     (record { spelled = refl; target = refl; headers = refl; body = refl; connection = refl; expects = refl })
 
+-- the text of the second one
 second_is_head : IsHeadOf second_text second_head
-unfolding print_request
-second_is_head = plain_head _ second_head [] second_parts
+unfolding print_request is_token_byte
+second_is_head = plain_head _ second_head [] refl
     (record { spelled = refl; target = refl; headers = refl; body = refl; connection = refl; expects = refl })
 
 pub returns : goal.returns
