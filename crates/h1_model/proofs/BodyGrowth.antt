@@ -45,17 +45,17 @@ between_grows bytes more place e stop within less =
 -- ---- a body of a fixed length
 
 -- all of it is there
-pub fixed_whole : (bytes : List ℕ) (u : Option ℕ) (ended : Bool) (size : ℕ) (place n : ℕ) → place + n ≤ length bytes
+pub fixed_whole : (bytes : List ℕ) (u : Option ℕ) (ended : Bool) (size place n : ℕ) → place + n ≤ length bytes
     → fixed_content (input bytes u ended size) place n ≡ content (run_between place (place + n)) (ended_at (place + n) [])
 fixed_whole bytes u ended size place n fits = cond-true (nat_le (place + n) (length bytes)) _ _ (le-leb (place + n) (length bytes) fits)
 
 -- it goes on behind the bytes
-pub fixed_part : (bytes : List ℕ) (u : Option ℕ) (ended : Bool) (size : ℕ) (place n : ℕ) → length bytes < place + n
+pub fixed_part : (bytes : List ℕ) (u : Option ℕ) (ended : Bool) (size place n : ℕ) → length bytes < place + n
     → fixed_content (input bytes u ended size) place n ≡ content (run_between place (length bytes)) (open_or_cut ended)
 fixed_part bytes u ended size place n short = cond-false (nat_le (place + n) (length bytes)) _ _ (lt-leb (place + n) (length bytes) short)
 
 -- a body of a fixed length grows
-fixed_grows : (bytes more : List ℕ) (u : Option ℕ) (ended : Bool) (size : ℕ) (place n : ℕ) → place ≤ length bytes
+fixed_grows : (bytes more : List ℕ) (u : Option ℕ) (ended : Bool) (size place n : ℕ) → place ≤ length bytes
     → BodyGrows bytes (bytes ++ more) (fixed_content (input bytes u false size) place n) (fixed_content (input (bytes ++ more) u ended size) place n)
 fixed_grows bytes more u ended size place n within =
     let all = bytes ++ more in
@@ -87,7 +87,7 @@ shifted_more bytes more place a runs within x =
     ∙ sym (run_bytes_shifted bytes place runs)
 
 -- one that stays as it is
-settled_chunks : (bytes more : List ℕ) (u : Option ℕ) (ended : Bool) (size : ℕ) (place : ℕ) (a b : Chunked) (runs runs' : List Run) → place ≤ length bytes
+settled_chunks : (bytes more : List ℕ) (u : Option ℕ) (ended : Bool) (size place : ℕ) (a b : Chunked) (runs runs' : List Run) → place ≤ length bytes
     → IsChunked (drop place bytes) a runs → IsChunked (drop place (bytes ++ more)) a runs → IsChunked (drop place (bytes ++ more)) b runs'
     → chunked_stop (input bytes u false size) place a ≡ chunked_stop (input (bytes ++ more) u ended size) place a
     → BodyGrows bytes (bytes ++ more) (content (shifted place runs) (chunked_stop (input bytes u false size) place a))
@@ -100,7 +100,7 @@ settled_chunks bytes more u ended size place a b runs runs' within x stays y sto
     (λ j. content (shifted place (same.1 j)) ((stop ∙ ap (chunked_stop (input all u ended size) place) same.0) j)) bytes_same
 
 -- a body in chunks grows
-chunks_grow : (bytes more : List ℕ) (u : Option ℕ) (ended : Bool) (size : ℕ) (place : ℕ) (a b : Chunked) (runs runs' : List Run) → place ≤ length bytes
+chunks_grow : (bytes more : List ℕ) (u : Option ℕ) (ended : Bool) (size place : ℕ) (a b : Chunked) (runs runs' : List Run) → place ≤ length bytes
     → IsChunked (drop place bytes) a runs → IsChunked (drop place (bytes ++ more)) b runs'
     → BodyGrows bytes (bytes ++ more) (content (shifted place runs) (chunked_stop (input bytes u false size) place a))
     (content (shifted place runs') (chunked_stop (input (bytes ++ more) u ended size) place b))
@@ -144,7 +144,8 @@ frames_grow limit bytes more place fs gs (Some e) f x y =
 
 -- the body of a kind grows
 body_of_grows : (bytes more : List ℕ) (u : Option ℕ) (ended : Bool) (size : ℕ) (kind : BodyKind) (place : ℕ) (a b : Body) → place ≤ length bytes
-    → IsBodyOf (input bytes u false size) kind place a → IsBodyOf (input (bytes ++ more) u ended size) kind place b → BodyGrows bytes (bytes ++ more) a b
+    → IsBodyOf (input bytes u false size) kind place a → IsBodyOf (input (bytes ++ more) u ended size) kind place b
+    → BodyGrows bytes (bytes ++ more) a b
 body_of_grows bytes more u ended size no_body place a b within x y =
     subst₂ (BodyGrows bytes (bytes ++ more)) (sym x) (sym y) (same_grows bytes (bytes ++ more) (content [] (ended_at place [])) (content [] (ended_at place [])) refl refl)
 body_of_grows bytes more u ended size (fixed_body n) place a b within x y =
@@ -159,7 +160,8 @@ body_of_grows bytes more (Some limit) ended size raw_body place a b within x y =
 
 -- the body behind a reading
 pub body_grows : (bytes more : List ℕ) (u : Option ℕ) (ended : Bool) (size : ℕ) (r : Reading) (place : ℕ) (a b : Body) → place ≤ length bytes
-    → IsBodyAfter (input bytes u false size) r place a → IsBodyAfter (input (bytes ++ more) u ended size) r place b → BodyGrows bytes (bytes ++ more) a b
+    → IsBodyAfter (input bytes u false size) r place a → IsBodyAfter (input (bytes ++ more) u ended size) r place b
+    → BodyGrows bytes (bytes ++ more) a b
 body_grows bytes more u ended size (faulty fault) place a b within x y =
     subst₂ (BodyGrows bytes (bytes ++ more)) (sym x) (sym y) (same_grows bytes (bytes ++ more) no_content no_content refl refl)
 body_grows bytes more u ended size (head_is h) place a b within x y = body_of_grows bytes more u ended size h.body place a b within x y

@@ -13,11 +13,13 @@ pub mod RequestDecisions
 pub mod TargetDecisions
 pub mod ReadingDecisions
 pub mod MessageExistence
+pub mod HandedItems
 pub mod HandedLemmas
 pub mod PastExistence
 pub mod MovedLemmas
 pub mod UpgradeLemmas
 pub mod ExampleLemmas
+pub mod ChunkExamples
 pub mod PastLemmas
 pub mod PlaceLemmas
 pub mod StepLemmas
@@ -34,6 +36,7 @@ pub mod ClosingLemmas
 pub mod HandedPrefix
 pub mod HandedRuns
 pub mod HandedTrace
+pub mod HandedCounts
 pub mod HandedSteps
 pub mod HandedPulls
 pub mod HandedHeads

@@ -46,7 +46,7 @@ abbrev HasBody : (Body → Type 0) → ℕ → Type 0
 HasBody Is place = (b : Body) × Is b × GoesOn place b
 
 -- a body of a fixed length
-fixed_body_of : (bytes : List ℕ) (u : Option ℕ) (ended : Bool) (size : ℕ) (n place : ℕ) → GoesOn place (fixed_content (input bytes u ended size) place n)
+fixed_body_of : (bytes : List ℕ) (u : Option ℕ) (ended : Bool) (size n place : ℕ) → GoesOn place (fixed_content (input bytes u ended size) place n)
 fixed_body_of bytes u ended size n place =
     elim (cases_lt (length bytes) (place + n)) [
       | inr fits ↦ subst (GoesOn place) (sym (fixed_whole bytes u ended size place n fits))
@@ -56,13 +56,15 @@ fixed_body_of bytes u ended size n place =
     ]
 
 -- a body in chunks
-chunked_behind : (bytes : List ℕ) (u : Option ℕ) (ended : Bool) (size : ℕ) (place : ℕ) (a : Chunked) → StopsBehind place (chunked_stop (input bytes u ended size) place a)
+chunked_behind : (bytes : List ℕ) (u : Option ℕ) (ended : Bool) (size place : ℕ) (a : Chunked)
+    → StopsBehind place (chunked_stop (input bytes u ended size) place a)
 chunked_behind bytes u ended size place (whole k trailers) = omega arith
 chunked_behind bytes u ended size place unfinished = open_or_cut_behind place ended
 chunked_behind bytes u ended size place not_chunked = tt
 
 -- all bytes from the place on
-raw_goes_on : (bytes : List ℕ) (u : Option ℕ) (ended : Bool) (size : ℕ) (place : ℕ) → place ≤ length bytes → GoesOn place (raw_content (input bytes u ended size) place)
+raw_goes_on : (bytes : List ℕ) (u : Option ℕ) (ended : Bool) (size place : ℕ) → place ≤ length bytes
+    → GoesOn place (raw_content (input bytes u ended size) place)
 raw_goes_on bytes u true size place within = content_goes_on place (run_between place (length bytes)) (ended_at (length bytes) []) within
 raw_goes_on bytes u false size place within = content_goes_on place (run_between place (length bytes)) still_open tt
 
@@ -71,13 +73,15 @@ body_of_kind : (bytes : List ℕ) (u : Option ℕ) (ended : Bool) (size : ℕ) (
     → HasBody (IsBodyOf (input bytes u ended size) kind place) place
 body_of_kind bytes u ended size no_body place within =
     (content [] (ended_at place []), refl, content_goes_on place [] (ended_at place []) (omega arith))
-body_of_kind bytes u ended size (fixed_body n) place within = (fixed_content (input bytes u ended size) place n, refl, fixed_body_of bytes u ended size n place)
+body_of_kind bytes u ended size (fixed_body n) place within =
+    (fixed_content (input bytes u ended size) place n, refl, fixed_body_of bytes u ended size n place)
 body_of_kind bytes u ended size chunked_body place within =
     let i = input bytes u ended size in
     let x = every_text_read (drop place bytes) in
     let stop = chunked_stop i place x.0 in
     (content (shifted place x.1) stop, (x.0, x.1, x.2, refl), content_goes_on place (shifted place x.1) stop (chunked_behind bytes u ended size place x.0))
-body_of_kind bytes None ended size raw_body place within = (raw_content (input bytes None ended size) place, refl, raw_goes_on bytes None ended size place within)
+body_of_kind bytes None ended size raw_body place within =
+    (raw_content (input bytes None ended size) place, refl, raw_goes_on bytes None ended size place within)
 body_of_kind bytes (Some limit) ended size raw_body place within =
     let x = frames_read (connection_reader limit) false place bytes in
     (frames x.0 x.1, (x.0, x.1, x.2, refl), λ next e. cc)
@@ -95,8 +99,9 @@ abbrev HasMessages : List ℕ → Option ℕ → Bool → ℕ → ℕ → Type 0
 HasMessages bytes u ended size place = (ms : List Message) × AreMessages (input bytes u ended size) place ms
 
 -- a message, and those behind it
-message_then : (bytes : List ℕ) (u : Option ℕ) (ended : Bool) (size : ℕ) (place : ℕ) (m : Message) (next : Option ℕ) → next_start m.body ≡ next
-    → IsMessageAt (input bytes u ended size) place m → ((n : ℕ) → next ≡ Some n → HasMessages bytes u ended size n) → HasMessages bytes u ended size place
+message_then : (bytes : List ℕ) (u : Option ℕ) (ended : Bool) (size place : ℕ) (m : Message) (next : Option ℕ) → next_start m.body ≡ next
+    → IsMessageAt (input bytes u ended size) place m → ((n : ℕ) → next ≡ Some n → HasMessages bytes u ended size n)
+    → HasMessages bytes u ended size place
 message_then bytes u ended size place m None is at later =
     let none : List Message = [] in
     (m ∷ none, (at, subst (λ o. MatchOption o (none ≡ none) (λ n. AreMessages (input bytes u ended size) n none)) (sym is) refl))
@@ -105,7 +110,7 @@ message_then bytes u ended size place m (Some n) is at later =
     (m ∷ others.0, (at, subst (λ o. MatchOption o (others.0 ≡ []) (λ k. AreMessages (input bytes u ended size) k others.0)) (sym is) others.1))
 
 -- the message whose head stands here, and those behind it
-messages_from : (bytes : List ℕ) (u : Option ℕ) (ended : Bool) (size : ℕ) (place s e : ℕ) → IsHeadPiece (drop place bytes) s e
+messages_from : (bytes : List ℕ) (u : Option ℕ) (ended : Bool) (size place s e : ℕ) → IsHeadPiece (drop place bytes) s e
     → ((next : ℕ) → place + 2 ≤ length bytes → place < next → HasMessages bytes u ended size next) → HasMessages bytes u ended size place
 messages_from bytes u ended size place s e piece later =
     let r = reading_within_of size (slice_range (drop place bytes) s e) in
@@ -116,7 +121,8 @@ messages_from bytes u ended size place s e piece later =
     message_then bytes u ended size place m (next_start b.0) refl at (λ n is. later n long (omega (arith, b.2 n is, piece_end (drop place bytes) s e piece)))
 
 -- all of them; the fuel is above the bytes that are left
-messages_by_fuel : (fuel : ℕ) (bytes : List ℕ) (u : Option ℕ) (ended : Bool) (size : ℕ) (place : ℕ) → length bytes - place < fuel → HasMessages bytes u ended size place
+messages_by_fuel : (fuel : ℕ) (bytes : List ℕ) (u : Option ℕ) (ended : Bool) (size place : ℕ) → length bytes - place < fuel
+    → HasMessages bytes u ended size place
 messages_by_fuel zero bytes u ended size place enough = absurd (omega arith)
 messages_by_fuel (suc fuel) bytes u ended size place enough =
     elim (head_piece_decided (drop place bytes)) [

@@ -35,7 +35,8 @@ placed_slice bytes more place s e x =
     ∙ slice_range-append (drop place bytes) more s e x.ordered x.in_range
 
 -- a message grows to the message at its place
-pub message_grows : (bytes more : List ℕ) (u : Option ℕ) (ended : Bool) (size : ℕ) (place : ℕ) (m n : Message) → IsMessageAt (input bytes u false size) place m
+pub message_grows : (bytes more : List ℕ) (u : Option ℕ) (ended : Bool) (size place : ℕ) (m n : Message)
+    → IsMessageAt (input bytes u false size) place m
     → IsMessageAt (input (bytes ++ more) u ended size) place n → MessageGrows bytes (bytes ++ more) m n
 message_grows bytes more u ended size place m n x y =
     let all = bytes ++ more in
@@ -64,7 +65,8 @@ next_closed (frames placed None) next e = cc
 next_closed (frames placed (Some fail)) next e = refl
 
 -- what stands behind a message grows, if what stands behind each place does
-rest_grows : (bytes more : List ℕ) (u : Option ℕ) (ended : Bool) (size : ℕ) (a b : Option ℕ) (ms ns : List Message) → ((next : ℕ) → a ≡ Some next → b ≡ Some next)
+rest_grows : (bytes more : List ℕ) (u : Option ℕ) (ended : Bool) (size : ℕ) (a b : Option ℕ) (ms ns : List Message)
+    → ((next : ℕ) → a ≡ Some next → b ≡ Some next)
     → ((next : ℕ) → AreMessages (input bytes u false size) next ms → AreMessages (input (bytes ++ more) u ended size) next ns → GrowTo bytes (bytes ++ more) ms ns)
     → MatchOption a (ms ≡ []) (λ next. AreMessages (input bytes u false size) next ms)
     → MatchOption b (ns ≡ []) (λ next. AreMessages (input (bytes ++ more) u ended size) next ns) → GrowTo bytes (bytes ++ more) ms ns
@@ -74,7 +76,8 @@ rest_grows bytes more u ended size (Some next) b ms ns same grows x y =
     grows next x here
 
 -- the messages from a place on grow
-pub messages_grow : (bytes more : List ℕ) (u : Option ℕ) (ended : Bool) (size : ℕ) (place : ℕ) (ms ns : List Message) → AreMessages (input bytes u false size) place ms
+pub messages_grow : (bytes more : List ℕ) (u : Option ℕ) (ended : Bool) (size place : ℕ) (ms ns : List Message)
+    → AreMessages (input bytes u false size) place ms
     → AreMessages (input (bytes ++ more) u ended size) place ns → GrowTo bytes (bytes ++ more) ms ns
 messages_grow bytes more u ended size place [] ns x y = tt
 messages_grow bytes more u ended size place (m ∷ ms) [] x y =

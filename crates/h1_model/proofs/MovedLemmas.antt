@@ -45,7 +45,7 @@ moved_open_or_cut len true = refl
 moved_open_or_cut len false = refl
 
 -- how a body in chunks stops
-moved_chunked_stop : (len : ℕ) (bytes rest : List ℕ) (u : Option ℕ) (ended : Bool) (size : ℕ) (place : ℕ) (a : Chunked)
+moved_chunked_stop : (len : ℕ) (bytes rest : List ℕ) (u : Option ℕ) (ended : Bool) (size place : ℕ) (a : Chunked)
     → moved_stop len (chunked_stop (input rest u ended size) place a) ≡ chunked_stop (input bytes u ended size) (len + place) a
 moved_chunked_stop len bytes rest u ended size place (chunked.whole k trailers) =
     let end : len + (place + k) ≡ len + place + k = omega arith in
@@ -56,7 +56,7 @@ moved_chunked_stop len bytes rest u ended size place not_chunked = refl
 -- ---- bodies
 
 -- a body of a fixed length
-moved_fixed : (len : ℕ) (bytes : List ℕ) (u : Option ℕ) (ended : Bool) (size : ℕ) (place n : ℕ) → len ≤ length bytes
+moved_fixed : (len : ℕ) (bytes : List ℕ) (u : Option ℕ) (ended : Bool) (size place n : ℕ) → len ≤ length bytes
     → moved_body len (fixed_content (input (drop len bytes) u ended size) place n) ≡ fixed_content (input bytes u ended size) (len + place) n
 moved_fixed len bytes u ended size place n within =
     let rest = drop len bytes in
@@ -77,7 +77,7 @@ moved_fixed len bytes u ended size place n within =
     ]
 
 -- all bytes from a place on
-moved_raw : (len : ℕ) (bytes : List ℕ) (u : Option ℕ) (ended : Bool) (size : ℕ) (place : ℕ) → len ≤ length bytes
+moved_raw : (len : ℕ) (bytes : List ℕ) (u : Option ℕ) (ended : Bool) (size place : ℕ) → len ≤ length bytes
     → moved_body len (raw_content (input (drop len bytes) u ended size) place) ≡ raw_content (input bytes u ended size) (len + place)
 moved_raw len bytes u true size place within =
     let all : len + length (drop len bytes) ≡ length bytes = omega (arith, length-drop len bytes) in
@@ -130,7 +130,7 @@ moved_next len (frames placed fail) = refl
 -- ---- messages
 
 -- a message
-moved_message : (len : ℕ) (bytes : List ℕ) (u : Option ℕ) (ended : Bool) (size : ℕ) (place : ℕ) (m : Message) → len ≤ length bytes
+moved_message : (len : ℕ) (bytes : List ℕ) (u : Option ℕ) (ended : Bool) (size place : ℕ) (m : Message) → len ≤ length bytes
     → IsMessageAt (input (drop len bytes) u ended size) place m → IsMessageAt (input bytes u ended size) (len + place) (moved len m)
 moved_message len bytes u ended size place m within x =
     let same = drop-drop place len bytes in
@@ -152,7 +152,7 @@ moved_rest len bytes u ended size None ms move x = ap (map (moved len)) x
 moved_rest len bytes u ended size (Some place) ms move x = move place x
 
 -- messages of the rest of the bytes are those from there on
-pub moved_messages : (len : ℕ) (bytes : List ℕ) (u : Option ℕ) (ended : Bool) (size : ℕ) (place : ℕ) (ms : List Message) → len ≤ length bytes
+pub moved_messages : (len : ℕ) (bytes : List ℕ) (u : Option ℕ) (ended : Bool) (size place : ℕ) (ms : List Message) → len ≤ length bytes
     → AreMessages (input (drop len bytes) u ended size) place ms → AreMessages (input bytes u ended size) (len + place) (map (moved len) ms)
 moved_messages len bytes u ended size place [] within x = subst HasNoHeadPiece (drop-drop place len bytes) x
 moved_messages len bytes u ended size place (m ∷ ms) within x =
@@ -162,7 +162,8 @@ moved_messages len bytes u ended size place (m ∷ ms) within x =
     )
 
 -- and there are no others
-pub moved_from : (len : ℕ) (bytes : List ℕ) (u : Option ℕ) (ended : Bool) (size : ℕ) (ms : List Message) → len ≤ length bytes → AreMessages (input bytes u ended size) len ms
+pub moved_from : (len : ℕ) (bytes : List ℕ) (u : Option ℕ) (ended : Bool) (size : ℕ) (ms : List Message) → len ≤ length bytes
+    → AreMessages (input bytes u ended size) len ms
     → (ns : List Message) × AreMessages (input (drop len bytes) u ended size) 0 ns × (ms ≡ map (moved len) ns)
 moved_from len bytes u ended size ms within x =
     let rest = parse_exists (input (drop len bytes) u ended size) in

@@ -26,7 +26,8 @@ body_stays bytes limit ended size (faulty fault) place b other x = x
 body_stays bytes limit ended size (head_is h) place b other x = kind_stays bytes limit ended size h.body place b other x
 
 -- behind all bytes stands no message
-none_at_end : (bytes : List ℕ) (u : Option ℕ) (ended : Bool) (size : ℕ) (ms : List Message) → AreMessages (input bytes u ended size) (length bytes) ms → ms ≡ []
+none_at_end : (bytes : List ℕ) (u : Option ℕ) (ended : Bool) (size : ℕ) (ms : List Message)
+    → AreMessages (input bytes u ended size) (length bytes) ms → ms ≡ []
 none_at_end bytes u ended size [] x = refl
 none_at_end bytes u ended size (m ∷ ms) x =
     let long = piece_long bytes (length bytes) x.0.start x.0.end x.0.piece in
@@ -100,7 +101,8 @@ behind_stays bytes limit ended size place m n ms ns false is stays x y p q stay 
     (subst (λ b. AreBehind (input bytes (Some limit) ended size) b ns) (sym (stays.body is)) q)
 
 -- the messages from a place on stay
-messages_stay : (bytes : List ℕ) (limit : ℕ) (ended : Bool) (size place : ℕ) (ms ns : List Message) → AreMessages (input bytes None ended size) place ms
+messages_stay : (bytes : List ℕ) (limit : ℕ) (ended : Bool) (size place : ℕ) (ms ns : List Message)
+    → AreMessages (input bytes None ended size) place ms
     → AreMessages (input bytes (Some limit) ended size) place ns → StayUpgraded ms ns
 messages_stay bytes limit ended size place [] [] x y = tt
 messages_stay bytes limit ended size place [] (n ∷ ns) x y = absurd (x y.0.start y.0.end y.0.piece)
@@ -110,7 +112,7 @@ messages_stay bytes limit ended size place (m ∷ ms) (n ∷ ns) x y =
       first,
       λ raw. body_is_last bytes None ended size m.reading m.body_start m.body ms raw x.0.body x.1,
       behind_stays bytes limit ended size place m n ms ns (has_raw_body m.reading) refl first x.0 y.0 x.1 y.1
-      (λ next. messages_stay bytes limit ended size next ms ns),
+          (λ next. messages_stay bytes limit ended size next ms ns),
     )
 
 -- the parse stays
