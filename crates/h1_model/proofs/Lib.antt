@@ -3,6 +3,8 @@ pub mod BlankLemmas
 pub mod HeadPieceLemmas
 pub mod ReadingLemmas
 pub mod FrameLemmas
+pub mod FrameSizes
+pub mod FrameWritten
 pub mod BodyLemmas
 pub mod MessageLemmas
 pub mod RunLemmas
