@@ -12,7 +12,7 @@ use Rattle.h1_model.specs.Handed.{Begins, Item, item_frame, stop_items, last_ite
 use Rattle.h1_model.specs.Laws.Growth.{BodyGrows}
 use Rattle.h1_model.proofs.HeadPieceLemmas.{slice_range-append}
 use Rattle.h1_model.proofs.FrameLemmas.{frames_unique, frames_begin, frames_broken}
-use Rattle.h1_model.proofs.ChunkStubs.{chunked_unique, whole_stays, broken_stays, runs_grow}
+use Rattle.h1_chunks.proofs.Laws.{chunked_unique, whole_stays, broken_stays, runs_grow}
 use Rattle.h1_model.proofs.RunLemmas.{begins_same, slice_longer, chunked_ordered, runs_more, cut_begins, run_bytes_shifted, run_bytes_between}
 use Rattle.h1_model.proofs.BodyLemmas.{input}
 

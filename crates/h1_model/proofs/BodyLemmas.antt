@@ -2,7 +2,7 @@
 use Rattle.std.proofs.Common.{◌≡◌, ℕ, Bool, false, List, drop, Option, Some, None, sym, ◌∙◌}
 use Rattle.h1_model.specs.Request.{BodyKind, no_body, fixed_body, chunked_body, raw_body, Reading, head_is, faulty}
 use Rattle.h1_model.specs.Parse.{Input, connection_reader, Body, content, frames, shifted, chunked_stop, IsBodyOf, IsBodyAfter}
-use Rattle.h1_model.proofs.ChunkStubs.{chunked_unique}
+use Rattle.h1_chunks.proofs.Laws.{chunked_unique}
 use Rattle.h1_model.proofs.FrameLemmas.{frames_unique}
 
 -- the input with these parts

@@ -1,265 +1,24 @@
 -- What is passed never falls and is never more than was taken; what is held stays below the bound.
-use Rattle.std.proofs.Common.{◌≡◌, ℕ, zero, suc, ◌-◌, ◌≤◌, min, Bool, true, false, List, [], ◌∷◌, ◌++◌, length, take, Option, Some, None, refl, sym, ap, ◌∙◌, subst, subst₂, inl, inr, arith, append-nil, length-append}
-use Rattle.std.specs.Prelude.{is_some, is_none, unwrap_or, slice_get, not, ◌||◌, ◌&&◌}
+use Rattle.std.proofs.Common.{◌≡◌, ℕ, zero, suc, ◌-◌, ◌≤◌, min, Bool, true, false, List, [], ◌∷◌, ◌++◌, length, take, Option, Some, None, refl, sym, ap, ◌∙◌, subst, inl, inr, arith, append-nil, length-append}
+use Rattle.std.specs.Prelude.{is_some, is_none, not, ◌||◌, ◌&&◌}
 use Rattle.std.specs.List.{list_any}
-use Rattle.std.proofs.lemmas.Option.{none-some, same_Some, slice_get_within}
+use Rattle.std.specs.Option.{option_or}
+use Rattle.std.proofs.lemmas.Option.{none-some}
 use Rattle.std.proofs.lemmas.Bool.{cases_Bool, true≢false, false≢true, and_parts, or_parts, not-true}
 use Rattle.std.proofs.lemmas.List.{length-take}
-use Rattle.h1_model.specs.Limits.{MAX_HELD}
 use Rattle.h1_model.specs.Setting.{Setting}
-use Rattle.h1_model.specs.Frame.{ProtocolError}
-use Rattle.h1_model.specs.FrameText.{PlacedFrame}
-use Rattle.h1_chunks.specs.Runs.{Run}
-use Rattle.h1_model.specs.Parse.{Input, Message, Body, no_content, content, frames, Stop, ended_at, still_open, broken, cut, next_start, IsBodyAfter, IsParse}
-use Rattle.h1_model.specs.Event.{Event, Outcome}
-use Rattle.h1_model.specs.Event as on
-use Rattle.h1_model.specs.Sums.{Step, step_taken, taken, is_pull, is_eof, is_accepted, head_of, since_head, request, answered, has_ended, is_upgraded, is_complete, is_open, was_pulled, was_dropped}
-use Rattle.h1_model.specs.Past.{ParsedStep, steps, input_of, parse_of, head_count, current, step_bytes, step_frames, given_bytes, given_frames, pulled_to, passed, held}
+use Rattle.h1_model.specs.Parse.{Input, Message, next_start, IsParse}
+use Rattle.h1_model.specs.Sums.{Step, step_taken, taken, is_pull, is_eof, accepted_limit, accepted, head_of, since_head, request, answered, has_ended, is_upgraded, is_complete, is_open, was_pulled, was_dropped}
+use Rattle.h1_model.specs.Past.{ParsedStep, steps, input_of, parse_of, head_count, current, given_bytes, given_frames, passed, held}
 use Rattle.h1_model.specs.Allowed.{is_unanswered}
-use Rattle.h1_model.specs.OutcomeTable.{run_left, run_outcome, frame_outcome, body_outcome, pull_outcome}
-use Rattle.h1_model.proofs.MessageGrowth.{parse_grows}
 use Rattle.h1_model.proofs.BodyLemmas.{input}
 use Rattle.h1_model.proofs.PastLemmas.{Legal}
 use Rattle.h1_model.proofs.PlaceLemmas.{get_before}
-use Rattle.h1_model.proofs.BodySteps.{Moves, body_moves, Lies, chunks_unframed}
-use Rattle.h1_model.proofs.StepLemmas.{step, taken-nil, taken-cons, since_head-more, head_count-head, given_bytes-more, given_bytes-head, given_frames-more, given_frames-head, complete-head, Quiet, Reads, Ends, Accepts, Begins, Pulls, quiet, reads, stops, accepts, begins, pulls, step_case, parsed, same_input, same_parse}
-use Rattle.h1_model.proofs.TraceGrowth.{IsParsed, message_at, message_behind, grown_at, accepted_at, current_at, current_none}
-use Rattle.h1_model.proofs.PulledLemmas.{Grown, Holds, longer_holds, Idle, idle_pulled, idle_holds, pulled_grows, grown_holds, fresh_holds, pulled_to-head, fit-head, body_pulled, unpulled_place, unpulled_fits}
-use Rattle.h1_model.proofs.CarriedLemmas.{passed_none, passed_some, end_of, passed_complete, passed_pulled, end_below, Sound, Advance, Result, carry}
-
--- ---- idle steps
-
--- all but a head and a pull
-quiet_idle : (before : List ParsedStep) (s : Step) → Quiet before s → Idle s
-quiet_idle before s q = record { pull = q.pull; head = q.head; bytes = q.bytes; frames = q.frames }
-
-reads_idle : (before : List ParsedStep) (s : Step) → Reads before s → Idle s
-reads_idle before s r =
-    record { pull = ap is_pull r.event; head = ap head_of r.outcome; bytes = ap step_bytes r.outcome; frames = ap step_frames r.outcome }
-
-ends_idle : (before : List ParsedStep) (s : Step) → Ends before s → Idle s
-ends_idle before s e =
-    record { pull = ap is_pull e.event; head = ap head_of e.outcome; bytes = ap step_bytes e.outcome; frames = ap step_frames e.outcome }
-
-accepts_idle : (before : List ParsedStep) (s : Step) → Accepts before s → Idle s
-accepts_idle before s a =
-    record { pull = ap is_pull a.event; head = ap head_of a.outcome; bytes = ap step_bytes a.outcome; frames = ap step_frames a.outcome }
-
--- ---- steps that leave the parse
-
--- a message advances to itself by an idle step that takes nothing
-idle_advance : (before : List ParsedStep) (x : ParsedStep) (m : Message) → Idle x.step → step_taken x.step.event x.step.outcome ≡ []
-    → Holds (length (taken (steps before))) m (steps before) → Advance before x m m
-idle_advance before x m idle none holds =
-    let len : length (taken (x.step ∷ steps before)) ≡ length (taken (steps before)) =
-    ap length (taken-cons x.step (steps before) ∙ ap (λ t. taken (steps before) ++ t) none ∙ append-nil (taken (steps before))) in
-    let place = idle_pulled m x.step (steps before) idle in
-    record {
-      holds = subst (λ l. Holds l m (x.step ∷ steps before)) (sym len) (idle_holds (length (taken (steps before))) m x.step (steps before) idle holds);
-      pulled = omega arith;
-      ended = λ _. subst (λ l. end_of (length (taken (steps before))) m.body ≤ end_of l m.body) (sym len) (omega arith);
-    }
-
--- a quiet step
-quiet_step : (before : List ParsedStep) (x : ParsedStep) → Quiet before x.step → IsParse (input_of (x.step ∷ steps before)) x.parse
-    → IsParse (input_of (steps before)) (parse_of before) → Sound before → Result before x
-quiet_step before x q here there s =
-    let same = same_parse x before (same_input x.step (steps before) q.taken q.eof q.accepted) here there in
-    let idle = quiet_idle before x.step q in
-    carry before x (head_count (steps before)) refl q.head s
-    (λ k m at now. (m, ap (λ (l : List Message). slice_get l k) same ∙ at, idle_advance before x m idle q.taken (s.holds m now)))
-
--- a pull hands out no head
-run_no_head : (bytes : List ℕ) (stop : Stop) (left : Option Run) → head_of (run_outcome bytes stop left) ≡ None
-run_no_head bytes stop (Some r) = refl
-run_no_head bytes (ended_at place) None = refl
-run_no_head bytes still_open None = refl
-run_no_head bytes broken None = refl
-run_no_head bytes cut None = refl
-
-frame_no_head : (fail : Option ProtocolError) (next : Option PlacedFrame) → head_of (frame_outcome fail next) ≡ None
-frame_no_head fail (Some f) = refl
-frame_no_head (Some e) None = refl
-frame_no_head None None = refl
-
-body_no_head : (trace : List Step) (b : Body) → head_of (body_outcome trace b) ≡ None
-body_no_head trace no_content = refl
-body_no_head trace (content runs stop) = run_no_head (taken trace) stop (run_left (given_bytes trace) runs)
-body_no_head trace (frames placed fail) = frame_no_head fail (slice_get placed (given_frames trace))
-
-pub pull_no_head : (trace : List Step) (m : Option Message) → head_of (pull_outcome trace m) ≡ None
-pull_no_head trace None = refl
-pull_no_head trace (Some m) = body_no_head trace m.body
-
--- a message advances by a pull
-pull_advance : (before : List ParsedStep) (x : ParsedStep) (m : Message) → x.step.event ≡ on.pull → x.step.outcome ≡ body_outcome (steps before) m.body
-    → IsParsed (input_of (steps before)) m → Holds (length (taken (steps before))) m (steps before) → Advance before x m m
-pull_advance before x m event outcome parsed holds =
-    let o = body_outcome (steps before) m.body in
-    let is : step on.pull o ≡ x.step = λ i. record { event = sym event i; outcome = sym outcome i } in
-    let p = body_pulled m.reading m.body_start m.body (steps before)
-    (chunks_unframed (input_of (steps before)) m.reading m.body_start m.body parsed.body) parsed.lies holds in
-    let none : step_taken x.step.event x.step.outcome ≡ [] = ap (λ e. step_taken e x.step.outcome) event in
-    let len : length (taken (x.step ∷ steps before)) ≡ length (taken (steps before)) =
-    ap length (taken-cons x.step (steps before) ∙ ap (λ t. taken (steps before) ++ t) none ∙ append-nil (taken (steps before))) in
-    record {
-      holds = subst₂ (λ l t. Holds l m (t ∷ steps before)) (sym len) is p.holds;
-      pulled = subst (λ t. pulled_to m (steps before) ≤ pulled_to m (t ∷ steps before)) is p.passes;
-      ended = λ _. subst (λ l. end_of (length (taken (steps before))) m.body ≤ end_of l m.body) (sym len) (omega arith);
-    }
-
--- a pull
-pull_step : (before : List ParsedStep) (x : ParsedStep) → Pulls before x.step → IsParse (input_of (x.step ∷ steps before)) x.parse
-    → IsParse (input_of (steps before)) (parse_of before) → Sound before → Result before x
-pull_step before x p here there s =
-    let i = input_of (steps before) in
-    let none : step_taken x.step.event x.step.outcome ≡ [] = ap (λ e. step_taken e x.step.outcome) p.event in
-    let same = same_parse x before (same_input x.step (steps before) none (ap is_eof p.event) (ap (λ e. is_accepted e x.step.outcome) p.event)) here there in
-    carry before x (head_count (steps before)) refl (ap head_of p.outcome ∙ pull_no_head (steps before) (current before)) s
-    (λ k m at now. (
-      m,
-      ap (λ (l : List Message). slice_get l k) same ∙ at,
-      pull_advance before x m p.event (p.outcome ∙ ap (pull_outcome (steps before)) now) (message_at i 0 (parse_of before) k m there (omega arith) at) (s.holds m now),
-    ))
-
--- what is passed lies in front of the body of the message that is to come
-head_behind : (before : List ParsedStep) (n : Message) (count : ℕ) → head_count (steps before) ≡ count
-    → IsParse (input_of (steps before)) (parse_of before)
-    → slice_get (parse_of before) count ≡ Some n → Sound before → passed before ≤ n.body_start
-head_behind before n zero e there at s = let none = passed_none before (current_none before e) in omega arith
-head_behind before n (suc k) e there at s =
-    let i = input_of (steps before) in
-    let m = get_before (parse_of before) k (omega (arith, s.count)) in
-    let here = current_at before k e ∙ m.1 in
-    let behind = message_behind i 0 (parse_of before) k m.0 n there m.1 at in
-    let start = behind.2.body_start in
-    let place : behind.0 ≤ n.body_start = omega arith in
-    let holds = s.holds m.0 here in
-    subst (λ p. p ≤ n.body_start) (sym (passed_some before m.0 here))
-    (elim (cases_Bool (is_complete (steps before))) [
-      | inl complete ↦
-          let end = ap (λ o. unwrap_or o (length (taken (steps before)))) behind.1 in
-          subst (λ p. p ≤ n.body_start) (sym (passed_complete before m.0 complete ∙ end)) place
-      | inr answering ↦ subst (λ p. p ≤ n.body_start) (sym (passed_pulled before m.0 answering)) (omega (arith, holds.before_next behind.0 behind.1))
-    ])
-
--- a head is handed out
-head_step : (before : List ParsedStep) (x : ParsedStep) → Begins before x.step → IsParse (input_of (x.step ∷ steps before)) x.parse
-    → IsParse (input_of (steps before)) (parse_of before) → Sound before → Result before x
-head_step before x b here there s =
-    let i = input_of (steps before) in
-    let n = head_count (steps before) in
-    let m = b.message in
-    let none : step_taken x.step.event x.step.outcome ≡ [] = ap (λ e. step_taken e x.step.outcome) b.event in
-    let same = same_parse x before (same_input x.step (steps before) none (ap is_eof b.event) (ap (λ e. is_accepted e x.step.outcome) b.event)) here there in
-    let at : slice_get x.parse n ≡ Some m = ap (λ (l : List Message). slice_get l n) same ∙ b.upcoming_is in
-    let some : head_of x.step.outcome ≡ Some b.head = ap head_of b.outcome in
-    let count = head_count-head x.step (steps before) b.head some in
-    let now = current_at (x ∷ before) n count ∙ at in
-    let within = slice_get_within x.parse n m at in
-    let lies = (message_at (input_of (x.step ∷ steps before)) 0 x.parse n m here (omega arith) at).lies in
-    let place = pulled_to-head m x.step (steps before) b.head some in
-    let holds = fresh_holds (length (taken (x.step ∷ steps before))) m (x.step ∷ steps before) lies place
-    (given_bytes-head x.step (steps before) b.head some) (given_frames-head x.step (steps before) b.head some) (fit-head m x.step (steps before) b.head some) in
-    let after = passed_some (x ∷ before) m now ∙ passed_pulled (x ∷ before) m (complete-head x.step (steps before) b.head some) ∙ place in
-    let upto = head_behind before m n refl there b.upcoming_is s in (
-      record {
-        count = omega arith;
-        holds = λ p q. subst (λ r. Holds (length (taken (x.step ∷ steps before))) r (x.step ∷ steps before)) (same_Some m p (sym now ∙ q)) holds;
-      },
-      omega arith,
-    )
-
--- ---- steps by which the parse grows
-
--- the message in the same place of the grown parse
-grows_at : (i j : Input) (more : List ℕ) (ms ns : List Message) (k : ℕ) (m : Message) → j.bytes ≡ i.bytes ++ more → j.upgraded ≡ i.upgraded
-    → i.ended ≡ false
-    → IsParse i ms → IsParse j ns → slice_get ms k ≡ Some m
-    → (n : Message) × (slice_get ns k ≡ Some n) × (m.reading ≡ n.reading) × (m.body_start ≡ n.body_start) × Moves (length i.bytes) m.body n.body × IsParsed j n
-grows_at i j more ms ns k m bytes upgraded ended x y at =
-    let n = grown_at i.bytes j.bytes ms ns k m (parse_grows i j more ms ns bytes upgraded ended x y) at in
-    let old = message_at i 0 ms k m x (omega arith) at in
-    let new = message_at j 0 ns k n.0 y (omega arith) n.1 in
-    let a = subst (λ e. IsBodyAfter (input i.bytes i.upgraded e) m.reading m.body_start m.body) ended old.body in
-    let b = subst₂ (λ (t : List ℕ) u. IsBodyAfter (input t u j.ended) n.0.reading n.0.body_start n.0.body) bytes upgraded new.body in
-    let b' = subst₂ (λ r p. IsBodyAfter (input (i.bytes ++ more) i.upgraded j.ended) r p n.0.body) (sym n.2.reading) (sym n.2.body_start) b in
-    (n.0, n.1, n.2.reading, n.2.body_start, body_moves i.bytes more i.upgraded j.ended m.reading m.body_start m.body n.0.body old.lies.start a b', new)
-
--- what holds of a message holds of the grown one, and pulls pass as much of it
-grown_message : (len longer : ℕ) (m n : Message) (trace : List Step) → m.reading ≡ n.reading → m.body_start ≡ n.body_start → Moves len m.body n.body
-    → Lies longer n.body_start n.body → Holds len m trace → Holds len n trace × (pulled_to m trace ≡ pulled_to n trace)
-grown_message len longer m n trace reading start (inl same) lies holds =
-    let is : m ≡ n = λ i. record { reading = reading i; body_start = start i; body = same i } in
-    (subst (λ p. Holds len p trace) is holds, ap (λ p. pulled_to p trace) is)
-grown_message len longer m n trace reading start (inr opened) lies holds =
-    let g : Grown len m n = record { reading = reading; body_start = start; body = opened } in
-    (grown_holds len longer m n trace g lies holds, (pulled_grows len n.body_start longer m n trace g lies.runs holds.pulls_fit).0)
-
--- a body that was open ends no sooner
-end_later : (len longer : ℕ) (o : Option ℕ) → len ≤ longer → ((place : ℕ) → o ≡ Some place → len ≤ place) → len ≤ unwrap_or o longer
-end_later len longer None less later = less
-end_later len longer (Some place) less later = later place refl
-
--- one that had ended has the same end
-same_end : (len longer : ℕ) (o : Option ℕ) → len ≤ longer → unwrap_or o len ≤ unwrap_or o longer
-same_end len longer None less = less
-same_end len longer (Some place) less = omega arith
-
--- a body ends no sooner when it grows
-grown_end : (len longer : ℕ) (a b : Body) → Moves len a b → len ≤ longer → end_of len a ≤ end_of longer b
-grown_end len longer a b (inl same) less =
-    subst (λ (c : Body). end_of len a ≤ end_of longer c) same (same_end len longer (next_start a) less)
-grown_end len longer a b (inr opened) less =
-    subst (λ o. unwrap_or o len ≤ end_of longer b) (sym opened.next) (end_later len longer (next_start b) less opened.later)
-
--- a message advances by an idle step, as the parse grows
-grown_advance : (before : List ParsedStep) (x : ParsedStep) (m n : Message) → Idle x.step → m.reading ≡ n.reading → m.body_start ≡ n.body_start
-    → Moves (length (taken (steps before))) m.body n.body → IsParsed (input_of (x.step ∷ steps before)) n
-    → length (taken (steps before)) ≤ length (taken (x.step ∷ steps before)) → Holds (length (taken (steps before))) m (steps before)
-    → Advance before x m n
-grown_advance before x m n idle reading start body parsed less holds =
-    let len = length (taken (steps before)) in
-    let longer = length (taken (x.step ∷ steps before)) in
-    let moved = grown_message len longer m n (steps before) reading start body parsed.lies holds in
-    let place = idle_pulled n x.step (steps before) idle in
-    record {
-      holds = longer_holds len longer n (x.step ∷ steps before) less (idle_holds len n x.step (steps before) idle moved.0);
-      pulled = omega (arith, moved.1);
-      ended = λ _. grown_end len longer m.body n.body body less;
-    }
-
--- bytes are read
-read_step : (before : List ParsedStep) (x : ParsedStep) → Reads before x.step → IsParse (input_of (x.step ∷ steps before)) x.parse
-    → IsParse (input_of (steps before)) (parse_of before) → Sound before → Result before x
-read_step before x r here there s =
-    let i = input_of (steps before) in
-    let j = input_of (x.step ∷ steps before) in
-    let more = step_taken x.step.event x.step.outcome in
-    let bytes = taken-cons x.step (steps before) in
-    let upgraded : j.upgraded ≡ i.upgraded = ap (λ e. is_accepted e x.step.outcome || is_upgraded (steps before)) r.event in
-    let idle = reads_idle before x.step r in
-    let len = ap length bytes ∙ length-append (taken (steps before)) more in
-    carry before x (head_count (steps before)) refl idle.head s
-    (λ k m at now.
-    let n = grows_at i j more (parse_of before) x.parse k m bytes upgraded r.unended there here at in
-    (n.0, n.1, grown_advance before x m n.0 idle n.2 n.3 n.4 n.5 (omega arith) (s.holds m now)))
-
--- the input ends
-end_step : (before : List ParsedStep) (x : ParsedStep) → Ends before x.step → IsParse (input_of (x.step ∷ steps before)) x.parse
-    → IsParse (input_of (steps before)) (parse_of before) → Sound before → Result before x
-end_step before x r here there s =
-    let i = input_of (steps before) in
-    let j = input_of (x.step ∷ steps before) in
-    let none : step_taken x.step.event x.step.outcome ≡ [] = ap (λ e. step_taken e x.step.outcome) r.event in
-    let bytes : j.bytes ≡ i.bytes ++ [] = taken-cons x.step (steps before) ∙ ap (λ t. taken (steps before) ++ t) none in
-    let upgraded : j.upgraded ≡ i.upgraded = ap (λ e. is_accepted e x.step.outcome || is_upgraded (steps before)) r.event in
-    let idle = ends_idle before x.step r in
-    let len = ap length bytes ∙ length-append (taken (steps before)) [] in
-    carry before x (head_count (steps before)) refl idle.head s
-    (λ k m at now.
-    let n = grows_at i j [] (parse_of before) x.parse k m bytes upgraded r.unended there here at in
-    (n.0, n.1, grown_advance before x m n.0 idle n.2 n.3 n.4 n.5 (omega arith) (s.holds m now)))
+use Rattle.h1_model.proofs.StepLemmas.{taken-nil, taken-cons, accepted-cons, since_head-more, given_bytes-more, given_bytes-head, given_frames-more, given_frames-head, Accepts, quiet, reads, stops, accepts, begins, pulls, step_case, parsed}
+use Rattle.h1_model.proofs.TraceGrowth.{IsParsed, message_at, accepted_at, current_at, current_none}
+use Rattle.h1_model.proofs.PulledLemmas.{Idle, idle_pulled, idle_holds, fresh_holds, unpulled_place, unpulled_fits}
+use Rattle.h1_model.proofs.CarriedLemmas.{passed_none, passed_some, passed_complete, passed_pulled, end_below, Sound, Advance, Result, carry}
+use Rattle.h1_model.proofs.HeldSteps.{quiet_idle, reads_idle, ends_idle, accepts_idle, quiet_step, pull_no_head, pull_step, head_step, read_step, end_step}
 
 -- ---- a WebSocket is accepted
 
@@ -282,7 +41,7 @@ unpulled_given setting (m ∷ before) x e =
     let t = steps before in
     elim (step_case setting before m.step.event m.step.outcome x.1 x.2) [
       | quiet q ↦ idle_given before m.step (quiet_idle before m.step q) e (unpulled_given setting before x.3)
-      | reads r ↦ idle_given before m.step (reads_idle before m.step r) e (unpulled_given setting before x.3)
+      | reads r ↦ idle_given before m.step (reads_idle setting before m.step r) e (unpulled_given setting before x.3)
       | stops r ↦ idle_given before m.step (ends_idle before m.step r) e (unpulled_given setting before x.3)
       | accepts a ↦ idle_given before m.step (accepts_idle before m.step a) e (unpulled_given setting before x.3)
       | begins b ↦ (given_bytes-head m.step t b.head (ap head_of b.outcome), given_frames-head m.step t b.head (ap head_of b.outcome))
@@ -306,12 +65,17 @@ not_complete trace x complete =
     go false false a b d = false≢true d
 
 -- it was no WebSocket yet
-not_upgraded : (trace : List Step) → is_unanswered trace ≡ true → is_upgraded trace ≡ false
-not_upgraded trace x = not-true (is_upgraded trace) (and_parts (is_open trace && is_none (answered trace)) (not (is_upgraded trace)) x).1
+not_upgraded : (trace : List Step) → is_unanswered trace ≡ true → accepted trace ≡ None
+not_upgraded trace x =
+    go (accepted trace) (not-true (is_upgraded trace) (and_parts (is_open trace && is_none (answered trace)) (not (is_upgraded trace)) x).1)
+  where
+    go : (o : Option ℕ) → is_some o ≡ false → o ≡ None
+    go None e = refl
+    go (Some limit) e = absurd (true≢false e)
 
 -- a message advances by the acceptance
 accept_advance : (setting : Setting) (before : List ParsedStep) (x : ParsedStep) (m n : Message) → Accepts before x.step → Legal setting before
-    → m.body_start ≡ n.body_start → IsParsed (input_of (x.step ∷ steps before)) n
+    → m.body_start ≡ n.body_start → IsParsed (input_of setting (x.step ∷ steps before)) n
     → length (taken (x.step ∷ steps before)) ≡ length (taken (steps before)) → Advance before x m n
 accept_advance setting before x m n a old start parsed len =
     let t = steps before in
@@ -330,21 +94,23 @@ accept_advance setting before x m n a old start parsed len =
 
 -- a WebSocket is accepted
 accept_step : (setting : Setting) (before : List ParsedStep) (x : ParsedStep) → Accepts before x.step → Legal setting before
-    → IsParse (input_of (x.step ∷ steps before)) x.parse
-    → IsParse (input_of (steps before)) (parse_of before) → Sound before → Result before x
+    → IsParse (input_of setting (x.step ∷ steps before)) x.parse
+    → IsParse (input_of setting (steps before)) (parse_of before) → Sound before → Result before x
 accept_step setting before x a old here there s =
     let t = steps before in
-    let j = input_of (x.step ∷ t) in
+    let size = setting.hold_size in
+    let j = input_of setting (x.step ∷ t) in
     let none : step_taken x.step.event x.step.outcome ≡ [] = ap (λ e. step_taken e x.step.outcome) a.event in
     let bytes : taken (x.step ∷ t) ≡ taken t = taken-cons x.step t ∙ ap (λ b. taken t ++ b) none ∙ append-nil (taken t) in
-    let now_upgraded : j.upgraded ≡ true = λ i. is_accepted (a.event i) (a.outcome i) || is_upgraded t in
+    let now_upgraded : j.upgraded ≡ Some a.limit =
+    accepted-cons x.step t ∙ (λ i. option_or (accepted_limit (a.event i) (a.outcome i)) (accepted t)) in
     let ended : j.ended ≡ has_ended t = ap (λ e. is_eof e || has_ended t) a.event in
-    let was = subst (λ u. IsParse (input (taken t) u (has_ended t)) (parse_of before)) (not_upgraded t a.unanswered) there in
-    let is : j ≡ input (taken t) true (has_ended t) = λ i. record { bytes = bytes i; upgraded = now_upgraded i; ended = ended i } in
+    let was = subst (λ u. IsParse (input (taken t) u (has_ended t) size) (parse_of before)) (not_upgraded t a.unanswered) there in
+    let is : j ≡ input (taken t) (Some a.limit) (has_ended t) size = λ i. input (bytes i) (now_upgraded i) (ended i) size in
     let now = subst (λ (k : Input). IsParse k x.parse) is here in
     carry before x (head_count t) refl (ap head_of a.outcome) s
     (λ k m at current_is.
-    let n = accepted_at (taken t) (has_ended t) 0 (parse_of before) x.parse k m was now at in
+    let n = accepted_at (taken t) a.limit (has_ended t) size 0 (parse_of before) x.parse k m was now at in
     (n.0, n.1, accept_advance setting before x m n.0 a old n.2.body_start (message_at j 0 x.parse k n.0 here (omega arith) n.1) (ap length bytes)))
 
 -- ---- every past
@@ -354,22 +120,22 @@ next_sound : (setting : Setting) (before : List ParsedStep) (x : ParsedStep) →
 next_sound setting before x l s =
     let there = parsed setting before l.3 in
     elim (step_case setting before x.step.event x.step.outcome l.1 l.2) [
-      | quiet q ↦ quiet_step before x q l.0 there s
-      | reads r ↦ read_step before x r l.0 there s
-      | stops e ↦ end_step before x e l.0 there s
+      | quiet q ↦ quiet_step setting before x q l.0 there s
+      | reads r ↦ read_step setting before x r l.0 there s
+      | stops e ↦ end_step setting before x e l.0 there s
       | accepts a ↦ accept_step setting before x a l.3 l.0 there s
-      | begins b ↦ head_step before x b l.0 there s
-      | pulls p ↦ pull_step before x p l.0 there s
+      | begins b ↦ head_step setting before x b l.0 there s
+      | pulls p ↦ pull_step setting before x p l.0 there s
     ]
 
 -- no more is taken than there is room for
 pub taken_room : (setting : Setting) (before : List ParsedStep) (x : ParsedStep) → Legal setting (x ∷ before)
-    → length (step_taken x.step.event x.step.outcome) ≤ MAX_HELD - held before
+    → length (step_taken x.step.event x.step.outcome) ≤ setting.hold_size - held before
 taken_room setting before x l =
     elim (step_case setting before x.step.event x.step.outcome l.1 l.2) [
       | quiet q ↦ omega (arith, ap length q.taken)
       | reads r ↦
-          let n = min (length r.bytes) (MAX_HELD - held before) in
+          let n = min (length r.bytes) (setting.hold_size - held before) in
           let is : step_taken x.step.event x.step.outcome ≡ take n r.bytes = λ i. step_taken (r.event i) (r.outcome i) in
           omega (arith, ap length is, length-take n r.bytes)
       | stops e ↦ omega (arith, ap (λ t. length (step_taken t x.step.outcome)) e.event)
@@ -379,13 +145,14 @@ taken_room setting before x l =
     ]
 
 -- no more is passed than was taken
-passed_taken : (past : List ParsedStep) (count : ℕ) → head_count (steps past) ≡ count → IsParse (input_of (steps past)) (parse_of past) → Sound past
+passed_taken : (setting : Setting) (past : List ParsedStep) (count : ℕ) → head_count (steps past) ≡ count
+    → IsParse (input_of setting (steps past)) (parse_of past) → Sound past
     → passed past ≤ length (taken (steps past))
-passed_taken past zero e x s = let none = passed_none past (current_none past e) in omega arith
-passed_taken past (suc k) e x s =
+passed_taken setting past zero e x s = let none = passed_none past (current_none past e) in omega arith
+passed_taken setting past (suc k) e x s =
     let m = get_before (parse_of past) k (omega (arith, s.count)) in
     let here = current_at past k e ∙ m.1 in
-    let lies = (message_at (input_of (steps past)) 0 (parse_of past) k m.0 x (omega arith) m.1).lies in
+    let lies = (message_at (input_of setting (steps past)) 0 (parse_of past) k m.0 x (omega arith) m.1).lies in
     let holds = s.holds m.0 here in
     subst (λ n. n ≤ length (taken (steps past))) (sym (passed_some past m.0 here))
     (elim (cases_Bool (is_complete (steps past))) [
@@ -395,12 +162,12 @@ passed_taken past (suc k) e x s =
     ])
 
 -- what is shown of every past
-pub record Bounded (past : List ParsedStep) : Type 0 where
+pub record Bounded (setting : Setting) (past : List ParsedStep) : Type 0 where
   pub sound : Sound past
   pub passed : passed past ≤ length (taken (steps past))
-  pub held : held past ≤ MAX_HELD
+  pub held : held past ≤ setting.hold_size
 
-pub bounded : (setting : Setting) (past : List ParsedStep) → Legal setting past → Bounded past
+pub bounded : (setting : Setting) (past : List ParsedStep) → Legal setting past → Bounded setting past
 bounded setting [] l =
     let none = passed_none [] refl in
     let empty = ap length taken-nil in
@@ -418,7 +185,7 @@ bounded setting (x ∷ before) l =
     let old_held = old.held in
     record {
       sound = new.0;
-      passed = passed_taken (x ∷ before) (head_count (x.step ∷ steps before)) refl l.0 new.0;
+      passed = passed_taken setting (x ∷ before) (head_count (x.step ∷ steps before)) refl l.0 new.0;
       held = omega (arith, new.1);
     }
 

@@ -1,4 +1,3 @@
-pub mod ChunkStubs
 pub mod SearchLemmas
 pub mod BlankLemmas
 pub mod HeadPieceLemmas
@@ -26,9 +25,13 @@ pub mod StepLemmas
 pub mod BodySteps
 pub mod TraceGrowth
 pub mod PulledLemmas
+pub mod PullSteps
 pub mod CarriedLemmas
+pub mod HeldSteps
 pub mod HeldLemmas
 pub mod WrittenLemmas
+pub mod EventLemmas
+pub mod ClosingLemmas
 pub mod HandedPrefix
 pub mod HandedRuns
 pub mod HandedTrace

@@ -8,7 +8,7 @@ use Rattle.h1_model.specs.Request.{BodyKind, no_body, fixed_body, chunked_body, 
 use Rattle.h1_model.specs.Parse.{Input, connection_reader, Message, Body, no_content, content, frames, Stop, ended_at, still_open, broken, cut, open_or_cut, run_between, fixed_content, raw_content, shifted, chunked_stop, next_start, IsBodyOf, IsBodyAfter, IsMessageAt, AreMessages, IsParse}
 use Rattle.h1_model.proofs.HeadPieceLemmas.{head_piece_decided}
 use Rattle.h1_model.proofs.FrameLemmas.{frames_read}
-use Rattle.h1_model.proofs.ChunkStubs.{every_text_read}
+use Rattle.h1_chunks.proofs.Verdicts.{every_text_read}
 use Rattle.h1_model.proofs.BodyLemmas.{input}
 use Rattle.h1_model.proofs.BodyGrowth.{fixed_whole, fixed_part}
 use Rattle.h1_model.proofs.MessageGrowth.{piece_end, piece_long}

@@ -2,9 +2,10 @@
 use Rattle.std.proofs.Common.{◌≡◌, ℕ, suc, ◌+◌, ◌-◌, min, Bool, true, false, cond, List, [], ◌∷◌, ◌++◌, length, Option, Some, None, refl, sym, ap, ◌∙◌, subst, arith, append-nil}
 use Rattle.std.specs.Prelude.{IsTrue, is_some, ◌||◌, ◌==◌, unwrap_or, option_map, option_and_then}
 use Rattle.std.specs.List.{list_any}
+use Rattle.std.specs.Option.{option_or}
 use Rattle.std.proofs.lemmas.Bool.{cond-true, cond-false, cond_both, or_right, and_parts, not-true, false≢true}
 use Rattle.std.proofs.lemmas.List.Sums.{sum_by-cons}
-use Rattle.h1_model.specs.Request.{Head, Reading, too_large, malformed, head_is}
+use Rattle.h1_model.specs.Request.{Head, too_large, Reading, head_is, faulty}
 use Rattle.h1_model.specs.Setting.{Setting}
 use Rattle.h1_model.specs.Frame.{ProtocolError}
 use Rattle.h1_model.specs.Parse.{Input, Message, IsParse}
@@ -13,8 +14,7 @@ use Rattle.h1_model.specs.End as ends
 use Rattle.h1_model.specs.End.{End}
 use Rattle.h1_model.specs.Event.{Event, Outcome}
 use Rattle.h1_model.specs.Event as on
-use Rattle.h1_model.specs.Sums.{Step, step_taken, taken, is_eof, is_pull, is_accepted, has_ended, is_upgraded, head_of, since_head, completes, is_complete, was_pulled, was_dropped, request}
-use Rattle.h1_model.specs.Limits.{MAX_HELD}
+use Rattle.h1_model.specs.Sums.{Step, step_taken, taken, is_eof, is_pull, accepted_limit, has_ended, accepted, head_of, since_head, completes, is_complete, was_pulled, was_dropped, request}
 use Rattle.h1_model.specs.Past.{ParsedStep, steps, input_of, parse_of, head_count, current, upcoming, step_bytes, step_frames, given_bytes, given_frames, held}
 use Rattle.h1_model.specs.Closing.{closing}
 use Rattle.h1_model.specs.Allowed.{is_allowed_running, is_allowed_closing, is_allowed, is_unanswered}
@@ -33,6 +33,11 @@ taken-nil = refl
 pub taken-cons : (s : Step) (before : List Step) → taken (s ∷ before) ≡ taken before ++ step_taken s.event s.outcome
 unfolding taken
 taken-cons s before = refl
+
+-- the limit of payloads
+pub accepted-cons : (s : Step) (before : List Step) → accepted (s ∷ before) ≡ option_or (accepted_limit s.event s.outcome) (accepted before)
+unfolding accepted
+accepted-cons s before = refl
 
 -- the steps behind the head
 pub since_head-more : (s : Step) (before : List Step) → head_of s.outcome ≡ None → since_head (s ∷ before) ≡ s ∷ since_head before
@@ -104,17 +109,17 @@ IsMute o = (head_of o ≡ None) × (step_bytes o ≡ 0) × (step_frames o ≡ 0)
 pub record Quiet (before : List ParsedStep) (s : Step) : Type 0 where
   pub taken : step_taken s.event s.outcome ≡ []
   pub eof : is_eof s.event ≡ false
-  pub accepted : is_accepted s.event s.outcome ≡ false
+  pub accepted : accepted_limit s.event s.outcome ≡ None
   pub pull : is_pull s.event ≡ false
   pub head : head_of s.outcome ≡ None
   pub bytes : step_bytes s.outcome ≡ 0
   pub frames : step_frames s.outcome ≡ 0
 
 -- bytes were read before the end of the input
-pub record Reads (before : List ParsedStep) (s : Step) : Type 0 where
+pub record Reads (setting : Setting) (before : List ParsedStep) (s : Step) : Type 0 where
   pub bytes : List ℕ
   pub event : s.event ≡ on.read bytes
-  pub outcome : s.outcome ≡ on.took (min (length bytes) (MAX_HELD - held before))
+  pub outcome : s.outcome ≡ on.took (min (length bytes) (setting.hold_size - held before))
   pub unended : has_ended (steps before) ≡ false
 
 -- the input ended
@@ -125,7 +130,8 @@ pub record Ends (before : List ParsedStep) (s : Step) : Type 0 where
 
 -- a WebSocket was accepted, before any pull
 pub record Accepts (before : List ParsedStep) (s : Step) : Type 0 where
-  pub event : s.event ≡ on.accept
+  pub limit : ℕ
+  pub event : s.event ≡ on.accept limit
   pub outcome : s.outcome ≡ on.done
   pub unanswered : is_unanswered (steps before) ≡ true
   pub unpulled : (was_pulled (steps before) || was_dropped (steps before)) ≡ false
@@ -144,13 +150,13 @@ pub record Pulls (before : List ParsedStep) (s : Step) : Type 0 where
   pub event : s.event ≡ on.pull
   pub outcome : s.outcome ≡ pull_outcome (steps before) (current before)
 
-pub data StepCase (before : List ParsedStep) (s : Step) : Type 0 where
-  quiet : Quiet before s → StepCase before s
-  reads : Reads before s → StepCase before s
-  stops : Ends before s → StepCase before s
-  accepts : Accepts before s → StepCase before s
-  begins : Begins before s → StepCase before s
-  pulls : Pulls before s → StepCase before s
+pub data StepCase (setting : Setting) (before : List ParsedStep) (s : Step) : Type 0 where
+  quiet : Quiet before s → StepCase setting before s
+  reads : Reads setting before s → StepCase setting before s
+  stops : Ends before s → StepCase setting before s
+  accepts : Accepts before s → StepCase setting before s
+  begins : Begins before s → StepCase setting before s
+  pulls : Pulls before s → StepCase setting before s
 
 -- a step
 abbrev pub step : Event → Outcome → Step
@@ -161,14 +167,14 @@ mute : (o o' : Outcome) → o ≡ o' → IsMute o' → IsMute o
 mute o o' e x = subst IsMute (sym e) x
 
 -- a quiet step
-silent : (before : List ParsedStep) (e : Event) (o o' : Outcome) → o ≡ o' → IsMute o' → step_taken e o' ≡ [] → is_eof e ≡ false
-    → is_accepted e o' ≡ false → is_pull e ≡ false → StepCase before (step e o)
-silent before e o o' same x taken eof accepted pull =
+silent : (setting : Setting) (before : List ParsedStep) (e : Event) (o o' : Outcome) → o ≡ o' → IsMute o' → step_taken e o' ≡ [] → is_eof e ≡ false
+    → accepted_limit e o' ≡ None → is_pull e ≡ false → StepCase setting before (step e o)
+silent setting before e o o' same x taken eof accepted pull =
     let m = mute o o' same x in
     quiet (record {
       taken = ap (step_taken e) same ∙ taken;
       eof = eof;
-      accepted = ap (is_accepted e) same ∙ accepted;
+      accepted = ap (accepted_limit e) same ∙ accepted;
       pull = pull;
       head = m.0;
       bytes = m.1;
@@ -176,29 +182,29 @@ silent before e o o' same x taken eof accepted pull =
     })
 
 -- the head of a message that is to come, or its fault
-head_case : (before : List ParsedStep) (o : Outcome) (m : Message) (r : Reading) → upcoming before ≡ Some m → m.reading ≡ r → o ≡ head_outcome r
-    → StepCase before (step on.next o)
-head_case before o m (head_is h) e read x =
+head_case : (setting : Setting) (before : List ParsedStep) (o : Outcome) (m : Message) (r : Reading) → upcoming before ≡ Some m → m.reading ≡ r
+    → o ≡ head_outcome r → StepCase setting before (step on.next o)
+head_case setting before o m (head_is h) e read x =
     begins (record { message = m; head = h; event = refl; outcome = x; upcoming_is = e; reading = read })
-head_case before o m malformed e read x = silent before on.next o _ x (refl, refl, refl) refl refl refl refl
-head_case before o m too_large e read x = silent before on.next o _ x (refl, refl, refl) refl refl refl refl
+head_case setting before o m (faulty fault) e read x = silent setting before on.next o _ x (refl, refl, refl) refl refl refl refl
 
 -- where no message is to come
-none_mute : (past : List ParsedStep) → IsMute (upcoming_outcome past None)
-none_mute past =
-    cond_both (held past == MAX_HELD) (on.fault on.too_large) on.pending IsMute
+none_mute : (setting : Setting) (past : List ParsedStep) → IsMute (upcoming_outcome setting past None)
+none_mute setting past =
+    cond_both (held past == setting.hold_size) (on.fault too_large) on.pending IsMute
     (λ _. (refl, refl, refl)) (λ _. (refl, refl, refl))
 
 -- Next while the connection is open, by the message that is to come
-coming_case : (before : List ParsedStep) (o : Outcome) (m : Option Message) → upcoming before ≡ m → o ≡ upcoming_outcome before m
-    → StepCase before (step on.next o)
-coming_case before o (Some m) e x = head_case before o m m.reading e refl x
-coming_case before o None e x = silent before on.next o _ x (none_mute before) refl refl refl refl
+coming_case : (setting : Setting) (before : List ParsedStep) (o : Outcome) (m : Option Message) → upcoming before ≡ m
+    → o ≡ upcoming_outcome setting before m → StepCase setting before (step on.next o)
+coming_case setting before o (Some m) e x = head_case setting before o m m.reading e refl x
+coming_case setting before o None e x = silent setting before on.next o _ x (none_mute setting before) refl refl refl refl
 
 -- Next, by what closes the connection
-next_case : (before : List ParsedStep) (o : Outcome) (end : Option End) → o ≡ next_outcome before end → StepCase before (step on.next o)
-next_case before o (Some end) x = silent before on.next o _ x (refl, refl, refl) refl refl refl refl
-next_case before o None x = coming_case before o (upcoming before) refl x
+next_case : (setting : Setting) (before : List ParsedStep) (o : Outcome) (end : Option End) → o ≡ next_outcome setting before end
+    → StepCase setting before (step on.next o)
+next_case setting before o (Some end) x = silent setting before on.next o _ x (refl, refl, refl) refl refl refl refl
+next_case setting before o None x = coming_case setting before o (upcoming before) refl x
 
 -- a tick hands out nothing
 tick_mute : (setting : Setting) (past : List ParsedStep) (end : Option End) (first ms : ℕ) → IsMute (tick_outcome setting past end first ms)
@@ -217,60 +223,65 @@ send_mute None = (refl, refl, refl)
 send_mute (Some e) = (refl, refl, refl)
 
 -- Accept, by what is wrong with the handshake
-accept_case : (before : List ParsedStep) (o : Outcome) (wrong : Option HandshakeError) → o ≡ unwrap_or (option_map on.refused wrong) on.done
-    → is_unanswered (steps before) ≡ true
-    → (was_pulled (steps before) || was_dropped (steps before)) ≡ false → StepCase before (step on.accept o)
-accept_case before o (Some e) x unanswered unpulled =
-    silent before on.accept o (on.refused e) x (refl, refl, refl) refl refl refl refl
-accept_case before o None x unanswered unpulled =
-    accepts (record { event = refl; outcome = x; unanswered = unanswered; unpulled = unpulled })
+accept_case : (setting : Setting) (before : List ParsedStep) (limit : ℕ) (o : Outcome) (wrong : Option HandshakeError)
+    → o ≡ unwrap_or (option_map on.refused wrong) on.done → is_unanswered (steps before) ≡ true
+    → (was_pulled (steps before) || was_dropped (steps before)) ≡ false → StepCase setting before (step (on.accept limit) o)
+accept_case setting before limit o (Some e) x unanswered unpulled =
+    silent setting before (on.accept limit) o (on.refused e) x (refl, refl, refl) refl refl refl refl
+accept_case setting before limit o None x unanswered unpulled =
+    accepts (record { limit = limit; event = refl; outcome = x; unanswered = unanswered; unpulled = unpulled })
 
 -- each event that is allowed
 pub step_case : (setting : Setting) (before : List ParsedStep) (e : Event) (o : Outcome) → IsTrue (is_allowed setting before e)
-    → o ≡ outcome_of setting before e → StepCase before (step e o)
+    → o ≡ outcome_of setting before e → StepCase setting before (step e o)
 unfolding outcome_of
 step_case setting before (on.read bytes) o ok x =
     reads (record { bytes = bytes; event = refl; outcome = x; unended = not-true _ (allowed_open setting before (on.read bytes) refl ok) })
 step_case setting before on.eof o ok x =
     stops (record { event = refl; outcome = x; unended = not-true _ (allowed_open setting before on.eof refl ok) })
-step_case setting before on.next o ok x = next_case before o (closing setting before) x
+step_case setting before on.next o ok x = next_case setting before o (closing setting before) x
 step_case setting before on.pull o ok x = pulls (record { event = refl; outcome = x })
-step_case setting before on.drop_body o ok x = silent before on.drop_body o on.done x (refl, refl, refl) refl refl refl refl
-step_case setting before on.go_on o ok x = silent before on.go_on o on.done x (refl, refl, refl) refl refl refl refl
+step_case setting before on.drop_body o ok x = silent setting before on.drop_body o on.done x (refl, refl, refl) refl refl refl refl
+step_case setting before on.go_on o ok x = silent setting before on.go_on o on.done x (refl, refl, refl) refl refl refl refl
 step_case setting before (on.answer head size) o ok x =
-    silent before (on.answer head size) o on.done x (refl, refl, refl) refl refl refl refl
-step_case setting before (on.chunk bytes) o ok x = silent before (on.chunk bytes) o on.done x (refl, refl, refl) refl refl refl refl
-step_case setting before on.body_end o ok x = silent before on.body_end o on.done x (refl, refl, refl) refl refl refl refl
-step_case setting before on.body_error o ok x = silent before on.body_error o on.done x (refl, refl, refl) refl refl refl refl
-step_case setting before (on.write n) o ok x = silent before (on.write n) o _ x (refl, refl, refl) refl refl refl refl
-step_case setting before (on.tick ms) o ok x = silent before (on.tick ms) o _ x (tick_mute setting before (closing setting before) _ ms) refl refl refl refl
-step_case setting before on.drain o ok x = silent before on.drain o on.done x (refl, refl, refl) refl refl refl refl
-step_case setting before on.accept o ok x =
-    let test = allowed_open setting before on.accept refl ok in
-    let parts = and_parts _ _ test in
-    accept_case before o (option_and_then handshake_error (request (steps before))) x (and_parts _ _ parts.0).0 (not-true _ parts.1)
-step_case setting before (on.send m) o ok x = silent before (on.send m) o _ x (send_mute _) refl refl refl refl
+    silent setting before (on.answer head size) o on.done x (refl, refl, refl) refl refl refl refl
+step_case setting before (on.chunk bytes) o ok x = silent setting before (on.chunk bytes) o on.done x (refl, refl, refl) refl refl refl refl
+step_case setting before on.body_end o ok x = silent setting before on.body_end o on.done x (refl, refl, refl) refl refl refl refl
+step_case setting before on.body_error o ok x = silent setting before on.body_error o on.done x (refl, refl, refl) refl refl refl refl
+step_case setting before (on.write n) o ok x = silent setting before (on.write n) o _ x (refl, refl, refl) refl refl refl refl
+step_case setting before (on.tick ms) o ok x =
+    silent setting before (on.tick ms) o _ x (tick_mute setting before (closing setting before) _ ms) refl refl refl refl
+step_case setting before on.drain o ok x = silent setting before on.drain o on.done x (refl, refl, refl) refl refl refl refl
+step_case setting before (on.accept limit) o ok x =
+    let test = allowed_open setting before (on.accept limit) refl ok in
+    let parts = and_parts _ _ (and_parts _ _ test).0 in
+    accept_case setting before limit o (option_and_then handshake_error (request (steps before))) x (and_parts _ _ parts.0).0 (not-true _ parts.1)
+step_case setting before (on.send m) o ok x = silent setting before (on.send m) o _ x (send_mute _) refl refl refl refl
 
 -- ---- the parse
 
 -- no bytes have no head
-pub nothing_parsed : IsParse (input_of []) []
+pub nothing_parsed : (setting : Setting) → IsParse (input_of setting []) []
 unfolding taken
-nothing_parsed = λ s e x. absurd (omega (arith, piece_long [] 0 s e x))
+nothing_parsed setting = λ s e x. absurd (omega (arith, piece_long [] 0 s e x))
 
 -- the parse of a legal past is that of the bytes taken
-pub parsed : (setting : Setting) (past : List ParsedStep) → Legal setting past → IsParse (input_of (steps past)) (parse_of past)
-parsed setting [] x = nothing_parsed
+pub parsed : (setting : Setting) (past : List ParsedStep) → Legal setting past → IsParse (input_of setting (steps past)) (parse_of past)
+parsed setting [] x = nothing_parsed setting
 parsed setting (m ∷ before) x = x.0
 
 -- a step that changes neither bytes nor protocol nor the end leaves the input
-pub same_input : (s : Step) (before : List Step) → step_taken s.event s.outcome ≡ [] → is_eof s.event ≡ false → is_accepted s.event s.outcome ≡ false
-    → input_of (s ∷ before) ≡ input_of before
-same_input s before none eof accepted =
+pub same_input : (setting : Setting) (s : Step) (before : List Step) → step_taken s.event s.outcome ≡ [] → is_eof s.event ≡ false
+    → accepted_limit s.event s.outcome ≡ None → input_of setting (s ∷ before) ≡ input_of setting before
+same_input setting s before none eof unaccepted =
     let bytes : taken (s ∷ before) ≡ taken before = taken-cons s before ∙ ap (λ t. taken before ++ t) none ∙ append-nil (taken before) in
-    λ i. record { bytes = bytes i; upgraded = accepted i || is_upgraded before; ended = eof i || has_ended before }
+    let upgraded : accepted (s ∷ before) ≡ accepted before = accepted-cons s before ∙ ap (λ o. option_or o (accepted before)) unaccepted in
+    λ i. record { bytes = bytes i; upgraded = upgraded i; ended = eof i || has_ended before; hold_size = setting.hold_size }
 
 -- and with it the parse
-pub same_parse : (x : ParsedStep) (before : List ParsedStep) → input_of (x.step ∷ steps before) ≡ input_of (steps before)
-    → IsParse (input_of (x.step ∷ steps before)) x.parse → IsParse (input_of (steps before)) (parse_of before) → x.parse ≡ parse_of before
-same_parse x before same p q = messages_unique (input_of (steps before)) 0 x.parse (parse_of before) (subst (λ (i : Input). IsParse i x.parse) same p) q
+pub same_parse : (setting : Setting) (x : ParsedStep) (before : List ParsedStep)
+    → input_of setting (x.step ∷ steps before) ≡ input_of setting (steps before)
+    → IsParse (input_of setting (x.step ∷ steps before)) x.parse → IsParse (input_of setting (steps before)) (parse_of before)
+    → x.parse ≡ parse_of before
+same_parse setting x before same p q =
+    messages_unique (input_of setting (steps before)) 0 x.parse (parse_of before) (subst (λ (i : Input). IsParse i x.parse) same p) q

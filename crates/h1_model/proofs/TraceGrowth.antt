@@ -3,16 +3,16 @@ use Rattle.std.proofs.Common.{◌≡◌, ℕ, zero, suc, ◌+◌, ◌-◌, ◌�
 use Rattle.std.specs.Prelude.{slice_get}
 use Rattle.std.proofs.lemmas.Option.{none-some, same_Some}
 use Rattle.std.proofs.lemmas.Bool.{cond-false, ne_eqb}
-use Rattle.h1_model.specs.RequestHead.{IsReading}
+use Rattle.h1_model.specs.RequestHead.{IsReadingWithin}
 use Rattle.h1_model.specs.Frame.{ProtocolError}
 use Rattle.h1_model.specs.FrameText.{PlacedFrame}
-use Rattle.h1_model.specs.Request.{BodyKind, no_body, fixed_body, chunked_body, raw_body, Reading, too_large, malformed, head_is}
+use Rattle.h1_model.specs.Request.{BodyKind, no_body, fixed_body, chunked_body, raw_body, Reading, head_is, faulty}
 use Rattle.h1_model.specs.Parse.{Input, Message, Body, content, frames, next_start, raw_content, shifted, chunked_stop, IsBodyOf, IsBodyAfter, IsMessageAt, AreMessages}
 use Rattle.h1_model.specs.Laws.Growth.{MessageGrows, GrowTo}
 use Rattle.h1_model.specs.Past.{ParsedStep, steps, parse_of, head_count, current}
 use Rattle.h1_model.proofs.HeadPieceLemmas.{head_piece_unique}
-use Rattle.h1_model.proofs.ReadingLemmas.{reading_unique}
-use Rattle.h1_model.proofs.ChunkStubs.{chunked_unique}
+use Rattle.h1_model.proofs.ReadingLemmas.{reading_within_unique}
+use Rattle.h1_chunks.proofs.Laws.{chunked_unique}
 use Rattle.h1_model.proofs.BodyLemmas.{input}
 use Rattle.h1_model.proofs.MessageGrowth.{piece_long}
 use Rattle.h1_model.proofs.BodySteps.{Lies, body_lies}
@@ -86,62 +86,65 @@ pub record Accepted (len : ℕ) (m n : Message) : Type 0 where
   pub body : BodyAccepted len m.body n.body
 
 -- a raw body has ended with the bytes, or hasn't ended
-raw_last : (bytes : List ℕ) (ended : Bool) (place next : ℕ) → next_start (raw_content (input bytes false ended) place) ≡ Some next
+raw_last : (bytes : List ℕ) (ended : Bool) (size : ℕ) (place next : ℕ) → next_start (raw_content (input bytes None ended size) place) ≡ Some next
     → length bytes ≤ next
-raw_last bytes true place next e = let same : length bytes ≡ next = cc in omega arith
-raw_last bytes false place next e = absurd (none-some next e)
+raw_last bytes true size place next e = let same : length bytes ≡ next = cc in omega arith
+raw_last bytes false size place next e = absurd (none-some next e)
 
 -- each kind of body
-kind_accepted : (bytes : List ℕ) (ended : Bool) (kind : BodyKind) (place : ℕ) (a b : Body) → IsBodyOf (input bytes false ended) kind place a
-    → IsBodyOf (input bytes true ended) kind place b → BodyAccepted (length bytes) a b
-kind_accepted bytes ended no_body place a b x y = inl (x ∙ sym y)
-kind_accepted bytes ended (fixed_body n) place a b x y = inl (x ∙ sym y)
-kind_accepted bytes ended chunked_body place a b x y =
+kind_accepted : (bytes : List ℕ) (limit : ℕ) (ended : Bool) (size : ℕ) (kind : BodyKind) (place : ℕ) (a b : Body)
+    → IsBodyOf (input bytes None ended size) kind place a
+    → IsBodyOf (input bytes (Some limit) ended size) kind place b → BodyAccepted (length bytes) a b
+kind_accepted bytes limit ended size no_body place a b x y = inl (x ∙ sym y)
+kind_accepted bytes limit ended size (fixed_body n) place a b x y = inl (x ∙ sym y)
+kind_accepted bytes limit ended size chunked_body place a b x y =
     let same = chunked_unique (drop place bytes) x.0 y.0 x.1 y.1 x.2 y.2 in
-    inl (x.3 ∙ (λ j. content (shifted place (same.1 j)) (chunked_stop (input bytes true ended) place (same.0 j))) ∙ sym y.3)
-kind_accepted bytes ended raw_body place a b x y =
-    inr (y.0, y.1, y.3, λ next e. raw_last bytes ended place next (sym (ap next_start x) ∙ e))
+    inl (x.3 ∙ (λ j. content (shifted place (same.1 j)) (chunked_stop (input bytes (Some limit) ended size) place (same.0 j))) ∙ sym y.3)
+kind_accepted bytes limit ended size raw_body place a b x y =
+    inr (y.0, y.1, y.3, λ next e. raw_last bytes ended size place next (sym (ap next_start x) ∙ e))
 
-body_accepted : (bytes : List ℕ) (ended : Bool) (r : Reading) (place : ℕ) (a b : Body) → IsBodyAfter (input bytes false ended) r place a
-    → IsBodyAfter (input bytes true ended) r place b → BodyAccepted (length bytes) a b
-body_accepted bytes ended too_large place a b x y = inl (x ∙ sym y)
-body_accepted bytes ended malformed place a b x y = inl (x ∙ sym y)
-body_accepted bytes ended (head_is h) place a b x y = kind_accepted bytes ended h.body place a b x y
+body_accepted : (bytes : List ℕ) (limit : ℕ) (ended : Bool) (size : ℕ) (r : Reading) (place : ℕ) (a b : Body)
+    → IsBodyAfter (input bytes None ended size) r place a
+    → IsBodyAfter (input bytes (Some limit) ended size) r place b → BodyAccepted (length bytes) a b
+body_accepted bytes limit ended size (faulty fault) place a b x y = inl (x ∙ sym y)
+body_accepted bytes limit ended size (head_is h) place a b x y = kind_accepted bytes limit ended size h.body place a b x y
 
 -- the message at a place of the bytes
-pub message_accepted : (bytes : List ℕ) (ended : Bool) (place : ℕ) (m n : Message) → IsMessageAt (input bytes false ended) place m
-    → IsMessageAt (input bytes true ended) place n → Accepted (length bytes) m n
-message_accepted bytes ended place m n x y =
+pub message_accepted : (bytes : List ℕ) (limit : ℕ) (ended : Bool) (size : ℕ) (place : ℕ) (m n : Message)
+    → IsMessageAt (input bytes None ended size) place m
+    → IsMessageAt (input bytes (Some limit) ended size) place n → Accepted (length bytes) m n
+message_accepted bytes limit ended size place m n x y =
     let text = drop place bytes in
     let piece = head_piece_unique text x.start x.end y.start y.end x.piece y.piece in
     let body_start : m.body_start ≡ n.body_start = x.body_start ∙ ap (λ e. place + e) piece.1 ∙ sym y.body_start in
-    let read = subst₂ (λ s e. IsReading (slice_range text s e) n.reading) (sym piece.0) (sym piece.1) y.reading in
-    let reading = reading_unique (slice_range text x.start x.end) m.reading n.reading x.reading read in
-    let behind = subst₂ (λ r p. IsBodyAfter (input bytes true ended) r p n.body) (sym reading) (sym body_start) y.body in
-    record { reading = reading; body_start = body_start; body = body_accepted bytes ended m.reading m.body_start m.body n.body x.body behind }
+    let read = subst₂ (λ s e. IsReadingWithin size (slice_range text s e) n.reading) (sym piece.0) (sym piece.1) y.reading in
+    let reading = reading_within_unique size (slice_range text x.start x.end) m.reading n.reading x.reading read in
+    let behind = subst₂ (λ r p. IsBodyAfter (input bytes (Some limit) ended size) r p n.body) (sym reading) (sym body_start) y.body in
+    record { reading = reading; body_start = body_start; body = body_accepted bytes limit ended size m.reading m.body_start m.body n.body x.body behind }
 
 -- nothing stands behind the end of the bytes
-pub none_behind : (bytes : List ℕ) (u ended : Bool) (place : ℕ) (ms : List Message) (k : ℕ) (m : Message) → AreMessages (input bytes u ended) place ms
+pub none_behind : (bytes : List ℕ) (u : Option ℕ) (ended : Bool) (size : ℕ) (place : ℕ) (ms : List Message) (k : ℕ) (m : Message)
+    → AreMessages (input bytes u ended size) place ms
     → length bytes ≤ place → slice_get ms k ≡ Some m → ⊥
-none_behind bytes u ended place [] k m x past e = none-some m e
-none_behind bytes u ended place (q ∷ ms) k m x past e = omega (arith, piece_long bytes place x.0.start x.0.end x.0.piece)
+none_behind bytes u ended size place [] k m x past e = none-some m e
+none_behind bytes u ended size place (q ∷ ms) k m x past e = omega (arith, piece_long bytes place x.0.start x.0.end x.0.piece)
 
 -- the message in the same place, behind the acceptance
-pub accepted_at : (bytes : List ℕ) (ended : Bool) (place : ℕ) (ms ns : List Message) (k : ℕ) (m : Message)
-    → AreMessages (input bytes false ended) place ms → AreMessages (input bytes true ended) place ns → slice_get ms k ≡ Some m
+pub accepted_at : (bytes : List ℕ) (limit : ℕ) (ended : Bool) (size : ℕ) (place : ℕ) (ms ns : List Message) (k : ℕ) (m : Message)
+    → AreMessages (input bytes None ended size) place ms → AreMessages (input bytes (Some limit) ended size) place ns → slice_get ms k ≡ Some m
     → (n : Message) × (slice_get ns k ≡ Some n) × Accepted (length bytes) m n
-accepted_at bytes ended place [] ns k m x y e = absurd (none-some m e)
-accepted_at bytes ended place (q ∷ ms) [] k m x y e = absurd (y x.0.start x.0.end x.0.piece)
-accepted_at bytes ended place (q ∷ ms) (r ∷ ns) zero m x y e =
-    (r, refl, subst (λ p. Accepted (length bytes) p r) (same_Some q m e) (message_accepted bytes ended place q r x.0 y.0))
-accepted_at bytes ended place (q ∷ ms) (r ∷ ns) (suc k) m x y e =
-    let rest = rest_of (input bytes false ended) (next_start q.body) ms k m x.1 e in
-    elim (message_accepted bytes ended place q r x.0 y.0).body [
+accepted_at bytes limit ended size place [] ns k m x y e = absurd (none-some m e)
+accepted_at bytes limit ended size place (q ∷ ms) [] k m x y e = absurd (y x.0.start x.0.end x.0.piece)
+accepted_at bytes limit ended size place (q ∷ ms) (r ∷ ns) zero m x y e =
+    (r, refl, subst (λ p. Accepted (length bytes) p r) (same_Some q m e) (message_accepted bytes limit ended size place q r x.0 y.0))
+accepted_at bytes limit ended size place (q ∷ ms) (r ∷ ns) (suc k) m x y e =
+    let rest = rest_of (input bytes None ended size) (next_start q.body) ms k m x.1 e in
+    elim (message_accepted bytes limit ended size place q r x.0 y.0).body [
       | inl same ↦
           let next = sym (ap next_start same) ∙ rest.1 in
-          let behind = subst (λ (o : Option ℕ). MatchOption o (ns ≡ []) (λ p. AreMessages (input bytes true ended) p ns)) next y.1 in
-          accepted_at bytes ended rest.0 ms ns k m rest.2 behind e
-      | inr framed ↦ absurd (none_behind bytes false ended rest.0 ms k m rest.2 (framed.3 rest.0 rest.1) e)
+          let behind = subst (λ (o : Option ℕ). MatchOption o (ns ≡ []) (λ p. AreMessages (input bytes (Some limit) ended size) p ns)) next y.1 in
+          accepted_at bytes limit ended size rest.0 ms ns k m rest.2 behind e
+      | inr framed ↦ absurd (none_behind bytes None ended size rest.0 ms k m rest.2 (framed.3 rest.0 rest.1) e)
     ]
 
 -- ---- the current message

@@ -1,26 +1,25 @@
 -- What was written, and what is to be written, is the text.
-use Rattle.std.proofs.Common.{◌≡◌, ℕ, List, [], ◌∷◌, ◌++◌, length, take, drop, Option, Some, None, refl, sym, ap, ◌∙◌, subst, append_assoc, append-nil}
+use Rattle.std.proofs.Common.{◌≡◌, ℕ, Bool, true, false, List, [], ◌∷◌, ◌++◌, length, take, drop, Option, Some, None, refl, sym, ap, ◌∙◌, subst, append_assoc, append-nil}
 use Rattle.std.specs.Prelude.{unwrap_or, option_map, option_and_then, slice_get, ◌==◌}
 use Rattle.std.proofs.lemmas.Bool.{cond_both}
 use Rattle.std.proofs.lemmas.List.{take-append-drop, drop_at}
 use Rattle.h1_model.specs.Setting.{Setting}
-use Rattle.h1_model.specs.Request.{Reading, too_large, malformed, head_is}
+use Rattle.h1_model.specs.Request.{Header, too_large, Reading, head_is, faulty}
 use Rattle.h1_model.specs.Frame.{ProtocolError}
 use Rattle.h1_model.specs.FrameText.{PlacedFrame, send_error}
 use Rattle.h1_chunks.specs.Runs.{Run}
 use Rattle.h1_model.specs.Parse.{Message, Body, no_content, content, frames, Stop, ended_at, still_open, broken, cut}
 use Rattle.h1_model.specs.Handshake.{HandshakeError, handshake_error}
-use Rattle.h1_model.specs.Limits.{MAX_HELD}
 use Rattle.h1_model.specs.End as ends
 use Rattle.h1_model.specs.End.{End}
-use Rattle.h1_model.specs.Event.{Event, Outcome}
+use Rattle.h1_model.specs.Event.{Event}
 use Rattle.h1_model.specs.Event as on
-use Rattle.h1_model.specs.Sums.{Step, taken, step_written, written, request, is_sending}
+use Rattle.h1_model.specs.Sums.{Step, step_written, written, request, is_sending}
 use Rattle.h1_model.specs.Past.{ParsedStep, steps, current, upcoming, given_bytes, given_frames, held}
 use Rattle.h1_model.specs.Handed.{Begins}
 use Rattle.h1_model.specs.Text.{step_text, text, buffered}
 use Rattle.h1_model.specs.Closing.{closing}
-use Rattle.h1_model.specs.OutcomeTable.{head_outcome, upcoming_outcome, next_outcome, run_left, run_outcome, frame_outcome, body_outcome, pull_outcome, tick_outcome, is_abandoned, is_slow, is_idle, outcome_of}
+use Rattle.h1_model.specs.OutcomeTable.{head_outcome, upcoming_outcome, next_outcome, run_left, gave_trailers, ended_outcome, run_outcome, frame_outcome, body_outcome, pull_outcome, tick_outcome, is_abandoned, is_slow, is_idle, outcome_of}
 use Rattle.h1_model.specs.Trace.{IsTrace}
 
 -- ---- what one more step writes
@@ -54,25 +53,29 @@ write_adds_none setting before n bytes = refl
 -- Next
 head_writes_none : (r : Reading) → step_written (head_outcome r) ≡ []
 head_writes_none (head_is h) = refl
-head_writes_none malformed = refl
-head_writes_none too_large = refl
+head_writes_none (faulty fault) = refl
 
-upcoming_writes_none : (past : List ParsedStep) (m : Option Message) → step_written (upcoming_outcome past m) ≡ []
-upcoming_writes_none past (Some m) = head_writes_none m.reading
-upcoming_writes_none past None =
-    cond_both (held past == MAX_HELD) (on.fault on.too_large) on.pending (λ o. step_written o ≡ []) (λ _. refl) (λ _. refl)
+upcoming_writes_none : (setting : Setting) (past : List ParsedStep) (m : Option Message) → step_written (upcoming_outcome setting past m) ≡ []
+upcoming_writes_none setting past (Some m) = head_writes_none m.reading
+upcoming_writes_none setting past None =
+    cond_both (held past == setting.hold_size) (on.fault too_large) on.pending (λ o. step_written o ≡ []) (λ _. refl) (λ _. refl)
 
-next_writes_none : (past : List ParsedStep) (end : Option End) → step_written (next_outcome past end) ≡ []
-next_writes_none past (Some end) = refl
-next_writes_none past None = upcoming_writes_none past (upcoming past)
+next_writes_none : (setting : Setting) (past : List ParsedStep) (end : Option End) → step_written (next_outcome setting past end) ≡ []
+next_writes_none setting past (Some end) = refl
+next_writes_none setting past None = upcoming_writes_none setting past (upcoming past)
 
 -- Pull
-run_writes_none : (bytes : List ℕ) (stop : Stop) (left : Option Run) → step_written (run_outcome bytes stop left) ≡ []
-run_writes_none bytes stop (Some r) = refl
-run_writes_none bytes (ended_at place) None = refl
-run_writes_none bytes still_open None = refl
-run_writes_none bytes broken None = refl
-run_writes_none bytes cut None = refl
+ended_writes_none : (given : Bool) (lines : List Header) → step_written (ended_outcome given lines) ≡ []
+ended_writes_none given [] = refl
+ended_writes_none true (line ∷ more) = refl
+ended_writes_none false (line ∷ more) = refl
+
+run_writes_none : (trace : List Step) (stop : Stop) (left : Option Run) → step_written (run_outcome trace stop left) ≡ []
+run_writes_none trace stop (Some r) = refl
+run_writes_none trace (ended_at place trailers) None = ended_writes_none (gave_trailers trace) trailers
+run_writes_none trace still_open None = refl
+run_writes_none trace broken None = refl
+run_writes_none trace cut None = refl
 
 frame_writes_none : (fail : Option ProtocolError) (next : Option PlacedFrame) → step_written (frame_outcome fail next) ≡ []
 frame_writes_none fail (Some f) = refl
@@ -81,7 +84,7 @@ frame_writes_none None None = refl
 
 body_writes_none : (trace : List Step) (b : Body) → step_written (body_outcome trace b) ≡ []
 body_writes_none trace no_content = refl
-body_writes_none trace (content runs stop) = run_writes_none (taken trace) stop (run_left (given_bytes trace) runs)
+body_writes_none trace (content runs stop) = run_writes_none trace stop (run_left (given_bytes trace) runs)
 body_writes_none trace (frames placed fail) = frame_writes_none fail (slice_get placed (given_frames trace))
 
 pull_writes_none : (trace : List Step) (m : Option Message) → step_written (pull_outcome trace m) ≡ []
@@ -130,10 +133,10 @@ event_begins setting past (on.write n) x =
     let t = steps past in
     let more = take n (buffered setting t) in
     subst (Begins (written t ++ more)) (sym (append-nil (text setting t)) ∙ ap (λ l. text setting t ++ l) (sym (write_adds_none setting t n more))) (write_begins (written t) (text setting t) n x)
-event_begins setting past on.next x = silent_begins _ _ _ _ (next_writes_none past (closing setting past)) x
+event_begins setting past on.next x = silent_begins _ _ _ _ (next_writes_none setting past (closing setting past)) x
 event_begins setting past on.pull x = silent_begins _ _ _ _ (pull_writes_none (steps past) (current past)) x
 event_begins setting past (on.tick ms) x = silent_begins _ _ _ _ (tick_writes_none setting past (closing setting past) _ ms) x
-event_begins setting past on.accept x = silent_begins _ _ _ _ (refusal_writes_none (option_and_then handshake_error (request (steps past)))) x
+event_begins setting past (on.accept limit) x = silent_begins _ _ _ _ (refusal_writes_none (option_and_then handshake_error (request (steps past)))) x
 event_begins setting past (on.send m) x = silent_begins _ _ _ _ (send_writes_none (send_error (is_sending (steps past)) m)) x
 event_begins setting past _ x = silent_begins _ _ _ _ refl x
 

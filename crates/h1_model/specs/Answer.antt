@@ -16,6 +16,23 @@ pub record AnswerHead : Type 0 where
   pub in_camel_case : Bool
   pub headers : List Header
 
+-- What an answer needs of its request: the minor number of its version, whether it is HEAD, whether its body
+-- is raw, and what it asks of the connection.
+pub record Asked : Type 0 where
+  pub minor : ℕ
+  pub is_head : Bool
+  pub is_raw : Bool
+  pub connection : ConnectionType
+
+abbrev pub asked_of : Head → Asked
+asked_of request =
+    record {
+      minor = request.minor;
+      is_head = bytes_eq request.method (codes "HEAD");
+      is_raw = is_raw_kind request.body;
+      connection = request.connection;
+    }
+
 -- how large an answer's body is: there is none, so many bytes, or nobody knows yet
 pub data BodySize : Type 0 where
   size_none size_stream : BodySize
@@ -37,14 +54,13 @@ abbrev pub is_bodiless : ℕ → Bool
 is_bodiless status = nat_lt status 200 || (status == 204) || (status == 304)
 
 -- a stream goes out raw where the request was raw, the client is of HTTP/1.0, or chunks aren't wanted
-abbrev pub stream_shape : Head → AnswerHead → Shape
-stream_shape request answer =
-    if is_raw_kind request.body || (request.minor == 0) || answer.no_chunking then shape_raw else shape_chunked
+abbrev pub stream_shape : Asked → AnswerHead → Shape
+stream_shape asked answer = if asked.is_raw || (asked.minor == 0) || answer.no_chunking then shape_raw else shape_chunked
 
-abbrev pub sized_shape : Head → AnswerHead → BodySize → Shape
-sized_shape request answer size_none = shape_none
-sized_shape request answer (size_of n) = if n == 0 then shape_none else shape_length n
-sized_shape request answer size_stream = stream_shape request answer
+abbrev pub sized_shape : Asked → AnswerHead → BodySize → Shape
+sized_shape asked answer size_none = shape_none
+sized_shape asked answer (size_of n) = if n == 0 then shape_none else shape_length n
+sized_shape asked answer size_stream = stream_shape asked answer
 
 -- a 101 passes on what follows it
 abbrev pub switching_shape : BodySize → Shape
@@ -52,17 +68,14 @@ switching_shape size_stream = shape_raw
 switching_shape _ = shape_none
 
 -- the shape of an answer's body (section 3.3.3); for HEAD it is that of the head alone
-abbrev pub shape_of : Head → AnswerHead → BodySize → Shape
-shape_of request answer size =
+abbrev pub shape_of : Asked → AnswerHead → BodySize → Shape
+shape_of asked answer size =
     if answer.status == 101 then switching_shape size
-    else (if is_bodiless answer.status then shape_none else sized_shape request answer size)
+    else (if is_bodiless answer.status then shape_none else sized_shape asked answer size)
 
 abbrev pub is_raw : Shape → Bool
 is_raw shape_raw = true
 is_raw _ = false
-
-abbrev pub is_head_method : Head → Bool
-is_head_method request = bytes_eq request.method (codes "HEAD")
 
 abbrev pub has_header : List ℕ → List Header → Bool
 has_header name headers = list_any (λ h. bytes_eq h.name name) headers
@@ -95,8 +108,8 @@ drained_type drained keep_alive = if drained then close else keep_alive
 drained_type drained kind = kind
 
 -- what becomes of the connection behind an answer to this request
-abbrev pub type_of : Setting → Bool → Head → AnswerHead → BodySize → ConnectionType
-type_of setting drained request answer size =
+abbrev pub type_of : Setting → Bool → Asked → AnswerHead → BodySize → ConnectionType
+type_of setting drained asked answer size =
     drained_type drained
-    (raw_type answer (shape_of request answer size)
-    (overridden_type (allowed_type setting request.connection) (flagged_type answer)))
+    (raw_type answer (shape_of asked answer size)
+    (overridden_type (allowed_type setting asked.connection) (flagged_type answer)))

@@ -6,8 +6,8 @@ use Rattle.http.specs.StatusCode.{code_digits, reason_phrase}
 use Rattle.httparse.specs.Ascii.{crlf_bytes}
 use Rattle.httpdate.specs.Text.{imf_fixdate}
 use Rattle.httpdate.specs.Calendar.{days_in_year, days_in_month, weekday}
-use Rattle.h1_model.specs.Request.{Header, ConnectionType, close, keep_alive, upgrade, Head}
-use Rattle.h1_model.specs.Answer.{AnswerHead, BodySize, size_none, size_of, size_stream, Shape, shape_none, shape_length, shape_chunked, shape_raw, is_bodiless, is_raw, is_head_method, has_header}
+use Rattle.h1_model.specs.Request.{Header, ConnectionType, close, keep_alive, upgrade}
+use Rattle.h1_model.specs.Answer.{AnswerHead, Asked, BodySize, size_none, size_of, size_stream, Shape, shape_none, shape_length, shape_chunked, shape_raw, is_bodiless, is_raw, has_header}
 
 -- ---- dates
 
@@ -164,11 +164,11 @@ end_text shape_chunked = last_chunk
 end_text _ = []
 
 -- the same of an answer to this request: HEAD has the head alone
-abbrev pub sent_piece : Head → Shape → ℕ → List ℕ → List ℕ
-sent_piece request shape before bytes = if is_head_method request then [] else piece_text shape before bytes
+abbrev pub sent_piece : Asked → Shape → ℕ → List ℕ → List ℕ
+sent_piece asked shape before bytes = if asked.is_head then [] else piece_text shape before bytes
 
-abbrev pub sent_end : Head → Shape → List ℕ
-sent_end request shape = if is_head_method request then [] else end_text shape
+abbrev pub sent_end : Asked → Shape → List ℕ
+sent_end asked shape = if asked.is_head then [] else end_text shape
 
 -- ---- other texts
 

@@ -4,7 +4,7 @@ use Rattle.std.specs.List.{list_any}
 use Rattle.std.specs.Option.{option_or}
 use Rattle.h1_model.specs.Request.{ConnectionType, keep_alive, Head, Fault, malformed, too_large}
 use Rattle.h1_model.specs.Setting.{Setting}
-use Rattle.h1_model.specs.Answer.{Shape, shape_length, shape_of, type_of, is_head_method}
+use Rattle.h1_model.specs.Answer.{asked_of, Shape, shape_length, shape_of, type_of}
 use Rattle.h1_model.specs.Parse.{Message, Body, content, still_open, broken, cut, frames_of, fail_of}
 use Rattle.h1_model.specs.Event.{Outcome}
 use Rattle.h1_model.specs.Event as on
@@ -42,7 +42,8 @@ lacks_bytes _ len = false
 
 -- the body was ended with bytes of its stated size missing
 abbrev pub is_short : Option Head → Option Answered → ℕ → Bool
-is_short (Some h) (Some a) len = not (is_head_method h) && lacks_bytes (shape_of h a.head a.size) len
+is_short (Some h) (Some a) len =
+    not (asked_of h).is_head && lacks_bytes (shape_of (asked_of h) a.head a.size) len
 is_short _ _ len = false
 
 abbrev pub body_end_of : List Step → Option End
@@ -57,7 +58,7 @@ is_kept keep_alive = true
 is_kept _ = false
 
 abbrev pub asked_by : Setting → Option Head → Option Answered → Option End
-asked_by setting (Some h) (Some a) = end_where (not (is_kept (type_of setting a.drained h a.head a.size))) ends.asked
+asked_by setting (Some h) (Some a) = end_where (not (is_kept (type_of setting a.drained (asked_of h) a.head a.size))) ends.asked
 asked_by setting _ _ = None
 
 -- a body that isn't read to its end can't be passed, unless it comes in chunks and was dropped

@@ -62,9 +62,13 @@ abbrev pub key_of : List (List ℕ) → List ℕ
 key_of [] = []
 key_of (key ∷ more) = key
 
--- the head that answers a request whose checks pass (section 4.2.2)
-abbrev pub accepting_head : Head → AnswerHead
-accepting_head request =
+-- the answer to the key of a request
+abbrev pub accept_key_of : Head → List ℕ
+accept_key_of request = accept_key (key_of (values_of (codes "sec-websocket-key") request.headers))
+
+-- the head that answers a request whose checks pass, by the answer to its key (section 4.2.2)
+abbrev pub accepting_head : List ℕ → AnswerHead
+accepting_head key =
     record {
       status = 101;
       reason = None;
@@ -76,6 +80,6 @@ accepting_head request =
       headers = record { name = codes "upgrade"; value = codes "websocket" }
           ∷ record {
             name = codes "sec-websocket-accept";
-            value = accept_key (key_of (values_of (codes "sec-websocket-key") request.headers));
+            value = key;
           } ∷ [];
     }

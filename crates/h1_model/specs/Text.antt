@@ -1,10 +1,10 @@
 -- The text that a connection writes: the texts of its steps, in order.
-use Rattle.std.specs.Prelude.{ℕ, List, [], ◌∷◌, ◌++◌, length, drop, Option, Some, None}
+use Rattle.std.specs.Prelude.{ℕ, Bool, List, [], ◌∷◌, ◌++◌, length, drop, Option, Some, None}
 use Rattle.h1_model.specs.Request.{Head, Fault, malformed, too_large}
 use Rattle.h1_model.specs.Setting.{Setting}
-use Rattle.h1_model.specs.Answer.{AnswerHead, BodySize, size_stream, shape_of, type_of}
+use Rattle.h1_model.specs.Answer.{AnswerHead, Asked, asked_of, BodySize, size_stream, shape_of, type_of}
 use Rattle.h1_model.specs.AnswerText.{head_text, sent_piece, sent_end, interim_text, bad_request_text, too_large_text, timeout_text}
-use Rattle.h1_model.specs.Handshake.{accepting_head}
+use Rattle.h1_model.specs.Handshake.{accept_key_of, accepting_head}
 use Rattle.h1_model.specs.Frame as frames
 use Rattle.h1_model.specs.FrameText.{frame_text}
 use Rattle.h1_model.specs.Event.{Event, Outcome}
@@ -13,25 +13,30 @@ use Rattle.h1_model.specs.End.{End}
 use Rattle.h1_model.specs.Event as on
 use Rattle.h1_model.specs.Sums.{Step, Answered, request, answered, answer_len, is_draining, now, written}
 
+-- the head of an answer at a moment, and whether the connection is to end soon by then
+abbrev pub answer_head_text : Setting → Bool → Asked → AnswerHead → BodySize → ℕ → List ℕ
+answer_head_text setting drained asked answer size now =
+    head_text asked.minor answer (shape_of asked answer size) size (type_of setting drained asked answer size) now
+
 -- the head of an answer to the last request
 abbrev pub answer_text : Setting → List Step → AnswerHead → BodySize → Option Head → List ℕ
 answer_text setting before answer size None = []
 answer_text setting before answer size (Some h) =
-    head_text h.minor answer (shape_of h answer size) size (type_of setting (is_draining before) h answer size) (now before)
+    answer_head_text setting (is_draining before) (asked_of h) answer size (now before)
 
 -- what of a piece of the body goes out, and what ends it
 abbrev pub chunk_sent : ℕ → List ℕ → Option Head → Option Answered → List ℕ
-chunk_sent before bytes (Some h) (Some a) = sent_piece h (shape_of h a.head a.size) before bytes
+chunk_sent before bytes (Some h) (Some a) = sent_piece (asked_of h) (shape_of (asked_of h) a.head a.size) before bytes
 chunk_sent before bytes _ _ = []
 
 abbrev pub end_sent : Option Head → Option Answered → List ℕ
-end_sent (Some h) (Some a) = sent_end h (shape_of h a.head a.size)
+end_sent (Some h) (Some a) = sent_end (asked_of h) (shape_of (asked_of h) a.head a.size)
 end_sent _ _ = []
 
 -- the answer that accepts a WebSocket
 abbrev pub accept_text : Setting → List Step → Option Head → List ℕ
 accept_text setting before None = []
-accept_text setting before (Some h) = answer_text setting before (accepting_head h) size_stream (Some h)
+accept_text setting before (Some h) = answer_text setting before (accepting_head (accept_key_of h)) size_stream (Some h)
 
 abbrev pub fault_answer : Fault → ℕ → List ℕ
 fault_answer malformed now = bad_request_text now

@@ -1,0 +1,4 @@
+pub mod OneStep
+pub mod Changes
+pub mod Current
+pub mod Kernel

@@ -1,0 +1,152 @@
+-- What a connection keeps: bounded parts, each a value of the model's.
+use Rattle.std.specs.Prelude.{ℕ, Bool, true, false, not, ◌&&◌, ◌||◌, List, [], Option, Some, None, unwrap_or}
+use Rattle.h1_chunks.specs.Place.{Place, start}
+use Rattle.h1_model.specs.Request.{BodyKind, no_body, fixed_body, chunked_body, raw_body, ConnectionType, Head, has_body}
+use Rattle.h1_model.specs.Answer.{Asked, asked_of, Shape}
+use Rattle.h1_model.specs.Handshake.{HandshakeError, handshake_error, accept_key_of}
+use Rattle.h1_model.specs.End.{End}
+
+-- What is left of a request's body: nothing; so many bytes, of which there are some; chunks from a place that is
+-- not the end, with the text of the trailer lines so far; all up to the end of the input; or frames, with
+-- whether a message in fragments is under way, and the limit of their payloads.
+pub data Rest : Type 0 where
+  no_rest raw_rest : Rest
+  fixed_rest : ℕ → Rest
+  chunks_rest : Place → List ℕ → Rest
+  frames_rest : Bool → ℕ → Rest
+
+-- How far the answer to a request is: there is none; its body is going out in a shape, with what becomes of the
+-- connection behind it, and how many bytes of a stated length are missing; or it is complete.
+pub data Reply : Type 0 where
+  unanswered : Reply
+  sending : Shape → ConnectionType → ℕ → Reply
+  answered : ConnectionType → Reply
+
+-- The last request that was handed out, without its head: what its answer needs of it, whether it has a body
+-- and expects to be told to go on, why an upgrade to WebSocket would be refused, and the answer to its key.
+-- And what happened since.
+pub record Exchange : Type 0 where
+  pub asked : Asked
+  pub has_body : Bool
+  pub expects : Bool
+  pub refusal : Option HandshakeError
+  pub accept_key : List ℕ
+  pub rest : Rest
+  pub reply : Reply
+  pub was_pulled : Bool
+  pub was_dropped : Bool
+  pub was_told_to_go_on : Bool
+  pub body_is_done : Bool
+
+-- the moments of the first and of the last tick, and of the last one before the last answer was complete
+pub record Clock : Type 0 where
+  pub first : Option ℕ
+  pub last : Option ℕ
+  pub completed : Option ℕ
+
+-- The bytes taken and not passed, and whether a whole head stands there that is next to be handed out. What
+-- came of the input's end and of a drain, and whether all is over. What is to be written, and whether a message
+-- in fragments is being sent. The end that was told, and the last tick before the connection began to close.
+pub record Kept : Type 0 where
+  pub unread : List ℕ
+  pub is_coming : Bool
+  pub has_ended : Bool
+  pub is_draining : Bool
+  pub is_over : Bool
+  pub exchange : Option Exchange
+  pub buffered : List ℕ
+  pub is_sending : Bool
+  pub clock : Clock
+  pub told : Option End
+  pub closing_since : Option (Option ℕ)
+
+-- a connection to which nothing has happened
+abbrev pub fresh : Kept
+fresh =
+    record {
+      unread = [];
+      is_coming = false;
+      has_ended = false;
+      is_draining = false;
+      is_over = false;
+      exchange = None;
+      buffered = [];
+      is_sending = false;
+      clock = record { first = None; last = None; completed = None };
+      told = None;
+      closing_since = None;
+    }
+
+-- what is left of a body of which nothing was read
+abbrev pub whole_rest : BodyKind → Rest
+whole_rest no_body = no_rest
+whole_rest (fixed_body n) = fixed_rest n
+whole_rest chunked_body = chunks_rest start []
+whole_rest raw_body = raw_rest
+
+-- a request that was just handed out
+abbrev pub new_exchange : Head → Exchange
+new_exchange h =
+    record {
+      asked = asked_of h;
+      has_body = has_body h.body;
+      expects = h.expects;
+      refusal = handshake_error h;
+      accept_key = accept_key_of h;
+      rest = whole_rest h.body;
+      reply = unanswered;
+      was_pulled = false;
+      was_dropped = false;
+      was_told_to_go_on = false;
+      body_is_done = false;
+    }
+
+-- ---- what the parts say
+
+abbrev pub is_frames : Rest → Bool
+is_frames (frames_rest under_way limit) = true
+is_frames _ = false
+
+abbrev pub is_nothing : Rest → Bool
+is_nothing no_rest = true
+is_nothing _ = false
+
+abbrev pub is_unanswered : Reply → Bool
+is_unanswered unanswered = true
+is_unanswered _ = false
+
+abbrev pub is_answered : Reply → Bool
+is_answered (answered kind) = true
+is_answered _ = false
+
+abbrev pub is_sending_body : Reply → Bool
+is_sending_body (sending shape kind missing) = true
+is_sending_body _ = false
+
+-- of the last request, where there is one
+abbrev pub of_exchange : (Exchange → Bool) → Kept → Bool
+of_exchange test k = holds k.exchange
+  where
+    holds : Option Exchange → Bool
+    holds None = false
+    holds (Some x) = test x
+
+-- the connection speaks WebSocket
+abbrev pub is_upgraded : Kept → Bool
+is_upgraded k = of_exchange (λ x. is_frames x.rest) k
+
+-- a request was handed out and its answer isn't complete; a WebSocket stays open
+abbrev pub is_open : Kept → Bool
+is_open k = of_exchange (λ x. is_frames x.rest || not (is_answered x.reply)) k
+
+-- nothing of the last request is left to do, so that the next one may come
+abbrev pub is_free : Kept → Bool
+is_free k = free k.exchange
+  where
+    free : Option Exchange → Bool
+    free None = true
+    free (Some x) = is_answered x.reply && is_nothing x.rest
+
+-- the moment, which is 0 before the first tick
+abbrev pub now : Kept → ℕ
+now k = unwrap_or k.clock.last 0

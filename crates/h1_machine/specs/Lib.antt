@@ -1,0 +1,9 @@
+pub mod Kept
+pub mod Local
+pub mod Body
+pub mod Pull
+pub mod Reply
+pub mod Clock
+pub mod Change
+pub mod KeptOf
+pub mod StandsFor
