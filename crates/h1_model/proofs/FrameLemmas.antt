@@ -4,7 +4,7 @@ use Rattle.std.proofs.lemmas.Bool.{cond-false}
 use Rattle.std.proofs.lemmas.List.{take-append-le, drop-append-le}
 use Rattle.h1_model.specs.Frame.{Frame, ProtocolError, overflow}
 use Rattle.h1_model.specs.Handed.{Begins}
-use Rattle.h1_model.specs.FrameText.{Reader, mask_bytes, payload_of, Front, partial, whole, breaks, front_frame, front_of_rest, front_of_body, front_of_judged, judged_frame, unmask, start_error, length_bytes, short_length, big_endian, is_under_way, PlacedFrame, StopsWith, ReadsFrames}
+use Rattle.h1_model.specs.FrameText.{Reader, FrameStart, frame_start, start_error, big_endian, length_bytes, mask_bytes, FrameHeader, frame_header, unmask, payload_of, judged_frame, Front, partial, whole, breaks, unless_broken, front_of_judged, overflows_at_length, front_of_body, front_of_header, front_of_start, front_frame, is_under_way, PlacedFrame, StopsWith, ReadsFrames}
 
 -- ---- what is known of the front stays
 
@@ -43,50 +43,62 @@ parts_settled judge k n body more s =
     let rest = ap (take n) (drop-append-le k body more (omega arith)) ∙ take-append-le n (drop k body) more (omega (arith, length-drop k body)) in
     cond-false _ partial _ enough' ∙ ap₂ judge front rest ∙ sym (cond-false _ partial _ enough)
 
--- the frame behind its length, with a mask and without one
-masked_settled : (most : ℕ) (wants : Bool) (u : Bool) (first head n : ℕ) (body more : List ℕ)
-    → IsSettled (front_of_body (record { wants_mask = wants; max_payload = most }) u first head n body)
-    → front_of_body (record { wants_mask = wants; max_payload = most }) u first head n (body ++ more)
-    ≡ front_of_body (record { wants_mask = wants; max_payload = most }) u first head n body
-masked_settled most true u first head n body more s =
-    settled_or_broken (nat_lt most n) (breaks overflow) _ _
-    (parts_settled (λ mask payload. front_of_judged (head + 4 + n) (judged_frame u first (unmask mask 0 payload))) 4 n body more) s
-masked_settled most false u first head n body more s =
-    settled_or_broken (nat_lt most n) (breaks overflow) _ _
-    (parts_settled (λ none payload. front_of_judged (head + 0 + n) (judged_frame u first payload)) 0 n body more) s
+-- what a payload of n bytes is judged to be, if it is there with its mask
+abbrev front_of_payload : Bool → (List ℕ → Front) → ℕ → List ℕ → Front
+front_of_payload masked judge n body =
+    cond (nat_lt (length body) (cond masked 4 0 + n)) partial (judge (cond masked (unmask (take 4 body) 0 (take n (drop 4 body))) (take n body)))
 
--- the frame behind its length, for any reader
-body_settled : (reader : Reader) (u : Bool) (first head n : ℕ) (body more : List ℕ) → IsSettled (front_of_body reader u first head n body)
-    → front_of_body reader u first head n (body ++ more) ≡ front_of_body reader u first head n body
-body_settled reader u first head n body more s = masked_settled reader.max_payload reader.wants_mask u first head n body more s
+-- it stays when bytes follow, with a mask and without one
+payload_settled : (masked : Bool) (judge : List ℕ → Front) (n : ℕ) (body more : List ℕ) → IsSettled (front_of_payload masked judge n body)
+    → front_of_payload masked judge n (body ++ more) ≡ front_of_payload masked judge n body
+payload_settled true judge n body more s = parts_settled (λ mask payload. judge (unmask mask 0 payload)) 4 n body more s
+payload_settled false judge n body more s = parts_settled (λ none payload. judge payload) 0 n body more s
 
--- the frame behind its first two bytes, of which k bytes are the length
-abbrev front_of_length : Reader → Bool → ℕ → ℕ → ℕ → List ℕ → Front
-front_of_length reader u first k short bytes =
-    cond (nat_lt (length bytes) k) partial
-    (front_of_body reader u first (2 + k) (cond (k == 0) short (big_endian (take k bytes))) (drop k bytes))
+-- the frame behind its length, whose size may come
+body_settled : (reader : Reader) (u : Bool) (header : FrameHeader) (body more : List ℕ) → IsSettled (front_of_body reader u header body)
+    → front_of_body reader u header (body ++ more) ≡ front_of_body reader u header body
+body_settled reader u header body more s =
+    let judge = λ (payload : List ℕ). cond (nat_lt reader.max_payload header.payload_length) (breaks overflow)
+    (front_of_judged (header.header_length + header.payload_length) (judged_frame u header.start payload)) in
+    payload_settled header.start.is_masked judge header.payload_length body more s
 
--- it is settled as the frame behind its length is
-length_settled : (reader : Reader) (u : Bool) (first k short : ℕ) (bytes more : List ℕ) → IsSettled (front_of_length reader u first k short bytes)
-    → front_of_length reader u first k short (bytes ++ more) ≡ front_of_length reader u first k short bytes
-length_settled reader u first k short bytes more s =
+-- the frame behind its length
+header_settled : (reader : Reader) (u : Bool) (header : FrameHeader) (body more : List ℕ) → IsSettled (front_of_header reader u header body)
+    → front_of_header reader u header (body ++ more) ≡ front_of_header reader u header body
+header_settled reader u header body more s =
+    settled_or_broken (overflows_at_length reader.judges_size reader header) (breaks overflow) (front_of_body reader u header body)
+    (front_of_body reader u header (body ++ more)) (body_settled reader u header body more) s
+
+-- a header whose length is there stays
+header_stays : (start : FrameStart) (bytes more : List ℕ) → length_bytes start ≤ length bytes
+    → frame_header start (bytes ++ more) ≡ frame_header start bytes
+header_stays start bytes more fits =
+    let same = take-append-le (length_bytes start) bytes more fits in
+    ap (λ (t : List ℕ). record {
+      start = start;
+      header_length = 2 + length_bytes start + mask_bytes start;
+      payload_length = cond (length_bytes start == 0) start.short_length (big_endian t);
+    }) same
+
+-- the frame behind its first two bytes
+start_settled : (reader : Reader) (u : Bool) (start : FrameStart) (bytes more : List ℕ) → IsSettled (front_of_start reader u start bytes)
+    → front_of_start reader u start (bytes ++ more) ≡ front_of_start reader u start bytes
+start_settled reader u start bytes more s =
     let enough = settled_test _ _ s in
-    let fits : k ≤ length bytes = ltb-false _ _ enough in
-    let enough' = le-ltb (length (bytes ++ more)) k (omega (arith, length-append bytes more)) in
-    let same : cond (k == 0) short (big_endian (take k (bytes ++ more))) ≡ cond (k == 0) short (big_endian (take k bytes)) =
-    ap (λ t. cond (k == 0) short (big_endian t)) (take-append-le k bytes more fits) in
-    let rest = drop-append-le k bytes more fits in
+    let fits : length_bytes start ≤ length bytes = ltb-false _ _ enough in
+    let enough' = le-ltb (length (bytes ++ more)) (length_bytes start) (omega (arith, length-append bytes more)) in
+    let same = header_stays start bytes more fits in
+    let rest = drop-append-le (length_bytes start) bytes more fits in
     cond-false _ partial _ enough'
-    ∙ (λ i. front_of_body reader u first (2 + k) (same i) (rest i))
-    ∙ body_settled reader u first (2 + k) _ (drop k bytes) more (settled_behind _ _ s)
+    ∙ (λ i. front_of_header reader u (same i) (rest i))
+    ∙ header_settled reader u (frame_header start bytes) (drop (length_bytes start) bytes) more (settled_behind _ _ s)
     ∙ sym (cond-false _ partial _ enough)
 
--- the frame behind the rules of its first two bytes
-start_settled : (reader : Reader) (u : Bool) (first second : ℕ) (bytes more : List ℕ) (e : Option ProtocolError)
-    → IsSettled (front_of_rest reader u first second bytes e)
-    → front_of_rest reader u first second (bytes ++ more) e ≡ front_of_rest reader u first second bytes e
-start_settled reader u first second bytes more None s = length_settled reader u first (length_bytes second) (short_length second) bytes more s
-start_settled reader u first second bytes more (Some e) s = refl
+-- behind the rules of the first two bytes
+unless_settled : (e : Option ProtocolError) (x y : Front) → (IsSettled x → y ≡ x) → IsSettled (unless_broken e x)
+    → unless_broken e y ≡ unless_broken e x
+unless_settled None x y stays s = stays s
+unless_settled (Some e) x y stays s = refl
 
 -- what is known of the front stays when bytes follow
 pub front_settled : (reader : Reader) (u : Bool) (bytes more : List ℕ) → IsSettled (front_frame reader u bytes)
@@ -94,7 +106,10 @@ pub front_settled : (reader : Reader) (u : Bool) (bytes more : List ℕ) → IsS
 unfolding front_frame
 front_settled reader u [] more s = absurd s
 front_settled reader u (first ∷ []) more s = absurd s
-front_settled reader u (first ∷ second ∷ bytes) more s = start_settled reader u first second bytes more (start_error reader first second) s
+front_settled reader u (first ∷ second ∷ bytes) more s =
+    let start = frame_start first second in
+    unless_settled (start_error reader start) (front_of_start reader u start bytes) (front_of_start reader u start (bytes ++ more))
+    (start_settled reader u start bytes more) s
 
 -- a frame stays
 pub whole_stays : (reader : Reader) (u : Bool) (bytes more : List ℕ) (f : Frame) (len : ℕ) → front_frame reader u bytes ≡ whole f len
@@ -124,35 +139,38 @@ fits_judged : (k len : ℕ) (r : Result Frame ProtocolError) → 2 ≤ len → l
 fits_judged k len (Ok frame) long within = (long, within)
 fits_judged k len (Err e) long within = tt
 
--- its mask and its payload are there
-fits_part : (k head mask n : ℕ) (body : List ℕ) (judged : Result Frame ProtocolError) → 2 ≤ head → head + length body ≤ k
-    → FitsIn k (cond (nat_lt (length body) (mask + n)) partial (front_of_judged (head + mask + n) judged))
-fits_part k head mask n body judged long within =
-    fits_test k (nat_lt (length body) (mask + n)) partial (front_of_judged (head + mask + n) judged) tt
-    (λ enough. fits_judged k (head + mask + n) judged (omega arith) (omega (arith, ltb-false (length body) (mask + n) enough)))
+-- the frame behind its length, whose size may come
+fits_body : (k : ℕ) (reader : Reader) (u : Bool) (header : FrameHeader) (body : List ℕ) → 2 ≤ header.header_length
+    → header.header_length + length body ≤ k + mask_bytes header.start → FitsIn k (front_of_body reader u header body)
+fits_body k reader u header body long within =
+    let mask = mask_bytes header.start in
+    let n = header.payload_length in
+    let judged = judged_frame u header.start (payload_of header body) in
+    let size = nat_lt reader.max_payload n in
+    let read = front_of_judged (header.header_length + n) judged in
+    fits_test k (nat_lt (length body) (mask + n)) partial (cond size (breaks overflow) read) tt
+    (λ enough. fits_test k size (breaks overflow) read tt
+    (λ _. fits_judged k (header.header_length + n) judged (omega arith) (omega (arith, ltb-false (length body) (mask + n) enough))))
 
 -- the frame behind its length
-fits_body : (k : ℕ) (reader : Reader) (u : Bool) (first head n : ℕ) (body : List ℕ) → 2 ≤ head → head + length body ≤ k
-    → FitsIn k (front_of_body reader u first head n body)
-fits_body k reader u first head n body long within =
-    let judged = judged_frame u first (payload_of reader n body) in
-    let mask = mask_bytes reader in
-    fits_test k (nat_lt reader.max_payload n) (breaks overflow) (cond (nat_lt (length body) (mask + n)) partial (front_of_judged (head + mask + n) judged))
-    tt (λ _. fits_part k head mask n body judged long within)
+fits_header : (k : ℕ) (reader : Reader) (u : Bool) (header : FrameHeader) (body : List ℕ) → 2 ≤ header.header_length
+    → header.header_length + length body ≤ k + mask_bytes header.start → FitsIn k (front_of_header reader u header body)
+fits_header k reader u header body long within =
+    fits_test k (overflows_at_length reader.judges_size reader header) (breaks overflow) (front_of_body reader u header body) tt
+    (λ _. fits_body k reader u header body long within)
 
 -- the frame behind its first two bytes
-fits_length : (reader : Reader) (u : Bool) (first k short : ℕ) (bytes : List ℕ) → FitsIn (2 + length bytes) (front_of_length reader u first k short bytes)
-fits_length reader u first k short bytes =
-    let n = cond (k == 0) short (big_endian (take k bytes)) in
-    fits_test (2 + length bytes) (nat_lt (length bytes) k) partial (front_of_body reader u first (2 + k) n (drop k bytes)) tt
-    (λ enough. fits_body (2 + length bytes) reader u first (2 + k) n (drop k bytes) (omega arith)
+fits_start : (reader : Reader) (u : Bool) (start : FrameStart) (bytes : List ℕ) → FitsIn (2 + length bytes) (front_of_start reader u start bytes)
+fits_start reader u start bytes =
+    let k = length_bytes start in
+    fits_test (2 + length bytes) (nat_lt (length bytes) k) partial (front_of_header reader u (frame_header start bytes) (drop k bytes)) tt
+    (λ enough. fits_header (2 + length bytes) reader u (frame_header start bytes) (drop k bytes) (omega arith)
     (omega (arith, length-drop k bytes, ltb-false (length bytes) k enough)))
 
--- the frame behind the rules of its first two bytes
-fits_rest : (reader : Reader) (u : Bool) (first second : ℕ) (bytes : List ℕ) (e : Option ProtocolError)
-    → FitsIn (2 + length bytes) (front_of_rest reader u first second bytes e)
-fits_rest reader u first second bytes None = fits_length reader u first (length_bytes second) (short_length second) bytes
-fits_rest reader u first second bytes (Some e) = tt
+-- behind the rules of the first two bytes
+fits_unless : (k : ℕ) (e : Option ProtocolError) (x : Front) → FitsIn k x → FitsIn k (unless_broken e x)
+fits_unless k None x fits = fits
+fits_unless k (Some e) x fits = tt
 
 -- a whole frame lies within the bytes
 pub front_fits : (reader : Reader) (u : Bool) (bytes : List ℕ) → FitsIn (length bytes) (front_frame reader u bytes)
@@ -160,8 +178,9 @@ unfolding front_frame
 front_fits reader u [] = tt
 front_fits reader u (first ∷ []) = tt
 front_fits reader u (first ∷ second ∷ bytes) =
-    let broken = start_error reader first second in
-    subst (λ k. FitsIn k (front_of_rest reader u first second bytes broken)) (omega arith) (fits_rest reader u first second bytes broken)
+    let start = frame_start first second in
+    let fits = fits_unless (2 + length bytes) (start_error reader start) (front_of_start reader u start bytes) (fits_start reader u start bytes) in
+    subst (λ k. FitsIn k (unless_broken (start_error reader start) (front_of_start reader u start bytes))) (omega arith) fits
 
 -- a whole frame has two bytes at least, and lies within the bytes
 pub whole_fits : (reader : Reader) (u : Bool) (bytes : List ℕ) (f : Frame) (len : ℕ) → front_frame reader u bytes ≡ whole f len

@@ -1,13 +1,12 @@
 -- What was handed out as the beginning of a parse: all but the newest have ended and are answered.
-use Rattle.std.proofs.Common.{◌≡◌, ℕ, zero, suc, ◌≤◌, Bool, true, false, List, [], ◌∷◌, ◌++◌, length, take, drop, reverse, Option, Some, None, IsSome, IsTrue, unwrap_or, MatchOption, refl, sym, ap, ◌∙◌, subst, inl, inr, arith}
+use Rattle.std.proofs.Common.{◌≡◌, ℕ, zero, suc, ◌≤◌, Bool, List, [], ◌∷◌, ◌++◌, length, take, drop, reverse, Option, Some, None, IsSome, IsTrue, unwrap_or, MatchOption, refl, sym, ap, ◌∙◌, subst, inl, inr, arith}
 use Rattle.std.specs.Prelude.{slice_get, ⊤}
 use Rattle.std.proofs.lemmas.Option.{none-some, same_Some}
 use Rattle.std.proofs.lemmas.List.{reverse-append}
 use Rattle.h1_model.specs.HeadPiece.{HasNoHeadPiece}
-use Rattle.h1_model.specs.Request.{too_large}
-use Rattle.h1_model.specs.Limits.{MAX_HELD}
+use Rattle.h1_model.specs.Request.{faulty, too_large}
 use Rattle.h1_model.specs.Parse.{Input, Message, next_start, AreMessages}
-use Rattle.h1_model.specs.Handed.{Handed, newly_handed, Begins, body_bytes, body_frames, body_fault, Agrees, IsLastOrEnded, IsOversized, IsPrefixFrom}
+use Rattle.h1_model.specs.Handed.{Handed, newly_handed, AreItemsOf, Agrees, IsLastOrEnded, IsOversized, IsPrefixFrom}
 use Rattle.h1_model.specs.Laws.Growth.{GrowTo}
 use Rattle.h1_model.proofs.BodyLemmas.{input}
 use Rattle.h1_model.proofs.HandedLemmas.{ended_closed, agrees_grows}
@@ -52,35 +51,37 @@ ended_grows front all (h ∷ hs) (m ∷ ms) (n ∷ ns) g x =
 pub agrees_same : (bytes : List ℕ) (h : Handed) (m n : Message) → m.reading ≡ n.reading → m.body ≡ n.body → Agrees bytes h m → Agrees bytes h n
 agrees_same bytes h m n reading body x = record {
   reading = x.reading ∙ reading;
-  body = subst (λ b. Begins h.bytes (body_bytes bytes b)) body x.body;
-  frames = subst (λ b. Begins h.frames (body_frames b)) body x.frames;
-  end = λ has. subst (λ b. (h.bytes ≡ body_bytes bytes b) × IsSome (next_start b)) body (x.end has);
-  fault = λ has. subst (λ b. (h.bytes ≡ body_bytes bytes b) × (h.fault ≡ body_fault b)) body (x.fault has);
+  items = subst (λ b. AreItemsOf bytes b h.items) body x.items;
 }
 
 -- they still agree when a WebSocket is accepted, if a message stands behind them
-pub ended_accepted : (bytes : List ℕ) (ended : Bool) (place : ℕ) (hs : List Handed) (ms ns : List Message) (m : Message)
-    → AreMessages (input bytes false ended) place ms → AreMessages (input bytes true ended) place ns → slice_get ms (length hs) ≡ Some m
-    → Ended bytes hs ms → Ended bytes hs ns
-ended_accepted bytes ended place [] ms ns m x y e z = tt
-ended_accepted bytes ended place (g ∷ gs) [] ns m x y e z = absurd z
-ended_accepted bytes ended place (g ∷ gs) (q ∷ ms) [] m x y e z = absurd (y x.0.start x.0.end x.0.piece)
-ended_accepted bytes ended place (g ∷ gs) (q ∷ ms) (r ∷ ns) m x y e z =
-    let rest = rest_of (input bytes false ended) (next_start q.body) ms (length gs) m x.1 e in
-    let here = message_accepted bytes ended place q r x.0 y.0 in
+pub ended_accepted : (bytes : List ℕ) (limit : ℕ) (ended : Bool) (size : ℕ) (place : ℕ) (hs : List Handed) (ms ns : List Message) (m : Message)
+    → AreMessages (input bytes None ended size) place ms → AreMessages (input bytes (Some limit) ended size) place ns
+    → slice_get ms (length hs) ≡ Some m → Ended bytes hs ms → Ended bytes hs ns
+ended_accepted bytes limit ended size place [] ms ns m x y e z = tt
+ended_accepted bytes limit ended size place (g ∷ gs) [] ns m x y e z = absurd z
+ended_accepted bytes limit ended size place (g ∷ gs) (q ∷ ms) [] m x y e z = absurd (y x.0.start x.0.end x.0.piece)
+ended_accepted bytes limit ended size place (g ∷ gs) (q ∷ ms) (r ∷ ns) m x y e z =
+    let rest = rest_of (input bytes None ended size) (next_start q.body) ms (length gs) m x.1 e in
+    let here = message_accepted bytes limit ended size place q r x.0 y.0 in
     elim here.body [
       | inl same ↦
-          let behind = subst (λ (o : Option ℕ). MatchOption o (ns ≡ []) (λ next. AreMessages (input bytes true ended) next ns)) (sym (ap next_start same) ∙ rest.1) y.1 in
-          (agrees_same bytes g q r here.reading same z.0, subst (λ b. IsSome (next_start b)) same z.1, z.2, ended_accepted bytes ended rest.0 gs ms ns m rest.2 behind e z.3)
-      | inr framed ↦ absurd (none_behind bytes false ended rest.0 ms (length gs) m rest.2 (framed.3 rest.0 rest.1) e)
+          let next = sym (ap next_start same) ∙ rest.1 in
+          let behind = subst (λ (o : Option ℕ). MatchOption o (ns ≡ []) (λ p. AreMessages (input bytes (Some limit) ended size) p ns)) next y.1 in (
+            agrees_same bytes g q r here.reading same z.0,
+            subst (λ b. IsSome (next_start b)) same z.1,
+            z.2,
+            ended_accepted bytes limit ended size rest.0 gs ms ns m rest.2 behind e z.3,
+          )
+      | inr framed ↦ absurd (none_behind bytes None ended size rest.0 ms (length gs) m rest.2 (framed.3 rest.0 rest.1) e)
     ]
 
 -- ---- the prefix
 
 -- nothing is a prefix
-pub prefix_none : (bytes : List ℕ) (place : ℕ) (ms : List Message) → IsPrefixFrom bytes place [] ms
-prefix_none bytes place [] = tt
-prefix_none bytes place (m ∷ ms) = tt
+pub prefix_none : (hold_size : ℕ) (bytes : List ℕ) (place : ℕ) (ms : List Message) → IsPrefixFrom hold_size bytes place [] ms
+prefix_none hold_size bytes place [] = tt
+prefix_none hold_size bytes place (m ∷ ms) = tt
 
 -- a message that has ended and is answered may have others behind it
 last_ended : (h : Handed) (m : Message) (hs : List Handed) → IsSome (next_start m.body) → IsTrue h.answered → IsLastOrEnded h m hs
@@ -88,14 +89,14 @@ last_ended h m [] ends answered = tt
 last_ended h m (next ∷ hs) ends answered = (ends, answered)
 
 -- the newest stands behind those that have ended
-pub prefix_last : (bytes : List ℕ) (place : ℕ) (hs : List Handed) (ms : List Message) (h : Handed) (m : Message) → Ended bytes hs ms
-    → slice_get ms (length hs) ≡ Some m → Agrees bytes h m → IsPrefixFrom bytes place (hs ++ h ∷ []) ms
-prefix_last bytes place [] [] h m x e agrees = absurd (none-some m e)
-prefix_last bytes place [] (q ∷ ms) h m x e agrees =
-    (subst (Agrees bytes h) (first_message q m e) agrees, tt, prefix_none bytes (unwrap_or (next_start q.body) place) ms)
-prefix_last bytes place (g ∷ gs) [] h m x e agrees = absurd x
-prefix_last bytes place (g ∷ gs) (q ∷ ms) h m x e agrees =
-    (x.0, last_ended g q (gs ++ h ∷ []) x.1 x.2, prefix_last bytes (unwrap_or (next_start q.body) place) gs ms h m x.3 e agrees)
+pub prefix_last : (hold_size : ℕ) (bytes : List ℕ) (place : ℕ) (hs : List Handed) (ms : List Message) (h : Handed) (m : Message) → Ended bytes hs ms
+    → slice_get ms (length hs) ≡ Some m → Agrees bytes h m → IsPrefixFrom hold_size bytes place (hs ++ h ∷ []) ms
+prefix_last hold_size bytes place [] [] h m x e agrees = absurd (none-some m e)
+prefix_last hold_size bytes place [] (q ∷ ms) h m x e agrees =
+    (subst (Agrees bytes h) (first_message q m e) agrees, tt, prefix_none hold_size bytes (unwrap_or (next_start q.body) place) ms)
+prefix_last hold_size bytes place (g ∷ gs) [] h m x e agrees = absurd x
+prefix_last hold_size bytes place (g ∷ gs) (q ∷ ms) h m x e agrees =
+    (x.0, last_ended g q (gs ++ h ∷ []) x.1 x.2, prefix_last hold_size bytes (unwrap_or (next_start q.body) place) gs ms h m x.3 e agrees)
 
 -- the place behind the messages
 abbrev pub end_of : ℕ → List Message → ℕ
@@ -103,15 +104,18 @@ end_of place [] = place
 end_of place (m ∷ ms) = end_of (unwrap_or (next_start m.body) place) ms
 
 -- a fault stands behind all messages
-pub prefix_over : (bytes : List ℕ) (place end : ℕ) (hs : List Handed) (ms : List Message) → Ended bytes hs ms → length hs ≡ length ms
-    → end_of place ms ≡ end → MAX_HELD ≤ length (drop end bytes) → HasNoHeadPiece (take MAX_HELD (drop end bytes))
-    → IsPrefixFrom bytes place (hs ++ newly_handed too_large ∷ []) ms
-prefix_over bytes place end [] [] x same e many none =
-    subst (λ p. IsOversized bytes p (newly_handed too_large ∷ [])) (sym e) (refl, many, none)
-prefix_over bytes place end [] (m ∷ ms) x same e many none = absurd (omega arith)
-prefix_over bytes place end (g ∷ gs) [] x same e many none = absurd x
-prefix_over bytes place end (g ∷ gs) (q ∷ ms) x same e many none =
-    (x.0, last_ended g q (gs ++ newly_handed too_large ∷ []) x.1 x.2, prefix_over bytes (unwrap_or (next_start q.body) place) end gs ms x.3 (omega arith) e many none)
+pub prefix_over : (hold_size : ℕ) (bytes : List ℕ) (place end : ℕ) (hs : List Handed) (ms : List Message) → Ended bytes hs ms → length hs ≡ length ms
+    → end_of place ms ≡ end → hold_size ≤ length (drop end bytes) → HasNoHeadPiece (take hold_size (drop end bytes))
+    → IsPrefixFrom hold_size bytes place (hs ++ newly_handed (faulty too_large) ∷ []) ms
+prefix_over hold_size bytes place end [] [] x same e many none =
+    subst (λ p. IsOversized hold_size (drop p bytes) (newly_handed (faulty too_large) ∷ [])) (sym e) (refl, many, none)
+prefix_over hold_size bytes place end [] (m ∷ ms) x same e many none = absurd (omega arith)
+prefix_over hold_size bytes place end (g ∷ gs) [] x same e many none = absurd x
+prefix_over hold_size bytes place end (g ∷ gs) (q ∷ ms) x same e many none = (
+  x.0,
+  last_ended g q (gs ++ newly_handed (faulty too_large) ∷ []) x.1 x.2,
+  prefix_over hold_size bytes (unwrap_or (next_start q.body) place) end gs ms x.3 (omega arith) e many none,
+)
 
 -- ---- the last message
 

@@ -1,16 +1,15 @@
 -- What a pull hands out of a body: the bytes behind those that were given, and the next frame.
-use Rattle.std.proofs.Common.{◌≡◌, ℕ, zero, suc, ◌+◌, ◌-◌, ◌≤◌, List, [], ◌∷◌, ◌++◌, length, take, drop, map, slice_range, Some, None, refl, sym, ap, ◌∙◌, inl, inr, arith, append_assoc, append-nil, length-append, length-drop}
+use Rattle.std.proofs.Common.{◌≡◌, ℕ, zero, suc, ◌+◌, ◌-◌, ◌<◌, ◌≤◌, List, [], ◌∷◌, ◌++◌, length, take, drop, map, slice_range, Some, None, refl, sym, ap, ◌∙◌, inl, inr, arith, append-nil, length-drop}
 use Rattle.std.specs.Prelude.{slice_get}
 use Rattle.std.proofs.lemmas.Option.{none-some, same_Some}
 use Rattle.std.proofs.lemmas.Bool.{cases_lt}
-use Rattle.std.proofs.lemmas.List.{drop_at, drop-drop, drop-take, drop-append-le, drop_all, length-take-le, nil_from_length}
-use Rattle.h1_model.specs.Frame.{Frame}
+use Rattle.std.proofs.lemmas.List.{drop_at, drop-drop, drop-take, drop-append-le, drop_all, length-take-le}
 use Rattle.h1_model.specs.FrameText.{PlacedFrame}
-use Rattle.h1_chunks.specs.Runs.{Run}
-use Rattle.h1_model.specs.Handed.{Begins, run_bytes}
+use Rattle.h1_chunks.specs.Runs.{Run, run_bytes}
+use Rattle.h1_model.specs.Handed.{Item, item_frame, Begins}
 use Rattle.h1_model.specs.OutcomeTable.{run_left}
 use Rattle.h1_model.proofs.RunLemmas.{IsOrdered, ordered_bound}
-use Rattle.h1_model.proofs.PlaceLemmas.{run_len, left-within, left-past, left-none, same_run}
+use Rattle.h1_model.proofs.PlaceLemmas.{run_len, left-within, left-past, left-none, same_run, left_some, left_within}
 
 -- ---- more of a list that was begun
 
@@ -18,22 +17,14 @@ use Rattle.h1_model.proofs.PlaceLemmas.{run_len, left-within, left-past, left-no
 begun_rest : {A : Type 0} (front all : List A) (n : ℕ) (x : Begins front all) → length front ≡ n → drop n all ≡ x.0
 begun_rest front all n x len = ap (drop n) x.1 ∙ drop_at front x.0 n len
 
--- what follows is given too
-pub given_more : {A : Type 0} (front all more rest : List A) (n : ℕ) → Begins front all → length front ≡ n → drop n all ≡ more ++ rest
-    → Begins (front ++ more) all
-given_more front all more rest n x len e =
-    (rest, x.1 ∙ ap (λ (t : List _). front ++ t) (sym (begun_rest front all n x len) ∙ e) ∙ sym (append_assoc front more rest))
+-- so all is the beginning and what follows
+pub given_then : {A : Type 0} (front all rest : List A) (n : ℕ) → Begins front all → length front ≡ n → drop n all ≡ rest → all ≡ front ++ rest
+given_then front all rest n x len e = x.1 ∙ ap (λ (t : List _). front ++ t) (sym (begun_rest front all n x len) ∙ e)
 
 -- nothing follows
 pub given_all : {A : Type 0} (front all : List A) (n : ℕ) → Begins front all → length front ≡ n → drop n all ≡ [] → front ≡ all
 given_all front all n x len e =
     sym (append-nil front) ∙ ap (λ (t : List _). front ++ t) (sym e ∙ begun_rest front all n x len) ∙ sym x.1
-
--- where all was given, nothing more is
-pub all_stays : {A : Type 0} (front all more : List A) → Begins (front ++ more) all → front ≡ all → front ++ more ≡ all
-all_stays {A} front all more x e =
-    let len : length more ≡ 0 = omega (arith, ap length x.1, length-append (front ++ more) x.0, length-append front more, ap length e) in
-    ap (λ (t : List A). front ++ t) (nil_from_length more len) ∙ append-nil front ∙ e
 
 -- ---- the bytes of a part
 
@@ -74,12 +65,19 @@ left_bytes text from upto given (q ∷ rs) r within x e =
           let len = slice_len text q.start q.end (omega arith) in (
             run_bytes text rs,
             drop-append-le given (slice_range text q.start q.end) (run_bytes text rs) (omega arith)
-                ∙ ap (λ (t : List ℕ). t ++ run_bytes text rs) (slice_from text q.start q.end given (omega arith) ∙ ap (λ (s : Run). slice_range text s.start s.end) same),
+                ∙ ap (λ (t : List ℕ). t ++ run_bytes text rs)
+                (slice_from text q.start q.end given (omega arith) ∙ ap (λ (s : Run). slice_range text s.start s.end) same),
           )
       | inr past ↦
           let later = left_bytes text q.end upto (given - run_len q) rs r within x.2 (sym (left-past given q rs past) ∙ e) in
           (later.0, runs_past text given q rs (omega arith) past ∙ later.1)
     ]
+
+-- these are some
+pub left_more : (text : List ℕ) (from upto given : ℕ) (rs : List Run) (r : Run) → upto ≤ length text → IsOrdered from upto rs
+    → run_left given rs ≡ Some r → 0 < length (slice_range text r.start r.end)
+left_more text from upto given rs r within x e =
+    omega (arith, slice_len text r.start r.end (omega (arith, (left_within from upto given rs r x e).1)), left_some given rs r e)
 
 -- where no run is left all bytes were given
 pub left_all : (text : List ℕ) (from upto given : ℕ) (rs : List Run) → upto ≤ length text → IsOrdered from upto rs → run_left given rs ≡ None
@@ -89,15 +87,18 @@ left_all text from upto given (q ∷ rs) within x e =
     let bound = ordered_bound q.end upto rs x.2 in
     elim (cases_lt given (run_len q)) [
       | inl here ↦ absurd (none-some _ (sym e ∙ left-within given q rs here))
-      | inr past ↦ runs_past text given q rs (omega arith) past ∙ left_all text q.end upto (given - run_len q) rs within x.2 (sym (left-past given q rs past) ∙ e)
+      | inr past ↦ runs_past text given q rs (omega arith) past
+          ∙ left_all text q.end upto (given - run_len q) rs within x.2 (sym (left-past given q rs past) ∙ e)
     ]
 
 -- ---- the next frame
 
 -- behind the frames that were given stands the next one
 pub left_frames : (fs : List PlacedFrame) (given : ℕ) (f : PlacedFrame) → slice_get fs given ≡ Some f
-    → (rest : List Frame) × (drop given (map (λ (p : PlacedFrame). p.frame) fs) ≡ f.frame ∷ rest)
+    → (rest : List Item) × (drop given (map (λ (p : PlacedFrame). item_frame p.frame) fs) ≡ item_frame f.frame ∷ rest)
 left_frames [] given f e = absurd (none-some f e)
-left_frames (g ∷ fs) zero f e =
-    (map (λ (p : PlacedFrame). p.frame) fs, ap (λ (h : PlacedFrame). h.frame ∷ map (λ (p : PlacedFrame). p.frame) fs) (same_Some g f e))
+left_frames (g ∷ fs) zero f e = (
+  map (λ (p : PlacedFrame). item_frame p.frame) fs,
+  ap (λ (h : PlacedFrame). item_frame h.frame ∷ map (λ (p : PlacedFrame). item_frame p.frame) fs) (same_Some g f e),
+)
 left_frames (g ∷ fs) (suc k) f e = left_frames fs k f e

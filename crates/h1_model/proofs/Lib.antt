@@ -3,6 +3,8 @@ pub mod BlankLemmas
 pub mod HeadPieceLemmas
 pub mod ReadingLemmas
 pub mod FrameLemmas
+pub mod FrameSizes
+pub mod FrameWritten
 pub mod BodyLemmas
 pub mod MessageLemmas
 pub mod RunLemmas
@@ -13,6 +15,7 @@ pub mod RequestDecisions
 pub mod TargetDecisions
 pub mod ReadingDecisions
 pub mod MessageExistence
+pub mod HandedItems
 pub mod HandedLemmas
 pub mod PastExistence
 pub mod MovedLemmas
@@ -35,6 +38,7 @@ pub mod ClosingLemmas
 pub mod HandedPrefix
 pub mod HandedRuns
 pub mod HandedTrace
+pub mod HandedCounts
 pub mod HandedSteps
 pub mod HandedPulls
 pub mod HandedHeads

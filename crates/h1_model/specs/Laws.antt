@@ -2,3 +2,5 @@
 pub mod Growth
 pub mod Moved
 pub mod Upgrade
+pub mod WrittenFrame
+pub mod FrameSize

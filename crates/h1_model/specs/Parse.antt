@@ -9,7 +9,7 @@ use Rattle.h1_chunks.specs.ChunkedText.{Trailer}
 use Rattle.h1_chunks.specs.Runs.{Run}
 use Rattle.h1_chunks.specs.Chunked.{Chunked, whole, unfinished, not_chunked, IsChunked}
 use Rattle.h1_model.specs.Frame.{ProtocolError}
-use Rattle.h1_model.specs.FrameText.{Reader, PlacedFrame, ReadsFrames}
+use Rattle.h1_model.specs.FrameText.{Reader, at_length, PlacedFrame, ReadsFrames}
 
 -- All bytes taken, whether the input has ended, and how many bytes a connection may hold. On a connection
 -- that speaks WebSocket, how many bytes a frame's payload may have.
@@ -72,7 +72,7 @@ chunked_stop i place not_chunked = broken
 
 -- a connection is a server
 abbrev pub connection_reader : ℕ → Reader
-connection_reader limit = record { wants_mask = true; max_payload = limit }
+connection_reader limit = record { wants_mask = true; max_payload = limit; judges_size = at_length }
 
 -- the body of this kind that begins at the place; once upgraded, a raw body is frames
 abbrev pub IsBodyOf : Input → BodyKind → ℕ → Body → Type 0

@@ -1,7 +1,13 @@
+use Rattle.std.proofs.Common.{reverse, sym, subst, arith}
+use Rattle.std.proofs.lemmas.List.{length-reverse}
+use Rattle.h1_model.specs.Handed.{IsPrefixFrom}
 use Rattle.h1_model.proofs.MessageGrowth.{parse_grows}
 use Rattle.h1_model.proofs.HandedLemmas.{prefix_grows}
 use Rattle.h1_model.proofs.handed.handed_out_stays.Goals as goal
 
 pub returns : goal.returns
-returns c i j more handed ms ns bytes upgraded ended x y few prefix =
-    prefix_grows i.bytes j.bytes 0 handed ms ns (parse_grows i j more ms ns bytes upgraded ended x y) few prefix
+returns c i j more out ms ns bytes upgraded size ended x y few prefix =
+    let grow = parse_grows i j more ms ns bytes upgraded size ended x y in
+    let order = reverse out.messages in
+    let grown = prefix_grows i.hold_size i.bytes j.bytes 0 order ms ns grow (omega (arith, length-reverse out.messages)) prefix.1 in
+    (prefix.0, subst (λ n. IsPrefixFrom n j.bytes 0 order ns) (sym size) grown)
