@@ -148,9 +148,9 @@ short_form reader u first payload more no_mask plain small within =
       short_length = rest i;
     } in
     let width : length_bytes (plain_start first n) ≡ 0 =
-        cond-false _ 2 _ (ne_eqb n 126 (λ e. omega arith)) ∙ cond-false _ 8 0 (ne_eqb n 127 (λ e. omega arith)) in
+    cond-false _ 2 _ (ne_eqb n 126 (λ e. omega arith)) ∙ cond-false _ 8 0 (ne_eqb n 127 (λ e. omega arith)) in
     let size : payload_length_of (plain_start first n) (payload ++ more) ≡ n =
-        ap (λ k. cond (k == 0) n (big_endian (take k (payload ++ more)))) width in
+    ap (λ k. cond (k == 0) n (big_endian (take k (payload ++ more)))) width in
     read_behind reader u first n n [] payload more no_mask plain starts width size within (omega arith)
 
 -- one below 65,536 stands in two further bytes

@@ -1,8 +1,8 @@
 -- What was handed out, and when that is the beginning of a parse.
-use Rattle.std.specs.Prelude.{◌≡◌, ℕ, ◌<◌, ◌≤◌, Bool, true, false, List, [], ◌∷◌, ◌++◌, length, take, drop, map, reverse, Option, Some, None, IsTrue, IsSome, unwrap_or, flat_map, ⊤}
+use Rattle.std.specs.Prelude.{◌≡◌, ℕ, ◌<◌, ◌≤◌, Bool, true, false, List, [], ◌∷◌, ◌++◌, length, take, drop, map, reverse, IsTrue, IsSome, unwrap_or, flat_map, ⊤}
 use Rattle.h1_chunks.specs.Runs.{run_bytes}
 use Rattle.h1_model.specs.HeadPiece.{HasNoHeadPiece}
-use Rattle.h1_model.specs.Request.{Header, Fault, too_large, Reading, head_is, faulty}
+use Rattle.h1_model.specs.Request.{Header, too_large, Reading, head_is, faulty}
 use Rattle.h1_model.specs.Setting.{Setting}
 use Rattle.h1_model.specs.Frame.{Frame}
 use Rattle.h1_model.specs.Parse.{Message, Body, no_content, content, frames, Stop, ended_at, still_open, broken, cut, next_start, runs_of, frames_of}
