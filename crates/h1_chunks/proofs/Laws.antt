@@ -25,7 +25,7 @@ same_end bytes j k t u j_in k_in x y = elim (cases_order j k) [
 ]
 
 -- the trailers of a whole body are what is read of its bytes
-trailers_read : (bytes : List ℕ) (t : ChunkedText) → Spells bytes t → (read start bytes).trailers ≡ section_text t.trailers
+pub trailers_read : (bytes : List ℕ) (t : ChunkedText) → Spells bytes t → (read start bytes).trailers ≡ section_text t.trailers
 trailers_read bytes t x =
     ap (λ l. (read start l).trailers) (x.1 ∙ sym (append-nil (chunked_text t))) ∙ ap (λ (r : Reading). r.trailers) (text_read t [] x.0)
 

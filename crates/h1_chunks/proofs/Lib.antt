@@ -18,3 +18,5 @@ pub mod TrailerLines
 pub mod Rests
 pub mod Broken
 pub mod TakenReads
+pub mod ToldByPlaces
+pub mod LongLines

@@ -36,7 +36,7 @@ step_colon : (lines room : ℕ) → 2 < room → section_step in_name lines room
 step_colon lines room fits = cond-true _ _ _ (lt-ltb 2 room fits)
 
 -- a byte of a value
-step_value : (lines room b : ℕ) → is_value_byte b ≡ true → 2 < room → section_step in_value lines room b ≡ in_section in_value lines (room - 1)
+pub step_value : (lines room b : ℕ) → is_value_byte b ≡ true → 2 < room → section_step in_value lines room b ≡ in_section in_value lines (room - 1)
 step_value lines room b ok fits =
     cond-false _ _ _ (value_no_cr b ok) ∙ cond-true _ _ _ ok ∙ cond-true _ _ _ (lt-ltb 2 room fits)
 

@@ -2,5 +2,6 @@
 #![tactic(auto)]
 
 pub mod chunked;
+pub mod examples;
 pub mod reading;
 pub mod taking;
