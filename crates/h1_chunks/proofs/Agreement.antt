@@ -8,7 +8,8 @@ use Rattle.h1_chunks.specs.Chunked.{Chunked, whole, unfinished, not_chunked, Spe
 use Rattle.h1_chunks.specs.Place.{Place, in_bytes, bytes_end, in_section, broken, start, bytes_step, step, after}
 use Rattle.h1_chunks.specs.Reading.{goes_on, is_broken, has_ended, Reading, only, noted, read}
 use Rattle.h1_chunks.proofs.Complete.{text_read}
-use Rattle.h1_chunks.proofs.ReadAfter.{after-nil, after-cons, after-append, read-cons, read-broken, read-append, joined, ending_after}
+use Rattle.h1_chunks.proofs.ReadSteps.{has_next, read-cons, read_broken}
+use Rattle.h1_chunks.proofs.ReadAfter.{after-nil, after-cons, after-append, read-append, joined, ending_after}
 use Rattle.h1_chunks.proofs.RunPlaces.{runs_of}
 use Rattle.h1_chunks.proofs.RunsOfText.{runs_of-text}
 use Rattle.h1_chunks.proofs.RunBytes.{cut_bytes, body_is_walked}
@@ -79,9 +80,9 @@ read_breaks : (place : Place) (bytes : List ℕ) → IsLive place → after plac
 read_breaks place [] live e = absurd (live.not_broken (sym (after-nil place) ∙ e))
 read_breaks place (b ∷ bytes) live e =
     let breaks : step place b ≡ broken = sym (after-nil (step place b)) ∙ sym (after-cons place b []) ∙ e in
-    read-cons place b bytes live.not_done
+    read-cons place b bytes (has_next place live.not_done)
     ∙ noted_broken place (step place b) b (read (step place b) bytes) refl breaks
-    ∙ ap (λ p. read p bytes) breaks ∙ read-broken bytes
+    ∙ ap (λ p. read p bytes) breaks ∙ read_broken bytes
 
 -- the byte behind a front
 pub one_more : (bytes : List ℕ) (n : ℕ) → after (after start (take n bytes)) (take 1 (drop n bytes)) ≡ after start (take (n + 1) bytes)

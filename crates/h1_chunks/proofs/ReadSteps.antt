@@ -9,6 +9,11 @@ abbrev pub HasNext : Place → Type 0
 HasNext done = ⊥
 HasNext place = ⊤
 
+-- each other place has a next one
+pub has_next : (p : Place) → (p ≡ done → ⊥) → HasNext p
+has_next done other = absurd (other refl)
+has_next p other = tt
+
 -- a byte here is no part of the body or its trailers
 abbrev pub IsQuiet : Place → Type 0
 IsQuiet (in_bytes more) = ⊥
