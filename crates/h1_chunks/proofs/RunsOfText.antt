@@ -69,7 +69,7 @@ passes_both s t u xs ys n first second = record {
 }
 
 -- a size line
-pub passes_size_line : (line : List ℕ) (size : ℕ) → SaysSize line size → Passes start line (after_line size) size
+passes_size_line : (line : List ℕ) (size : ℕ) → SaysSize line size → Passes start line (after_line size) size
 passes_size_line line size ok =
     let l = size_line line size ok in
     subst (λ x. Passes start x (after_line size) size) (sym l.spelled)
@@ -84,7 +84,7 @@ passes_bytes_end =
     passes_more _ bytes_cr _ 13 _ 0 refl (λ _. refl) (passes_more _ start _ 10 _ 0 refl (λ _. refl) (passes_none start))
 
 -- the bytes of a chunk, and CR LF
-pub passes_bytes : (bytes : List ℕ) (k : ℕ) → length bytes ≡ k + 1 → Passes (in_bytes k) (bytes ++ crlf_bytes) start 0
+passes_bytes : (bytes : List ℕ) (k : ℕ) → length bytes ≡ k + 1 → Passes (in_bytes k) (bytes ++ crlf_bytes) start 0
 passes_bytes [] k sized = absurd (omega arith)
 passes_bytes (b ∷ []) k sized =
     passes_more _ _ _ b _ 0 (cond-true _ _ _ (eq-eqb k 0 (omega arith))) (λ _. refl) passes_bytes_end
@@ -100,7 +100,7 @@ run_at_some : (place n : ℕ) → 0 < n → run_at place n ≡ record { start = 
 run_at_some place n some = cond-true _ _ _ (lt-ltb 0 n some)
 
 -- a segment leads back to the start
-pub after-segment : (s : Segment) → IsSegment s → after start (segment_text s) ≡ start
+after-segment : (s : Segment) → IsSegment s → after start (segment_text s) ≡ start
 after-segment s ok =
     let size = length s.bytes in
     let some : 0 < size = ok.1 in

@@ -6,13 +6,12 @@ use Rattle.h1_chunks.specs.ChunkedText.{Trailer, IsTrailer, section_text}
 use Rattle.h1_chunks.specs.Runs.{cut_runs}
 use Rattle.h1_chunks.specs.Chunked.{whole, unfinished, not_chunked, Spells, IsChunked}
 use Rattle.h1_chunks.specs.Place.{Place, done, broken, start, step, after}
-use Rattle.h1_chunks.specs.Reading.{goes_on, at_end, read}
+use Rattle.h1_chunks.specs.Reading.{Reading, goes_on, at_end, read}
 use Rattle.h1_chunks.proofs.ReadAfter.{after-nil, after-cons, after-append}
 use Rattle.h1_chunks.proofs.Trailers.{section_tells}
 use Rattle.h1_chunks.proofs.RunPlaces.{runs_of}
-use Rattle.h1_chunks.proofs.Beginnings.{runs_of-body, spells_begins}
+use Rattle.h1_chunks.proofs.Beginnings.{body_read, runs_of-body, spells_begins}
 use Rattle.h1_chunks.proofs.Verdicts.{IsLive, spells_from_done, unfinished_from_live, not_chunked_from_broken}
-use Rattle.h1_chunks.proofs.Laws.{trailers_read}
 
 -- a place where a reading goes on
 live_from : (place : Place) → at_end place ≡ goes_on → IsLive place
@@ -30,7 +29,7 @@ pub whole_told : (bytes rest : List ℕ) (trailers : List Trailer) → after sta
     → (read start bytes).trailers ≡ section_text trailers → IsChunked (bytes ++ rest) (whole (length bytes) trailers) (runs_of 0 start bytes)
 whole_told bytes rest trailers e ok told =
     let t = spells_from_done bytes e in
-    let same = section_tells trailers t.0.trailers ok t.1.0.trailers (sym told ∙ trailers_read bytes t.0 t.1) in (
+    let same = section_tells trailers t.0.trailers ok t.1.0.trailers (sym told ∙ ap (λ (r : Reading). r.trailers) (body_read bytes t.0 t.1)) in (
       t.0,
       omega (arith, length-append bytes rest),
       subst (λ l. Spells l t.0) (sym (take_at bytes rest (length bytes) refl)) t.1,
