@@ -11,7 +11,8 @@ use Rattle.h1_chunks.proofs.SizeLines.{size_line_read}
 use Rattle.h1_chunks.proofs.TrailerLines.{section_read}
 
 -- the bytes of a chunk
-pub bytes_read : (bytes : List ℕ) (more : ℕ) (rest : List ℕ) → length bytes ≡ more + 1 → read (in_bytes more) (bytes ++ rest) ≡ with_bytes bytes (read bytes_end rest)
+pub bytes_read : (bytes : List ℕ) (more : ℕ) (rest : List ℕ) → length bytes ≡ more + 1
+    → read (in_bytes more) (bytes ++ rest) ≡ with_bytes bytes (read bytes_end rest)
 bytes_read [] more rest sized = absurd (omega arith)
 bytes_read (b ∷ []) more rest sized =
     read_body_byte more b rest
@@ -41,7 +42,8 @@ segment_read s rest ok =
     ∙ ap (with_bytes s.bytes) (bytes_end_read rest)
 
 -- segments
-segments_read : (segments : List Segment) (rest : List ℕ) → AllByRecursion IsSegment segments → read start (flat_map segment_text segments ++ rest) ≡ with_bytes (flat_map (λ (s : Segment). s.bytes) segments) (read start rest)
+segments_read : (segments : List Segment) (rest : List ℕ) → AllByRecursion IsSegment segments
+    → read start (flat_map segment_text segments ++ rest) ≡ with_bytes (flat_map (λ (s : Segment). s.bytes) segments) (read start rest)
 segments_read [] rest ok = refl
 segments_read (s ∷ segments) rest ok =
     let behind = flat_map segment_text segments ++ rest in
@@ -51,7 +53,8 @@ segments_read (s ∷ segments) rest ok =
     ∙ with_bytes-append s.bytes (flat_map (λ (s : Segment). s.bytes) segments) (read start rest)
 
 -- the text of a body is read as its bytes, its trailers and its end
-pub text_read : (t : ChunkedText) (rest : List ℕ) → IsChunkedText t → read start (chunked_text t ++ rest) ≡ record { body = content t; trailers = section_text t.trailers; ending = has_ended rest }
+pub text_read : (t : ChunkedText) (rest : List ℕ) → IsChunkedText t
+    → read start (chunked_text t ++ rest) ≡ record { body = content t; trailers = section_text t.trailers; ending = has_ended rest }
 text_read t rest ok =
     let behind = section_text t.trailers ++ (crlf_bytes ++ rest) in
     let regrouped : chunked_text t ++ rest ≡ flat_map segment_text t.segments ++ (t.last ++ behind) = simp append_assoc in

@@ -185,7 +185,9 @@ module _ (b : ℕ) (text : List ℕ) where
   }
 
   -- a kept byte in front of the rest of its line
-  back_kept : (to : InLine) (P Q : List ℕ → Type 0) (lines room : ℕ) → From (in_section to lines (room - 1)) (LineThen P lines (room - 1) text) → ((line : List ℕ) → P line → Q (b ∷ line)) → From (kept to lines room) (LineThen Q lines room (b ∷ text))
+  back_kept : (to : InLine) (P Q : List ℕ → Type 0) (lines room : ℕ)
+      → From (in_section to lines (room - 1)) (LineThen P lines (room - 1) text) → ((line : List ℕ) → P line → Q (b ∷ line))
+      → From (kept to lines room) (LineThen Q lines room (b ∷ text))
   back_kept to P Q lines room is grows =
       was_kept to lines room (LineThen Q lines room (b ∷ text)) (λ fits r. line_from P Q lines room b text (omega arith) grows (is r))
 
@@ -203,7 +205,8 @@ module _ (b : ℕ) (text : List ℕ) where
 
   -- in a name or a value: one byte ends it, and others go on in it
   back_part : (wanted : ℕ) (ok : Bool) (next here : InLine) (P Q : List ℕ → Type 0) (lines room : ℕ)
-      → From (in_section next lines (room - 1)) (LineThen P lines (room - 1) text) → From (in_section here lines (room - 1)) (LineThen Q lines (room - 1) text)
+      → From (in_section next lines (room - 1)) (LineThen P lines (room - 1) text)
+      → From (in_section here lines (room - 1)) (LineThen Q lines (room - 1) text)
       → ((line : List ℕ) → b ≡ wanted → P line → Q (b ∷ line)) → ((line : List ℕ) → ok ≡ true → Q line → Q (b ∷ line))
       → From (cond (eqb b wanted) (kept next lines room) (cond ok (kept here lines room) broken)) (LineThen Q lines room (b ∷ text))
   back_part wanted ok next here P Q lines room is_next is_here ends goes_on =
@@ -302,7 +305,8 @@ ends_from (b ∷ bytes) p rest e =
     more_ends p b bytes rest (ends_from bytes (step p b) rest (sym (ending-cons p b bytes tt) ∙ e))
 
 -- what is read up to an end is the text of a body
-pub ended_is_text : (bytes rest : List ℕ) → (read start bytes).ending ≡ has_ended rest → (t : ChunkedText) × IsChunkedText t × (bytes ≡ chunked_text t ++ rest)
+pub ended_is_text : (bytes rest : List ℕ) → (read start bytes).ending ≡ has_ended rest
+    → (t : ChunkedText) × IsChunkedText t × (bytes ≡ chunked_text t ++ rest)
 ended_is_text bytes rest e =
     let r = ends_from bytes start rest e in
     let body = start_ends r.text r.ends in

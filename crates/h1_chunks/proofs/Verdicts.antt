@@ -46,7 +46,8 @@ begins_from_live bytes live = open_begins bytes (ending_after start bytes live.n
 -- ---- from places to the grammar
 
 -- bytes behind which a body goes on are unfinished
-pub unfinished_from_live : (bytes : List ℕ) → IsLive (after start bytes) → IsChunked bytes unfinished (cut_runs (length bytes) (runs_of 0 start bytes))
+pub unfinished_from_live : (bytes : List ℕ) → IsLive (after start bytes)
+    → IsChunked bytes unfinished (cut_runs (length bytes) (runs_of 0 start bytes))
 unfinished_from_live bytes live =
     let t = begins_from_live bytes live in
     (t.0, t.1, sym (begins_runs bytes t.0 t.1))

@@ -18,6 +18,11 @@ pub fn one_chunk_cut_is_unfinished()
     ensures { (k : ℕ) → k < 14 → IsChunked (take k (codes "4\r\ndata\r\n0\r\n\r\n")) unfinished (cut_runs k (record { start = 3; end = 7 } ∷ [])) }
 {}
 
+/// A size line without digits says 0, so that two empty lines are a whole body.
+pub fn line_without_digits_says_none()
+    ensures { IsChunked (codes "\r\n\r\n") (whole 4 []) [] }
+{}
+
 /// A letter that is no digit begins no size line.
 pub fn letter_past_f_is_refused()
     ensures { IsChunked (codes "g") not_chunked [] }
