@@ -44,9 +44,11 @@ pub fn extension_is_passed_over()
     ensures { IsChunked (codes "4 ;name=value\r\ndata\r\n0\r\n\r\n") (whole 26 []) (record { start = 15; end = 19 } ∷ []) }
 {}
 
-/// Two trailer lines: each has its name and its value, with the white space around that.
-pub fn two_trailers_are_told()
-    ensures { IsChunked (codes "4\r\ndata\r\n0\r\nx-sum: 9\r\nx-size: 4\r\n\r\n")
+/// One trailer line, and two: each has its name and its value, with the white space around that.
+pub fn trailers_are_told()
+    ensures one { IsChunked (codes "4\r\ndata\r\n0\r\nx-sum: 9\r\n\r\n") (whole 24 (record { name = codes "x-sum"; value = codes " 9" } ∷ []))
+        (record { start = 3; end = 7 } ∷ []) }
+    ensures two { IsChunked (codes "4\r\ndata\r\n0\r\nx-sum: 9\r\nx-size: 4\r\n\r\n")
         (whole 35 (record { name = codes "x-sum"; value = codes " 9" } ∷ record { name = codes "x-size"; value = codes " 4" } ∷ []))
         (record { start = 3; end = 7 } ∷ []) }
 {}
