@@ -2,6 +2,7 @@
 use Rattle.std.proofs.Common.{◌≡◌, ℕ, zero, suc, ◌≤◌, Bool, true, false, List, [], ◌∷◌, ◌++◌, length, Option, Some, None, refl, sym, ap, ◌∙◌, subst, inl, inr, arith, append-nil}
 use Rattle.std.specs.Prelude.{◌⊎◌, ◌||◌, ◌&&◌, not, is_some, is_none, slice_get}
 use Rattle.std.proofs.lemmas.Bool.{true≢false, and_parts, not-true}
+use Rattle.std.proofs.lemmas.Option.{none-some, same_Some}
 use Rattle.std.specs.Option.{option_or}
 use Rattle.h1_model.specs.Request.{Head, head_is}
 use Rattle.h1_model.specs.Setting.{Setting}
@@ -214,3 +215,11 @@ by_count setting past (suc k) e l =
 pub current_of : (setting : Setting) (past : List ParsedStep) → Legal setting past
     → NoCurrent past ⊎ ((m : Message) × (h : Head) × Current setting past m h)
 current_of setting past l = by_count setting past (head_count (steps past)) refl l
+
+-- the current message is the one of which all holds
+pub current_with : (setting : Setting) (past : List ParsedStep) (n : Message) → Legal setting past → current past ≡ Some n
+    → (h : Head) × Current setting past n h
+current_with setting past n l e = elim (current_of setting past l) [
+  | inl none ↦ absurd (none-some n (sym none.current_is ∙ e))
+  | inr (m, h, c) ↦ (h, subst (λ (p : Message). Current setting past p h) (same_Some m n (sym c.current_is ∙ e)) c)
+]
