@@ -1,9 +1,9 @@
 -- The parts tell which events are allowed.
-use Rattle.std.proofs.Common.{◌≡◌, ℕ, ◌+◌, Bool, true, false, List, [], ◌∷◌, Option, Some, None, refl, sym, ap, ◌∙◌, subst, inl, inr}
+use Rattle.std.proofs.Common.{◌≡◌, ◌+◌, Bool, true, false, List, [], ◌∷◌, Option, Some, None, refl, sym, ap, ◌∙◌, inl, inr}
 use Rattle.std.specs.Prelude.{◌&&◌, ◌||◌, not, nat_le, is_some, is_none, if◌then◌else◌}
 use Rattle.std.specs.List.{list_any}
 use Rattle.std.proofs.lemmas.Bool.{true≢false, false≢true}
-use Rattle.h1_model.specs.Request.{Head, has_body, is_raw_kind}
+use Rattle.h1_model.specs.Request.{Head, has_body}
 use Rattle.h1_model.specs.Setting.{Setting}
 use Rattle.h1_model.specs.Limits.{MAX_FRAME_HEAD}
 use Rattle.h1_model.specs.Parse.{Message}
@@ -12,13 +12,12 @@ use Rattle.h1_model.specs.Event as on
 use Rattle.h1_model.specs.Sums.{Step, is_drop, request, since_head, answered, is_complete, was_pulled, was_dropped, was_told_to_go_on}
 use Rattle.h1_model.specs.Sums as sums
 use Rattle.h1_model.specs.Past.{ParsedStep, steps}
-use Rattle.h1_model.specs.Closing.{closing}
 use Rattle.h1_model.specs.Allowed.{is_over, gives_up, is_unanswered, expects_go_on, asks_raw, is_allowed}
 use Rattle.h1_model.specs.Allowed as model
 use Rattle.h1_model.proofs.PastLemmas.{Legal}
-use Rattle.h1_machine.specs.Kept.{Kept, Exchange, of_exchange, is_open}
+use Rattle.h1_machine.specs.Kept.{Exchange, of_exchange, is_open}
 use Rattle.h1_machine.specs.KeptOf.{tells_done, exchange_with, kept_of}
-use Rattle.h1_machine.specs.Local.{closing_by, has_body_left, waits_for_answer, is_answering, has_room, is_allowed_running, is_allowed_closing, allowed_by}
+use Rattle.h1_machine.specs.Local.{has_body_left, waits_for_answer, is_answering, is_allowed_running, is_allowed_closing, allowed_by}
 use Rattle.h1_machine.proofs.Current.{Current, NoCurrent, current_of}
 use Rattle.h1_machine.proofs.Orderly.{Orderly, orderly}
 use Rattle.h1_machine.proofs.Parts.{exchange_is, exchange_none, reply_unanswered, reply_sending, current_frames, none_open, none_answered, current_open, upgraded_of, open_of}
@@ -34,13 +33,14 @@ gives_up_by on.pull (on.broken_by fault) = refl
 gives_up_by on.pull _ = refl
 gives_up_by _ o = refl
 
--- tests that hold somewhere
+-- four tests in another order
 or_swapped : (a b c d : Bool) → ((a || b) || (c || d)) ≡ ((a || c) || (b || d))
 or_swapped true b c d = refl
 or_swapped false true true d = refl
 or_swapped false true false d = refl
 or_swapped false false c d = refl
 
+-- a body was given up by one of both
 given_up : (trace : List Step)
     → list_any (λ s. gives_up s.event s.outcome) trace ≡ (list_any (λ s. tells_done s.event s.outcome) trace || list_any (λ s. is_drop s.event) trace)
 given_up [] = refl
@@ -48,7 +48,7 @@ given_up (s ∷ before) =
     (λ i. gives_up_by s.event s.outcome i || given_up before i)
     ∙ or_swapped (tells_done s.event s.outcome) (is_drop s.event) (list_any (λ s. tells_done s.event s.outcome) before) (list_any (λ s. is_drop s.event) before)
 
--- tests grouped otherwise
+-- three tests in another order
 and_turned : (a b c : Bool) → ((a && b) && c) ≡ ((a && c) && b)
 and_turned true true true = refl
 and_turned true true false = refl
@@ -56,6 +56,7 @@ and_turned true false true = refl
 and_turned true false false = refl
 and_turned false b c = refl
 
+-- and grouped otherwise
 and_grouped : (a b c : Bool) → (a && (b && c)) ≡ ((a && b) && c)
 and_grouped true b c = refl
 and_grouped false b c = refl
@@ -96,6 +97,7 @@ none_incomplete trace o e = go (is_complete trace) refl
     both : {A : Type 0} (a : Option A) → is_none a ≡ true → is_some a ≡ true → ⊥
     both None x y = false≢true y
     both (Some a) x y = false≢true x
+
     go : (done : Bool) → is_complete trace ≡ done → done ≡ false
     go false f = refl
     go true f = absurd (both (answered trace) e (o.complete f))

@@ -1,12 +1,11 @@
 -- The parts tell why a connection closes.
-use Rattle.std.proofs.Common.{◌≡◌, ℕ, Bool, true, false, List, [], ◌∷◌, drop, length, Option, Some, None, refl, sym, ap, ◌∙◌, subst, inl, inr}
+use Rattle.std.proofs.Common.{◌≡◌, ℕ, Bool, true, false, List, drop, length, Option, Some, None, refl, sym, ap, ◌∙◌, inl, inr}
 use Rattle.std.specs.Prelude.{◌&&◌, ◌||◌, not, nat_lt, is_some, is_none, if◌then◌else◌}
 use Rattle.std.specs.Option.{option_or}
-use Rattle.std.proofs.lemmas.Bool.{cond-true, cond-false, cond_both, true≢false, false≢true}
+use Rattle.std.proofs.lemmas.Bool.{cond-true, cond-false, cond_both, false≢true}
 use Rattle.h1_model.specs.Request.{BodyKind, no_body, fixed_body, chunked_body, raw_body, is_raw_kind, is_chunked_kind, Head}
 use Rattle.h1_model.specs.Setting.{Setting}
 use Rattle.h1_model.specs.Answer.{asked_of, type_of}
-use Rattle.h1_model.specs.FrameText.{front_frame}
 use Rattle.h1_model.specs.Parse.{Message, frames_of, fail_of, connection_reader}
 use Rattle.h1_model.specs.End as ends
 use Rattle.h1_model.specs.End.{End}
@@ -17,15 +16,15 @@ use Rattle.h1_model.specs.Closing.{end_where, is_kept, told, body_end_of, asked_
 use Rattle.h1_model.specs.Closing as model
 use Rattle.h1_model.proofs.PastLemmas.{Legal}
 use Rattle.h1_model.proofs.CarriedLemmas.{passed_complete}
-use Rattle.h1_machine.specs.Kept.{Rest, frames_rest, Reply, Exchange, Kept, of_exchange, is_upgraded}
+use Rattle.h1_machine.specs.Kept.{frames_rest, Exchange, Kept, of_exchange}
 use Rattle.h1_machine.specs.KeptOf.{rest_of, reply_of, exchange_with, kept_of}
-use Rattle.h1_machine.specs.Local.{rest_end, answered_end_of, answered_end, drained_end, is_partial, has_no_frame, is_exhausted, input_end, closing_by}
+use Rattle.h1_machine.specs.Local.{answered_end_of, answered_end, drained_end, has_no_frame, is_exhausted, input_end, closing_by}
 use Rattle.h1_machine.proofs.Current.{Current, NoCurrent, current_of}
-use Rattle.h1_machine.proofs.Orderly.{Waits, Orderly, orderly}
+use Rattle.h1_machine.proofs.Orderly.{orderly}
 use Rattle.h1_machine.proofs.Frames.{raw_head}
 use Rattle.h1_machine.proofs.Received.{upgraded_current}
 use Rattle.h1_machine.proofs.FramesLeft.{frames_left, front_partial}
-use Rattle.h1_machine.proofs.Rests.{Says, rest_says}
+use Rattle.h1_machine.proofs.Rests.{rest_says}
 use Rattle.h1_machine.proofs.Parts.{exchange_is, exchange_none, upgraded_of, open_of}
 
 -- ---- behind a complete answer
@@ -49,8 +48,10 @@ current_ends setting past m h l c = go (answered (steps past)) (is_complete (ste
   where
     x : Exchange
     x = exchange_with setting past m h
+
     incomplete : is_complete (steps past) ≡ false → model.answered_end setting past ≡ None
     incomplete f = cond-false (is_complete (steps past)) _ _ f
+
     go : (a : Option Answered) (done : Bool) → answered (steps past) ≡ a → is_complete (steps past) ≡ done
         → answered_end_of x (reply_of setting (steps past) h a) ≡ model.answered_end setting past
     go None true e f = absurd (false≢true (sym (ap is_some e) ∙ (orderly setting past l).complete f))
@@ -74,6 +75,7 @@ answered_of setting past l = elim (current_of setting past l) [
 
 -- ---- a drain
 
+-- the parts tell when a drain ends the connection
 drained_of : (setting : Setting) (past : List ParsedStep) → Legal setting past → drained_end (kept_of setting past) ≡ model.drained_end (steps past)
 drained_of setting past l =
     λ i. end_where (is_draining (steps past) && (not (open_of setting past l i) || upgraded_of setting past l i)) ends.drained
@@ -122,12 +124,16 @@ exhausted_of setting past l = go (accepted (steps past)) refl
   where
     k : Kept
     k = kept_of setting past
+
     frames : Bool
     frames = of_exchange (λ x. has_no_frame k.unread x.rest) k
+
     heads : Bool
     heads = not (sums.is_open (steps past)) && not k.is_coming
+
     same : is_exhausted k ≡ (if sums.is_upgraded (steps past) then frames else heads)
     same = λ i. if upgraded_of setting past l i then frames else not (open_of setting past l i) && not k.is_coming
+
     go : (u : Option ℕ) → accepted (steps past) ≡ u → is_exhausted k ≡ model.is_exhausted past
     go None e =
         same ∙ cond-false (sums.is_upgraded (steps past)) _ _ (ap is_some e) ∙ no_head_of (sums.is_open (steps past)) (upcoming past)
@@ -136,6 +142,7 @@ exhausted_of setting past l = go (accepted (steps past)) refl
         same ∙ cond-true (sums.is_upgraded (steps past)) _ _ (ap is_some e) ∙ no_frame_of setting past limit l e
         ∙ sym (cond-true (sums.is_upgraded (steps past)) _ _ (ap is_some e))
 
+-- and when the end of the input does
 input_of_end : (setting : Setting) (past : List ParsedStep) → Legal setting past → input_end setting (kept_of setting past) ≡ model.input_end setting past
 input_of_end setting past l =
     λ i. if has_ended (steps past)

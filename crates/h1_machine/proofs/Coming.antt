@@ -1,7 +1,7 @@
 -- Whether a head is coming is as the bytes say: it stands behind what is passed.
 use Rattle.std.proofs.Common.{◌≡◌, ℕ, zero, suc, Bool, true, false, List, [], ◌∷◌, length, drop, Option, Some, None, MatchOption, refl, sym, ap, ◌∙◌, subst, inl, inr}
 use Rattle.std.specs.Prelude.{◌&&◌, ◌||◌, not, is_some, slice_get, unwrap_or}
-use Rattle.std.proofs.lemmas.Bool.{true≢false, false≢true, cases_Bool, or_right}
+use Rattle.std.proofs.lemmas.Bool.{true≢false, cases_Bool, or_right}
 use Rattle.std.proofs.lemmas.Option.{none-some, same_Some}
 use Rattle.h1_model.specs.HeadPiece.{HasNoHeadPiece}
 use Rattle.h1_model.specs.Request.{Head}
@@ -13,12 +13,12 @@ use Rattle.h1_model.proofs.PastLemmas.{Legal}
 use Rattle.h1_model.proofs.StepLemmas.{parsed}
 use Rattle.h1_model.proofs.TraceGrowth.{current_at, current_none}
 use Rattle.h1_model.proofs.CarriedLemmas.{passed_complete}
-use Rattle.h1_machine.specs.Kept.{Kept, is_free, is_nothing}
+use Rattle.h1_machine.specs.Kept.{is_free, is_nothing}
 use Rattle.h1_machine.specs.KeptOf.{rest_of, kept_of}
 use Rattle.h1_machine.specs.Change.{IsComing}
 use Rattle.h1_machine.proofs.Current.{Current, NoCurrent, current_of}
-use Rattle.h1_machine.proofs.Orderly.{Waits, Orderly, orderly}
-use Rattle.h1_machine.proofs.Rests.{Says, rest_says}
+use Rattle.h1_machine.proofs.Orderly.{orderly}
+use Rattle.h1_machine.proofs.Rests.{rest_says}
 use Rattle.h1_machine.proofs.Parts.{exchange_is, exchange_none, reply_answered, none_open, current_open}
 
 -- ---- the message behind another
@@ -97,10 +97,12 @@ behind_current setting past m l e = by_count (head_count (steps past)) refl
   where
     i : Input
     i = input_of setting (steps past)
+
     by_end : (k : ℕ) (o : Option ℕ) → slice_get (parse_of past) k ≡ Some m → upcoming past ≡ slice_get (parse_of past) (suc k) → next_start m.body ≡ o
         → MatchOption o (upcoming past ≡ None) (λ next. ComesAt i next (upcoming past))
     by_end k None here next f = next ∙ none_comes i 0 (parse_of past) k m (parsed setting past l) here f
     by_end k (Some place) here next f = subst (ComesAt i place) (sym next) (next_comes i 0 (parse_of past) k m place (parsed setting past l) here f)
+
     by_count : (count : ℕ) → head_count (steps past) ≡ count → MatchOption (next_start m.body) (upcoming past ≡ None) (λ next. ComesAt i next (upcoming past))
     by_count zero f = absurd (none-some m (sym (current_none past f) ∙ e))
     by_count (suc k) f = by_end k (next_start m.body) (sym (current_at past k f) ∙ e) (ap (slice_get (parse_of past)) f) refl

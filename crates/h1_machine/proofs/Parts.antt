@@ -1,19 +1,19 @@
 -- What the parts say of the last request is what the trace says.
-use Rattle.std.proofs.Common.{◌≡◌, ℕ, ◌+◌, Bool, true, false, List, [], ◌∷◌, Option, Some, None, refl, sym, ap, ◌∙◌, subst, inl, inr}
+use Rattle.std.proofs.Common.{◌≡◌, ℕ, ◌+◌, Bool, true, false, List, Option, Some, None, refl, sym, ap, ◌∙◌, inl, inr}
 use Rattle.std.specs.Prelude.{◌&&◌, ◌||◌, not, nat_le, is_some, is_none}
-use Rattle.std.proofs.lemmas.Bool.{cond-true, cond-false, cond_both, true≢false, false≢true, cases_Bool}
+use Rattle.std.proofs.lemmas.Bool.{cond_both, false≢true, cases_Bool}
 use Rattle.std.proofs.lemmas.Option.{none-some}
 use Rattle.h1_model.specs.Request.{BodyKind, no_body, fixed_body, chunked_body, raw_body, is_raw_kind, Head}
 use Rattle.h1_model.specs.Setting.{Setting}
 use Rattle.h1_model.specs.Parse.{Message}
 use Rattle.h1_model.specs.Sums.{Step, Answered, request, accepted, answered, is_complete, is_receiving}
 use Rattle.h1_model.specs.Sums as sums
-use Rattle.h1_model.specs.Past.{ParsedStep, steps, current, passed}
+use Rattle.h1_model.specs.Past.{ParsedStep, steps, passed}
 use Rattle.h1_model.proofs.PastLemmas.{Legal}
-use Rattle.h1_machine.specs.Kept.{Rest, no_rest, raw_rest, fixed_rest, chunks_rest, frames_rest, Reply, Exchange, Kept, is_frames, is_unanswered, is_answered, is_sending_body, is_upgraded, is_open}
-use Rattle.h1_machine.specs.KeptOf.{is_passed, fixed_left, chunks_left, rest_of, reply_of, exchange_with, exchange_of, kept_of}
+use Rattle.h1_machine.specs.Kept.{no_rest, raw_rest, is_frames, is_unanswered, is_answered, is_sending_body, is_upgraded, is_open}
+use Rattle.h1_machine.specs.KeptOf.{is_passed, rest_of, reply_of, exchange_with, exchange_of, kept_of}
 use Rattle.h1_machine.proofs.Current.{Current, NoCurrent, current_of}
-use Rattle.h1_machine.proofs.Orderly.{Waits, Orderly, orderly}
+use Rattle.h1_machine.proofs.Orderly.{Orderly, orderly}
 use Rattle.h1_machine.proofs.Frames.{raw_head}
 
 -- ---- the exchange

@@ -1,25 +1,24 @@
 -- What is left of the body of a request whose answer is complete, against how that body stops.
-use Rattle.std.proofs.Common.{◌≡◌, ℕ, ◌+◌, ◌-◌, ◌≤◌, Bool, true, false, List, [], ◌∷◌, length, take, drop, Option, Some, None, refl, sym, ap, ◌∙◌, subst, inl, inr, arith, length-drop}
-use Rattle.std.specs.Prelude.{◌&&◌, not, nat_le, is_some, unwrap_or, slice_range}
+use Rattle.std.proofs.Common.{◌≡◌, ℕ, ◌+◌, ◌-◌, Bool, true, false, List, [], length, drop, Option, Some, None, refl, sym, ap, ◌∙◌, subst, inl, inr, arith, length-drop}
+use Rattle.std.specs.Prelude.{◌&&◌, not, nat_le, is_some, unwrap_or}
 use Rattle.std.proofs.lemmas.Bool.{cond-true, cond-false, cases_lt, le-leb, lt-leb}
 use Rattle.std.proofs.lemmas.List.{take_all}
 use Rattle.h1_chunks.specs.Chunked.{Chunked, whole, unfinished, not_chunked, IsChunked}
 use Rattle.h1_chunks.specs.Runs.{Run}
 use Rattle.h1_chunks.specs.Place.{Place, broken, start, after}
-use Rattle.h1_chunks.specs.Reading.{read}
 use Rattle.h1_chunks.proofs.Verdicts.{unfinished_after, broken_after}
 use Rattle.h1_model.specs.Request.{Header, BodyKind, no_body, fixed_body, chunked_body, raw_body, is_chunked_kind}
 use Rattle.h1_model.specs.Setting.{Setting}
-use Rattle.h1_model.specs.Parse.{Input, Message, Body, content, frames, Stop, ended_at, still_open, cut, open_or_cut, run_between, raw_content, shifted, chunked_stop, next_start, IsBodyOf}
+use Rattle.h1_model.specs.Parse.{Message, Body, content, ended_at, open_or_cut, run_between, raw_content, shifted, chunked_stop, next_start, IsBodyOf}
 use Rattle.h1_model.specs.End as ends
 use Rattle.h1_model.specs.End.{End}
-use Rattle.h1_model.specs.Sums.{taken, accepted, has_ended, is_complete, is_receiving}
+use Rattle.h1_model.specs.Sums.{taken, accepted, has_ended, is_complete}
 use Rattle.h1_model.specs.Past.{ParsedStep, steps, input_of, passed}
 use Rattle.h1_model.specs.Closing.{end_where, unread_end}
 use Rattle.h1_model.proofs.BodyLemmas.{input}
 use Rattle.h1_model.proofs.BodyGrowth.{fixed_whole, fixed_part}
 use Rattle.h1_model.proofs.CarriedLemmas.{end_of}
-use Rattle.h1_machine.specs.Kept.{Rest, no_rest, raw_rest, fixed_rest, chunks_rest, frames_rest, is_nothing}
+use Rattle.h1_machine.specs.Kept.{Rest, no_rest, raw_rest, fixed_rest, chunks_rest, is_nothing}
 use Rattle.h1_machine.specs.KeptOf.{is_passed, passed_bytes, fixed_left, chunks_left, raw_left, rest_of}
 use Rattle.h1_machine.specs.Local.{chunks_end, rest_end}
 

@@ -28,6 +28,7 @@ fresh_kept : (setting : Setting) → fresh ≡ kept_of setting []
 unfolding taken written accepted last_tick first_tick completed_at request since_head answered answer_len is_sending is_receiving text told closing_since
 fresh_kept setting = refl
 
+-- a connection to which nothing has happened stands for it
 pub fresh_stands : (setting : Setting) → StandsFor setting fresh []
 fresh_stands setting = record { traced = tt; past = []; of_trace = record { same = refl; right = tt }; parts = fresh_kept setting }
 
