@@ -101,19 +101,19 @@ frame_receives setting before x m h f l gives at same c upgraded old =
 -- no frame is handed out of a body that isn't frames
 plain_frames : (trace : List Step) (b : Body) → is_frames b ≡ false → step_frames (body_outcome trace b) ≡ 0
 plain_frames trace no_content e = refl
-plain_frames trace (content runs stop) e = go stop (run_left (given_bytes trace) runs) (gave_trailers trace)
+plain_frames trace (content runs stop) e = go stop (run_left (given_bytes trace) runs)
   where
     ended : (given : Bool) (lines : List Header) → step_frames (ended_outcome given lines) ≡ 0
     ended given [] = refl
     ended true (line ∷ more) = refl
     ended false (line ∷ more) = refl
 
-    go : (stop : Stop) (left : Option Run) (given : Bool) → step_frames (run_outcome trace stop left) ≡ 0
-    go stop (Some r) given = refl
-    go (ended_at place trailers) None given = ended (gave_trailers trace) trailers
-    go still_open None given = refl
-    go broken None given = refl
-    go cut None given = refl
+    go : (stop : Stop) (left : Option Run) → step_frames (run_outcome trace stop left) ≡ 0
+    go stop (Some r) = refl
+    go (ended_at place trailers) None = ended (gave_trailers trace) trailers
+    go still_open None = refl
+    go broken None = refl
+    go cut None = refl
 plain_frames trace (frames placed fail) e = absurd (true≢false e)
 
 -- the body of a message is frames on a WebSocket alone
