@@ -35,6 +35,7 @@ pub mod HeldLemmas
 pub mod WrittenLemmas
 pub mod EventLemmas
 pub mod ClosingLemmas
+pub mod DateLemmas
 pub mod HandedPrefix
 pub mod HandedRuns
 pub mod HandedTrace
