@@ -34,6 +34,7 @@ pub mod HeldSteps
 pub mod HeldLemmas
 pub mod WrittenLemmas
 pub mod EventLemmas
+pub mod ExchangeTexts
 pub mod ClosingLemmas
 pub mod DateLemmas
 pub mod HandedPrefix
