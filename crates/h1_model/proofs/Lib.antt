@@ -35,6 +35,7 @@ pub mod HeldLemmas
 pub mod WrittenLemmas
 pub mod EventLemmas
 pub mod ExchangeTexts
+pub mod ExchangeReplies
 pub mod ClosingLemmas
 pub mod DateLemmas
 pub mod HandedPrefix
