@@ -36,6 +36,7 @@ pub mod WrittenLemmas
 pub mod EventLemmas
 pub mod ExchangeTexts
 pub mod ExchangeReplies
+pub mod ExchangeSteps
 pub mod ClosingLemmas
 pub mod DateLemmas
 pub mod HandedPrefix

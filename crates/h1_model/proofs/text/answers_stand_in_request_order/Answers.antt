@@ -1,4 +1,4 @@
-use Rattle.h1_model.proofs.ExchangeReplies.{ReplyIs}
+use Rattle.h1_model.proofs.ExchangeSteps.{Spoken}
 use Rattle.h1_model.proofs.text.answers_stand_in_request_order.Goals as goal
 
 pub returns-clause-text : goal.returns-clause-text
