@@ -37,6 +37,8 @@ pub mod EventLemmas
 pub mod ExchangeTexts
 pub mod ExchangeReplies
 pub mod ExchangeSteps
+pub mod ExchangeEvents
+pub mod ExchangeTraces
 pub mod ClosingLemmas
 pub mod DateLemmas
 pub mod HandedPrefix
