@@ -1,12 +1,11 @@
 -- The date of a second: its year, its month and its day in the calendar.
-use Rattle.std.proofs.Common.{◌≡◌, ℕ, zero, suc, ◌+◌, ◌-◌, ◌*◌, ◌/◌, ◌%◌, ◌<◌, ◌≤◌, List, refl, sym, ap, ◌∙◌, inl, inr, subst, arith}
-use Rattle.std.specs.Prelude.{nat_lt, if◌then◌else◌}
+use Rattle.std.proofs.Common.{◌≡◌, ℕ, zero, suc, ◌+◌, ◌-◌, ◌*◌, ◌/◌, ◌%◌, ◌<◌, ◌≤◌, refl, sym, ap, ◌∙◌, subst, arith}
+use Rattle.std.specs.Prelude.{nat_lt}
 use Rattle.std.proofs.lemmas.Bool.{cond_both, ltb-true}
 use Rattle.std.proofs.lemmas.Bool.Decides.{nat_tests}
 use Rattle.httpdate.specs.declared.parts.Parts.{Parts}
 use Rattle.httpdate.specs.declared.date.HttpDate.{HttpDate}
 use Rattle.httpdate.specs.Calendar.{days_in_year, days_in_month, days_of_years, days_of_months, days_from_civil, weekday, IsCivilDate}
-use Rattle.httpdate.specs.Valid.{IsValid, parts_secs}
 use Rattle.httpdate.specs.Date.{unix_secs, date_text}
 use Rattle.httpdate.specs.Text.{imf_fixdate}
 use Rattle.httpdate.proofs.CalendarLemmas.{days_of_years_closed, days_of_months_all, days_from_civil_bound}
@@ -50,7 +49,8 @@ year_later first more days r behind y = record {
 }
 
 -- the year of each day that the years have
-year_is : (more first days : ℕ) → days_of_years first + days < days_of_years (suc (first + more)) → YearOf first more days (year_at more (1970 + first) days)
+year_is : (more first days : ℕ) → days_of_years first + days < days_of_years (suc (first + more))
+    → YearOf first more days (year_at more (1970 + first) days)
 unfolding year_at
 year_is zero first days inside =
     let same : first + 0 ≡ first = omega arith in
@@ -84,7 +84,8 @@ record MonthOf (y first more days : ℕ) (r : Counted) : Type 0 where
   pub value : days_of_months y (r.number - 1) + r.days ≡ days_of_months y first + days
 
 -- a day within the first month
-month_here : (y first more days : ℕ) → days < days_in_month y (suc first) → MonthOf y first more days (record { number = suc first; days = days })
+month_here : (y first more days : ℕ) → days < days_in_month y (suc first)
+    → MonthOf y first more days (record { number = suc first; days = days })
 month_here y first more days within =
     let same : suc first - 1 ≡ first = omega arith in
     record {
@@ -134,10 +135,7 @@ day_bound days h = omega (arith, days_of_years_closed 8030)
 -- a day of a year lies in one of its twelve months
 year_bound : (y days : ℕ) → days < days_in_year y → days_of_months y 0 + days < days_of_months y (suc (0 + 11))
 unfolding days_of_months
-year_bound y days h = omega (arith, days_of_months_all y, months_none y)
-  where
-    months_none : (y : ℕ) → days_of_months y 0 ≡ 0
-    months_none y = refl
+year_bound y days h = omega (arith, days_of_months_all y)
 
 -- the numbers that a second's text is made of
 abbrev parts_at : ℕ → Counted → Counted → Parts
@@ -187,7 +185,8 @@ date_at seconds year month y m =
     )
 
 -- each second before the year 10000 has a date
-pub date_exists : (seconds : ℕ) → seconds < 253402300800 → (date : HttpDate) × (unix_secs date ≡ seconds) × (date_of seconds ≡ date_text date)
+pub date_exists : (seconds : ℕ) → seconds < 253402300800
+    → (date : HttpDate) × (unix_secs date ≡ seconds) × (date_of seconds ≡ date_text date)
 unfolding date_of
 date_exists seconds h =
     let year = year_at 8029 1970 (seconds / 86400) in

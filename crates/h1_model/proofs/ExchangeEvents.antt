@@ -1,9 +1,9 @@
 -- What each event that is allowed adds to the exchanges of a trace.
-use Rattle.std.proofs.Common.{◌≡◌, ℕ, ◌-◌, Bool, true, false, cond, List, [], ◌∷◌, length, min, take, Option, Some, None, is_some, inl, inr, refl, sym, ap, ◌∙◌, subst, arith}
-use Rattle.std.specs.Prelude.{IsTrue, unwrap_or, option_map, option_and_then, ◌==◌, ◌||◌}
+use Rattle.std.proofs.Common.{◌≡◌, ℕ, Bool, true, false, cond, List, [], ◌∷◌, length, Option, Some, None, is_some, inl, inr, refl, sym, ap, ◌∙◌, subst, arith}
+use Rattle.std.specs.Prelude.{IsTrue, unwrap_or, option_map, option_and_then, ◌==◌}
 use Rattle.std.proofs.lemmas.Bool.{cond-false, cond_both, and_parts, not-true, eqb-true, true≢false, false≢true, cases_Bool}
 use Rattle.std.proofs.lemmas.Option.{slice_get_within}
-use Rattle.h1_model.specs.Request.{Head, Fault, too_large, Reading, head_is, faulty}
+use Rattle.h1_model.specs.Request.{Fault, too_large, Reading, head_is, faulty}
 use Rattle.h1_model.specs.Setting.{Setting}
 use Rattle.h1_model.specs.Answer.{AnswerHead, BodySize}
 use Rattle.h1_model.specs.Frame.{Message, ProtocolError}
@@ -14,19 +14,19 @@ use Rattle.h1_model.specs.End as ends
 use Rattle.h1_model.specs.End.{End}
 use Rattle.h1_model.specs.Event.{Event, Outcome}
 use Rattle.h1_model.specs.Event as on
-use Rattle.h1_model.specs.Sums.{Step, request, answered, accepted, answered_by, chunk_len, accepted_limit, head_of, is_go_on, is_open, is_answering, is_upgraded, is_sending, was_told_to_go_on, first_tick, now}
+use Rattle.h1_model.specs.Sums.{Step, request, answered, answered_by, chunk_len, accepted_limit, head_of, is_go_on, completes, is_open, is_answering, is_upgraded, is_sending, was_told_to_go_on, now}
 use Rattle.h1_model.specs.Past.{ParsedStep, steps, parse_of, current, upcoming, held}
-use Rattle.h1_model.specs.Text.{step_text, buffered}
+use Rattle.h1_model.specs.Text.{step_text}
 use Rattle.h1_model.specs.Closing.{told, fault_end, closing}
 use Rattle.h1_model.specs.Allowed.{is_allowed_closing, is_allowed, is_unanswered}
-use Rattle.h1_model.specs.OutcomeTable.{head_outcome, upcoming_outcome, next_outcome, pull_outcome, tick_outcome, is_abandoned, is_slow, is_idle, accept_outcome, send_outcome, outcome_of}
+use Rattle.h1_model.specs.OutcomeTable.{head_outcome, upcoming_outcome, next_outcome, tick_outcome, is_abandoned, is_slow, is_idle, send_outcome, outcome_of}
 use Rattle.h1_model.specs.Laws.Exchanges.{Exchange, changed_by, Refusal, faulty_head, too_slow, refused_by}
 use Rattle.h1_model.proofs.StepLemmas.{step, allowed_open}
 use Rattle.h1_model.proofs.HeldSteps.{pull_no_head}
 use Rattle.h1_model.proofs.HandedTrace.{told-here, told_closes}
 use Rattle.h1_model.proofs.HandedSteps.{Sound, nothing, running, failed}
 use Rattle.h1_model.proofs.ExchangeReplies.{answer_grown, accept_grown, piece_grown, end_grown, sent_grown}
-use Rattle.h1_model.proofs.ExchangeSteps.{Newest, NewestIs, Spoken, Goes, Leaves, quiet_goes, refusal_goes, reply_goes, go_on_goes, head_goes}
+use Rattle.h1_model.proofs.ExchangeSteps.{Newest, NewestIs, Spoken, Goes, quiet_goes, refusal_goes, reply_goes, go_on_goes, head_goes}
 
 -- ---- where the connection is open
 
@@ -60,10 +60,11 @@ unrefused setting past event outcome es r opens spoken goes =
 -- such an event, with an outcome that is no head
 silent : (setting : Setting) (before : List Step) (event : Event) (outcome : Outcome) (es : List Exchange) (r : Option Refusal)
     → head_of outcome ≡ None → accepted_limit event outcome ≡ None → ((drained : Bool) → answered_by event drained ≡ None)
-    → chunk_len event ≡ 0 → is_go_on event ≡ false → ((e : Exchange) → changed_by before event outcome e ≡ e)
+    → chunk_len event ≡ 0 → is_go_on event ≡ false → completes event ≡ false
+    → ((e : Exchange) → changed_by before event outcome e ≡ e)
     → step_text setting before event outcome ≡ [] → refused_by before event outcome ≡ None
     → Spoken setting before es r → Goes setting before event outcome es r
-silent setting before event outcome es r head plain answer chunk go_on change says refuses spoken =
+silent setting before event outcome es r head plain answer chunk go_on complete change says refuses spoken =
     quiet_goes setting before event outcome es r
     (record {
       head = head;
@@ -71,6 +72,7 @@ silent setting before event outcome es r head plain answer chunk go_on change sa
       answer = answer;
       chunk = chunk;
       go_on = go_on;
+      complete = complete;
       change = change;
     })
     says refuses spoken
@@ -89,6 +91,7 @@ fault_goes setting before fault es spoken =
       answer = λ d. refl;
       chunk = refl;
       go_on = refl;
+      complete = refl;
       change = λ e. refl;
     })
     refl refl (told-here (step on.next (on.fault fault)) before (fault_end fault) refl) (λ moment x. absurd (other moment x)) spoken
@@ -101,7 +104,7 @@ pending_goes : (setting : Setting) (before : List Step) (es : List Exchange) →
     → Goes setting before on.next on.pending es None
 unfolding changed_by refused_by step_text
 pending_goes setting before es spoken =
-    silent setting before on.next on.pending es None refl refl (λ d. refl) refl refl (λ e. refl) refl refl spoken
+    silent setting before on.next on.pending es None refl refl (λ d. refl) refl refl refl (λ e. refl) refl refl spoken
 
 -- the next message, by its reading
 reading_goes : (setting : Setting) (before : List Step) (reading : Reading) (es : List Exchange) → is_open before ≡ false
@@ -123,7 +126,7 @@ next_goes : (setting : Setting) (past : List ParsedStep) (end : Option End) (es 
     → Goes setting (steps past) on.next (next_outcome setting past end) es r
 unfolding is_allowed changed_by refused_by step_text
 next_goes setting past (Some end) es r e ok spoken =
-    silent setting (steps past) on.next (on.closed end) es r refl refl (λ d. refl) refl refl (λ e. refl) refl refl spoken
+    silent setting (steps past) on.next (on.closed end) es r refl refl (λ d. refl) refl refl refl (λ e. refl) refl refl spoken
 next_goes setting past None es r e ok spoken =
     let opens = ap is_some e in
     let test = sym (cond-false (is_some (closing setting past)) _ _ opens) ∙ (and_parts _ _ ok).1 in
@@ -149,7 +152,7 @@ tick_silent : (setting : Setting) (before : List Step) (ms : ℕ) (outcome : Out
     → Spoken setting before es r → Goes setting before (on.tick ms) outcome es r
 unfolding changed_by
 tick_silent setting before ms outcome es r head says refuses spoken =
-    silent setting before (on.tick ms) outcome es r head refl (λ d. refl) refl refl (λ e. refl) says refuses spoken
+    silent setting before (on.tick ms) outcome es r head refl (λ d. refl) refl refl refl (λ e. refl) says refuses spoken
 
 -- no head came in time
 slow_goes : (setting : Setting) (past : List ParsedStep) (ms : ℕ) (es : List Exchange) → Sound setting past
@@ -164,6 +167,7 @@ slow_goes setting past ms es sound opens none spoken =
       answer = λ d. refl;
       chunk = refl;
       go_on = refl;
+      complete = refl;
       change = λ e. refl;
     })
     refl refl (told-here (step (on.tick ms) (on.expired ends.slow_request)) (steps past) ends.slow_request refl)
@@ -243,7 +247,7 @@ accept_goes : (setting : Setting) (before : List Step) (limit : ℕ) (wrong : Op
     → Goes setting before (on.accept limit) (unwrap_or (option_map on.refused wrong) on.done) es None
 unfolding changed_by refused_by step_text
 accept_goes setting before limit (Some error) es free spoken =
-    silent setting before (on.accept limit) (on.refused error) es None refl refl (λ d. refl) refl refl (λ e. refl) refl refl spoken
+    silent setting before (on.accept limit) (on.refused error) es None refl refl (λ d. refl) refl refl refl (λ e. refl) refl refl spoken
 accept_goes setting before limit None [] free spoken = no_request before _ free spoken.newest.0
 accept_goes setting before limit None (e ∷ es) free spoken =
     let n : Newest before e = spoken.newest in
@@ -255,7 +259,7 @@ send_goes : (setting : Setting) (before : List Step) (m : Message) (wrong : Opti
     → is_upgraded before ≡ true → Spoken setting before es None → Goes setting before (on.send m) (send_outcome wrong) es None
 unfolding changed_by refused_by step_text
 send_goes setting before m (Some error) es up spoken =
-    silent setting before (on.send m) (on.protocol error) es None refl refl (λ d. refl) refl refl (λ e. refl) refl refl spoken
+    silent setting before (on.send m) (on.protocol error) es None refl refl (λ d. refl) refl refl refl (λ e. refl) refl refl spoken
 send_goes setting before m None [] up spoken = absurd (false≢true (sym (ap is_some spoken.newest.1) ∙ up))
 send_goes setting before m None (e ∷ es) up spoken =
     let n : Newest before e = spoken.newest in
@@ -269,14 +273,15 @@ pub event_goes : (setting : Setting) (past : List ParsedStep) (event : Event) (e
     → Goes setting (steps past) event (outcome_of setting past event) es r
 unfolding outcome_of changed_by refused_by step_text
 event_goes setting past (on.read bytes) es r ok sound spoken =
-    silent setting (steps past) (on.read bytes) _ es r refl refl (λ d. refl) refl refl (λ e. refl) refl refl spoken
+    silent setting (steps past) (on.read bytes) _ es r refl refl (λ d. refl) refl refl refl (λ e. refl) refl refl spoken
 event_goes setting past on.eof es r ok sound spoken =
-    silent setting (steps past) on.eof on.done es r refl refl (λ d. refl) refl refl (λ e. refl) refl refl spoken
+    silent setting (steps past) on.eof on.done es r refl refl (λ d. refl) refl refl refl (λ e. refl) refl refl spoken
 event_goes setting past on.next es r ok sound spoken = next_goes setting past (closing setting past) es r refl ok spoken
 event_goes setting past on.pull es r ok sound spoken =
-    silent setting (steps past) on.pull _ es r (pull_no_head (steps past) (current past)) refl (λ d. refl) refl refl (λ e. refl) refl refl spoken
+    silent setting (steps past) on.pull _ es r (pull_no_head (steps past) (current past)) refl (λ d. refl) refl refl refl (λ e. refl)
+    refl refl spoken
 event_goes setting past on.drop_body es r ok sound spoken =
-    silent setting (steps past) on.drop_body on.done es r refl refl (λ d. refl) refl refl (λ e. refl) refl refl spoken
+    silent setting (steps past) on.drop_body on.done es r refl refl (λ d. refl) refl refl refl (λ e. refl) refl refl spoken
 event_goes setting past on.go_on es r ok sound spoken =
     let test = and_parts _ _ (allowed_open setting past on.go_on refl ok) in
     unrefused setting past on.go_on on.done es r (stays_open setting past on.go_on refl ok) spoken
@@ -291,13 +296,13 @@ event_goes setting past on.body_end es r ok sound spoken =
     unrefused setting past on.body_end on.done es r (stays_open setting past on.body_end refl ok) spoken
     (end_goes setting (steps past) es (allowed_open setting past on.body_end refl ok))
 event_goes setting past on.body_error es r ok sound spoken =
-    silent setting (steps past) on.body_error on.done es r refl refl (λ d. refl) refl refl (λ e. refl) refl refl spoken
+    silent setting (steps past) on.body_error on.done es r refl refl (λ d. refl) refl refl refl (λ e. refl) refl refl spoken
 event_goes setting past (on.write n) es r ok sound spoken =
-    silent setting (steps past) (on.write n) _ es r refl refl (λ d. refl) refl refl (λ e. refl) refl refl spoken
+    silent setting (steps past) (on.write n) _ es r refl refl (λ d. refl) refl refl refl (λ e. refl) refl refl spoken
 event_goes setting past (on.tick ms) es r ok sound spoken =
     tick_goes setting past (closing setting past) _ ms es r refl sound spoken
 event_goes setting past on.drain es r ok sound spoken =
-    silent setting (steps past) on.drain on.done es r refl refl (λ d. refl) refl refl (λ e. refl) refl refl spoken
+    silent setting (steps past) on.drain on.done es r refl refl (λ d. refl) refl refl refl (λ e. refl) refl refl spoken
 event_goes setting past (on.accept limit) es r ok sound spoken =
     let parts = and_parts _ _ (and_parts _ _ (allowed_open setting past (on.accept limit) refl ok)).0 in
     unrefused setting past (on.accept limit) _ es r (stays_open setting past (on.accept limit) refl ok) spoken

@@ -1,58 +1,71 @@
 -- What a reply knows of its trace, and what one more step makes of it.
-use Rattle.std.proofs.Common.{◌≡◌, ℕ, zero, Bool, true, false, List, [], ◌∷◌, ◌++◌, Option, Some, None, is_some, is_none, refl, sym, ap, ◌∙◌, subst, arith}
-use Rattle.std.specs.Prelude.{option_to_list}
+use Rattle.std.proofs.Common.{◌≡◌, ℕ, Bool, true, false, List, [], ◌∷◌, ◌++◌, Option, Some, None, is_some, is_none, refl, sym, ap, ◌∙◌, subst}
+use Rattle.std.specs.Prelude.{◌+◌, length, option_to_list, ◌||◌}
 use Rattle.std.specs.Option.{option_or}
-use Rattle.std.proofs.lemmas.Bool.{and_parts, or_parts, not-true, true≢false, false≢true}
+use Rattle.std.proofs.lemmas.Bool.{and_parts, or_parts, or_right, not-true, true≢false, false≢true}
 use Rattle.h1_model.specs.Request.{Head}
 use Rattle.h1_model.specs.Setting.{Setting}
-use Rattle.h1_model.specs.Answer.{AnswerHead, BodySize, size_stream}
-use Rattle.h1_model.specs.Handshake.{accept_key_of, accepting_head}
+use Rattle.h1_model.specs.Answer.{AnswerHead, BodySize, is_at_once}
 use Rattle.h1_model.specs.Frame.{Message}
 use Rattle.h1_model.specs.Event as on
-use Rattle.h1_model.specs.Sums.{Step, Answered, request, answered_by, answered, answer_len, chunk_len, accepted_limit, accepted, is_upgraded, head_of, is_complete, is_answering, is_draining, now}
+use Rattle.h1_model.specs.Sums.{Step, Answered, request, answered_by, answered, answer_len, chunk_len, accepted_limit, accepted, is_upgraded, head_of, completes, is_complete, is_answering, is_draining, now}
 use Rattle.h1_model.specs.Text.{step_text, answer_text, chunk_sent, end_sent, accept_text}
 use Rattle.h1_model.specs.Allowed.{is_unanswered}
-use Rattle.h1_model.specs.Laws.Exchanges.{Reply, no_reply, answer_given, session, reply_text, newly_given, with_piece, with_end, with_sent, answer_in}
+use Rattle.h1_model.specs.Laws.Exchanges.{AnswerGiven, Reply, no_reply, answer_given, session, reply_text, newly_given, with_piece, with_end, with_sent, is_whole, answer_in}
 use Rattle.h1_model.proofs.StepLemmas.{step, accepted-cons, complete-more}
 use Rattle.h1_model.proofs.ClosingLemmas.{answered_still, len_still}
 use Rattle.h1_model.proofs.ExchangeTexts.{given_grows, session_grows, pieces_len, pieces_len-more, piece_grows, end_grows, sent_grows}
 
 -- ---- what a reply knows
 
--- The trace has the answer and so many bytes of its body, which isn't ended before the answer is complete; or it has no
--- answer, and a WebSocket or not.
+-- The trace has the answer and so many bytes of its body, and is complete where the reply is whole; or it has no answer,
+-- and a WebSocket or not.
 abbrev pub ReplyIs : List Step → Reply → Type 0
-ReplyIs trace no_reply = (answered trace ≡ None) × (accepted trace ≡ None) × (answer_len trace ≡ 0)
+ReplyIs trace no_reply = (answered trace ≡ None) × (accepted trace ≡ None) × (answer_len trace ≡ 0) × (is_complete trace ≡ false)
 ReplyIs trace (answer_given a) =
     (answered trace ≡ Some a.answered) × (accepted trace ≡ None) × (answer_len trace ≡ pieces_len a.pieces)
-    × (is_complete trace ≡ false → a.is_ended ≡ false)
-ReplyIs trace (session s) = (answered trace ≡ None) × (is_upgraded trace ≡ true)
+    × (is_complete trace ≡ is_whole (answer_given a))
+ReplyIs trace (session s) = (answered trace ≡ None) × (is_upgraded trace ≡ true) × (is_complete trace ≡ false)
 
--- what isn't complete wasn't before
-incomplete_before : (s : Step) (before : List Step) → head_of s.outcome ≡ None → is_complete (s ∷ before) ≡ false → is_complete before ≡ false
-incomplete_before s before none going = (or_parts _ _ (sym (complete-more s before none) ∙ going)).1
+-- the trace is complete where the reply is whole
+pub whole_reply : (trace : List Step) (reply : Reply) → ReplyIs trace reply → is_complete trace ≡ is_whole reply
+whole_reply trace no_reply x = x.3
+whole_reply trace (answer_given a) x = x.3
+whole_reply trace (session s) x = x.2
+
+-- a step that completes nothing
+complete_still : (s : Step) (before : List Step) → head_of s.outcome ≡ None → completes s.event ≡ false
+    → is_complete (s ∷ before) ≡ is_complete before
+complete_still s before none other = complete-more s before none ∙ ap (λ b. b || is_complete before) other
+
+-- an answer that isn't complete isn't ended
+unended : (trace : List Step) (a : AnswerGiven) → ReplyIs trace (answer_given a) → is_complete trace ≡ false → a.is_ended ≡ false
+unended trace a x going = (or_parts (is_at_once a.answered.size) a.is_ended (sym x.3 ∙ going)).1
 
 -- the protocol stays
 accepted_still : (s : Step) (before : List Step) → accepted_limit s.event s.outcome ≡ None → accepted (s ∷ before) ≡ accepted before
 accepted_still s before none = accepted-cons s before ∙ ap (λ (o : Option ℕ). option_or o (accepted before)) none
 
--- a step that is no answer, no piece of a body, no head and accepts nothing leaves the reply
+-- a step that is no answer, no piece or end of a body, no head and accepts nothing leaves the reply
 pub reply_still : (s : Step) (before : List Step) (reply : Reply) → head_of s.outcome ≡ None → accepted_limit s.event s.outcome ≡ None
-    → ((drained : Bool) → answered_by s.event drained ≡ None) → chunk_len s.event ≡ 0 → ReplyIs before reply → ReplyIs (s ∷ before) reply
-reply_still s before no_reply none plain other no_chunk x = (
+    → ((drained : Bool) → answered_by s.event drained ≡ None) → chunk_len s.event ≡ 0 → completes s.event ≡ false
+    → ReplyIs before reply → ReplyIs (s ∷ before) reply
+reply_still s before no_reply none plain other no_chunk no_end x = (
   answered_still s before none other ∙ x.0,
   accepted_still s before plain ∙ x.1,
   len_still s before none no_chunk ∙ x.2,
+  complete_still s before none no_end ∙ x.3,
 )
-reply_still s before (answer_given a) none plain other no_chunk x = (
+reply_still s before (answer_given a) none plain other no_chunk no_end x = (
   answered_still s before none other ∙ x.0,
   accepted_still s before plain ∙ x.1,
   len_still s before none no_chunk ∙ x.2,
-  λ going. x.3 (incomplete_before s before none going),
+  complete_still s before none no_end ∙ x.3,
 )
-reply_still s before (session w) none plain other no_chunk x = (
+reply_still s before (session w) none plain other no_chunk no_end x = (
   answered_still s before none other ∙ x.0,
   ap is_some (accepted_still s before plain) ∙ x.1,
+  complete_still s before none no_end ∙ x.2,
 )
 
 -- ---- which reply there is
@@ -90,7 +103,12 @@ answer_grown setting before head size h reply asked free x =
     record {
       grows = given_grows setting h reply a (now before) none
           ∙ ap (λ (o : Option Head). reply_text setting h reply ++ answer_text setting before head size o) (sym asked);
-      knows = (refl, accepted_still s before refl ∙ knows.1, len_still s before refl refl ∙ knows.2, λ going. refl);
+      knows = (
+        refl,
+        accepted_still s before refl ∙ knows.1,
+        len_still s before refl refl ∙ knows.2,
+        complete-more s before refl ∙ ap (λ b. is_at_once size || b) knows.3,
+      );
       adds = ap (λ (r : Reply). a ∷ answer_in r) (sym none);
     }
 
@@ -107,7 +125,11 @@ accept_grown setting before limit h reply asked free x =
     record {
       grows = session_grows setting h reply (is_draining before) (now before) none
           ∙ ap (λ (o : Option Head). reply_text setting h reply ++ accept_text setting before o) (sym asked);
-      knows = (answered_still s before refl (λ d. refl) ∙ knows.0, ap is_some (accepted-cons s before));
+      knows = (
+        answered_still s before refl (λ d. refl) ∙ knows.0,
+        ap is_some (accepted-cons s before),
+        complete_still s before refl refl ∙ knows.3,
+      );
       adds = ap answer_in (sym none);
     }
 
@@ -125,13 +147,15 @@ piece_grown setting before bytes h (answer_given a) asked answering x =
     let going = not-true _ (and_parts _ _ answering).1 in
     let sent : sent_of (Some h) (Some a.answered) (pieces_len a.pieces) ≡ sent_of (request before) (answered before) (answer_len before) =
     λ i. sent_of (sym asked i) (sym x.0 i) (sym x.2 i) in
+    let more : answer_len (s ∷ before) ≡ pieces_len (a.pieces ++ bytes ∷ []) =
+    ap (λ n. length bytes + n) x.2 ∙ sym (pieces_len-more a.pieces bytes) in
     record {
-      grows = piece_grows setting h a bytes (x.3 going) ∙ ap (λ (t : List ℕ). reply_text setting h (answer_given a) ++ t) sent;
+      grows = piece_grows setting h a bytes (unended before a x going) ∙ ap (λ (t : List ℕ). reply_text setting h (answer_given a) ++ t) sent;
       knows = (
         answered_still s before refl (λ d. refl) ∙ x.0,
         accepted_still s before refl ∙ x.1,
-        omega (arith, x.2, pieces_len-more a.pieces bytes),
-        λ later. x.3 going,
+        more,
+        complete_still s before refl refl ∙ x.3,
       );
       adds = refl;
     }
@@ -154,12 +178,12 @@ end_grown setting before h (answer_given a) asked answering x =
     let sent : end_sent (Some h) (Some a.answered) ≡ end_sent (request before) (answered before) =
     λ i. end_sent (sym asked i) (sym x.0 i) in
     record {
-      grows = end_grows setting h a (x.3 going) ∙ ap (λ (t : List ℕ). reply_text setting h (answer_given a) ++ t) sent;
+      grows = end_grows setting h a (unended before a x going) ∙ ap (λ (t : List ℕ). reply_text setting h (answer_given a) ++ t) sent;
       knows = (
         answered_still s before refl (λ d. refl) ∙ x.0,
         accepted_still s before refl ∙ x.1,
         len_still s before refl refl ∙ x.2,
-        λ later. absurd (true≢false (sym (complete-more s before refl) ∙ later)),
+        complete-more s before refl ∙ sym (or_right (is_at_once a.answered.size) true refl),
       );
       adds = refl;
     }
@@ -174,6 +198,10 @@ sent_grown setting before m h (session w) up x =
     let s = step (on.send m) on.done in
     record {
       grows = sent_grows setting h w m;
-      knows = (answered_still s before refl (λ d. refl) ∙ x.0, ap is_some (accepted_still s before refl) ∙ x.1);
+      knows = (
+        answered_still s before refl (λ d. refl) ∙ x.0,
+        ap is_some (accepted_still s before refl) ∙ x.1,
+        complete_still s before refl refl ∙ x.2,
+      );
       adds = refl;
     }

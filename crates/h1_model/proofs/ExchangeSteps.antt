@@ -1,26 +1,26 @@
 -- The text of a trace is that of its exchanges: what each step adds to both.
 use Rattle.std.proofs.Common.{◌≡◌, ℕ, Bool, true, false, List, [], ◌∷◌, ◌++◌, Option, Some, None, is_some, refl, sym, ap, ap₂, ◌∙◌, subst, subst₂, inl, inr, append_assoc, append-nil}
-use Rattle.std.specs.Prelude.{option_to_list, ◌||◌, not, ◌&&◌}
+use Rattle.std.specs.Prelude.{drop, All, option_to_list}
 use Rattle.std.specs.List.{list_any}
 use Rattle.std.specs.Option.{option_or}
-use Rattle.std.proofs.lemmas.Bool.{and_parts, not-true, true≢false, false≢true, cases_Bool}
-use Rattle.h1_model.specs.Request.{Head, Fault}
+use Rattle.std.proofs.lemmas.Bool.{true≢false, cases_Bool}
+use Rattle.std.proofs.lemmas.List.Elements.{All-nil, All-cons}
+use Rattle.h1_model.specs.Request.{Head}
 use Rattle.h1_model.specs.Setting.{Setting}
-use Rattle.h1_model.specs.AnswerText.{interim_text}
 use Rattle.h1_model.specs.Event.{Event, Outcome}
 use Rattle.h1_model.specs.Event as on
-use Rattle.h1_model.specs.Sums.{Step, request, answered_by, answered, answer_len, chunk_len, accepted_limit, accepted, is_upgraded, head_of, is_go_on, was_told_to_go_on, is_open, is_draining, since_head}
+use Rattle.h1_model.specs.Sums.{Step, request, answered_by, answered, answer_len, chunk_len, accepted_limit, accepted, head_of, is_go_on, completes, was_told_to_go_on, is_open, is_draining}
 use Rattle.h1_model.specs.Closing.{told}
 use Rattle.h1_model.specs.Text.{step_text, text}
 use Rattle.h1_model.specs.Allowed.{is_unanswered}
-use Rattle.h1_model.specs.Laws.Exchanges.{Reply, Exchange, exchange_text, begun, changed_by, newest_changed, with_head, exchanges_behind, exchanges_text, Refusal, faulty_head, too_slow, refusal_text, refused_by, answers, answer_in, answers_in}
-use Rattle.h1_model.proofs.StepLemmas.{step, accepted-cons, since_head-more, since_head-head}
+use Rattle.h1_model.specs.Laws.Exchanges.{Reply, is_whole, Exchange, exchange_text, begun, changed_by, newest_changed, with_head, exchanges_behind, exchanges_text, Refusal, too_slow, refusal_text, refused_by, answers, answer_in, answers_in}
+use Rattle.h1_model.proofs.StepLemmas.{step, accepted-cons, since_head-more, since_head-head, complete-head}
 use Rattle.h1_model.proofs.ClosingLemmas.{answered_still, since_still}
 use Rattle.h1_model.proofs.WrittenLemmas.{text-cons}
 use Rattle.h1_model.proofs.HandedTrace.{request-more, request-head, told-more}
 use Rattle.h1_model.proofs.HandedHeads.{is_done}
 use Rattle.h1_model.proofs.ExchangeTexts.{exchanges_text-cons, newest_grows, reply_grows, told_grows}
-use Rattle.h1_model.proofs.ExchangeReplies.{ReplyIs, reply_still, free_reply, Grown}
+use Rattle.h1_model.proofs.ExchangeReplies.{ReplyIs, whole_reply, reply_still, free_reply, Grown}
 
 -- ---- what the exchanges know of their trace
 
@@ -36,13 +36,14 @@ NewestIs trace [] = (request trace ≡ None) × (accepted trace ≡ None) × (an
 NewestIs trace (e ∷ es) = Newest trace e
 
 -- The trace's text is that of the exchanges and of the refusal, behind which the connection closes. No head was
--- handed out before a refusal for slowness, and the answers are those that were handed in.
+-- handed out before a refusal for slowness, the answers are those that were handed in, and each but the newest is whole.
 pub record Spoken (setting : Setting) (trace : List Step) (es : List Exchange) (r : Option Refusal) : Type 0 where
   pub says : text setting trace ≡ exchanges_text setting es ++ refusal_text r
   pub refused : is_some (told trace) ≡ false → r ≡ None
   pub slow : (moment : ℕ) → r ≡ Some (too_slow moment) → es ≡ []
   pub newest : NewestIs trace es
   pub has : answers_in es ≡ answers trace
+  pub whole : All (λ e. is_whole e.reply ≡ true) (drop 1 es)
 
 -- the same behind one more step
 abbrev pub Goes : Setting → List Step → Event → Outcome → List Exchange → Option Refusal → Type 0
@@ -52,7 +53,8 @@ Goes setting before event outcome es r =
 -- ---- sums of one more step
 
 -- the answers
-answers-cons : (s : Step) (before : List Step) → answers (s ∷ before) ≡ option_to_list (answered_by s.event (is_draining before)) ++ answers before
+answers-cons : (s : Step) (before : List Step)
+    → answers (s ∷ before) ≡ option_to_list (answered_by s.event (is_draining before)) ++ answers before
 unfolding answers
 answers-cons s before = refl
 
@@ -85,6 +87,7 @@ pub record Leaves (before : List Step) (s : Step) : Type 0 where
   pub answer : (drained : Bool) → answered_by s.event drained ≡ None
   pub chunk : chunk_len s.event ≡ 0
   pub go_on : is_go_on s.event ≡ false
+  pub complete : completes s.event ≡ false
   pub change : (e : Exchange) → changed_by before s.event s.outcome e ≡ e
 
 -- a change of nothing
@@ -108,7 +111,7 @@ leaves_newest before s [] x n = (
 leaves_newest before s (e ∷ es) x n = record {
   asked = request-more s before x.head ∙ n.asked;
   told_is = since_still is_go_on s before x.head x.go_on ∙ n.told_is;
-  reply_is = reply_still s before e.reply x.head x.plain x.answer x.chunk n.reply_is;
+  reply_is = reply_still s before e.reply x.head x.plain x.answer x.chunk x.complete n.reply_is;
 }
 
 -- and the answers
@@ -131,12 +134,14 @@ quiet_goes setting before event outcome es r x silent none spoken =
       slow = spoken.slow;
       newest = leaves_newest before s es x spoken.newest;
       has = leaves_answers before s es x spoken.has;
+      whole = spoken.whole;
     } in
     subst₂ (Spoken setting (s ∷ before)) (sym same) (sym still) now
 
 -- a refusal
 pub refusal_goes : (setting : Setting) (before : List Step) (event : Event) (outcome : Outcome) (es : List Exchange) (q : Refusal)
-    → Leaves before (step event outcome) → step_text setting before event outcome ≡ refusal_text (Some q) → refused_by before event outcome ≡ Some q
+    → Leaves before (step event outcome) → step_text setting before event outcome ≡ refusal_text (Some q)
+    → refused_by before event outcome ≡ Some q
     → is_some (told (step event outcome ∷ before)) ≡ true → ((moment : ℕ) → Some q ≡ Some (too_slow moment) → es ≡ [])
     → Spoken setting before es None → Goes setting before event outcome es None
 refusal_goes setting before event outcome es q x says refuses tells slow spoken =
@@ -148,6 +153,7 @@ refusal_goes setting before event outcome es q x says refuses tells slow spoken 
       slow = slow;
       newest = leaves_newest before s es x spoken.newest;
       has = leaves_answers before s es x spoken.has;
+      whole = spoken.whole;
     } in
     subst₂ (Spoken setting (s ∷ before)) (sym same) (sym refuses) now
 
@@ -180,6 +186,7 @@ reply_goes setting s before e es reply none other g spoken =
       };
       has = ap (λ l. l ++ answers_in es) g.adds ∙ append_assoc given (answer_in e.reply) (answers_in es)
           ∙ ap (λ l. given ++ l) spoken.has ∙ sym (answers-cons s before);
+      whole = spoken.whole;
     }
 
 -- a client that is told to go on
@@ -192,15 +199,17 @@ go_on_goes setting before e es free untold spoken =
     let new : Exchange = record e { was_told = true } in
     let told_now : was_told_to_go_on (s ∷ before) ≡ true = ap (list_any (λ t. is_go_on t.event)) (since_head-more s before refl) in
     record {
-      says = says_more setting s before e new es spoken.says (told_grows setting e (sym n.told_is ∙ untold) (free_reply before e.reply free n.reply_is));
+      says = says_more setting s before e new es spoken.says
+          (told_grows setting e (sym n.told_is ∙ untold) (free_reply before e.reply free n.reply_is));
       refused = λ untold. refl;
       slow = λ moment x. no_refusal moment _ x;
       newest = record {
         asked = request-more s before refl ∙ n.asked;
         told_is = told_now;
-        reply_is = reply_still s before e.reply refl refl (λ d. refl) refl n.reply_is;
+        reply_is = reply_still s before e.reply refl refl (λ d. refl) refl refl n.reply_is;
       };
       has = spoken.has ∙ sym (answers-cons s before);
+      whole = spoken.whole;
     }
 
 -- ---- a head
@@ -214,6 +223,14 @@ no_limit (Some limit) e = absurd (true≢false e)
 not_upgraded : (before : List Step) (es : List Exchange) → is_open before ≡ false → NewestIs before es → accepted before ≡ None
 not_upgraded before [] shut n = n.1
 not_upgraded before (e ∷ es) shut n = no_limit (accepted before) (is_done before e.head n.asked shut).0
+
+-- and the answers are whole
+all_whole : (before : List Step) (es : List Exchange) → is_open before ≡ false → NewestIs before es
+    → All (λ e. is_whole e.reply ≡ true) (drop 1 es) → All (λ e. is_whole e.reply ≡ true) es
+all_whole before [] shut n older = All-nil (λ (e : Exchange). is_whole e.reply ≡ true)
+all_whole before (e ∷ es) shut n older =
+    All-cons (λ (x : Exchange). is_whole x.reply ≡ true) e es
+    (sym (whole_reply before e.reply n.reply_is) ∙ (is_done before e.head n.asked shut).1) older
 
 -- a head is handed out
 pub head_goes : (setting : Setting) (before : List Step) (h : Head) (es : List Exchange) → is_open before ≡ false
@@ -230,8 +247,14 @@ head_goes setting before h es shut spoken =
       newest = record {
         asked = request-head s before h refl;
         told_is = ap (list_any (λ t. is_go_on t.event)) (since_head-head s before h refl);
-        reply_is = (refl, accepted-cons s before ∙ not_upgraded before es shut spoken.newest, refl);
+        reply_is = (
+          refl,
+          accepted-cons s before ∙ not_upgraded before es shut spoken.newest,
+          refl,
+          complete-head s before h refl,
+        );
       };
       has = spoken.has ∙ sym (answers-cons s before);
+      whole = all_whole before es shut spoken.newest spoken.whole;
     } in
     subst (λ l. Spoken setting (s ∷ before) (begun h ∷ l) None) (sym same) now

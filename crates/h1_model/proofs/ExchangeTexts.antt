@@ -1,7 +1,7 @@
 -- What a change adds to the text of an exchange.
 use Rattle.std.proofs.Common.{◌≡◌, ℕ, ◌+◌, Bool, true, false, List, [], ◌∷◌, ◌++◌, length, reverse, flat_map, refl, sym, ap, ◌∙◌, arith, append_assoc, append-nil}
 use Rattle.std.specs.Prelude.{if◌then◌else◌}
-use Rattle.std.proofs.lemmas.Bool.{cond-true, cond-false}
+use Rattle.std.proofs.lemmas.Bool.{cond-false}
 use Rattle.std.proofs.lemmas.List.{reverse-append}
 use Rattle.std.proofs.lemmas.List.Concat.{flat_map-append}
 use Rattle.h1_model.specs.Request.{Head}
@@ -116,7 +116,8 @@ piece_grows setting h a bytes unended =
     let asked = asked_of h in
     let shape = shape_of asked a.answered.head a.answered.size in
     let zero : 0 + pieces_len a.pieces ≡ pieces_len a.pieces = omega arith in
-    before_nothing (answer_head_text setting a.answered.drained asked a.answered.head a.answered.size a.moment) (pieces_text asked shape 0 a.pieces) _ _ _
+    let head = answer_head_text setting a.answered.drained asked a.answered.head a.answered.size a.moment in
+    before_nothing head (pieces_text asked shape 0 a.pieces) _ _ _
     (cond-false a.is_ended (sent_end asked shape) [] unended)
     (pieces_text-more asked shape 0 a.pieces bytes ∙ ap (λ (n : ℕ). pieces_text asked shape 0 a.pieces ++ sent_piece asked shape n bytes) zero)
 

@@ -1,6 +1,7 @@
 -- The text of a trace is that of its exchanges, and its exchanges have the heads and the answers that came.
-use Rattle.std.proofs.Common.{◌≡◌, ℕ, List, [], ◌∷◌, ◌++◌, map, Option, Some, None, refl, sym, ap, ◌∙◌, subst}
+use Rattle.std.proofs.Common.{◌≡◌, List, [], true, ◌∷◌, map, Option, Some, None, refl, sym, ap, ◌∙◌, subst}
 use Rattle.std.specs.List.{cons_option}
+use Rattle.std.proofs.lemmas.List.Elements.{All-nil}
 use Rattle.h1_model.specs.Request.{Head}
 use Rattle.h1_model.specs.Setting.{Setting}
 use Rattle.h1_model.specs.Event.{Event, Outcome}
@@ -9,7 +10,7 @@ use Rattle.h1_model.specs.Sums.{Step, request, answered, accepted, head_of}
 use Rattle.h1_model.specs.Past.{ParsedStep, steps}
 use Rattle.h1_model.specs.Text.{text}
 use Rattle.h1_model.specs.Trace.{IsTrace}
-use Rattle.h1_model.specs.Laws.Exchanges.{Exchange, changed_by, newest_changed, with_head, exchanges_behind, exchanges, Refusal, too_slow, refusal, refused_by, heads, answers}
+use Rattle.h1_model.specs.Laws.Exchanges.{is_whole, Exchange, changed_by, newest_changed, with_head, exchanges, refusal, heads, answers}
 use Rattle.h1_model.proofs.PastLemmas.{Legal, legal_of}
 use Rattle.h1_model.proofs.PastExistence.{past_exists}
 use Rattle.h1_model.proofs.HandedParsed.{sound}
@@ -27,10 +28,12 @@ nothing_said setting = record {
   slow = λ moment x. refl;
   newest = (refl, refl, refl);
   has = refl;
+  whole = All-nil (λ (e : Exchange). is_whole e.reply ≡ true);
 }
 
 -- behind each past
-said : (setting : Setting) (past : List ParsedStep) → Legal setting past → Spoken setting (steps past) (exchanges (steps past)) (refusal (steps past))
+said : (setting : Setting) (past : List ParsedStep) → Legal setting past
+    → Spoken setting (steps past) (exchanges (steps past)) (refusal (steps past))
 unfolding exchanges refusal
 said setting [] x = nothing_said setting
 said setting (m ∷ before) x =

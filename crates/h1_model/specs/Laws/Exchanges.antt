@@ -1,9 +1,9 @@
 -- What a connection writes, request by request: each text is made of one exchange alone.
-use Rattle.std.specs.Prelude.{ℕ, ◌+◌, Bool, true, false, List, [], ◌∷◌, ◌++◌, length, reverse, if◌then◌else◌, Option, Some, None, option_to_list, flat_map, filter_map}
+use Rattle.std.specs.Prelude.{ℕ, ◌+◌, Bool, true, false, ◌||◌, List, [], ◌∷◌, ◌++◌, length, reverse, if◌then◌else◌, Option, Some, None, option_to_list, flat_map, filter_map}
 use Rattle.std.specs.Option.{option_or}
 use Rattle.h1_model.specs.Request.{Head, Fault}
 use Rattle.h1_model.specs.Setting.{Setting}
-use Rattle.h1_model.specs.Answer.{Asked, asked_of, size_stream, Shape, shape_of}
+use Rattle.h1_model.specs.Answer.{Asked, asked_of, is_at_once, size_stream, Shape, shape_of}
 use Rattle.h1_model.specs.AnswerText.{sent_piece, sent_end, interim_text, timeout_text}
 use Rattle.h1_model.specs.Handshake.{accept_key_of, accepting_head}
 use Rattle.h1_model.specs.Frame as frames
@@ -34,6 +34,11 @@ pub data Reply : Type 0 where
   no_reply : Reply
   answer_given : AnswerGiven → Reply
   session : Session → Reply
+
+-- an answer that needs no body, or whose body was ended
+abbrev pub is_whole : Reply → Bool
+is_whole (answer_given a) = is_at_once a.answered.size || a.is_ended
+is_whole _ = false
 
 -- a head that was handed out, whether its client was told to go on, and what it got
 pub record Exchange : Type 0 where

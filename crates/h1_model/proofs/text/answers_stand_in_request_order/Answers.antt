@@ -10,5 +10,8 @@ returns-clause-heads c = exchange_heads
 pub returns-clause-answers : goal.returns-clause-answers
 returns-clause-answers c setting trace x = (spoken setting trace x).has
 
+pub returns-clause-whole : goal.returns-clause-whole
+returns-clause-whole c setting trace x = (spoken setting trace x).whole
+
 pub returns-clause-slow : goal.returns-clause-slow
 returns-clause-slow c setting trace moment x = (spoken setting trace x).slow moment
