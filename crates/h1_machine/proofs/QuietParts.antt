@@ -14,7 +14,7 @@ use Rattle.h1_model.specs.End as ends
 use Rattle.h1_model.specs.End.{End}
 use Rattle.h1_model.specs.Event.{Event, Outcome}
 use Rattle.h1_model.specs.Event as on
-use Rattle.h1_model.specs.Sums.{Step, taken, is_drain, is_drop, is_pull, is_go_on, is_body_end, is_body_error, has_ended, is_draining, accepted, tick_of, first_tick, last_tick, head_of, request, since_head, answered_by, answered as answer_of, completes, came_since_head, is_complete, was_pulled, was_dropped, was_told_to_go_on, completed_at, chunk_len, answer_len, under_way_behind, received_behind, is_receiving}
+use Rattle.h1_model.specs.Sums.{Step, taken, is_drain, is_drop, is_pull, is_go_on, is_body_end, is_body_error, has_ended, is_draining, accepted, tick_of, first_tick, last_tick, head_of, request, since_head, answered_by, answered as answer_of, completes, came_since_head, is_complete, was_pulled, was_dropped, was_told_to_go_on, completed_at, chunk_len, answer_len, is_sending, received_behind, is_receiving}
 use Rattle.h1_model.specs.Past.{ParsedStep, steps, parse_of, current, upcoming, step_frames, message_passed, passed}
 use Rattle.h1_model.specs.Text.{buffered}
 use Rattle.h1_model.specs.Closing.{end_where, told_end, told, is_short, body_end_of}
@@ -23,11 +23,11 @@ use Rattle.h1_model.proofs.PastLemmas.{Legal}
 use Rattle.h1_model.proofs.StepLemmas.{Quiet, taken-cons, accepted-cons, head_count-more, complete-more, same_input, same_parse, parsed}
 use Rattle.h1_model.proofs.CarriedLemmas.{passed_none, passed_some}
 use Rattle.h1_model.proofs.PulledLemmas.{Idle, idle_pulled}
-use Rattle.h1_machine.specs.Kept.{Rest, no_rest, raw_rest, fixed_rest, chunks_rest, frames_rest, Exchange, Kept}
+use Rattle.h1_machine.specs.Kept.{Rest, no_rest, raw_rest, fixed_rest, chunks_rest, frames_rest, Exchange, Clock, Kept}
 use Rattle.h1_machine.specs.KeptOf.{is_passed, fixed_left, rest_of, raw_left, reply_of, tells_done, exchange_with, exchange_of, clock_of, kept_of}
 use Rattle.h1_machine.proofs.Changes.{bare}
 use Rattle.h1_machine.proofs.Current.{Current, NoCurrent}
-use Rattle.h1_machine.proofs.StepSums.{told-cons, first_tick-cons, last_tick-cons, completed_at-more, is_sending-cons, is_receiving-cons, request-more, answered-more, answer_len-more, came-more, any-more}
+use Rattle.h1_machine.proofs.StepSums.{told-cons, first_tick-cons, last_tick-cons, completed_at-more, is_receiving-cons, request-more, answered-more, answer_len-more, came-more, any-more}
 
 -- ---- what is left of a body, by its parts
 
@@ -202,44 +202,56 @@ same_bare a b unread ended draining over exchange buffer sending clock told =
       closing_since = None;
     }
 
--- what the step says, with the exchange and the end that is told as they are behind it
-abbrev pub kept_behind : Setting → List ParsedStep → ParsedStep → Option Exchange → Option End → Kept
-kept_behind setting before x exchange told =
-    let trace = steps before in
+-- the parts that the step leaves, with those that it may change
+abbrev pub kept_behind : Setting → List ParsedStep → ParsedStep → Option Exchange → List ℕ → Bool → Clock → Option End → Kept
+kept_behind setting before x exchange buffer sending clock told =
     let k = kept_of setting before in
     record k {
       is_draining = is_drain x.step.event || k.is_draining;
       is_over = is_over_by x.step.outcome || k.is_over;
       exchange = exchange;
-      buffered = buffered setting (x.step ∷ trace);
-      is_sending = under_way_behind k.is_sending x.step.event x.step.outcome;
-      clock = record { first = option_or k.clock.first (tick_of x.step.event); last = option_or (tick_of x.step.event) k.clock.last; completed = k.clock.completed };
+      buffered = buffer;
+      is_sending = sending;
+      clock = clock;
       told = told;
     }
 
--- the clock where no answer is completed
-pub clock-quiet : (s : Step) (before : List Step) → completes s.event ≡ false
+-- the clock, where no answer is completed and no tick comes
+pub clock-ticked : (s : Step) (before : List Step) → completes s.event ≡ false
     → clock_of (s ∷ before) ≡ record { first = option_or (first_tick before) (tick_of s.event); last = option_or (tick_of s.event) (last_tick before); completed = completed_at before }
-clock-quiet s before incomplete =
+clock-ticked s before incomplete =
     let first = first_tick-cons s before in
     let last = last_tick-cons s before in
     let completed = completed_at-more s before incomplete in
     λ i. record { first = first i; last = last i; completed = completed i }
 
+-- an option, or none
+pub option_or-none : {A : Type 0} (o : Option A) → option_or o None ≡ o
+option_or-none None = refl
+option_or-none (Some a) = refl
+
+pub clock-quiet : (s : Step) (before : List Step) → completes s.event ≡ false → tick_of s.event ≡ None → clock_of (s ∷ before) ≡ clock_of before
+clock-quiet s before incomplete untimed =
+    let first = ap (option_or (first_tick before)) untimed ∙ option_or-none (first_tick before) in
+    let last = ap (λ o. option_or o (last_tick before)) untimed in
+    clock-ticked s before incomplete ∙ (λ i. record { first = first i; last = last i; completed = completed_at before })
+
 -- the state behind a quiet step that completes no answer
-pub kept-quiet : (setting : Setting) (x : ParsedStep) (before : List ParsedStep) (exchange : Option Exchange) (told_end : Option End)
+pub kept-quiet : (setting : Setting) (x : ParsedStep) (before : List ParsedStep) (exchange : Option Exchange) (buffer : List ℕ) (sending : Bool) (clock : Clock)
+    (end : Option End)
     → Legal setting (x ∷ before) → Quiet before x.step → completes x.step.event ≡ false
     → exchange_of setting (x ∷ before) (current (x ∷ before)) (request (x.step ∷ steps before)) ≡ exchange
-    → option_or (told (x.step ∷ steps before)) (body_end_of (x.step ∷ steps before)) ≡ told_end
-    → bare (kept_behind setting before x exchange told_end) ≡ bare (kept_of setting (x ∷ before))
-kept-quiet setting x before exchange told_end l q incomplete same told_same =
+    → buffered setting (x.step ∷ steps before) ≡ buffer → is_sending (x.step ∷ steps before) ≡ sending → clock_of (x.step ∷ steps before) ≡ clock
+    → option_or (told (x.step ∷ steps before)) (body_end_of (x.step ∷ steps before)) ≡ end
+    → bare (kept_behind setting before x exchange buffer sending clock end) ≡ bare (kept_of setting (x ∷ before))
+kept-quiet setting x before exchange buffer sending clock end l q incomplete exchange_is buffer_is sending_is clock_is end_is =
     let place = passed-quiet setting x before l q incomplete in
     let bytes = taken-quiet x before q in
     let unread : drop (passed (x ∷ before)) (taken (x.step ∷ steps before)) ≡ drop (passed before) (taken (steps before)) =
         λ i. drop (place i) (bytes i) in
-    same_bare (kept_behind setting before x exchange told_end) (kept_of setting (x ∷ before))
+    same_bare (kept_behind setting before x exchange buffer sending clock end) (kept_of setting (x ∷ before))
     (sym unread) (sym (ended-quiet x before q)) refl refl
-    (sym same) refl (sym (is_sending-cons x.step (steps before))) (sym (clock-quiet x.step (steps before) incomplete)) (sym told_same)
+    (sym exchange_is) (sym buffer_is) (sym sending_is) (sym clock_is) (sym end_is)
 
 -- ---- the end that was told
 
