@@ -1,30 +1,22 @@
 -- Where a WebSocket is: the frames that were handed out are passed, and those behind them are read from there on.
-use Rattle.std.proofs.Common.{◌≡◌, ℕ, zero, suc, ◌+◌, ◌≤◌, Bool, true, false, List, [], ◌∷◌, ◌++◌, length, drop, Option, Some, None, refl, sym, ap, ◌∙◌, subst, subst₂, inl, inr, arith, append-nil}
-use Rattle.std.specs.Prelude.{IsTrue, ◌||◌, ◌-◌, ◌==◌, is_some, slice_get, unwrap_or}
-use Rattle.std.specs.Option.{option_or}
-use Rattle.std.specs.List.{list_any}
-use Rattle.std.proofs.lemmas.Bool.{cond-true, cond-false, true≢false, false≢true, or_parts, ne_eqb}
-use Rattle.std.proofs.lemmas.Option.{none-some, same_Some, slice_get_within}
-use Rattle.h1_model.specs.Request.{BodyKind, no_body, fixed_body, chunked_body, raw_body, is_raw_kind, Head, Reading, head_is}
+use Rattle.std.proofs.Common.{◌≡◌, ℕ, zero, suc, ◌≤◌, Bool, true, false, List, [], ◌∷◌, ◌++◌, length, drop, Option, Some, None, refl, sym, ap, ◌∙◌, subst, subst₂, arith}
+use Rattle.std.specs.Prelude.{◌-◌, is_some, slice_get}
+use Rattle.std.proofs.lemmas.Bool.{cond-false, false≢true, ne_eqb}
+use Rattle.std.proofs.lemmas.Option.{none-some, same_Some}
+use Rattle.h1_model.specs.Request.{BodyKind, no_body, fixed_body, chunked_body, raw_body, is_raw_kind, Head}
 use Rattle.h1_model.specs.Setting.{Setting}
 use Rattle.h1_model.specs.Frame.{ProtocolError}
 use Rattle.h1_model.specs.FrameText.{Reader, PlacedFrame, ReadsFrames, is_under_way}
-use Rattle.h1_model.specs.Parse.{Input, Message, Body, content, frames, next_start, frames_of, connection_reader, IsBodyOf}
-use Rattle.h1_model.specs.Event.{Event, Outcome}
-use Rattle.h1_model.specs.Event as on
-use Rattle.h1_model.specs.Sums.{Step, step_taken, taken, accepted_limit, accepted, head_of, request, received_behind, is_receiving, is_upgraded, is_pull, was_pulled, was_dropped}
-use Rattle.h1_model.specs.Past.{ParsedStep, steps, input_of, parse_of, head_count, current, step_frames, given_frames, frame_end, has_chunks, pulled_place, pulled_to}
-use Rattle.h1_model.specs.OutcomeTable.{frame_outcome, body_outcome, pull_outcome}
+use Rattle.h1_model.specs.Parse.{Message, frames, frames_of, connection_reader, IsBodyOf}
+use Rattle.h1_model.specs.Sums.{step_taken, taken, accepted, head_of, request, is_upgraded}
+use Rattle.h1_model.specs.Past.{ParsedStep, steps, input_of, head_count, current, frame_end}
 use Rattle.h1_model.proofs.PastLemmas.{Legal}
 use Rattle.h1_model.proofs.FrameLemmas.{frames_begin}
-use Rattle.h1_model.proofs.PlaceLemmas.{frame_end-none, get_before, get_append}
-use Rattle.h1_model.proofs.StepLemmas.{step, taken-cons, head_count-more, accepted-cons, since_head-more, given_frames-more, given_frames-head, quiet, reads, stops, accepts, begins, pulls, step_case}
+use Rattle.h1_model.proofs.PlaceLemmas.{get_before}
+use Rattle.h1_model.proofs.StepLemmas.{taken-cons, head_count-more}
 use Rattle.h1_model.proofs.TraceGrowth.{current_at, current_none}
-use Rattle.h1_model.proofs.PulledLemmas.{Idle, idle_pulled, pulled_to-more, unpulled_place}
-use Rattle.h1_model.proofs.HeldSteps.{quiet_idle, reads_idle, ends_idle, accepts_idle, pull_no_head}
-use Rattle.h1_model.proofs.HeldLemmas.{unpulled_given}
-use Rattle.h1_machine.proofs.Current.{Current, NoCurrent, carried, plain_of, current_of, request-more}
-use Rattle.h1_machine.proofs.Orderly.{Waits, Orderly, orderly, head_free, waits_open}
+use Rattle.h1_machine.proofs.Current.{Current, carried}
+use Rattle.h1_machine.proofs.Orderly.{Orderly, orderly}
 
 -- ---- frames of a list
 

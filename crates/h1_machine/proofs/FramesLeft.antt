@@ -3,32 +3,30 @@ use Rattle.std.proofs.Common.{◌≡◌, ℕ, ◌≤◌, Bool, true, false, List
 use Rattle.std.specs.Prelude.{IsTrue, ◌||◌, not, nat_lt, is_some, slice_get, unwrap_or}
 use Rattle.std.specs.Option.{option_or}
 use Rattle.std.proofs.lemmas.Bool.{cond-false, true≢false, false≢true, or_parts, lt-ltb, le-ltb, cases_lt}
-use Rattle.std.proofs.lemmas.Option.{none-some}
 use Rattle.std.proofs.lemmas.List.{drop_all, length-drop}
-use Rattle.h1_model.specs.Request.{BodyKind, no_body, fixed_body, chunked_body, raw_body, is_raw_kind, is_chunked_kind, Head, Reading, head_is}
+use Rattle.h1_model.specs.Request.{BodyKind, no_body, fixed_body, chunked_body, raw_body, is_raw_kind, is_chunked_kind, Head}
 use Rattle.h1_model.specs.Setting.{Setting}
 use Rattle.h1_model.specs.Frame.{ProtocolError}
 use Rattle.h1_model.specs.FrameText.{Reader, Front, PlacedFrame, partial, whole, breaks, front_frame, StopsWith, ReadsFrames}
-use Rattle.h1_model.specs.Parse.{Message, frames, frames_of, fail_of, connection_reader}
+use Rattle.h1_model.specs.Parse.{Message, frames, frames_of, connection_reader}
 use Rattle.h1_model.specs.Event.{Outcome}
 use Rattle.h1_model.specs.Event as on
-use Rattle.h1_model.specs.Sums.{Step, accepted, taken, head_of, is_receiving, is_upgraded, is_complete, was_pulled, was_dropped}
-use Rattle.h1_model.specs.Past.{ParsedStep, steps, current, step_frames, given_frames, frame_end, has_chunks, pulled_place, pulled_to, passed}
-use Rattle.h1_model.specs.Closing.{has_more_frames}
+use Rattle.h1_model.specs.Sums.{Step, accepted, taken, is_receiving, is_upgraded, was_pulled, was_dropped}
+use Rattle.h1_model.specs.Past.{ParsedStep, steps, current, given_frames, frame_end, has_chunks, pulled_to, passed}
 use Rattle.h1_model.specs.Allowed.{is_allowed}
 use Rattle.h1_model.specs.OutcomeTable.{frame_outcome, body_outcome, pull_outcome, outcome_of}
 use Rattle.h1_model.proofs.PastLemmas.{Legal}
 use Rattle.h1_model.proofs.PlaceLemmas.{frame_end-none}
-use Rattle.h1_model.proofs.StepLemmas.{step, accepted-cons, given_frames-more, Begins, quiet, reads, stops, accepts, begins, pulls, step_case}
+use Rattle.h1_model.proofs.StepLemmas.{step, accepted-cons, given_frames-more, quiet, reads, stops, accepts, begins, pulls, step_case}
 use Rattle.h1_model.proofs.PulledLemmas.{Idle, idle_pulled, pulled_to-more, unpulled_place}
 use Rattle.h1_model.proofs.CarriedLemmas.{passed_pulled}
 use Rattle.h1_model.proofs.HeldSteps.{quiet_idle, reads_idle, ends_idle, accepts_idle}
 use Rattle.h1_model.proofs.HeldLemmas.{unpulled_given}
 use Rattle.h1_machine.specs.Local.{is_partial}
-use Rattle.h1_machine.proofs.Current.{Current, current_of}
-use Rattle.h1_machine.proofs.Orderly.{Waits, Orderly, orderly, waits_open, head_free}
-use Rattle.h1_machine.proofs.Frames.{going, reads_on, IsFramed, framed, raw_head}
-use Rattle.h1_machine.proofs.Received.{Receives, receives, unaccepting, upgraded_current}
+use Rattle.h1_machine.proofs.Current.{Current}
+use Rattle.h1_machine.proofs.Orderly.{orderly, waits_open, head_free}
+use Rattle.h1_machine.proofs.Frames.{going, reads_on, framed, raw_head}
+use Rattle.h1_machine.proofs.Received.{receives, unaccepting, upgraded_current}
 
 -- ---- how far pulls pass on a WebSocket
 

@@ -1,27 +1,27 @@
 -- What a legal past keeps in order: an answer is one to a request, what is complete was begun, and a WebSocket is an
 -- open request with no answer.
-use Rattle.std.proofs.Common.{◌≡◌, ℕ, Bool, true, false, List, [], ◌∷◌, Option, Some, None, refl, sym, ap, ◌∙◌, subst, inl, inr}
+use Rattle.std.proofs.Common.{◌≡◌, ℕ, Bool, true, false, List, [], ◌∷◌, Option, Some, None, refl, sym, ap, ◌∙◌, subst}
 use Rattle.std.specs.Prelude.{IsTrue, ◌||◌, ◌&&◌, not, is_some, is_none, if◌then◌else◌}
 use Rattle.std.specs.Option.{option_or}
-use Rattle.std.specs.List.{list_any}
-use Rattle.std.proofs.lemmas.Bool.{cond-true, cond-false, true≢false, false≢true, and_parts, or_parts, not-true, cases_Bool}
+use Rattle.std.proofs.lemmas.Bool.{cond-true, cond-false, true≢false, false≢true, and_parts, not-true}
 use Rattle.h1_model.specs.Request.{Head, is_raw_kind}
 use Rattle.h1_model.specs.Setting.{Setting}
 use Rattle.h1_model.specs.Event.{Event, Outcome}
 use Rattle.h1_model.specs.Event as on
 use Rattle.h1_model.specs.End.{End}
-use Rattle.h1_model.specs.Sums.{Step, accepted_limit, accepted, head_of, since_head, request, answered_by, answered, is_draining, completes, is_complete, is_open, is_upgraded, is_answering, was_pulled, was_dropped}
+use Rattle.h1_model.specs.Sums.{Step, accepted_limit, accepted, head_of, since_head, request, answered_by, answered, is_draining, completes, is_complete, is_open, is_upgraded, is_answering}
 use Rattle.h1_model.specs.Past.{ParsedStep, steps, current}
 use Rattle.h1_model.specs.Closing.{closing}
-use Rattle.h1_model.specs.Allowed.{is_allowed, is_allowed_running, is_allowed_closing, is_unanswered, asks_raw}
+use Rattle.h1_model.specs.Allowed.{is_allowed, is_allowed_running, is_unanswered, asks_raw}
 use Rattle.h1_model.specs.OutcomeTable.{next_outcome, outcome_of}
 use Rattle.h1_model.proofs.PastLemmas.{Legal}
 use Rattle.h1_model.proofs.StepLemmas.{step, accepted-cons, complete-head, complete-more, allowed_open, quiet, reads, stops, accepts, begins, pulls, step_case}
 use Rattle.h1_model.proofs.HeldSteps.{pull_no_head}
-use Rattle.h1_machine.proofs.Current.{plain_of, request-cons, request-more}
+use Rattle.h1_machine.proofs.Current.{plain_of, request-more}
 
 -- ---- the answer, of one more step
 
+-- by that step, or else by those before it
 pub answered-cons : (s : Step) (before : List Step)
     → answered (s ∷ before) ≡ (if is_some (head_of s.outcome) then None else option_or (answered_by s.event (is_draining before)) (answered before))
 unfolding answered

@@ -1,6 +1,6 @@
 -- What was received on a WebSocket: behind a legal past a message in fragments is under way as the frames say.
 use Rattle.std.proofs.Common.{◌≡◌, ℕ, suc, ◌+◌, ◌≤◌, Bool, true, false, List, [], ◌∷◌, length, Option, Some, None, refl, sym, ap, ◌∙◌, subst, inl, inr, arith}
-use Rattle.std.specs.Prelude.{IsTrue, ◌||◌, nat_le, is_some, slice_get}
+use Rattle.std.specs.Prelude.{IsTrue, nat_le, is_some, slice_get}
 use Rattle.std.specs.Option.{option_or}
 use Rattle.std.proofs.lemmas.Bool.{cond_both, true≢false, or_parts}
 use Rattle.std.proofs.lemmas.Option.{none-some, slice_get_within}
@@ -30,6 +30,7 @@ received_still : (before : Bool) (o : Outcome) → step_frames o ≡ 0 → recei
 received_still before (on.frame f) e = absurd (omega (arith, e))
 received_still before _ e = refl
 
+-- whether a message in fragments is being received, of one more step
 receiving-cons : (s : Step) (before : List Step) → is_receiving (s ∷ before) ≡ received_behind (is_receiving before) s.outcome
 unfolding is_receiving
 receiving-cons s before = refl
@@ -100,18 +101,19 @@ frame_receives setting before x m h f l gives at same c upgraded old =
 -- no frame is handed out of a body that isn't frames
 plain_frames : (trace : List Step) (b : Body) → is_frames b ≡ false → step_frames (body_outcome trace b) ≡ 0
 plain_frames trace no_content e = refl
-plain_frames trace (content runs stop) e = go stop (run_left (given_bytes trace) runs) (gave_trailers trace)
+plain_frames trace (content runs stop) e = go stop (run_left (given_bytes trace) runs)
   where
     ended : (given : Bool) (lines : List Header) → step_frames (ended_outcome given lines) ≡ 0
     ended given [] = refl
     ended true (line ∷ more) = refl
     ended false (line ∷ more) = refl
-    go : (stop : Stop) (left : Option Run) (given : Bool) → step_frames (run_outcome trace stop left) ≡ 0
-    go stop (Some r) given = refl
-    go (ended_at place trailers) None given = ended (gave_trailers trace) trailers
-    go still_open None given = refl
-    go broken None given = refl
-    go cut None given = refl
+
+    go : (stop : Stop) (left : Option Run) → step_frames (run_outcome trace stop left) ≡ 0
+    go stop (Some r) = refl
+    go (ended_at place trailers) None = ended (gave_trailers trace) trailers
+    go still_open None = refl
+    go broken None = refl
+    go cut None = refl
 plain_frames trace (frames placed fail) e = absurd (true≢false e)
 
 -- the body of a message is frames on a WebSocket alone
@@ -140,6 +142,7 @@ pull_receives setting before x m h limit l gives same c up old =
     silent_frame : (fail : Option ProtocolError) → (head_of (frame_outcome fail None) ≡ None) × (step_frames (frame_outcome fail None) ≡ 0)
     silent_frame None = (refl, refl)
     silent_frame (Some e) = (refl, refl)
+
     go : (next : Option PlacedFrame) (b : IsFramed setting before m limit) → x.step.outcome ≡ body_outcome (steps before) (frames b.placed b.fail)
         → slice_get b.placed (given_frames (steps before)) ≡ next → Receives (x ∷ before)
     go (Some f) b is at =
