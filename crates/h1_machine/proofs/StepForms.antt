@@ -11,7 +11,7 @@ use Rattle.h1_model.specs.Parse.{Message}
 use Rattle.h1_model.specs.End.{End}
 use Rattle.h1_model.specs.Event.{Event, Outcome}
 use Rattle.h1_model.specs.Event as on
-use Rattle.h1_model.specs.Sums.{Step, head_of, request, since_head, answered, is_body_end, completes, came_since_head, is_complete, is_open, is_upgraded, is_answering, answer_len, chunk_len}
+use Rattle.h1_model.specs.Sums.{Step, request, since_head, answered, is_body_end, completes, came_since_head, is_complete, is_open, is_upgraded}
 use Rattle.h1_model.specs.Past.{ParsedStep, steps, current}
 use Rattle.h1_model.specs.Closing.{told, body_end_of, closing}
 use Rattle.h1_model.specs.Allowed.{is_allowed, is_allowed_closing, is_unanswered}
@@ -83,6 +83,14 @@ open_request trace x =
     none_is : {A : Type 0} (o : Option A) → is_none o ≡ true → o ≡ None
     none_is None e = refl
     none_is (Some a) e = absurd (false≢true e)
+
+pub open_incomplete : (trace : List Step) → is_unanswered trace ≡ true → is_complete trace ≡ false
+open_incomplete trace x =
+    let parts = and_parts (is_open trace && is_none (answered trace)) (not (is_upgraded trace)) x in
+    let both = and_parts (is_open trace) (is_none (answered trace)) parts.0 in
+    let plain = not-true (is_upgraded trace) parts.1 in
+    let there = (and_parts (is_some (request trace)) (is_upgraded trace || not (is_complete trace)) both.0).1 in
+    not-true (is_complete trace) (sym (ap (λ b. b || not (is_complete trace)) plain) ∙ there)
 
 -- no head was handed out, so that none waits
 pub no_request : (trace : List Step) → request trace ≡ None → is_some (request trace) ≡ true → ⊥
