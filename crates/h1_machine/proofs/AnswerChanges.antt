@@ -1,5 +1,5 @@
 -- An answer that is handed in: it is complete at once, or its body is to be sent.
-use Rattle.std.proofs.Common.{◌≡◌, ℕ, ◌-◌, Bool, true, false, List, [], ◌∷◌, ◌++◌, Option, Some, None, refl, sym, ap, ◌∙◌, inl, inr, arith}
+use Rattle.std.proofs.Common.{◌≡◌, ◌-◌, true, false, List, [], ◌∷◌, ◌++◌, Option, Some, None, refl, sym, ap, ◌∙◌, inl, inr, arith}
 use Rattle.std.specs.Prelude.{◌||◌, not, is_some, IsTrue}
 use Rattle.std.proofs.lemmas.Bool.{cases_Bool, cond-true, cond-false, and_parts, false≢true}
 use Rattle.h1_model.specs.Request.{Head}
@@ -29,16 +29,19 @@ use Rattle.h1_machine.proofs.CompleteParts.{Completes, kept-completes, completin
 
 -- ---- how much was sent of an answer that isn't there
 
+-- before all steps
 answer_len-nil : answer_len [] ≡ 0
 unfolding answer_len
 answer_len-nil = refl
 
+-- behind a head
 answer_len-head : (s : Step) (before : List Step) (h : Head) → head_of s.outcome ≡ Some h → answer_len (s ∷ before) ≡ 0
 unfolding answer_len
 answer_len-head s before h some = cond-true _ _ _ (ap is_some some)
 
 -- no piece is handed in where there is no answer
-no_piece : (setting : Setting) (before : List ParsedStep) (e : Event) → IsTrue (is_allowed setting before e) → answer_of (steps before) ≡ None → chunk_len e ≡ 0
+no_piece : (setting : Setting) (before : List ParsedStep) (e : Event) → IsTrue (is_allowed setting before e) → answer_of (steps before) ≡ None
+    → chunk_len e ≡ 0
 no_piece setting before (on.chunk bytes) ok none =
     let t = steps before in
     let out = (and_parts (is_answering t) (has_room setting t) (allowed_open setting before (on.chunk bytes) refl ok)).0 in
@@ -46,8 +49,10 @@ no_piece setting before (on.chunk bytes) ok none =
 no_piece setting before _ ok none = refl
 
 -- by whether the step hands out a head
-still_unsent : (setting : Setting) (before : List ParsedStep) (x : ParsedStep) (o : Option Head) → Legal setting (x ∷ before) → head_of x.step.outcome ≡ o
-    → answer_of (x.step ∷ steps before) ≡ None → (answer_of (steps before) ≡ None → answer_len (steps before) ≡ 0) → answer_len (x.step ∷ steps before) ≡ 0
+still_unsent : (setting : Setting) (before : List ParsedStep) (x : ParsedStep) (o : Option Head) → Legal setting (x ∷ before)
+    → head_of x.step.outcome ≡ o
+    → answer_of (x.step ∷ steps before) ≡ None → (answer_of (steps before) ≡ None → answer_len (steps before) ≡ 0)
+    → answer_len (x.step ∷ steps before) ≡ 0
 still_unsent setting before x (Some h) l e none old = answer_len-head x.step (steps before) h e
 still_unsent setting before x None l e none old =
     let parts = both_none (answered_by x.step.event (is_draining (steps before))) (answer_of (steps before)) (sym (answered-more x.step (steps before) e) ∙ none) in
@@ -62,10 +67,13 @@ unanswered_len setting (x ∷ before) l none =
 
 -- ---- an answer
 
-answer_done : (setting : Setting) (before : List ParsedStep) (head : AnswerHead) (size : BodySize) → outcome_of setting before (on.answer head size) ≡ on.done
+-- its outcome
+answer_done : (setting : Setting) (before : List ParsedStep) (head : AnswerHead) (size : BodySize)
+    → outcome_of setting before (on.answer head size) ≡ on.done
 unfolding outcome_of
 answer_done setting before head size = refl
 
+-- its text
 answer_text_is : (setting : Setting) (before : List Step) (head : AnswerHead) (size : BodySize)
     → step_text setting before (on.answer head size) on.done ≡ answer_text setting before head size (request before)
 unfolding step_text
@@ -90,7 +98,8 @@ answer_known setting before head size parse m h l c ok =
     let incomplete = open_incomplete t ok in
     let answer : answer_of (x.step ∷ t) ≡ Some a = answered-more x.step t refl in
     let buffer : buffered setting (x.step ∷ t) ≡ text =
-        buffered-more setting x.step before l.3 refl ∙ ap (λ l. k.buffered ++ l) (answer_text_is setting t head size ∙ ap (answer_text setting t head size) c.request_is) in
+        buffered-more setting x.step before l.3 refl
+            ∙ ap (λ l. k.buffered ++ l) (answer_text_is setting t head size ∙ ap (answer_text setting t head size) c.request_is) in
     let end = told-stays x.step t refl refl (short-open x.step t refl refl (unended t incomplete)) in
     let at_first = completing kind old next in
     let later = record next { exchange = Some (record old { reply = sending shape kind (stated shape) }) } in
@@ -104,7 +113,8 @@ answer_known setting before head size parse m h l c ok =
               ∙ cond-true (is_complete (x.step ∷ t)) (answered kind) (sending shape kind (stated shape - answer_len (x.step ∷ t))) complete in
           record {
             change = doing at_first;
-            changes = ap doing (sym (cond-true (is_at_once size) at_first later once)) ∙ ap (doing_with act) (sym (kept_current setting before m h c));
+            changes = ap doing (sym (cond-true (is_at_once size) at_first later once))
+                ∙ ap (doing_with act) (sym (kept_current setting before m h c));
             answers = refl;
             parts = kept-completes setting x before m h kind old.reply text k.told l s c incomplete (plain_of t ok) reply buffer (is_sending-cons x.step t) end;
             since = completing_since kind old next;
@@ -113,11 +123,13 @@ answer_known setting before head size parse m h l c ok =
           let rest = rest-quiet setting x before m h.body l q streams in
           let none = unanswered_len setting before l.3 (open_request t ok).1 in
           let whole : stated shape - answer_len (x.step ∷ t) ≡ stated shape = omega (arith, answer_len-more x.step t refl) in
-          let reply = reply-sending setting (x.step ∷ t) h a answer (complete-quiet x before q streams ∙ incomplete) ∙ ap (sending shape kind) whole in
+          let reply = reply-sending setting (x.step ∷ t) h a answer (complete-quiet x before q streams ∙ incomplete)
+              ∙ ap (sending shape kind) whole in
           let exchange = exchange-quiet setting x before m h l q c ∙ (λ i. Some (record old { rest = rest i; reply = reply i })) in
           record {
             change = doing later;
-            changes = ap doing (sym (cond-false (is_at_once size) at_first later streams)) ∙ ap (doing_with act) (sym (kept_current setting before m h c));
+            changes = ap doing (sym (cond-false (is_at_once size) at_first later streams))
+                ∙ ap (doing_with act) (sym (kept_current setting before m h c));
             answers = refl;
             parts = kept-quiet setting x before (Some (record old { reply = sending shape kind (stated shape) })) text k.is_sending k.clock k.told l q streams exchange
                 buffer (is_sending-cons x.step t) (clock-quiet x.step t streams refl) end;
@@ -125,6 +137,7 @@ answer_known setting before head size parse m h l c ok =
           }
     ]
 
+-- its step
 answer_made : (setting : Setting) (before : List ParsedStep) (head : AnswerHead) (size : BodySize) (parse : List Message)
     → Legal setting (made (on.answer head size) on.done parse ∷ before) → Changes setting before (made (on.answer head size) on.done parse)
 answer_made setting before head size parse l =
@@ -134,7 +147,9 @@ answer_made setting before head size parse l =
       | inr (m, h, c) ↦ answer_known setting before head size parse m h l c ok
     ]
 
-pub answer_changes : (setting : Setting) (before : List ParsedStep) (x : ParsedStep) (head : AnswerHead) (size : BodySize) → Legal setting (x ∷ before)
+-- what it changes
+pub answer_changes : (setting : Setting) (before : List ParsedStep) (x : ParsedStep) (head : AnswerHead) (size : BodySize)
+    → Legal setting (x ∷ before)
     → x.step.event ≡ on.answer head size → Changes setting before x
 answer_changes setting before x head size l e =
     at_step setting before x (on.answer head size) on.done l e (answer_done setting before head size) (answer_made setting before head size)

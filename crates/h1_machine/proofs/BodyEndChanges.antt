@@ -1,5 +1,5 @@
 -- The end of an answer's body: the answer is complete, and may be too short.
-use Rattle.std.proofs.Common.{◌≡◌, ℕ, ◌-◌, Bool, true, false, List, [], ◌∷◌, ◌++◌, Option, Some, None, refl, sym, ap, ◌∙◌, inl, inr, arith, le-ltb, lt-ltb}
+use Rattle.std.proofs.Common.{◌≡◌, ℕ, ◌-◌, Bool, true, false, List, ◌∷◌, ◌++◌, Option, Some, None, refl, sym, ap, ◌∙◌, inl, inr, arith, le-ltb, lt-ltb}
 use Rattle.std.specs.Prelude.{◌&&◌, not, is_some, nat_lt}
 use Rattle.std.specs.List.{list_any}
 use Rattle.std.specs.Option.{option_or}
@@ -21,7 +21,7 @@ use Rattle.h1_model.proofs.PastLemmas.{Legal}
 use Rattle.h1_model.proofs.StepLemmas.{Quiet, allowed_open, complete-more}
 use Rattle.h1_machine.specs.Kept.{sending, answered}
 use Rattle.h1_machine.specs.Reply.{stated, short_end, ending_body}
-use Rattle.h1_machine.specs.KeptOf.{reply_of, exchange_with, kept_of}
+use Rattle.h1_machine.specs.KeptOf.{reply_of, kept_of}
 use Rattle.h1_machine.specs.Change.{doing_with}
 use Rattle.h1_machine.proofs.Changes.{Changes}
 use Rattle.h1_machine.proofs.Current.{Current, current_of}
@@ -57,16 +57,19 @@ short_same asked (shape_length n) len = ap (λ b. end_where (not asked.is_head &
 
 -- ---- the end of a body
 
+-- its outcome
 end_done : (setting : Setting) (before : List ParsedStep) → outcome_of setting before on.body_end ≡ on.done
 unfolding outcome_of
 end_done setting before = refl
 
+-- its text
 end_text_is : (setting : Setting) (before : List Step) → step_text setting before on.body_end on.done ≡ end_sent (request before) (answer_of before)
 unfolding step_text
 end_text_is setting before = refl
 
 -- what was accepted is no request that was answered
-answered_plain : (setting : Setting) (past : List ParsedStep) (a : Answered) → Legal setting past → answer_of (steps past) ≡ Some a → accepted (steps past) ≡ None
+answered_plain : (setting : Setting) (past : List ParsedStep) (a : Answered) → Legal setting past → answer_of (steps past) ≡ Some a
+    → accepted (steps past) ≡ None
 answered_plain setting past a l e = go (accepted (steps past)) refl
   where
     go : (o : Option ℕ) → accepted (steps past) ≡ o → o ≡ None
@@ -76,7 +79,8 @@ answered_plain setting past a l e = go (accepted (steps past)) refl
         absurd (false≢true (sym (ap is_some w.unanswered) ∙ ap is_some e))
 
 -- the end that is told behind the step
-end_told : (setting : Setting) (before : List ParsedStep) (parse : List Message) (h : Head) (a : Answered) → told (steps before) ≡ None → body_end_of (steps before) ≡ None
+end_told : (setting : Setting) (before : List ParsedStep) (parse : List Message) (h : Head) (a : Answered) → told (steps before) ≡ None
+    → body_end_of (steps before) ≡ None
     → request (steps before) ≡ Some h → answer_of (steps before) ≡ Some a
     → option_or (told ((made on.body_end on.done parse).step ∷ steps before)) (body_end_of ((made on.body_end on.done parse).step ∷ steps before))
       ≡ short_end (asked_of h) (shape_by h a) (stated (shape_by h a) - answer_len (steps before))
@@ -94,7 +98,8 @@ end_told setting before parse h a quiet whole request_is answer_is =
 
 -- the last request, whose answer is going out
 end_known : (setting : Setting) (before : List ParsedStep) (parse : List Message) (m : Message) (h : Head) (a : Answered)
-    → Legal setting (made on.body_end on.done parse ∷ before) → Current setting before m h → answer_of (steps before) ≡ Some a → is_complete (steps before) ≡ false
+    → Legal setting (made on.body_end on.done parse ∷ before) → Current setting before m h → answer_of (steps before) ≡ Some a
+    → is_complete (steps before) ≡ false
     → Changes setting before (made on.body_end on.done parse)
 end_known setting before parse m h a l c answer_is incomplete =
     let t = steps before in
@@ -119,7 +124,8 @@ end_known setting before parse m h a l c answer_is incomplete =
         ∙ cond-true (is_complete (x.step ∷ t)) (answered kind) (sending shape kind (stated shape - answer_len (x.step ∷ t))) complete in
     let request_is = c.request_is in
     let buffer : buffered setting (x.step ∷ t) ≡ text =
-        buffered-more setting x.step before l.3 refl ∙ ap (λ l. k.buffered ++ l) (end_text_is setting t ∙ (λ i. end_sent (request_is i) (answer_is i))) in
+        buffered-more setting x.step before l.3 refl
+            ∙ ap (λ l. k.buffered ++ l) (end_text_is setting t ∙ (λ i. end_sent (request_is i) (answer_is i))) in
     let told_is = end_told setting before parse h a none.0 none.1 c.request_is answer_is ∙ sym alone in
     record {
       change = doing_with ending_body (with_exchange k (Some old));
@@ -130,6 +136,7 @@ end_known setting before parse m h a l c answer_is incomplete =
       since = completing_since kind old put;
     }
 
+-- its step
 end_made : (setting : Setting) (before : List ParsedStep) (parse : List Message) → Legal setting (made on.body_end on.done parse ∷ before)
     → Changes setting before (made on.body_end on.done parse)
 end_made setting before parse l =
@@ -139,6 +146,7 @@ end_made setting before parse l =
       | inr (m, h, c) ↦ end_known setting before parse m h out.0.0 l c out.0.1 out.1
     ]
 
+-- what it changes
 pub body_end_changes : (setting : Setting) (before : List ParsedStep) (x : ParsedStep) → Legal setting (x ∷ before) → x.step.event ≡ on.body_end
     → Changes setting before x
 body_end_changes setting before x l e = at_step setting before x on.body_end on.done l e (end_done setting before) (end_made setting before)

@@ -1,5 +1,5 @@
 -- What every part that is kept is behind a step that completes an answer.
-use Rattle.std.proofs.Common.{◌≡◌, ℕ, ◌≤◌, Bool, true, false, List, [], ◌∷◌, ◌++◌, length, drop, Option, Some, None, refl, sym, ap, ◌∙◌, subst, subst₂, arith}
+use Rattle.std.proofs.Common.{◌≡◌, ℕ, ◌≤◌, true, false, List, ◌∷◌, length, drop, Option, Some, None, refl, sym, ap, ◌∙◌, subst}
 use Rattle.std.specs.Prelude.{◌||◌}
 use Rattle.std.specs.Option.{option_or}
 use Rattle.std.proofs.lemmas.Option.{same_Some}
@@ -7,7 +7,7 @@ use Rattle.h1_model.specs.Request.{ConnectionType, Head}
 use Rattle.h1_model.specs.Setting.{Setting}
 use Rattle.h1_model.specs.Parse.{Message, next_start}
 use Rattle.h1_model.specs.End.{End}
-use Rattle.h1_model.specs.Sums.{Step, taken, is_eof, tick_of, is_drain, has_ended, accepted, first_tick, last_tick, request, answered as answer_of, completes, is_complete, was_dropped, was_told_to_go_on, is_drop, is_go_on, is_sending, is_receiving}
+use Rattle.h1_model.specs.Sums.{Step, taken, tick_of, is_drain, has_ended, accepted, first_tick, last_tick, request, answered as answer_of, completes, is_complete, was_dropped, was_told_to_go_on, is_drop, is_go_on, is_sending, is_receiving}
 use Rattle.h1_model.specs.Past.{ParsedStep, steps, current, passed}
 use Rattle.h1_model.specs.Text.{buffered}
 use Rattle.h1_model.specs.Closing.{told, body_end_of}
@@ -15,19 +15,20 @@ use Rattle.h1_model.specs.Allowed.{is_over_by}
 use Rattle.h1_model.proofs.PastLemmas.{Legal}
 use Rattle.h1_model.proofs.StepLemmas.{Quiet, complete-more}
 use Rattle.h1_model.proofs.CarriedLemmas.{passed_pulled}
-use Rattle.h1_machine.specs.Kept.{Rest, Reply, answered, Exchange, Clock, Kept}
+use Rattle.h1_machine.specs.Kept.{Reply, answered, Exchange, Kept}
 use Rattle.h1_machine.specs.Body.{Passed, pass_rest, passing}
 use Rattle.h1_machine.specs.Reply.{completing}
 use Rattle.h1_machine.specs.KeptOf.{rest_of, reply_of, exchange_with, exchange_of, clock_of, kept_of}
 use Rattle.h1_machine.proofs.Changes.{bare}
 use Rattle.h1_machine.proofs.Current.{Current, current_with}
 use Rattle.h1_machine.proofs.StepSums.{first_tick-cons, last_tick-cons, completed_at-completes, request-more}
-use Rattle.h1_machine.proofs.QuietParts.{rest_by, rest_parts, taken-quiet, accepted-quiet, ended-quiet, receiving-quiet, current-quiet, exchange-quiet, same_bare, option_or-none}
+use Rattle.h1_machine.proofs.QuietParts.{rest_by, rest_parts, taken-quiet, accepted-quiet, ended-quiet, current-quiet, exchange-quiet, same_bare, option_or-none}
 use Rattle.h1_machine.proofs.Completion.{passing_of}
 use Rattle.h1_machine.proofs.PassedStart.{passed_begun}
 
 -- the current message is the current one still
-pub current-stays : (setting : Setting) (x : ParsedStep) (before : List ParsedStep) (m : Message) (h : Head) → Legal setting (x ∷ before) → Quiet before x.step
+pub current-stays : (setting : Setting) (x : ParsedStep) (before : List ParsedStep) (m : Message) (h : Head) → Legal setting (x ∷ before)
+    → Quiet before x.step
     → Current setting before m h → Current setting (x ∷ before) m h
 current-stays setting x before m h l q c =
     let now = current_with setting (x ∷ before) m l (current-quiet setting x before l q ∙ c.current_is) in
@@ -41,7 +42,8 @@ before_end setting before m h c incomplete next e =
     subst (λ p. p ≤ next) (sym (c.passed_is ∙ passed_pulled before m incomplete)) (c.holds.before_next next e)
 
 -- What was left of the request's body is passed by the step that completes its answer.
-pub passes_rest : (setting : Setting) (x : ParsedStep) (before : List ParsedStep) (m : Message) (h : Head) → Legal setting (x ∷ before) → Quiet before x.step
+pub passes_rest : (setting : Setting) (x : ParsedStep) (before : List ParsedStep) (m : Message) (h : Head) → Legal setting (x ∷ before)
+    → Quiet before x.step
     → Current setting before m h → completes x.step.event ≡ true → is_complete (steps before) ≡ false → accepted (steps before) ≡ None
     → pass_rest (has_ended (steps before)) (rest_of before m h.body) (drop (passed before) (taken (steps before)))
       ≡ record { rest = rest_of (x ∷ before) m h.body; unread = drop (passed (x ∷ before)) (taken (x.step ∷ steps before)) }
@@ -98,7 +100,8 @@ with_text k buffer end = record k { buffered = buffer; told = end }
 -- The state behind it, whatever the answer was before.
 pub kept-completes : (setting : Setting) (x : ParsedStep) (before : List ParsedStep) (m : Message) (h : Head) (kind : ConnectionType) (was : Reply)
     (buffer : List ℕ) (end : Option End)
-    → Legal setting (x ∷ before) → Completes before x → Current setting before m h → is_complete (steps before) ≡ false → accepted (steps before) ≡ None
+    → Legal setting (x ∷ before) → Completes before x → Current setting before m h → is_complete (steps before) ≡ false
+    → accepted (steps before) ≡ None
     → reply_of setting (x.step ∷ steps before) h (answer_of (x.step ∷ steps before)) ≡ answered kind
     → buffered setting (x.step ∷ steps before) ≡ buffer → is_sending (x.step ∷ steps before) ≡ is_sending (steps before)
     → option_or (told (x.step ∷ steps before)) (body_end_of (x.step ∷ steps before)) ≡ end

@@ -1,5 +1,5 @@
 -- Where an answer is complete the body of its request is passed: up to its end, or as far as it was taken.
-use Rattle.std.proofs.Common.{◌≡◌, ℕ, ◌+◌, ◌-◌, ◌<◌, ◌≤◌, Bool, true, false, List, [], ◌++◌, length, take, drop, slice_range, leb, Option, Some, None, refl, sym, ap, ◌∙◌, subst, inl, inr, arith}
+use Rattle.std.proofs.Common.{◌≡◌, ℕ, ◌+◌, ◌-◌, ◌<◌, ◌≤◌, Bool, true, false, List, [], length, take, drop, slice_range, leb, Some, None, refl, sym, ap, ◌∙◌, subst, inl, inr, arith}
 use Rattle.std.specs.Prelude.{unwrap_or, if◌then◌else◌}
 use Rattle.std.proofs.lemmas.Bool.{cond-true, cond-false, cases_lt, le-leb, lt-leb}
 use Rattle.std.proofs.lemmas.List.{drop-drop, drop_all, take_all, length-drop, take-append-drop}
@@ -69,6 +69,7 @@ open_pass : (bytes : List ℕ) (n : ℕ) (ended : Bool) (section : List ℕ) →
 open_pass bytes n ended section e =
     ap (pass_chunks (after start (take n bytes)) (drop n bytes)) e ∙ ap (λ p. left (chunks_rest p []) []) (place_behind bytes n)
 
+-- or where they are broken
 broken_pass : (bytes : List ℕ) (n : ℕ) (ended : Bool) (section : List ℕ) → (read (after start (take n bytes)) (drop n bytes)).ending ≡ is_broken
     → pass_rest ended (chunks_rest (after start (take n bytes)) section) (drop n bytes) ≡ left (chunks_rest (after start bytes) []) []
 broken_pass bytes n ended section e =
@@ -85,6 +86,7 @@ open_next runs false = refl
 passed_some : (place end : ℕ) (m : Message) → next_start m.body ≡ Some end → is_passed place m ≡ leb end place
 passed_some place end m e = rw e refl
 
+-- or where it has none
 passed_none : (place : ℕ) (m : Message) → next_start m.body ≡ None → is_passed place m ≡ false
 passed_none place m e = rw e refl
 
@@ -92,6 +94,7 @@ passed_none place m e = rw e refl
 end_some : (len end : ℕ) (b : Body) → next_start b ≡ Some end → end_of len b ≡ end
 end_some len end b e = ap (λ o. unwrap_or o len) e
 
+-- or as far as the bytes reach
 end_none : (len : ℕ) (b : Body) → next_start b ≡ None → end_of len b ≡ len
 end_none len b e = ap (λ o. unwrap_or o len) e
 
@@ -137,7 +140,8 @@ fixed_done bytes ended size n m place complete receiving still r =
                 ∙ ap (λ r. pass_rest ended r (drop end bytes)) gone ∙ ap (λ r. left r (drop end bytes)) (sym gone) ∙ goal
           ]
       | inl short ↦
-          let next : next_start m.body ≡ None = ap next_start (r.body ∙ fixed_part bytes None ended size s n short) ∙ open_next (run_between s len) ended in
+          let next : next_start m.body ≡ None = ap next_start (r.body ∙ fixed_part bytes None ended size s n short)
+              ∙ open_next (run_between s len) ended in
           let at = end_none len m.body next in
           let within = r.within in
           let rest : fixed_left end place ≡ fixed_rest (end - place) = cond-false (leb end place) _ _ (lt-leb end place (omega arith)) in
@@ -186,7 +190,8 @@ from_place bytes s place begun =
     drop-drop (place - s) s bytes ∙ ap (λ p. drop p bytes) same
 
 -- chunks that don't end
-open_done : (bytes : List ℕ) (ended : Bool) (m : Message) (place : ℕ) (complete receiving still : Bool) → next_start m.body ≡ None → m.body_start ≤ place
+open_done : (bytes : List ℕ) (ended : Bool) (m : Message) (place : ℕ) (complete receiving still : Bool) → next_start m.body ≡ None
+    → m.body_start ≤ place
     → ((section : List ℕ) → pass_rest ended (chunks_rest (after start (take (place - m.body_start) (drop m.body_start bytes))) section)
       (drop (place - m.body_start) (drop m.body_start bytes)) ≡ left (chunks_rest (after start (drop m.body_start bytes)) []) [])
     → pass_rest ended (rest_by place bytes complete None receiving m chunked_body) (drop place bytes)
@@ -270,7 +275,8 @@ body_done bytes ended size raw_body m place complete receiving still r = raw_don
 -- ---- the current message
 
 -- Where the answer is complete, what was left of the request's body behind a place is what is left behind the past.
-pub passing_of : (setting : Setting) (past : List ParsedStep) (m : Message) (h : Head) (place : ℕ) (complete receiving : Bool) → Current setting past m h
+pub passing_of : (setting : Setting) (past : List ParsedStep) (m : Message) (h : Head) (place : ℕ) (complete receiving : Bool)
+    → Current setting past m h
     → is_complete (steps past) ≡ true → accepted (steps past) ≡ None
     → m.body_start ≤ place → place ≤ length (taken (steps past)) → ((next : ℕ) → next_start m.body ≡ Some next → place ≤ next)
     → pass_rest (has_ended (steps past)) (rest_by place (taken (steps past)) complete None receiving m h.body) (drop place (taken (steps past)))

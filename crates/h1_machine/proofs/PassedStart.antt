@@ -1,6 +1,6 @@
 -- The current message's head is passed.
-use Rattle.std.proofs.Common.{◌≡◌, ℕ, ◌≤◌, List, [], ◌∷◌, Some, None, refl, sym, ap, ◌∙◌, subst, arith, inl, inr}
-use Rattle.std.proofs.lemmas.Option.{none-some, same_Some}
+use Rattle.std.proofs.Common.{◌≡◌, ◌≤◌, List, [], ◌∷◌, Some, None, refl, sym, ap, ◌∙◌, arith, inl, inr}
+use Rattle.std.proofs.lemmas.Option.{none-some}
 use Rattle.h1_model.specs.Setting.{Setting}
 use Rattle.h1_model.specs.Parse.{Message}
 use Rattle.h1_model.specs.Sums.{head_of}
@@ -16,7 +16,8 @@ use Rattle.h1_machine.proofs.Current.{current_of}
 use Rattle.h1_machine.proofs.Frames.{current_carried}
 
 -- where a step hands out no head, by what was passed before
-still_begun : (setting : Setting) (before : List ParsedStep) (x : ParsedStep) (n : Message) → Legal setting (x ∷ before) → head_of x.step.outcome ≡ None
+still_begun : (setting : Setting) (before : List ParsedStep) (x : ParsedStep) (n : Message) → Legal setting (x ∷ before)
+    → head_of x.step.outcome ≡ None
     → current (x ∷ before) ≡ Some n → ((m : Message) → current before ≡ Some m → m.body_start ≤ passed before) → n.body_start ≤ passed (x ∷ before)
 still_begun setting before x n l none e begun = elim (current_of setting before l.3) [
   | inl gone ↦ absurd (none-some n (sym (current_none (x ∷ before) (head_count-more x.step (steps before) none ∙ gone.count)) ∙ e))
@@ -28,7 +29,8 @@ still_begun setting before x n l none e begun = elim (current_of setting before 
 ]
 
 -- no less than its start is passed of the current message
-pub passed_begun : (setting : Setting) (past : List ParsedStep) (m : Message) → Legal setting past → current past ≡ Some m → m.body_start ≤ passed past
+pub passed_begun : (setting : Setting) (past : List ParsedStep) (m : Message) → Legal setting past → current past ≡ Some m
+    → m.body_start ≤ passed past
 passed_begun setting [] m l e = absurd (none-some m (sym (current_none [] refl) ∙ e))
 passed_begun setting (x ∷ before) m l e =
     let old : (n : Message) → current before ≡ Some n → n.body_start ≤ passed before = λ n f. passed_begun setting before n l.3 f in

@@ -10,24 +10,23 @@ use Rattle.h1_model.specs.Frame.{Message, ProtocolError}
 use Rattle.h1_model.specs.Frame as frames
 use Rattle.h1_model.specs.FrameText.{send_error}
 use Rattle.h1_model.specs.End as ends
-use Rattle.h1_model.specs.End.{End}
-use Rattle.h1_model.specs.Event.{Event, Outcome}
+use Rattle.h1_model.specs.Event.{Event}
 use Rattle.h1_model.specs.Event as on
-use Rattle.h1_model.specs.Sums.{Step, step_written, is_drop, is_go_on, is_body_end, is_body_error, is_draining, tick_of, request, Answered, answered_by, answered as answer_of, completes, is_complete, was_dropped, was_told_to_go_on, chunk_len, answer_len, under_way_behind, is_sending}
+use Rattle.h1_model.specs.Sums.{Step, step_written, is_drop, is_go_on, is_body_end, is_body_error, is_draining, request, Answered, answered_by, answered as answer_of, completes, is_complete, was_dropped, was_told_to_go_on, chunk_len, answer_len, under_way_behind, is_sending}
 use Rattle.h1_model.specs.Past.{ParsedStep, steps, current}
 use Rattle.h1_model.specs.Text.{step_text, message_text, buffered}
 use Rattle.h1_model.specs.Closing.{told_end, told, body_end_of}
 use Rattle.h1_model.specs.OutcomeTable.{send_outcome, outcome_of}
 use Rattle.h1_model.proofs.PastLemmas.{Legal}
-use Rattle.h1_model.proofs.StepLemmas.{Quiet, complete-more}
+use Rattle.h1_model.proofs.StepLemmas.{Quiet}
 use Rattle.h1_machine.specs.Kept.{sending, answered}
 use Rattle.h1_machine.specs.Reply.{stated}
-use Rattle.h1_machine.specs.KeptOf.{reply_of, exchange_with, exchange_of, clock_of, kept_of}
+use Rattle.h1_machine.specs.KeptOf.{reply_of, exchange_with, exchange_of, kept_of}
 use Rattle.h1_machine.specs.Change.{doing, sending_message}
-use Rattle.h1_machine.proofs.Changes.{bare, Changes}
-use Rattle.h1_machine.proofs.Current.{Current, NoCurrent, current_of}
+use Rattle.h1_machine.proofs.Changes.{Changes}
+use Rattle.h1_machine.proofs.Current.{current_of}
 use Rattle.h1_machine.proofs.StepSums.{told-cons, answered-more, answer_len-more, is_sending-cons, buffered-more, buffered-write}
-use Rattle.h1_machine.proofs.QuietParts.{complete-quiet, rest-quiet, exchange-quiet, exchange-none, kept_behind, clock-quiet, kept-quiet, short-stays, told-stays, told-now}
+use Rattle.h1_machine.proofs.QuietParts.{complete-quiet, rest-quiet, exchange-quiet, exchange-none, clock-quiet, kept-quiet, short-stays, told-stays, told-now}
 use Rattle.h1_machine.proofs.StepForms.{made, at_step, running, untold}
 
 -- ---- events that are no part of an answer
@@ -61,7 +60,8 @@ reply-stays setting x before h q incomplete no_answer no_chunk =
     ap (reply_of setting (x.step ∷ t) h) answer ∙ reply_by setting x.step t h (answer_of t) (complete-quiet x before q incomplete) len
 
 -- and with it the last request
-pub exchange-apart : (setting : Setting) (x : ParsedStep) (before : List ParsedStep) → Legal setting (x ∷ before) → Quiet before x.step → IsApart x.step.event
+pub exchange-apart : (setting : Setting) (x : ParsedStep) (before : List ParsedStep) → Legal setting (x ∷ before) → Quiet before x.step
+    → IsApart x.step.event
     → exchange_of setting (x ∷ before) (current (x ∷ before)) (request (x.step ∷ steps before)) ≡ (kept_of setting before).exchange
 exchange-apart setting x before l q a = elim (current_of setting before l.3) [
   | inl none ↦ exchange-none setting x before l q none ∙ sym (ap (λ o. exchange_of setting before o (request (steps before))) none.current_is)
@@ -97,14 +97,17 @@ buffered-quiet setting s before l none silent =
 
 -- ---- drain
 
+-- its outcome
 drain_done : (setting : Setting) (before : List ParsedStep) → outcome_of setting before on.drain ≡ on.done
 unfolding outcome_of
 drain_done setting before = refl
 
+-- it writes nothing
 drain_silent : (setting : Setting) (before : List Step) → step_text setting before on.drain on.done ≡ []
 unfolding step_text
 drain_silent setting before = refl
 
+-- its step
 drain_made : (setting : Setting) (before : List ParsedStep) (parse : List parsed.Message) → Legal setting (made on.drain on.done parse ∷ before)
     → Changes setting before (made on.drain on.done parse)
 drain_made setting before parse l =
@@ -122,20 +125,24 @@ drain_made setting before parse l =
       since = refl;
     }
 
+-- what it changes
 pub drain_changes : (setting : Setting) (before : List ParsedStep) (x : ParsedStep) → Legal setting (x ∷ before) → x.step.event ≡ on.drain
     → Changes setting before x
 drain_changes setting before x l e = at_step setting before x on.drain on.done l e (drain_done setting before) (drain_made setting before)
 
 -- ---- the body's failure
 
+-- its outcome
 error_done : (setting : Setting) (before : List ParsedStep) → outcome_of setting before on.body_error ≡ on.done
 unfolding outcome_of
 error_done setting before = refl
 
+-- it writes nothing
 error_silent : (setting : Setting) (before : List Step) → step_text setting before on.body_error on.done ≡ []
 unfolding step_text
 error_silent setting before = refl
 
+-- its step
 error_made : (setting : Setting) (before : List ParsedStep) (parse : List parsed.Message) → Legal setting (made on.body_error on.done parse ∷ before)
     → Changes setting before (made on.body_error on.done parse)
 error_made setting before parse l =
@@ -156,21 +163,25 @@ error_made setting before parse l =
       since = refl;
     }
 
+-- what it changes
 pub body_error_changes : (setting : Setting) (before : List ParsedStep) (x : ParsedStep) → Legal setting (x ∷ before) → x.step.event ≡ on.body_error
     → Changes setting before x
 body_error_changes setting before x l e = at_step setting before x on.body_error on.done l e (error_done setting before) (error_made setting before)
 
 -- ---- writing
 
+-- its outcome
 write_gives : (setting : Setting) (before : List ParsedStep) (n : ℕ)
     → outcome_of setting before (on.write n) ≡ on.gave (take n (buffered setting (steps before)))
 unfolding outcome_of
 write_gives setting before n = refl
 
+-- it adds nothing to the text
 write_silent : (setting : Setting) (before : List Step) (n : ℕ) (bytes : List ℕ) → step_text setting before (on.write n) (on.gave bytes) ≡ []
 unfolding step_text
 write_silent setting before n bytes = refl
 
+-- its step
 write_made : (setting : Setting) (before : List ParsedStep) (n : ℕ) (parse : List parsed.Message)
     → Legal setting (made (on.write n) (on.gave (take n (buffered setting (steps before)))) parse ∷ before)
     → Changes setting before (made (on.write n) (on.gave (take n (buffered setting (steps before)))) parse)
@@ -191,21 +202,26 @@ write_made setting before n parse l =
       since = refl;
     }
 
+-- what it changes
 pub write_changes : (setting : Setting) (before : List ParsedStep) (x : ParsedStep) (n : ℕ) → Legal setting (x ∷ before) → x.step.event ≡ on.write n
     → Changes setting before x
 write_changes setting before x n l e = at_step setting before x (on.write n) _ l e (write_gives setting before n) (write_made setting before n)
 
 -- ---- sending
 
+-- its outcome
 send_gives : (setting : Setting) (before : List ParsedStep) (m : Message)
     → outcome_of setting before (on.send m) ≡ send_outcome (send_error (is_sending (steps before)) m)
 unfolding outcome_of
 send_gives setting before m = refl
 
-send_failed : (setting : Setting) (before : List Step) (m : Message) (error : ProtocolError) → step_text setting before (on.send m) (on.protocol error) ≡ []
+-- a message that breaks a rule isn't written
+send_failed : (setting : Setting) (before : List Step) (m : Message) (error : ProtocolError)
+    → step_text setting before (on.send m) (on.protocol error) ≡ []
 unfolding step_text
 send_failed setting before m error = refl
 
+-- any other one is
 send_sent : (setting : Setting) (before : List Step) (m : Message) → step_text setting before (on.send m) on.done ≡ message_text m
 unfolding step_text
 send_sent setting before m = refl
@@ -215,6 +231,7 @@ failed_under_way : (before : Bool) (m : Message) (error : ProtocolError) → und
 failed_under_way before (frames.frame f) error = refl
 failed_under_way before frames.nop error = refl
 
+-- it has no part in an answer
 send_apart : (m : Message) → IsApart (on.send m)
 send_apart m = record { answers = λ d. refl; chunk = refl; completes = refl; body_end = refl; drop = refl; go_on = refl }
 
@@ -255,7 +272,9 @@ send_made setting before m None parse e l =
       since = refl;
     }
 
-pub send_changes : (setting : Setting) (before : List ParsedStep) (x : ParsedStep) (m : Message) → Legal setting (x ∷ before) → x.step.event ≡ on.send m
+-- what it changes
+pub send_changes : (setting : Setting) (before : List ParsedStep) (x : ParsedStep) (m : Message) → Legal setting (x ∷ before)
+    → x.step.event ≡ on.send m
     → Changes setting before x
 send_changes setting before x m l e =
     at_step setting before x (on.send m) _ l e (send_gives setting before m)

@@ -23,7 +23,7 @@ use Rattle.h1_model.proofs.PastLemmas.{Legal}
 use Rattle.h1_model.proofs.StepLemmas.{Quiet, taken-cons, accepted-cons, head_count-more, complete-more, same_input, same_parse, parsed}
 use Rattle.h1_model.proofs.CarriedLemmas.{passed_none, passed_some}
 use Rattle.h1_model.proofs.PulledLemmas.{Idle, idle_pulled}
-use Rattle.h1_machine.specs.Kept.{Rest, no_rest, raw_rest, fixed_rest, chunks_rest, frames_rest, Exchange, Clock, Kept}
+use Rattle.h1_machine.specs.Kept.{Rest, no_rest, raw_rest, chunks_rest, frames_rest, Exchange, Clock, Kept}
 use Rattle.h1_machine.specs.KeptOf.{is_passed, fixed_left, rest_of, raw_left, reply_of, tells_done, exchange_with, exchange_of, clock_of, kept_of}
 use Rattle.h1_machine.proofs.Changes.{bare}
 use Rattle.h1_machine.proofs.Current.{Current, NoCurrent}
@@ -31,6 +31,7 @@ use Rattle.h1_machine.proofs.StepSums.{told-cons, first_tick-cons, last_tick-con
 
 -- ---- what is left of a body, by its parts
 
+-- what is left of a raw body
 abbrev raw_by : ℕ → Bool → Message → Option ℕ → Rest
 raw_by place receiving m (Some limit) = frames_rest receiving limit
 raw_by place receiving m None = if is_passed place m then no_rest else raw_rest
@@ -45,10 +46,13 @@ rest_by place bytes complete limit receiving m chunked_body =
     if is_passed place m then no_rest else chunks_rest (after start front) (if complete then [] else (read start front).trailers)
 rest_by place bytes complete limit receiving m raw_body = raw_by place receiving m limit
 
-raw_parts : (past : List ParsedStep) (m : Message) (limit : Option ℕ) → raw_left past m limit ≡ raw_by (passed past) (is_receiving (steps past)) m limit
+-- the parts of a raw body
+raw_parts : (past : List ParsedStep) (m : Message) (limit : Option ℕ)
+    → raw_left past m limit ≡ raw_by (passed past) (is_receiving (steps past)) m limit
 raw_parts past m (Some limit) = refl
 raw_parts past m None = refl
 
+-- what is left of a body is so by its parts
 pub rest_parts : (past : List ParsedStep) (m : Message) (kind : BodyKind)
     → rest_of past m kind ≡ rest_by (passed past) (taken (steps past)) (is_complete (steps past)) (accepted (steps past)) (is_receiving (steps past)) m kind
 rest_parts past m no_body = refl
@@ -90,6 +94,7 @@ current-quiet setting x before l q =
     let parse = parse-quiet setting x before l q in
     λ i. if count i == 0 then None else slice_get (parse i) (count i - 1)
 
+-- and the one that is to come
 pub upcoming-quiet : (setting : Setting) (x : ParsedStep) (before : List ParsedStep) → Legal setting (x ∷ before) → Quiet before x.step
     → upcoming (x ∷ before) ≡ upcoming before
 upcoming-quiet setting x before l q =
@@ -107,6 +112,7 @@ message-quiet x before m q incomplete =
     let pulled = idle_pulled m x.step (steps before) idle in
     λ i. if complete i then unwrap_or (next_start m.body) (length (taken i)) else pulled i
 
+-- what is passed, by the current message
 passed_by : (setting : Setting) (x : ParsedStep) (before : List ParsedStep) (o : Option Message) → current before ≡ o → Legal setting (x ∷ before)
     → Quiet before x.step → completes x.step.event ≡ false → passed (x ∷ before) ≡ passed before
 passed_by setting x before None e l q incomplete =
@@ -114,6 +120,7 @@ passed_by setting x before None e l q incomplete =
 passed_by setting x before (Some m) e l q incomplete =
     passed_some (x ∷ before) m (current-quiet setting x before l q ∙ e) ∙ message-quiet x before m q incomplete ∙ sym (passed_some before m e)
 
+-- what is passed
 pub passed-quiet : (setting : Setting) (x : ParsedStep) (before : List ParsedStep) → Legal setting (x ∷ before) → Quiet before x.step
     → completes x.step.event ≡ false → passed (x ∷ before) ≡ passed before
 passed-quiet setting x before l q incomplete = passed_by setting x before (current before) refl l q incomplete
@@ -125,7 +132,9 @@ unreceived : (before : Bool) (o : Outcome) → step_frames o ≡ 0 → received_
 unreceived before (on.frame f) none = absurd (omega (arith, none))
 unreceived before _ none = refl
 
-pub receiving-quiet : (x : ParsedStep) (before : List ParsedStep) → Quiet before x.step → is_receiving (x.step ∷ steps before) ≡ is_receiving (steps before)
+-- which the past says too
+pub receiving-quiet : (x : ParsedStep) (before : List ParsedStep) → Quiet before x.step
+    → is_receiving (x.step ∷ steps before) ≡ is_receiving (steps before)
 receiving-quiet x before q = is_receiving-cons x.step (steps before) ∙ unreceived (is_receiving (steps before)) x.step.outcome q.frames
 
 -- what is left of its body
@@ -154,6 +163,7 @@ with_step setting before x m h =
       was_told_to_go_on = is_go_on x.step.event || was_told_to_go_on (steps before);
     }
 
+-- the last request behind the step
 pub exchange-quiet : (setting : Setting) (x : ParsedStep) (before : List ParsedStep) (m : Message) (h : Head) → Legal setting (x ∷ before)
     → Quiet before x.step → Current setting before m h
     → exchange_of setting (x ∷ before) (current (x ∷ before)) (request (x.step ∷ steps before)) ≡ Some (with_step setting before x m h)
@@ -176,7 +186,8 @@ exchange-quiet setting x before m h l q c =
     }))
 
 -- where no head was handed out there is none
-pub exchange-none : (setting : Setting) (x : ParsedStep) (before : List ParsedStep) → Legal setting (x ∷ before) → Quiet before x.step → NoCurrent before
+pub exchange-none : (setting : Setting) (x : ParsedStep) (before : List ParsedStep) → Legal setting (x ∷ before) → Quiet before x.step
+    → NoCurrent before
     → exchange_of setting (x ∷ before) (current (x ∷ before)) (request (x.step ∷ steps before)) ≡ None
 exchange-none setting x before l q c =
     let message = current-quiet setting x before l q ∙ c.current_is in
@@ -230,6 +241,7 @@ pub option_or-none : {A : Type 0} (o : Option A) → option_or o None ≡ o
 option_or-none None = refl
 option_or-none (Some a) = refl
 
+-- and where no tick comes either
 pub clock-quiet : (s : Step) (before : List Step) → completes s.event ≡ false → tick_of s.event ≡ None → clock_of (s ∷ before) ≡ clock_of before
 clock-quiet s before incomplete untimed =
     let first = ap (option_or (first_tick before)) untimed ∙ option_or-none (first_tick before) in
@@ -280,7 +292,8 @@ short-open s before none no_end unended =
     ∙ sym (ap (λ b. b && is_short (request before) (answer_of before) (answer_len before)) unended)
 
 -- the end that was told stays
-pub told-stays : (s : Step) (before : List Step) → told_end s.outcome ≡ None → is_body_error s.event ≡ false → is_cut_short (s ∷ before) ≡ is_cut_short before
+pub told-stays : (s : Step) (before : List Step) → told_end s.outcome ≡ None → is_body_error s.event ≡ false
+    → is_cut_short (s ∷ before) ≡ is_cut_short before
     → option_or (told (s ∷ before)) (body_end_of (s ∷ before)) ≡ option_or (told before) (body_end_of before)
 told-stays s before none no_error short =
     let told_same : told (s ∷ before) ≡ told before = told-cons s before ∙ ap (λ o. option_or o (told before)) none in

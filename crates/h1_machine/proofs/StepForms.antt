@@ -1,6 +1,6 @@
 -- The forms in which the case of an event is proved: its step as a record, the last request where there is one, and what
 -- an allowed event says while the connection is open.
-use Rattle.std.proofs.Common.{◌≡◌, Bool, true, false, List, [], ◌∷◌, Option, Some, None, refl, sym, ap, ◌∙◌, subst, subst₂}
+use Rattle.std.proofs.Common.{◌≡◌, true, false, List, [], ◌∷◌, Option, Some, None, refl, sym, ap, ◌∙◌, subst₂}
 use Rattle.std.specs.Prelude.{IsTrue, is_some, is_none, not, ◌&&◌, ◌||◌}
 use Rattle.std.specs.List.{list_any}
 use Rattle.std.specs.Option.{option_or}
@@ -12,7 +12,7 @@ use Rattle.h1_model.specs.End.{End}
 use Rattle.h1_model.specs.Event.{Event, Outcome}
 use Rattle.h1_model.specs.Event as on
 use Rattle.h1_model.specs.Sums.{Step, request, since_head, answered, is_body_end, completes, came_since_head, is_complete, is_open, is_upgraded}
-use Rattle.h1_model.specs.Past.{ParsedStep, steps, current}
+use Rattle.h1_model.specs.Past.{ParsedStep, steps}
 use Rattle.h1_model.specs.Closing.{told, body_end_of, closing}
 use Rattle.h1_model.specs.Allowed.{is_allowed, is_allowed_closing, is_unanswered}
 use Rattle.h1_model.specs.OutcomeTable.{outcome_of}
@@ -25,6 +25,7 @@ use Rattle.h1_machine.proofs.Current.{Current, NoCurrent}
 
 -- ---- a step as a record
 
+-- a step of an event and its outcome
 abbrev pub made : Event → Outcome → List Message → ParsedStep
 made e o parse = record { step = record { event = e; outcome = o }; parse = parse }
 
@@ -38,6 +39,7 @@ at_step setting before x e o l event outcome f =
 
 -- ---- the last request
 
+-- a state with another last request
 abbrev pub with_exchange : Kept → Option Exchange → Kept
 with_exchange k exchange = record k { exchange = exchange }
 
@@ -53,7 +55,8 @@ kept_none setting past c = λ i. with_exchange (kept_of setting past) (exchange_
 -- ---- while the connection is open
 
 -- an event that isn't allowed while the connection closes comes while it doesn't
-pub running : (setting : Setting) (past : List ParsedStep) (e : Event) → is_allowed_closing (steps past) e ≡ false → IsTrue (is_allowed setting past e)
+pub running : (setting : Setting) (past : List ParsedStep) (e : Event) → is_allowed_closing (steps past) e ≡ false
+    → IsTrue (is_allowed setting past e)
     → closing setting past ≡ None
 running setting past e shut ok = go (closing setting past) refl
   where
@@ -67,7 +70,8 @@ both_none None b e = (refl, e)
 both_none (Some a) b e = absurd (false≢true (sym (ap is_some e)))
 
 -- then no end was told
-pub untold : (setting : Setting) (past : List ParsedStep) → closing setting past ≡ None → (told (steps past) ≡ None) × (body_end_of (steps past) ≡ None)
+pub untold : (setting : Setting) (past : List ParsedStep) → closing setting past ≡ None
+    → (told (steps past) ≡ None) × (body_end_of (steps past) ≡ None)
 unfolding closing
 untold setting past e =
     let parts = both_none _ _ e in
@@ -84,6 +88,7 @@ open_request trace x =
     none_is None e = refl
     none_is (Some a) e = absurd (false≢true e)
 
+-- and nothing of its answer is complete
 pub open_incomplete : (trace : List Step) → is_unanswered trace ≡ true → is_complete trace ≡ false
 open_incomplete trace x =
     let parts = and_parts (is_open trace && is_none (answered trace)) (not (is_upgraded trace)) x in
@@ -107,5 +112,6 @@ any_ends (s ∷ before) e =
     event_ends on.body_end none = none
     event_ends _ none = refl
 
+-- nor has its body ended
 pub unended : (trace : List Step) → is_complete trace ≡ false → came_since_head is_body_end trace ≡ false
 unended trace e = any_ends (since_head trace) e

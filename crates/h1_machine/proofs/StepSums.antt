@@ -1,5 +1,5 @@
 -- What one more step does to the sums of a past that is kept.
-use Rattle.std.proofs.Common.{◌≡◌, ℕ, ◌+◌, Bool, true, false, List, [], ◌∷◌, ◌++◌, length, take, drop, Option, Some, None, refl, sym, ap, ◌∙◌, subst, append_assoc, append-nil}
+use Rattle.std.proofs.Common.{◌≡◌, ℕ, ◌+◌, Bool, true, false, List, [], ◌∷◌, ◌++◌, length, take, drop, Some, None, refl, sym, ap, ◌∙◌, append_assoc, append-nil}
 use Rattle.std.specs.Prelude.{is_some, ◌||◌}
 use Rattle.std.specs.List.{list_any}
 use Rattle.std.specs.Option.{option_or}
@@ -8,9 +8,8 @@ use Rattle.std.proofs.lemmas.List.{take-append-drop, drop_at}
 use Rattle.h1_model.specs.Request.{Head}
 use Rattle.h1_model.specs.Setting.{Setting}
 use Rattle.h1_model.specs.Event.{Event, Outcome}
-use Rattle.h1_model.specs.Event as on
 use Rattle.h1_model.specs.Sums.{Step, step_written, written, tick_of, first_tick, last_tick, head_of, request, since_head, answered_by, answered, is_draining, came_since_head, completes, completed_at, chunk_len, answer_len, under_way_behind, is_sending, received_behind, is_receiving}
-use Rattle.h1_model.specs.Past.{ParsedStep, steps, input_of, IsPast}
+use Rattle.h1_model.specs.Past.{ParsedStep, steps, IsPast}
 use Rattle.h1_model.specs.Text.{step_text, text, buffered}
 use Rattle.h1_model.specs.Closing.{told_end, told}
 use Rattle.h1_model.specs.Trace.{IsPastOf, IsTrace}
@@ -30,6 +29,7 @@ pub first_tick-cons : (s : Step) (before : List Step) → first_tick (s ∷ befo
 unfolding first_tick
 first_tick-cons s before = refl
 
+-- and of the last one
 pub last_tick-cons : (s : Step) (before : List Step) → last_tick (s ∷ before) ≡ option_or (tick_of s.event) (last_tick before)
 unfolding last_tick
 last_tick-cons s before = refl
@@ -39,6 +39,7 @@ pub completed_at-completes : (s : Step) (before : List Step) → completes s.eve
 unfolding completed_at
 completed_at-completes s before e = cond-true _ _ _ e
 
+-- and where the step completes no answer
 pub completed_at-more : (s : Step) (before : List Step) → completes s.event ≡ false → completed_at (s ∷ before) ≡ completed_at before
 unfolding completed_at
 completed_at-more s before e = cond-false _ _ _ e
@@ -48,6 +49,7 @@ pub is_sending-cons : (s : Step) (before : List Step) → is_sending (s ∷ befo
 unfolding is_sending
 is_sending-cons s before = refl
 
+-- and those that come
 pub is_receiving-cons : (s : Step) (before : List Step) → is_receiving (s ∷ before) ≡ received_behind (is_receiving before) s.outcome
 unfolding is_receiving
 is_receiving-cons s before = refl
@@ -59,6 +61,7 @@ pub request-more : (s : Step) (before : List Step) → head_of s.outcome ≡ Non
 unfolding request
 request-more s before none = ap (λ o. option_or o (request before)) none
 
+-- behind a head it is that one
 pub request-head : (s : Step) (before : List Step) (h : Head) → head_of s.outcome ≡ Some h → request (s ∷ before) ≡ Some h
 unfolding request
 request-head s before h some = ap (λ o. option_or o (request before)) some
@@ -69,6 +72,7 @@ pub answered-more : (s : Step) (before : List Step) → head_of s.outcome ≡ No
 unfolding answered
 answered-more s before none = cond-false _ _ _ (ap is_some none)
 
+-- which a new request has not
 pub answered-head : (s : Step) (before : List Step) (h : Head) → head_of s.outcome ≡ Some h → answered (s ∷ before) ≡ None
 unfolding answered
 answered-head s before h some = cond-true _ _ _ (ap is_some some)
@@ -95,17 +99,20 @@ pub right : (setting : Setting) (past : List ParsedStep) → Legal setting past 
 right setting [] l = tt
 right setting (m ∷ before) l = (l.0, right setting before l.3)
 
+-- and that trace is one of a connection
 pub traced : (setting : Setting) (past : List ParsedStep) → Legal setting past → IsTrace setting (steps past)
 traced setting [] l = tt
 traced setting (m ∷ before) l =
     let here : IsPastOf setting (steps before) before = record { same = refl; right = right setting before l.3 } in
     ((before, here, l.1), (before, here, l.2), traced setting before l.3)
 
+-- the text
 text-cons : (setting : Setting) (s : Step) (before : List Step)
     → text setting (s ∷ before) ≡ text setting before ++ step_text setting before s.event s.outcome
 unfolding text
 text-cons setting s before = refl
 
+-- the bytes handed out for writing
 written-cons : (s : Step) (before : List Step) → written (s ∷ before) ≡ written before ++ step_written s.outcome
 unfolding written
 written-cons s before = refl

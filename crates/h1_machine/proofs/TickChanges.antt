@@ -1,33 +1,32 @@
 -- A tick: what is abandoned or runs out is told by the parts, and the moment is kept.
-use Rattle.std.proofs.Common.{◌≡◌, ℕ, ◌-◌, Bool, true, false, List, [], ◌∷◌, ◌++◌, length, drop, Option, Some, None, refl, sym, ap, ◌∙◌, append-nil, inl, inr, arith, length-drop}
+use Rattle.std.proofs.Common.{◌≡◌, ℕ, ◌-◌, Bool, true, false, List, [], ◌∷◌, ◌++◌, length, drop, Option, Some, None, refl, sym, ap, ◌∙◌, inl, inr, arith, length-drop}
 use Rattle.std.specs.Prelude.{◌&&◌, ◌||◌, not, ◌==◌, if◌then◌else◌, is_some, is_none, slice_get, unwrap_or}
 use Rattle.std.specs.Option.{option_or}
 use Rattle.std.proofs.lemmas.Bool.{cases_Bool, cond_both, ne_eqb, true≢false}
 use Rattle.std.proofs.lemmas.Option.{none-some}
 use Rattle.h1_model.specs.Setting.{Setting}
-use Rattle.h1_model.specs.Request.{is_chunked_kind}
 use Rattle.h1_model.specs.AnswerText.{timeout_text}
 use Rattle.h1_model.specs.Parse.{Message, next_start}
 use Rattle.h1_model.specs.End as ends
 use Rattle.h1_model.specs.End.{End}
-use Rattle.h1_model.specs.Event.{Event, Outcome}
+use Rattle.h1_model.specs.Event.{Outcome}
 use Rattle.h1_model.specs.Event as on
-use Rattle.h1_model.specs.Sums.{Step, step_written, taken, first_tick, completed_at, is_complete, is_open, is_upgraded}
-use Rattle.h1_model.specs.Past.{ParsedStep, steps, parse_of, head_count, current, upcoming, passed, held}
+use Rattle.h1_model.specs.Sums.{Step, taken, first_tick, completed_at, is_complete, is_open, is_upgraded}
+use Rattle.h1_model.specs.Past.{ParsedStep, steps, parse_of, head_count, current, passed, held}
 use Rattle.h1_model.specs.Text.{step_text, buffered}
-use Rattle.h1_model.specs.Closing.{told_end, told, body_end_of, closing}
+use Rattle.h1_model.specs.Closing.{told, body_end_of, closing}
 use Rattle.h1_model.specs.Allowed.{is_over_by}
 use Rattle.h1_model.specs.OutcomeTable.{counted_from, has_run_out, is_kept_too_long, has_ended_body, tick_outcome, outcome_of}
 use Rattle.h1_model.specs.OutcomeTable as table
 use Rattle.h1_model.proofs.PastLemmas.{Legal}
 use Rattle.h1_model.proofs.StepLemmas.{Quiet}
 use Rattle.h1_model.proofs.CarriedLemmas.{passed_complete}
-use Rattle.h1_machine.specs.Kept.{Exchange, Kept, is_answered, is_nothing, of_exchange}
-use Rattle.h1_machine.specs.KeptOf.{rest_of, exchange_with, kept_of}
+use Rattle.h1_machine.specs.Kept.{is_answered, is_nothing, of_exchange}
+use Rattle.h1_machine.specs.KeptOf.{rest_of, kept_of}
 use Rattle.h1_machine.specs.Local.{closing_by}
-use Rattle.h1_machine.specs.Clock.{Change, is_abandoned, is_slow, is_idle, expiring, at_moment, ticking}
+use Rattle.h1_machine.specs.Clock.{Change, is_abandoned, is_slow, is_idle, at_moment, ticking}
 use Rattle.h1_machine.proofs.Changes.{Changes}
-use Rattle.h1_machine.proofs.Current.{Current, NoCurrent, current_of}
+use Rattle.h1_machine.proofs.Current.{current_of}
 use Rattle.h1_machine.proofs.Orderly.{orderly}
 use Rattle.h1_machine.proofs.Rests.{rest_says}
 use Rattle.h1_machine.proofs.Parts.{exchange_is, exchange_none, reply_answered, none_open, current_open}
@@ -61,7 +60,8 @@ unparsed_same setting past l = elim (current_of setting past l) [
       let count = n.count in
       (λ i. is_none (gone i) && not (not (shut i) && is_some (slice_get (parse_of past) (count i)))) ∙ no_first (parse_of past)
   | inr (m, h, c) ↦
-      ap (λ o. is_none o && not (kept_of setting past).is_coming) (exchange_is setting past m h c) ∙ sym (some_parsed past m (parse_of past) c.current_is refl)
+      ap (λ o. is_none o && not (kept_of setting past).is_coming) (exchange_is setting past m h c)
+          ∙ sym (some_parsed past m (parse_of past) c.current_is refl)
 ]
 
 -- the request is too slow in both
@@ -90,7 +90,8 @@ done_same setting past l = elim (current_of setting past l) [
       let ended : has_ended_body (current past) ≡ is_some (next_start m.body) = ap has_ended_body c.current_is in
       elim (cases_Bool (is_complete t)) [
         | inr unfinished ↦
-            shown ∙ (λ i. unfinished i && is_nothing (rest_of past m h.body)) ∙ sym (λ i. unfinished i && not (is_open t) && has_ended_body (current past))
+            shown ∙ (λ i. unfinished i && is_nothing (rest_of past m h.body))
+                ∙ sym (λ i. unfinished i && not (is_open t) && has_ended_body (current past))
         | inl complete ↦
             let nothing = (rest_says setting past m h.body false (c.passed_is ∙ passed_complete past m complete) complete c.body).nothing in
             let shut : is_open t ≡ false = elim (cases_Bool (is_upgraded t)) [
@@ -111,22 +112,27 @@ idle_same setting past first ms l =
 
 -- ---- the parts
 
+-- a tick alone writes nothing
 tick_silent : (setting : Setting) (before : List Step) (ms : ℕ) → step_text setting before (on.tick ms) on.done ≡ []
 unfolding step_text
 tick_silent setting before ms = refl
 
+-- nor does giving up
 abandoned_silent : (setting : Setting) (before : List Step) (ms : ℕ) → step_text setting before (on.tick ms) on.abandoned ≡ []
 unfolding step_text
 abandoned_silent setting before ms = refl
 
+-- a slow request is answered
 slow_text : (setting : Setting) (before : List Step) (ms : ℕ) → step_text setting before (on.tick ms) (on.expired ends.slow_request) ≡ timeout_text ms
 unfolding step_text
 slow_text setting before ms = refl
 
+-- a connection that was kept isn't
 idle_silent : (setting : Setting) (before : List Step) (ms : ℕ) → step_text setting before (on.tick ms) (on.expired ends.keep_alive_expired) ≡ []
 unfolding step_text
 idle_silent setting before ms = refl
 
+-- the outcome of a tick
 tick_gives : (setting : Setting) (before : List ParsedStep) (ms : ℕ)
     → outcome_of setting before (on.tick ms) ≡ tick_outcome setting before (closing setting before) (unwrap_or (first_tick (steps before)) ms) ms
 unfolding outcome_of
@@ -138,6 +144,7 @@ tick_kept setting before o buffer end =
     let k = kept_of setting before in
     record { outcome = o; kept = record k { is_over = is_over_by o || k.is_over; buffered = buffer; told = end } }
 
+-- it has no part in an answer
 tick_apart : (ms : ℕ) → IsApart (on.tick ms)
 tick_apart ms = record { answers = λ d. refl; chunk = refl; completes = refl; body_end = refl; drop = refl; go_on = refl }
 
@@ -163,6 +170,7 @@ tick_made setting before ms o buffer end parse l q buffer_is end_is same =
 
 -- ---- by why the connection closes
 
+-- each outcome of a tick
 tick_by : (setting : Setting) (before : List ParsedStep) (x : ParsedStep) (ms : ℕ) (end : Option End) → closing setting before ≡ end
     → Legal setting (x ∷ before) → x.step.event ≡ on.tick ms → Changes setting before x
 tick_by setting before x ms (Some end) closes l e =
@@ -234,6 +242,7 @@ tick_by setting before x ms None closes l e =
         ]
     ]
 
+-- what a tick changes
 pub tick_changes : (setting : Setting) (before : List ParsedStep) (x : ParsedStep) (ms : ℕ) → Legal setting (x ∷ before) → x.step.event ≡ on.tick ms
     → Changes setting before x
 tick_changes setting before x ms l e = tick_by setting before x ms (closing setting before) refl l e
