@@ -1,5 +1,5 @@
 -- A step that is of the input alone: what it leaves of what is kept.
-use Rattle.std.proofs.Common.{◌≡◌, ℕ, ◌-◌, Bool, true, false, List, [], ◌∷◌, ◌++◌, Option, Some, None, refl, sym, ap, ◌∙◌, arith, append-nil}
+use Rattle.std.proofs.Common.{◌≡◌, ℕ, ◌-◌, false, List, ◌∷◌, Option, Some, None, refl, sym, ap, ◌∙◌, arith}
 use Rattle.std.specs.Prelude.{◌||◌, if◌then◌else◌}
 use Rattle.std.specs.List.{list_any}
 use Rattle.std.specs.Option.{option_or}
@@ -8,18 +8,17 @@ use Rattle.h1_model.specs.Setting.{Setting}
 use Rattle.h1_model.specs.Answer.{asked_of, shape_of, type_of}
 use Rattle.h1_model.specs.Parse.{Message}
 use Rattle.h1_model.specs.Event as on
-use Rattle.h1_model.specs.Sums.{Step, Answered, is_drain, is_drop, is_pull, is_go_on, is_body_end, is_body_error, has_ended, is_draining, tick_of, first_tick, last_tick, head_of, since_head, answered_by, answered as answer_of, completes, came_since_head, is_complete, completed_at, chunk_len, answer_len, under_way_behind, is_sending}
+use Rattle.h1_model.specs.Sums.{Step, Answered, is_drain, is_drop, is_pull, is_go_on, is_body_end, is_body_error, has_ended, is_draining, tick_of, first_tick, last_tick, head_of, since_head, answered_by, answered as answer_of, completes, came_since_head, is_complete, chunk_len, answer_len, under_way_behind, is_sending}
 use Rattle.h1_model.specs.Past.{ParsedStep, steps}
-use Rattle.h1_model.specs.Text.{step_text, buffered}
-use Rattle.h1_model.specs.Closing.{told_end, told, body_end_of}
+use Rattle.h1_model.specs.Text.{buffered}
+use Rattle.h1_model.specs.Closing.{told_end, told}
 use Rattle.h1_model.specs.Allowed.{is_over_by, is_over}
-use Rattle.h1_model.proofs.PastLemmas.{Legal}
 use Rattle.h1_model.proofs.StepLemmas.{complete-more}
 use Rattle.h1_machine.specs.Kept.{answered, sending, Exchange}
 use Rattle.h1_machine.specs.Reply.{stated}
 use Rattle.h1_machine.specs.KeptOf.{rest_of, reply_of, tells_done, exchange_with, clock_of, kept_of}
 use Rattle.h1_machine.proofs.Changes.{bare}
-use Rattle.h1_machine.proofs.StepSums.{first_tick-cons, last_tick-cons, completed_at-more, is_sending-cons, answered-more, answer_len-more, came-more, any-more, buffered-more}
+use Rattle.h1_machine.proofs.StepSums.{first_tick-cons, last_tick-cons, completed_at-more, is_sending-cons, answered-more, answer_len-more, came-more, any-more}
 use Rattle.h1_machine.proofs.QuietParts.{short-stays, told-stays}
 
 -- The step hands out nothing and tells nothing, is no event but of the input, and no text goes out for it.

@@ -1,8 +1,7 @@
 -- Bytes that come: as many are taken as there is room for, and the body of a request whose answer is complete is passed.
-use Rattle.std.proofs.Common.{◌≡◌, ℕ, ◌-◌, ◌≤◌, min, Bool, true, false, List, [], ◌∷◌, ◌++◌, length, take, drop, Option, Some, None, refl, sym, ap, ◌∙◌, subst, inl, inr, append-nil, length-drop}
+use Rattle.std.proofs.Common.{◌≡◌, ℕ, ◌-◌, min, false, List, ◌∷◌, ◌++◌, length, take, drop, Some, None, refl, sym, ap, ◌∙◌, subst, inl, inr, append-nil, length-drop}
 use Rattle.std.specs.Prelude.{is_some}
 use Rattle.std.proofs.lemmas.Bool.{not-true}
-use Rattle.std.proofs.lemmas.Option.{same_Some}
 use Rattle.std.proofs.lemmas.List.{drop-append-le}
 use Rattle.h1_model.specs.Request.{Head}
 use Rattle.h1_model.specs.Setting.{Setting}
@@ -10,26 +9,24 @@ use Rattle.h1_model.specs.Parse.{Message}
 use Rattle.h1_model.specs.Event.{Event, Outcome}
 use Rattle.h1_model.specs.Event as on
 use Rattle.h1_model.specs.Sums.{Step, taken, has_ended, accepted, request, since_head, is_complete, is_receiving}
-use Rattle.h1_model.specs.Past.{ParsedStep, steps, current, passed, held}
+use Rattle.h1_model.specs.Past.{ParsedStep, steps, passed, held}
 use Rattle.h1_model.specs.Text.{step_text}
 use Rattle.h1_model.specs.Closing.{closing_since}
 use Rattle.h1_model.specs.OutcomeTable.{outcome_of}
 use Rattle.h1_model.proofs.PastLemmas.{Legal}
-use Rattle.h1_model.proofs.StepLemmas.{allowed_open, taken-cons, head_count-more}
-use Rattle.h1_model.proofs.TraceGrowth.{current_none}
-use Rattle.h1_model.proofs.CarriedLemmas.{passed_none}
+use Rattle.h1_model.proofs.StepLemmas.{allowed_open}
 use Rattle.h1_model.proofs.HeldLemmas.{bounded}
-use Rattle.h1_machine.specs.Kept.{Exchange, Kept}
+use Rattle.h1_machine.specs.Kept.{Kept}
 use Rattle.h1_machine.specs.KeptOf.{rest_of, exchange_with, exchange_of, kept_of}
 use Rattle.h1_machine.specs.Body.{passing}
 use Rattle.h1_machine.specs.Change.{reading}
 use Rattle.h1_machine.proofs.Changes.{bare, Changes}
-use Rattle.h1_machine.proofs.Current.{Current, NoCurrent, current_of, current_with, request-more}
+use Rattle.h1_machine.proofs.Current.{current_of}
 use Rattle.h1_machine.proofs.Orderly.{orderly}
-use Rattle.h1_machine.proofs.Frames.{current_stays, raw_head}
+use Rattle.h1_machine.proofs.Frames.{raw_head}
 use Rattle.h1_machine.proofs.StepSums.{buffered-more}
 use Rattle.h1_machine.proofs.PassedBodies.{left_at, left_stays}
-use Rattle.h1_machine.proofs.PlainSteps.{IsPlain, exchange-plain, kept-plain}
+use Rattle.h1_machine.proofs.PlainSteps.{IsPlain}
 use Rattle.h1_machine.proofs.Arrivals.{Adds, Grows, IsLeft, left_before, framed_left, grows_of, passing-none, passing_grown, parts-none, parts-some}
 
 -- the step that takes so many bytes
