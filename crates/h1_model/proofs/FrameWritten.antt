@@ -10,7 +10,8 @@ use Rattle.std.specs.Int.{byte_at, bytes_high_first}
 use Rattle.std.specs.Option.{option_or, unwrap_or}
 use Rattle.std.specs.Str.{is_utf8, chars}
 use Rattle.h1_model.specs.Frame.{CloseReason, Frame, text, binary, first_text, first_binary, continuation, last, ping, pong, close, unmasked_frame, bad_op_code, overflow, invalid_reserved_bits}
-use Rattle.h1_model.specs.FrameText.{Reader, JudgesSize, at_length, when_whole, FrameStart, frame_start, start_error, opcode_of, opcode_error, big_endian, length_bytes, payload_length_of, FrameHeader, unmask, judged_frame, is_close_code, description_of, close_payload, close_frame, starting, going_on, MAX_FRAME, partial, whole, breaks, unless_broken, front_of_judged, overflows_at_length, front_of_header, front_of_start, front_frame, length_field, frame_text}
+use Rattle.h1_model.specs.FrameText.{Reader, JudgesSize, at_length, when_whole, FrameStart, frame_start, start_error, opcode_of, opcode_error, big_endian, length_bytes, payload_length_of, FrameHeader, unmask, judged_frame, is_close_code, description_of, close_payload, close_frame, starting, going_on, partial, whole, breaks, unless_broken, front_of_judged, overflows_at_length, front_of_header, front_of_start, front_frame, length_field, frame_text}
+use Rattle.h1_model.specs.Limits.{MAX_FRAME}
 use Rattle.h1_model.specs.Laws.WrittenFrame.{KeepsRules, is_close_text}
 
 -- ---- masks
