@@ -217,11 +217,12 @@ replied setting past h o = go (answer_of (steps past)) (is_complete (steps past)
     go (Some a) true e c = rw c refl
     go (Some a) false e c = rw c refl
 
--- a state with no request, with one that isn't answered, and with one that is
+-- with no request nothing is passed
 pub passing-none : (k : Kept) → passing (record k { exchange = None }) ≡ record k { exchange = None }
 unfolding passing
 passing-none k = refl
 
+-- nor where its answer isn't complete
 passing-by : (k : Kept) (x : Exchange) (reply : Reply) → is_answered reply ≡ false
     → passing (record k { exchange = Some (record x { reply = reply }) }) ≡ record k { exchange = Some (record x { reply = reply }) }
 unfolding passing
@@ -229,6 +230,7 @@ passing-by k x unanswered e = refl
 passing-by k x (sending shape kind missing) e = refl
 passing-by k x (answered kind) e = absurd (true≢false e)
 
+-- and where it is, the rest of its body
 passing-answered : (k : Kept) (x : Exchange) (reply : Reply) → is_answered reply ≡ true
     → passing (record k { exchange = Some (record x { reply = reply }) })
       ≡ record k {

@@ -123,6 +123,7 @@ unfinished_open bytes runs x behind e =
     let same : goes_on ≡ has_ended behind = sym (unfinished_read bytes runs x) ∙ e in
     cc
 
+-- nor have those that break one
 not_chunked_open : (bytes : List ℕ) (runs : List Run) → IsChunked bytes not_chunked runs → IsEndless bytes
 not_chunked_open bytes runs x behind e =
     let same : is_broken ≡ has_ended behind = sym (broken_read bytes runs x) ∙ e in
@@ -144,6 +145,7 @@ shorter_open n k text less fits full ends =
 passed_at : (place : ℕ) (m : Message) (end : ℕ) → next_start m.body ≡ Some end → is_passed place m ≡ nat_le end place
 passed_at place m end e = rw e refl
 
+-- a body without an end is never passed
 passed_never : (place : ℕ) (m : Message) → next_start m.body ≡ None → is_passed place m ≡ false
 passed_never place m e = rw e refl
 

@@ -76,10 +76,12 @@ exchange-plain setting x before m n h p =
 
 -- ---- all parts
 
+-- nothing behind an option leaves it
 option_none : {A : Type 0} (o : Option A) → option_or o None ≡ o
 option_none None = refl
 option_none (Some a) = refl
 
+-- no tick comes, and no answer is completed
 clock-plain : (setting : Setting) (before : List ParsedStep) (s : Step) → IsPlain setting before s → clock_of (s ∷ steps before) ≡ clock_of (steps before)
 clock-plain setting before s p =
     let t = steps before in
