@@ -18,5 +18,7 @@ pub mod RunBytes
 pub mod Agreement
 pub mod WalkedRuns
 pub mod TakenReads
+pub mod TakenPlaces
+pub mod TrailerRoom
 pub mod ToldByPlaces
 pub mod LongLines
