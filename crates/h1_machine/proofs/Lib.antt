@@ -30,3 +30,4 @@ pub mod ReadChanges
 pub mod TickChanges
 pub mod TableSteps
 pub mod Stands
+pub mod KeptBounds

@@ -1,6 +1,6 @@
 -- The laws of states that stand for traces.
 use Rattle.std.proofs.Common.{◌≡◌, List, [], ◌∷◌, length, drop, refl, sym, ap, ◌∙◌, subst, subst₂, arith}
-use Rattle.std.specs.Prelude.{IsTrue}
+use Rattle.std.specs.Prelude.{IsTrue, IsFalse, ◌↔◌}
 use Rattle.h1_model.specs.Setting.{Setting}
 use Rattle.h1_model.specs.Event.{Event, Outcome}
 use Rattle.h1_model.specs.Sums.{Step, taken, written, accepted, last_tick, first_tick, completed_at, request, since_head, answered, answer_len, is_sending, is_receiving}
@@ -9,9 +9,9 @@ use Rattle.h1_model.specs.Text.{text}
 use Rattle.h1_model.specs.Closing.{told, closing, closing_since}
 use Rattle.h1_model.specs.Allowed.{is_allowed}
 use Rattle.h1_model.specs.OutcomeTable.{outcome_of}
-use Rattle.h1_model.specs.Trace.{IsPastOf, IsOutcome, IsTrace}
+use Rattle.h1_model.specs.Trace.{IsPastOf, IsAllowed, IsMisplaced, IsOutcome, IsTrace}
 use Rattle.h1_model.proofs.MessageExistence.{parse_exists}
-use Rattle.h1_model.proofs.PastLemmas.{Legal, legal_of, past_of_unique}
+use Rattle.h1_model.proofs.PastLemmas.{Legal, legal_of, past_of_unique, allowed_behind}
 use Rattle.h1_machine.specs.Kept.{Kept, fresh}
 use Rattle.h1_machine.specs.Local.{closing_by, allowed_by}
 use Rattle.h1_machine.specs.Change.{IsStep}
@@ -39,10 +39,43 @@ pub closing_stands : (setting : Setting) (past : List ParsedStep) (trace : List 
     → closing_by setting (kept_of setting past) ≡ closing setting past
 closing_stands setting past trace x y = closing_of setting past (legal_of setting trace past x y)
 
+-- so does what stands for a trace
+pub closing_of_trace : (setting : Setting) (k : Kept) (trace : List Step) (past : List ParsedStep) → StandsFor setting k trace
+    → IsPastOf setting trace past → closing_by setting k ≡ closing setting past
+closing_of_trace setting k trace past x y =
+    ap (closing_by setting) x.parts ∙ closing_stands setting x.past trace x.traced x.of_trace
+    ∙ ap (closing setting) (past_of_unique setting trace x.past past x.of_trace y)
+
 -- and what is allowed
 pub allowed_stands : (setting : Setting) (past : List ParsedStep) (trace : List Step) (event : Event) → IsTrace setting trace → IsPastOf setting trace past
     → allowed_by setting (kept_of setting past) event ≡ is_allowed setting past event
 allowed_stands setting past trace event x y = allowed_of setting past event (legal_of setting trace past x y)
+
+-- the same of what stands for a trace
+allowed_here : (setting : Setting) (k : Kept) (trace : List Step) (event : Event) (x : StandsFor setting k trace)
+    → allowed_by setting k event ≡ is_allowed setting x.past event
+allowed_here setting k trace event x =
+    ap (λ (k : Kept). allowed_by setting k event) x.parts ∙ allowed_stands setting x.past trace event x.traced x.of_trace
+
+-- what it says is allowed is just what is allowed behind the trace
+pub allowed_of_trace : (setting : Setting) (k : Kept) (trace : List Step) (event : Event) → StandsFor setting k trace
+    → IsTrue (allowed_by setting k event) ↔ IsAllowed setting trace event
+allowed_of_trace setting k trace event x =
+    let same = allowed_here setting k trace event x in
+    (λ is. (x.past, x.of_trace, subst IsTrue same is), λ a. subst IsTrue (sym same) (allowed_behind setting trace event x.past a x.of_trace))
+
+-- an event isn't allowed behind the past of a trace behind which it isn't
+misplaced_behind : (setting : Setting) (trace : List Step) (event : Event) (past : List ParsedStep) → IsMisplaced setting trace event
+    → IsPastOf setting trace past → IsFalse (is_allowed setting past event)
+misplaced_behind setting trace event past a y =
+    subst (λ (p : List ParsedStep). IsFalse (is_allowed setting p event)) (past_of_unique setting trace a.0 past a.1 y) a.2
+
+-- and what it says isn't is just what isn't
+pub misplaced_of_trace : (setting : Setting) (k : Kept) (trace : List Step) (event : Event) → StandsFor setting k trace
+    → IsFalse (allowed_by setting k event) ↔ IsMisplaced setting trace event
+misplaced_of_trace setting k trace event x =
+    let same = allowed_here setting k trace event x in
+    (λ is. (x.past, x.of_trace, subst IsFalse same is), λ a. subst IsFalse (sym same) (misplaced_behind setting trace event x.past a x.of_trace))
 
 -- ---- a step of the table
 
@@ -64,6 +97,25 @@ table_steps setting s before p (m ∷ after) t x y =
 
 -- ---- a step of a state
 
+-- The table's step behind a legal past: the last step of a longer past.
+record LastStep (setting : Setting) (past : List ParsedStep) (event : Event) : Type 0 where
+  pub allowed : IsTrue (is_allowed setting past event)
+  pub last : ParsedStep
+  pub step_is : last.step ≡ record { event = event; outcome = outcome_of setting past event }
+  pub legal : Legal setting (last ∷ past)
+  pub steps : IsStep setting (kept_of setting past) event (outcome_of setting past event) (kept_of setting (last ∷ past))
+
+-- an allowed event has one
+last_step : (setting : Setting) (past : List ParsedStep) (event : Event) → Legal setting past
+    → IsTrue (allowed_by setting (kept_of setting past) event) → LastStep setting past event
+last_step setting past event l allowed =
+    let ok : IsTrue (is_allowed setting past event) = subst IsTrue (allowed_of setting past event l) allowed in
+    let s : Step = record { event = event; outcome = outcome_of setting past event } in
+    let parse = parse_exists (input_of setting (s ∷ steps past)) in
+    let y : ParsedStep = record { step = s; parse = parse.0 } in
+    let longer : Legal setting (y ∷ past) = (parse.1, ok, refl, l) in
+    record { allowed = ok; last = y; step_is = refl; legal = longer; steps = table_step setting past y longer }
+
 -- The step that the table says, behind the past of a trace: the outcome and the state of each step are its own.
 record TableStep (setting : Setting) (past : List ParsedStep) (event : Event) (o : Outcome) (next : Kept) : Type 0 where
   pub allowed : IsTrue (is_allowed setting past event)
@@ -78,19 +130,14 @@ table_step_of : (setting : Setting) (past : List ParsedStep) (event : Event) (o 
     → IsTrue (allowed_by setting (kept_of setting past) event)
     → IsStep setting (kept_of setting past) event o next → TableStep setting past event o next
 table_step_of setting past event o next l allowed x =
-    let ok : IsTrue (is_allowed setting past event) = subst IsTrue (allowed_of setting past event l) allowed in
-    let s : Step = record { event = event; outcome = outcome_of setting past event } in
-    let parse = parse_exists (input_of setting (s ∷ steps past)) in
-    let y : ParsedStep = record { step = s; parse = parse.0 } in
-    let longer : Legal setting (y ∷ past) = (parse.1, ok, refl, l) in
-    let table = table_step setting past y longer in
+    let t = last_step setting past event l allowed in
     record {
-      allowed = ok;
-      outcome = outcome_one setting (kept_of setting past) event o s.outcome next (kept_of setting (y ∷ past)) x table;
-      last = y;
-      step_is = refl;
-      legal = longer;
-      state = state_one setting (kept_of setting past) event o s.outcome next (kept_of setting (y ∷ past)) x table;
+      allowed = t.allowed;
+      outcome = outcome_one setting (kept_of setting past) event o (outcome_of setting past event) next (kept_of setting (t.last ∷ past)) x t.steps;
+      last = t.last;
+      step_is = t.step_is;
+      legal = t.legal;
+      state = state_one setting (kept_of setting past) event o (outcome_of setting past event) next (kept_of setting (t.last ∷ past)) x t.steps;
     }
 
 -- the same of a state that stands for a trace
@@ -99,6 +146,16 @@ stands_step : (setting : Setting) (k next : Kept) (trace : List Step) (event : E
 stands_step setting k next trace event o x allowed step =
     table_step_of setting x.past event o next (legal_of setting trace x.past x.traced x.of_trace)
     (subst (λ (k : Kept). IsTrue (allowed_by setting k event)) x.parts allowed) (subst (λ (k : Kept). IsStep setting k event o next) x.parts step)
+
+-- each allowed event has a step
+pub a_step_is_there : (setting : Setting) (k : Kept) (trace : List Step) (event : Event) → StandsFor setting k trace
+    → IsTrue (allowed_by setting k event) → (outcome : Outcome) × (next : Kept) × IsStep setting k event outcome next
+a_step_is_there setting k trace event x allowed =
+    let t = last_step setting x.past event (legal_of setting trace x.past x.traced x.of_trace)
+    (subst (λ (k : Kept). IsTrue (allowed_by setting k event)) x.parts allowed) in
+    let outcome = outcome_of setting x.past event in
+    let next = kept_of setting (t.last ∷ x.past) in
+    (outcome, next, subst (λ (k : Kept). IsStep setting k event outcome next) (sym x.parts) t.steps)
 
 -- its outcome is the table's
 pub step_outcome : (setting : Setting) (k next : Kept) (trace : List Step) (event : Event) (o : Outcome) → StandsFor setting k trace

@@ -1,5 +1,11 @@
-use Rattle.h1_machine.proofs.Stands.{allowed_stands}
+use Rattle.h1_machine.proofs.Stands.{allowed_stands, allowed_of_trace, misplaced_of_trace}
 use Rattle.h1_machine.proofs.machine.allowed_stands.Goals as goal
 
-pub returns : goal.returns
-returns c = allowed_stands
+pub returns-clause-of_a_past : goal.returns-clause-of_a_past
+returns-clause-of_a_past c = allowed_stands
+
+pub returns-clause-allowed : goal.returns-clause-allowed
+returns-clause-allowed c = allowed_of_trace
+
+pub returns-clause-misplaced : goal.returns-clause-misplaced
+returns-clause-misplaced c = misplaced_of_trace
