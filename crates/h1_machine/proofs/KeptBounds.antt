@@ -1,5 +1,5 @@
 -- What a connection keeps of the bytes that came is bounded.
-use Rattle.std.proofs.Common.{◌≡◌, ℕ, ◌≤◌, Bool, true, false, cond, List, [], length, drop, Option, Some, None, refl, sym, ap, ◌∙◌, subst, arith, length-drop}
+use Rattle.std.proofs.Common.{◌≡◌, ℕ, ◌≤◌, Bool, true, false, cond, List, [], length, Option, Some, None, sym, ap, ◌∙◌, subst, arith, length-drop}
 use Rattle.std.specs.Prelude.{◌+◌, ◌-◌, nat_le, ⊤}
 use Rattle.std.proofs.lemmas.Option.{none-some, same_Some}
 use Rattle.h1_chunks.specs.ChunkedText.{MAX_TRAILER_BYTES}
@@ -13,8 +13,8 @@ use Rattle.h1_model.specs.Sums.{Step, taken, accepted, request, is_complete}
 use Rattle.h1_model.specs.Past.{ParsedStep, steps, current, passed}
 use Rattle.h1_model.proofs.PastLemmas.{legal_of}
 use Rattle.h1_model.proofs.HeldLemmas.{bounded}
-use Rattle.h1_machine.specs.Kept.{Rest, no_rest, raw_rest, fixed_rest, chunks_rest, frames_rest, Exchange, Kept}
-use Rattle.h1_machine.specs.KeptOf.{is_passed, passed_bytes, fixed_left, chunks_left, raw_left, rest_of, exchange_of}
+use Rattle.h1_machine.specs.Kept.{Rest, no_rest, raw_rest, fixed_rest, chunks_rest, Exchange, Kept}
+use Rattle.h1_machine.specs.KeptOf.{is_passed, passed_bytes, raw_left, rest_of, exchange_of}
 use Rattle.h1_machine.specs.StandsFor.{StandsFor}
 
 -- ---- the bytes that are held
@@ -61,8 +61,8 @@ bounded_rest past m raw_body = bounded_raw (accepted (steps past))
     bounded_raw None = bounded_choice (is_passed (passed past) m) no_rest raw_rest tt tt
 
 -- what is left of the last request's
-bounded_exchange : (setting : Setting) (past : List ParsedStep) (m : Option Message) (h : Option Head) (x : Exchange) → exchange_of setting past m h ≡ Some x
-    → IsBounded x.rest
+bounded_exchange : (setting : Setting) (past : List ParsedStep) (m : Option Message) (h : Option Head) (x : Exchange)
+    → exchange_of setting past m h ≡ Some x → IsBounded x.rest
 bounded_exchange setting past (Some m) (Some h) x e =
     subst (λ (x : Exchange). IsBounded x.rest) (same_Some _ x e) (bounded_rest past m h.body)
 bounded_exchange setting past (Some m) None x e = absurd (none-some x e)
