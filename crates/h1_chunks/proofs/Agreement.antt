@@ -2,17 +2,16 @@
 use Rattle.std.proofs.Common.{◌≡◌, ℕ, ◌+◌, ◌-◌, eqb, List, [], ◌∷◌, ◌++◌, length, take, drop, refl, sym, ap, ◌∙◌, arith}
 use Rattle.std.proofs.lemmas.Bool.{cond_both}
 use Rattle.std.proofs.lemmas.List.{append-nil, take-take, take_all, drop-take, take-append-drop}
-use Rattle.h1_chunks.specs.ChunkedText.{Trailer, ChunkedText, section_text, chunked_text, content}
+use Rattle.h1_chunks.specs.ChunkedText.{Trailer, ChunkedText, section_text, content}
 use Rattle.h1_chunks.specs.Runs.{Run, segment_runs, cut_runs, run_bytes}
 use Rattle.h1_chunks.specs.Chunked.{Chunked, whole, unfinished, not_chunked, Spells, IsLongestBeginning, IsChunked}
 use Rattle.h1_chunks.specs.Place.{Place, in_bytes, bytes_end, in_section, broken, start, bytes_step, step, after}
 use Rattle.h1_chunks.specs.Reading.{goes_on, is_broken, has_ended, Reading, only, noted, read}
-use Rattle.h1_chunks.proofs.Complete.{text_read}
-use Rattle.h1_chunks.proofs.ReadAfter.{after-nil, after-cons, after-append, read-cons, read-broken, read-append, joined, ending_after}
+use Rattle.h1_chunks.proofs.ReadSteps.{has_next, read-cons, read_broken}
+use Rattle.h1_chunks.proofs.ReadAfter.{after-nil, after-cons, after-append, read-append, joined, ending_after}
 use Rattle.h1_chunks.proofs.RunPlaces.{runs_of}
-use Rattle.h1_chunks.proofs.RunsOfText.{runs_of-text}
 use Rattle.h1_chunks.proofs.RunBytes.{cut_bytes, body_is_walked}
-use Rattle.h1_chunks.proofs.Beginnings.{runs_of-body, begins_runs, begins_take_runs}
+use Rattle.h1_chunks.proofs.Beginnings.{front_read, body_read, runs_of-body, runs_of-whole, begins_runs, begins_take_runs}
 use Rattle.h1_chunks.proofs.Verdicts.{IsLive, live_end, begins_live, unfinished_after, next_breaks}
 
 -- ---- whole bodies
@@ -21,7 +20,7 @@ use Rattle.h1_chunks.proofs.Verdicts.{IsLive, live_end, begins_live, unfinished_
 pub read_whole : (bytes : List ℕ) (k : ℕ) (t : ChunkedText) → Spells (take k bytes) t
     → read start bytes ≡ record { body = content t; trailers = section_text t.trailers; ending = has_ended (drop k bytes) }
 read_whole bytes k t x =
-    ap (read start) (sym (take-append-drop k bytes) ∙ ap (λ l. l ++ drop k bytes) x.1) ∙ text_read t (drop k bytes) x.0
+    ap (read start) (sym (take-append-drop k bytes)) ∙ front_read (take k bytes) (drop k bytes) t x
 
 -- a whole body's end and trailers
 pub whole_read : (bytes : List ℕ) (k : ℕ) (trailers : List Trailer) (runs : List Run) → IsChunked bytes (whole k trailers) runs
@@ -34,15 +33,12 @@ whole_read bytes k trailers runs x =
 pub runs_hold : (bytes : List ℕ) (t : ChunkedText) → Spells bytes t → run_bytes bytes (segment_runs 0 t.segments) ≡ content t
 runs_hold bytes t x =
     ap (run_bytes bytes) (sym (runs_of-body bytes t x)) ∙ sym (body_is_walked bytes)
-    ∙ ap (λ l. (read start l).body) (x.1 ∙ sym (append-nil (chunked_text t))) ∙ ap (λ (r : Reading). r.body) (text_read t [] x.0)
+    ∙ ap (λ (r : Reading). r.body) (body_read bytes t x)
 
 -- its runs hold what is read as the body
 whole_bytes : (bytes : List ℕ) (k : ℕ) (t : ChunkedText) → Spells (take k bytes) t
     → (read start bytes).body ≡ run_bytes bytes (segment_runs 0 t.segments)
-whole_bytes bytes k t x =
-    body_is_walked bytes
-    ∙ ap (λ l. run_bytes bytes (runs_of 0 start l)) (sym (take-append-drop k bytes) ∙ ap (λ l. l ++ drop k bytes) x.1)
-    ∙ ap (run_bytes bytes) (runs_of-text t (drop k bytes) x.0)
+whole_bytes bytes k t x = body_is_walked bytes ∙ ap (run_bytes bytes) (runs_of-whole bytes k t x)
 
 -- ---- beginnings
 
@@ -79,9 +75,9 @@ read_breaks : (place : Place) (bytes : List ℕ) → IsLive place → after plac
 read_breaks place [] live e = absurd (live.not_broken (sym (after-nil place) ∙ e))
 read_breaks place (b ∷ bytes) live e =
     let breaks : step place b ≡ broken = sym (after-nil (step place b)) ∙ sym (after-cons place b []) ∙ e in
-    read-cons place b bytes live.not_done
+    read-cons place b bytes (has_next place live.not_done)
     ∙ noted_broken place (step place b) b (read (step place b) bytes) refl breaks
-    ∙ ap (λ p. read p bytes) breaks ∙ read-broken bytes
+    ∙ ap (λ p. read p bytes) breaks ∙ read_broken bytes
 
 -- the byte behind a front
 pub one_more : (bytes : List ℕ) (n : ℕ) → after (after start (take n bytes)) (take 1 (drop n bytes)) ≡ after start (take (n + 1) bytes)

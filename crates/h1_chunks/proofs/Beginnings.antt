@@ -1,11 +1,11 @@
 -- What the places say of bytes that are a body or begin one.
 use Rattle.std.proofs.Common.{◌≡◌, ℕ, ◌<◌, ◌≤◌, List, [], ◌++◌, length, take, drop, sym, ap, ◌∙◌, subst, arith}
 use Rattle.std.proofs.lemmas.List.{append_assoc, append-nil, length-append, length-drop, take-append-drop, take-take, length-take-le}
-use Rattle.h1_chunks.specs.ChunkedText.{ChunkedText, chunked_text}
+use Rattle.h1_chunks.specs.ChunkedText.{ChunkedText, section_text, content}
 use Rattle.h1_chunks.specs.Runs.{segment_runs, cut_runs}
 use Rattle.h1_chunks.specs.Chunked.{Spells, Begins}
 use Rattle.h1_chunks.specs.Place.{done, broken, start, after}
-use Rattle.h1_chunks.specs.Reading.{Reading}
+use Rattle.h1_chunks.specs.Reading.{has_ended, Reading, read}
 use Rattle.h1_chunks.proofs.Complete.{text_read}
 use Rattle.h1_chunks.proofs.ReadAfter.{after-append, after-broken, done_stops, done_from_ended}
 use Rattle.h1_chunks.proofs.RunPlaces.{runs_of}
@@ -14,15 +14,31 @@ use Rattle.h1_chunks.proofs.Cuts.{cut_runs_front}
 
 -- ---- whole bodies
 
--- the bytes of a whole body lead behind it
-pub after-body : (bytes : List ℕ) (t : ChunkedText) → Spells bytes t → after start bytes ≡ done
-after-body bytes t x =
-    ap (after start) (x.1 ∙ sym (append-nil (chunked_text t)))
-    ∙ done_from_ended start (chunked_text t ++ []) (ap (λ (r : Reading). r.ending) (text_read t [] x.0))
+-- what is read of a whole body and of what follows it
+pub front_read : (bytes rest : List ℕ) (t : ChunkedText) → Spells bytes t
+    → read start (bytes ++ rest) ≡ record { body = content t; trailers = section_text t.trailers; ending = has_ended rest }
+front_read bytes rest t x = ap (λ l. read start (l ++ rest)) x.1 ∙ text_read t rest x.0
 
--- the walk finds its runs
+-- what is read of it alone
+pub body_read : (bytes : List ℕ) (t : ChunkedText) → Spells bytes t
+    → read start bytes ≡ record { body = content t; trailers = section_text t.trailers; ending = has_ended [] }
+body_read bytes t x = ap (read start) (sym (append-nil bytes)) ∙ front_read bytes [] t x
+
+-- its bytes lead behind it
+pub after-body : (bytes : List ℕ) (t : ChunkedText) → Spells bytes t → after start bytes ≡ done
+after-body bytes t x = done_from_ended start bytes (ap (λ (r : Reading). r.ending) (body_read bytes t x))
+
+-- the walk finds its runs, whatever follows
+runs_of-front : (bytes rest : List ℕ) (t : ChunkedText) → Spells bytes t → runs_of 0 start (bytes ++ rest) ≡ segment_runs 0 t.segments
+runs_of-front bytes rest t x = ap (λ l. runs_of 0 start (l ++ rest)) x.1 ∙ runs_of-text t rest x.0
+
+-- and in the body alone
 pub runs_of-body : (bytes : List ℕ) (t : ChunkedText) → Spells bytes t → runs_of 0 start bytes ≡ segment_runs 0 t.segments
-runs_of-body bytes t x = ap (runs_of 0 start) (x.1 ∙ sym (append-nil (chunked_text t))) ∙ runs_of-text t [] x.0
+runs_of-body bytes t x = ap (runs_of 0 start) (sym (append-nil bytes)) ∙ runs_of-front bytes [] t x
+
+-- the same where so many bytes are the body
+pub runs_of-whole : (bytes : List ℕ) (k : ℕ) (t : ChunkedText) → Spells (take k bytes) t → runs_of 0 start bytes ≡ segment_runs 0 t.segments
+runs_of-whole bytes k t x = ap (runs_of 0 start) (sym (take-append-drop k bytes)) ∙ runs_of-front (take k bytes) (drop k bytes) t x
 
 -- ---- beginnings
 

@@ -6,12 +6,13 @@ use Rattle.httparse.specs.Ascii.{crlf_bytes}
 use Rattle.h1_chunks.specs.ChunkedText.{Segment, IsSegment, segment_text, section_text, ChunkedText, chunked_text, IsChunkedText, content}
 use Rattle.h1_chunks.specs.Place.{in_bytes, bytes_end, bytes_cr, start, after_line}
 use Rattle.h1_chunks.specs.Reading.{has_ended, with_bytes, read}
-use Rattle.h1_chunks.proofs.ReadSteps.{read_body_byte, with_bytes-append}
-use Rattle.h1_chunks.proofs.SizeLines.{Leads, leads_on, leads_to, leads_size_line}
+use Rattle.h1_chunks.proofs.ReadSteps.{read_quiet, read_body_byte, with_bytes-append}
+use Rattle.h1_chunks.proofs.SizeLines.{size_line_read}
 use Rattle.h1_chunks.proofs.TrailerLines.{section_read}
 
 -- the bytes of a chunk
-pub bytes_read : (bytes : List ℕ) (more : ℕ) (rest : List ℕ) → length bytes ≡ more + 1 → read (in_bytes more) (bytes ++ rest) ≡ with_bytes bytes (read bytes_end rest)
+pub bytes_read : (bytes : List ℕ) (more : ℕ) (rest : List ℕ) → length bytes ≡ more + 1
+    → read (in_bytes more) (bytes ++ rest) ≡ with_bytes bytes (read bytes_end rest)
 bytes_read [] more rest sized = absurd (omega arith)
 bytes_read (b ∷ []) more rest sized =
     read_body_byte more b rest
@@ -22,8 +23,9 @@ bytes_read (b ∷ c ∷ bytes) more rest sized =
     ∙ ap (with_bytes (b ∷ [])) (bytes_read (c ∷ bytes) (more - 1) rest (omega arith))
 
 -- CR LF behind them
-leads_bytes_end : Leads bytes_end crlf_bytes start
-leads_bytes_end = leads_on bytes_end bytes_cr start 13 (10 ∷ []) tt refl (leads_to bytes_cr start 10 tt refl)
+bytes_end_read : (rest : List ℕ) → read bytes_end (crlf_bytes ++ rest) ≡ read start rest
+bytes_end_read rest =
+    read_quiet bytes_end bytes_cr 13 (10 ∷ rest) tt refl ∙ read_quiet bytes_cr start 10 rest tt refl
 
 -- a segment
 segment_read : (s : Segment) (rest : List ℕ) → IsSegment s → read start (segment_text s ++ rest) ≡ with_bytes s.bytes (read start rest)
@@ -34,13 +36,14 @@ segment_read s rest ok =
     let regrouped : segment_text s ++ rest ≡ s.line ++ behind = simp append_assoc in
     let enters : after_line size ≡ in_bytes (size - 1) = cond-false _ _ _ (ne_eqb size 0 (omega arith)) in
     ap (read start) regrouped
-    ∙ (leads_size_line s.line size ok.0).reads behind
+    ∙ size_line_read s.line size behind ok.0
     ∙ ap (λ p. read p behind) enters
     ∙ bytes_read s.bytes (size - 1) (crlf_bytes ++ rest) (omega arith)
-    ∙ ap (with_bytes s.bytes) (leads_bytes_end.reads rest)
+    ∙ ap (with_bytes s.bytes) (bytes_end_read rest)
 
 -- segments
-segments_read : (segments : List Segment) (rest : List ℕ) → AllByRecursion IsSegment segments → read start (flat_map segment_text segments ++ rest) ≡ with_bytes (flat_map (λ (s : Segment). s.bytes) segments) (read start rest)
+segments_read : (segments : List Segment) (rest : List ℕ) → AllByRecursion IsSegment segments
+    → read start (flat_map segment_text segments ++ rest) ≡ with_bytes (flat_map (λ (s : Segment). s.bytes) segments) (read start rest)
 segments_read [] rest ok = refl
 segments_read (s ∷ segments) rest ok =
     let behind = flat_map segment_text segments ++ rest in
@@ -50,12 +53,13 @@ segments_read (s ∷ segments) rest ok =
     ∙ with_bytes-append s.bytes (flat_map (λ (s : Segment). s.bytes) segments) (read start rest)
 
 -- the text of a body is read as its bytes, its trailers and its end
-pub text_read : (t : ChunkedText) (rest : List ℕ) → IsChunkedText t → read start (chunked_text t ++ rest) ≡ record { body = content t; trailers = section_text t.trailers; ending = has_ended rest }
+pub text_read : (t : ChunkedText) (rest : List ℕ) → IsChunkedText t
+    → read start (chunked_text t ++ rest) ≡ record { body = content t; trailers = section_text t.trailers; ending = has_ended rest }
 text_read t rest ok =
     let behind = section_text t.trailers ++ (crlf_bytes ++ rest) in
     let regrouped : chunked_text t ++ rest ≡ flat_map segment_text t.segments ++ (t.last ++ behind) = simp append_assoc in
     ap (read start) regrouped
     ∙ segments_read t.segments (t.last ++ behind) ok.segments
-    ∙ ap (with_bytes (content t)) ((leads_size_line t.last 0 ok.last).reads behind ∙ section_read t.trailers rest ok.trailers ok.lines ok.room)
+    ∙ ap (with_bytes (content t)) (size_line_read t.last 0 behind ok.last ∙ section_read t.trailers rest ok.trailers ok.lines ok.room)
     ∙ ap₂ (λ (b s : List ℕ). record { body = b; trailers = s; ending = has_ended rest }) (append-nil (content t))
     (append-nil (section_text t.trailers))

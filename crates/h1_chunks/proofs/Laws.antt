@@ -1,17 +1,16 @@
 -- The laws of bodies in chunks: bytes stand to them in one way, and the bytes that follow only add to it.
-use Rattle.std.proofs.Common.{◌≡◌, ℕ, ◌<◌, ◌≤◌, List, [], ◌++◌, length, take, refl, sym, ap, ◌∙◌, subst, arith, inl, inr}
+use Rattle.std.proofs.Common.{◌≡◌, ℕ, ◌<◌, ◌≤◌, List, ◌++◌, length, take, refl, sym, ap, ◌∙◌, subst, arith, inl, inr}
 use Rattle.std.proofs.lemmas.List.{take-append-le, take-take, take_all, take_at, length-take, length-append, append-nil, nil_from_length}
 use Rattle.std.proofs.lemmas.Bool.{cases_lt, cases_order}
-use Rattle.h1_chunks.specs.ChunkedText.{Trailer, ChunkedText, section_text, chunked_text}
+use Rattle.h1_chunks.specs.ChunkedText.{Trailer, ChunkedText}
 use Rattle.h1_chunks.specs.Runs.{Run, segment_runs, cut_runs}
 use Rattle.h1_chunks.specs.Chunked.{Chunked, whole, unfinished, not_chunked, Spells, Begins, IsLongestBeginning, IsChunked}
 use Rattle.h1_chunks.specs.Place.{start}
-use Rattle.h1_chunks.specs.Reading.{Reading, read}
-use Rattle.h1_chunks.proofs.Complete.{text_read}
+use Rattle.h1_chunks.specs.Reading.{Reading}
 use Rattle.h1_chunks.proofs.Trailers.{section_tells}
 use Rattle.h1_chunks.proofs.RunPlaces.{runs_of}
 use Rattle.h1_chunks.proofs.Cuts.{cut_runs-cut_runs}
-use Rattle.h1_chunks.proofs.Beginnings.{runs_of-body, begins_front, begins_take, whole_begins, longer_begins, spells_begins, whole_not_begun, begins_runs, begins_take_runs}
+use Rattle.h1_chunks.proofs.Beginnings.{body_read, runs_of-body, begins_front, begins_take, whole_begins, longer_begins, spells_begins, whole_not_begun, begins_runs, begins_take_runs}
 
 -- ---- one way
 
@@ -24,15 +23,11 @@ same_end bytes j k t u j_in k_in x y = elim (cases_order j k) [
   | inr (inr less) ↦ absurd (whole_not_begun (take k bytes) u t y (whole_begins k j bytes t less j_in x))
 ]
 
--- the trailers of a whole body are what is read of its bytes
-trailers_read : (bytes : List ℕ) (t : ChunkedText) → Spells bytes t → (read start bytes).trailers ≡ section_text t.trailers
-trailers_read bytes t x =
-    ap (λ l. (read start l).trailers) (x.1 ∙ sym (append-nil (chunked_text t))) ∙ ap (λ (r : Reading). r.trailers) (text_read t [] x.0)
-
--- so two bodies of the same bytes have the same ones
+-- two bodies of the same bytes have the same trailers, as these are read of them
 same_trailers : (bytes : List ℕ) (t u : ChunkedText) → Spells bytes t → Spells bytes u → t.trailers ≡ u.trailers
 same_trailers bytes t u x y =
-    section_tells t.trailers u.trailers x.0.trailers y.0.trailers (sym (trailers_read bytes t x) ∙ trailers_read bytes u y)
+    section_tells t.trailers u.trailers x.0.trailers y.0.trailers
+    (ap (λ (r : Reading). r.trailers) (sym (body_read bytes t x) ∙ body_read bytes u y))
 
 -- two longest beginnings are of one length
 same_front : (bytes : List ℕ) (j k : ℕ) (t u : ChunkedText) → IsLongestBeginning bytes j t → IsLongestBeginning bytes k u → j ≡ k

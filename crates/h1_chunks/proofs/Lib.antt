@@ -1,7 +1,12 @@
+pub mod ReadSteps
+pub mod ReadAfter
+pub mod SizeLines
+pub mod TrailerLines
 pub mod Complete
+pub mod Broken
+pub mod Rests
 pub mod Sound
 pub mod Live
-pub mod ReadAfter
 pub mod Trailers
 pub mod RunPlaces
 pub mod RunsOfText
@@ -12,9 +17,6 @@ pub mod Laws
 pub mod RunBytes
 pub mod Agreement
 pub mod WalkedRuns
-pub mod ReadSteps
-pub mod SizeLines
-pub mod TrailerLines
-pub mod Rests
-pub mod Broken
 pub mod TakenReads
+pub mod ToldByPlaces
+pub mod LongLines

@@ -2,6 +2,7 @@
 use Rattle.std.proofs.Common.{◌≡◌, ℕ, ◌<◌, List, [], ◌∷◌, ◌++◌, length, refl, sym, ap, ◌∙◌, arith}
 use Rattle.h1_chunks.specs.Place.{Place, in_bytes, in_section, done, broken, step, after}
 use Rattle.h1_chunks.specs.Reading.{Ending, is_broken, has_ended, Reading, only, noted, at_end, read}
+use Rattle.h1_chunks.proofs.ReadSteps.{HasNext, read-nil, read-cons, read_done, read_broken, ending-noted, ending-cons}
 
 -- ---- places
 
@@ -34,46 +35,11 @@ done_stops [] some = absurd (omega arith)
 done_stops (b ∷ bytes) some = after-broken bytes
 
 -- a place from which bytes lead anywhere but to what is broken isn't behind a body
-pub not_done_before : (place : Place) (b : ℕ) (bytes : List ℕ) → (after place (b ∷ bytes) ≡ broken → ⊥) → place ≡ done → ⊥
-not_done_before place b bytes unbroken e =
-    unbroken (ap (λ p. after p (b ∷ bytes)) e ∙ done_stops (b ∷ bytes) (omega arith))
+next_before : (place : Place) (b : ℕ) (bytes : List ℕ) → (after place (b ∷ bytes) ≡ broken → ⊥) → HasNext place
+next_before done b bytes unbroken = absurd (unbroken (done_stops (b ∷ bytes) (omega arith)))
+next_before place b bytes unbroken = tt
 
 -- ---- readings
-
--- no byte
-pub read-nil : (place : Place) → read place [] ≡ only (at_end place)
-unfolding read
-read-nil place = refl
-
--- one more byte in front, unless the body has ended
-pub read-cons : (place : Place) (b : ℕ) (bytes : List ℕ) → (place ≡ done → ⊥)
-    → read place (b ∷ bytes) ≡ noted place (step place b) b (read (step place b) bytes)
-unfolding read
-read-cons done b bytes unended = absurd (unended refl)
-read-cons place b bytes unended = refl
-
--- behind a whole body, nothing is read
-pub read-done : (bytes : List ℕ) → read done bytes ≡ only (has_ended bytes)
-unfolding read
-read-done [] = refl
-read-done (b ∷ bytes) = refl
-
--- nor behind what is broken
-pub read-broken : (bytes : List ℕ) → read broken bytes ≡ only is_broken
-unfolding read
-read-broken [] = refl
-read-broken (b ∷ bytes) = read-broken bytes
-
--- a noted byte doesn't change how the reading ends
-pub noted_ending : (place next : Place) (b : ℕ) (r : Reading) → (noted place next b r).ending ≡ r.ending
-noted_ending (in_bytes more) next b r = refl
-noted_ending (in_section at lines room) (in_section at' lines' room') b r = refl
-noted_ending place next b r = refl
-
--- one more byte in front doesn't change how the reading ends
-pub ending-cons : (place : Place) (b : ℕ) (bytes : List ℕ) → (place ≡ done → ⊥) → (read place (b ∷ bytes)).ending ≡ (read (step place b) bytes).ending
-ending-cons place b bytes unended =
-    ap (λ (r : Reading). r.ending) (read-cons place b bytes unended) ∙ noted_ending place (step place b) b (read (step place b) bytes)
 
 -- a reading and another behind it
 abbrev pub joined : Reading → Reading → Reading
@@ -91,19 +57,19 @@ pub read-append : (place : Place) (xs ys : List ℕ) → (after place xs ≡ bro
 unfolding after
 read-append place [] ys unbroken = ap (λ r. joined r (read place ys)) (sym (read-nil place))
 read-append place (x ∷ xs) ys unbroken =
-    let unended = not_done_before place x xs unbroken in
+    let next_place = next_before place x xs unbroken in
     let next = step place x in
-    read-cons place x (xs ++ ys) unended
+    read-cons place x (xs ++ ys) next_place
     ∙ ap (noted place next x) (read-append next xs ys unbroken)
     ∙ noted-joined place next x (read next xs) (read (after next xs) ys)
-    ∙ ap (λ r. joined r (read (after next xs) ys)) (sym (read-cons place x xs unended))
+    ∙ ap (λ r. joined r (read (after next xs) ys)) (sym (read-cons place x xs next_place))
 
 -- how a reading ends is told by the place behind its bytes, unless that is broken
 pub ending_after : (place : Place) (bytes : List ℕ) → (after place bytes ≡ broken → ⊥) → (read place bytes).ending ≡ at_end (after place bytes)
 unfolding after
 ending_after place [] unbroken = ap (λ (r : Reading). r.ending) (read-nil place)
 ending_after place (b ∷ bytes) unbroken =
-    ending-cons place b bytes (not_done_before place b bytes unbroken) ∙ ending_after (step place b) bytes unbroken
+    ending-cons place b bytes (next_before place b bytes unbroken) ∙ ending_after (step place b) bytes unbroken
 
 -- only behind a whole body it has ended
 ended_place : (place : Place) → at_end place ≡ has_ended [] → place ≡ done
@@ -121,7 +87,7 @@ unfolding after read
 done_from_ended place [] e = ended_place place e
 done_from_ended done (b ∷ bytes) e = cc
 done_from_ended place (b ∷ bytes) e =
-    done_from_ended (step place b) bytes (sym (noted_ending place (step place b) b (read (step place b) bytes)) ∙ e)
+    done_from_ended (step place b) bytes (sym (ending-noted place (step place b) b (read (step place b) bytes)) ∙ e)
 
 -- where a reading is broken, the place behind its bytes is
 pub broken_from_ending : (place : Place) (bytes : List ℕ) → (read place bytes).ending ≡ is_broken → after place bytes ≡ broken
@@ -129,18 +95,18 @@ unfolding after read
 broken_from_ending place [] e = broken_place place e
 broken_from_ending done (b ∷ bytes) e = cc
 broken_from_ending place (b ∷ bytes) e =
-    broken_from_ending (step place b) bytes (sym (noted_ending place (step place b) b (read (step place b) bytes)) ∙ e)
+    broken_from_ending (step place b) bytes (sym (ending-noted place (step place b) b (read (step place b) bytes)) ∙ e)
 
 -- and nothing that follows changes it
 pub broken_reading_stays : (place : Place) (xs ys : List ℕ) → (read place xs).ending ≡ is_broken → read place (xs ++ ys) ≡ read place xs
 unfolding read
 broken_reading_stays place [] ys e =
     let same = broken_place place e in
-    ap (λ p. read p ys) same ∙ read-broken ys ∙ sym (ap (λ p. only (at_end p)) same)
+    ap (λ p. read p ys) same ∙ read_broken ys ∙ sym (ap (λ p. only (at_end p)) same)
 broken_reading_stays done (b ∷ xs) ys e = cc
 broken_reading_stays place (b ∷ xs) ys e =
     ap (noted place (step place b) b)
-    (broken_reading_stays (step place b) xs ys (sym (noted_ending place (step place b) b (read (step place b) xs)) ∙ e))
+    (broken_reading_stays (step place b) xs ys (sym (ending-noted place (step place b) b (read (step place b) xs)) ∙ e))
 
 -- an ending in place of another is noted alike
 noted-ending : (place next : Place) (b : ℕ) (r : Reading) (ending : Ending)
@@ -155,7 +121,7 @@ pub ended_reading_stays : (place : Place) (xs ys rest : List ℕ) → (read plac
 unfolding read
 ended_reading_stays done [] ys rest e =
     let none : [] ≡ rest = cc in
-    read-done ys ∙ ap (λ l. only (has_ended (l ++ ys))) none
+    read_done ys ∙ ap (λ l. only (has_ended (l ++ ys))) none
 ended_reading_stays place [] ys rest e = cc
 ended_reading_stays done (b ∷ xs) ys rest e =
     let same : b ∷ xs ≡ rest = cc in
@@ -163,5 +129,5 @@ ended_reading_stays done (b ∷ xs) ys rest e =
 ended_reading_stays place (b ∷ xs) ys rest e =
     let next = step place b in
     ap (noted place next b)
-    (ended_reading_stays next xs ys rest (sym (noted_ending place next b (read next xs)) ∙ e))
+    (ended_reading_stays next xs ys rest (sym (ending-noted place next b (read next xs)) ∙ e))
     ∙ noted-ending place next b (read next xs) (has_ended (rest ++ ys))

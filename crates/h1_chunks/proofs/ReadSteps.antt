@@ -9,6 +9,11 @@ abbrev pub HasNext : Place → Type 0
 HasNext done = ⊥
 HasNext place = ⊤
 
+-- each other place has a next one
+pub has_next : (p : Place) → (p ≡ done → ⊥) → HasNext p
+has_next done other = absurd (other refl)
+has_next p other = tt
+
 -- a byte here is no part of the body or its trailers
 abbrev pub IsQuiet : Place → Type 0
 IsQuiet (in_bytes more) = ⊥
@@ -41,7 +46,9 @@ unfolding read
 read_body_byte more b bytes = refl
 
 -- a byte of a trailer line
-pub read_line_byte : (at to : InLine) (lines room lines' room' b : ℕ) (bytes : List ℕ) → section_step at lines room b ≡ in_section to lines' room' → read (in_section at lines room) (b ∷ bytes) ≡ with_trailers (b ∷ []) (read (in_section to lines' room') bytes)
+pub read_line_byte : (at to : InLine) (lines room lines' room' b : ℕ) (bytes : List ℕ)
+    → section_step at lines room b ≡ in_section to lines' room'
+    → read (in_section at lines room) (b ∷ bytes) ≡ with_trailers (b ∷ []) (read (in_section to lines' room') bytes)
 read_line_byte at to lines room lines' room' b bytes e =
     read-cons (in_section at lines room) b bytes tt ∙ ap (λ s. noted (in_section at lines room) s b (read s bytes)) e
 

@@ -53,7 +53,8 @@ abbrev pub TrailerForm : List ℕ → Type 0
 TrailerForm line = (t : Trailer) × IsTrailer t × (line ≡ trailer_text t)
 
 -- a byte in front of the rest of a trailer line
-pub line_from : (P Q : List ℕ → Type 0) (lines room b : ℕ) (text : List ℕ) → 0 < room → ((line : List ℕ) → P line → Q (b ∷ line)) → LineThen P lines (room - 1) text → LineThen Q lines room (b ∷ text)
+pub line_from : (P Q : List ℕ → Type 0) (lines room b : ℕ) (text : List ℕ) → 0 < room → ((line : List ℕ) → P line → Q (b ∷ line))
+    → LineThen P lines (room - 1) text → LineThen Q lines room (b ∷ text)
 line_from P Q lines room b text some grows r = record {
   line = b ∷ r.line;
   behind = r.behind;
@@ -162,7 +163,8 @@ pub record SizeThen (Form : List ℕ → Type 0) (size : ℕ) (text : List ℕ) 
   pub spelled : text ≡ line ++ behind
 
 -- a byte in front of the rest of a size line
-pub size_from : (P Q : List ℕ → Type 0) (size b : ℕ) (text : List ℕ) → ((line : List ℕ) → P line → Q (b ∷ line)) → SizeThen P size text → SizeThen Q size (b ∷ text)
+pub size_from : (P Q : List ℕ → Type 0) (size b : ℕ) (text : List ℕ) → ((line : List ℕ) → P line → Q (b ∷ line)) → SizeThen P size text
+    → SizeThen Q size (b ∷ text)
 size_from P Q size b text grows r = record {
   line = b ∷ r.line;
   behind = r.behind;
@@ -220,7 +222,8 @@ line_end_from b line is lf = record {
 }
 
 -- a digit in front
-pub digit_from : (so_far size b : ℕ) (line : List ℕ) → digit_value b < 16 → so_far * 16 + digit_value b < 2 ^ 64 → DigitForm (so_far * 16 + digit_value b) size line → DigitForm so_far size (b ∷ line)
+pub digit_from : (so_far size b : ℕ) (line : List ℕ) → digit_value b < 16 → so_far * 16 + digit_value b < 2 ^ 64
+    → DigitForm (so_far * 16 + digit_value b) size line → DigitForm so_far size (b ∷ line)
 digit_from so_far size b line digit small f = record {
   digits = b ∷ f.digits;
   behind = f.behind;

@@ -185,7 +185,9 @@ module _ (b : ℕ) (text : List ℕ) where
   }
 
   -- a kept byte in front of the rest of its line
-  back_kept : (to : InLine) (P Q : List ℕ → Type 0) (lines room : ℕ) → From (in_section to lines (room - 1)) (LineThen P lines (room - 1) text) → ((line : List ℕ) → P line → Q (b ∷ line)) → From (kept to lines room) (LineThen Q lines room (b ∷ text))
+  back_kept : (to : InLine) (P Q : List ℕ → Type 0) (lines room : ℕ)
+      → From (in_section to lines (room - 1)) (LineThen P lines (room - 1) text) → ((line : List ℕ) → P line → Q (b ∷ line))
+      → From (kept to lines room) (LineThen Q lines room (b ∷ text))
   back_kept to P Q lines room is grows =
       was_kept to lines room (LineThen Q lines room (b ∷ text)) (λ fits r. line_from P Q lines room b text (omega arith) grows (is r))
 
@@ -201,23 +203,27 @@ module _ (b : ℕ) (text : List ℕ) where
       let line = back_kept in_name NameForm TrailerForm lines room (λ r. r) (λ line. trailer_from line parts.1) h in
       section_from lines room (b ∷ text) (ltb-true 0 lines parts.0) line))
 
+  -- in a name or a value: one byte ends it, and others go on in it
+  back_part : (wanted : ℕ) (ok : Bool) (next here : InLine) (P Q : List ℕ → Type 0) (lines room : ℕ)
+      → From (in_section next lines (room - 1)) (LineThen P lines (room - 1) text)
+      → From (in_section here lines (room - 1)) (LineThen Q lines (room - 1) text)
+      → ((line : List ℕ) → b ≡ wanted → P line → Q (b ∷ line)) → ((line : List ℕ) → ok ≡ true → Q line → Q (b ∷ line))
+      → From (cond (eqb b wanted) (kept next lines room) (cond ok (kept here lines room) broken)) (LineThen Q lines room (b ∷ text))
+  back_part wanted ok next here P Q lines room is_next is_here ends goes_on =
+      let G = LineThen Q lines room (b ∷ text) in
+      split (eqb b wanted) (kept next lines room) (cond ok (kept here lines room) broken) G
+      (λ e. back_kept next P Q lines room is_next (λ line. ends line (eqb-true b wanted e)))
+      (λ _. passed ok (kept here lines room) G (λ e. back_kept here Q Q lines room is_here (λ line. goes_on line e)))
+
   -- in a name
   back_name : (lines room : ℕ) → From (section_step in_name lines room b) (LineThen NameForm lines room (b ∷ text))
   back_name lines room =
-      let G = LineThen NameForm lines room (b ∷ text) in
-      split (eqb b 58) (kept in_value lines room) (cond (is_token_byte b) (kept in_name lines room) broken) G
-      (λ e. back_kept in_value TextForm NameForm lines room (λ r. r) (λ line. colon_from line (eqb-true b 58 e)))
-      (λ _. passed (is_token_byte b) (kept in_name lines room) G
-      (λ e. back_kept in_name NameForm NameForm lines room (λ r. r) (λ line. name_from line e)))
+      back_part 58 (is_token_byte b) in_value in_name TextForm NameForm lines room (λ r. r) (λ r. r) colon_from name_from
 
   -- in a value
   back_value : (lines room : ℕ) → From (section_step in_value lines room b) (LineThen TextForm lines room (b ∷ text))
   back_value lines room =
-      let G = LineThen TextForm lines room (b ∷ text) in
-      split (eqb b 13) (kept line_cr lines room) (cond (is_value_byte b) (kept in_value lines room) broken) G
-      (λ e. back_kept line_cr EndForm TextForm lines room (λ r. r) (λ line. text_ends line (eqb-true b 13 e)))
-      (λ _. passed (is_value_byte b) (kept in_value lines room) G
-      (λ e. back_kept in_value TextForm TextForm lines room (λ r. r) (λ line. text_from line e)))
+      back_part 13 (is_value_byte b) line_cr in_value EndForm TextForm lines room (λ r. r) (λ r. r) text_ends text_from
 
   -- the LF of a trailer line
   back_line_cr : (lines room : ℕ) → From (section_step line_cr lines room b) (LineThen EndForm lines room (b ∷ text))
@@ -299,7 +305,8 @@ ends_from (b ∷ bytes) p rest e =
     more_ends p b bytes rest (ends_from bytes (step p b) rest (sym (ending-cons p b bytes tt) ∙ e))
 
 -- what is read up to an end is the text of a body
-pub ended_is_text : (bytes rest : List ℕ) → (read start bytes).ending ≡ has_ended rest → (t : ChunkedText) × IsChunkedText t × (bytes ≡ chunked_text t ++ rest)
+pub ended_is_text : (bytes rest : List ℕ) → (read start bytes).ending ≡ has_ended rest
+    → (t : ChunkedText) × IsChunkedText t × (bytes ≡ chunked_text t ++ rest)
 ended_is_text bytes rest e =
     let r = ends_from bytes start rest e in
     let body = start_ends r.text r.ends in

@@ -8,7 +8,8 @@ use Rattle.h1_chunks.proofs.ReadSteps.{read-cons, read_quiet, read_body_byte, re
 use Rattle.h1_chunks.proofs.Complete.{bytes_read}
 
 -- bytes of a chunk that goes on behind them
-bytes_go_on : (bytes : List ℕ) (more : ℕ) (z : List ℕ) → length bytes ≤ more → read (in_bytes more) (bytes ++ z) ≡ with_bytes bytes (read (in_bytes (more - length bytes)) z)
+bytes_go_on : (bytes : List ℕ) (more : ℕ) (z : List ℕ) → length bytes ≤ more
+    → read (in_bytes more) (bytes ++ z) ≡ with_bytes bytes (read (in_bytes (more - length bytes)) z)
 bytes_go_on [] more z within =
     let same : more ≡ more - 0 = omega arith in
     ap (λ n. read (in_bytes n) z) same
@@ -20,7 +21,8 @@ bytes_go_on (b ∷ bytes) more z within =
     ∙ ap (λ n. with_bytes (b ∷ bytes) (read (in_bytes n) z)) same
 
 -- all bytes of a chunk, and what follows them
-bytes_all : (bytes : List ℕ) (more : ℕ) (z : List ℕ) → more < length bytes → read (in_bytes more) (bytes ++ z) ≡ with_bytes (take (more + 1) bytes) (read bytes_end (drop (more + 1) bytes ++ z))
+bytes_all : (bytes : List ℕ) (more : ℕ) (z : List ℕ) → more < length bytes
+    → read (in_bytes more) (bytes ++ z) ≡ with_bytes (take (more + 1) bytes) (read bytes_end (drop (more + 1) bytes ++ z))
 bytes_all bytes more z within =
     let front = take (more + 1) bytes in
     let behind = drop (more + 1) bytes in
@@ -44,7 +46,8 @@ abbrev taken_reading : Taken → List ℕ → Reading
 taken_reading t z = with_trailers t.trailers (says t.next z)
 
 -- a byte of a trailer section in front
-line_reads : (at : InLine) (lines room : ℕ) (q : Place) (b : ℕ) (r : Reading) (t : Taken) (z : List ℕ) → r ≡ taken_reading t z → noted (in_section at lines room) q b r ≡ taken_reading (noted_line (in_section at lines room) q b t) z
+line_reads : (at : InLine) (lines room : ℕ) (q : Place) (b : ℕ) (r : Reading) (t : Taken) (z : List ℕ) → r ≡ taken_reading t z
+    → noted (in_section at lines room) q b r ≡ taken_reading (noted_line (in_section at lines room) q b t) z
 line_reads at lines room (in_section at' lines' room') b r t z e = ap (with_trailers (b ∷ [])) e
 line_reads at lines room q b r t z e = e
 

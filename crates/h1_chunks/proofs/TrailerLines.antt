@@ -22,7 +22,8 @@ unfolding is_token_byte
 token_no_colon b ok = ne_eqb b 58 (λ e. false≢true (sym (ap is_token_byte e) ∙ ok))
 
 -- the first byte of a name
-step_first : (lines room b : ℕ) → is_token_byte b ≡ true → 0 < lines → 3 < room → section_step line_start lines room b ≡ in_section in_name lines (room - 1)
+step_first : (lines room b : ℕ) → is_token_byte b ≡ true → 0 < lines → 3 < room
+    → section_step line_start lines room b ≡ in_section in_name lines (room - 1)
 step_first lines room b ok some fits =
     cond-false _ _ _ (token_no_cr b ok) ∙ cond-true _ _ _ (and_from _ _ (lt-ltb 0 lines some) ok) ∙ cond-true _ _ _ (lt-ltb 3 room fits)
 
@@ -36,7 +37,7 @@ step_colon : (lines room : ℕ) → 2 < room → section_step in_name lines room
 step_colon lines room fits = cond-true _ _ _ (lt-ltb 2 room fits)
 
 -- a byte of a value
-step_value : (lines room b : ℕ) → is_value_byte b ≡ true → 2 < room → section_step in_value lines room b ≡ in_section in_value lines (room - 1)
+pub step_value : (lines room b : ℕ) → is_value_byte b ≡ true → 2 < room → section_step in_value lines room b ≡ in_section in_value lines (room - 1)
 step_value lines room b ok fits =
     cond-false _ _ _ (value_no_cr b ok) ∙ cond-true _ _ _ ok ∙ cond-true _ _ _ (lt-ltb 2 room fits)
 
@@ -59,7 +60,9 @@ keeps_none : (p : Place) → Keeps p [] p
 keeps_none p = record { reads = λ rest. refl }
 
 -- one more byte in front
-keeps_on : (at to : InLine) (lines room lines' room' b : ℕ) (text : List ℕ) (q : Place) → section_step at lines room b ≡ in_section to lines' room' → Keeps (in_section to lines' room') text q → Keeps (in_section at lines room) (b ∷ text) q
+keeps_on : (at to : InLine) (lines room lines' room' b : ℕ) (text : List ℕ) (q : Place)
+    → section_step at lines room b ≡ in_section to lines' room' → Keeps (in_section to lines' room') text q
+    → Keeps (in_section at lines room) (b ∷ text) q
 keeps_on at to lines room lines' room' b text q e k = record {
   reads = λ rest.
       read_line_byte at to lines room lines' room' b (text ++ rest) e ∙ ap (with_trailers (b ∷ [])) (k.reads rest);
@@ -84,7 +87,8 @@ abbrev between : ℕ → ℕ → Place
 between lines room = in_section line_start lines room
 
 -- a value and the end of its line
-keeps_value : (value : List ℕ) (lines room left : ℕ) → IsTrue (list_all is_value_byte value) → room ≡ length value + (left + 2) → Keeps (in_section in_value lines room) (value ++ crlf_bytes) (between (lines - 1) left)
+keeps_value : (value : List ℕ) (lines room left : ℕ) → IsTrue (list_all is_value_byte value) → room ≡ length value + (left + 2)
+    → Keeps (in_section in_value lines room) (value ++ crlf_bytes) (between (lines - 1) left)
 keeps_value [] lines room left ok fits =
     let behind = between (lines - 1) left in
     keeps_on in_value line_cr lines room lines (room - 1) 13 (10 ∷ []) behind (step_cr lines room (omega arith))
@@ -96,7 +100,9 @@ keeps_value (b ∷ value) lines room left ok fits =
     (keeps_value value lines (room - 1) left parts.1 (omega arith))
 
 -- the rest of a name, its colon, and the value
-keeps_name : (name value : List ℕ) (lines room left : ℕ) → IsTrue (list_all is_token_byte name) → IsTrue (list_all is_value_byte value) → room ≡ length name + (length value + (left + 3)) → Keeps (in_section in_name lines room) (line_text name value) (between (lines - 1) left)
+keeps_name : (name value : List ℕ) (lines room left : ℕ) → IsTrue (list_all is_token_byte name) → IsTrue (list_all is_value_byte value)
+    → room ≡ length name + (length value + (left + 3))
+    → Keeps (in_section in_name lines room) (line_text name value) (between (lines - 1) left)
 keeps_name [] value lines room left token ok fits =
     let behind = between (lines - 1) left in
     keeps_on in_name in_value lines room lines (room - 1) 58 (value ++ crlf_bytes) behind (step_colon lines room (omega arith))
@@ -109,7 +115,8 @@ keeps_name (b ∷ name) value lines room left token ok fits =
     (keeps_name name value lines (room - 1) left parts.1 ok (omega arith))
 
 -- a trailer line, by its name and value
-keeps_line : (name value : List ℕ) (lines room left : ℕ) → IsTrailer (record { name = name; value = value }) → 0 < lines → room ≡ length name + (length value + (left + 3)) → Keeps (between lines room) (line_text name value) (between (lines - 1) left)
+keeps_line : (name value : List ℕ) (lines room left : ℕ) → IsTrailer (record { name = name; value = value }) → 0 < lines
+    → room ≡ length name + (length value + (left + 3)) → Keeps (between lines room) (line_text name value) (between (lines - 1) left)
 keeps_line [] value lines room left ok some fits =
     let named = ok.0 in
     absurd (omega arith)
@@ -125,7 +132,9 @@ trailer_length : (t : Trailer) → length (trailer_text t) ≡ length t.name + (
 trailer_length t = simp length-append (omega arith)
 
 -- trailer lines
-keeps_lines : (trailers : List Trailer) (lines room left : ℕ) → AllByRecursion IsTrailer trailers → length trailers ≤ lines → room ≡ length (section_text trailers) + left → Keeps (between lines room) (section_text trailers) (between (lines - length trailers) left)
+keeps_lines : (trailers : List Trailer) (lines room left : ℕ) → AllByRecursion IsTrailer trailers → length trailers ≤ lines
+    → room ≡ length (section_text trailers) + left
+    → Keeps (between lines room) (section_text trailers) (between (lines - length trailers) left)
 keeps_lines [] lines room left ok few fits =
     let same : room ≡ left = omega arith in
     let all : lines ≡ lines - 0 = omega arith in
@@ -147,7 +156,9 @@ end_read lines room rest =
     read-cons (between lines room) 13 (10 ∷ rest) tt ∙ read_quiet end_cr done 10 rest tt refl ∙ read_done rest
 
 -- trailer lines within the limits, and the empty line
-pub section_read : (trailers : List Trailer) (rest : List ℕ) → AllByRecursion IsTrailer trailers → length trailers ≤ 64 → length (section_text trailers) ≤ 8192 → read section_start (section_text trailers ++ (crlf_bytes ++ rest)) ≡ with_trailers (section_text trailers) (only (has_ended rest))
+pub section_read : (trailers : List Trailer) (rest : List ℕ) → AllByRecursion IsTrailer trailers → length trailers ≤ 64
+    → length (section_text trailers) ≤ 8192
+    → read section_start (section_text trailers ++ (crlf_bytes ++ rest)) ≡ with_trailers (section_text trailers) (only (has_ended rest))
 section_read trailers rest ok few small =
     let left = 8192 - length (section_text trailers) in
     (keeps_lines trailers 64 8192 left ok few (omega arith)).reads (crlf_bytes ++ rest)

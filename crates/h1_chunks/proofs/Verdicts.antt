@@ -46,7 +46,8 @@ begins_from_live bytes live = open_begins bytes (ending_after start bytes live.n
 -- ---- from places to the grammar
 
 -- bytes behind which a body goes on are unfinished
-unfinished_from_live : (bytes : List ℕ) → IsLive (after start bytes) → IsChunked bytes unfinished (cut_runs (length bytes) (runs_of 0 start bytes))
+pub unfinished_from_live : (bytes : List ℕ) → IsLive (after start bytes)
+    → IsChunked bytes unfinished (cut_runs (length bytes) (runs_of 0 start bytes))
 unfinished_from_live bytes live =
     let t = begins_from_live bytes live in
     (t.0, t.1, sym (begins_runs bytes t.0 t.1))
@@ -104,7 +105,7 @@ no_whole front rest b k t u begun breaks x = elim (cases_lt (length front) k) [
 ]
 
 -- a byte that breaks a body that goes on
-not_chunked_from_broken : (front rest : List ℕ) (b : ℕ) → IsLive (after start front) → after start (front ++ b ∷ []) ≡ broken
+pub not_chunked_from_broken : (front rest : List ℕ) (b : ℕ) → IsLive (after start front) → after start (front ++ b ∷ []) ≡ broken
     → IsChunked (front ++ b ∷ rest) not_chunked (cut_runs (length front) (runs_of 0 start front))
 not_chunked_from_broken front rest b live breaks =
     let t = begins_from_live front live in (

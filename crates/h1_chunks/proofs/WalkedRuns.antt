@@ -10,9 +10,8 @@ use Rattle.h1_chunks.specs.Runs.{Run, segment_runs, cut_runs}
 use Rattle.h1_chunks.specs.Chunked.{Chunked, whole, unfinished, not_chunked, Spells, IsLongestBeginning, IsChunked}
 use Rattle.h1_chunks.specs.Place.{Place, in_bytes, bytes_end, broken, start, bytes_step, step, after}
 use Rattle.h1_chunks.proofs.RunPlaces.{runs_of, runs_of-append, runs_of_late}
-use Rattle.h1_chunks.proofs.RunsOfText.{runs_of-text}
 use Rattle.h1_chunks.proofs.RunBytes.{in_chunk, current, opened_is_current}
-use Rattle.h1_chunks.proofs.Beginnings.{runs_of-body, begins_runs, begins_take_runs}
+use Rattle.h1_chunks.proofs.Beginnings.{runs_of-body, runs_of-whole, begins_runs, begins_take_runs}
 use Rattle.h1_chunks.proofs.Verdicts.{IsLive, begins_live, next_breaks}
 use Rattle.h1_chunks.proofs.Agreement.{bytes_unbroken, one_more}
 
@@ -63,8 +62,7 @@ runs_walked bytes not_chunked runs x = x.4 ∙ begins_take_runs x.1 bytes x.0 (o
 pub whole_runs : (bytes : List ℕ) (k : ℕ) (trailers : List Trailer) (runs : List Run) → IsChunked bytes (whole k trailers) runs
     → (runs ≡ runs_of 0 start bytes) × (runs ≡ runs_of 0 start (take k bytes))
 whole_runs bytes k trailers runs x = (
-  x.4 ∙ sym (runs_of-text x.0 (drop k bytes) x.2.0)
-      ∙ ap (λ l. runs_of 0 start (l ++ drop k bytes)) (sym x.2.1) ∙ ap (runs_of 0 start) (take-append-drop k bytes),
+  x.4 ∙ sym (runs_of-whole bytes k x.0 x.2),
   x.4 ∙ sym (runs_of-body (take k bytes) x.0 x.2),
 )
 

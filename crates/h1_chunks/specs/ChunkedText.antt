@@ -1,5 +1,5 @@
 -- A body in chunks (RFC 7230, section 4.1): a tree, and its text.
-use Rattle.std.specs.Prelude.{◌≡◌, ℕ, ◌+◌, ◌^◌, ◌<◌, ◌≤◌, ◌⊎◌, List, [], ◌∷◌, ◌++◌, length, IsTrue, flat_map}
+use Rattle.std.specs.Prelude.{◌≡◌, ℕ, ◌^◌, ◌<◌, ◌≤◌, ◌⊎◌, List, [], ◌∷◌, ◌++◌, length, IsTrue, flat_map}
 use Rattle.std.specs.List.{list_all, AllByRecursion}
 use Rattle.std.specs.Str.Parse.{digits_value, AllDigits}
 use Rattle.httparse.specs.Grammar.{is_ows, is_value_byte, is_token_byte}

@@ -1,6 +1,6 @@
 -- The places that the reading of a body in chunks goes through, a byte at a time. A place is bounded: it
 -- holds no text.
-use Rattle.std.specs.Prelude.{ℕ, ◌+◌, ◌-◌, ◌*◌, ◌^◌, Bool, ◌&&◌, List, [], ◌∷◌, nat_lt, ◌==◌, if◌then◌else◌}
+use Rattle.std.specs.Prelude.{ℕ, ◌+◌, ◌-◌, ◌*◌, ◌^◌, ◌&&◌, List, [], ◌∷◌, nat_lt, ◌==◌, if◌then◌else◌}
 use Rattle.std.specs.Char.{digit_value}
 use Rattle.httparse.specs.Grammar.{is_ows, is_value_byte, is_token_byte}
 use Rattle.httparse.specs.Ascii.{line_feed, carriage_return, colon, semicolon}

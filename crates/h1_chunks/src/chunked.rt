@@ -18,7 +18,8 @@ pub fn every_text_is_read()
 
 /// Bytes that follow a whole body do not change it.
 pub fn whole_body_stays()
-    ensures { (bytes more : List ℕ) (k : ℕ) (trailers : List Trailer) (runs : List Run) → IsChunked bytes (whole k trailers) runs → IsChunked (bytes ++ more) (whole k trailers) runs }
+    ensures { (bytes more : List ℕ) (k : ℕ) (trailers : List Trailer) (runs : List Run) → IsChunked bytes (whole k trailers) runs
+        → IsChunked (bytes ++ more) (whole k trailers) runs }
 {}
 
 /// Bytes that begin no body stay so, whatever follows.
@@ -28,7 +29,8 @@ pub fn broken_body_stays()
 
 /// The runs of a beginning are those of any longer text, as far as the beginning reaches.
 pub fn runs_only_grow()
-    ensures { (bytes more : List ℕ) (a : Chunked) (runs runs' : List Run) → IsChunked bytes unfinished runs → IsChunked (bytes ++ more) a runs' → runs ≡ cut_runs (length bytes) runs' }
+    ensures { (bytes more : List ℕ) (a : Chunked) (runs runs' : List Run) → IsChunked bytes unfinished runs → IsChunked (bytes ++ more) a runs'
+        → runs ≡ cut_runs (length bytes) runs' }
 {}
 
 /// The places of a whole body's runs hold the bytes of its segments.

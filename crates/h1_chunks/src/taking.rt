@@ -7,5 +7,6 @@ ghost use Rattle.h1_chunks.specs.TakeNext.{take_next, says};
 
 /// Taking what comes next changes nothing of what is read.
 pub fn taking_is_reading()
-    ensures { (place : Place) (bytes z : List ℕ) → read place (bytes ++ z) ≡ with_trailers (take_next place bytes).trailers (says (take_next place bytes).next z) }
+    ensures { (place : Place) (bytes z : List ℕ)
+        → read place (bytes ++ z) ≡ with_trailers (take_next place bytes).trailers (says (take_next place bytes).next z) }
 {}

@@ -1,11 +1,11 @@
 -- What the model reads in the lines of a simple head: no body, a connection that stays, no wait for leave.
-use Rattle.std.proofs.Common.{◌≡◌, ℕ, Bool, true, false, ◌||◌, List, [], ◌∷◌, map, All, Some, None, refl, ap, ◌∙◌}
+use Rattle.std.proofs.Common.{◌≡◌, ℕ, Bool, true, false, ◌||◌, List, [], ◌∷◌, map, All, Some, None, refl, ap}
 use Rattle.std.specs.Prelude.{codes, bytes_eq, option_and_then, unwrap_or, nat_eq}
-use Rattle.std.specs.List.{list_any, last_or, starts_with}
+use Rattle.std.specs.List.{AllByRecursion, list_any, last_or, starts_with}
 use Rattle.std.proofs.lemmas.List.Elements.{All-nil, All-cons, All-head, All-tail}
 use Rattle.httparse.specs.Grammar.{Field}
 use Rattle.httparse.specs.Spans.{name_and_value}
-use Rattle.h1_model.specs.LengthTable.{values_of, says, is_chunked, stated_length, framed_body, body_kind, connection_of, expects_continue, named_type, default_type}
+use Rattle.h1_model.specs.LengthTable.{values_of, body_kind, connection_of, expects_continue, named_type, default_type}
 use Rattle.h1_model.specs.Request.{Header, no_body, keep_alive}
 use Rattle.h1_model.specs.RequestHead.{IsHeaderField, header_of}
 use Rattle.h1_decode.specs.SimpleHead.{is_special, Line, line_header, IsSimpleLine}
@@ -56,17 +56,7 @@ module _ (headers : List Header) (all : All IsPlain headers) where
   no_expect = values_of-plain _ (λ name plain. (plain_names name plain).4) headers all
 
   pub body_kind-plain : (method : List ℕ) → bytes_eq method (codes "CONNECT") ≡ false → body_kind 1 method headers ≡ Some no_body
-  body_kind-plain method no_tunnel =
-      ap (λ (codings : List (List ℕ)). option_and_then
-      (λ chunked. option_and_then
-      (framed_body 1 method (list_any (λ value. says value (codes "websocket")) (values_of (codes "upgrade") headers)) chunked)
-      (stated_length (values_of (codes "content-length") headers)))
-      (is_chunked 1 codings)) no_coding
-      ∙ ap (λ (lengths : List (List ℕ)). option_and_then
-      (framed_body 1 method (list_any (λ value. says value (codes "websocket")) (values_of (codes "upgrade") headers)) false)
-      (stated_length lengths)) no_length
-      ∙ ap (λ (upgrades : List (List ℕ)). framed_body 1 method (list_any (λ value. says value (codes "websocket")) upgrades) false None) no_upgrade
-      ∙ rw no_tunnel refl
+  body_kind-plain method no_tunnel = rw (no_coding, no_length, no_upgrade, no_tunnel) refl
 
   pub connection_of-plain : connection_of 1 headers ≡ keep_alive
   connection_of-plain =
@@ -82,12 +72,13 @@ line_headers [] = refl
 line_headers (f ∷ fields) = ap (λ later. header_of f ∷ later) (line_headers fields)
 
 -- what lines of a simple head are as field lines and as headers
-pub fields_of_lines : (fields : List Field) → All IsSimpleLine (map name_and_value fields) → All IsHeaderField fields
-fields_of_lines [] all = All-nil IsHeaderField
+pub fields_of_lines : (fields : List Field) → All IsSimpleLine (map name_and_value fields) → AllByRecursion IsHeaderField fields
+fields_of_lines [] all = tt
 fields_of_lines (f ∷ fields) all =
-    let here = All-head IsSimpleLine (name_and_value f) (map name_and_value fields) all in
-    All-cons IsHeaderField f fields (record { name = here.name; value = here.value })
-    (fields_of_lines fields (All-tail IsSimpleLine (name_and_value f) (map name_and_value fields) all))
+    let here = All-head IsSimpleLine (name_and_value f) (map name_and_value fields) all in (
+      record { name = here.name; value = here.value },
+      fields_of_lines fields (All-tail IsSimpleLine (name_and_value f) (map name_and_value fields) all),
+    )
 
 pub plain_of_lines : (lines : List Line) → All IsSimpleLine lines → All IsPlain (map line_header lines)
 plain_of_lines [] all = All-nil IsPlain
@@ -96,10 +87,10 @@ plain_of_lines (line ∷ lines) all =
     (plain_of_lines lines (All-tail IsSimpleLine line lines all))
 
 -- and back
-pub lines_of_fields : (fields : List Field) → All IsHeaderField fields → All IsPlain (map header_of fields) → All IsSimpleLine (map name_and_value fields)
+pub lines_of_fields : (fields : List Field) → AllByRecursion IsHeaderField fields → All IsPlain (map header_of fields) → All IsSimpleLine (map name_and_value fields)
 lines_of_fields [] valid plain = All-nil IsSimpleLine
 lines_of_fields (f ∷ fields) valid plain =
-    let here = All-head IsHeaderField f fields valid in
+    let here = valid.0 in
     All-cons IsSimpleLine (name_and_value f) (map name_and_value fields)
     (record { name = here.name; value = here.value; plain = All-head IsPlain (header_of f) (map header_of fields) plain })
-    (lines_of_fields fields (All-tail IsHeaderField f fields valid) (All-tail IsPlain (header_of f) (map header_of fields) plain))
+    (lines_of_fields fields valid.1 (All-tail IsPlain (header_of f) (map header_of fields) plain))

@@ -2,3 +2,15 @@ pub mod OneStep
 pub mod Changes
 pub mod Current
 pub mod Kernel
+pub mod Orderly
+pub mod Frames
+pub mod Received
+pub mod FramesLeft
+pub mod Rests
+pub mod Parts
+pub mod Closing
+pub mod Allowed
+pub mod Coming
+pub mod EventStubs
+pub mod TableSteps
+pub mod Stands

@@ -1,5 +1,5 @@
 -- A body when bytes follow: what was there comes first, and a body that isn't open stays.
-use Rattle.std.proofs.Common.{◌≡◌, ℕ, ◌+◌, ◌<◌, ◌≤◌, Bool, true, false, List, [], ◌++◌, length, drop, map, nat_le, Option, Some, None, refl, sym, ap, ◌∙◌, subst, subst₂, inl, inr, arith, true≢false, length-append}
+use Rattle.std.proofs.Common.{◌≡◌, ℕ, ◌+◌, ◌<◌, ◌≤◌, Bool, false, List, [], ◌++◌, length, drop, map, nat_le, Option, Some, None, refl, sym, ap, ◌∙◌, subst, subst₂, inl, inr, arith, true≢false, length-append}
 use Rattle.std.proofs.lemmas.Bool.{cond-true, cond-false, cases_lt, le-leb, lt-leb}
 use Rattle.std.proofs.lemmas.List.{drop-append-le, map-append}
 use Rattle.h1_model.specs.Frame.{ProtocolError}

@@ -1,15 +1,15 @@
--- Two short texts as bodies in chunks: a whole one with a trailer line, and one that is none.
-use Rattle.std.proofs.Common.{◌≡◌, ℕ, zero, suc, ◌<◌, ◌≤◌, Bool, true, false, ◌==◌, List, [], ◌∷◌, ◌++◌, length, take, codes, refl, sym, ap, ◌∙◌, subst, arith, inl, inr}
+-- Short texts as bodies in chunks: a whole one with a trailer line, its first bytes, and one that is none.
+use Rattle.std.proofs.Common.{◌≡◌, ℕ, zero, suc, ◌<◌, ◌≤◌, Bool, false, ◌==◌, List, [], ◌∷◌, ◌++◌, length, take, codes, refl, sym, ap, ◌∙◌, subst, arith, inl, inr}
 use Rattle.std.specs.Prelude.{IsTrue, flat_map}
 use Rattle.std.specs.List.{list_all, AllByRecursion}
 use Rattle.std.proofs.lemmas.Bool.{cases_Bool, and_parts, eqb-true, false≢true}
 use Rattle.std.specs.Char.{digit_value}
 use Rattle.std.specs.Str.Parse.{AllDigits}
 use Rattle.httparse.specs.Grammar.{is_ows, is_token_byte}
-use Rattle.httparse.specs.Ascii.{semicolon, crlf_bytes}
+use Rattle.httparse.specs.Ascii.{crlf_bytes}
 use Rattle.h1_chunks.specs.ChunkedText.{IsExtension, SaysSize, Segment, IsSegment, segment_text, Trailer, section_text, ChunkedText, chunked_text, IsChunkedText}
 use Rattle.h1_chunks.specs.Runs.{segment_runs, cut_runs}
-use Rattle.h1_chunks.specs.Chunked.{whole, not_chunked, Spells, Begins, IsChunked}
+use Rattle.h1_chunks.specs.Chunked.{whole, unfinished, not_chunked, Spells, Begins, IsChunked}
 
 -- ---- a whole body
 
@@ -68,6 +68,11 @@ one_byte_is_text = record {
 pub one_byte_read : IsChunked (codes "1\r\na\r\n0\r\nX: y \r\n\r\n") (whole 18 (line ∷ [])) (record { start = 3; end = 4 } ∷ [])
 unfolding segment_runs
 one_byte_read = (one_byte, omega arith, (one_byte_is_text, refl), refl, refl)
+
+-- its first bytes
+pub one_byte_begun : IsChunked (codes "1\r\na\r\n0") unfinished (record { start = 3; end = 4 } ∷ [])
+unfolding segment_runs cut_runs
+one_byte_begun = (one_byte, (codes "\r\nX: y \r\n\r\n", omega arith, (one_byte_is_text, refl)), refl)
 
 -- ---- no body
 

@@ -1,5 +1,5 @@
 -- What worked examples of heads and of parses stand on: parts whose classes of bytes are tests that compute.
-use Rattle.std.proofs.Common.{◌≡◌, ℕ, ◌+◌, ◌-◌, ◌≤◌, Bool, true, false, not, ◌&&◌, List, [], ◌∷◌, ◌++◌, length, map, slice_range, codes, All, Some, None, nat_lt, nat_le, ◌==◌, refl, sym, ap, ◌∙◌, subst, arith, inl, inr}
+use Rattle.std.proofs.Common.{◌≡◌, ℕ, ◌+◌, ◌-◌, ◌≤◌, Bool, true, false, not, ◌&&◌, List, [], ◌∷◌, ◌++◌, length, map, slice_range, codes, Some, None, nat_lt, nat_le, ◌==◌, refl, sym, ap, ◌∙◌, subst, arith, inl, inr}
 use Rattle.std.specs.List.{list_all, list_any, AllByRecursion}
 use Rattle.std.proofs.lemmas.Grind.{common_steps}
 use Rattle.std.proofs.lemmas.Bool.{agree_below, agree_below_at, and_parts, or_left, or_right, not-true, ltb-true, leb-true, eqb-false, false≢true}

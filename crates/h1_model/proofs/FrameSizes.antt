@@ -2,7 +2,8 @@
 use Rattle.std.proofs.Common.{◌≡◌, ℕ, ◌+◌, ◌<◌, ◌≤◌, inl, inr, Bool, true, false, cond, List, [], ◌∷◌, length, drop, nat_lt, Option, Some, None, refl, sym, ◌∙◌, subst, arith, length-drop, ltb-false, le-ltb}
 use Rattle.std.proofs.lemmas.Bool.{cond-true, cond-false, lt-ltb, cases_lt}
 use Rattle.h1_model.specs.Frame.{ProtocolError, overflow}
-use Rattle.h1_model.specs.FrameText.{Reader, JudgesSize, at_length, when_whole, FrameStart, frame_start, start_error, length_bytes, mask_bytes, FrameHeader, frame_header, payload_of, judged_frame, MAX_FRAME, Front, partial, breaks, unless_broken, front_of_judged, front_of_body, front_of_header, front_of_start, front_frame}
+use Rattle.h1_model.specs.FrameText.{Reader, JudgesSize, at_length, when_whole, FrameStart, frame_start, start_error, length_bytes, mask_bytes, FrameHeader, frame_header, payload_of, judged_frame, Front, partial, breaks, unless_broken, front_of_judged, front_of_body, front_of_header, front_of_start, front_frame}
+use Rattle.h1_model.specs.Limits.{MAX_FRAME}
 use Rattle.h1_model.specs.Laws.FrameSize.{judging, header_behind, front_header, frame_length}
 
 -- what stands behind a header: as many bytes as it leaves, and with them the front, wherever the size is judged

@@ -10,7 +10,8 @@ use Rattle.std.specs.Int.{byte_at, bytes_high_first}
 use Rattle.std.specs.Option.{option_or, unwrap_or}
 use Rattle.std.specs.Str.{is_utf8, chars}
 use Rattle.h1_model.specs.Frame.{CloseReason, Frame, text, binary, first_text, first_binary, continuation, last, ping, pong, close, unmasked_frame, bad_op_code, overflow, invalid_reserved_bits}
-use Rattle.h1_model.specs.FrameText.{Reader, JudgesSize, at_length, when_whole, FrameStart, frame_start, start_error, opcode_of, opcode_error, big_endian, length_bytes, payload_length_of, FrameHeader, unmask, judged_frame, is_close_code, description_of, close_payload, close_frame, starting, going_on, MAX_FRAME, partial, whole, breaks, unless_broken, front_of_judged, overflows_at_length, front_of_header, front_of_start, front_frame, length_field, frame_text}
+use Rattle.h1_model.specs.FrameText.{Reader, JudgesSize, at_length, when_whole, FrameStart, frame_start, start_error, opcode_of, opcode_error, big_endian, length_bytes, payload_length_of, FrameHeader, unmask, judged_frame, is_close_code, description_of, close_payload, close_frame, starting, going_on, partial, whole, breaks, unless_broken, front_of_judged, overflows_at_length, front_of_header, front_of_start, front_frame, length_field, frame_text}
+use Rattle.h1_model.specs.Limits.{MAX_FRAME}
 use Rattle.h1_model.specs.Laws.WrittenFrame.{KeepsRules, is_close_text}
 
 -- ---- masks
@@ -148,9 +149,9 @@ short_form reader u first payload more no_mask plain small within =
       short_length = rest i;
     } in
     let width : length_bytes (plain_start first n) ≡ 0 =
-        cond-false _ 2 _ (ne_eqb n 126 (λ e. omega arith)) ∙ cond-false _ 8 0 (ne_eqb n 127 (λ e. omega arith)) in
+    cond-false _ 2 _ (ne_eqb n 126 (λ e. omega arith)) ∙ cond-false _ 8 0 (ne_eqb n 127 (λ e. omega arith)) in
     let size : payload_length_of (plain_start first n) (payload ++ more) ≡ n =
-        ap (λ k. cond (k == 0) n (big_endian (take k (payload ++ more)))) width in
+    ap (λ k. cond (k == 0) n (big_endian (take k (payload ++ more)))) width in
     read_behind reader u first n n [] payload more no_mask plain starts width size within (omega arith)
 
 -- one below 65,536 stands in two further bytes

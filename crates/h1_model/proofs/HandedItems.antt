@@ -7,6 +7,7 @@ use Rattle.std.proofs.lemmas.List.{map-append}
 use Rattle.std.proofs.lemmas.List.Concat.{flat_map-append}
 use Rattle.std.proofs.lemmas.List.Sums.{sum_by-append, sum_by-cons}
 use Rattle.std.proofs.lemmas.List.Folds.{list_any-append}
+use Rattle.std.specs.List.{AllByRecursion}
 use Rattle.h1_model.specs.FrameText.{PlacedFrame}
 use Rattle.h1_model.specs.Event.{Outcome}
 use Rattle.h1_model.specs.Event as on
@@ -181,11 +182,15 @@ add_piece text body items more rest x e some =
       last = [];
       are = ap (λ (t : List Item). t ++ item_bytes more ∷ []) front
           ∙ sym (map-append item_bytes x.pieces (more ∷ [])) ∙ sym (append-nil (map item_bytes pieces));
+      some = each_and_one x.pieces x.some;
       begins = (rest, e ∙ sym (append_assoc (joined x.pieces) more rest) ∙ ap (λ (t : List ℕ). t ++ rest) (sym join));
       behind = λ has. absurd (omega arith);
       follow = (last_items body, refl);
     }
   where
+    each_and_one : (pieces : List (List ℕ)) → AllByRecursion (λ piece. 0 < length piece) pieces → AllByRecursion (λ piece. 0 < length piece) (pieces ++ more ∷ [])
+    each_and_one [] each = (some, tt)
+    each_and_one (piece ∷ pieces) each = (each.0, each_and_one pieces each.1)
     no_last : (last : List Item) → (0 < length last → ⊥) → last ≡ []
     no_last [] none = refl
     no_last (i ∷ is) none = absurd (none (omega arith))
@@ -197,6 +202,7 @@ add_last text body items item rest x all e = record {
   pieces = x.pieces;
   last = x.last ++ item ∷ [];
   are = ap (λ (t : List Item). t ++ item ∷ []) x.are ∙ append_assoc (map item_bytes x.pieces) x.last (item ∷ []);
+  some = x.some;
   begins = x.begins;
   behind = λ has. all;
   follow = (rest, e ∙ sym (append_assoc x.last (item ∷ []) rest));
@@ -208,6 +214,7 @@ no_items text body = record {
   pieces = [];
   last = [];
   are = refl;
+  some = tt;
   begins = (body_bytes text body, refl);
   behind = λ has. absurd (omega arith);
   follow = (last_items body, refl);

@@ -53,6 +53,7 @@ items_grow front all a b items g x = record {
   pieces = x.pieces;
   last = x.last;
   are = x.are;
+  some = x.some;
   begins = begins_trans (joined x.pieces) (body_bytes front a) (body_bytes all b) x.begins g.bytes;
   behind = λ some. x.behind some ∙ bytes_end front all a b x.last g x.follow some;
   follow = begins_trans x.last (last_items a) (last_items b) x.follow g.items;

@@ -5,7 +5,7 @@ use Rattle.std.specs.List.{list_any}
 use Rattle.std.proofs.lemmas.Bool.{cond-true, cond-false, true≢false, false≢true, or_parts}
 use Rattle.h1_model.specs.Request.{Head}
 use Rattle.h1_chunks.specs.Runs.{cut_runs}
-use Rattle.h1_model.specs.Parse.{Message, frames, cut, next_start, runs_of, frames_of}
+use Rattle.h1_model.specs.Parse.{Message, next_start, runs_of, frames_of}
 use Rattle.h1_model.specs.Event.{Event, Outcome}
 use Rattle.h1_model.specs.Event as on
 use Rattle.h1_model.specs.Sums.{Step, taken, is_pull, head_of, was_pulled}

@@ -46,6 +46,7 @@ is_short (Some h) (Some a) len =
     not (asked_of h).is_head && lacks_bytes (shape_of (asked_of h) a.head a.size) len
 is_short _ _ len = false
 
+-- the answer's body failed, or was ended short
 abbrev pub body_end_of : List Step → Option End
 body_end_of trace =
     option_or (end_where (list_any (λ s. is_body_error s.event) trace) ends.body)

@@ -5,7 +5,7 @@ use Rattle.std.specs.Option.{option_or}
 use Rattle.std.specs.Str.{is_utf8}
 use Rattle.h1_model.specs.Frame.{CloseReason, Frame, ProtocolError}
 use Rattle.h1_model.specs.Frame as frames
-use Rattle.h1_model.specs.Limits.{MAX_CONTROL_PAYLOAD}
+use Rattle.h1_model.specs.Limits.{MAX_CONTROL_PAYLOAD, MAX_FRAME}
 
 -- ---- who reads
 
@@ -209,11 +209,7 @@ abbrev pub front_of_judged : ℕ → Result Frame ProtocolError → Front
 front_of_judged len (Ok frame) = whole frame len
 front_of_judged len (Err e) = breaks e
 
--- the most bytes that a whole frame may have: places are numbers below 2 ^ 64
-abbrev pub MAX_FRAME : ℕ
-MAX_FRAME = 2 ^ 64 - 1
-
--- header and payload pass this, so the frame can never be whole
+-- header and payload pass the most, so the frame can never be whole
 abbrev pub is_never_whole : FrameHeader → Bool
 is_never_whole header = nat_lt MAX_FRAME (header.header_length + header.payload_length)
 
@@ -222,7 +218,7 @@ abbrev pub overflows_at_length : JudgesSize → Reader → FrameHeader → Bool
 overflows_at_length at_length reader header = nat_lt reader.max_payload header.payload_length
 overflows_at_length when_whole reader header = is_never_whole header
 
--- a frame that wasn't refused at its length; behind the length stand its mask and its payload, as far as they are there
+-- a frame that isn't refused at its length: behind that stand its mask and its payload, as far as they are there
 abbrev pub front_of_body : Reader → Bool → FrameHeader → List ℕ → Front
 front_of_body reader under_way header body =
     if nat_lt (length body) (mask_bytes header.start + header.payload_length) then partial

@@ -1,8 +1,9 @@
 -- What was handed out, and when that is the beginning of a parse.
-use Rattle.std.specs.Prelude.{◌≡◌, ℕ, ◌<◌, ◌≤◌, Bool, true, false, List, [], ◌∷◌, ◌++◌, length, take, drop, map, reverse, Option, Some, None, IsTrue, IsSome, unwrap_or, flat_map, ⊤}
+use Rattle.std.specs.Prelude.{◌≡◌, ℕ, ◌<◌, ◌≤◌, Bool, true, false, List, [], ◌∷◌, ◌++◌, length, take, drop, map, reverse, IsTrue, IsSome, unwrap_or, flat_map, ⊤}
+use Rattle.std.specs.List.{AllByRecursion}
 use Rattle.h1_chunks.specs.Runs.{run_bytes}
 use Rattle.h1_model.specs.HeadPiece.{HasNoHeadPiece}
-use Rattle.h1_model.specs.Request.{Header, Fault, too_large, Reading, head_is, faulty}
+use Rattle.h1_model.specs.Request.{Header, too_large, Reading, head_is, faulty}
 use Rattle.h1_model.specs.Setting.{Setting}
 use Rattle.h1_model.specs.Frame.{Frame}
 use Rattle.h1_model.specs.Parse.{Message, Body, no_content, content, frames, Stop, ended_at, still_open, broken, cut, next_start, runs_of, frames_of}
@@ -78,9 +79,6 @@ handed_out (s ∷ before) = marking_answered (completes s.event) (handing s.outc
 abbrev pub body_bytes : List ℕ → Body → List ℕ
 body_bytes bytes body = run_bytes bytes (runs_of body)
 
-abbrev pub body_frames : Body → List Frame
-body_frames body = map (λ p. p.frame) (frames_of body)
-
 -- the list is the beginning of the other
 abbrev pub Begins : {A : Type 0} → List A → List A → Type 0
 Begins {A} front all = (rest : List A) × (all ≡ front ++ rest)
@@ -102,12 +100,13 @@ last_items no_content = []
 last_items (content runs stop) = stop_items stop
 last_items (frames placed fail) = map (λ p. item_frame p.frame) placed
 
--- The items are the body's: pieces of its bytes, in order, and behind all its bytes a beginning of what
--- follows these. So nothing stands behind an end, and nothing comes twice.
+-- The items are the body's: pieces of its bytes, in order, each with some bytes, and behind all its bytes a
+-- beginning of what follows these. So nothing stands behind an end, and nothing comes twice.
 pub record AreItemsOf (taken : List ℕ) (body : Body) (items : List Item) : Type 0 where
   pub pieces : List (List ℕ)
   pub last : List Item
   pub are : items ≡ map item_bytes pieces ++ last
+  pub some : AllByRecursion (λ piece. 0 < length piece) pieces
   pub begins : Begins (flat_map (λ piece. piece) pieces) (body_bytes taken body)
   pub behind : 0 < length last → flat_map (λ piece. piece) pieces ≡ body_bytes taken body
   pub follow : Begins last (last_items body)

@@ -22,7 +22,7 @@ length_value text =
     if nat_lt 0 (length text) && list_all is_ascii_digit text && nat_lt (digits_value 10 text) (2 ^ 64)
     then Some (digits_value 10 text) else None
 
--- the length that the first Content-Length line states, nothing where there is none
+-- the length that the first Content-Length line states: nothing where there is none, or where it spells no number
 abbrev pub stated_length : List (List ℕ) → Option ℕ
 stated_length [] = None
 stated_length (value ∷ more) = length_value (trim_ows value)

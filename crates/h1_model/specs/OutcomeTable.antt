@@ -42,24 +42,24 @@ run_left given (r ∷ rs) =
     if nat_lt given (r.end - r.start) then Some (record { start = r.start + given; end = r.end })
     else run_left (given - (r.end - r.start)) rs
 
--- trailers were handed out since the head
 abbrev pub is_trailers : Outcome → Bool
 is_trailers (on.trailers lines) = true
 is_trailers _ = false
 
+-- trailers were handed out since the head
 abbrev pub gave_trailers : List Step → Bool
 gave_trailers trace = list_any (λ s. is_trailers s.outcome) (since_head trace)
 
--- the trailers of an ended body, once, and then its end
+-- the trailers of an ended body, unless they were handed out, and then its end
 abbrev pub ended_outcome : Bool → List Header → Outcome
-ended_outcome given [] = on.body_ended
-ended_outcome given (line ∷ more) = if given then on.body_ended else on.trailers (line ∷ more)
+ended_outcome were_given [] = on.body_ended
+ended_outcome were_given (line ∷ more) = if were_given then on.body_ended else on.trailers (line ∷ more)
 
 abbrev pub stop_outcome : Bool → Stop → Outcome
-stop_outcome given (ended_at place trailers) = ended_outcome given trailers
-stop_outcome given broken = on.broken_by corrupted
-stop_outcome given cut = on.broken_by incomplete
-stop_outcome given still_open = on.pending
+stop_outcome were_given (ended_at place trailers) = ended_outcome were_given trailers
+stop_outcome were_given broken = on.broken_by corrupted
+stop_outcome were_given cut = on.broken_by incomplete
+stop_outcome were_given still_open = on.pending
 
 -- all bytes of the run that were taken and not given, and else how the body stops
 abbrev pub run_outcome : List Step → Stop → Option Run → Outcome

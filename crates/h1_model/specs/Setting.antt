@@ -6,8 +6,9 @@ pub data KeepAlive : Type 0 where
   timeout : ℕ → KeepAlive
   by_system disabled : KeepAlive
 
--- A request or disconnect timeout of 0 is off. hold_size is the most bytes that are taken and not passed;
--- a piece of an answer waits while write_buffer bytes are to be written.
+-- A request or disconnect timeout of 0 is off. A piece of an answer waits while write_buffer bytes or more are to
+-- be written. hold_size is the most bytes that are taken and not passed; any number will do here, and who sets it
+-- keeps it from 8192 to 1048576.
 pub record Setting : Type 0 where
   pub keep_alive : KeepAlive
   pub request_timeout : ℕ

@@ -2,7 +2,8 @@
 
 ghost use Rattle.std.specs.Prelude.{◌≡◌, ℕ, ◌<◌, ◌≤◌, Bool, false, List, ◌++◌, length, nat_lt, if◌then◌else◌, Option, Some, None};
 ghost use Rattle.h1_model.specs.Frame.{Frame, ProtocolError, overflow};
-ghost use Rattle.h1_model.specs.FrameText.{Reader, at_length, when_whole, FrameHeader, MAX_FRAME, unmask, front_frame, partial, whole, breaks, PlacedFrame, ReadsFrames, frame_text};
+ghost use Rattle.h1_model.specs.FrameText.{Reader, at_length, when_whole, FrameHeader, unmask, front_frame, partial, whole, breaks, PlacedFrame, ReadsFrames, frame_text};
+ghost use Rattle.h1_model.specs.Limits.{MAX_FRAME};
 ghost use Rattle.h1_model.specs.Handed.{Begins};
 ghost use Rattle.h1_model.specs.Laws.FrameSize.{judging, front_header, frame_length};
 ghost use Rattle.h1_model.specs.Laws.WrittenFrame.{KeepsRules};

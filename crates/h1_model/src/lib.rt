@@ -2,10 +2,10 @@
 #![tactic(auto)]
 
 pub mod examples;
-pub mod head_examples;
 pub mod frame_examples;
 pub mod frame_text;
 pub mod handed;
+pub mod head_examples;
 pub mod head_piece;
 pub mod parse;
 pub mod parse_examples;

@@ -1,7 +1,7 @@
 //! Worked examples of parses, all bytes and all messages written out.
 
 ghost use Rattle.std.specs.Prelude.{◌∷◌, ◌++◌, [], None, Some, codes, true, false};
-ghost use Rattle.h1_model.specs.Frame.{text};
+ghost use Rattle.h1_model.specs.Frame.{text, unmasked_frame};
 ghost use Rattle.h1_model.specs.Request.{Header, Head, no_body, fixed_body, chunked_body, raw_body, close, keep_alive, malformed, too_large, head_is, faulty};
 ghost use Rattle.h1_model.specs.Parse.{IsParse, no_content, content, frames, ended_at, still_open, broken, cut};
 
@@ -69,7 +69,7 @@ pub fn body_of_a_length()
 {}
 
 /// A body in chunks ends behind its trailers, which are headers as those of the head are. A byte that no body begins
-/// with breaks it.
+/// with breaks it, and without its last bytes it is open.
 pub fn body_in_chunks()
     ensures { let head : Head = record {
       method = codes "POST";
@@ -94,11 +94,14 @@ pub fn body_in_chunks()
         } ∷ [])
         × IsParse
         (record { bytes = codes "POST / HTTP/1.1\r\ntransfer-encoding: chunked\r\n\r\ng"; upgraded = None; ended = false; hold_size = 131072 })
-        (record { reading = head_is head; body_start = 47; body = content [] broken } ∷ []) }
+        (record { reading = head_is head; body_start = 47; body = content [] broken } ∷ [])
+        × IsParse
+        (record { bytes = codes "POST / HTTP/1.1\r\ntransfer-encoding: chunked\r\n\r\n1\r\na\r\n0"; upgraded = None; ended = false; hold_size = 131072 })
+        (record { reading = head_is head; body_start = 47; body = content (record { start = 50; end = 51 } ∷ []) still_open } ∷ []) }
 {}
 
 /// A raw body goes on to the end of the input. Once a WebSocket is accepted, it is frames: here a text, and the first
-/// byte of another one.
+/// byte of another one; or none, and a frame that breaks a rule.
 pub fn raw_bodies()
     ensures { let head : Head = record {
       method = codes "GET";
@@ -123,5 +126,8 @@ pub fn raw_bodies()
           ended = false;
           hold_size = 131072;
         })
-        (record { reading = head_is head; body_start = 38; body = frames (record { frame = text (codes "Hello"); end = 49 } ∷ []) None } ∷ []) }
+        (record { reading = head_is head; body_start = 38; body = frames (record { frame = text (codes "Hello"); end = 49 } ∷ []) None } ∷ [])
+        × IsParse
+        (record { bytes = codes "GET / HTTP/1.1\r\nupgrade: websocket\r\n\r\n" ++ (0x81 ∷ 0x00 ∷ []); upgraded = Some 100; ended = false; hold_size = 131072 })
+        (record { reading = head_is head; body_start = 38; body = frames [] (Some unmasked_frame) } ∷ []) }
 {}

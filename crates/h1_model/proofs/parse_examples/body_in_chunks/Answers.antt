@@ -1,11 +1,11 @@
 use Rattle.std.proofs.Common.{false, [], ◌∷◌, codes, refl, arith, inl}
 use Rattle.httparse.specs.Grammar.{Field, crlf, is_token_byte, print_request, trim_ows}
-use Rattle.h1_chunks.specs.Chunked.{whole, not_chunked}
+use Rattle.h1_chunks.specs.Chunked.{whole, unfinished, not_chunked}
 use Rattle.h1_model.specs.Request.{Head, chunked_body, keep_alive}
 use Rattle.h1_model.specs.RequestHead.{IsHeadOf}
 use Rattle.h1_model.specs.HeadPiece.{IsHeadPiece}
 use Rattle.h1_model.proofs.ExampleLemmas.{plain_piece, nothing_behind, plain_head}
-use Rattle.h1_model.proofs.ChunkExamples.{line as trailer, one_byte_read, g_read}
+use Rattle.h1_model.proofs.ChunkExamples.{line as trailer, one_byte_read, one_byte_begun, g_read}
 use Rattle.h1_model.proofs.parse_examples.body_in_chunks.Goals as goal
 
 -- the head, and where it ends, with a whole body
@@ -15,6 +15,10 @@ whole_piece = plain_piece _ 47 refl
 -- the same where no body follows
 broken_piece : IsHeadPiece (codes "POST / HTTP/1.1\r\ntransfer-encoding: chunked\r\n\r\ng") 0 47
 broken_piece = plain_piece _ 47 refl
+
+-- the same where the last bytes of the body aren't there
+open_piece : IsHeadPiece (codes "POST / HTTP/1.1\r\ntransfer-encoding: chunked\r\n\r\n1\r\na\r\n0") 0 47
+open_piece = plain_piece _ 47 refl
 
 -- its field line
 abbrev line : Field
@@ -60,6 +64,17 @@ returns c = (
       body_start = refl;
       reading = inl (omega arith, (omega arith, is_head));
       body = (not_chunked, [], g_read, refl);
+    },
+    refl,
+  ),
+  (
+    record {
+      start = 0;
+      end = 47;
+      piece = open_piece;
+      body_start = refl;
+      reading = inl (omega arith, (omega arith, is_head));
+      body = (unfinished, record { start = 3; end = 4 } ∷ [], one_byte_begun, refl);
     },
     refl,
   ),

@@ -1,6 +1,6 @@
-use Rattle.std.proofs.Common.{ℕ, false, List, [], ◌∷◌, ◌++◌, codes, None, refl, arith, inl}
+use Rattle.std.proofs.Common.{ℕ, false, List, [], ◌∷◌, ◌++◌, codes, Some, None, refl, arith, inl}
 use Rattle.httparse.specs.Grammar.{Field, crlf, is_token_byte, print_request, trim_ows}
-use Rattle.h1_model.specs.Frame.{text}
+use Rattle.h1_model.specs.Frame.{text, unmasked_frame}
 use Rattle.h1_model.specs.FrameText.{front_frame, unmask, PlacedFrame, ReadsFrames}
 use Rattle.h1_model.specs.Request.{Head, raw_body, keep_alive}
 use Rattle.h1_model.specs.RequestHead.{IsHeadOf}
@@ -20,6 +20,10 @@ raw_piece = plain_piece _ 38 refl
 -- the same in front of frames
 frames_piece : IsHeadPiece (codes "GET / HTTP/1.1\r\nupgrade: websocket\r\n\r\n" ++ masked) 0 38
 frames_piece = plain_piece _ 38 refl
+
+-- the same in front of a frame without a mask
+broken_piece : IsHeadPiece (codes "GET / HTTP/1.1\r\nupgrade: websocket\r\n\r\n" ++ (0x81 ∷ 0x00 ∷ [])) 0 38
+broken_piece = plain_piece _ 38 refl
 
 -- its field line
 abbrev line : Field
@@ -52,6 +56,11 @@ reads : ReadsFrames (connection_reader 100) false 38 (codes "GET / HTTP/1.1\r\nu
 unfolding front_frame unmask
 reads = (11, refl, refl, refl)
 
+-- the rule that is broken there
+breaks : ReadsFrames (connection_reader 100) false 38 (codes "GET / HTTP/1.1\r\nupgrade: websocket\r\n\r\n" ++ (0x81 ∷ 0x00 ∷ [])) [] (Some unmasked_frame)
+unfolding front_frame
+breaks = refl
+
 pub returns : goal.returns
 returns c = (
   (record { start = 0; end = 38; piece = raw_piece; body_start = refl; reading = inl (omega arith, (omega arith, is_head)); body = refl }, refl),
@@ -64,6 +73,17 @@ returns c = (
       body_start = refl;
       reading = inl (omega arith, (omega arith, is_head));
       body = (hello ∷ [], None, reads, refl);
+    },
+    refl,
+  ),
+  (
+    record {
+      start = 0;
+      end = 38;
+      piece = broken_piece;
+      body_start = refl;
+      reading = inl (omega arith, (omega arith, is_head));
+      body = ([], Some unmasked_frame, breaks, refl);
     },
     refl,
   ),

@@ -1,0 +1,120 @@
+-- The laws of states that stand for traces.
+use Rattle.std.proofs.Common.{◌≡◌, List, [], ◌∷◌, length, drop, refl, sym, ap, ◌∙◌, subst, subst₂, arith}
+use Rattle.std.specs.Prelude.{IsTrue}
+use Rattle.h1_model.specs.Setting.{Setting}
+use Rattle.h1_model.specs.Event.{Event, Outcome}
+use Rattle.h1_model.specs.Sums.{Step, taken, written, accepted, last_tick, first_tick, completed_at, request, since_head, answered, answer_len, is_sending, is_receiving}
+use Rattle.h1_model.specs.Past.{ParsedStep, steps, input_of}
+use Rattle.h1_model.specs.Text.{text}
+use Rattle.h1_model.specs.Closing.{told, closing, closing_since}
+use Rattle.h1_model.specs.Allowed.{is_allowed}
+use Rattle.h1_model.specs.OutcomeTable.{outcome_of}
+use Rattle.h1_model.specs.Trace.{IsPastOf, IsOutcome, IsTrace}
+use Rattle.h1_model.proofs.MessageExistence.{parse_exists}
+use Rattle.h1_model.proofs.PastLemmas.{Legal, legal_of, past_of_unique}
+use Rattle.h1_machine.specs.Kept.{Kept, fresh}
+use Rattle.h1_machine.specs.Local.{closing_by, allowed_by}
+use Rattle.h1_machine.specs.Change.{IsStep}
+use Rattle.h1_machine.specs.KeptOf.{kept_of}
+use Rattle.h1_machine.specs.StandsFor.{StandsFor}
+use Rattle.h1_machine.proofs.OneStep.{outcome_one, state_one}
+use Rattle.h1_machine.proofs.Kernel.{closing_of, allowed_of}
+use Rattle.h1_machine.proofs.TableSteps.{table_step}
+
+-- ---- the empty trace
+
+-- what the empty past gives
+fresh_kept : (setting : Setting) → fresh ≡ kept_of setting []
+unfolding taken written accepted last_tick first_tick completed_at request since_head answered answer_len is_sending is_receiving text told closing_since
+fresh_kept setting = refl
+
+-- a connection to which nothing has happened stands for it
+pub fresh_stands : (setting : Setting) → StandsFor setting fresh []
+fresh_stands setting = record { traced = tt; past = []; of_trace = record { same = refl; right = tt }; parts = fresh_kept setting }
+
+-- ---- every trace
+
+-- what is kept tells why the connection closes
+pub closing_stands : (setting : Setting) (past : List ParsedStep) (trace : List Step) → IsTrace setting trace → IsPastOf setting trace past
+    → closing_by setting (kept_of setting past) ≡ closing setting past
+closing_stands setting past trace x y = closing_of setting past (legal_of setting trace past x y)
+
+-- and what is allowed
+pub allowed_stands : (setting : Setting) (past : List ParsedStep) (trace : List Step) (event : Event) → IsTrace setting trace → IsPastOf setting trace past
+    → allowed_by setting (kept_of setting past) event ≡ is_allowed setting past event
+allowed_stands setting past trace event x y = allowed_of setting past event (legal_of setting trace past x y)
+
+-- ---- a step of the table
+
+-- the first step of a list
+first_step : (s t : Step) (ss ts : List Step) → s ∷ ss ≡ t ∷ ts → s ≡ t
+first_step s t ss ts e = cc
+
+-- an allowed event with the table's outcome is a step
+pub table_steps : (setting : Setting) (s : Step) (before : List Step) (p q : List ParsedStep) → IsTrace setting (s ∷ before) → IsPastOf setting before p
+    → IsPastOf setting (s ∷ before) q → IsStep setting (kept_of setting p) s.event s.outcome (kept_of setting q)
+table_steps setting s before p [] t x y = absurd (omega (arith, ap length y.same))
+table_steps setting s before p (m ∷ after) t x y =
+    let earlier : IsPastOf setting before after = record { same = ap (drop 1) y.same; right = y.right.1 } in
+    let same = past_of_unique setting before after p earlier x in
+    let l = legal_of setting (s ∷ before) (m ∷ after) t y in
+    let first = first_step m.step s (steps after) before y.same in
+    let P : Step → List ParsedStep → Type 0 = λ r b. IsStep setting (kept_of setting b) r.event r.outcome (kept_of setting (m ∷ after)) in
+    subst₂ P first same (table_step setting after m l)
+
+-- ---- a step of a state
+
+-- The step that the table says, behind the past of a trace: the outcome and the state of each step are its own.
+record TableStep (setting : Setting) (past : List ParsedStep) (event : Event) (o : Outcome) (next : Kept) : Type 0 where
+  pub allowed : IsTrue (is_allowed setting past event)
+  pub outcome : o ≡ outcome_of setting past event
+  pub last : ParsedStep
+  pub step_is : last.step ≡ record { event = event; outcome = outcome_of setting past event }
+  pub legal : Legal setting (last ∷ past)
+  pub state : next ≡ kept_of setting (last ∷ past)
+
+-- a step of a state is the table's
+table_step_of : (setting : Setting) (past : List ParsedStep) (event : Event) (o : Outcome) (next : Kept) → Legal setting past
+    → IsTrue (allowed_by setting (kept_of setting past) event)
+    → IsStep setting (kept_of setting past) event o next → TableStep setting past event o next
+table_step_of setting past event o next l allowed x =
+    let ok : IsTrue (is_allowed setting past event) = subst IsTrue (allowed_of setting past event l) allowed in
+    let s : Step = record { event = event; outcome = outcome_of setting past event } in
+    let parse = parse_exists (input_of setting (s ∷ steps past)) in
+    let y : ParsedStep = record { step = s; parse = parse.0 } in
+    let longer : Legal setting (y ∷ past) = (parse.1, ok, refl, l) in
+    let table = table_step setting past y longer in
+    record {
+      allowed = ok;
+      outcome = outcome_one setting (kept_of setting past) event o s.outcome next (kept_of setting (y ∷ past)) x table;
+      last = y;
+      step_is = refl;
+      legal = longer;
+      state = state_one setting (kept_of setting past) event o s.outcome next (kept_of setting (y ∷ past)) x table;
+    }
+
+-- the same of a state that stands for a trace
+stands_step : (setting : Setting) (k next : Kept) (trace : List Step) (event : Event) (o : Outcome) → (x : StandsFor setting k trace)
+    → IsTrue (allowed_by setting k event) → IsStep setting k event o next → TableStep setting x.past event o next
+stands_step setting k next trace event o x allowed step =
+    table_step_of setting x.past event o next (legal_of setting trace x.past x.traced x.of_trace)
+    (subst (λ (k : Kept). IsTrue (allowed_by setting k event)) x.parts allowed) (subst (λ (k : Kept). IsStep setting k event o next) x.parts step)
+
+-- its outcome is the table's
+pub step_outcome : (setting : Setting) (k next : Kept) (trace : List Step) (event : Event) (o : Outcome) → StandsFor setting k trace
+    → IsTrue (allowed_by setting k event) → IsStep setting k event o next → IsOutcome setting trace event o
+step_outcome setting k next trace event o x allowed step =
+    (x.past, x.of_trace, (stands_step setting k next trace event o x allowed step).outcome)
+
+-- and the state behind it stands for the longer trace
+pub step_state : (setting : Setting) (k next : Kept) (trace : List Step) (event : Event) (o : Outcome) → StandsFor setting k trace
+    → IsTrue (allowed_by setting k event) → IsStep setting k event o next → StandsFor setting next (record { event = event; outcome = o } ∷ trace)
+step_state setting k next trace event o x allowed step =
+    let t = stands_step setting k next trace event o x allowed step in
+    let last : t.last.step ≡ record { event = event; outcome = o } = t.step_is ∙ (λ i. record { event = event; outcome = sym t.outcome i }) in
+    record {
+      traced = ((x.past, x.of_trace, t.allowed), (x.past, x.of_trace, t.outcome), x.traced);
+      past = t.last ∷ x.past;
+      of_trace = record { same = λ i. last i ∷ x.of_trace.same i; right = (t.legal.0, x.of_trace.right) };
+      parts = t.state;
+    }

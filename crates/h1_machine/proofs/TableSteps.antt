@@ -1,0 +1,36 @@
+-- Each allowed event with the table's outcome is a step of what the past gives.
+use Rattle.std.proofs.Common.{◌≡◌, List, ◌∷◌, refl}
+use Rattle.h1_model.specs.Setting.{Setting}
+use Rattle.h1_model.specs.Event.{Event}
+use Rattle.h1_model.specs.Event as on
+use Rattle.h1_model.specs.Past.{ParsedStep}
+use Rattle.h1_model.proofs.PastLemmas.{Legal}
+use Rattle.h1_machine.specs.Change.{IsStep}
+use Rattle.h1_machine.specs.KeptOf.{kept_of}
+use Rattle.h1_machine.proofs.Changes.{Changes}
+use Rattle.h1_machine.proofs.Kernel.{step_of}
+use Rattle.h1_machine.proofs.EventStubs.{read_changes, eof_changes, drain_changes, next_changes, pull_changes, drop_changes, go_on_changes, answer_changes, chunk_changes, body_end_changes, body_error_changes, write_changes, tick_changes, accept_changes, send_changes}
+
+-- what each event changes
+event_changes : (setting : Setting) (before : List ParsedStep) (x : ParsedStep) (event : Event) → Legal setting (x ∷ before) → x.step.event ≡ event
+    → Changes setting before x
+event_changes setting before x (on.read bytes) l e = read_changes setting before x bytes l e
+event_changes setting before x on.eof l e = eof_changes setting before x l e
+event_changes setting before x on.drain l e = drain_changes setting before x l e
+event_changes setting before x on.next l e = next_changes setting before x l e
+event_changes setting before x on.pull l e = pull_changes setting before x l e
+event_changes setting before x on.drop_body l e = drop_changes setting before x l e
+event_changes setting before x on.go_on l e = go_on_changes setting before x l e
+event_changes setting before x (on.answer head size) l e = answer_changes setting before x head size l e
+event_changes setting before x (on.chunk bytes) l e = chunk_changes setting before x bytes l e
+event_changes setting before x on.body_end l e = body_end_changes setting before x l e
+event_changes setting before x on.body_error l e = body_error_changes setting before x l e
+event_changes setting before x (on.write n) l e = write_changes setting before x n l e
+event_changes setting before x (on.tick ms) l e = tick_changes setting before x ms l e
+event_changes setting before x (on.accept limit) l e = accept_changes setting before x limit l e
+event_changes setting before x (on.send m) l e = send_changes setting before x m l e
+
+-- a step of a legal past
+pub table_step : (setting : Setting) (before : List ParsedStep) (x : ParsedStep) → Legal setting (x ∷ before)
+    → IsStep setting (kept_of setting before) x.step.event x.step.outcome (kept_of setting (x ∷ before))
+table_step setting before x l = step_of setting before x l (event_changes setting before x x.step.event l refl)
