@@ -1,7 +1,7 @@
 -- What a connection keeps: bounded parts, each a value of the model's.
-use Rattle.std.specs.Prelude.{ℕ, Bool, true, false, not, ◌&&◌, ◌||◌, List, [], ◌∷◌, Option, Some, None, unwrap_or}
+use Rattle.std.specs.Prelude.{ℕ, Bool, true, false, not, ◌&&◌, ◌||◌, List, [], ◌∷◌, if◌then◌else◌, Option, Some, None, unwrap_or}
 use Rattle.h1_chunks.specs.Place.{Place, start}
-use Rattle.h1_model.specs.Request.{BodyKind, no_body, fixed_body, chunked_body, raw_body, ConnectionType, Head, has_body}
+use Rattle.h1_model.specs.Request.{BodyKind, no_body, fixed_body, chunked_body, raw_body, ConnectionType, Head, has_body, is_raw_kind}
 use Rattle.h1_model.specs.Answer.{Asked, asked_of, Shape}
 use Rattle.h1_model.specs.Handshake.{HandshakeError, handshake_error, accept_key_of}
 use Rattle.h1_model.specs.End.{End}
@@ -89,6 +89,14 @@ abbrev pub rest_in : Bool → List ℕ → Rest → Rest
 rest_in true [] raw_rest = no_rest
 rest_in has_ended unread rest = rest
 
+-- Why a raw request can't be upgraded to a WebSocket, and the answer to its key. No other request may be upgraded,
+-- so nothing is worked out for one.
+abbrev pub refusal_of : Head → Option HandshakeError
+refusal_of h = if is_raw_kind h.body then handshake_error h else None
+
+abbrev pub key_answer_of : Head → List ℕ
+key_answer_of h = if is_raw_kind h.body then accept_key_of h else []
+
 -- a request that was just handed out, and what is left of its body
 abbrev pub new_exchange : Rest → Head → Exchange
 new_exchange rest h =
@@ -96,8 +104,8 @@ new_exchange rest h =
       asked = asked_of h;
       has_body = has_body h.body;
       expects = h.expects;
-      refusal = handshake_error h;
-      accept_key = accept_key_of h;
+      refusal = refusal_of h;
+      accept_key = key_answer_of h;
       rest = rest;
       reply = unanswered;
       was_pulled = false;

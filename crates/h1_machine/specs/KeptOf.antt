@@ -7,7 +7,6 @@ use Rattle.h1_chunks.specs.Reading.{read}
 use Rattle.h1_model.specs.Request.{BodyKind, no_body, fixed_body, chunked_body, raw_body, Head, has_body}
 use Rattle.h1_model.specs.Setting.{Setting}
 use Rattle.h1_model.specs.Answer.{asked_of, shape_of, type_of}
-use Rattle.h1_model.specs.Handshake.{handshake_error, accept_key_of}
 use Rattle.h1_model.specs.Parse.{Message, next_start}
 use Rattle.h1_model.specs.Event.{Event, Outcome}
 use Rattle.h1_model.specs.Event as on
@@ -16,7 +15,7 @@ use Rattle.h1_model.specs.Past.{ParsedStep, steps, current, upcoming, passed}
 use Rattle.h1_model.specs.Text.{buffered}
 use Rattle.h1_model.specs.Closing.{told, body_end_of, closing_since}
 use Rattle.h1_model.specs.Allowed.{is_over}
-use Rattle.h1_machine.specs.Kept.{Rest, no_rest, raw_rest, fixed_rest, chunks_rest, frames_rest, Reply, unanswered, sending, answered, Exchange, Clock, Kept}
+use Rattle.h1_machine.specs.Kept.{Rest, no_rest, raw_rest, fixed_rest, chunks_rest, frames_rest, Reply, unanswered, sending, answered, Exchange, Clock, Kept, refusal_of, key_answer_of}
 use Rattle.h1_machine.specs.Reply.{stated}
 
 -- ---- what is left of a body
@@ -77,8 +76,8 @@ exchange_with setting past m h =
       asked = asked_of h;
       has_body = has_body h.body;
       expects = h.expects;
-      refusal = handshake_error h;
-      accept_key = accept_key_of h;
+      refusal = refusal_of h;
+      accept_key = key_answer_of h;
       rest = rest_of past m h.body;
       reply = reply_of setting trace h (answer_of trace);
       was_pulled = was_pulled trace;
