@@ -1,30 +1,31 @@
 -- A body in one run, of a stated length or raw: as much of it is passed as was given.
-use Rattle.std.proofs.Common.{◌≡◌, ℕ, ◌+◌, ◌-◌, ◌<◌, ◌≤◌, min, true, false, List, [], ◌∷◌, length, slice_range, Option, Some, None, ◌⊎◌, refl, sym, ap, ◌∙◌, subst, inl, inr, arith, lt-ltb, le-ltb}
-use Rattle.std.specs.Prelude.{IsSome, is_some, unwrap_or, nat_lt}
-use Rattle.std.proofs.lemmas.Bool.{cond-true, cond-false, cases_lt, cases_eq, eq-eqb, ne_eqb, le-leb, true≢false, false≢true}
-use Rattle.std.proofs.lemmas.Option.{none-some, same_Some}
+use Rattle.std.proofs.Common.{◌≡◌, ℕ, ◌+◌, ◌-◌, ◌<◌, ◌≤◌, min, false, List, [], ◌∷◌, length, slice_range, Option, Some, None, ◌⊎◌, refl, sym, ap, ◌∙◌, subst, inl, inr, arith, lt-ltb, le-ltb}
+use Rattle.std.specs.Prelude.{IsSome, unwrap_or, nat_lt}
+use Rattle.std.proofs.lemmas.Bool.{cond-true, cond-false, cases_lt, cases_eq, eq-eqb, ne_eqb, le-leb, false≢true}
 use Rattle.h1_chunks.specs.Runs.{Run}
 use Rattle.h1_model.specs.Request.{Head}
 use Rattle.h1_model.specs.Setting.{Setting}
-use Rattle.h1_model.specs.Parse.{Message, Body, content, Stop, next_start, runs_of, frames_of, run_between}
-use Rattle.h1_model.specs.Event.{Event, Outcome}
+use Rattle.h1_model.specs.Parse.{Message, content, Stop, next_start, runs_of, frames_of, run_between}
+use Rattle.h1_model.specs.Event.{Outcome}
 use Rattle.h1_model.specs.Event as on
 use Rattle.h1_model.specs.Sums.{Step, taken, head_of, since_head, is_complete}
-use Rattle.h1_model.specs.Past.{ParsedStep, steps, current, given_bytes, given_frames, step_bytes, place_behind, has_chunks, pulled_place, pulled_to, passed}
+use Rattle.h1_model.specs.Past.{ParsedStep, steps, current, given_bytes, place_behind, has_chunks, pulled_to, passed}
 use Rattle.h1_model.specs.OutcomeTable.{run_left, gave_trailers, stop_outcome, run_outcome, body_outcome, pull_outcome}
 use Rattle.h1_model.proofs.PastLemmas.{Legal}
 use Rattle.h1_model.proofs.PlaceLemmas.{runs_len, left-within, left-past}
 use Rattle.h1_model.proofs.StepLemmas.{step, given_bytes-more, given_bytes-head, given_frames-more, quiet, reads, stops, accepts, begins, pulls, step_case}
-use Rattle.h1_model.proofs.PulledLemmas.{PullFits, Behind, PullsFit, Idle, idle_pulled, pulled_to-more, pulled_to-head, pulled_to-nil, Holds}
+use Rattle.h1_model.proofs.PulledLemmas.{PullFits, Behind, PullsFit, Idle, idle_pulled, pulled_to-more, pulled_to-head, pulled_to-nil}
 use Rattle.h1_model.proofs.CarriedLemmas.{passed_pulled}
 use Rattle.h1_model.proofs.HeldSteps.{quiet_idle, reads_idle, ends_idle, accepts_idle, pull_no_head}
 use Rattle.h1_machine.proofs.Current.{Current}
 
 -- ---- the run between two places
 
+-- of some bytes
 between_some : (a b : ℕ) → a < b → run_between a b ≡ record { start = a; end = b } ∷ []
 between_some a b some = cond-true (nat_lt a b) _ _ (lt-ltb a b some)
 
+-- and of none
 between_none : (a b : ℕ) → b ≤ a → run_between a b ≡ []
 between_none a b none = cond-false (nat_lt a b) _ _ (le-ltb a b none)
 
@@ -53,10 +54,12 @@ pub one_left : (a b given : ℕ) → a + given < b → run_left given (run_betwe
 one_left a b given more =
     ap (run_left given) (between_some a b (omega arith)) ∙ left-within given (record { start = a; end = b }) [] (omega arith)
 
+-- of no run nothing is left
 left_nothing : (given : ℕ) → run_left given [] ≡ None
 unfolding run_left
 left_nothing given = refl
 
+-- and of a run that was given
 pub none_left : (a b given : ℕ) → b ≤ a + given → run_left given (run_between a b) ≡ None
 none_left a b given all =
     elim (cases_lt a b) [
@@ -81,6 +84,7 @@ one_next runs runs' stop = cong_stop stop
     cong_stop : (s : Stop) → next_start (content runs s) ≡ next_start (content runs' s)
     cong_stop _ = refl
 
+-- and nowhere else
 pub one_ends : (m : Message) (end : ℕ) (stop : Stop) → OneRun m end stop → (place : ℕ) → next_start m.body ≡ Some place → place ≡ end
 one_ends m end stop r place e =
     r.ends place (one_next [] (run_between m.body_start end) stop ∙ sym (ap next_start r.body) ∙ e)
