@@ -38,7 +38,8 @@ abbrev accept_of : ℕ → Outcome → List Message → ParsedStep
 accept_of limit o parse = record { step = record { event = on.accept limit; outcome = o }; parse = parse }
 
 -- its outcome
-accept_answers : (setting : Setting) (past : List ParsedStep) (limit : ℕ) → outcome_of setting past (on.accept limit) ≡ accept_outcome (request (steps past))
+accept_answers : (setting : Setting) (past : List ParsedStep) (limit : ℕ)
+    → outcome_of setting past (on.accept limit) ≡ accept_outcome (request (steps past))
 unfolding outcome_of
 accept_answers setting past limit = refl
 
@@ -71,7 +72,8 @@ refused_text setting t limit e = refl
 
 -- and nothing changes
 refused_changes : (setting : Setting) (before : List ParsedStep) (limit : ℕ) (parse : List Message) (m : Message) (h : Head) (e : HandshakeError)
-    → Upgrades setting before limit (on.refused e) parse m h → handshake_error h ≡ Some e → Changes setting before (accept_of limit (on.refused e) parse)
+    → Upgrades setting before limit (on.refused e) parse m h → handshake_error h ≡ Some e
+    → Changes setting before (accept_of limit (on.refused e) parse)
 refused_changes setting before limit parse m h e w wrong =
     let t = steps before in
     let x = accept_of limit (on.refused e) parse in
@@ -178,7 +180,8 @@ accept_by setting before limit o parse m h None w wrong is =
     subst P (sym is) (λ u. accepted_changes setting before limit parse m h u wrong) w
 
 -- that it is accepted
-accept_of_changes : (setting : Setting) (before : List ParsedStep) (limit : ℕ) (o : Outcome) (parse : List Message) → Legal setting (accept_of limit o parse ∷ before)
+accept_of_changes : (setting : Setting) (before : List ParsedStep) (limit : ℕ) (o : Outcome) (parse : List Message)
+    → Legal setting (accept_of limit o parse ∷ before)
     → Changes setting before (accept_of limit o parse)
 accept_of_changes setting before limit o parse l =
     let t = steps before in
@@ -204,7 +207,8 @@ accept_of_changes setting before limit o parse l =
     ]
 
 -- that a WebSocket is to be accepted
-pub accept_changes : (setting : Setting) (before : List ParsedStep) (x : ParsedStep) (limit : ℕ) → Legal setting (x ∷ before) → x.step.event ≡ on.accept limit
+pub accept_changes : (setting : Setting) (before : List ParsedStep) (x : ParsedStep) (limit : ℕ) → Legal setting (x ∷ before)
+    → x.step.event ≡ on.accept limit
     → Changes setting before x
 accept_changes setting before x limit l e =
     let of : Event → ParsedStep = λ v. record { step = record { event = v; outcome = x.step.outcome }; parse = x.parse } in

@@ -146,7 +146,8 @@ told-calm s t none c =
 -- ---- the last request
 
 -- the answer, as it is kept
-reply_at : (setting : Setting) (s : Step) (t : List Step) (h : Head) (a : Option Answered) → is_complete (s ∷ t) ≡ is_complete t → answer_len (s ∷ t) ≡ answer_len t
+reply_at : (setting : Setting) (s : Step) (t : List Step) (h : Head) (a : Option Answered) → is_complete (s ∷ t) ≡ is_complete t
+    → answer_len (s ∷ t) ≡ answer_len t
     → reply_of setting (s ∷ t) h a ≡ reply_of setting t h a
 reply_at setting s t h None complete len = refl
 reply_at setting s t h (Some a) complete len =
@@ -168,7 +169,8 @@ or_comm false true = refl
 or_comm false false = refl
 
 -- the last request, as it is kept, with another rest
-pub exchange-calm : (setting : Setting) (before : List ParsedStep) (x : ParsedStep) (m n : Message) (h : Head) → head_of x.step.outcome ≡ None → IsCalm x.step.event
+pub exchange-calm : (setting : Setting) (before : List ParsedStep) (x : ParsedStep) (m n : Message) (h : Head) → head_of x.step.outcome ≡ None
+    → IsCalm x.step.event
     → record (exchange_with setting before m h) {
       rest = rest_of (x ∷ before) n h.body;
       was_pulled = is_pull x.step.event || was_pulled (steps before);

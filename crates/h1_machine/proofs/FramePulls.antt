@@ -58,7 +58,8 @@ frames_passed setting past m h limit l c up =
     c.passed_is ∙ passed_pulled past m ((orderly setting past l).upgraded upgraded).incomplete ∙ passes_frames setting past m l upgraded plain
 
 -- what is left of it
-frames_rest_of : (setting : Setting) (past : List ParsedStep) (m : Message) (h : Head) (limit : ℕ) → h.body ≡ raw_body → accepted (steps past) ≡ Some limit
+frames_rest_of : (setting : Setting) (past : List ParsedStep) (m : Message) (h : Head) (limit : ℕ) → h.body ≡ raw_body
+    → accepted (steps past) ≡ Some limit
     → rest_of past m h.body ≡ frames_rest (is_receiving (steps past)) limit
 frames_rest_of setting past m h limit kind up = ap (rest_of past m) kind ∙ ap (raw_left past m) up
 
@@ -198,7 +199,8 @@ framed_by setting before o parse m h limit (f ∷ fs) w e x =
 
 -- a pull on a WebSocket
 pub frames_pull_changes : (setting : Setting) (before : List ParsedStep) (o : Outcome) (parse : List Message) (m : Message) (h : Head) (limit : ℕ)
-    → Legal setting (pull_of o parse ∷ before) → Current setting before m h → accepted (steps before) ≡ Some limit → Changes setting before (pull_of o parse)
+    → Legal setting (pull_of o parse ∷ before) → Current setting before m h → accepted (steps before) ≡ Some limit
+    → Changes setting before (pull_of o parse)
 frames_pull_changes setting before o parse m h limit l c up =
     let left = frames_left setting before m h limit l.3 c up in
     framed_by setting before o parse m h limit (drop (given_frames (steps before)) left.placed)

@@ -90,7 +90,8 @@ whole_some bytes (suc k) trailers runs x = omega arith
 
 -- at its start it isn't passed
 chunks_unpassed : (bytes : List ℕ) (ended : Bool) (size : ℕ) (m : Message) (a : Chunked) (runs : List Run)
-    → IsChunked (drop m.body_start bytes) a runs → m.body ≡ content (shifted m.body_start runs) (chunked_stop (input bytes None ended size) m.body_start a)
+    → IsChunked (drop m.body_start bytes) a runs
+    → m.body ≡ content (shifted m.body_start runs) (chunked_stop (input bytes None ended size) m.body_start a)
     → is_passed m.body_start m ≡ false
 chunks_unpassed bytes ended size m (whole k trailers) runs x e =
     let some = whole_some (drop m.body_start bytes) k trailers runs x in
@@ -100,7 +101,8 @@ chunks_unpassed bytes false size m unfinished runs x e = passed_by m.body_start 
 chunks_unpassed bytes ended size m not_chunked runs x e = passed_by m.body_start m _ e
 
 -- no byte of it was read
-none_read : (bytes : List ℕ) (a : ℕ) → chunks_rest (after start (slice_range bytes a a)) (read start (slice_range bytes a a)).trailers ≡ chunks_rest start []
+none_read : (bytes : List ℕ) (a : ℕ)
+    → chunks_rest (after start (slice_range bytes a a)) (read start (slice_range bytes a a)).trailers ≡ chunks_rest start []
 none_read bytes a =
     let none : a - a ≡ 0 = omega arith in
     let front : slice_range bytes a a ≡ [] = ap (λ n. take n (drop a bytes)) none in

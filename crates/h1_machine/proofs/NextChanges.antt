@@ -106,7 +106,8 @@ unfolding step_text
 pending_text setting t = refl
 
 -- the connection closes
-closed_changes : (setting : Setting) (before : List ParsedStep) (parse : List Message) (end : End) → Legal setting (next_of (on.closed end) parse ∷ before)
+closed_changes : (setting : Setting) (before : List ParsedStep) (parse : List Message) (end : End)
+    → Legal setting (next_of (on.closed end) parse ∷ before)
     → closing setting before ≡ Some end → Changes setting before (next_of (on.closed end) parse)
 closed_changes setting before parse end l e =
     let t = steps before in
@@ -127,7 +128,8 @@ open_is setting before c coming l e comes is =
     subst (λ closes. IsNext setting k closes c) (sym (closing_of setting before l ∙ e)) here
 
 -- a fault is told
-fault_changes : (setting : Setting) (before : List ParsedStep) (parse : List Message) (f : Fault) (end : ℕ) → Legal setting (next_of (on.fault f) parse ∷ before)
+fault_changes : (setting : Setting) (before : List ParsedStep) (parse : List Message) (f : Fault) (end : ℕ)
+    → Legal setting (next_of (on.fault f) parse ∷ before)
     → IsNext setting (kept_of setting before) (closing_by setting (kept_of setting before)) (behind_head (kept_of setting before) end (faulty f))
     → Changes setting before (next_of (on.fault f) parse)
 fault_changes setting before parse f end l is =
@@ -166,7 +168,8 @@ without_changes setting before parse o l e comes is =
 -- ---- a message is to come
 
 -- by what its head is read as
-coming_changes : (setting : Setting) (before : List ParsedStep) (parse : List Message) (o : Outcome) (m : Message) (r : Reading) → Legal setting (next_of o parse ∷ before)
+coming_changes : (setting : Setting) (before : List ParsedStep) (parse : List Message) (o : Outcome) (m : Message) (r : Reading)
+    → Legal setting (next_of o parse ∷ before)
     → closing setting before ≡ None → is_open (steps before) ≡ false → upcoming before ≡ Some m → m.reading ≡ r → o ≡ head_outcome r
     → Changes setting before (next_of o parse)
 coming_changes setting before parse o m r l e shut up read is = by_reading r read is
@@ -197,7 +200,8 @@ running_test true closed opened x e = absurd (true≢false e)
 running_test false closed opened x e = x
 
 -- so of a legal call
-shut_next : (setting : Setting) (past : List ParsedStep) → IsTrue (is_allowed setting past on.next) → closing setting past ≡ None → is_open (steps past) ≡ false
+shut_next : (setting : Setting) (past : List ParsedStep) → IsTrue (is_allowed setting past on.next) → closing setting past ≡ None
+    → is_open (steps past) ≡ false
 unfolding is_allowed
 shut_next setting past ok e =
     not-true (is_open (steps past)) (running_test (is_some (closing setting past)) true (not (is_open (steps past))) (and_parts _ _ ok).1 (ap is_some e))
@@ -225,7 +229,8 @@ next_of_changes setting before o parse l =
     next_by setting before parse o (closing setting before) (upcoming before) l refl refl (l.2 ∙ next_answers setting before)
 
 -- the next request is asked for
-pub next_changes : (setting : Setting) (before : List ParsedStep) (x : ParsedStep) → Legal setting (x ∷ before) → x.step.event ≡ on.next → Changes setting before x
+pub next_changes : (setting : Setting) (before : List ParsedStep) (x : ParsedStep) → Legal setting (x ∷ before) → x.step.event ≡ on.next
+    → Changes setting before x
 next_changes setting before x l e =
     let of : Event → ParsedStep = λ v. record { step = record { event = v; outcome = x.step.outcome }; parse = x.parse } in
     let P : Event → Type 0 = λ v. Legal setting (of v ∷ before) → Changes setting before (of v) in

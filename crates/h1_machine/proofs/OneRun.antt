@@ -150,7 +150,8 @@ least_idle m end s t idle fits old =
     omega (arith, idle_pulled m s t idle, given_bytes-more s t idle.head, idle.bytes)
 
 -- behind every legal past
-least : (setting : Setting) (past : List ParsedStep) (m : Message) (end : ℕ) (stop : Stop) → Legal setting past → OneRun m end stop → PullsFit m (steps past)
+least : (setting : Setting) (past : List ParsedStep) (m : Message) (end : ℕ) (stop : Stop) → Legal setting past → OneRun m end stop
+    → PullsFit m (steps past)
     → Least m end (steps past)
 unfolding since_head
 least setting [] m end stop l r fits = omega (arith, pulled_to-nil m)
@@ -175,7 +176,8 @@ least setting (x ∷ before) m end stop l r fits =
 -- ---- the current message
 
 -- As much is passed as was given, and no more than there is.
-pub one_passed : (setting : Setting) (past : List ParsedStep) (m : Message) (h : Head) (end : ℕ) (stop : Stop) → Legal setting past → Current setting past m h
+pub one_passed : (setting : Setting) (past : List ParsedStep) (m : Message) (h : Head) (end : ℕ) (stop : Stop) → Legal setting past
+    → Current setting past m h
     → OneRun m end stop → is_complete (steps past) ≡ false → (next_start m.body ≡ Some end) ⊎ (end ≡ length (taken (steps past)))
     → (passed past ≡ m.body_start + given_bytes (steps past)) × (passed past ≤ end)
 one_passed setting past m h end stop l c r open_yet upto =
@@ -199,7 +201,8 @@ one_passed setting past m h end stop l c r open_yet upto =
     ]
 
 -- the bytes that are left are given
-pub one_gives : (past : List ParsedStep) (m : Message) (end : ℕ) (stop : Stop) → OneRun m end stop → passed past ≡ m.body_start + given_bytes (steps past)
+pub one_gives : (past : List ParsedStep) (m : Message) (end : ℕ) (stop : Stop) → OneRun m end stop
+    → passed past ≡ m.body_start + given_bytes (steps past)
     → passed past < end → pull_outcome (steps past) (Some m) ≡ on.bytes (slice_range (taken (steps past)) (passed past) end)
 one_gives past m end stop r place more =
     let t = steps past in
@@ -207,7 +210,8 @@ one_gives past m end stop r place more =
     ∙ ap (λ n. on.bytes (slice_range (taken t) n end)) (sym place)
 
 -- where none is left the body stops
-pub one_stops : (past : List ParsedStep) (m : Message) (end : ℕ) (stop : Stop) → OneRun m end stop → passed past ≡ m.body_start + given_bytes (steps past)
+pub one_stops : (past : List ParsedStep) (m : Message) (end : ℕ) (stop : Stop) → OneRun m end stop
+    → passed past ≡ m.body_start + given_bytes (steps past)
     → end ≤ passed past → pull_outcome (steps past) (Some m) ≡ stop_outcome (gave_trailers (steps past)) stop
 one_stops past m end stop r place all =
     let t = steps past in

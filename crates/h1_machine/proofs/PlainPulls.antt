@@ -31,7 +31,8 @@ EndsAt past m end = (next_start m.body ≡ Some end) ⊎ (end ≡ length (taken 
 
 -- a pull passes what it gives
 pub passed_more : (setting : Setting) (before : List ParsedStep) (o : Outcome) (parse : List Message) (m : Message) (h : Head) (end : ℕ) (stop : Stop)
-    → Legal setting (pull_of o parse ∷ before) → Current setting before m h → OneRun m end stop → is_complete (steps before) ≡ false → EndsAt before m end
+    → Legal setting (pull_of o parse ∷ before) → Current setting before m h → OneRun m end stop → is_complete (steps before) ≡ false
+    → EndsAt before m end
     → passed (pull_of o parse ∷ before) ≡ passed before + step_bytes o
 passed_more setting before o parse m h end stop l c r open_yet upto =
     let t = steps before in
@@ -178,7 +179,8 @@ fixed_ends setting before o parse m h n l c kind open_yet r upto place all =
 
 -- no byte is there: the input may go on, or has ended
 fixed_lacks : (setting : Setting) (before : List ParsedStep) (o : Outcome) (parse : List Message) (m : Message) (h : Head) (n : ℕ) (ended : Bool)
-    → Legal setting (pull_of o parse ∷ before) → Current setting before m h → h.body ≡ fixed_body n → is_complete (steps before) ≡ false → has_ended (steps before) ≡ ended
+    → Legal setting (pull_of o parse ∷ before) → Current setting before m h → h.body ≡ fixed_body n → is_complete (steps before) ≡ false
+    → has_ended (steps before) ≡ ended
     → OneRun m (length (taken (steps before))) (open_or_cut ended) → passed before ≡ m.body_start + given_bytes (steps before)
     → passed before ≡ length (taken (steps before)) → length (taken (steps before)) < m.body_start + n → Changes setting before (pull_of o parse)
 fixed_lacks setting before o parse m h n ended l c kind open_yet e r place all short = go ended e r

@@ -54,7 +54,8 @@ pull_of_changes setting before o parse l =
     by_protocol setting before o parse (accepted (steps before)) refl l (allowed_open setting before on.pull refl l.1)
 
 -- more of a body is asked for
-pub pull_changes : (setting : Setting) (before : List ParsedStep) (x : ParsedStep) → Legal setting (x ∷ before) → x.step.event ≡ on.pull → Changes setting before x
+pub pull_changes : (setting : Setting) (before : List ParsedStep) (x : ParsedStep) → Legal setting (x ∷ before) → x.step.event ≡ on.pull
+    → Changes setting before x
 pull_changes setting before x l e =
     let of : Event → ParsedStep = λ v. record { step = record { event = v; outcome = x.step.outcome }; parse = x.parse } in
     let P : Event → Type 0 = λ v. Legal setting (of v ∷ before) → Changes setting before (of v) in

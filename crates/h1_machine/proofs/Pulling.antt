@@ -50,7 +50,8 @@ unfolding step_text
 pull_text setting t o = refl
 
 -- the current message is the same
-pub pull_current : (setting : Setting) (before : List ParsedStep) (o : Outcome) (parse : List Message) (m : Message) → Legal setting (pull_of o parse ∷ before)
+pub pull_current : (setting : Setting) (before : List ParsedStep) (o : Outcome) (parse : List Message) (m : Message)
+    → Legal setting (pull_of o parse ∷ before)
     → current before ≡ Some m → current (pull_of o parse ∷ before) ≡ Some m
 pull_current setting before o parse m l e =
     current-calm setting before (pull_of o parse) l calm_pull refl (pull_headless setting before o parse l) ∙ e

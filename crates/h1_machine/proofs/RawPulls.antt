@@ -33,7 +33,8 @@ raw_ends true len place e = sym (same_Some len place e)
 raw_ends false len place e = absurd (none-some place e)
 
 -- the run of such a body
-raw_run : (setting : Setting) (past : List ParsedStep) (m : Message) (h : Head) → Current setting past m h → h.body ≡ raw_body → accepted (steps past) ≡ None
+raw_run : (setting : Setting) (past : List ParsedStep) (m : Message) (h : Head) → Current setting past m h → h.body ≡ raw_body
+    → accepted (steps past) ≡ None
     → OneRun m (length (taken (steps past))) (raw_stop (has_ended (steps past)) (length (taken (steps past))))
 raw_run setting past m h c kind plain =
     let i = input_of setting (steps past) in
@@ -52,7 +53,8 @@ abbrev pub raw_rest_at : Bool → ℕ → ℕ → Rest
 raw_rest_at ended len place = if ended then (if nat_le len place then no_rest else raw_rest) else raw_rest
 
 -- that is what is kept
-raw_rest_of : (past : List ParsedStep) (m : Message) (len : ℕ) (ended : Bool) → accepted (steps past) ≡ None → m.body ≡ content (run_between m.body_start len) (raw_stop ended len)
+raw_rest_of : (past : List ParsedStep) (m : Message) (len : ℕ) (ended : Bool) → accepted (steps past) ≡ None
+    → m.body ≡ content (run_between m.body_start len) (raw_stop ended len)
     → rest_of past m raw_body ≡ raw_rest_at ended len (passed past)
 raw_rest_of past m len ended plain body =
     ap (raw_left past m) plain
@@ -94,14 +96,16 @@ record Raw (setting : Setting) (before : List ParsedStep) (o : Outcome) (parse :
   pub run : OneRun m (length (taken (steps before))) (raw_stop (has_ended (steps before)) (length (taken (steps before))))
 
 -- what is left of it before the pull
-raw_before : (setting : Setting) (before : List ParsedStep) (o : Outcome) (parse : List Message) (m : Message) (h : Head) → Raw setting before o parse m h
+raw_before : (setting : Setting) (before : List ParsedStep) (o : Outcome) (parse : List Message) (m : Message) (h : Head)
+    → Raw setting before o parse m h
     → rest_of before m h.body ≡ raw_rest_at (has_ended (steps before)) (length (taken (steps before))) (passed before)
 raw_before setting before o parse m h w =
     let t = steps before in
     ap (rest_of before m) w.kind ∙ raw_rest_of before m (length (taken t)) (has_ended t) w.unaccepted w.run.body
 
 -- and behind the pull
-raw_behind : (setting : Setting) (before : List ParsedStep) (o p : Outcome) (parse : List Message) (m : Message) (h : Head) → Raw setting before o parse m h
+raw_behind : (setting : Setting) (before : List ParsedStep) (o p : Outcome) (parse : List Message) (m : Message) (h : Head)
+    → Raw setting before o parse m h
     → rest_of (pull_of p parse ∷ before) m h.body ≡ raw_rest_at (has_ended (steps before)) (length (taken (steps before))) (passed (pull_of p parse ∷ before))
 raw_behind setting before o p parse m h w =
     let t = steps before in
@@ -110,8 +114,10 @@ raw_behind setting before o p parse m h w =
     ap (rest_of (x ∷ before) m) w.kind ∙ raw_rest_of (x ∷ before) m (length (taken t)) (has_ended t) plain w.run.body
 
 -- bytes are given
-raw_gives : (setting : Setting) (before : List ParsedStep) (o : Outcome) (parse : List Message) (m : Message) (h : Head) → Raw setting before o parse m h
-    → passed before ≡ m.body_start + given_bytes (steps before) → passed before < length (taken (steps before)) → Changes setting before (pull_of o parse)
+raw_gives : (setting : Setting) (before : List ParsedStep) (o : Outcome) (parse : List Message) (m : Message) (h : Head)
+    → Raw setting before o parse m h
+    → passed before ≡ m.body_start + given_bytes (steps before) → passed before < length (taken (steps before))
+    → Changes setting before (pull_of o parse)
 raw_gives setting before o parse m h w place more =
     let t = steps before in
     let len = length (taken t) in
@@ -135,9 +141,11 @@ raw_gives setting before o parse m h w place more =
     })
 
 -- no byte is there: the body has ended with the input, or may go on
-raw_stops : (setting : Setting) (before : List ParsedStep) (o : Outcome) (parse : List Message) (m : Message) (h : Head) (ended : Bool) → Raw setting before o parse m h
+raw_stops : (setting : Setting) (before : List ParsedStep) (o : Outcome) (parse : List Message) (m : Message) (h : Head) (ended : Bool)
+    → Raw setting before o parse m h
     → has_ended (steps before) ≡ ended → OneRun m (length (taken (steps before))) (raw_stop ended (length (taken (steps before))))
-    → passed before ≡ m.body_start + given_bytes (steps before) → length (taken (steps before)) ≤ passed before → Changes setting before (pull_of o parse)
+    → passed before ≡ m.body_start + given_bytes (steps before) → length (taken (steps before)) ≤ passed before
+    → Changes setting before (pull_of o parse)
 raw_stops setting before o parse m h true w e r place all =
     let t = steps before in
     let len = length (taken t) in
