@@ -56,7 +56,7 @@ TakesNext place at bytes text run breaks = run ≡ None
 -- ---- one byte outside of a chunk
 
 -- the runs from there on are those from the next place on
-walked_on : (len place : ℕ) (at : Place) (b : ℕ) (bytes : List ℕ) → in_chunk at ≡ false → walked len place at (b ∷ bytes) ≡ walked len (place + 1) (step at b) bytes
+pub walked_on : (len place : ℕ) (at : Place) (b : ℕ) (bytes : List ℕ) → in_chunk at ≡ false → walked len place at (b ∷ bytes) ≡ walked len (place + 1) (step at b) bytes
 walked_on len place (in_bytes more) b bytes outside = cc
 walked_on len place at b bytes outside =
     ap (cut_runs len) (runs_of-cons place at b bytes ∙ ap (λ l. l ++ runs_of (place + 1) (step at b) bytes) (opened_is_current place at b refl))
