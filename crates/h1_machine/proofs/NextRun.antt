@@ -43,6 +43,7 @@ pub record IsChunkTaken (place : ℕ) (at : Place) (bytes text : List ℕ) (run 
   pub order : from < size
   pub within : size ≤ length bytes
   pub next_is : next ≡ after at (take size bytes)
+  pub lives : IsLive next
   pub behind_is : behind ≡ drop size bytes
   pub reads : read at (take size bytes) ≡ with_trailers text (with_bytes given (only (at_end next)))
 
@@ -90,6 +91,7 @@ chunk_on place at b bytes text text' run given next behind unended alike x =
       order = omega arith;
       within = omega arith;
       next_is = x.next_is ∙ sym (after-cons at b (take x.size bytes));
+      lives = x.lives;
       behind_is = x.behind_is;
       reads = read-cons at b (take x.size bytes) unended ∙ ap (noted at (step at b) b) x.reads ∙ alike given (at_end next);
     }
@@ -165,6 +167,7 @@ chunk_all place more b bytes fits =
       order = omega arith;
       within = omega arith;
       next_is = sym (after_all front more size);
+      lives = record { not_done = λ e. cc; not_broken = λ e. cc };
       behind_is = refl;
       reads = ap (read (in_bytes more)) (sym (append-nil front)) ∙ bytes_read front more [] size ∙ ap (with_bytes front) (read-nil bytes_end);
     }
@@ -196,6 +199,7 @@ chunk_some place more b bytes past =
       order = omega arith;
       within = omega arith;
       next_is = sym (ap (after (in_bytes more)) front ∙ after_some all more past);
+      lives = record { not_done = λ e. cc; not_broken = λ e. cc };
       behind_is = sym (drop_all size all (omega arith));
       reads = ap (read (in_bytes more)) front ∙ some_read more b bytes past;
     }
