@@ -17,7 +17,7 @@ use Rattle.h1_model.specs.Event.{Event, Outcome}
 use Rattle.h1_model.specs.Event as on
 use Rattle.h1_model.specs.End as ends
 use Rattle.h1_model.specs.End.{End}
-use Rattle.h1_machine.specs.Kept.{Rest, no_rest, raw_rest, frames_rest, Exchange, Kept, new_exchange, is_free, now}
+use Rattle.h1_machine.specs.Kept.{frames_rest, Exchange, Kept, whole_rest, rest_in, new_exchange, is_free, now}
 use Rattle.h1_machine.specs.Local.{closing_by}
 use Rattle.h1_machine.specs.Body.{passing}
 use Rattle.h1_machine.specs.Pull.{Pulled, IsPull}
@@ -44,14 +44,9 @@ reading setting bytes k =
     let n = min (length bytes) (setting.hold_size - length k.unread) in
     record { outcome = on.took n; kept = passing (record k { unread = k.unread ++ take n bytes }) }
 
--- with the input a raw body ends of which no byte is left
-abbrev pub rest_at_end : List ℕ → Rest → Rest
-rest_at_end [] raw_rest = no_rest
-rest_at_end bytes rest = rest
-
 abbrev pub exchange_at_end : List ℕ → Option Exchange → Option Exchange
 exchange_at_end bytes None = None
-exchange_at_end bytes (Some x) = Some (record x { rest = rest_at_end bytes x.rest })
+exchange_at_end bytes (Some x) = Some (record x { rest = rest_in true bytes x.rest })
 
 abbrev pub ending_input : Kept → Kept
 ending_input k = passing (record k { has_ended = true; exchange = exchange_at_end k.unread k.exchange })
@@ -63,7 +58,8 @@ abbrev pub behind_head : Kept → ℕ → Reading → Change
 behind_head k end (faulty f) =
     record { outcome = on.fault f; kept = record k { told = Some (fault_end f); buffered = k.buffered ++ fault_answer f (now k) } }
 behind_head k end (head_is h) =
-    record { outcome = on.head h; kept = record k { unread = drop end k.unread; exchange = Some (new_exchange h) } }
+    let unread = drop end k.unread in
+    record { outcome = on.head h; kept = record k { unread = unread; exchange = Some (new_exchange (rest_in k.has_ended unread (whole_rest h.body)) h) } }
 
 -- no more bytes can be taken for a head, or none is there yet
 abbrev pub without_head : Setting → Kept → Change

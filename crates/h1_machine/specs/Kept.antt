@@ -1,5 +1,5 @@
 -- What a connection keeps: bounded parts, each a value of the model's.
-use Rattle.std.specs.Prelude.{ℕ, Bool, true, false, not, ◌&&◌, ◌||◌, List, [], Option, Some, None, unwrap_or}
+use Rattle.std.specs.Prelude.{ℕ, Bool, true, false, not, ◌&&◌, ◌||◌, List, [], ◌∷◌, Option, Some, None, unwrap_or}
 use Rattle.h1_chunks.specs.Place.{Place, start}
 use Rattle.h1_model.specs.Request.{BodyKind, no_body, fixed_body, chunked_body, raw_body, ConnectionType, Head, has_body}
 use Rattle.h1_model.specs.Answer.{Asked, asked_of, Shape}
@@ -84,16 +84,21 @@ whole_rest (fixed_body n) = fixed_rest n
 whole_rest chunked_body = chunks_rest start []
 whole_rest raw_body = raw_rest
 
--- a request that was just handed out
-abbrev pub new_exchange : Head → Exchange
-new_exchange h =
+-- with the input a raw body ends of which no byte is left
+abbrev pub rest_in : Bool → List ℕ → Rest → Rest
+rest_in true [] raw_rest = no_rest
+rest_in has_ended unread rest = rest
+
+-- a request that was just handed out, and what is left of its body
+abbrev pub new_exchange : Rest → Head → Exchange
+new_exchange rest h =
     record {
       asked = asked_of h;
       has_body = has_body h.body;
       expects = h.expects;
       refusal = handshake_error h;
       accept_key = accept_key_of h;
-      rest = whole_rest h.body;
+      rest = rest;
       reply = unanswered;
       was_pulled = false;
       was_dropped = false;
