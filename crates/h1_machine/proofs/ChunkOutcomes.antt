@@ -59,7 +59,7 @@ abbrev pub FollowsTo : Message → List Step → Type 0
 FollowsTo m trace = Follows m.body_start (pulled_to m trace) (taken trace) (given_bytes trace) (gave_trailers trace) (gave_up trace)
 
 -- the same of equal parts
-same_follows : (place u u' : ℕ) (b b' : List ℕ) (g g' : ℕ) (t t' f f' : Bool) → u ≡ u' → b ≡ b' → g ≡ g' → t ≡ t' → f ≡ f'
+pub same_follows : (place u u' : ℕ) (b b' : List ℕ) (g g' : ℕ) (t t' f f' : Bool) → u ≡ u' → b ≡ b' → g ≡ g' → t ≡ t' → f ≡ f'
     → Follows place u b g t f → Follows place u' b' g' t' f'
 same_follows place u u' b b' g g' t t' f f' eu eb eg et ef x =
     subst (λ v. Follows place u' b' g' t' v) ef (subst (λ v. Follows place u' b' g' v f) et
