@@ -126,6 +126,15 @@ pulled_fault m trace f =
     given_none m.body_start (pulled_to m trace) (taken trace) (given_bytes trace) (gave_trailers trace) true
     (follows_fault m.body_start (pulled_to m trace) (given_bytes trace) (taken trace) (gave_trailers trace) (gave_up trace) f)
 
+-- where nothing comes, all is passed
+pub place_pending : (r : Reading) (place : ℕ) (runs : List Run) (stop : Stop) (trace : List Step) → has_chunks r ≡ true
+    → unwrap_or (pulled_place (in_chunks r place runs stop) (step on.pull on.pending ∷ trace) on.pull on.pending) (pulled_to (in_chunks r place runs stop) trace)
+    ≡ length (taken trace)
+place_pending r place runs stop trace chunks =
+    let s = step on.pull on.pending in
+    let len : length (taken (s ∷ trace)) ≡ length (taken trace) = ap length (taken-cons s trace ∙ append-nil (taken trace)) in
+    ap (λ o. unwrap_or o (pulled_to (in_chunks r place runs stop) trace)) (cond-true (has_chunks r) (Some (length (taken (s ∷ trace)))) None chunks) ∙ len
+
 -- nothing comes, by whether the input has ended
 pulled_wait : (r : Reading) (place : ℕ) (runs : List Run) (stop : Stop) (trace : List Step) (text : List ℕ) (a : Chunked) (next : Place) (is_ended : Bool)
     → has_chunks r ≡ true → FollowsTo (in_chunks r place runs stop) trace
@@ -135,11 +144,7 @@ pulled_wait : (r : Reading) (place : ℕ) (runs : List Run) (stop : Stop) (trace
 pulled_wait r place runs stop trace text a next true chunks f e x = pulled_fault (in_chunks r place runs stop) trace f
 pulled_wait r place runs stop trace text a next false chunks f e x =
     let m = in_chunks r place runs stop in
-    let s = step on.pull on.pending in
-    let len : length (taken (s ∷ trace)) ≡ length (taken trace) = ap length (taken-cons s trace ∙ append-nil (taken trace)) in
-    let upto : unwrap_or (pulled_place m (s ∷ trace) on.pull on.pending) (pulled_to m trace) ≡ length (taken trace) =
-        ap (λ o. unwrap_or o (pulled_to m trace)) (cond-true (has_chunks r) (Some (length (taken (s ∷ trace)))) None chunks) ∙ len in
-    subst (λ n. Follows place n (taken trace) (given_bytes trace + 0) (gave_trailers trace) (gave_up trace)) (sym upto)
+    subst (λ n. Follows place n (taken trace) (given_bytes trace + 0) (gave_trailers trace) (gave_up trace)) (sym (place_pending r place runs stop trace chunks))
     (given_none place (length (taken trace)) (taken trace) (given_bytes trace) (gave_trailers trace) (gave_up trace)
     (follows_wait place (pulled_to m trace) (given_bytes trace) (taken trace) text (gave_trailers trace) (gave_up trace) a
     (run_left (given_bytes trace) (shifted place runs)) next f e x))
