@@ -8,7 +8,8 @@ use Rattle.h1_chunks.specs.Reading.{Reading, goes_on, is_broken, read}
 use Rattle.h1_chunks.specs.ChunkedText.{Trailer}
 use Rattle.h1_chunks.specs.Runs.{Run}
 use Rattle.h1_chunks.specs.Chunked.{Chunked, whole, unfinished, not_chunked, IsChunked}
-use Rattle.h1_chunks.proofs.ReadAfter.{after-append, read-broken, read-append}
+use Rattle.h1_chunks.proofs.ReadSteps.{read_broken}
+use Rattle.h1_chunks.proofs.ReadAfter.{after-append, read-append}
 use Rattle.h1_chunks.proofs.Beginnings.{begins_take, whole_begins}
 use Rattle.h1_chunks.proofs.Verdicts.{verdict, begins_live}
 use Rattle.h1_chunks.proofs.Agreement.{whole_read, unfinished_read, broken_read}
@@ -47,7 +48,7 @@ place_behind bytes n = sym (after-append start (take n bytes) (drop n bytes)) �
 rest_broken : (bytes : List ℕ) (n : ℕ) → (read start bytes).ending ≡ is_broken → (read (after start (take n bytes)) (drop n bytes)).ending ≡ is_broken
 rest_broken bytes n e = elim (verdict (after start (take n bytes))) [
   | inl ends ↦ ending_behind bytes n (λ breaks. done_apart (sym ends ∙ breaks)) ∙ e
-  | inr (inl breaks) ↦ ap (λ p. (read p (drop n bytes)).ending) breaks ∙ ap (λ (r : Reading). r.ending) (read-broken (drop n bytes))
+  | inr (inl breaks) ↦ ap (λ p. (read p (drop n bytes)).ending) breaks ∙ ap (λ (r : Reading). r.ending) (read_broken (drop n bytes))
   | inr (inr live) ↦ ending_behind bytes n live.not_broken ∙ e
 ]
   where
