@@ -9,10 +9,10 @@ use Rattle.h1_model.specs.Parse.{Message}
 use Rattle.h1_model.specs.Handshake.{HandshakeError, handshake_error, accept_key_of, accepting_head}
 use Rattle.h1_model.specs.Event.{Event, Outcome}
 use Rattle.h1_model.specs.Event as on
-use Rattle.h1_model.specs.Sums.{Step, is_pull, request, completes, is_complete, is_open, is_upgraded, was_pulled, was_dropped, accepted, is_draining, now, answered}
+use Rattle.h1_model.specs.Sums.{Step, is_pull, request, completes, is_complete, is_open, is_upgraded, was_pulled, was_dropped, accepted, answered}
 use Rattle.h1_model.specs.Past.{ParsedStep, steps, current, passed}
 use Rattle.h1_model.specs.Text.{answer_head_text, accept_text, step_text, buffered}
-use Rattle.h1_model.specs.Allowed.{is_over, is_unanswered, asks_raw}
+use Rattle.h1_model.specs.Allowed.{is_unanswered, asks_raw}
 use Rattle.h1_model.specs.OutcomeTable.{accept_outcome, outcome_of}
 use Rattle.h1_model.proofs.PastLemmas.{Legal}
 use Rattle.h1_model.proofs.StepLemmas.{accepted-cons, allowed_open}
@@ -155,7 +155,7 @@ accepted_changes setting before limit parse m h w wrong =
     let written : text ≡ buffered setting (x.step ∷ t) =
     ap (λ answer. k.buffered ++ answer_head_text setting k.is_draining old.asked (accepting_head answer) size_stream (kept.now k)) key
     ∙ sym (buffered-more setting x.step before w.legal.3 refl ∙ ap (λ b. k.buffered ++ b) (accepted_text setting t limit)
-        ∙ ap (λ asked. k.buffered ++ accept_text setting t asked) w.current.request_is) in
+    ∙ ap (λ asked. k.buffered ++ accept_text setting t asked) w.current.request_is) in
     let exchange = Some (record old { rest = frames_rest false limit }) in
     record {
       change = record { outcome = on.done; kept = record k { buffered = text; exchange = exchange } };

@@ -1,13 +1,13 @@
 -- What a pull passes of a body in chunks, and what then holds of the text that is passed.
-use Rattle.std.proofs.Common.{◌≡◌, ℕ, ◌+◌, ◌≤◌, Bool, true, false, List, [], ◌∷◌, ◌++◌, length, take, drop, Option, refl, sym, ap, ◌∙◌, subst, arith, append-nil, length-append}
+use Rattle.std.proofs.Common.{◌≡◌, ℕ, ◌+◌, ◌≤◌, Bool, true, List, [], ◌∷◌, ◌++◌, length, drop, Option, refl, sym, ap, ◌∙◌, arith, append-nil, length-append}
 use Rattle.std.specs.Prelude.{◌||◌, slice_range}
 use Rattle.std.proofs.lemmas.Bool.{or_right}
 use Rattle.h1_chunks.specs.Runs.{Run}
 use Rattle.h1_chunks.specs.Chunked.{Chunked}
-use Rattle.h1_chunks.specs.Place.{Place, done, broken, start, after}
+use Rattle.h1_chunks.specs.Place.{Place, done, start, after}
 use Rattle.h1_chunks.specs.Reading.{Reading, read}
-use Rattle.h1_chunks.specs.TakeNext.{Next, chunk, waits, ended, breaks, Taken, nothing_noted, take_next}
-use Rattle.h1_chunks.proofs.ReadAfter.{read-nil}
+use Rattle.h1_chunks.specs.TakeNext.{chunk, waits, ended, Taken, nothing_noted, take_next}
+use Rattle.h1_chunks.proofs.ReadSteps.{read-nil}
 use Rattle.h1_machine.proofs.ChunkStops.{IsWholeTaken}
 use Rattle.h1_machine.proofs.PassedText.{part_front, part_all, Follows}
 use Rattle.h1_machine.proofs.ChunkGives.{IsGiven, IsWaiting, next_of}
@@ -60,7 +60,7 @@ follows_wait place upto given bytes text told finished a left next f e x =
     let all = part_all bytes place in
     let here = ap (after start) all ∙ x.next_is in
     let body = ap (λ (r : Reading). r.body) x.reads
-        ∙ ap (λ (r : Reading). (read start (slice_range bytes place upto)).body ++ r.body) (read-nil next) ∙ append-nil (read start (slice_range bytes place upto)).body in
+    ∙ ap (λ (r : Reading). (read start (slice_range bytes place upto)).body ++ r.body) (read-nil next) ∙ append-nil (read start (slice_range bytes place upto)).body in
     record {
       order = omega arith;
       within = omega arith;

@@ -1,22 +1,22 @@
 -- The outcome of a pull of a body in chunks, and what holds of the passed text behind it.
-use Rattle.std.proofs.Common.{◌≡◌, ℕ, ◌+◌, ◌-◌, ◌≤◌, Bool, true, false, List, [], ◌∷◌, ◌++◌, length, drop, map, Option, Some, None, refl, sym, ap, ◌∙◌, subst, arith, append-nil, length-drop}
+use Rattle.std.proofs.Common.{◌≡◌, ℕ, ◌+◌, ◌≤◌, Bool, true, false, List, [], ◌∷◌, ◌++◌, length, drop, map, Option, Some, None, refl, sym, ap, ◌∙◌, subst, arith, append-nil, length-drop}
 use Rattle.std.specs.Prelude.{◌||◌, slice_range, unwrap_or}
 use Rattle.std.specs.List.{list_any}
 use Rattle.std.proofs.lemmas.Bool.{cond-true, or_right}
 use Rattle.h1_chunks.specs.ChunkedText.{Trailer}
 use Rattle.h1_chunks.specs.Runs.{Run}
-use Rattle.h1_chunks.specs.Chunked.{Chunked, whole, unfinished, not_chunked, IsChunked}
+use Rattle.h1_chunks.specs.Chunked.{Chunked, whole, not_chunked, IsChunked}
 use Rattle.h1_chunks.specs.Place.{Place}
 use Rattle.h1_chunks.specs.TakeNext.{Next, chunk, waits, ended, breaks}
 use Rattle.h1_model.specs.Request.{Header, Reading}
-use Rattle.h1_model.specs.Parse.{Input, Message, Body, content, Stop, open_or_cut, shifted, trailer_header, chunked_stop, next_start, runs_of}
+use Rattle.h1_model.specs.Parse.{Input, Message, content, Stop, open_or_cut, shifted, trailer_header, chunked_stop}
 use Rattle.h1_model.specs.Event.{Event, Outcome, corrupted, incomplete}
 use Rattle.h1_model.specs.Event as on
 use Rattle.h1_model.specs.Sums.{Step, step_taken, taken, head_of, since_head}
 use Rattle.h1_model.specs.Past.{step_bytes, given_bytes, place_behind, has_chunks, pulled_place, pulled_to}
 use Rattle.h1_model.specs.Allowed.{gives_up}
 use Rattle.h1_model.specs.OutcomeTable.{run_left, is_trailers, gave_trailers, ended_outcome, stop_outcome, run_outcome, body_outcome}
-use Rattle.h1_model.proofs.PlaceLemmas.{run_len, left_some, left_place}
+use Rattle.h1_model.proofs.PlaceLemmas.{run_len, left_place}
 use Rattle.h1_model.proofs.StepLemmas.{step, taken-cons, since_head-more, given_bytes-more}
 use Rattle.h1_model.proofs.PulledLemmas.{pulled_to-more}
 use Rattle.h1_machine.proofs.ChunkStops.{IsWholeTaken}
@@ -192,8 +192,8 @@ pulled_by r place runs i trace text a (ended behind) chunks f e x =
     let fits = whole_within bytes front text place a behind (omega arith) w in
     let o = ended_outcome (gave_trailers trace) (map trailer_header w.trailers) in
     let here : Pulled (in_chunks r place runs (chunked_stop i place (whole w.size w.trailers))) trace o =
-        pulled_end r place runs i trace text w.size w.trailers (gave_trailers trace) (map trailer_header w.trailers)
-        (λ told' finished' closed. follows_end place (pulled_to m trace) (given_bytes trace) bytes text (gave_trailers trace) (gave_up trace) told' finished' a behind f w fits closed) in
+    pulled_end r place runs i trace text w.size w.trailers (gave_trailers trace) (map trailer_header w.trailers)
+    (λ told' finished' closed. follows_end place (pulled_to m trace) (given_bytes trace) bytes text (gave_trailers trace) (gave_up trace) told' finished' a behind f w fits closed) in
     subst (Pulled m trace) (sym (outcome_ended trace i place (drop place bytes) front text a left behind x.0 w))
     (subst (λ (b : Chunked). Pulled (in_chunks r place runs (chunked_stop i place b)) trace o) (sym w.kind) here)
 pulled_by r place runs i trace text a breaks chunks f e x =

@@ -1,23 +1,23 @@
 -- Behind a legal past, the text that pulls passed of the current body in chunks says what was given.
-use Rattle.std.proofs.Common.{◌≡◌, ℕ, zero, suc, ◌+◌, ◌-◌, ◌≤◌, Bool, true, false, cond, eqb, List, [], ◌∷◌, ◌++◌, length, drop, Option, Some, None, refl, sym, ap, ◌∙◌, subst, subst₂, inl, inr, arith, append-nil}
+use Rattle.std.proofs.Common.{◌≡◌, ℕ, zero, suc, ◌+◌, ◌-◌, true, false, cond, eqb, List, [], ◌∷◌, ◌++◌, length, Some, None, refl, sym, ap, ◌∙◌, subst, subst₂, inl, inr, arith, append-nil}
 use Rattle.std.specs.Prelude.{◌||◌, slice_get, unwrap_or}
 use Rattle.std.specs.List.{list_any}
 use Rattle.std.specs.Option.{option_or}
 use Rattle.std.proofs.lemmas.Option.{none-some, same_Some}
-use Rattle.std.proofs.lemmas.Bool.{or_parts, true≢false, false≢true}
+use Rattle.std.proofs.lemmas.Bool.{or_parts, false≢true}
 use Rattle.h1_model.specs.Request.{BodyKind, chunked_body, no_body, fixed_body, raw_body, is_chunked_kind, Head, Reading, head_is}
 use Rattle.h1_model.specs.Setting.{Setting}
 use Rattle.h1_model.specs.Parse.{Input, Message, IsBodyOf, IsBodyAfter, chunked_stop}
 use Rattle.h1_model.specs.Event.{Event, Outcome}
 use Rattle.h1_model.specs.Event as on
-use Rattle.h1_model.specs.Sums.{Step, step_taken, taken, is_eof, has_ended, accepted_limit, accepted, head_of, since_head, was_pulled, was_dropped}
+use Rattle.h1_model.specs.Sums.{Step, step_taken, taken, is_eof, has_ended, accepted_limit, accepted, head_of, was_pulled, was_dropped}
 use Rattle.h1_model.specs.Past.{ParsedStep, steps, input_of, parse_of, head_count, current, step_bytes, given_bytes, has_chunks, pulled_place, pulled_to}
 use Rattle.h1_model.specs.Allowed.{gives_up}
 use Rattle.h1_model.specs.OutcomeTable.{is_trailers, gave_trailers, body_outcome, pull_outcome}
 use Rattle.h1_model.proofs.PastLemmas.{Legal}
 use Rattle.h1_model.proofs.BodyLemmas.{input}
 use Rattle.h1_model.proofs.PlaceLemmas.{get_before}
-use Rattle.h1_model.proofs.StepLemmas.{step, taken-cons, accepted-cons, since_head-head, head_count-more, given_bytes-head, Quiet, Reads, Ends, Accepts, Begins, Pulls, quiet, reads, stops, accepts, begins, pulls, step_case, parsed, same_input, same_parse}
+use Rattle.h1_model.proofs.StepLemmas.{step, taken-cons, accepted-cons, since_head-head, head_count-more, given_bytes-head, Pulls, quiet, reads, stops, accepts, begins, pulls, step_case, parsed, same_input, same_parse}
 use Rattle.h1_model.proofs.BodySteps.{Moves, body_moves}
 use Rattle.h1_model.proofs.TraceGrowth.{current_at, current_none}
 use Rattle.h1_model.proofs.PulledLemmas.{Grown, Idle, pulled_grows, pulled_to-head, unpulled_place}
@@ -82,7 +82,7 @@ grown_pulled setting before x m n l unended upgraded reading start was is =
     let new = current_with setting (x ∷ before) n l is in
     let i : input_of setting t ≡ input bytes (accepted t) false size = λ j. input bytes (accepted t) (unended j) size in
     let i' : input_of setting (x.step ∷ t) ≡ input (bytes ++ more) (accepted t) (has_ended (x.step ∷ t)) size =
-        λ j. input (taken-cons x.step t j) (upgraded j) (has_ended (x.step ∷ t)) size in
+    λ j. input (taken-cons x.step t j) (upgraded j) (has_ended (x.step ∷ t)) size in
     let a = subst (λ (k : Input). IsBodyAfter k m.reading m.body_start m.body) i (body_after setting before m old.0 old.1) in
     let b = subst (λ (k : Input). IsBodyAfter k n.reading n.body_start n.body) i' (body_after setting (x ∷ before) n new.0 new.1) in
     let b' = subst₂ (λ r p. IsBodyAfter (input (bytes ++ more) (accepted t) (has_ended (x.step ∷ t)) size) r p n.body) (sym reading) (sym start) b in
@@ -157,7 +157,7 @@ pull_shown setting before x l p same old n here chunks =
     let kind = chunks_kind (input_of setting t) c.0 n c.1.reading chunks in
     let body = subst (λ k. IsBodyOf (input_of setting t) k n.body_start n.body) kind c.1.body in
     let shape : n ≡ in_chunks n.reading n.body_start body.1 (chunked_stop (input_of setting t) n.body_start body.0) =
-        ap (λ b. record { reading = n.reading; body_start = n.body_start; body = b }) body.3 in
+    ap (λ b. record { reading = n.reading; body_start = n.body_start; body = b }) body.3 in
     let m = in_chunks n.reading n.body_start body.1 (chunked_stop (input_of setting t) n.body_start body.0) in
     let f = subst (λ q. FollowsTo q t) shape (old n was chunks) in
     let o = body_outcome t m.body in
@@ -166,8 +166,8 @@ pull_shown setting before x l p same old n here chunks =
     let is : step on.pull o ≡ x.step = λ i. record { event = sym p.event i; outcome = sym told i } in
     let pulled = follows_pull n.reading n.body_start body.1 (input_of setting t) t body.0 chunks body.2 f in
     let behind = follows_step m (step on.pull o) t (sym (ap head_of told) ∙ none)
-        (subst (λ b. Follows n.body_start (pulled_upto m o t) b (given_bytes t + step_bytes o) (is_trailers o || gave_trailers t) (gives_up on.pull o || gave_up t))
-        (sym (append-nil (taken t))) pulled) in
+    (subst (λ b. Follows n.body_start (pulled_upto m o t) b (given_bytes t + step_bytes o) (is_trailers o || gave_trailers t) (gives_up on.pull o || gave_up t))
+    (sym (append-nil (taken t))) pulled) in
     subst₂ (λ q s. FollowsTo q (s ∷ t)) (sym shape) is behind
 
 -- a step that takes nothing leaves the current message
@@ -201,7 +201,7 @@ step_shown setting before x l old =
       | begins b ↦ head_shown setting before x b.head l (ap head_of b.outcome)
       | pulls p ↦
           let same = still_current setting before x l (ap (λ e. step_taken e x.step.outcome) p.event) (ap is_eof p.event)
-              (ap (λ e. accepted_limit e x.step.outcome) p.event) (ap head_of p.outcome ∙ pull_no_head t (current before)) in
+          (ap (λ e. accepted_limit e x.step.outcome) p.event) (ap head_of p.outcome ∙ pull_no_head t (current before)) in
           pull_shown setting before x l p same old
     ]
 

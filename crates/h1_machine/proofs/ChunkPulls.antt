@@ -1,18 +1,18 @@
 -- Pulls of a body in chunks.
-use Rattle.std.proofs.Common.{◌≡◌, ℕ, Bool, true, false, List, [], ◌∷◌, length, drop, Option, Some, None, refl, sym, ap, ◌∙◌, subst, inl, inr}
-use Rattle.std.specs.Prelude.{◌||◌, ◌&&◌, not, is_some, unwrap_or, slice_range}
-use Rattle.std.proofs.lemmas.Bool.{and_parts, not-true, cases_Bool, true≢false, false≢true}
+use Rattle.std.proofs.Common.{◌≡◌, ℕ, Bool, true, false, List, ◌∷◌, drop, Some, refl, sym, ap, ◌∙◌, subst, inl, inr}
+use Rattle.std.specs.Prelude.{◌||◌, not, is_some}
+use Rattle.std.proofs.lemmas.Bool.{and_parts, not-true, cases_Bool, true≢false}
 use Rattle.std.proofs.lemmas.Option.{same_Some}
 use Rattle.h1_chunks.specs.Runs.{Run}
 use Rattle.h1_chunks.specs.Chunked.{Chunked, IsChunked}
 use Rattle.h1_chunks.specs.TakeNext.{Next, chunk, waits, ended, breaks}
-use Rattle.h1_model.specs.Request.{BodyKind, chunked_body, is_raw_kind, is_chunked_kind, has_body, Head, Reading}
+use Rattle.h1_model.specs.Request.{chunked_body, is_raw_kind, is_chunked_kind, has_body, Head, Reading}
 use Rattle.h1_model.specs.Setting.{Setting}
-use Rattle.h1_model.specs.Parse.{Input, Message, shifted, chunked_stop, IsBodyOf}
+use Rattle.h1_model.specs.Parse.{Input, Message, shifted, IsBodyOf}
 use Rattle.h1_model.specs.Event.{Event, Outcome}
 use Rattle.h1_model.specs.Event as on
 use Rattle.h1_model.specs.Sums.{Step, taken, request, is_complete, is_open, is_upgraded, has_ended}
-use Rattle.h1_model.specs.Past.{ParsedStep, steps, input_of, given_bytes, has_chunks, pulled_place, pulled_to, passed}
+use Rattle.h1_model.specs.Past.{ParsedStep, steps, input_of, given_bytes, has_chunks, pulled_to, passed}
 use Rattle.h1_model.specs.Allowed.{has_body_left}
 use Rattle.h1_model.specs.OutcomeTable.{run_left, gave_trailers}
 use Rattle.h1_model.proofs.PastLemmas.{Legal}
@@ -20,14 +20,13 @@ use Rattle.h1_model.proofs.StepLemmas.{allowed_open, complete-more}
 use Rattle.h1_model.proofs.CarriedLemmas.{passed_some, passed_pulled}
 use Rattle.h1_model.proofs.PulledLemmas.{pulled_to-more}
 use Rattle.h1_machine.specs.Kept.{Rest, no_rest}
-use Rattle.h1_machine.specs.Pull.{Pulled, IsPull}
+use Rattle.h1_machine.specs.Pull.{IsPull}
 use Rattle.h1_machine.specs.KeptOf.{is_passed, rest_of}
 use Rattle.h1_machine.proofs.Changes.{Changes}
 use Rattle.h1_machine.proofs.Current.{Current, current_with}
 use Rattle.h1_machine.proofs.Orderly.{orderly}
 use Rattle.h1_machine.proofs.CalmSteps.{calm_pull, taken-calm}
 use Rattle.h1_machine.proofs.Pulling.{pull_of, pull_headless, pull_current, Gives, pulling_with}
-use Rattle.h1_machine.proofs.PassedText.{Follows}
 use Rattle.h1_machine.proofs.ChunkGives as chunks
 use Rattle.h1_machine.proofs.ChunkGives.{gives}
 use Rattle.h1_machine.proofs.ChunkOutcomes.{gave_up, FollowsTo}
@@ -106,8 +105,8 @@ fits_changes setting before o parse m h rest l c kind incomplete e f =
     let place : passed before ≡ pulled_to m t = c.passed_is ∙ passed_pulled before m incomplete in
     let left : rest_of before m h.body ≡ rest = rest_is before m h (pulled_to m t) (taken t) kind place refl incomplete ∙ e in
     let pulls : IsPull (has_ended t) (rest_of before m h.body) (drop (passed before) (taken t)) f.pulled =
-        subst (λ n. IsPull (has_ended t) (rest_of before m h.body) (drop n (taken t)) f.pulled) (sym place)
-        (subst (λ r. IsPull (has_ended t) r (drop (pulled_to m t) (taken t)) f.pulled) (sym left) f.pulls) in
+    subst (λ n. IsPull (has_ended t) (rest_of before m h.body) (drop n (taken t)) f.pulled) (sym place)
+    (subst (λ r. IsPull (has_ended t) r (drop (pulled_to m t) (taken t)) f.pulled) (sym left) f.pulls) in
     pulling_with setting before o parse m h f.pulled l c f.outcome pulls (fits_gives setting before parse m h rest c kind incomplete f)
 
 -- ---- each case
@@ -171,7 +170,7 @@ by_outcome setting before o parse l m h c kind =
     let i = input_of setting t in
     let body = subst (λ k. IsBodyOf i k m.body_start m.body) kind c.body in
     let shape : m ≡ of_chunks m.reading m.body_start body.1 i body.0 =
-        ap (λ b. record { reading = m.reading; body_start = m.body_start; body = b }) body.3 in
+    ap (λ b. record { reading = m.reading; body_start = m.body_start; body = b }) body.3 in
     worker setting before o parse h m.reading m.body_start body.1 body.0 l (subst (λ q. Current setting before q h) shape c) kind body.2
     (ap has_chunks c.reading ∙ ap is_chunked_kind kind)
 
@@ -180,6 +179,6 @@ pub chunks_pull_changes : (setting : Setting) (before : List ParsedStep) (x : Pa
     → (m : Message) (h : Head) → Current setting before m h → h.body ≡ chunked_body → Changes setting before x
 chunks_pull_changes setting before x l e m h c kind =
     let P : Event → Type 0 = λ v.
-        let y : ParsedStep = record { step = record { event = v; outcome = x.step.outcome }; parse = x.parse } in
-        Legal setting (y ∷ before) → Changes setting before y in
+    let y : ParsedStep = record { step = record { event = v; outcome = x.step.outcome }; parse = x.parse } in
+    Legal setting (y ∷ before) → Changes setting before y in
     subst P (sym e) (λ l'. by_outcome setting before x.step.outcome x.parse l' m h c kind) l

@@ -1,24 +1,24 @@
 -- What is left of a body in chunks, by the place up to which it is passed.
-use Rattle.std.proofs.Common.{◌≡◌, ℕ, ◌+◌, ◌-◌, ◌≤◌, Bool, true, false, cond, leb, List, [], ◌∷◌, ◌++◌, length, drop, Option, Some, None, refl, sym, ap, ◌∙◌, subst, inl, inr, arith, length-drop}
-use Rattle.std.specs.Prelude.{◌||◌, slice_range}
+use Rattle.std.proofs.Common.{◌≡◌, ℕ, ◌+◌, ◌≤◌, Bool, true, false, cond, List, [], length, drop, Some, refl, sym, ap, ◌∙◌, subst, inl, inr, arith, length-drop}
+use Rattle.std.specs.Prelude.{slice_range}
 use Rattle.std.proofs.lemmas.Bool.{cond-true, cond-false, cases_Bool, true≢false, false≢true, leb-true, le-leb}
 use Rattle.std.proofs.lemmas.List.{drop-drop}
 use Rattle.h1_chunks.specs.Runs.{Run}
 use Rattle.h1_chunks.specs.Chunked.{Chunked, whole, unfinished, not_chunked, IsChunked}
-use Rattle.h1_chunks.specs.Place.{Place, done, start, after}
+use Rattle.h1_chunks.specs.Place.{done, start, after}
 use Rattle.h1_chunks.specs.Reading.{read}
-use Rattle.h1_chunks.specs.TakeNext.{Next, ended, Taken, nothing_noted}
+use Rattle.h1_chunks.specs.TakeNext.{ended, Taken}
 use Rattle.h1_chunks.proofs.Verdicts.{whole_after}
 use Rattle.h1_model.specs.Request.{Reading, Head, chunked_body}
-use Rattle.h1_model.specs.Parse.{Input, Message, content, open_or_cut, shifted, chunked_stop, next_start}
+use Rattle.h1_model.specs.Parse.{Input, Message, open_or_cut, shifted, chunked_stop, next_start}
 use Rattle.h1_model.specs.Sums.{Step, taken, is_complete}
 use Rattle.h1_model.specs.Past.{ParsedStep, steps, given_bytes, passed, pulled_to}
 use Rattle.h1_model.specs.OutcomeTable.{run_left, gave_trailers}
 use Rattle.h1_machine.specs.Kept.{Rest, no_rest, chunks_rest}
-use Rattle.h1_machine.specs.KeptOf.{is_passed, passed_bytes, rest_of}
+use Rattle.h1_machine.specs.KeptOf.{is_passed, rest_of}
 use Rattle.h1_machine.proofs.ChunkStops.{IsWholeTaken}
-use Rattle.h1_machine.proofs.PassedText.{part_front, Follows}
-use Rattle.h1_machine.proofs.ChunkGives.{Gives, next_of, gives}
+use Rattle.h1_machine.proofs.PassedText.{part_front}
+use Rattle.h1_machine.proofs.ChunkGives.{Gives, gives}
 use Rattle.h1_machine.proofs.ChunkFollows.{ends_next}
 use Rattle.h1_machine.proofs.ChunkOutcomes.{gave_up, FollowsTo, in_chunks, whole_within}
 
@@ -114,8 +114,8 @@ pub rest_is : (past : List ParsedStep) (m : Message) (h : Head) (upto : ℕ) (by
 rest_is past m h upto bytes kind place is open_yet =
     ap (rest_of past m) kind
     ∙ (λ i. cond (is_passed (place i) m) no_rest
-        (chunks_rest (after start (slice_range (is i) m.body_start (place i)))
-        (cond (open_yet i) [] (read start (slice_range (is i) m.body_start (place i))).trailers)))
+    (chunks_rest (after start (slice_range (is i) m.body_start (place i)))
+    (cond (open_yet i) [] (read start (slice_range (is i) m.body_start (place i))).trailers)))
 
 pub rest_passed : (m : Message) (upto : ℕ) (bytes : List ℕ) → is_passed upto m ≡ true → rest_upto m upto bytes ≡ no_rest
 rest_passed m upto bytes e = cond-true (is_passed upto m) _ _ e

@@ -1,16 +1,17 @@
 -- How a body in chunks stops is what comes next behind the text that is passed: its end with its trailers, that it is
 -- broken, or nothing yet.
-use Rattle.std.proofs.Common.{◌≡◌, ℕ, ◌≤◌, List, [], ◌∷◌, ◌++◌, length, take, drop, refl, sym, ap, ◌∙◌, subst, arith, append-nil, append_assoc}
+use Rattle.std.proofs.Common.{◌≡◌, ℕ, ◌≤◌, List, [], ◌++◌, length, take, drop, refl, sym, ap, ◌∙◌, subst, arith, append-nil}
 use Rattle.std.specs.Prelude.{⊤}
 use Rattle.std.specs.List.{AllByRecursion}
 use Rattle.std.proofs.lemmas.List.{take-take}
 use Rattle.h1_chunks.specs.ChunkedText.{Trailer, IsTrailer, ChunkedText, section_text, content}
 use Rattle.h1_chunks.specs.Runs.{Run}
 use Rattle.h1_chunks.specs.Chunked.{Chunked, whole, unfinished, not_chunked, Spells, IsChunked}
-use Rattle.h1_chunks.specs.Place.{Place, done, broken, start, after}
-use Rattle.h1_chunks.specs.Reading.{Ending, goes_on, is_broken, has_ended, Reading, with_trailers, at_end, read}
+use Rattle.h1_chunks.specs.Place.{done, broken, start, after}
+use Rattle.h1_chunks.specs.Reading.{goes_on, is_broken, has_ended, Reading, with_trailers, read}
 use Rattle.h1_chunks.specs.TakeNext.{Next, chunk, waits, ended, breaks, take_next, says}
-use Rattle.h1_chunks.proofs.ReadAfter.{read-nil, read-append, joined}
+use Rattle.h1_chunks.proofs.ReadSteps.{read-nil}
+use Rattle.h1_chunks.proofs.ReadAfter.{read-append, joined}
 use Rattle.h1_chunks.proofs.TakenReads.{taken_is_read}
 use Rattle.h1_chunks.proofs.Verdicts.{IsLive, live_end, whole_after}
 use Rattle.h1_chunks.proofs.Agreement.{read_whole, whole_read, unfinished_read, broken_read}

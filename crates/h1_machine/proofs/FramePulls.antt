@@ -1,5 +1,5 @@
 -- Pulls on a WebSocket.
-use Rattle.std.proofs.Common.{◌≡◌, ℕ, zero, suc, ◌+◌, ◌-◌, ◌≤◌, true, List, [], ◌∷◌, length, drop, Some, None, refl, sym, ap, ◌∙◌, subst, arith, length-drop}
+use Rattle.std.proofs.Common.{◌≡◌, ℕ, zero, suc, ◌+◌, ◌≤◌, true, List, [], ◌∷◌, length, drop, Some, None, refl, sym, ap, ◌∙◌, subst, arith, length-drop}
 use Rattle.std.specs.Prelude.{slice_get, is_some}
 use Rattle.std.proofs.lemmas.Bool.{false≢true}
 use Rattle.std.proofs.lemmas.Option.{slice_get_past}
@@ -10,7 +10,7 @@ use Rattle.h1_model.specs.FrameText.{Front, partial, whole, breaks as breaks_rul
 use Rattle.h1_model.specs.Parse.{Message, frames_of, connection_reader}
 use Rattle.h1_model.specs.Event.{Outcome}
 use Rattle.h1_model.specs.Sums.{Step, taken, has_ended, accepted, is_receiving, received_behind}
-use Rattle.h1_model.specs.Past.{ParsedStep, steps, current, step_frames, given_frames, frame_end, has_chunks, passed}
+use Rattle.h1_model.specs.Past.{ParsedStep, steps, step_frames, given_frames, frame_end, has_chunks, passed}
 use Rattle.h1_model.specs.OutcomeTable.{frame_outcome, body_outcome}
 use Rattle.h1_model.proofs.PastLemmas.{Legal}
 use Rattle.h1_model.proofs.PlaceLemmas.{frame_end-at}

@@ -4,9 +4,10 @@ use Rattle.std.proofs.Common.{◌≡◌, ℕ, suc, ◌+◌, ◌-◌, ◌<◌, fa
 use Rattle.std.proofs.lemmas.Bool.{cond-true, cond-false, cases_lt, cases_eq, eq-eqb, ne_eqb}
 use Rattle.h1_chunks.specs.Runs.{Run, cut_runs}
 use Rattle.h1_chunks.specs.Chunked.{Chunked, IsChunked}
-use Rattle.h1_chunks.specs.Place.{Place, in_bytes, bytes_end, in_section, broken, start, bytes_step, step, after}
+use Rattle.h1_chunks.specs.Place.{Place, in_bytes, bytes_end, in_section, done, broken, start, bytes_step, step, after}
 use Rattle.h1_chunks.specs.Reading.{Reading, noted, read}
-use Rattle.h1_chunks.proofs.ReadAfter.{after-nil, after-cons, read-nil, read-cons, not_done_before}
+use Rattle.h1_chunks.proofs.ReadSteps.{has_next, read-nil, read-cons}
+use Rattle.h1_chunks.proofs.ReadAfter.{after-nil, after-cons, done_stops}
 use Rattle.h1_chunks.proofs.RunPlaces.{runs_of, runs_of-nil, runs_of-cons}
 use Rattle.h1_chunks.proofs.RunBytes.{in_chunk, current}
 use Rattle.h1_chunks.proofs.WalkedRuns.{runs_cut}
@@ -77,8 +78,8 @@ end_given place given b more some =
     let none : cut_runs len runs ≡ [] = ap (cut_runs len) (runs_of-nil (place + 1) (bytes_step more)) ∙ cut_nil len in
     let last : Run = record { start = place; end = min (place + more + 1) len } in
     let after_all : run_left given (walked len (place + 1) (bytes_step more) []) ≡ None =
-        ap (λ p. run_left given (cut_runs len (current (place + 1) p ++ runs))) next
-        ∙ ap (run_left given) (cut_end len (record { start = place + 1; end = place + 1 + (more - 1) + 1 }) runs (omega arith)) ∙ left-nil given in
+    ap (λ p. run_left given (cut_runs len (current (place + 1) p ++ runs))) next
+    ∙ ap (run_left given) (cut_end len (record { start = place + 1; end = place + 1 + (more - 1) + 1 }) runs (omega arith)) ∙ left-nil given in
     ap (run_left (suc given)) (chunk_walked len place more b [] (omega arith)) ∙ left-past (suc given) last (cut_runs len runs) (omega arith)
     ∙ ap (run_left (suc given - (min (place + more + 1) len - place))) none ∙ left-nil (suc given - (min (place + more + 1) len - place)) ∙ sym after_all
 
@@ -112,6 +113,11 @@ left_on place at b front rest =
     ap (λ l. run_left (length l) (walked (place + suc (length rest)) place at (b ∷ rest))) (outside_body at (step at b) b (read (step at b) front) refl)
     ∙ ap (run_left (length (read (step at b) front).body)) (walked_on (place + suc (length rest)) place at b rest refl)
 
+-- a place from which bytes lead anywhere but to what is broken isn't behind a body
+not_done_before : (place : Place) (b : ℕ) (bytes : List ℕ) → (after place (b ∷ bytes) ≡ broken → ⊥) → place ≡ done → ⊥
+not_done_before place b bytes unbroken e =
+    unbroken (ap (λ p. after p (b ∷ bytes)) e ∙ done_stops (b ∷ bytes) (omega arith))
+
 -- so many bytes given as a front holds, the run is the next one behind it
 pub left_behind : (front rest : List ℕ) (place : ℕ) (at : Place) → (after at front ≡ broken → ⊥)
     → run_left (length (read at front).body) (walked (place + length (front ++ rest)) place at (front ++ rest))
@@ -126,7 +132,7 @@ left_behind (b ∷ front) rest place at unbroken =
     let further : after next front ≡ broken → ⊥ = λ e. unbroken (after-cons at b front ∙ e) in
     let size : place + suc (length (front ++ rest)) ≡ place + 1 + length (front ++ rest) = omega arith in
     let behind : place + 1 + length front ≡ place + suc (length front) = omega arith in
-    ap (λ (r : Reading). run_left (length r.body) (walked (place + suc (length (front ++ rest))) place at (b ∷ (front ++ rest)))) (read-cons at b front unended)
+    ap (λ (r : Reading). run_left (length r.body) (walked (place + suc (length (front ++ rest))) place at (b ∷ (front ++ rest)))) (read-cons at b front (has_next at unended))
     ∙ left_on place at b front (front ++ rest)
     ∙ ap (λ n. run_left (length (read next front).body) (walked n (place + 1) next (front ++ rest))) size
     ∙ left_behind front rest (place + 1) next further

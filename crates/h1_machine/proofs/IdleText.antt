@@ -1,11 +1,11 @@
 -- Only a pull hands out trailers; and a step that is no pull leaves what holds of the passed text.
-use Rattle.std.proofs.Common.{◌≡◌, ℕ, ◌+◌, ◌≤◌, Bool, true, false, cond, List, ◌∷◌, ◌++◌, length, Option, Some, None, refl, sym, ap, ◌∙◌, arith, length-append}
-use Rattle.std.specs.Prelude.{◌||◌, ◌==◌, slice_range, unwrap_or, option_map, option_and_then}
+use Rattle.std.proofs.Common.{◌≡◌, ℕ, Bool, true, false, cond, List, ◌∷◌, ◌++◌, length, Option, Some, None, refl, sym, ap, ◌∙◌, arith, length-append}
+use Rattle.std.specs.Prelude.{◌||◌, ◌==◌, unwrap_or, option_map, option_and_then}
 use Rattle.std.specs.List.{list_any}
 use Rattle.std.proofs.lemmas.Bool.{cond_both, true≢false}
 use Rattle.h1_chunks.specs.Place.{start, after}
 use Rattle.h1_chunks.specs.Reading.{read}
-use Rattle.h1_model.specs.Request.{Head, too_large, Reading, head_is, faulty}
+use Rattle.h1_model.specs.Request.{too_large, Reading, head_is, faulty}
 use Rattle.h1_model.specs.Setting.{Setting}
 use Rattle.h1_model.specs.Frame.{ProtocolError}
 use Rattle.h1_model.specs.FrameText.{send_error}
@@ -15,7 +15,7 @@ use Rattle.h1_model.specs.End as ends
 use Rattle.h1_model.specs.End.{End}
 use Rattle.h1_model.specs.Event.{Event, Outcome}
 use Rattle.h1_model.specs.Event as on
-use Rattle.h1_model.specs.Sums.{Step, step_taken, taken, is_pull, head_of, since_head, request, first_tick, is_sending}
+use Rattle.h1_model.specs.Sums.{Step, step_taken, taken, is_pull, request, first_tick, is_sending}
 use Rattle.h1_model.specs.Past.{ParsedStep, steps, given_bytes, upcoming, held, pulled_to}
 use Rattle.h1_model.specs.Closing.{closing}
 use Rattle.h1_model.specs.Allowed.{gives_up}
@@ -101,7 +101,7 @@ follows_idle m s trace idle none f =
     let up = gives_up s.event s.outcome in
     let given : given_bytes trace ≡ given_bytes (s ∷ trace) = omega (arith, given_bytes-more s trace idle.head, idle.bytes) in
     let told : gave_trailers (s ∷ trace) ≡ gave_trailers trace =
-        ap (list_any (λ s. is_trailers s.outcome)) since ∙ ap (λ b. b || gave_trailers trace) none in
+    ap (list_any (λ s. is_trailers s.outcome)) since ∙ ap (λ b. b || gave_trailers trace) none in
     same_follows m.body_start (pulled_to m trace) (pulled_to m (s ∷ trace)) (taken trace ++ more) (taken (s ∷ trace)) (given_bytes trace) (given_bytes (s ∷ trace))
     (gave_trailers trace) (gave_trailers (s ∷ trace)) (up || gave_up trace) (gave_up (s ∷ trace))
     (sym (idle_pulled m s trace idle)) (sym (taken-cons s trace)) given (sym told)

@@ -1,5 +1,5 @@
 -- What a call for the next head changes.
-use Rattle.std.proofs.Common.{◌≡◌, ℕ, ◌+◌, ◌-◌, Bool, true, false, List, [], ◌∷◌, ◌++◌, length, drop, slice_range, Option, Some, None, refl, sym, ap, ◌∙◌, subst, inl, inr, append-nil, length-drop}
+use Rattle.std.proofs.Common.{◌≡◌, ℕ, Bool, true, false, List, [], ◌∷◌, ◌++◌, length, drop, slice_range, Option, Some, None, refl, sym, ap, ◌∙◌, subst, inl, inr, append-nil, length-drop}
 use Rattle.std.specs.Prelude.{◌&&◌, ◌||◌, ◌==◌, not, is_some, IsTrue, if◌then◌else◌}
 use Rattle.std.specs.Option.{option_or}
 use Rattle.std.proofs.lemmas.Bool.{cond-true, cond-false, cases_Bool, true≢false, and_parts, not-true}
@@ -13,7 +13,7 @@ use Rattle.h1_model.specs.Event as on
 use Rattle.h1_model.specs.Sums.{Step, step_written, taken, is_open, now}
 use Rattle.h1_model.specs.Past.{ParsedStep, steps, upcoming, passed, held}
 use Rattle.h1_model.specs.Text.{step_text, buffered, fault_answer}
-use Rattle.h1_model.specs.Closing.{fault_end, told_end, told, closing}
+use Rattle.h1_model.specs.Closing.{fault_end, told_end, closing}
 use Rattle.h1_model.specs.Allowed.{is_over_by, is_over, is_allowed}
 use Rattle.h1_model.specs.OutcomeTable.{head_outcome, upcoming_outcome, next_outcome, outcome_of}
 use Rattle.h1_model.proofs.PastLemmas.{Legal}
@@ -176,8 +176,10 @@ coming_changes setting before parse o m r l e shut up read is = by_reading r rea
   where
     k : Kept
     k = kept_of setting before
+
     comes : k.is_coming ≡ true
     comes = λ i. not (shut i) && is_some (up i)
+
     by_reading : (r : Reading) → m.reading ≡ r → o ≡ head_outcome r → Changes setting before (next_of o parse)
     by_reading (head_is h) read is =
         let P : Outcome → Type 0 = λ v. Legal setting (next_of v parse ∷ before) → Changes setting before (next_of v parse) in

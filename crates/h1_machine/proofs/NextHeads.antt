@@ -1,5 +1,5 @@
 -- A head is handed out.
-use Rattle.std.proofs.Common.{◌≡◌, ℕ, zero, suc, ◌+◌, ◌-◌, Bool, true, false, List, [], ◌∷◌, ◌++◌, length, drop, slice_range, Option, Some, None, refl, sym, ap, ◌∙◌, subst, inl, inr, arith, append-nil}
+use Rattle.std.proofs.Common.{◌≡◌, ℕ, zero, suc, ◌+◌, Bool, true, false, List, [], ◌∷◌, ◌++◌, length, drop, slice_range, Option, Some, None, refl, sym, ap, ◌∙◌, subst, inl, inr, arith, append-nil}
 use Rattle.std.specs.Prelude.{◌&&◌, ◌||◌, not, is_some, unwrap_or, slice_get}
 use Rattle.std.specs.List.{list_any}
 use Rattle.std.specs.Option.{option_or}
@@ -56,6 +56,7 @@ next_at setting past m l shut e = go (head_count (steps past)) refl
   where
     i : Input
     i = input_of setting (steps past)
+
     go : (count : ℕ) → head_count (steps past) ≡ count → IsMessageAt i (passed past) m
     go zero count = elim (current_of setting past l) [
       | inl n ↦ subst (λ p. IsMessageAt i p m) (sym n.passed_is)

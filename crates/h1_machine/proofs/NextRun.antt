@@ -6,17 +6,18 @@ use Rattle.std.proofs.lemmas.Bool.{cond-true, cond-false, cases_lt, lt-ltb, le-l
 use Rattle.std.proofs.lemmas.List.{take_all, drop_all}
 use Rattle.h1_chunks.specs.Runs.{Run, cut_runs}
 use Rattle.h1_chunks.specs.Place.{InLine, Place, in_bytes, bytes_end, in_section, done, broken, bytes_step, step, after}
-use Rattle.h1_chunks.specs.Reading.{Ending, Reading, only, with_bytes, with_trailers, noted, at_end, read}
-use Rattle.h1_chunks.specs.TakeNext.{Next, chunk, waits, ended, breaks, Taken, nothing_noted, of_chunk, noted_line, stops_at, take_next, says}
-use Rattle.h1_chunks.proofs.ReadAfter.{after-nil, after-cons, read-nil, read-cons}
+use Rattle.h1_chunks.specs.Reading.{Ending, only, with_bytes, with_trailers, noted, at_end, read}
+use Rattle.h1_chunks.specs.TakeNext.{Next, chunk, waits, ended, breaks, Taken, of_chunk, noted_line, stops_at, take_next, says}
+use Rattle.h1_chunks.proofs.ReadSteps.{has_next, read-nil, read-cons}
+use Rattle.h1_chunks.proofs.ReadAfter.{after-nil, after-cons}
 use Rattle.h1_chunks.proofs.Complete.{bytes_read}
 use Rattle.h1_chunks.proofs.TakenReads.{taken_is_read}
 use Rattle.h1_chunks.proofs.Verdicts.{IsLive}
-use Rattle.h1_chunks.proofs.RunPlaces.{opened, runs_of, runs_of-nil, runs_of-cons, runs_of_late}
+use Rattle.h1_chunks.proofs.RunPlaces.{runs_of, runs_of-nil, runs_of-cons, runs_of_late}
 use Rattle.h1_chunks.proofs.RunBytes.{in_chunk, current, opened_is_current}
 use Rattle.h1_model.specs.OutcomeTable.{run_left}
 use Rattle.h1_model.proofs.RunLemmas.{cut_more, cut_end, cut_nil}
-use Rattle.h1_model.proofs.PlaceLemmas.{run_len, left-within}
+use Rattle.h1_model.proofs.PlaceLemmas.{left-within}
 
 -- the runs from a place on, up to the end of the bytes
 abbrev pub walked : ℕ → ℕ → Place → List ℕ → List Run
@@ -93,7 +94,7 @@ chunk_on place at b bytes text text' run given next behind unended alike x =
       next_is = x.next_is ∙ sym (after-cons at b (take x.size bytes));
       lives = x.lives;
       behind_is = x.behind_is;
-      reads = read-cons at b (take x.size bytes) unended ∙ ap (noted at (step at b) b) x.reads ∙ alike given (at_end next);
+      reads = read-cons at b (take x.size bytes) (has_next at unended) ∙ ap (noted at (step at b) b) x.reads ∙ alike given (at_end next);
     }
 
 -- anything behind it
@@ -113,12 +114,12 @@ line_on : (place : ℕ) (at : InLine) (lines room : ℕ) (q : Place) (b : ℕ) (
 line_on place at lines room (in_section at' lines' room') b bytes t run e x =
     let here = subst (λ q. TakesNext (place + 1) q bytes t.trailers run t.next) (sym e) x in
     let alike : NotesAlike (in_section at lines room) b t.trailers (b ∷ t.trailers) = λ body ending.
-        ap (λ q. noted (in_section at lines room) q b (with_trailers t.trailers (with_bytes body (only ending)))) e in
+    ap (λ q. noted (in_section at lines room) q b (with_trailers t.trailers (with_bytes body (only ending)))) e in
     taken_on place (in_section at lines room) b bytes t.trailers (b ∷ t.trailers) run t.next (λ d. cc) alike here
 line_on place at lines room q b bytes t run e x =
     let here = subst (λ q. TakesNext (place + 1) q bytes t.trailers run t.next) (sym e) x in
     let alike : NotesAlike (in_section at lines room) b t.trailers t.trailers = λ body ending.
-        ap (λ q. noted (in_section at lines room) q b (with_trailers t.trailers (with_bytes body (only ending)))) e in
+    ap (λ q. noted (in_section at lines room) q b (with_trailers t.trailers (with_bytes body (only ending)))) e in
     taken_on place (in_section at lines room) b bytes t.trailers t.trailers run t.next (λ d. cc) alike here
 
 -- ---- bytes of a chunk

@@ -1,11 +1,12 @@
 -- The text of a body in chunks that pulls passed, and what it says of what was given.
-use Rattle.std.proofs.Common.{◌≡◌, ℕ, ◌+◌, ◌-◌, ◌≤◌, Bool, true, false, List, [], ◌++◌, length, take, drop, refl, sym, ap, ◌∙◌, arith, length-drop, length-take}
+use Rattle.std.proofs.Common.{◌≡◌, ℕ, ◌+◌, ◌-◌, ◌≤◌, Bool, true, false, List, [], ◌++◌, length, take, drop, sym, ap, ◌∙◌, arith, length-drop, length-take}
 use Rattle.std.specs.Prelude.{◌||◌, slice_range}
 use Rattle.std.proofs.lemmas.List.{drop-drop, take-append-drop, take_all}
 use Rattle.std.proofs.Math.Seq.{take-add}
 use Rattle.h1_chunks.specs.Place.{done, broken, start, after}
 use Rattle.h1_chunks.specs.Reading.{Reading, read}
-use Rattle.h1_chunks.proofs.ReadAfter.{after-nil, read-nil}
+use Rattle.h1_chunks.proofs.ReadSteps.{read-nil}
+use Rattle.h1_chunks.proofs.ReadAfter.{after-nil}
 
 -- ---- parts of bytes
 
@@ -58,7 +59,7 @@ pub record Follows (place upto : ℕ) (bytes : List ℕ) (given : ℕ) (told fin
 pub nothing_follows : (place : ℕ) (bytes : List ℕ) → place ≤ length bytes → Follows place place bytes 0 false false
 nothing_follows place bytes within =
     let none : slice_range bytes place place ≡ [] =
-        let count : place - place ≡ 0 = omega arith in ap (λ n. take n (drop place bytes)) count in
+    let count : place - place ≡ 0 = omega arith in ap (λ n. take n (drop place bytes)) count in
     let here : after start (slice_range bytes place place) ≡ start = ap (after start) none ∙ after-nil start in
     record {
       order = omega arith;

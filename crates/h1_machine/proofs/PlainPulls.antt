@@ -187,10 +187,13 @@ fixed_lacks setting before o parse m h n ended l c kind open_yet e r place all s
   where
     t : List Step
     t = steps before
+
     u : List ℕ
     u = drop (passed before) (taken t)
+
     left : Rest
     left = fixed_rest (m.body_start + n - passed before)
+
     -- nothing changes
     stays : (p : Pulled) (stop : Stop) → p.rest ≡ left → p.unread ≡ u → step_bytes p.outcome ≡ 0 → OneRun m (length (taken t)) stop
         → Legal setting (pull_of p.outcome parse ∷ before)
@@ -201,12 +204,14 @@ fixed_lacks setting before o parse m h n ended l c kind open_yet e r place all s
           a ∙ ap (λ k. fixed_rest (m.body_start + n - k)) same ∙ sym (fixed_more (pull_of p.outcome parse ∷ before) m h n kind (omega arith)),
           b ∙ ap (λ k. drop k (taken t)) same,
         )
+
     -- what is pulled
     lacks : (ended : Bool) → has_ended t ≡ ended → IsPull (has_ended t) (rest_of before m h.body) u (lacking ended left u)
     lacks ended e =
         let is : IsPull ended left u (lacking ended left u) = sym (fixed_none ended (m.body_start + n - passed before) u (omega (arith, left_len before))) in
         subst (λ rest. IsPull (has_ended t) rest u (lacking ended left u)) (sym (fixed_more before m h n kind (omega arith)))
         (subst (λ b. IsPull b left u (lacking ended left u)) (sym e) is)
+
     go : (ended : Bool) → has_ended t ≡ ended → OneRun m (length (taken t)) (open_or_cut ended) → Changes setting before (pull_of o parse)
     go true e r =
         pulling_with setting before o parse m h (lacking true left u) l c (one_stops before m (length (taken t)) cut r place (omega arith)) (lacks true e)

@@ -10,7 +10,7 @@ use Rattle.h1_model.specs.Parse.{Message, content, Stop, ended_at, still_open, r
 use Rattle.h1_model.specs.Event.{Outcome}
 use Rattle.h1_model.specs.Event as on
 use Rattle.h1_model.specs.Sums.{taken, is_complete, has_ended, accepted}
-use Rattle.h1_model.specs.Past.{ParsedStep, steps, input_of, current, given_bytes, has_chunks, passed}
+use Rattle.h1_model.specs.Past.{ParsedStep, steps, input_of, given_bytes, has_chunks, passed}
 use Rattle.h1_model.proofs.PastLemmas.{Legal}
 use Rattle.h1_model.proofs.BodyLemmas.{input}
 use Rattle.h1_model.proofs.StepLemmas.{accepted-cons}
