@@ -1,6 +1,7 @@
 //! What the connection means: definitions on plain values, and the laws that make them one reading.
 #![tactic(auto)]
 
+pub mod closing_examples;
 pub mod examples;
 pub mod frame_examples;
 pub mod frame_text;
@@ -10,4 +11,6 @@ pub mod head_piece;
 pub mod parse;
 pub mod parse_examples;
 pub mod request_head;
+pub mod tick_examples;
 pub mod trace;
+pub mod trace_examples;

@@ -1,0 +1,8 @@
+use Rattle.std.proofs.Common.{refl}
+use Rattle.h1_model.specs.Sums.{taken, accepted, request, since_head, answered, answer_len}
+use Rattle.h1_model.specs.Closing.{told, closing}
+use Rattle.h1_model.proofs.closing_examples.chunks_were_dropped.Goals as goal
+
+pub returns : goal.returns
+unfolding taken accepted request since_head answered answer_len told closing
+returns c = (refl, refl)
