@@ -6,7 +6,7 @@ ghost use Rattle.h1_model.specs.Event as on;
 ghost use Rattle.h1_model.specs.Past.{ParsedStep, passed, held};
 ghost use Rattle.h1_model.specs.Allowed.{is_allowed};
 ghost use Rattle.h1_model.specs.Trace.{IsTrace};
-ghost use Rattle.h1_model.specs.Laws.ExampleTraces.{usual, step, parsed, get_text, get_head, get, chunks_text, chunks_head, open_chunks, rest_of_chunks, trailer, whole_chunks, socket_text, socket_head, socket, ok};
+ghost use Rattle.h1_model.specs.Laws.ExampleTraces.{usual, Happens, step, parsed, get_text, get_head, get, chunks_text, chunks_head, open_chunks, rest_of_chunks, trailer, whole_chunks, socket_text, socket_head, socket, ok};
 
 /// One request from its bytes to those of its answer, at the first moment. The newest step stands first.
 pub fn a_whole_trace()
@@ -24,7 +24,8 @@ pub fn held_along_a_trace()
         let read : List ParsedStep = parsed (on.read get_text) (on.took 27) (get ∷ []) ∷ ticked in
         let asked : List ParsedStep = parsed on.next (on.head get_head) (get ∷ []) ∷ read in
         let answered : List ParsedStep = parsed (on.answer ok (size_of 0)) on.done (get ∷ []) ∷ asked in
-        (held ticked ≡ 0) × (passed ticked ≡ 0)
+        Happens usual answered
+        × (held ticked ≡ 0) × (passed ticked ≡ 0)
         × (held read ≡ 27) × (passed read ≡ 0)
         × (held asked ≡ 0) × (passed asked ≡ 27)
         × (held answered ≡ 0) × (passed answered ≡ 27) }
@@ -40,7 +41,8 @@ pub fn held_along_chunks()
         let rest : List ParsedStep = parsed (on.read rest_of_chunks) (on.took 11) (whole_chunks ∷ []) ∷ waits in
         let trailed : List ParsedStep = parsed on.pull (on.trailers (trailer ∷ [])) (whole_chunks ∷ []) ∷ rest in
         let ended : List ParsedStep = parsed on.pull on.body_ended (whole_chunks ∷ []) ∷ trailed in
-        (held read ≡ 54) × (passed read ≡ 0)
+        Happens usual ended
+        × (held read ≡ 54) × (passed read ≡ 0)
         × (held asked ≡ 7) × (passed asked ≡ 47)
         × (held pulled ≡ 3) × (passed pulled ≡ 51)
         × (held waits ≡ 0) × (passed waits ≡ 54)
@@ -51,17 +53,20 @@ pub fn held_along_chunks()
 
 /// No answer is allowed before a request is handed out, though one has come, nor behind a complete one.
 pub fn answer_without_a_request()
-    ensures early { is_allowed usual (parsed (on.read get_text) (on.took 27) (get ∷ []) ∷ []) (on.answer ok (size_of 0)) ≡ false }
-    ensures once { let asked : List ParsedStep = parsed on.next (on.head get_head) (get ∷ [])
-        ∷ parsed (on.read get_text) (on.took 27) (get ∷ []) ∷ [] in
-        (is_allowed usual asked (on.answer ok (size_of 0)) ≡ true)
-        × (is_allowed usual (parsed (on.answer ok (size_of 0)) on.done (get ∷ []) ∷ asked) (on.answer ok (size_of 0)) ≡ false) }
+    ensures { let read : List ParsedStep = parsed (on.read get_text) (on.took 27) (get ∷ []) ∷ [] in
+        let asked : List ParsedStep = parsed on.next (on.head get_head) (get ∷ []) ∷ read in
+        let answered : List ParsedStep = parsed (on.answer ok (size_of 0)) on.done (get ∷ []) ∷ asked in
+        Happens usual answered
+        × (is_allowed usual read (on.answer ok (size_of 0)) ≡ false)
+        × (is_allowed usual asked (on.answer ok (size_of 0)) ≡ true)
+        × (is_allowed usual answered (on.answer ok (size_of 0)) ≡ false) }
 {}
 
 /// The input ends once: no end and no byte is allowed behind it, also where a request still waits.
 pub fn second_end()
     ensures { let ended : List ParsedStep = parsed on.eof on.done (get ∷ []) ∷ parsed (on.read get_text) (on.took 27) (get ∷ []) ∷ [] in
-        (is_allowed usual ended on.next ≡ true)
+        Happens usual ended
+        × (is_allowed usual ended on.next ≡ true)
         × (is_allowed usual ended on.eof ≡ false)
         × (is_allowed usual ended (on.read (codes "a")) ≡ false) }
 {}
@@ -69,7 +74,7 @@ pub fn second_end()
 /// A tick never goes back.
 pub fn earlier_tick()
     ensures { let ticked : List ParsedStep = parsed (on.tick 1000) on.done [] ∷ [] in
-        (is_allowed usual ticked (on.tick 999) ≡ false) × (is_allowed usual ticked (on.tick 1000) ≡ true) }
+        Happens usual ticked × (is_allowed usual ticked (on.tick 999) ≡ false) × (is_allowed usual ticked (on.tick 1000) ≡ true) }
 {}
 
 /// The answer's head has 75 bytes: a piece of its body is not allowed behind it where 75 bytes are enough to wait, and it is
@@ -78,7 +83,9 @@ pub fn chunk_behind_a_full_buffer()
     ensures { let answered : List ParsedStep = parsed (on.answer ok (size_of 3)) on.done (get ∷ [])
         ∷ parsed on.next (on.head get_head) (get ∷ [])
         ∷ parsed (on.read get_text) (on.took 27) (get ∷ []) ∷ [] in
-        (is_allowed (record usual { write_buffer = 75 }) answered (on.chunk (codes "abc")) ≡ false)
+        Happens (record usual { write_buffer = 75 }) answered
+        × (is_allowed (record usual { write_buffer = 75 }) answered (on.chunk (codes "abc")) ≡ false)
+        × Happens (record usual { write_buffer = 76 }) answered
         × (is_allowed (record usual { write_buffer = 76 }) answered (on.chunk (codes "abc")) ≡ true) }
 {}
 
@@ -86,5 +93,5 @@ pub fn chunk_behind_a_full_buffer()
 pub fn limit_without_room()
     ensures { let asked : List ParsedStep = parsed on.next (on.head socket_head) (socket ∷ [])
         ∷ parsed (on.read socket_text) (on.took 131) (socket ∷ []) ∷ [] in
-        (is_allowed usual asked (on.accept 131059) ≡ false) × (is_allowed usual asked (on.accept 131058) ≡ true) }
+        Happens usual asked × (is_allowed usual asked (on.accept 131059) ≡ false) × (is_allowed usual asked (on.accept 131058) ≡ true) }
 {}

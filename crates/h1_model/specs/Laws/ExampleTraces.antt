@@ -7,7 +7,8 @@ use Rattle.h1_model.specs.Frame.{unmasked_frame}
 use Rattle.h1_model.specs.Parse.{Message, no_content, content, frames, ended_at, still_open, broken}
 use Rattle.h1_model.specs.Event.{Event, Outcome}
 use Rattle.h1_model.specs.Sums.{Step}
-use Rattle.h1_model.specs.Past.{ParsedStep}
+use Rattle.h1_model.specs.Past.{ParsedStep, steps, IsPast}
+use Rattle.h1_model.specs.Trace.{IsTrace}
 
 -- five seconds for a head and between two requests, and one second for a peer that takes no bytes
 abbrev pub usual : Setting
@@ -27,6 +28,11 @@ step event outcome = record { event = event; outcome = outcome }
 -- the same, and what is parsed of the bytes taken by then
 abbrev pub parsed : Event → Outcome → List Message → ParsedStep
 parsed event outcome messages = record { step = step event outcome; parse = messages }
+
+-- the past is that of a trace: each event is allowed and has its outcome, and each parse is that of the bytes taken
+pub record Happens (setting : Setting) (past : List ParsedStep) : Type 0 where
+  pub trace : IsTrace setting (steps past)
+  pub right : IsPast setting past
 
 -- ---- a request without a body
 

@@ -1,16 +1,11 @@
 use Rattle.std.proofs.Common.{refl}
-use Rattle.h1_model.specs.Sums.{taken, written, accepted, last_tick, request, since_head, answered, answer_len}
-use Rattle.h1_model.specs.AnswerText.{year_at, month_at, date_of, appended, head_text}
-use Rattle.std.specs.Fmt.{digits}
-use Rattle.h1_model.specs.Text.{step_text, text}
+use Rattle.h1_model.specs.Sums.{taken, accepted, request, since_head, answered, answer_len}
 use Rattle.h1_model.specs.Closing.{told, closing}
 use Rattle.h1_model.specs.Allowed.{is_allowed}
+use Rattle.h1_model.specs.OutcomeTable.{outcome_of}
+use Rattle.h1_model.proofs.ExampleSteps.{get_answered, happens}
 use Rattle.h1_model.proofs.trace_examples.answer_without_a_request.Goals as goal
 
-pub returns-clause-early : goal.returns-clause-early
-unfolding taken written accepted last_tick request since_head answered answer_len year_at month_at date_of appended head_text digits step_text text told closing is_allowed
-returns-clause-early c = refl
-
-pub returns-clause-once : goal.returns-clause-once
-unfolding taken written accepted last_tick request since_head answered answer_len year_at month_at date_of appended head_text digits step_text text told closing is_allowed
-returns-clause-once c = (refl, refl)
+pub returns : goal.returns
+unfolding taken accepted request since_head answered answer_len told closing is_allowed outcome_of
+returns c = (happens _ _ get_answered, refl, refl, refl)

@@ -1,8 +1,13 @@
 use Rattle.std.proofs.Common.{refl}
-use Rattle.h1_model.specs.Sums.{taken, request, since_head}
+use Rattle.h1_model.specs.Sums.{taken, accepted, request, since_head, answered, answer_len}
 use Rattle.h1_model.specs.Past.{place_behind, pulled_to}
+use Rattle.h1_model.specs.Closing.{told, closing}
+use Rattle.h1_model.specs.Allowed.{is_allowed}
+use Rattle.h1_model.specs.OutcomeTable.{run_left, outcome_of}
+use Rattle.h1_model.proofs.ExampleParses.{chunks_parsed, whole_parsed}
+use Rattle.h1_model.proofs.ExampleSteps.{chunks_asked, happens}
 use Rattle.h1_model.proofs.trace_examples.held_along_chunks.Goals as goal
 
 pub returns : goal.returns
-unfolding taken request since_head place_behind pulled_to
-returns c = (refl, refl, refl, refl, refl, refl, refl, refl, refl, refl, refl, refl, refl, refl)
+unfolding taken accepted request since_head answered answer_len told closing is_allowed outcome_of run_left pulled_to place_behind
+returns c = (happens _ _ (whole_parsed, refl, refl, (whole_parsed, refl, refl, (whole_parsed, refl, refl, (chunks_parsed, refl, refl, (chunks_parsed, refl, refl, chunks_asked))))), refl, refl, refl, refl, refl, refl, refl, refl, refl, refl, refl, refl, refl, refl)
