@@ -1,5 +1,5 @@
 -- The parses of the requests that the worked examples of traces share.
-use Rattle.std.proofs.Common.{◌≡◌, ℕ, ◌+◌, ◌-◌, ◌≤◌, Bool, true, false, not, ◌&&◌, List, [], ◌∷◌, ◌++◌, length, drop, slice_range, codes, Option, Some, None, ◌==◌, refl, sym, ap, ◌∙◌, subst, arith, inl}
+use Rattle.std.proofs.Common.{◌≡◌, ℕ, ◌+◌, Bool, true, false, not, ◌&&◌, List, [], ◌∷◌, ◌++◌, length, slice_range, codes, Option, Some, None, ◌==◌, refl, sym, ◌∙◌, subst, arith, inl}
 use Rattle.std.proofs.lemmas.Bool.{agree_below, agree_below_at, and_parts, not-true, eqb-false, false≢true}
 use Rattle.httparse.specs.Grammar.{Field, crlf, is_token_byte, print_request, trim_ows}
 use Rattle.h1_chunks.specs.Chunked.{whole, unfinished, not_chunked}
@@ -9,7 +9,7 @@ use Rattle.h1_model.specs.HeadPiece.{EndsBlank, IsHeadPiece, HasNoHeadPiece}
 use Rattle.h1_model.specs.RequestHead.{IsHeadOf}
 use Rattle.h1_model.specs.Parse.{Input, IsParse, connection_reader}
 use Rattle.h1_model.specs.Laws.ExampleTraces.{get_text, get_head, get, close_text, close_head, closing_get, post_text, post_head, open_post, chunks_text, chunks_head, open_chunks, rest_of_chunks, whole_chunks, broken_text, broken_chunks, socket_text, socket_head, socket, accepted_socket, broken_socket, refused}
-use Rattle.h1_model.proofs.BlankLemmas.{begins_no_cr, ends_blank, ends_blank_true}
+use Rattle.h1_model.proofs.BlankLemmas.{begins_no_cr, ends_blank_true}
 use Rattle.h1_model.proofs.HeadPieceLemmas.{ends_behind, start_unique}
 use Rattle.h1_model.proofs.ExampleLemmas.{plain_piece, nothing_behind, plain_head, method_alone_refused}
 use Rattle.h1_model.proofs.ChunkExamples.{line as trailer_line, one_byte_read, one_byte_begun, g_read}
