@@ -68,8 +68,17 @@ get_piece = plain_piece _ 27 refl
 
 -- the request, also where the input has ended
 pub get_parsed : (ended : Bool) → IsParse (input get_text None ended) (get ∷ [])
-get_parsed ended =
-    (record { start = 0; end = 27; piece = get_piece; body_start = refl; reading = inl (omega arith, (omega arith, get_is_head)); body = refl }, nothing_behind)
+get_parsed ended = (
+  record {
+    start = 0;
+    end = 27;
+    piece = get_piece;
+    body_start = refl;
+    reading = inl (omega arith, (omega arith, get_is_head));
+    body = refl;
+  },
+  nothing_behind,
+)
 
 -- the field line of one that asks to close
 abbrev close_line : Field
@@ -87,8 +96,17 @@ close_piece = plain_piece _ 37 refl
 
 -- the request
 pub close_parsed : IsParse (input close_text None false) (closing_get ∷ [])
-close_parsed =
-    (record { start = 0; end = 37; piece = close_piece; body_start = refl; reading = inl (omega arith, (omega arith, close_is_head)); body = refl }, nothing_behind)
+close_parsed = (
+  record {
+    start = 0;
+    end = 37;
+    piece = close_piece;
+    body_start = refl;
+    reading = inl (omega arith, (omega arith, close_is_head));
+    body = refl;
+  },
+  nothing_behind,
+)
 
 -- a method alone
 refused_piece : IsHeadPiece (codes "GET\r\n\r\n") 0 7
@@ -117,8 +135,17 @@ post_piece = plain_piece _ 38 refl
 
 -- the request, with two bytes of its body
 pub post_parsed : IsParse (input post_text None false) (open_post ∷ [])
-post_parsed =
-    (record { start = 0; end = 38; piece = post_piece; body_start = refl; reading = inl (omega arith, (omega arith, post_is_head)); body = refl }, refl)
+post_parsed = (
+  record {
+    start = 0;
+    end = 38;
+    piece = post_piece;
+    body_start = refl;
+    reading = inl (omega arith, (omega arith, post_is_head));
+    body = refl;
+  },
+  refl,
+)
 
 -- the field line that says chunked
 abbrev chunked_line : Field
@@ -220,8 +247,17 @@ unmasked_piece = plain_piece _ 131 refl
 
 -- the request, before it is accepted
 pub socket_parsed : IsParse (input socket_text None false) (socket ∷ [])
-socket_parsed =
-    (record { start = 0; end = 131; piece = socket_piece; body_start = refl; reading = inl (omega arith, (omega arith, socket_is_head)); body = refl }, refl)
+socket_parsed = (
+  record {
+    start = 0;
+    end = 131;
+    piece = socket_piece;
+    body_start = refl;
+    reading = inl (omega arith, (omega arith, socket_is_head));
+    body = refl;
+  },
+  refl,
+)
 
 -- no frame
 no_frames : ReadsFrames (connection_reader 100) false 131 socket_text [] None

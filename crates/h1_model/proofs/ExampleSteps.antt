@@ -1,14 +1,14 @@
 -- The worked examples' pasts are those of traces: they are given step by step, and share their first steps.
-use Rattle.std.proofs.Common.{List, [], ◌∷◌, false, refl}
+use Rattle.std.proofs.Common.{List, [], ◌∷◌, codes, false, refl}
 use Rattle.std.specs.Fmt.{digits}
 use Rattle.h1_model.specs.Setting.{Setting}
 use Rattle.h1_model.specs.Answer.{size_of}
 use Rattle.h1_model.specs.AnswerText.{year_at, month_at, date_of, appended, head_text}
 use Rattle.h1_model.specs.Event as on
-use Rattle.h1_model.specs.Sums.{taken, written, accepted, last_tick, first_tick, request, since_head, answered, completed_at, answer_len}
+use Rattle.h1_model.specs.Sums.{taken, written, accepted, last_tick, first_tick, request, since_head, answered, answer_len}
 use Rattle.h1_model.specs.Past.{ParsedStep, steps, place_behind, pulled_to}
 use Rattle.h1_model.specs.Text.{step_text, text}
-use Rattle.h1_model.specs.Closing.{told, closing, closing_since}
+use Rattle.h1_model.specs.Closing.{told, closing}
 use Rattle.h1_model.specs.Allowed.{is_allowed}
 use Rattle.h1_model.specs.OutcomeTable.{outcome_of}
 use Rattle.h1_model.specs.Trace.{IsPastOf}
@@ -29,53 +29,68 @@ happens setting (m ∷ before) x =
 
 -- it is read
 pub get_taken : Legal usual (parsed (on.read get_text) (on.took 27) (get ∷ []) ∷ [])
-unfolding taken written accepted last_tick first_tick request since_head answered completed_at answer_len place_behind pulled_to year_at month_at date_of appended head_text digits step_text text told closing closing_since is_allowed outcome_of
+unfolding taken accepted request since_head answered answer_len place_behind pulled_to told closing is_allowed outcome_of
 get_taken = (get_parsed false, refl, refl, tt)
 
 -- its head is handed out
 pub get_asked : Legal usual (parsed on.next (on.head get_head) (get ∷ []) ∷ parsed (on.read get_text) (on.took 27) (get ∷ []) ∷ [])
-unfolding taken written accepted last_tick first_tick request since_head answered completed_at answer_len place_behind pulled_to year_at month_at date_of appended head_text digits step_text text told closing closing_since is_allowed outcome_of
+unfolding taken accepted request since_head answered answer_len place_behind pulled_to told closing is_allowed outcome_of
 get_asked = (get_parsed false, refl, refl, get_taken)
 
 -- it is answered
 pub get_answered : Legal usual
-    (parsed (on.answer ok (size_of 0)) on.done (get ∷ []) ∷ parsed on.next (on.head get_head) (get ∷ []) ∷ parsed (on.read get_text) (on.took 27) (get ∷ []) ∷ [])
-unfolding taken written accepted last_tick first_tick request since_head answered completed_at answer_len place_behind pulled_to year_at month_at date_of appended head_text digits step_text text told closing closing_since is_allowed outcome_of
+    (parsed (on.answer ok (size_of 0)) on.done (get ∷ [])
+    ∷ parsed on.next (on.head get_head) (get ∷ [])
+    ∷ parsed (on.read get_text) (on.took 27) (get ∷ []) ∷ [])
+unfolding taken accepted request since_head answered answer_len place_behind pulled_to told closing is_allowed outcome_of
 get_answered = (get_parsed false, refl, refl, get_asked)
 
 -- it is read behind a tick
 pub get_ticked : Legal usual (parsed (on.read get_text) (on.took 27) (get ∷ []) ∷ parsed (on.tick 0) on.done [] ∷ [])
-unfolding taken written accepted last_tick first_tick request since_head answered completed_at answer_len place_behind pulled_to year_at month_at date_of appended head_text digits step_text text told closing closing_since is_allowed outcome_of
+unfolding taken accepted request since_head answered answer_len place_behind pulled_to told closing is_allowed outcome_of last_tick first_tick
 get_ticked = (get_parsed false, refl, refl, (nothing_behind, refl, refl, tt))
+
+-- the same up to the bytes of its answer
+abbrev pub whole_past : List ParsedStep
+whole_past = parsed (on.write 200) (on.gave (codes "HTTP/1.1 200 OK\r\ncontent-length: 0\r\ndate: Thu, 01 Jan 1970 00:00:00 GMT\r\n\r\n")) (get ∷ [])
+    ∷ parsed (on.answer ok (size_of 0)) on.done (get ∷ [])
+    ∷ parsed on.next (on.head get_head) (get ∷ [])
+    ∷ parsed (on.read get_text) (on.took 27) (get ∷ [])
+    ∷ parsed (on.tick 0) on.done [] ∷ []
+
+-- it is a trace's
+pub get_written : Legal usual whole_past
+unfolding taken accepted request since_head answered answer_len place_behind pulled_to told closing is_allowed outcome_of last_tick written step_text text head_text date_of year_at month_at appended digits
+get_written = (get_parsed false, refl, refl, (get_parsed false, refl, refl, (get_parsed false, refl, refl, get_ticked)))
 
 -- ---- the others, whose heads are handed out
 
 -- the one that asks to close
 pub close_asked : Legal usual
     (parsed on.next (on.head close_head) (closing_get ∷ []) ∷ parsed (on.read close_text) (on.took 37) (closing_get ∷ []) ∷ [])
-unfolding taken written accepted last_tick first_tick request since_head answered completed_at answer_len place_behind pulled_to year_at month_at date_of appended head_text digits step_text text told closing closing_since is_allowed outcome_of
+unfolding taken accepted request since_head answered answer_len place_behind pulled_to told closing is_allowed outcome_of
 close_asked = (close_parsed, refl, refl, (close_parsed, refl, refl, tt))
 
 -- the one with a body of three bytes
 pub post_asked : Legal usual
     (parsed on.next (on.head post_head) (open_post ∷ []) ∷ parsed (on.read post_text) (on.took 40) (open_post ∷ []) ∷ [])
-unfolding taken written accepted last_tick first_tick request since_head answered completed_at answer_len place_behind pulled_to year_at month_at date_of appended head_text digits step_text text told closing closing_since is_allowed outcome_of
+unfolding taken accepted request since_head answered answer_len place_behind pulled_to told closing is_allowed outcome_of
 post_asked = (post_parsed, refl, refl, (post_parsed, refl, refl, tt))
 
 -- the one with a body in chunks
 pub chunks_asked : Legal usual
     (parsed on.next (on.head chunks_head) (open_chunks ∷ []) ∷ parsed (on.read chunks_text) (on.took 54) (open_chunks ∷ []) ∷ [])
-unfolding taken written accepted last_tick first_tick request since_head answered completed_at answer_len place_behind pulled_to year_at month_at date_of appended head_text digits step_text text told closing closing_since is_allowed outcome_of
+unfolding taken accepted request since_head answered answer_len place_behind pulled_to told closing is_allowed outcome_of
 chunks_asked = (chunks_parsed, refl, refl, (chunks_parsed, refl, refl, tt))
 
 -- the one whose body is broken
 pub broken_asked : Legal usual
     (parsed on.next (on.head chunks_head) (broken_chunks ∷ []) ∷ parsed (on.read broken_text) (on.took 48) (broken_chunks ∷ []) ∷ [])
-unfolding taken written accepted last_tick first_tick request since_head answered completed_at answer_len place_behind pulled_to year_at month_at date_of appended head_text digits step_text text told closing closing_since is_allowed outcome_of
+unfolding taken accepted request since_head answered answer_len place_behind pulled_to told closing is_allowed outcome_of
 broken_asked = (broken_parsed, refl, refl, (broken_parsed, refl, refl, tt))
 
 -- the one that asks for a WebSocket
 pub socket_asked : Legal usual
     (parsed on.next (on.head socket_head) (socket ∷ []) ∷ parsed (on.read socket_text) (on.took 131) (socket ∷ []) ∷ [])
-unfolding taken written accepted last_tick first_tick request since_head answered completed_at answer_len place_behind pulled_to year_at month_at date_of appended head_text digits step_text text told closing closing_since is_allowed outcome_of
+unfolding taken accepted request since_head answered answer_len place_behind pulled_to told closing is_allowed outcome_of
 socket_asked = (socket_parsed, refl, refl, (socket_parsed, refl, refl, tt))

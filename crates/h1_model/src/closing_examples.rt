@@ -8,6 +8,8 @@ ghost use Rattle.h1_model.specs.End as ends;
 ghost use Rattle.h1_model.specs.Event as on;
 ghost use Rattle.h1_model.specs.Past.{ParsedStep};
 ghost use Rattle.h1_model.specs.Closing.{closing};
+ghost use Rattle.h1_model.specs.Allowed.{is_allowed};
+ghost use Rattle.h1_model.specs.OutcomeTable.{outcome_of};
 ghost use Rattle.h1_model.specs.Laws.ExampleTraces.{usual, Happens, parsed, get_text, get_head, get, close_text, close_head, closing_get, post_text, post_head, open_post, chunks_text, chunks_head, open_chunks, broken_text, broken_chunks, socket_text, socket_head, socket, accepted_socket, broken_socket, refused, ok, ok_and_close};
 
 /// A fault that was told closes, and one that waits to be told doesn't.
@@ -147,4 +149,16 @@ pub fn first_reason_is_told()
         ∷ parsed on.next (on.head post_head) (open_post ∷ [])
         ∷ parsed (on.read post_text) (on.took 40) (open_post ∷ []) ∷ [] in
         Happens usual answered × (closing usual answered ≡ Some ends.asked) }
+{}
+
+/// A connection that closes takes no more bytes. Who asks for the next request is told the reason, and then nothing is allowed.
+pub fn reason_is_told()
+    ensures { let closes : List ParsedStep = parsed (on.answer ok_and_close (size_of 0)) on.done (get ∷ [])
+        ∷ parsed on.next (on.head get_head) (get ∷ [])
+        ∷ parsed (on.read get_text) (on.took 27) (get ∷ []) ∷ [] in
+        let closed : List ParsedStep = parsed on.next (on.closed ends.asked) (get ∷ []) ∷ closes in
+        Happens usual closed
+        × (is_allowed usual closes (on.read (codes "a")) ≡ false)
+        × (outcome_of usual closes on.next ≡ on.closed ends.asked)
+        × (is_allowed usual closed (on.write 200) ≡ false) × (is_allowed usual closed on.next ≡ false) }
 {}

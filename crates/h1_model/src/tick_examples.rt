@@ -49,7 +49,9 @@ pub fn peer_takes_nothing()
         ∷ parsed on.next (on.head get_head) (get ∷ [])
         ∷ parsed (on.read get_text) (on.took 27) (get ∷ [])
         ∷ parsed (on.tick 100) on.done [] ∷ [] in
-        let written : List ParsedStep = parsed (on.write 200) (on.gave (codes "HTTP/1.1 200 OK\r\ncontent-length: 0\r\nconnection: close\r\ndate: Thu, 01 Jan 1970 00:00:00 GMT\r\n\r\n")) (get ∷ []) ∷ closes in
+        let written : List ParsedStep = parsed (on.write 200)
+        (on.gave (codes "HTTP/1.1 200 OK\r\ncontent-length: 0\r\nconnection: close\r\ndate: Thu, 01 Jan 1970 00:00:00 GMT\r\n\r\n"))
+        (get ∷ []) ∷ closes in
         Happens usual written
         × (outcome_of usual closes (on.tick 1099) ≡ on.done)
         × (outcome_of usual closes (on.tick 1100) ≡ on.abandoned)

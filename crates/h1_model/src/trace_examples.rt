@@ -24,11 +24,14 @@ pub fn held_along_a_trace()
         let read : List ParsedStep = parsed (on.read get_text) (on.took 27) (get ∷ []) ∷ ticked in
         let asked : List ParsedStep = parsed on.next (on.head get_head) (get ∷ []) ∷ read in
         let answered : List ParsedStep = parsed (on.answer ok (size_of 0)) on.done (get ∷ []) ∷ asked in
-        Happens usual answered
+        let written : List ParsedStep = parsed (on.write 200)
+        (on.gave (codes "HTTP/1.1 200 OK\r\ncontent-length: 0\r\ndate: Thu, 01 Jan 1970 00:00:00 GMT\r\n\r\n")) (get ∷ []) ∷ answered in
+        Happens usual written
         × (held ticked ≡ 0) × (passed ticked ≡ 0)
         × (held read ≡ 27) × (passed read ≡ 0)
         × (held asked ≡ 0) × (passed asked ≡ 27)
-        × (held answered ≡ 0) × (passed answered ≡ 27) }
+        × (held answered ≡ 0) × (passed answered ≡ 27)
+        × (held written ≡ 0) × (passed written ≡ 27) }
 {}
 
 /// A pull passes the bytes that it gives, and where none can be given yet, all that was taken: here the first byte of a

@@ -12,4 +12,9 @@ use Rattle.h1_model.proofs.closing_examples.answer_is_short.Goals as goal
 
 pub returns : goal.returns
 unfolding taken accepted request since_head answered answer_len told closing is_allowed outcome_of written step_text text head_text date_of year_at month_at appended digits last_tick first_tick
-returns c = (happens _ _ (get_parsed false, refl, refl, (get_parsed false, refl, refl, (get_parsed false, refl, refl, get_asked))), refl, happens _ _ (get_parsed false, refl, refl, (get_parsed false, refl, refl, (get_parsed false, refl, refl, get_asked))), refl)
+returns c = (
+  happens _ _ (get_parsed false, refl, refl, (get_parsed false, refl, refl, (get_parsed false, refl, refl, get_asked))),
+  refl,
+  happens _ _ (get_parsed false, refl, refl, (get_parsed false, refl, refl, (get_parsed false, refl, refl, get_asked))),
+  refl,
+)

@@ -9,4 +9,9 @@ use Rattle.h1_model.proofs.closing_examples.chunks_were_dropped.Goals as goal
 
 pub returns : goal.returns
 unfolding taken accepted request since_head answered answer_len told closing is_allowed outcome_of
-returns c = (happens _ _ (chunks_parsed, refl, refl, chunks_asked), refl, happens _ _ (chunks_parsed, refl, refl, (chunks_parsed, refl, refl, chunks_asked)), refl)
+returns c = (
+  happens _ _ (chunks_parsed, refl, refl, chunks_asked),
+  refl,
+  happens _ _ (chunks_parsed, refl, refl, (chunks_parsed, refl, refl, chunks_asked)),
+  refl,
+)

@@ -11,4 +11,8 @@ use Rattle.h1_model.proofs.closing_examples.frame_broke_a_rule.Goals as goal
 
 pub returns : goal.returns
 unfolding taken accepted request since_head answered answer_len told closing is_allowed outcome_of pulled_to place_behind handshake_error has_word
-returns c = (happens _ _ (unmasked_parsed, refl, refl, (unmasked_parsed, refl, refl, (accepted_parsed, refl, refl, socket_asked))), refl, refl)
+returns c = (
+  happens _ _ (unmasked_parsed, refl, refl, (unmasked_parsed, refl, refl, (accepted_parsed, refl, refl, socket_asked))),
+  refl,
+  refl,
+)

@@ -15,4 +15,9 @@ returns-clause-at_once c = (happens _ _ (nothing_behind, refl, refl, tt), refl)
 
 pub returns-clause-behind_a_request : goal.returns-clause-behind_a_request
 unfolding taken accepted request since_head answered answer_len told closing is_allowed outcome_of pulled_to place_behind
-returns-clause-behind_a_request c = (happens _ _ (get_parsed true, refl, refl, (get_parsed true, refl, refl, (get_parsed true, refl, refl, get_taken))), refl, refl, refl)
+returns-clause-behind_a_request c = (
+  happens _ _ (get_parsed true, refl, refl, (get_parsed true, refl, refl, (get_parsed true, refl, refl, get_taken))),
+  refl,
+  refl,
+  refl,
+)

@@ -15,4 +15,7 @@ returns-clause-slow c = (happens _ _ (nothing_behind, refl, refl, (nothing_behin
 
 pub returns-clause-kept : goal.returns-clause-kept
 unfolding taken accepted request since_head answered answer_len told closing is_allowed outcome_of last_tick first_tick completed_at pulled_to place_behind
-returns-clause-kept c = (happens _ _ (get_parsed false, refl, refl, (get_parsed false, refl, refl, (get_parsed false, refl, refl, get_ticked))), refl)
+returns-clause-kept c = (
+  happens _ _ (get_parsed false, refl, refl, (get_parsed false, refl, refl, (get_parsed false, refl, refl, get_ticked))),
+  refl,
+)

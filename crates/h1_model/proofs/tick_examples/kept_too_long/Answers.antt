@@ -11,4 +11,10 @@ use Rattle.h1_model.proofs.tick_examples.kept_too_long.Goals as goal
 
 pub returns : goal.returns
 unfolding taken accepted request since_head answered answer_len told closing is_allowed outcome_of last_tick first_tick completed_at pulled_to place_behind
-returns c = (happens _ _ (get_parsed false, refl, refl, (get_parsed false, refl, refl, (get_parsed false, refl, refl, get_ticked))), refl, refl, happens _ _ (get_parsed false, refl, refl, (get_parsed false, refl, refl, (get_parsed false, refl, refl, (get_parsed false, refl, refl, (nothing_behind, refl, refl, tt))))), refl)
+returns c = (
+  happens _ _ (get_parsed false, refl, refl, (get_parsed false, refl, refl, (get_parsed false, refl, refl, get_ticked))),
+  refl,
+  refl,
+  happens _ _ (get_parsed false, refl, refl, (get_parsed false, refl, refl, (get_parsed false, refl, refl, (get_parsed false, refl, refl, (nothing_behind, refl, refl, tt))))),
+  refl,
+)

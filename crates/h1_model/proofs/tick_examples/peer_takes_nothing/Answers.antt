@@ -14,4 +14,11 @@ use Rattle.h1_model.proofs.tick_examples.peer_takes_nothing.Goals as goal
 
 pub returns : goal.returns
 unfolding taken accepted request since_head answered answer_len told closing is_allowed outcome_of last_tick first_tick written step_text text head_text date_of year_at month_at appended digits closing_since pulled_to place_behind
-returns c = (happens _ _ (get_parsed false, refl, refl, (get_parsed false, refl, refl, (get_parsed false, refl, refl, (get_parsed false, refl, refl, (nothing_behind, refl, refl, tt))))), refl, refl, refl, happens _ _ (get_parsed false, refl, refl, (get_parsed false, refl, refl, (get_parsed false, refl, refl, (nothing_behind, refl, refl, tt)))), refl)
+returns c = (
+  happens _ _ (get_parsed false, refl, refl, (get_parsed false, refl, refl, (get_parsed false, refl, refl, (get_parsed false, refl, refl, (nothing_behind, refl, refl, tt))))),
+  refl,
+  refl,
+  refl,
+  happens _ _ (get_parsed false, refl, refl, (get_parsed false, refl, refl, (get_parsed false, refl, refl, (nothing_behind, refl, refl, tt)))),
+  refl,
+)

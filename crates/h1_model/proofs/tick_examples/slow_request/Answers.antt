@@ -9,4 +9,10 @@ use Rattle.h1_model.proofs.tick_examples.slow_request.Goals as goal
 
 pub returns : goal.returns
 unfolding taken accepted request since_head answered answer_len told closing is_allowed outcome_of last_tick first_tick
-returns c = (happens _ _ (nothing_behind, refl, refl, tt), refl, refl, happens _ _ (nothing_behind, refl, refl, tt), refl)
+returns c = (
+  happens _ _ (nothing_behind, refl, refl, tt),
+  refl,
+  refl,
+  happens _ _ (nothing_behind, refl, refl, tt),
+  refl,
+)

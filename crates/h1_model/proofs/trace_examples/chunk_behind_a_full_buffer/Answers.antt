@@ -13,4 +13,9 @@ use Rattle.h1_model.proofs.trace_examples.chunk_behind_a_full_buffer.Goals as go
 
 pub returns : goal.returns
 unfolding taken accepted request since_head answered answer_len told closing is_allowed outcome_of pulled_to place_behind written step_text text head_text date_of year_at month_at appended digits last_tick first_tick
-returns c = (happens _ _ (get_parsed false, refl, refl, (get_parsed false, refl, refl, (get_parsed false, refl, refl, tt))), refl, happens _ _ (get_parsed false, refl, refl, (get_parsed false, refl, refl, (get_parsed false, refl, refl, tt))), refl)
+returns c = (
+  happens _ _ (get_parsed false, refl, refl, (get_parsed false, refl, refl, (get_parsed false, refl, refl, tt))),
+  refl,
+  happens _ _ (get_parsed false, refl, refl, (get_parsed false, refl, refl, (get_parsed false, refl, refl, tt))),
+  refl,
+)

@@ -1,13 +1,9 @@
-use Rattle.std.proofs.Common.{false, refl}
-use Rattle.h1_model.specs.Sums.{taken, accepted, request, since_head, answered, answer_len}
+use Rattle.std.proofs.Common.{refl}
+use Rattle.h1_model.specs.Sums.{taken, request, since_head}
 use Rattle.h1_model.specs.Past.{place_behind, pulled_to}
-use Rattle.h1_model.specs.Closing.{told, closing}
-use Rattle.h1_model.specs.Allowed.{is_allowed}
-use Rattle.h1_model.specs.OutcomeTable.{outcome_of}
-use Rattle.h1_model.proofs.ExampleParses.{get_parsed}
-use Rattle.h1_model.proofs.ExampleSteps.{get_ticked, happens}
+use Rattle.h1_model.proofs.ExampleSteps.{get_written, happens}
 use Rattle.h1_model.proofs.trace_examples.held_along_a_trace.Goals as goal
 
 pub returns : goal.returns
-unfolding taken accepted request since_head answered answer_len told closing is_allowed outcome_of pulled_to place_behind
-returns c = (happens _ _ (get_parsed false, refl, refl, (get_parsed false, refl, refl, get_ticked)), refl, refl, refl, refl, refl, refl, refl, refl)
+unfolding taken since_head request pulled_to place_behind
+returns c = (happens _ _ get_written, refl, refl, refl, refl, refl, refl, refl, refl, refl, refl)

@@ -10,4 +10,20 @@ use Rattle.h1_model.proofs.trace_examples.held_along_chunks.Goals as goal
 
 pub returns : goal.returns
 unfolding taken accepted request since_head answered answer_len told closing is_allowed outcome_of run_left pulled_to place_behind
-returns c = (happens _ _ (whole_parsed, refl, refl, (whole_parsed, refl, refl, (whole_parsed, refl, refl, (chunks_parsed, refl, refl, (chunks_parsed, refl, refl, chunks_asked))))), refl, refl, refl, refl, refl, refl, refl, refl, refl, refl, refl, refl, refl, refl)
+returns c = (
+  happens _ _ (whole_parsed, refl, refl, (whole_parsed, refl, refl, (whole_parsed, refl, refl, (chunks_parsed, refl, refl, (chunks_parsed, refl, refl, chunks_asked))))),
+  refl,
+  refl,
+  refl,
+  refl,
+  refl,
+  refl,
+  refl,
+  refl,
+  refl,
+  refl,
+  refl,
+  refl,
+  refl,
+  refl,
+)
