@@ -145,10 +145,11 @@ pub fn input_has_ended()
 
 /// Where the answer asks to close and the body is unread too, the first reason is told.
 pub fn first_reason_is_told()
-    ensures { let answered : List ParsedStep = parsed (on.answer ok_and_close (size_of 0)) on.done (open_post ∷ [])
-        ∷ parsed on.next (on.head post_head) (open_post ∷ [])
+    ensures { let asked : List ParsedStep = parsed on.next (on.head post_head) (open_post ∷ [])
         ∷ parsed (on.read post_text) (on.took 40) (open_post ∷ []) ∷ [] in
-        Happens usual answered × (closing usual answered ≡ Some ends.asked) }
+        let unread : List ParsedStep = parsed (on.answer ok (size_of 0)) on.done (open_post ∷ []) ∷ asked in
+        let both : List ParsedStep = parsed (on.answer ok_and_close (size_of 0)) on.done (open_post ∷ []) ∷ asked in
+        Happens usual unread × (closing usual unread ≡ Some ends.unread_body) × Happens usual both × (closing usual both ≡ Some ends.asked) }
 {}
 
 /// A connection that closes takes no more bytes. Who asks for the next request is told the reason, and then nothing is allowed.

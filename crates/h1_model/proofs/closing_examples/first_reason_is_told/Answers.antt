@@ -9,4 +9,9 @@ use Rattle.h1_model.proofs.closing_examples.first_reason_is_told.Goals as goal
 
 pub returns : goal.returns
 unfolding taken accepted request since_head answered answer_len told closing is_allowed outcome_of
-returns c = (happens _ _ (post_parsed, refl, refl, post_asked), refl)
+returns c = (
+  happens _ _ (post_parsed, refl, refl, post_asked),
+  refl,
+  happens _ _ (post_parsed, refl, refl, post_asked),
+  refl,
+)
