@@ -80,6 +80,24 @@ get_parsed ended = (
   nothing_behind,
 )
 
+-- where it ends in front of the next one
+next_piece : IsHeadPiece (get_text ++ codes "GE") 0 27
+next_piece = plain_piece _ 27 refl
+
+-- the request, where the next one has begun
+pub next_parsed : IsParse (input (get_text ++ codes "GE") None false) (get ∷ [])
+next_parsed = (
+  record {
+    start = 0;
+    end = 27;
+    piece = next_piece;
+    body_start = refl;
+    reading = inl (omega arith, (omega arith, get_is_head));
+    body = refl;
+  },
+  begun_head _ refl,
+)
+
 -- the field line of one that asks to close
 abbrev close_line : Field
 close_line = record { name = codes "connection"; raw = codes " close"; end = crlf }

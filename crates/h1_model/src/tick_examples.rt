@@ -42,6 +42,16 @@ pub fn open_request()
         Happens usual asked × (outcome_of usual asked (on.tick 1000000) ≡ on.done) }
 {}
 
+/// Only the first head can be slow: where the next one has begun behind an answer, no time runs out for it.
+pub fn later_head()
+    ensures { let begun : List ParsedStep = parsed (on.read (codes "GE")) (on.took 2) (get ∷ [])
+        ∷ parsed (on.answer ok (size_of 0)) on.done (get ∷ [])
+        ∷ parsed on.next (on.head get_head) (get ∷ [])
+        ∷ parsed (on.read get_text) (on.took 27) (get ∷ [])
+        ∷ parsed (on.tick 0) on.done [] ∷ [] in
+        Happens usual begun × (outcome_of usual begun (on.tick 1000000) ≡ on.done) }
+{}
+
 /// A peer that takes no bytes of a connection that closes is waited for from the last tick before it began to close. One that
 /// took all bytes isn't abandoned, and a time of 0 never runs out.
 pub fn peer_takes_nothing()
