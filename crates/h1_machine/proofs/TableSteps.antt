@@ -16,7 +16,9 @@ use Rattle.h1_machine.proofs.ExchangeChanges.{drop_changes, go_on_changes, chunk
 use Rattle.h1_machine.proofs.AnswerChanges.{answer_changes}
 use Rattle.h1_machine.proofs.BodyEndChanges.{body_end_changes}
 use Rattle.h1_machine.proofs.TickChanges.{tick_changes}
-use Rattle.h1_machine.proofs.EventStubs.{next_changes, pull_changes, accept_changes}
+use Rattle.h1_machine.proofs.NextChanges.{next_changes}
+use Rattle.h1_machine.proofs.PullChanges.{pull_changes}
+use Rattle.h1_machine.proofs.AcceptChanges.{accept_changes}
 
 -- what each event changes
 event_changes : (setting : Setting) (before : List ParsedStep) (x : ParsedStep) (event : Event) → Legal setting (x ∷ before) → x.step.event ≡ event

@@ -191,6 +191,7 @@ add_piece text body items more rest x e some =
     each_and_one : (pieces : List (List ℕ)) → AllByRecursion (λ piece. 0 < length piece) pieces → AllByRecursion (λ piece. 0 < length piece) (pieces ++ more ∷ [])
     each_and_one [] each = (some, tt)
     each_and_one (piece ∷ pieces) each = (each.0, each_and_one pieces each.1)
+
     no_last : (last : List Item) → (0 < length last → ⊥) → last ≡ []
     no_last [] none = refl
     no_last (i ∷ is) none = absurd (none (omega arith))

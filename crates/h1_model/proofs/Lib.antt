@@ -22,7 +22,9 @@ pub mod MovedLemmas
 pub mod UpgradeLemmas
 pub mod ExampleLemmas
 pub mod ChunkExamples
+pub mod ExampleParses
 pub mod PastLemmas
+pub mod ExampleSteps
 pub mod PlaceLemmas
 pub mod StepLemmas
 pub mod BodySteps

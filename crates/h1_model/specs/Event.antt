@@ -6,25 +6,15 @@ use Rattle.h1_model.specs.Frame.{Frame, Message, ProtocolError}
 use Rattle.h1_model.specs.Handshake.{HandshakeError}
 use Rattle.h1_model.specs.End.{End}
 
--- What happens to a connection.
+-- What happens to a connection. A read and the end of the input come from the peer. The next request is asked for,
+-- and more of its body, or, on a WebSocket, the next frame; the rest of a body is dropped, or its client, which
+-- waits, is told to go on.
 pub data Event : Type 0 where
-  -- bytes were read
   read : List ℕ → Event
-  -- the input ended
-  eof : Event
-  -- the next request is asked for
-  next : Event
-  -- more of its body is asked for, or, on a WebSocket, the next frame
-  pull : Event
-  -- nobody wants the rest of its body
-  drop_body : Event
-  -- its client, which waits, is told to go on
-  go_on : Event
-  -- it is answered; a body follows where the size says so
+  eof next pull drop_body go_on : Event
+  -- a request is answered; the answer's body comes in pieces, and ends or fails
   answer : AnswerHead → BodySize → Event
-  -- a piece of the answer's body is handed in
   chunk : List ℕ → Event
-  -- the answer's body has ended, or failed
   body_end body_error : Event
   -- so many bytes are fetched for writing
   write : ℕ → Event
@@ -32,9 +22,8 @@ pub data Event : Type 0 where
   tick : ℕ → Event
   -- the connection is to end soon
   drain : Event
-  -- a WebSocket is accepted, of whose frames none has a longer payload than so many bytes
+  -- a WebSocket is accepted, of whose frames none has a longer payload than so many bytes; a message is sent on it
   accept : ℕ → Event
-  -- a message is sent on the WebSocket
   send : Message → Event
 
 -- what is wrong with a body: it breaks the grammar of chunks, or the input ended inside it
@@ -45,30 +34,22 @@ pub data BodyFault : Type 0 where
 pub data Outcome : Type 0 where
   -- so many of the bytes were taken
   took : ℕ → Outcome
-  -- the head of the next request
+  -- the next request's head; bytes of its body, then its trailers, then its end; the next frame; nothing yet
   head : Head → Outcome
-  -- bytes of a body
   bytes : List ℕ → Outcome
-  -- the trailers of a body that has ended
   trailers : List Header → Outcome
-  -- the body has ended
   body_ended : Outcome
-  -- a frame
   frame : Frame → Outcome
-  -- nothing yet
   pending : Outcome
   -- the connection closes, and why
   closed : End → Outcome
-  -- what is wrong with a head, with a body, with the frames, with a handshake
+  -- what is wrong with a head, with a body, with frames, with a handshake
   fault : Fault → Outcome
   broken_by : BodyFault → Outcome
   protocol : ProtocolError → Outcome
   refused : HandshakeError → Outcome
   -- the bytes to write
   gave : List ℕ → Outcome
-  -- a time ran out, for a slow request or for a connection that was kept
+  -- a time ran out; the peer, which takes no bytes, isn't waited for any more; all else is done
   expired : End → Outcome
-  -- the peer, which takes no bytes, isn't waited for any more
-  abandoned : Outcome
-  -- it is done
-  done : Outcome
+  abandoned done : Outcome

@@ -5,3 +5,4 @@ pub mod Upgrade
 pub mod WrittenFrame
 pub mod FrameSize
 pub mod Exchanges
+pub mod ExampleTraces

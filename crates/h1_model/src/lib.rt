@@ -1,6 +1,7 @@
 //! What the connection means: definitions on plain values, and the laws that make them one reading.
 #![tactic(auto)]
 
+pub mod closing_examples;
 pub mod examples;
 pub mod frame_examples;
 pub mod frame_text;
@@ -11,4 +12,6 @@ pub mod parse;
 pub mod parse_examples;
 pub mod request_head;
 pub mod text;
+pub mod tick_examples;
 pub mod trace;
+pub mod trace_examples;

@@ -1,0 +1,253 @@
+-- A head is handed out.
+use Rattle.std.proofs.Common.{◌≡◌, ℕ, zero, suc, ◌+◌, Bool, true, false, List, [], ◌∷◌, ◌++◌, length, drop, slice_range, Option, Some, None, refl, sym, ap, ◌∙◌, subst, inl, inr, arith, append-nil}
+use Rattle.std.specs.Prelude.{◌&&◌, ◌||◌, not, is_some, unwrap_or, slice_get}
+use Rattle.std.specs.List.{list_any}
+use Rattle.std.specs.Option.{option_or}
+use Rattle.std.proofs.lemmas.Bool.{true≢false, or_parts}
+use Rattle.std.proofs.lemmas.Option.{none-some}
+use Rattle.std.proofs.lemmas.List.{drop-drop}
+use Rattle.h1_model.specs.Request.{Head, head_is}
+use Rattle.h1_model.specs.RequestHead.{IsReadingWithin}
+use Rattle.h1_model.specs.Setting.{Setting}
+use Rattle.h1_model.specs.Parse.{Input, Message, next_start, IsBodyOf, IsBodyAfter, IsMessageAt, AreMessages}
+use Rattle.h1_model.specs.End as ends
+use Rattle.h1_model.specs.Event as on
+use Rattle.h1_model.specs.Sums.{Step, taken, is_body_end, is_body_error, request, answered, is_complete, is_open, is_upgraded, accepted, is_receiving, is_pull, is_drop, is_go_on, has_ended, answer_len}
+use Rattle.h1_model.specs.Past.{ParsedStep, steps, input_of, parse_of, head_count, current, upcoming, passed}
+use Rattle.h1_model.specs.Text.{step_text, buffered}
+use Rattle.h1_model.specs.Closing.{end_where, told, is_short, body_end_of, closing}
+use Rattle.h1_model.proofs.BodyLemmas.{input}
+use Rattle.h1_model.proofs.PastLemmas.{Legal}
+use Rattle.h1_model.proofs.StepLemmas.{accepted-cons, since_head-head, head_count-head, complete-head, parsed}
+use Rattle.h1_model.proofs.TraceGrowth.{current_at}
+use Rattle.h1_model.proofs.PulledLemmas.{pulled_to-head}
+use Rattle.h1_model.proofs.CarriedLemmas.{passed_some, passed_complete, passed_pulled}
+use Rattle.h1_machine.specs.Kept.{unanswered, whole_rest, rest_in, new_exchange}
+use Rattle.h1_machine.specs.Local.{closing_by}
+use Rattle.h1_machine.specs.Clock.{Change}
+use Rattle.h1_machine.specs.Change.{behind_head, IsUpcoming, IsNext}
+use Rattle.h1_machine.specs.KeptOf.{rest_of, reply_of, tells_done, exchange_with, exchange_of, kept_of}
+use Rattle.h1_machine.proofs.Changes.{bare, Changes}
+use Rattle.h1_machine.proofs.Current.{current_of, request-cons}
+use Rattle.h1_machine.proofs.Orderly.{orderly, waits_open}
+use Rattle.h1_machine.proofs.Coming.{ComesAt, next_comes, none_comes}
+use Rattle.h1_machine.proofs.StepSums.{told-cons, answered-head, buffered-more}
+use Rattle.h1_machine.proofs.QuietParts.{rest_by, rest_parts}
+use Rattle.h1_machine.proofs.CalmSteps.{calm_next, taken-calm, clock-calm, sending-calm, parse-calm}
+use Rattle.h1_machine.proofs.NewRest.{read_some, new_rest}
+
+-- ---- the message that is to come
+
+-- the first message from a place on
+first_at : (i : Input) (place : ℕ) (ms : List Message) (m : Message) → AreMessages i place ms → slice_get ms 0 ≡ Some m → IsMessageAt i place m
+first_at i place [] m x e = absurd (none-some m e)
+first_at i place (q ∷ ms) m x e = let same : q ≡ m = cc in subst (IsMessageAt i place) same x.0
+
+-- behind a message that has ended
+behind_at : (i : Input) (ms : List Message) (k : ℕ) (q m : Message) (len : ℕ) (o : Option ℕ) → AreMessages i 0 ms → slice_get ms k ≡ Some q
+    → slice_get ms (suc k) ≡ Some m → next_start q.body ≡ o → IsMessageAt i (unwrap_or o len) m
+behind_at i ms k q m len None x e f none = absurd (none-some m (sym (none_comes i 0 ms k q x e none) ∙ f))
+behind_at i ms k q m len (Some place) x e f next = subst (ComesAt i place) f (next_comes i 0 ms k q place x e next)
+
+-- where no request is open, it begins at the place that is passed
+pub next_at : (setting : Setting) (past : List ParsedStep) (m : Message) → Legal setting past → is_open (steps past) ≡ false → upcoming past ≡ Some m
+    → IsMessageAt (input_of setting (steps past)) (passed past) m
+next_at setting past m l shut e = go (head_count (steps past)) refl
+  where
+    i : Input
+    i = input_of setting (steps past)
+
+    go : (count : ℕ) → head_count (steps past) ≡ count → IsMessageAt i (passed past) m
+    go zero count = elim (current_of setting past l) [
+      | inl n ↦ subst (λ p. IsMessageAt i p m) (sym n.passed_is)
+          (first_at i 0 (parse_of past) m (parsed setting past l) (ap (slice_get (parse_of past)) (sym count) ∙ e))
+      | inr (q, h, c) ↦ absurd (none-some q (sym (none_yet count) ∙ c.current_is))
+    ]
+      where
+        none_yet : head_count (steps past) ≡ 0 → current past ≡ None
+        none_yet f = rw f refl
+    go (suc k) count = elim (current_of setting past l) [
+      | inl n ↦ absurd (omega (arith, n.count))
+      | inr (q, h, c) ↦
+          let t = steps past in
+          let open_not = sym (ap (λ b. b && (is_upgraded t || not (is_complete t))) (ap is_some c.request_is)) ∙ shut in
+          let complete = shut_complete (is_complete t) (or_parts (is_upgraded t) (not (is_complete t)) open_not).1 in
+          let place = c.passed_is ∙ passed_complete past q complete in
+          subst (λ p. IsMessageAt i p m) (sym place)
+          (behind_at i (parse_of past) k q m (length (taken t)) (next_start q.body) (parsed setting past l) (sym (current_at past k count) ∙ c.current_is)
+          (ap (slice_get (parse_of past)) (sym count) ∙ e) refl)
+    ]
+      where
+        shut_complete : (b : Bool) → not b ≡ false → b ≡ true
+        shut_complete true f = refl
+        shut_complete false f = absurd (true≢false f)
+
+-- ---- what a head changes
+
+-- a call for the next head that hands out one
+abbrev pub head_of_next : Head → List Message → ParsedStep
+head_of_next h parse = record { step = record { event = on.next; outcome = on.head h }; parse = parse }
+
+-- What holds where a head is handed out: it is that of the message that was to come.
+pub record Heads (setting : Setting) (before : List ParsedStep) (parse : List Message) (m : Message) (h : Head) : Type 0 where
+  pub legal : Legal setting (head_of_next h parse ∷ before)
+  pub shut : is_open (steps before) ≡ false
+  pub open_yet : closing setting before ≡ None
+  pub upcoming_is : upcoming before ≡ Some m
+  pub reading : m.reading ≡ head_is h
+
+-- it is the current message then
+head_current : (setting : Setting) (before : List ParsedStep) (parse : List Message) (m : Message) (h : Head) → Heads setting before parse m h
+    → current (head_of_next h parse ∷ before) ≡ Some m
+head_current setting before parse m h w =
+    let x = head_of_next h parse in
+    let same : parse ≡ parse_of before = parse-calm setting before x w.legal calm_next refl in
+    current_at (x ∷ before) (head_count (steps before)) (head_count-head x.step (steps before) h refl)
+    ∙ ap (λ (l : List Message). slice_get l (head_count (steps before))) same ∙ w.upcoming_is
+
+-- of which nothing is passed
+head_passed : (setting : Setting) (before : List ParsedStep) (parse : List Message) (m : Message) (h : Head) → Heads setting before parse m h
+    → passed (head_of_next h parse ∷ before) ≡ m.body_start
+head_passed setting before parse m h w =
+    let x = head_of_next h parse in
+    let t = steps before in
+    passed_some (x ∷ before) m (head_current setting before parse m h w)
+    ∙ passed_pulled (x ∷ before) m (complete-head x.step t h refl) ∙ pulled_to-head m x.step t h refl
+
+-- no WebSocket is open
+head_plain : (setting : Setting) (before : List ParsedStep) (parse : List Message) (m : Message) (h : Head) → Heads setting before parse m h
+    → accepted (steps before) ≡ None
+head_plain setting before parse m h w = go (accepted (steps before)) refl
+  where
+    go : (u : Option ℕ) → accepted (steps before) ≡ u → u ≡ None
+    go None e = refl
+    go (Some limit) e =
+        let up = ap is_some e in
+        absurd (true≢false (sym (waits_open (steps before) up ((orderly setting before w.legal.3).upgraded up)) ∙ w.shut))
+
+-- what is left of its body
+head_rest : (setting : Setting) (before : List ParsedStep) (parse : List Message) (m : Message) (h : Head) → Heads setting before parse m h
+    → rest_of (head_of_next h parse ∷ before) m h.body ≡ rest_in (has_ended (steps before)) (drop m.body_start (taken (steps before))) (whole_rest h.body)
+head_rest setting before parse m h w =
+    let x = head_of_next h parse in
+    let t = steps before in
+    let s = x.step in
+    let at = next_at setting before m w.legal.3 w.shut w.upcoming_is in
+    let place = head_passed setting before parse m h w in
+    let bytes = taken-calm s t calm_next in
+    let complete = complete-head s t h refl in
+    let plain = head_plain setting before parse m h w in
+    let limit = accepted-cons s t ∙ plain in
+    let after = subst (λ r. IsBodyAfter (input_of setting t) r m.body_start m.body) w.reading at.body in
+    let body = subst (λ u. IsBodyOf (input (taken t) u (has_ended t) setting.hold_size) h.body m.body_start m.body) plain after in
+    let read = subst (λ r. IsReadingWithin setting.hold_size (slice_range (drop (passed before) (taken t)) at.start at.end) r) w.reading at.reading in
+    rest_parts (x ∷ before) m h.body
+    ∙ (λ i. rest_by (place i) (bytes i) (complete i) (limit i) (is_receiving (s ∷ t)) m h.body)
+    ∙ new_rest (taken t) (has_ended t) setting.hold_size (is_receiving (s ∷ t)) m h.body body
+    (λ n kind. read_some setting.hold_size (slice_range (drop (passed before) (taken t)) at.start at.end) h n read kind)
+
+-- the last request
+head_exchange : (setting : Setting) (before : List ParsedStep) (parse : List Message) (m : Message) (h : Head) → Heads setting before parse m h
+    → exchange_of setting (head_of_next h parse ∷ before) (current (head_of_next h parse ∷ before)) (request (steps (head_of_next h parse ∷ before)))
+    ≡ Some (new_exchange (rest_in (has_ended (steps before)) (drop m.body_start (taken (steps before))) (whole_rest h.body)) h)
+head_exchange setting before parse m h w =
+    let x = head_of_next h parse in
+    let t = steps before in
+    let s = x.step in
+    let here = head_current setting before parse m h w in
+    let asked : request (s ∷ t) ≡ Some h = request-cons s t in
+    let nothing = since_head-head s t h refl in
+    let rest = head_rest setting before parse m h w in
+    let reply : reply_of setting (s ∷ t) h (answered (s ∷ t)) ≡ unanswered = ap (reply_of setting (s ∷ t) h) (answered-head s t h refl) in
+    let pulled = ap (list_any (λ u. is_pull u.event)) nothing in
+    let dropped = ap (list_any (λ u. is_drop u.event)) nothing in
+    let told_on = ap (list_any (λ u. is_go_on u.event)) nothing in
+    let done = ap (list_any (λ u. tells_done u.event u.outcome)) nothing in
+    (λ i. exchange_of setting (x ∷ before) (here i) (asked i))
+    ∙ (λ i. Some (record (exchange_with setting (x ∷ before) m h) {
+      rest = rest i;
+      reply = reply i;
+      was_pulled = pulled i;
+      was_dropped = dropped i;
+      was_told_to_go_on = told_on i;
+      body_is_done = done i;
+    }))
+
+-- ---- no end was told
+
+-- two options of which neither is some
+neither : {A : Type 0} (a b : Option A) → option_or a b ≡ None → (a ≡ None) × (b ≡ None)
+neither None b e = (refl, e)
+neither (Some x) b e = absurd (none-some x (sym e))
+
+-- while the connection is open none was told
+untold : (setting : Setting) (past : List ParsedStep) → closing setting past ≡ None → (told (steps past) ≡ None) × (body_end_of (steps past) ≡ None)
+unfolding closing
+untold setting past e =
+    let parts = neither (told (steps past)) _ e in
+    (parts.0, (neither (body_end_of (steps past)) _ parts.1).0)
+
+-- nor is one then
+head_told : (setting : Setting) (before : List ParsedStep) (parse : List Message) (m : Message) (h : Head) → Heads setting before parse m h
+    → (kept_of setting before).told ≡ (kept_of setting (head_of_next h parse ∷ before)).told
+head_told setting before parse m h w =
+    let x = head_of_next h parse in
+    let t = steps before in
+    let s = x.step in
+    let none = untold setting before w.open_yet in
+    let failed = (neither (end_where (list_any (λ u. is_body_error u.event) t) ends.body) _ none.1).0 in
+    let ended = ap (list_any (λ u. is_body_end u.event)) (since_head-head s t h refl) in
+    let told_same : told (s ∷ t) ≡ told t = told-cons s t in
+    let body : body_end_of (s ∷ t) ≡ None =
+    (λ i. option_or (failed i) (end_where (ended i && is_short (request (s ∷ t)) (answered (s ∷ t)) (answer_len (s ∷ t))) ends.body_short)) in
+    λ i. option_or (sym told_same i) ((none.1 ∙ sym body) i)
+
+-- ---- all of it
+
+-- nothing is written
+head_text : (setting : Setting) (t : List Step) (h : Head) → step_text setting t on.next (on.head h) ≡ []
+unfolding step_text
+head_text setting t h = refl
+
+-- all parts
+head_parts : (setting : Setting) (before : List ParsedStep) (parse : List Message) (m : Message) (h : Head) → Heads setting before parse m h
+    → (end : ℕ) → m.body_start ≡ passed before + end
+    → bare ((behind_head (kept_of setting before) end (head_is h)).kept) ≡ bare (kept_of setting (head_of_next h parse ∷ before))
+head_parts setting before parse m h w end start =
+    let x = head_of_next h parse in
+    let t = steps before in
+    let s = x.step in
+    let k = kept_of setting before in
+    let bytes : drop end k.unread ≡ drop m.body_start (taken t) = drop-drop end (passed before) (taken t) ∙ ap (λ n. drop n (taken t)) (sym start) in
+    let place = head_passed setting before parse m h w in
+    let all = taken-calm s t calm_next in
+    let unread : drop end k.unread ≡ drop (passed (x ∷ before)) (taken (s ∷ t)) = bytes ∙ (λ i. drop (sym place i) (sym all i)) in
+    let exchange = ap (λ u. Some (new_exchange (rest_in k.has_ended u (whole_rest h.body)) h)) bytes ∙ sym (head_exchange setting before parse m h w) in
+    let text = sym (buffered-more setting s before w.legal.3 refl ∙ ap (λ b. buffered setting t ++ b) (head_text setting t h) ∙ append-nil (buffered setting t)) in
+    let sends = sym (sending-calm s t calm_next) in
+    let clock = sym (clock-calm s t calm_next) in
+    let end_told = head_told setting before parse m h w in
+    λ i. record (bare (kept_of setting (x ∷ before))) {
+      unread = unread i;
+      exchange = exchange i;
+      buffered = text i;
+      is_sending = sends i;
+      clock = clock i;
+      told = end_told i;
+    }
+
+-- a head is handed out
+pub head_changes : (setting : Setting) (before : List ParsedStep) (parse : List Message) (m : Message) (h : Head) → Heads setting before parse m h
+    → ((c : Change) → IsUpcoming setting (kept_of setting before) true c → IsNext setting (kept_of setting before) (closing_by setting (kept_of setting before)) c)
+    → Changes setting before (head_of_next h parse)
+head_changes setting before parse m h w next =
+    let k = kept_of setting before in
+    let at = next_at setting before m w.legal.3 w.shut w.upcoming_is in
+    let read = subst (λ r. IsReadingWithin setting.hold_size (slice_range k.unread at.start at.end) r) w.reading at.reading in
+    record {
+      change = behind_head k at.end (head_is h);
+      changes = next (behind_head k at.end (head_is h)) (at.start, at.end, head_is h, at.piece, read, refl);
+      answers = refl;
+      parts = head_parts setting before parse m h w at.end at.body_start;
+      since = refl;
+    }

@@ -1,0 +1,57 @@
+-- The last request behind a step that leaves it as it is.
+use Rattle.std.proofs.Common.{◌≡◌, false, List, ◌∷◌, Some, None, sym, ap, ◌∙◌, inl, inr}
+use Rattle.std.specs.Prelude.{◌||◌}
+use Rattle.h1_model.specs.Setting.{Setting}
+use Rattle.h1_model.specs.Sums.{Step, head_of, is_pull, request, accepted_limit, was_pulled}
+use Rattle.h1_model.specs.Past.{ParsedStep, steps, current, step_bytes, step_frames}
+use Rattle.h1_model.proofs.PastLemmas.{Legal}
+use Rattle.h1_model.proofs.StepLemmas.{Quiet}
+use Rattle.h1_machine.specs.KeptOf.{tells_done, exchange_with, exchange_of}
+use Rattle.h1_machine.proofs.Current.{current_of, request-more}
+use Rattle.h1_machine.proofs.CalmSteps.{IsCalm, or_comm, exchange-calm, current-calm}
+use Rattle.h1_machine.proofs.QuietParts.{rest-quiet}
+
+-- The step is calm, is no pull, accepts nothing, and hands out nothing of a message.
+pub record IsStill (s : Step) : Type 0 where
+  pub calm : IsCalm s.event
+  pub pull : is_pull s.event ≡ false
+  pub accepts : accepted_limit s.event s.outcome ≡ None
+  pub head : head_of s.outcome ≡ None
+  pub bytes : step_bytes s.outcome ≡ 0
+  pub frames : step_frames s.outcome ≡ 0
+  pub done : tells_done s.event s.outcome ≡ false
+
+-- such a step is quiet
+pub still_quiet : (before : List ParsedStep) (s : Step) → IsStill s → Quiet before s
+still_quiet before s w = record {
+  taken = w.calm.takes s.outcome;
+  eof = w.calm.eof;
+  accepted = w.accepts;
+  pull = w.pull;
+  head = w.head;
+  bytes = w.bytes;
+  frames = w.frames;
+}
+
+-- the last request is the same
+pub exchange_still : (setting : Setting) (before : List ParsedStep) (x : ParsedStep) → Legal setting (x ∷ before) → IsStill x.step
+    → exchange_of setting before (current before) (request (steps before)) ≡ exchange_of setting (x ∷ before) (current (x ∷ before)) (request (x.step ∷ steps before))
+exchange_still setting before x l w =
+    let t = steps before in
+    let now = current-calm setting before x l w.calm w.accepts w.head in
+    elim (current_of setting before l.3) [
+      | inl n ↦ ap (λ o. exchange_of setting before o (request t)) n.current_is
+          ∙ sym (ap (λ o. exchange_of setting (x ∷ before) o (request (x.step ∷ t))) (now ∙ n.current_is))
+      | inr (m, h, c) ↦
+          let asked = request-more x.step t w.head ∙ c.request_is in
+          let here = now ∙ c.current_is in
+          let old = exchange_with setting before m h in
+          let rest = sym (rest-quiet setting x before m h.body l (still_quiet before x.step w) w.calm.completes) in
+          let pulled = sym (ap (λ b. b || was_pulled t) w.pull) in
+          let done : old.body_is_done ≡ (old.body_is_done || tells_done x.step.event x.step.outcome) =
+          sym (or_comm old.body_is_done (tells_done x.step.event x.step.outcome) ∙ ap (λ b. b || old.body_is_done) w.done) in
+          (λ i. exchange_of setting before (c.current_is i) (c.request_is i))
+          ∙ (λ i. Some (record old { rest = rest i; was_pulled = pulled i; body_is_done = done i }))
+          ∙ ap Some (exchange-calm setting before x m m h w.head w.calm)
+          ∙ sym (λ i. exchange_of setting (x ∷ before) (here i) (asked i))
+    ]

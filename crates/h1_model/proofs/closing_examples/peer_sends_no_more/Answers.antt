@@ -1,0 +1,13 @@
+use Rattle.std.proofs.Common.{true, false, refl}
+use Rattle.h1_model.specs.Sums.{taken, accepted, request, since_head, answered, answer_len}
+use Rattle.h1_model.specs.Past.{place_behind, pulled_to}
+use Rattle.h1_model.specs.Closing.{told, closing}
+use Rattle.h1_model.specs.Allowed.{is_allowed}
+use Rattle.h1_model.specs.OutcomeTable.{outcome_of}
+use Rattle.h1_model.proofs.ExampleParses.{get_parsed}
+use Rattle.h1_model.proofs.ExampleSteps.{happens}
+use Rattle.h1_model.proofs.closing_examples.peer_sends_no_more.Goals as goal
+
+pub returns : goal.returns
+unfolding taken accepted request since_head answered answer_len told closing is_allowed outcome_of pulled_to place_behind
+returns c = (happens _ _ (get_parsed true, refl, refl, (get_parsed false, refl, refl, tt)), refl)

@@ -1,0 +1,13 @@
+use Rattle.std.proofs.Common.{false, refl}
+use Rattle.h1_model.specs.Sums.{taken, accepted, last_tick, first_tick, request, since_head, answered, completed_at, answer_len}
+use Rattle.h1_model.specs.Past.{place_behind, pulled_to}
+use Rattle.h1_model.specs.Closing.{told, closing}
+use Rattle.h1_model.specs.Allowed.{is_allowed}
+use Rattle.h1_model.specs.OutcomeTable.{outcome_of}
+use Rattle.h1_model.proofs.ExampleParses.{get_parsed, next_parsed}
+use Rattle.h1_model.proofs.ExampleSteps.{get_ticked, happens}
+use Rattle.h1_model.proofs.tick_examples.later_head.Goals as goal
+
+pub returns : goal.returns
+unfolding taken accepted request since_head answered answer_len told closing is_allowed outcome_of last_tick first_tick completed_at pulled_to place_behind
+returns c = (happens _ _ (next_parsed, refl, refl, (get_parsed false, refl, refl, (get_parsed false, refl, refl, get_ticked))), refl)

@@ -1,0 +1,11 @@
+use Rattle.std.proofs.Common.{refl}
+use Rattle.h1_model.specs.Sums.{taken, accepted, request, since_head, answered, answer_len}
+use Rattle.h1_model.specs.Closing.{told, closing}
+use Rattle.h1_model.specs.Allowed.{is_allowed}
+use Rattle.h1_model.specs.OutcomeTable.{outcome_of}
+use Rattle.h1_model.proofs.ExampleSteps.{happens, socket_asked}
+use Rattle.h1_model.proofs.trace_examples.limit_without_room.Goals as goal
+
+pub returns : goal.returns
+unfolding taken accepted request since_head answered answer_len told closing is_allowed outcome_of
+returns c = (happens _ _ socket_asked, refl, refl)
