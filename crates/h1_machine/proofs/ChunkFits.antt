@@ -10,7 +10,7 @@ use Rattle.h1_chunks.specs.Place.{Place, start, after}
 use Rattle.h1_chunks.specs.Reading as readings
 use Rattle.h1_chunks.specs.Reading.{read}
 use Rattle.h1_chunks.specs.TakeNext.{Next, chunk, waits, ended, breaks}
-use Rattle.h1_chunks.proofs.ReadAfter.{read-nil}
+use Rattle.h1_chunks.proofs.ReadSteps.{read-nil}
 use Rattle.h1_model.specs.Request.{Header, Reading}
 use Rattle.h1_model.specs.Parse.{Input, Message, content, open_or_cut, shifted, trailer_header, chunked_stop, next_start}
 use Rattle.h1_model.specs.End.{End}

@@ -7,7 +7,7 @@ use Rattle.h1_chunks.specs.Chunked.{Chunked}
 use Rattle.h1_chunks.specs.Place.{Place, done, broken, start, after}
 use Rattle.h1_chunks.specs.Reading.{Reading, read}
 use Rattle.h1_chunks.specs.TakeNext.{Next, chunk, waits, ended, breaks, Taken, nothing_noted, take_next}
-use Rattle.h1_chunks.proofs.ReadAfter.{read-nil}
+use Rattle.h1_chunks.proofs.ReadSteps.{read-nil}
 use Rattle.h1_machine.proofs.ChunkStops.{IsWholeTaken}
 use Rattle.h1_machine.proofs.PassedText.{part_front, part_all, Follows}
 use Rattle.h1_machine.proofs.ChunkGives.{IsGiven, IsWaiting, next_of}

@@ -10,7 +10,8 @@ use Rattle.h1_chunks.specs.Chunked.{Chunked, whole, unfinished, not_chunked, Spe
 use Rattle.h1_chunks.specs.Place.{Place, done, broken, start, after}
 use Rattle.h1_chunks.specs.Reading.{Ending, goes_on, is_broken, has_ended, Reading, with_trailers, at_end, read}
 use Rattle.h1_chunks.specs.TakeNext.{Next, chunk, waits, ended, breaks, take_next, says}
-use Rattle.h1_chunks.proofs.ReadAfter.{read-nil, read-append, joined}
+use Rattle.h1_chunks.proofs.ReadSteps.{read-nil}
+use Rattle.h1_chunks.proofs.ReadAfter.{read-append, joined}
 use Rattle.h1_chunks.proofs.TakenReads.{taken_is_read}
 use Rattle.h1_chunks.proofs.Verdicts.{IsLive, live_end, whole_after}
 use Rattle.h1_chunks.proofs.Agreement.{read_whole, whole_read, unfinished_read, broken_read}

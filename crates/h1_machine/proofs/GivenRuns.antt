@@ -6,7 +6,8 @@ use Rattle.h1_chunks.specs.Runs.{Run, cut_runs}
 use Rattle.h1_chunks.specs.Chunked.{Chunked, IsChunked}
 use Rattle.h1_chunks.specs.Place.{Place, in_bytes, bytes_end, in_section, broken, start, bytes_step, step, after}
 use Rattle.h1_chunks.specs.Reading.{Reading, noted, read}
-use Rattle.h1_chunks.proofs.ReadAfter.{after-nil, after-cons, read-nil, read-cons, not_done_before}
+use Rattle.h1_chunks.proofs.ReadSteps.{has_next, read-nil, read-cons}
+use Rattle.h1_chunks.proofs.ReadAfter.{after-nil, after-cons, done_stops}
 use Rattle.h1_chunks.proofs.RunPlaces.{runs_of, runs_of-nil, runs_of-cons}
 use Rattle.h1_chunks.proofs.RunBytes.{in_chunk, current}
 use Rattle.h1_chunks.proofs.WalkedRuns.{runs_cut}
@@ -122,11 +123,11 @@ left_behind [] rest place at unbroken =
     ∙ (λ i. next_run (here i) (sym (after-nil at) i) rest)
 left_behind (b ∷ front) rest place at unbroken =
     let next = step at b in
-    let unended = not_done_before at b front unbroken in
+    let more = has_next at (λ e. unbroken (ap (λ p. after p (b ∷ front)) e ∙ done_stops (b ∷ front) (omega arith))) in
     let further : after next front ≡ broken → ⊥ = λ e. unbroken (after-cons at b front ∙ e) in
     let size : place + suc (length (front ++ rest)) ≡ place + 1 + length (front ++ rest) = omega arith in
     let behind : place + 1 + length front ≡ place + suc (length front) = omega arith in
-    ap (λ (r : Reading). run_left (length r.body) (walked (place + suc (length (front ++ rest))) place at (b ∷ (front ++ rest)))) (read-cons at b front unended)
+    ap (λ (r : Reading). run_left (length r.body) (walked (place + suc (length (front ++ rest))) place at (b ∷ (front ++ rest)))) (read-cons at b front more)
     ∙ left_on place at b front (front ++ rest)
     ∙ ap (λ n. run_left (length (read next front).body) (walked n (place + 1) next (front ++ rest))) size
     ∙ left_behind front rest (place + 1) next further

@@ -8,7 +8,8 @@ use Rattle.h1_chunks.specs.Runs.{Run, cut_runs}
 use Rattle.h1_chunks.specs.Place.{InLine, Place, in_bytes, bytes_end, in_section, done, broken, bytes_step, step, after}
 use Rattle.h1_chunks.specs.Reading.{Ending, Reading, only, with_bytes, with_trailers, noted, at_end, read}
 use Rattle.h1_chunks.specs.TakeNext.{Next, chunk, waits, ended, breaks, Taken, nothing_noted, of_chunk, noted_line, stops_at, take_next, says}
-use Rattle.h1_chunks.proofs.ReadAfter.{after-nil, after-cons, read-nil, read-cons}
+use Rattle.h1_chunks.proofs.ReadSteps.{HasNext, read-nil, read-cons}
+use Rattle.h1_chunks.proofs.ReadAfter.{after-nil, after-cons}
 use Rattle.h1_chunks.proofs.Complete.{bytes_read}
 use Rattle.h1_chunks.proofs.TakenReads.{taken_is_read}
 use Rattle.h1_chunks.proofs.Verdicts.{IsLive}
@@ -75,9 +76,9 @@ NotesAlike at b text text' = (body : List ℕ) (ending : Ending)
 
 -- a chunk behind that byte
 chunk_on : (place : ℕ) (at : Place) (b : ℕ) (bytes text text' : List ℕ) (run : Option Run) (given : List ℕ) (next : Place) (behind : List ℕ)
-    → (at ≡ done → ⊥) → NotesAlike at b text text'
+    → HasNext at → NotesAlike at b text text'
     → IsChunkTaken (place + 1) (step at b) bytes text run given next behind → IsChunkTaken place at (b ∷ bytes) text' run given next behind
-chunk_on place at b bytes text text' run given next behind unended alike x =
+chunk_on place at b bytes text text' run given next behind more alike x =
     let start : place + 1 + x.from ≡ place + suc x.from = omega arith in
     let end : place + 1 + x.size ≡ place + suc x.size = omega arith in
     let count : x.size - x.from ≡ suc x.size - suc x.from = omega arith in
@@ -93,18 +94,18 @@ chunk_on place at b bytes text text' run given next behind unended alike x =
       next_is = x.next_is ∙ sym (after-cons at b (take x.size bytes));
       lives = x.lives;
       behind_is = x.behind_is;
-      reads = read-cons at b (take x.size bytes) unended ∙ ap (noted at (step at b) b) x.reads ∙ alike given (at_end next);
+      reads = read-cons at b (take x.size bytes) more ∙ ap (noted at (step at b) b) x.reads ∙ alike given (at_end next);
     }
 
 -- anything behind it
 taken_on : (place : ℕ) (at : Place) (b : ℕ) (bytes text text' : List ℕ) (run : Option Run) (next : Next)
-    → (at ≡ done → ⊥) → NotesAlike at b text text'
+    → HasNext at → NotesAlike at b text text'
     → TakesNext (place + 1) (step at b) bytes text run next → TakesNext place at (b ∷ bytes) text' run next
-taken_on place at b bytes text text' run (chunk given next behind) unended alike x =
-    chunk_on place at b bytes text text' run given next behind unended alike x
-taken_on place at b bytes text text' run (waits next) unended alike x = (x.0, x.1 ∙ sym (after-cons at b bytes), x.2)
-taken_on place at b bytes text text' run (ended behind) unended alike x = x
-taken_on place at b bytes text text' run breaks unended alike x = x
+taken_on place at b bytes text text' run (chunk given next behind) more alike x =
+    chunk_on place at b bytes text text' run given next behind more alike x
+taken_on place at b bytes text text' run (waits next) more alike x = (x.0, x.1 ∙ sym (after-cons at b bytes), x.2)
+taken_on place at b bytes text text' run (ended behind) more alike x = x
+taken_on place at b bytes text text' run breaks more alike x = x
 
 -- a byte of a trailer line changes nothing but the text
 line_on : (place : ℕ) (at : InLine) (lines room : ℕ) (q : Place) (b : ℕ) (bytes : List ℕ) (t : Taken) (run : Option Run)
@@ -114,12 +115,12 @@ line_on place at lines room (in_section at' lines' room') b bytes t run e x =
     let here = subst (λ q. TakesNext (place + 1) q bytes t.trailers run t.next) (sym e) x in
     let alike : NotesAlike (in_section at lines room) b t.trailers (b ∷ t.trailers) = λ body ending.
         ap (λ q. noted (in_section at lines room) q b (with_trailers t.trailers (with_bytes body (only ending)))) e in
-    taken_on place (in_section at lines room) b bytes t.trailers (b ∷ t.trailers) run t.next (λ d. cc) alike here
+    taken_on place (in_section at lines room) b bytes t.trailers (b ∷ t.trailers) run t.next tt alike here
 line_on place at lines room q b bytes t run e x =
     let here = subst (λ q. TakesNext (place + 1) q bytes t.trailers run t.next) (sym e) x in
     let alike : NotesAlike (in_section at lines room) b t.trailers t.trailers = λ body ending.
         ap (λ q. noted (in_section at lines room) q b (with_trailers t.trailers (with_bytes body (only ending)))) e in
-    taken_on place (in_section at lines room) b bytes t.trailers t.trailers run t.next (λ d. cc) alike here
+    taken_on place (in_section at lines room) b bytes t.trailers t.trailers run t.next tt alike here
 
 -- ---- bytes of a chunk
 
@@ -252,5 +253,5 @@ next_taken (b ∷ bytes) place (in_section at lines room) =
     (next_on place (in_section at lines room) b bytes refl) (next_taken bytes (place + 1) q))
 next_taken (b ∷ bytes) place at =
     let t = take_next (step at b) bytes in
-    taken_on place at b bytes t.trailers t.trailers (next_run place at (b ∷ bytes)) t.next (λ e. cc) (λ body ending. refl)
+    taken_on place at b bytes t.trailers t.trailers (next_run place at (b ∷ bytes)) t.next tt (λ body ending. refl)
     (subst (λ run. TakesNext (place + 1) (step at b) bytes t.trailers run t.next) (next_on place at b bytes refl) (next_taken bytes (place + 1) (step at b)))

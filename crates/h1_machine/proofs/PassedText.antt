@@ -5,7 +5,8 @@ use Rattle.std.proofs.lemmas.List.{drop-drop, take-append-drop, take_all}
 use Rattle.std.proofs.Math.Seq.{take-add}
 use Rattle.h1_chunks.specs.Place.{done, broken, start, after}
 use Rattle.h1_chunks.specs.Reading.{Reading, read}
-use Rattle.h1_chunks.proofs.ReadAfter.{after-nil, read-nil}
+use Rattle.h1_chunks.proofs.ReadSteps.{read-nil}
+use Rattle.h1_chunks.proofs.ReadAfter.{after-nil}
 
 -- ---- parts of bytes
 
