@@ -1,11 +1,11 @@
 -- What comes next behind the text that pulls passed, by the parse of the body.
-use Rattle.std.proofs.Common.{◌≡◌, ℕ, ◌+◌, ◌-◌, ◌≤◌, Bool, List, [], ◌++◌, length, take, drop, Option, Some, None, refl, sym, ap, ◌∙◌, subst, arith, length-drop}
+use Rattle.std.proofs.Common.{◌≡◌, ℕ, ◌+◌, ◌-◌, ◌≤◌, Bool, List, length, take, drop, Option, Some, None, sym, ap, ◌∙◌, subst, arith, length-drop}
 use Rattle.std.specs.Prelude.{slice_range}
 use Rattle.std.proofs.lemmas.List.{drop-drop}
 use Rattle.h1_chunks.specs.Runs.{Run}
 use Rattle.h1_chunks.specs.Chunked.{Chunked, unfinished, not_chunked, IsChunked}
 use Rattle.h1_chunks.specs.Place.{Place, broken, start, after}
-use Rattle.h1_chunks.specs.Reading.{Reading, only, with_bytes, with_trailers, at_end, read}
+use Rattle.h1_chunks.specs.Reading.{only, with_bytes, with_trailers, at_end, read}
 use Rattle.h1_chunks.specs.TakeNext.{Next, chunk, waits, ended, breaks, Taken, take_next}
 use Rattle.h1_chunks.proofs.ReadAfter.{after-append, read-append, joined}
 use Rattle.h1_chunks.proofs.Verdicts.{IsLive}
