@@ -89,7 +89,7 @@ fits_chunk r place runs i a trace given next behind x e g =
     let text = lines_of m trace in
     let left = run_left (given_bytes trace) (shifted place runs) in
     let lines : (read start (slice_range bytes place (upto + g.size))).trailers ≡ section ++ text =
-        ap (λ (q : readings.Reading). q.trailers) g.reads ∙ ap (λ l. section ++ l) (append-nil text) in
+    ap (λ (q : readings.Reading). q.trailers) g.reads ∙ ap (λ l. section ++ l) (append-nil text) in
     record {
       pulled = giving (on.bytes given) (chunks_rest next (section ++ text)) behind;
       outcome = outcome_given trace (chunked_stop i place a) place upto text left given next behind g;
@@ -156,7 +156,7 @@ fits_wait r place runs i a trace next true chunks f f' e w =
     let m = of_chunks r place runs i a in
     let left = run_left (given_bytes trace) (shifted place runs) in
     let told = outcome_waits trace i place (pulled_to m trace) (lines_of m trace) a left next w
-        ∙ ap (λ b. stop_outcome (gave_trailers trace) (open_or_cut b)) f in
+    ∙ ap (λ b. stop_outcome (gave_trailers trace) (open_or_cut b)) f in
     fits_fault r place runs i a trace incomplete (unfinished_unpassed r place runs i a (pulled_to m trace) w.kind) told
     (pulls_next m trace (waits next) true _ e f' refl)
 fits_wait r place runs i a trace next false chunks f f' e w =
@@ -168,8 +168,8 @@ fits_wait r place runs i a trace next false chunks f f' e w =
     let all = part_all bytes place in
     let here : after start (slice_range bytes place (length bytes)) ≡ next = ap (after start) all ∙ w.next_is in
     let lines : (read start (slice_range bytes place (length bytes))).trailers ≡ section ++ text =
-        ap (λ l. (read start l).trailers) all ∙ ap (λ (q : readings.Reading). q.trailers) w.reads
-        ∙ ap (λ (q : readings.Reading). section ++ (text ++ q.trailers)) (read-nil next) ∙ ap (λ l. section ++ l) (append-nil text) in
+    ap (λ l. (read start l).trailers) all ∙ ap (λ (q : readings.Reading). q.trailers) w.reads
+    ∙ ap (λ (q : readings.Reading). section ++ (text ++ q.trailers)) (read-nil next) ∙ ap (λ l. section ++ l) (append-nil text) in
     record {
       pulled = giving on.pending (chunks_rest next (section ++ text)) [];
       outcome = outcome_waits trace i place (pulled_to m trace) text a left next w ∙ ap (λ b. stop_outcome (gave_trailers trace) (open_or_cut b)) f;

@@ -64,8 +64,8 @@ follows_wait place upto given bytes text told finished a left next f e x =
     let all = part_all bytes place in
     let here = ap (after start) all ∙ x.next_is in
     let body = ap (λ (r : Reading). r.body) x.reads
-        ∙ ap (λ (r : Reading). (read start (slice_range bytes place upto)).body ++ r.body) (read-nil next)
-        ∙ append-nil (read start (slice_range bytes place upto)).body in
+    ∙ ap (λ (r : Reading). (read start (slice_range bytes place upto)).body ++ r.body) (read-nil next)
+    ∙ append-nil (read start (slice_range bytes place upto)).body in
     record {
       order = omega arith;
       within = omega arith;

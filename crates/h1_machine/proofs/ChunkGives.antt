@@ -117,7 +117,7 @@ gives place upto given bytes told finished a runs x f =
     let here = subst (λ l. IsChunked l a runs) (sym parts) x in
     let run = next_run (length front) at rest in
     let left : run_left given (shifted place runs) ≡ moved_run place run =
-        ap (λ n. run_left n (shifted place runs)) (sym f.given_is) ∙ left_of_body place front rest a runs here f.unbroken in
+    ap (λ n. run_left n (shifted place runs)) (sym f.given_is) ∙ left_of_body place front rest a runs here f.unbroken in
     let takes = next_taken rest (length front) at in
     let t = take_next at rest in
     let reads = ap (read start) (sym parts) ∙ read_by_next front rest f.unbroken in

@@ -208,9 +208,9 @@ pulled_by r place runs i trace text a (ended behind) chunks f e x =
     let fits = whole_within bytes front text place a behind (omega arith) w in
     let o = ended_outcome (gave_trailers trace) (map trailer_header w.trailers) in
     let here : Pulled (in_chunks r place runs (chunked_stop i place (whole w.size w.trailers))) trace o =
-        pulled_end r place runs i trace text w.size w.trailers (gave_trailers trace) (map trailer_header w.trailers)
-        (λ told' finished' closed. follows_end place (pulled_to m trace) (given_bytes trace) bytes text (gave_trailers trace) (gave_up trace)
-        told' finished' a behind f w fits closed) in
+    pulled_end r place runs i trace text w.size w.trailers (gave_trailers trace) (map trailer_header w.trailers)
+    (λ told' finished' closed. follows_end place (pulled_to m trace) (given_bytes trace) bytes text (gave_trailers trace) (gave_up trace)
+    told' finished' a behind f w fits closed) in
     subst (Pulled m trace) (sym (outcome_ended trace i place (drop place bytes) front text a left behind x.0 w))
     (subst (λ (b : Chunked). Pulled (in_chunks r place runs (chunked_stop i place b)) trace o) (sym w.kind) here)
 pulled_by r place runs i trace text a breaks chunks f e x =

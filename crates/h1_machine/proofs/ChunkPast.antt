@@ -87,7 +87,7 @@ grown_pulled setting before x m n l unended upgraded reading start was is =
     let new = current_with setting (x ∷ before) n l is in
     let i : input_of setting t ≡ input bytes (accepted t) false size = λ j. input bytes (accepted t) (unended j) size in
     let i' : input_of setting (x.step ∷ t) ≡ input (bytes ++ more) (accepted t) (has_ended (x.step ∷ t)) size =
-        λ j. input (taken-cons x.step t j) (upgraded j) (has_ended (x.step ∷ t)) size in
+    λ j. input (taken-cons x.step t j) (upgraded j) (has_ended (x.step ∷ t)) size in
     let a = subst (λ (k : Input). IsBodyAfter k m.reading m.body_start m.body) i (body_after setting before m old.0 old.1) in
     let b = subst (λ (k : Input). IsBodyAfter k n.reading n.body_start n.body) i' (body_after setting (x ∷ before) n new.0 new.1) in
     let b' = subst₂ (λ r p. IsBodyAfter (input (bytes ++ more) (accepted t) (has_ended (x.step ∷ t)) size) r p n.body) (sym reading) (sym start) b in
@@ -166,7 +166,7 @@ pull_shown setting before x l p same old n here chunks =
     let kind = chunks_kind c.0 n c.1.reading chunks in
     let body = subst (λ k. IsBodyOf (input_of setting t) k n.body_start n.body) kind c.1.body in
     let shape : n ≡ in_chunks n.reading n.body_start body.1 (chunked_stop (input_of setting t) n.body_start body.0) =
-        ap (λ b. record { reading = n.reading; body_start = n.body_start; body = b }) body.3 in
+    ap (λ b. record { reading = n.reading; body_start = n.body_start; body = b }) body.3 in
     let m = in_chunks n.reading n.body_start body.1 (chunked_stop (input_of setting t) n.body_start body.0) in
     let f = subst (λ q. FollowsTo q t) shape (old n was chunks) in
     let o = body_outcome t m.body in
@@ -175,9 +175,9 @@ pull_shown setting before x l p same old n here chunks =
     let is : step on.pull o ≡ x.step = λ i. record { event = sym p.event i; outcome = sym told i } in
     let pulled = follows_pull n.reading n.body_start body.1 (input_of setting t) t body.0 chunks body.2 f in
     let behind = follows_step m (step on.pull o) t (sym (ap head_of told) ∙ none)
-        (subst (λ b. Follows n.body_start (pulled_upto m o t) b (given_bytes t + step_bytes o) (is_trailers o || gave_trailers t)
-        (gives_up on.pull o || gave_up t))
-        (sym (append-nil (taken t))) pulled) in
+    (subst (λ b. Follows n.body_start (pulled_upto m o t) b (given_bytes t + step_bytes o) (is_trailers o || gave_trailers t)
+    (gives_up on.pull o || gave_up t))
+    (sym (append-nil (taken t))) pulled) in
     subst₂ (λ q s. FollowsTo q (s ∷ t)) (sym shape) is behind
 
 -- a step that takes nothing leaves the current message
@@ -212,7 +212,7 @@ step_shown setting before x l old =
       | begins b ↦ head_shown setting before x b.head l (ap head_of b.outcome)
       | pulls p ↦
           let same = still_current setting before x l (ap (λ e. step_taken e x.step.outcome) p.event) (ap is_eof p.event)
-              (ap (λ e. accepted_limit e x.step.outcome) p.event) (ap head_of p.outcome ∙ pull_no_head t (current before)) in
+          (ap (λ e. accepted_limit e x.step.outcome) p.event) (ap head_of p.outcome ∙ pull_no_head t (current before)) in
           pull_shown setting before x l p same old
     ]
 

@@ -107,8 +107,8 @@ fits_changes setting before o parse m h rest l c kind incomplete e f =
     let place : passed before ≡ pulled_to m t = c.passed_is ∙ passed_pulled before m incomplete in
     let left : rest_of before m h.body ≡ rest = rest_is before m h (pulled_to m t) (taken t) kind place refl incomplete ∙ e in
     let pulls : IsPull (has_ended t) (rest_of before m h.body) (drop (passed before) (taken t)) f.pulled =
-        subst (λ n. IsPull (has_ended t) (rest_of before m h.body) (drop n (taken t)) f.pulled) (sym place)
-        (subst (λ r. IsPull (has_ended t) r (drop (pulled_to m t) (taken t)) f.pulled) (sym left) f.pulls) in
+    subst (λ n. IsPull (has_ended t) (rest_of before m h.body) (drop n (taken t)) f.pulled) (sym place)
+    (subst (λ r. IsPull (has_ended t) r (drop (pulled_to m t) (taken t)) f.pulled) (sym left) f.pulls) in
     pulling_with setting before o parse m h f.pulled l c f.outcome pulls (fits_gives setting before parse m h rest c kind incomplete f)
 
 -- ---- each case
@@ -179,7 +179,7 @@ by_outcome setting before o parse l m h c kind =
     let i = input_of setting t in
     let body = subst (λ k. IsBodyOf i k m.body_start m.body) kind c.body in
     let shape : m ≡ of_chunks m.reading m.body_start body.1 i body.0 =
-        ap (λ b. record { reading = m.reading; body_start = m.body_start; body = b }) body.3 in
+    ap (λ b. record { reading = m.reading; body_start = m.body_start; body = b }) body.3 in
     by_parts setting before o parse h m.reading m.body_start body.1 body.0 l (subst (λ q. Current setting before q h) shape c) kind body.2
     (ap has_chunks c.reading ∙ ap is_chunked_kind kind)
 
@@ -188,6 +188,6 @@ pub chunks_pull_changes : (setting : Setting) (before : List ParsedStep) (x : Pa
     → (m : Message) (h : Head) → Current setting before m h → h.body ≡ chunked_body → Changes setting before x
 chunks_pull_changes setting before x l e m h c kind =
     let P : Event → Type 0 = λ v.
-        let y : ParsedStep = record { step = record { event = v; outcome = x.step.outcome }; parse = x.parse } in
-        Legal setting (y ∷ before) → Changes setting before y in
+    let y : ParsedStep = record { step = record { event = v; outcome = x.step.outcome }; parse = x.parse } in
+    Legal setting (y ∷ before) → Changes setting before y in
     subst P (sym e) (λ l'. by_outcome setting before x.step.outcome x.parse l' m h c kind) l

@@ -125,8 +125,8 @@ pub rest_is : (past : List ParsedStep) (m : Message) (h : Head) (upto : ℕ) (by
 rest_is past m h upto bytes kind place is open_yet =
     ap (rest_of past m) kind
     ∙ (λ i. cond (is_passed (place i) m) no_rest
-        (chunks_rest (after start (slice_range (is i) m.body_start (place i)))
-        (cond (open_yet i) [] (read start (slice_range (is i) m.body_start (place i))).trailers)))
+    (chunks_rest (after start (slice_range (is i) m.body_start (place i)))
+    (cond (open_yet i) [] (read start (slice_range (is i) m.body_start (place i))).trailers)))
 
 -- nothing is left of one that is passed
 pub rest_passed : (m : Message) (upto : ℕ) (bytes : List ℕ) → is_passed upto m ≡ true → rest_upto m upto bytes ≡ no_rest

@@ -29,7 +29,7 @@ one_more from to given rs less =
       | inl here ↦
           let place : from + suc given ≡ from + 1 + given = omega arith in
           left-within (suc given) long rs here ∙ ap (λ n. Some (record { start = n; end = to })) place
-              ∙ sym (left-within given short rs (omega arith))
+          ∙ sym (left-within given short rs (omega arith))
       | inr past ↦
           let count : suc given - (to - from) ≡ given - (to - (from + 1)) = omega arith in
           left-past (suc given) long rs past ∙ ap (λ n. run_left n rs) count ∙ sym (left-past given short rs (omega arith))
@@ -80,8 +80,8 @@ end_given place given b more some =
     let none : cut_runs len runs ≡ [] = ap (cut_runs len) (runs_of-nil (place + 1) (bytes_step more)) ∙ cut_nil len in
     let last : Run = record { start = place; end = min (place + more + 1) len } in
     let after_all : run_left given (walked len (place + 1) (bytes_step more) []) ≡ None =
-        ap (λ p. run_left given (cut_runs len (current (place + 1) p ++ runs))) next
-        ∙ ap (run_left given) (cut_end len (record { start = place + 1; end = place + 1 + (more - 1) + 1 }) runs (omega arith)) ∙ left-nil given in
+    ap (λ p. run_left given (cut_runs len (current (place + 1) p ++ runs))) next
+    ∙ ap (run_left given) (cut_end len (record { start = place + 1; end = place + 1 + (more - 1) + 1 }) runs (omega arith)) ∙ left-nil given in
     ap (run_left (suc given)) (chunk_walked len place more b [] (omega arith)) ∙ left-past (suc given) last (cut_runs len runs) (omega arith)
     ∙ ap (run_left (suc given - (min (place + more + 1) len - place))) none ∙ left-nil (suc given - (min (place + more + 1) len - place))
     ∙ sym after_all

@@ -109,7 +109,7 @@ follows_idle m s trace idle none f =
     let up = gives_up s.event s.outcome in
     let given : given_bytes trace ≡ given_bytes (s ∷ trace) = omega (arith, given_bytes-more s trace idle.head, idle.bytes) in
     let told : gave_trailers (s ∷ trace) ≡ gave_trailers trace =
-        ap (list_any (λ s. is_trailers s.outcome)) since ∙ ap (λ b. b || gave_trailers trace) none in
+    ap (list_any (λ s. is_trailers s.outcome)) since ∙ ap (λ b. b || gave_trailers trace) none in
     same_follows m.body_start (pulled_to m trace) (pulled_to m (s ∷ trace)) (taken trace ++ more) (taken (s ∷ trace))
     (given_bytes trace) (given_bytes (s ∷ trace))
     (gave_trailers trace) (gave_trailers (s ∷ trace)) (up || gave_up trace) (gave_up (s ∷ trace))

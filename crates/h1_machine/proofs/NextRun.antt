@@ -119,12 +119,12 @@ line_on : (place : ℕ) (at : InLine) (lines room : ℕ) (q : Place) (b : ℕ) (
 line_on place at lines room (in_section at' lines' room') b bytes t run e x =
     let here = subst (λ q. TakesNext (place + 1) q bytes t.trailers run t.next) (sym e) x in
     let alike : NotesAlike (in_section at lines room) b t.trailers (b ∷ t.trailers) = λ body ending.
-        ap (λ q. noted (in_section at lines room) q b (with_trailers t.trailers (with_bytes body (only ending)))) e in
+    ap (λ q. noted (in_section at lines room) q b (with_trailers t.trailers (with_bytes body (only ending)))) e in
     taken_on place (in_section at lines room) b bytes t.trailers (b ∷ t.trailers) run t.next tt alike here
 line_on place at lines room q b bytes t run e x =
     let here = subst (λ q. TakesNext (place + 1) q bytes t.trailers run t.next) (sym e) x in
     let alike : NotesAlike (in_section at lines room) b t.trailers t.trailers = λ body ending.
-        ap (λ q. noted (in_section at lines room) q b (with_trailers t.trailers (with_bytes body (only ending)))) e in
+    ap (λ q. noted (in_section at lines room) q b (with_trailers t.trailers (with_bytes body (only ending)))) e in
     taken_on place (in_section at lines room) b bytes t.trailers t.trailers run t.next tt alike here
 
 -- ---- bytes of a chunk

@@ -59,7 +59,7 @@ pub record Follows (place upto : ℕ) (bytes : List ℕ) (given : ℕ) (told fin
 pub nothing_follows : (place : ℕ) (bytes : List ℕ) → place ≤ length bytes → Follows place place bytes 0 false false
 nothing_follows place bytes within =
     let none : slice_range bytes place place ≡ [] =
-        let count : place - place ≡ 0 = omega arith in ap (λ n. take n (drop place bytes)) count in
+    let count : place - place ≡ 0 = omega arith in ap (λ n. take n (drop place bytes)) count in
     let here : after start (slice_range bytes place place) ≡ start = ap (after start) none ∙ after-nil start in
     record {
       order = omega arith;
