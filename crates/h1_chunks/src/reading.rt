@@ -1,7 +1,7 @@
 //! Laws of reading: going byte by byte from place to place finds just what the grammar says.
 
-ghost use Rattle.std.specs.Prelude.{◌≡◌, ℕ, List, ◌++◌, length, drop};
-ghost use Rattle.h1_chunks.specs.ChunkedText.{Trailer, ChunkedText, section_text, chunked_text, IsChunkedText, content};
+ghost use Rattle.std.specs.Prelude.{◌≡◌, ℕ, ◌≤◌, List, ◌++◌, length, drop};
+ghost use Rattle.h1_chunks.specs.ChunkedText.{MAX_TRAILER_BYTES, Trailer, ChunkedText, section_text, chunked_text, IsChunkedText, content};
 ghost use Rattle.h1_chunks.specs.Runs.{Run, run_bytes};
 ghost use Rattle.h1_chunks.specs.Chunked.{Chunked, whole, unfinished, not_chunked, Begins, IsChunked};
 ghost use Rattle.h1_chunks.specs.Place.{start};
@@ -37,4 +37,9 @@ pub fn grammar_is_read()
     ensures beginning { (bytes : List ℕ) (runs : List Run) → IsChunked bytes unfinished runs → (read start bytes).ending ≡ goes_on }
     ensures no_body { (bytes : List ℕ) (runs : List Run) → IsChunked bytes not_chunked runs → (read start bytes).ending ≡ is_broken }
     ensures body_bytes { (bytes : List ℕ) (a : Chunked) (runs : List Run) → IsChunked bytes a runs → (read start bytes).body ≡ run_bytes bytes runs }
+{}
+
+/// The text of the trailer lines stays within its limit, whether the bytes are a body or not.
+pub fn trailers_are_bounded()
+    ensures { (bytes : List ℕ) → length (read start bytes).trailers ≤ MAX_TRAILER_BYTES }
 {}

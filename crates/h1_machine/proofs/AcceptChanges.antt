@@ -1,37 +1,36 @@
 -- What it changes that a WebSocket is accepted, or refused.
-use Rattle.std.proofs.Common.{◌≡◌, ℕ, Bool, true, false, List, [], ◌∷◌, ◌++◌, drop, Option, Some, None, refl, sym, ap, ◌∙◌, subst, inl, inr, append-nil}
-use Rattle.std.specs.Prelude.{◌&&◌, ◌||◌, is_some, is_none, not, unwrap_or, option_map, option_and_then, IsTrue}
-use Rattle.std.specs.Option.{option_or}
+use Rattle.std.proofs.Common.{◌≡◌, ℕ, true, false, List, [], ◌∷◌, ◌++◌, drop, Option, Some, None, refl, sym, ap, ◌∙◌, subst, inl, inr, append-nil}
+use Rattle.std.specs.Prelude.{◌&&◌, ◌||◌, is_none, not, unwrap_or, option_map}
 use Rattle.std.proofs.lemmas.Bool.{cond-true, and_parts, or_parts, not-true, false≢true}
-use Rattle.std.proofs.lemmas.Option.{none-some, same_Some}
-use Rattle.h1_model.specs.Request.{BodyKind, no_body, fixed_body, chunked_body, raw_body, is_raw_kind, Head}
+use Rattle.h1_model.specs.Request.{is_raw_kind, Head}
 use Rattle.h1_model.specs.Setting.{Setting}
 use Rattle.h1_model.specs.Answer.{size_stream}
 use Rattle.h1_model.specs.Parse.{Message}
 use Rattle.h1_model.specs.Handshake.{HandshakeError, handshake_error, accept_key_of, accepting_head}
 use Rattle.h1_model.specs.Event.{Event, Outcome}
 use Rattle.h1_model.specs.Event as on
-use Rattle.h1_model.specs.Sums.{Step, taken, is_pull, head_of, request, completes, is_complete, is_open, is_upgraded, was_pulled, was_dropped, accepted, is_receiving, is_draining, now, answered}
+use Rattle.h1_model.specs.Sums.{Step, is_pull, request, completes, is_complete, is_open, is_upgraded, was_pulled, was_dropped, accepted, answered}
 use Rattle.h1_model.specs.Past.{ParsedStep, steps, current, passed}
 use Rattle.h1_model.specs.Text.{answer_head_text, accept_text, step_text, buffered}
-use Rattle.h1_model.specs.Allowed.{is_over, is_unanswered, asks_raw}
+use Rattle.h1_model.specs.Allowed.{is_unanswered, asks_raw}
 use Rattle.h1_model.specs.OutcomeTable.{accept_outcome, outcome_of}
 use Rattle.h1_model.proofs.PastLemmas.{Legal}
 use Rattle.h1_model.proofs.StepLemmas.{accepted-cons, allowed_open}
 use Rattle.h1_model.proofs.PulledLemmas.{unpulled_place}
 use Rattle.h1_model.proofs.CarriedLemmas.{passed_some, passed_pulled}
-use Rattle.h1_machine.specs.Kept.{Rest, frames_rest, Exchange, Kept, refusal_of, key_answer_of}
+use Rattle.h1_machine.specs.Kept.{frames_rest, refusal_of, key_answer_of}
 use Rattle.h1_machine.specs.Kept as kept
-use Rattle.h1_machine.specs.Clock.{Change}
 use Rattle.h1_machine.specs.Change.{accepting, accepting_with}
 use Rattle.h1_machine.specs.KeptOf.{raw_left, rest_of, exchange_with, exchange_of, kept_of}
 use Rattle.h1_machine.proofs.Changes.{Changes}
 use Rattle.h1_machine.proofs.Current.{Current, current_of, plain_of, request-more}
 use Rattle.h1_machine.proofs.Frames.{current_carried, current_stays}
 use Rattle.h1_machine.proofs.Received.{receives}
-use Rattle.h1_machine.proofs.StepSums.{is_receiving-cons}
+use Rattle.h1_machine.proofs.StepSums.{is_receiving-cons, came-more, buffered-more}
 use Rattle.h1_machine.proofs.QuietParts.{passed-quiet}
-use Rattle.h1_machine.proofs.CalmSteps.{calm_accept, taken-calm, since-more, since-other, buffered-more, or_comm, exchange-calm, calm_parts}
+use Rattle.h1_machine.proofs.CalmSteps.{calm_accept, taken-calm, since-other, or_comm, exchange-calm, calm_parts}
+use Rattle.h1_machine.proofs.Pulling.{open_incomplete}
+use Rattle.h1_machine.proofs.FramePulls.{raw_is}
 use Rattle.h1_machine.proofs.StillSteps.{IsStill, still_quiet, exchange_still}
 
 -- that a WebSocket is accepted, with its outcome
@@ -39,7 +38,8 @@ abbrev accept_of : ℕ → Outcome → List Message → ParsedStep
 accept_of limit o parse = record { step = record { event = on.accept limit; outcome = o }; parse = parse }
 
 -- its outcome
-accept_answers : (setting : Setting) (past : List ParsedStep) (limit : ℕ) → outcome_of setting past (on.accept limit) ≡ accept_outcome (request (steps past))
+accept_answers : (setting : Setting) (past : List ParsedStep) (limit : ℕ)
+    → outcome_of setting past (on.accept limit) ≡ accept_outcome (request (steps past))
 unfolding outcome_of
 accept_answers setting past limit = refl
 
@@ -65,12 +65,15 @@ accepting_is setting before limit o parse m h wrong w e =
 
 -- ---- it is refused
 
+-- nothing is written
 refused_text : (setting : Setting) (t : List Step) (limit : ℕ) (e : HandshakeError) → step_text setting t (on.accept limit) (on.refused e) ≡ []
 unfolding step_text
 refused_text setting t limit e = refl
 
+-- and nothing changes
 refused_changes : (setting : Setting) (before : List ParsedStep) (limit : ℕ) (parse : List Message) (m : Message) (h : Head) (e : HandshakeError)
-    → Upgrades setting before limit (on.refused e) parse m h → handshake_error h ≡ Some e → Changes setting before (accept_of limit (on.refused e) parse)
+    → Upgrades setting before limit (on.refused e) parse m h → handshake_error h ≡ Some e
+    → Changes setting before (accept_of limit (on.refused e) parse)
 refused_changes setting before limit parse m h e w wrong =
     let t = steps before in
     let x = accept_of limit (on.refused e) parse in
@@ -85,22 +88,16 @@ refused_changes setting before limit parse m h e w wrong =
       answers = refl;
       parts = calm_parts setting before x k.unread k.is_over k.exchange k.buffered k.told calm refl
           (λ i. drop (sym place i) (sym bytes i)) refl (exchange_still setting before x w.legal still)
-          (sym (buffered-more setting before x.step w.legal.3 refl ∙ ap (λ b. k.buffered ++ b) (refused_text setting t limit e) ∙ append-nil k.buffered)) refl;
+          (sym (buffered-more setting x.step before w.legal.3 refl ∙ ap (λ b. k.buffered ++ b) (refused_text setting t limit e) ∙ append-nil k.buffered)) refl;
       since = refl;
     }
 
 -- ---- it is accepted
 
+-- its answer is written
 accepted_text : (setting : Setting) (t : List Step) (limit : ℕ) → step_text setting t (on.accept limit) on.done ≡ accept_text setting t (request t)
 unfolding step_text
 accepted_text setting t limit = refl
-
--- a raw kind
-raw_is : (kind : BodyKind) → is_raw_kind kind ≡ true → kind ≡ raw_body
-raw_is raw_body raw = refl
-raw_is no_body raw = absurd (false≢true raw)
-raw_is (fixed_body n) raw = absurd (false≢true raw)
-raw_is chunked_body raw = absurd (false≢true raw)
 
 -- the current message stays where it is, with frames from its start on
 accepted_rest : (setting : Setting) (before : List ParsedStep) (limit : ℕ) (parse : List Message) (m n : Message) (h : Head)
@@ -121,7 +118,7 @@ accepted_passed setting before limit parse m n h w e =
     let x = accept_of limit on.done parse in
     let start = (current_carried setting before x m n w.legal refl w.current.current_is e).1 in
     let open_yet = since-other completes x.step t refl refl ∙ w.incomplete in
-    let unpulled = since-more is_pull x.step t refl ∙ w.unpulled in
+    let unpulled = came-more is_pull x.step t refl ∙ w.unpulled in
     w.current.passed_is ∙ passed_pulled before m w.incomplete ∙ unpulled_place m t w.unpulled ∙ start
     ∙ sym (passed_some (x ∷ before) n e ∙ passed_pulled (x ∷ before) n open_yet ∙ unpulled_place n (x.step ∷ t) unpulled)
 
@@ -141,6 +138,7 @@ accepted_exchange setting before limit parse m n h w e =
     ∙ ap Some (exchange-calm setting before x m n h refl (calm_accept limit))
     ∙ sym (λ i. exchange_of setting (x ∷ before) (e i) (asked i))
 
+-- what changes then
 accepted_changes : (setting : Setting) (before : List ParsedStep) (limit : ℕ) (parse : List Message) (m : Message) (h : Head)
     → Upgrades setting before limit on.done parse m h → handshake_error h ≡ None → Changes setting before (accept_of limit on.done parse)
 accepted_changes setting before limit parse m h w wrong =
@@ -156,8 +154,8 @@ accepted_changes setting before limit parse m h w wrong =
     let text = k.buffered ++ answer_head_text setting k.is_draining old.asked (accepting_head old.accept_key) size_stream (kept.now k) in
     let written : text ≡ buffered setting (x.step ∷ t) =
     ap (λ answer. k.buffered ++ answer_head_text setting k.is_draining old.asked (accepting_head answer) size_stream (kept.now k)) key
-    ∙ sym (buffered-more setting before x.step w.legal.3 refl ∙ ap (λ b. k.buffered ++ b) (accepted_text setting t limit)
-        ∙ ap (λ asked. k.buffered ++ accept_text setting t asked) w.current.request_is) in
+    ∙ sym (buffered-more setting x.step before w.legal.3 refl ∙ ap (λ b. k.buffered ++ b) (accepted_text setting t limit)
+    ∙ ap (λ asked. k.buffered ++ accept_text setting t asked) w.current.request_is) in
     let exchange = Some (record old { rest = frames_rest false limit }) in
     record {
       change = record { outcome = on.done; kept = record k { buffered = text; exchange = exchange } };
@@ -181,13 +179,9 @@ accept_by setting before limit o parse m h None w wrong is =
     let P : Outcome → Type 0 = λ v. Upgrades setting before limit v parse m h → Changes setting before (accept_of limit v parse) in
     subst P (sym is) (λ u. accepted_changes setting before limit parse m h u wrong) w
 
--- an open request on no WebSocket has no complete answer
-open_incomplete : (t : List Step) → accepted t ≡ None → is_open t ≡ true → is_complete t ≡ false
-open_incomplete t plain x =
-    not-true (is_complete t)
-    (subst (λ b. (b || not (is_complete t)) ≡ true) (ap is_some plain) (and_parts (is_some (request t)) (is_upgraded t || not (is_complete t)) x).1)
-
-accept_of_changes : (setting : Setting) (before : List ParsedStep) (limit : ℕ) (o : Outcome) (parse : List Message) → Legal setting (accept_of limit o parse ∷ before)
+-- that it is accepted
+accept_of_changes : (setting : Setting) (before : List ParsedStep) (limit : ℕ) (o : Outcome) (parse : List Message)
+    → Legal setting (accept_of limit o parse ∷ before)
     → Changes setting before (accept_of limit o parse)
 accept_of_changes setting before limit o parse l =
     let t = steps before in
@@ -212,7 +206,9 @@ accept_of_changes setting before limit o parse l =
           (l.2 ∙ accept_answers setting before limit ∙ ap accept_outcome c.request_is)
     ]
 
-pub accept_changes : (setting : Setting) (before : List ParsedStep) (x : ParsedStep) (limit : ℕ) → Legal setting (x ∷ before) → x.step.event ≡ on.accept limit
+-- that a WebSocket is to be accepted
+pub accept_changes : (setting : Setting) (before : List ParsedStep) (x : ParsedStep) (limit : ℕ) → Legal setting (x ∷ before)
+    → x.step.event ≡ on.accept limit
     → Changes setting before x
 accept_changes setting before x limit l e =
     let of : Event → ParsedStep = λ v. record { step = record { event = v; outcome = x.step.outcome }; parse = x.parse } in

@@ -1,10 +1,8 @@
 -- What a step leaves that hands out no head and has no part in an answer.
-use Rattle.std.proofs.Common.{◌≡◌, ℕ, ◌≤◌, ◌+◌, Bool, true, false, List, [], ◌∷◌, ◌++◌, length, drop, Option, Some, None, refl, sym, ap, ◌∙◌, subst, arith, append-nil}
-use Rattle.std.specs.Prelude.{◌||◌, ◌&&◌, ◌-◌, is_some, if◌then◌else◌, slice_get, ◌==◌}
+use Rattle.std.proofs.Common.{◌≡◌, ℕ, Bool, true, false, List, [], ◌∷◌, ◌++◌, drop, Option, Some, None, refl, sym, ap, ◌∙◌, arith, append-nil}
+use Rattle.std.specs.Prelude.{◌||◌, ◌&&◌, ◌-◌, if◌then◌else◌, slice_get, ◌==◌}
 use Rattle.std.specs.List.{list_any}
 use Rattle.std.specs.Option.{option_or}
-use Rattle.std.proofs.lemmas.Bool.{cond-false}
-use Rattle.std.proofs.lemmas.List.{length-append, drop-append-le}
 use Rattle.h1_model.specs.Request.{Head}
 use Rattle.h1_model.specs.Setting.{Setting}
 use Rattle.h1_model.specs.Answer.{asked_of, shape_of, type_of}
@@ -13,20 +11,20 @@ use Rattle.h1_model.specs.End as ends
 use Rattle.h1_model.specs.End.{End}
 use Rattle.h1_model.specs.Event.{Event, Outcome}
 use Rattle.h1_model.specs.Event as on
-use Rattle.h1_model.specs.Sums.{Step, Answered, step_taken, taken, step_written, written, is_eof, is_drain, is_drop, is_pull, is_go_on, is_body_end, is_body_error, tick_of, first_tick, last_tick, head_of, request, since_head, answered, answered_by, completes, came_since_head, is_complete, was_pulled, was_dropped, was_told_to_go_on, completed_at, chunk_len, answer_len, under_way_behind, is_sending, has_ended, is_draining, accepted_limit, accepted}
-use Rattle.h1_model.specs.Past.{ParsedStep, steps, IsPast, input_of, parse_of, head_count, current, upcoming, passed}
-use Rattle.h1_model.specs.Text.{step_text, text, buffered}
+use Rattle.h1_model.specs.Sums.{Step, Answered, step_taken, taken, is_eof, is_drain, is_drop, is_pull, is_go_on, is_body_end, is_body_error, tick_of, head_of, request, since_head, answered, answered_by, completes, came_since_head, is_complete, was_pulled, chunk_len, answer_len, under_way_behind, is_sending, has_ended, is_draining, accepted_limit}
+use Rattle.h1_model.specs.Past.{ParsedStep, steps, parse_of, current, passed}
+use Rattle.h1_model.specs.Text.{buffered}
 use Rattle.h1_model.specs.Closing.{end_where, told_end, told, is_short, body_end_of}
 use Rattle.h1_model.specs.Allowed.{is_over_by, is_over}
-use Rattle.h1_model.specs.Trace.{IsPastOf, IsAllowed, IsOutcome, IsTrace}
 use Rattle.h1_model.proofs.PastLemmas.{Legal}
 use Rattle.h1_model.proofs.StepLemmas.{taken-cons, since_head-more, head_count-more, same_input, same_parse, parsed}
-use Rattle.h1_model.proofs.WrittenLemmas.{written_buffered}
-use Rattle.h1_machine.specs.Kept.{Reply, answered as answered_as, sending, Exchange, Clock, Kept}
+use Rattle.h1_machine.specs.Kept.{answered as answered_as, sending, Exchange}
 use Rattle.h1_machine.specs.Reply.{stated}
 use Rattle.h1_machine.specs.KeptOf.{rest_of, reply_of, tells_done, exchange_with, exchange_of, clock_of, kept_of}
 use Rattle.h1_machine.proofs.Changes.{bare}
 use Rattle.h1_machine.proofs.Current.{request-more}
+use Rattle.h1_machine.proofs.StepSums.{told-cons, is_sending-cons, answered-more, answer_len-more, came-more}
+use Rattle.h1_machine.proofs.QuietParts.{clock-quiet}
 
 -- ---- such events
 
@@ -45,6 +43,7 @@ pub record IsCalm (e : Event) : Type 0 where
   pub completes : completes e ≡ false
   pub chunk : chunk_len e ≡ 0
 
+-- a call for the next head
 pub calm_next : IsCalm on.next
 calm_next = record {
   takes = λ o. refl;
@@ -61,6 +60,7 @@ calm_next = record {
   chunk = refl;
 }
 
+-- a pull
 pub calm_pull : IsCalm on.pull
 calm_pull = record {
   takes = λ o. refl;
@@ -77,6 +77,7 @@ calm_pull = record {
   chunk = refl;
 }
 
+-- that a WebSocket is accepted
 pub calm_accept : (limit : ℕ) → IsCalm (on.accept limit)
 calm_accept limit = record {
   takes = λ o. refl;
@@ -99,50 +100,29 @@ calm_accept limit = record {
 pub taken-calm : (s : Step) (t : List Step) → IsCalm s.event → taken (s ∷ t) ≡ taken t
 taken-calm s t c = taken-cons s t ∙ ap (λ b. taken t ++ b) (c.takes s.outcome) ∙ append-nil (taken t)
 
--- an option that is none, and one behind it
-or_none : {A : Type 0} (o : Option A) → option_or o None ≡ o
-or_none None = refl
-or_none (Some x) = refl
-
 -- the moments
 pub clock-calm : (s : Step) (t : List Step) → IsCalm s.event → clock_of (s ∷ t) ≡ clock_of t
-unfolding first_tick last_tick completed_at
-clock-calm s t c =
-    let first : first_tick (s ∷ t) ≡ first_tick t = ap (option_or (first_tick t)) c.tick ∙ or_none (first_tick t) in
-    let last : last_tick (s ∷ t) ≡ last_tick t = ap (λ o. option_or o (last_tick t)) c.tick in
-    let done : completed_at (s ∷ t) ≡ completed_at t = cond-false (completes s.event) _ _ c.completes in
-    λ i. record { first = first i; last = last i; completed = done i }
+clock-calm s t c = clock-quiet s t c.completes c.tick
 
 -- a message that is being sent
 pub sending-calm : (s : Step) (t : List Step) → IsCalm s.event → is_sending (s ∷ t) ≡ is_sending t
-unfolding is_sending
-sending-calm s t c = c.sends (is_sending t) s.outcome
+sending-calm s t c = is_sending-cons s t ∙ c.sends (is_sending t) s.outcome
 
 -- what came behind the head
-pub since-more : (kind : Event → Bool) (s : Step) (t : List Step) → head_of s.outcome ≡ None
-    → came_since_head kind (s ∷ t) ≡ (kind s.event || came_since_head kind t)
-since-more kind s t none = ap (list_any (λ u. kind u.event)) (since_head-more s t none)
-
 pub since-other : (kind : Event → Bool) (s : Step) (t : List Step) → head_of s.outcome ≡ None → kind s.event ≡ false
     → came_since_head kind (s ∷ t) ≡ came_since_head kind t
-since-other kind s t none other = since-more kind s t none ∙ ap (λ b. b || came_since_head kind t) other
+since-other kind s t none other = came-more kind s t none ∙ ap (λ b. b || came_since_head kind t) other
 
 -- the answer
-pub answered-calm : (s : Step) (t : List Step) → head_of s.outcome ≡ None → IsCalm s.event → answered (s ∷ t) ≡ answered t
-unfolding answered
-answered-calm s t none c = cond-false _ _ _ (ap is_some none) ∙ ap (λ o. option_or o (answered t)) (c.answers (is_draining t))
+answered-calm : (s : Step) (t : List Step) → head_of s.outcome ≡ None → IsCalm s.event → answered (s ∷ t) ≡ answered t
+answered-calm s t none c = answered-more s t none ∙ ap (λ o. option_or o (answered t)) (c.answers (is_draining t))
 
-pub answer_len-calm : (s : Step) (t : List Step) → head_of s.outcome ≡ None → IsCalm s.event → answer_len (s ∷ t) ≡ answer_len t
-unfolding answer_len
-answer_len-calm s t none c = cond-false _ _ _ (ap is_some none) ∙ omega (arith, c.chunk)
-
--- the end that was told
-pub told-cons : (s : Step) (t : List Step) → told (s ∷ t) ≡ option_or (told_end s.outcome) (told t)
-unfolding told
-told-cons s t = refl
+-- and the length of its body
+answer_len-calm : (s : Step) (t : List Step) → head_of s.outcome ≡ None → IsCalm s.event → answer_len (s ∷ t) ≡ answer_len t
+answer_len-calm s t none c = answer_len-more s t none ∙ omega (arith, c.chunk)
 
 -- the answer's body
-pub body_end-calm : (s : Step) (t : List Step) → head_of s.outcome ≡ None → IsCalm s.event → body_end_of (s ∷ t) ≡ body_end_of t
+body_end-calm : (s : Step) (t : List Step) → head_of s.outcome ≡ None → IsCalm s.event → body_end_of (s ∷ t) ≡ body_end_of t
 body_end-calm s t none c =
     let failed = ap (λ b. b || list_any (λ u. is_body_error u.event) t) c.body_error in
     let ended = since-other is_body_end s t none c.body_end in
@@ -157,51 +137,25 @@ or_or None b c = refl
 or_or (Some x) b c = refl
 
 -- both, as they are kept
-pub told-calm : (s : Step) (t : List Step) → head_of s.outcome ≡ None → IsCalm s.event
+told-calm : (s : Step) (t : List Step) → head_of s.outcome ≡ None → IsCalm s.event
     → option_or (told_end s.outcome) (option_or (told t) (body_end_of t)) ≡ option_or (told (s ∷ t)) (body_end_of (s ∷ t))
 told-calm s t none c =
     or_or (told_end s.outcome) (told t) (body_end_of t)
     ∙ (λ i. option_or (sym (told-cons s t) i) (sym (body_end-calm s t none c) i))
 
--- ---- what is to be written
-
--- a legal past is that of a trace
-pub traced : (setting : Setting) (past : List ParsedStep) → Legal setting past → IsTrace setting (steps past) × IsPast setting past
-traced setting [] l = (tt, tt)
-traced setting (x ∷ before) l =
-    let old = traced setting before l.3 in
-    let here : IsPastOf setting (steps before) before = record { same = refl; right = old.1 } in
-    (((before, here, l.1), (before, here, l.2), old.0), (l.0, old.1))
-
-written-more : (s : Step) (t : List Step) → step_written s.outcome ≡ [] → written (s ∷ t) ≡ written t
-unfolding written
-written-more s t none = ap (λ w. written t ++ w) none ∙ append-nil (written t)
-
-text-more : (setting : Setting) (s : Step) (t : List Step) → text setting (s ∷ t) ≡ text setting t ++ step_text setting t s.event s.outcome
-unfolding text
-text-more setting s t = refl
-
--- behind a step that fetches nothing stands its text
-pub buffered-more : (setting : Setting) (before : List ParsedStep) (s : Step) → Legal setting before → step_written s.outcome ≡ []
-    → buffered setting (s ∷ steps before) ≡ buffered setting (steps before) ++ step_text setting (steps before) s.event s.outcome
-buffered-more setting before s l none =
-    let t = steps before in
-    let all = written_buffered setting t (traced setting before l).0 in
-    let fits : length (written t) ≤ length (text setting t) = omega (arith, ap length all, length-append (written t) (buffered setting t)) in
-    (λ i. drop (length (written-more s t none i)) (text-more setting s t i))
-    ∙ drop-append-le (length (written t)) (text setting t) (step_text setting t s.event s.outcome) fits
-
 -- ---- the last request
 
 -- the answer, as it is kept
-reply_at : (setting : Setting) (s : Step) (t : List Step) (h : Head) (a : Option Answered) → is_complete (s ∷ t) ≡ is_complete t → answer_len (s ∷ t) ≡ answer_len t
+reply_at : (setting : Setting) (s : Step) (t : List Step) (h : Head) (a : Option Answered) → is_complete (s ∷ t) ≡ is_complete t
+    → answer_len (s ∷ t) ≡ answer_len t
     → reply_of setting (s ∷ t) h a ≡ reply_of setting t h a
 reply_at setting s t h None complete len = refl
 reply_at setting s t h (Some a) complete len =
     λ i. if complete i then answered_as (type_of setting a.drained (asked_of h) a.head a.size)
     else sending (shape_of (asked_of h) a.head a.size) (type_of setting a.drained (asked_of h) a.head a.size) (stated (shape_of (asked_of h) a.head a.size) - len i)
 
-pub reply-calm : (setting : Setting) (s : Step) (t : List Step) (h : Head) → head_of s.outcome ≡ None → IsCalm s.event
+-- the same of the longer trace
+reply-calm : (setting : Setting) (s : Step) (t : List Step) (h : Head) → head_of s.outcome ≡ None → IsCalm s.event
     → reply_of setting (s ∷ t) h (answered (s ∷ t)) ≡ reply_of setting t h (answered t)
 reply-calm setting s t h none c =
     ap (reply_of setting (s ∷ t) h) (answered-calm s t none c)
@@ -215,7 +169,8 @@ or_comm false true = refl
 or_comm false false = refl
 
 -- the last request, as it is kept, with another rest
-pub exchange-calm : (setting : Setting) (before : List ParsedStep) (x : ParsedStep) (m n : Message) (h : Head) → head_of x.step.outcome ≡ None → IsCalm x.step.event
+pub exchange-calm : (setting : Setting) (before : List ParsedStep) (x : ParsedStep) (m n : Message) (h : Head) → head_of x.step.outcome ≡ None
+    → IsCalm x.step.event
     → record (exchange_with setting before m h) {
       rest = rest_of (x ∷ before) n h.body;
       was_pulled = is_pull x.step.event || was_pulled (steps before);
@@ -225,7 +180,7 @@ exchange-calm setting before x m n h none c =
     let t = steps before in
     let s = x.step in
     let reply = sym (reply-calm setting s t h none c) in
-    let pulled = sym (since-more is_pull s t none) in
+    let pulled = sym (came-more is_pull s t none) in
     let dropped = sym (since-other is_drop s t none c.drop) in
     let told_on = sym (since-other is_go_on s t none c.go_on) in
     let done = or_comm (list_any (λ u. tells_done u.event u.outcome) (since_head t)) (tells_done s.event s.outcome)

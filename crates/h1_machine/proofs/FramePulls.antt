@@ -1,33 +1,30 @@
 -- Pulls on a WebSocket.
-use Rattle.std.proofs.Common.{◌≡◌, ℕ, zero, suc, ◌+◌, ◌-◌, ◌<◌, ◌≤◌, Bool, true, false, List, [], ◌∷◌, length, drop, Option, Some, None, refl, sym, ap, ◌∙◌, subst, subst₂, inl, inr, arith, length-drop}
-use Rattle.std.specs.Prelude.{slice_get, unwrap_or, option_map, is_some}
-use Rattle.std.specs.Option.{option_or}
+use Rattle.std.proofs.Common.{◌≡◌, ℕ, zero, suc, ◌+◌, ◌≤◌, true, List, [], ◌∷◌, length, drop, Some, None, refl, sym, ap, ◌∙◌, subst, arith, length-drop}
+use Rattle.std.specs.Prelude.{slice_get, is_some}
 use Rattle.std.proofs.lemmas.Bool.{false≢true}
-use Rattle.std.proofs.lemmas.Option.{none-some, same_Some, slice_get_past}
-use Rattle.std.proofs.lemmas.List.{drop-drop, drop_all}
+use Rattle.std.proofs.lemmas.Option.{slice_get_past}
+use Rattle.std.proofs.lemmas.List.{drop-drop}
 use Rattle.h1_model.specs.Request.{BodyKind, no_body, fixed_body, chunked_body, raw_body, is_raw_kind, is_chunked_kind, Head}
 use Rattle.h1_model.specs.Setting.{Setting}
-use Rattle.h1_model.specs.Frame.{ProtocolError}
-use Rattle.h1_model.specs.FrameText.{Front, partial, whole, breaks as breaks_rule, front_frame, Reader, PlacedFrame, StopsWith, ReadsFrames, is_under_way}
-use Rattle.h1_model.specs.Parse.{Message, Body, frames, frames_of, connection_reader}
-use Rattle.h1_model.specs.Event.{Event, Outcome}
-use Rattle.h1_model.specs.Event as on
-use Rattle.h1_model.specs.Sums.{Step, taken, is_complete, has_ended, accepted, is_receiving, received_behind}
-use Rattle.h1_model.specs.Past.{ParsedStep, steps, current, step_frames, given_frames, frame_end, has_chunks, passed}
-use Rattle.h1_model.specs.OutcomeTable.{frame_outcome, body_outcome, pull_outcome}
+use Rattle.h1_model.specs.FrameText.{Front, partial, whole, breaks as breaks_rule, front_frame, PlacedFrame, StopsWith, ReadsFrames}
+use Rattle.h1_model.specs.Parse.{Message, frames_of, connection_reader}
+use Rattle.h1_model.specs.Event.{Outcome}
+use Rattle.h1_model.specs.Sums.{Step, taken, has_ended, accepted, is_receiving, received_behind}
+use Rattle.h1_model.specs.Past.{ParsedStep, steps, step_frames, given_frames, frame_end, has_chunks, passed}
+use Rattle.h1_model.specs.OutcomeTable.{frame_outcome, body_outcome}
 use Rattle.h1_model.proofs.PastLemmas.{Legal}
 use Rattle.h1_model.proofs.PlaceLemmas.{frame_end-at}
 use Rattle.h1_model.proofs.StepLemmas.{accepted-cons, given_frames-more}
 use Rattle.h1_model.proofs.CarriedLemmas.{passed_pulled}
-use Rattle.h1_machine.specs.Kept.{Rest, frames_rest}
-use Rattle.h1_machine.specs.Pull.{Pulled, gives, pull_front, IsPull}
+use Rattle.h1_machine.specs.Kept.{frames_rest}
+use Rattle.h1_machine.specs.Pull.{pull_front, IsPull}
 use Rattle.h1_machine.specs.KeptOf.{raw_left, rest_of}
 use Rattle.h1_machine.proofs.Changes.{Changes}
 use Rattle.h1_machine.proofs.Current.{Current, current_with}
 use Rattle.h1_machine.proofs.Orderly.{orderly}
 use Rattle.h1_machine.proofs.Frames.{raw_head}
 use Rattle.h1_machine.proofs.FramesLeft.{passes_frames, FramesLeft, frames_left}
-use Rattle.h1_machine.proofs.Pulling.{pull_of, pull_headless, pull_current, Gives, pulling_with}
+use Rattle.h1_machine.proofs.Pulling.{pull_of, pull_headless, pull_current, pulling_with}
 
 -- ---- lists
 
@@ -40,7 +37,8 @@ get_drop (suc k) (x ∷ xs) y ys e = get_drop k xs y ys e
 
 -- ---- a raw body
 
-raw_is : (kind : BodyKind) → is_raw_kind kind ≡ true → kind ≡ raw_body
+-- the one kind that is raw
+pub raw_is : (kind : BodyKind) → is_raw_kind kind ≡ true → kind ≡ raw_body
 raw_is raw_body raw = refl
 raw_is no_body raw = absurd (false≢true raw)
 raw_is (fixed_body n) raw = absurd (false≢true raw)
@@ -60,7 +58,8 @@ frames_passed setting past m h limit l c up =
     c.passed_is ∙ passed_pulled past m ((orderly setting past l).upgraded upgraded).incomplete ∙ passes_frames setting past m l upgraded plain
 
 -- what is left of it
-frames_rest_of : (setting : Setting) (past : List ParsedStep) (m : Message) (h : Head) (limit : ℕ) → h.body ≡ raw_body → accepted (steps past) ≡ Some limit
+frames_rest_of : (setting : Setting) (past : List ParsedStep) (m : Message) (h : Head) (limit : ℕ) → h.body ≡ raw_body
+    → accepted (steps past) ≡ Some limit
     → rest_of past m h.body ≡ frames_rest (is_receiving (steps past)) limit
 frames_rest_of setting past m h limit kind up = ap (rest_of past m) kind ∙ ap (raw_left past m) up
 
@@ -76,12 +75,13 @@ record Framed (setting : Setting) (before : List ParsedStep) (o : Outcome) (pars
   pub upgraded : accepted (steps before) ≡ Some limit
   pub left : FramesLeft setting before m limit
 
--- what is left of it before the pull and behind it
+-- what is left of it before the pull
 framed_before : (setting : Setting) (before : List ParsedStep) (o : Outcome) (parse : List Message) (m : Message) (h : Head) (limit : ℕ)
     → Framed setting before o parse m h limit → rest_of before m h.body ≡ frames_rest (is_receiving (steps before)) limit
 framed_before setting before o parse m h limit w =
     frames_rest_of setting before m h limit (upgraded_raw setting before m h limit w.legal.3 w.current w.upgraded) w.upgraded
 
+-- and behind the pull
 framed_behind : (setting : Setting) (before : List ParsedStep) (o p : Outcome) (parse : List Message) (m : Message) (h : Head) (limit : ℕ)
     → Framed setting before o parse m h limit
     → rest_of (pull_of p parse ∷ before) m h.body ≡ frames_rest (received_behind (is_receiving (steps before)) p) limit
@@ -199,7 +199,8 @@ framed_by setting before o parse m h limit (f ∷ fs) w e x =
 
 -- a pull on a WebSocket
 pub frames_pull_changes : (setting : Setting) (before : List ParsedStep) (o : Outcome) (parse : List Message) (m : Message) (h : Head) (limit : ℕ)
-    → Legal setting (pull_of o parse ∷ before) → Current setting before m h → accepted (steps before) ≡ Some limit → Changes setting before (pull_of o parse)
+    → Legal setting (pull_of o parse ∷ before) → Current setting before m h → accepted (steps before) ≡ Some limit
+    → Changes setting before (pull_of o parse)
 frames_pull_changes setting before o parse m h limit l c up =
     let left = frames_left setting before m h limit l.3 c up in
     framed_by setting before o parse m h limit (drop (given_frames (steps before)) left.placed)

@@ -1,7 +1,7 @@
 -- What is left of a body of which nothing was read.
-use Rattle.std.proofs.Common.{◌≡◌, ℕ, zero, suc, ◌+◌, ◌-◌, ◌<◌, Bool, true, false, List, [], ◌∷◌, length, take, drop, slice_range, nat_lt, Option, Some, None, refl, sym, ap, ◌∙◌, subst, inl, inr, arith, length-drop, lt-ltb, le-ltb}
+use Rattle.std.proofs.Common.{◌≡◌, ℕ, zero, suc, ◌+◌, ◌-◌, ◌<◌, Bool, true, false, List, [], ◌∷◌, length, take, drop, slice_range, nat_lt, Some, None, refl, sym, ap, ◌∙◌, inl, inr, arith, length-drop, lt-ltb, le-ltb}
 use Rattle.std.specs.Prelude.{codes, bytes_eq, unwrap_or, if◌then◌else◌}
-use Rattle.std.proofs.lemmas.Bool.{cond-true, cond-false, cases_lt, le-leb, lt-leb, true≢false}
+use Rattle.std.proofs.lemmas.Bool.{cond-true, cond-false, cases_lt, le-leb, lt-leb}
 use Rattle.h1_chunks.specs.Place.{start, done, after}
 use Rattle.h1_chunks.specs.Reading.{read}
 use Rattle.h1_chunks.specs.Chunked.{Chunked, whole, unfinished, not_chunked, IsChunked}
@@ -11,11 +11,11 @@ use Rattle.h1_chunks.proofs.Beginnings.{after-body}
 use Rattle.h1_chunks.proofs.ReadAfter.{after-nil}
 use Rattle.h1_chunks.proofs.ReadSteps.{read-nil}
 use Rattle.h1_model.specs.LengthTable.{values_of, stated_length, is_there, asks_websocket, is_framing_refused, framed_body}
-use Rattle.h1_model.specs.Request.{Header, BodyKind, no_body, fixed_body, chunked_body, raw_body, Reading, head_is, Head}
+use Rattle.h1_model.specs.Request.{BodyKind, no_body, fixed_body, chunked_body, raw_body, head_is, Head}
 use Rattle.h1_model.specs.RequestHead.{IsHeadOf, IsReadingWithin}
-use Rattle.h1_model.specs.Parse.{Message, Body, content, ended_at, still_open, open_or_cut, raw_content, chunked_stop, next_start, shifted, run_between, IsBodyOf}
+use Rattle.h1_model.specs.Parse.{Message, Body, content, raw_content, chunked_stop, shifted, IsBodyOf}
 use Rattle.h1_model.proofs.BodyLemmas.{input}
-use Rattle.h1_machine.specs.Kept.{Rest, no_rest, raw_rest, fixed_rest, chunks_rest, frames_rest, whole_rest, rest_in}
+use Rattle.h1_machine.specs.Kept.{no_rest, raw_rest, fixed_rest, chunks_rest, whole_rest, rest_in}
 use Rattle.h1_machine.specs.KeptOf.{is_passed}
 use Rattle.h1_machine.proofs.QuietParts.{rest_by}
 
@@ -45,6 +45,7 @@ kind_some : (refused : Bool) (kind : BodyKind) (n : ℕ) → (if refused then No
 kind_some true kind n e = cc
 kind_some false kind n e = cc
 
+-- so does a head
 head_some : (piece : List ℕ) (h : Head) (n : ℕ) → IsHeadOf piece h → h.body ≡ fixed_body n → 0 < n
 head_some piece h n x kind =
     framed_some (is_there (values_of (codes "transfer-encoding") h.headers)) (asks_websocket h.headers) (bytes_eq h.method (codes "CONNECT"))
@@ -64,11 +65,13 @@ in_no true [] = refl
 in_no true (b ∷ bytes) = refl
 in_no false bytes = refl
 
+-- of a stated length
 in_fixed : (ended : Bool) (bytes : List ℕ) (n : ℕ) → rest_in ended bytes (fixed_rest n) ≡ fixed_rest n
 in_fixed true [] n = refl
 in_fixed true (b ∷ bytes) n = refl
 in_fixed false bytes n = refl
 
+-- or in chunks
 in_chunks : (ended : Bool) (bytes : List ℕ) → rest_in ended bytes (chunks_rest start []) ≡ chunks_rest start []
 in_chunks true [] = refl
 in_chunks true (b ∷ bytes) = refl
@@ -87,7 +90,8 @@ whole_some bytes (suc k) trailers runs x = omega arith
 
 -- at its start it isn't passed
 chunks_unpassed : (bytes : List ℕ) (ended : Bool) (size : ℕ) (m : Message) (a : Chunked) (runs : List Run)
-    → IsChunked (drop m.body_start bytes) a runs → m.body ≡ content (shifted m.body_start runs) (chunked_stop (input bytes None ended size) m.body_start a)
+    → IsChunked (drop m.body_start bytes) a runs
+    → m.body ≡ content (shifted m.body_start runs) (chunked_stop (input bytes None ended size) m.body_start a)
     → is_passed m.body_start m ≡ false
 chunks_unpassed bytes ended size m (whole k trailers) runs x e =
     let some = whole_some (drop m.body_start bytes) k trailers runs x in
@@ -97,7 +101,8 @@ chunks_unpassed bytes false size m unfinished runs x e = passed_by m.body_start 
 chunks_unpassed bytes ended size m not_chunked runs x e = passed_by m.body_start m _ e
 
 -- no byte of it was read
-none_read : (bytes : List ℕ) (a : ℕ) → chunks_rest (after start (slice_range bytes a a)) (read start (slice_range bytes a a)).trailers ≡ chunks_rest start []
+none_read : (bytes : List ℕ) (a : ℕ)
+    → chunks_rest (after start (slice_range bytes a a)) (read start (slice_range bytes a a)).trailers ≡ chunks_rest start []
 none_read bytes a =
     let none : a - a ≡ 0 = omega arith in
     let front : slice_range bytes a a ≡ [] = ap (λ n. take n (drop a bytes)) none in

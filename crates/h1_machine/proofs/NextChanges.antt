@@ -1,47 +1,34 @@
 -- What a call for the next head changes.
-use Rattle.std.proofs.Common.{◌≡◌, ℕ, zero, suc, ◌+◌, ◌-◌, Bool, true, false, List, [], ◌∷◌, ◌++◌, length, drop, slice_range, Option, Some, None, refl, sym, ap, ◌∙◌, subst, inl, inr, arith, append-nil, length-drop}
-use Rattle.std.specs.Prelude.{◌&&◌, ◌||◌, ◌==◌, not, is_some, IsTrue, unwrap_or, slice_get, if◌then◌else◌}
-use Rattle.std.specs.List.{list_any}
+use Rattle.std.proofs.Common.{◌≡◌, ℕ, Bool, true, false, List, [], ◌∷◌, ◌++◌, length, drop, slice_range, Option, Some, None, refl, sym, ap, ◌∙◌, subst, inl, inr, append-nil, length-drop}
+use Rattle.std.specs.Prelude.{◌&&◌, ◌||◌, ◌==◌, not, is_some, IsTrue, if◌then◌else◌}
 use Rattle.std.specs.Option.{option_or}
-use Rattle.std.proofs.lemmas.Bool.{cond-true, cond-false, cases_Bool, true≢false, or_parts, and_parts, not-true}
-use Rattle.std.proofs.lemmas.Option.{none-some, same_Some}
-use Rattle.std.proofs.lemmas.List.{drop-drop}
-use Rattle.h1_model.specs.HeadPiece.{IsHeadPiece}
-use Rattle.h1_model.specs.Request.{fixed_body, BodyKind, Head, Fault, too_large, Reading, head_is, faulty}
+use Rattle.std.proofs.lemmas.Bool.{cond-true, cond-false, cases_Bool, true≢false, and_parts, not-true}
+use Rattle.h1_model.specs.Request.{Fault, too_large, Reading, head_is, faulty}
 use Rattle.h1_model.specs.RequestHead.{IsReadingWithin}
 use Rattle.h1_model.specs.Setting.{Setting}
-use Rattle.h1_model.specs.Parse.{Input, Message, next_start, IsBodyOf, IsBodyAfter, IsMessageAt, AreMessages}
-use Rattle.h1_model.specs.End as ends
+use Rattle.h1_model.specs.Parse.{Message}
 use Rattle.h1_model.specs.End.{End}
 use Rattle.h1_model.specs.Event.{Event, Outcome}
 use Rattle.h1_model.specs.Event as on
-use Rattle.h1_model.specs.Sums.{Step, step_written, taken, is_body_end, is_body_error, head_of, request, since_head, answered, came_since_head, is_complete, is_open, is_upgraded, accepted, is_receiving, is_pull, is_drop, is_go_on, has_ended, now}
-use Rattle.h1_model.specs.Past.{ParsedStep, steps, input_of, parse_of, head_count, current, upcoming, passed, held}
+use Rattle.h1_model.specs.Sums.{Step, step_written, taken, is_open, now}
+use Rattle.h1_model.specs.Past.{ParsedStep, steps, upcoming, passed, held}
 use Rattle.h1_model.specs.Text.{step_text, buffered, fault_answer}
-use Rattle.h1_model.specs.Closing.{end_where, fault_end, told_end, told, is_short, body_end_of, closing}
+use Rattle.h1_model.specs.Closing.{fault_end, told_end, closing}
 use Rattle.h1_model.specs.Allowed.{is_over_by, is_over, is_allowed}
 use Rattle.h1_model.specs.OutcomeTable.{head_outcome, upcoming_outcome, next_outcome, outcome_of}
-use Rattle.h1_model.proofs.BodyLemmas.{input}
 use Rattle.h1_model.proofs.PastLemmas.{Legal}
-use Rattle.h1_model.proofs.StepLemmas.{accepted-cons, since_head-head, head_count-head, complete-head, parsed}
-use Rattle.h1_model.proofs.TraceGrowth.{current_at}
-use Rattle.h1_model.proofs.PulledLemmas.{pulled_to-head}
-use Rattle.h1_model.proofs.CarriedLemmas.{passed_some, passed_complete, passed_pulled}
-use Rattle.h1_machine.specs.Kept.{Rest, Exchange, Kept, whole_rest, rest_in, new_exchange}
+use Rattle.h1_machine.specs.Kept.{Kept}
 use Rattle.h1_machine.specs.Local.{closing_by}
 use Rattle.h1_machine.specs.Clock.{Change}
 use Rattle.h1_machine.specs.Change.{behind_head, without_head, IsUpcoming, IsNext}
-use Rattle.h1_machine.specs.KeptOf.{rest_of, tells_done, exchange_with, exchange_of, kept_of}
+use Rattle.h1_machine.specs.KeptOf.{kept_of}
 use Rattle.h1_machine.proofs.Changes.{Changes}
-use Rattle.h1_machine.proofs.Current.{Current, NoCurrent, current_of, request-cons}
-use Rattle.h1_machine.proofs.Orderly.{orderly, waits_open}
 use Rattle.h1_machine.proofs.Kernel.{closing_of}
-use Rattle.h1_machine.proofs.Coming.{ComesAt, next_comes, none_comes}
-use Rattle.h1_machine.proofs.StepSums.{answered-head}
-use Rattle.h1_machine.proofs.QuietParts.{rest_by, rest_parts, passed-quiet}
-use Rattle.h1_machine.proofs.CalmSteps.{IsCalm, calm_next, taken-calm, clock-calm, sending-calm, told-cons, buffered-more, parse-calm, calm_parts}
+use Rattle.h1_machine.proofs.StepSums.{buffered-more}
+use Rattle.h1_machine.proofs.QuietParts.{passed-quiet}
+use Rattle.h1_machine.proofs.CalmSteps.{calm_next, taken-calm, calm_parts}
 use Rattle.h1_machine.proofs.StillSteps.{IsStill, still_quiet, exchange_still}
-use Rattle.h1_machine.proofs.NextHeads.{next_at, Heads, head_changes}
+use Rattle.h1_machine.proofs.NextHeads.{next_at, head_changes}
 
 -- a call for the next head, with its outcome
 abbrev next_of : Outcome → List Message → ParsedStep
@@ -59,18 +46,21 @@ record IsMild (o : Outcome) : Type 0 where
   pub still : IsStill (record { event = on.next; outcome = o })
   pub written : step_written o ≡ []
 
+-- that the connection closes
 mild_closed : (end : End) → IsMild (on.closed end)
 mild_closed end = record {
   still = record { calm = calm_next; pull = refl; accepts = refl; head = refl; bytes = refl; frames = refl; done = refl };
   written = refl;
 }
 
+-- a fault
 mild_fault : (f : Fault) → IsMild (on.fault f)
 mild_fault f = record {
   still = record { calm = calm_next; pull = refl; accepts = refl; head = refl; bytes = refl; frames = refl; done = refl };
   written = refl;
 }
 
+-- and that nothing is there yet
 mild_pending : IsMild on.pending
 mild_pending = record {
   still = record { calm = calm_next; pull = refl; accepts = refl; head = refl; bytes = refl; frames = refl; done = refl };
@@ -96,25 +86,28 @@ mild_changes setting before o parse over text end l w is f h k =
       answers = refl;
       parts = calm_parts setting before x (kept_of setting before).unread over (kept_of setting before).exchange text end calm_next w.still.head
           (λ i. drop (sym place i) (sym bytes i)) f (exchange_still setting before x l w.still)
-          (h ∙ sym (buffered-more setting before x.step l.3 w.written)) k;
+          (h ∙ sym (buffered-more setting x.step before l.3 w.written)) k;
       since = refl;
     }
 
--- the text of a step
+-- the text of a step: of the end
 closed_text : (setting : Setting) (t : List Step) (end : End) → step_text setting t on.next (on.closed end) ≡ []
 unfolding step_text
 closed_text setting t end = refl
 
+-- of a fault
 fault_text : (setting : Setting) (t : List Step) (f : Fault) → step_text setting t on.next (on.fault f) ≡ fault_answer f (now t)
 unfolding step_text
 fault_text setting t f = refl
 
+-- of nothing
 pending_text : (setting : Setting) (t : List Step) → step_text setting t on.next on.pending ≡ []
 unfolding step_text
 pending_text setting t = refl
 
 -- the connection closes
-closed_changes : (setting : Setting) (before : List ParsedStep) (parse : List Message) (end : End) → Legal setting (next_of (on.closed end) parse ∷ before)
+closed_changes : (setting : Setting) (before : List ParsedStep) (parse : List Message) (end : End)
+    → Legal setting (next_of (on.closed end) parse ∷ before)
     → closing setting before ≡ Some end → Changes setting before (next_of (on.closed end) parse)
 closed_changes setting before parse end l e =
     let t = steps before in
@@ -135,7 +128,8 @@ open_is setting before c coming l e comes is =
     subst (λ closes. IsNext setting k closes c) (sym (closing_of setting before l ∙ e)) here
 
 -- a fault is told
-fault_changes : (setting : Setting) (before : List ParsedStep) (parse : List Message) (f : Fault) (end : ℕ) → Legal setting (next_of (on.fault f) parse ∷ before)
+fault_changes : (setting : Setting) (before : List ParsedStep) (parse : List Message) (f : Fault) (end : ℕ)
+    → Legal setting (next_of (on.fault f) parse ∷ before)
     → IsNext setting (kept_of setting before) (closing_by setting (kept_of setting before)) (behind_head (kept_of setting before) end (faulty f))
     → Changes setting before (next_of (on.fault f) parse)
 fault_changes setting before parse f end l is =
@@ -174,15 +168,18 @@ without_changes setting before parse o l e comes is =
 -- ---- a message is to come
 
 -- by what its head is read as
-coming_changes : (setting : Setting) (before : List ParsedStep) (parse : List Message) (o : Outcome) (m : Message) (r : Reading) → Legal setting (next_of o parse ∷ before)
+coming_changes : (setting : Setting) (before : List ParsedStep) (parse : List Message) (o : Outcome) (m : Message) (r : Reading)
+    → Legal setting (next_of o parse ∷ before)
     → closing setting before ≡ None → is_open (steps before) ≡ false → upcoming before ≡ Some m → m.reading ≡ r → o ≡ head_outcome r
     → Changes setting before (next_of o parse)
 coming_changes setting before parse o m r l e shut up read is = by_reading r read is
   where
     k : Kept
     k = kept_of setting before
+
     comes : k.is_coming ≡ true
     comes = λ i. not (shut i) && is_some (up i)
+
     by_reading : (r : Reading) → m.reading ≡ r → o ≡ head_outcome r → Changes setting before (next_of o parse)
     by_reading (head_is h) read is =
         let P : Outcome → Type 0 = λ v. Legal setting (next_of v parse ∷ before) → Changes setting before (next_of v parse) in
@@ -204,7 +201,9 @@ running_test : (closes closed opened : Bool) → (if closes then closed else ope
 running_test true closed opened x e = absurd (true≢false e)
 running_test false closed opened x e = x
 
-shut_next : (setting : Setting) (past : List ParsedStep) → IsTrue (is_allowed setting past on.next) → closing setting past ≡ None → is_open (steps past) ≡ false
+-- so of a legal call
+shut_next : (setting : Setting) (past : List ParsedStep) → IsTrue (is_allowed setting past on.next) → closing setting past ≡ None
+    → is_open (steps past) ≡ false
 unfolding is_allowed
 shut_next setting past ok e =
     not-true (is_open (steps past)) (running_test (is_some (closing setting past)) true (not (is_open (steps past))) (and_parts _ _ ok).1 (ap is_some e))
@@ -225,12 +224,15 @@ next_by setting before parse o None None l e up is =
 next_by setting before parse o None (Some m) l e up is =
     coming_changes setting before parse o m m.reading l e (shut_next setting before l.1 e) up refl (is ∙ ap (upcoming_outcome setting before) up)
 
+-- with its outcome
 next_of_changes : (setting : Setting) (before : List ParsedStep) (o : Outcome) (parse : List Message) → Legal setting (next_of o parse ∷ before)
     → Changes setting before (next_of o parse)
 next_of_changes setting before o parse l =
     next_by setting before parse o (closing setting before) (upcoming before) l refl refl (l.2 ∙ next_answers setting before)
 
-pub next_changes : (setting : Setting) (before : List ParsedStep) (x : ParsedStep) → Legal setting (x ∷ before) → x.step.event ≡ on.next → Changes setting before x
+-- the next request is asked for
+pub next_changes : (setting : Setting) (before : List ParsedStep) (x : ParsedStep) → Legal setting (x ∷ before) → x.step.event ≡ on.next
+    → Changes setting before x
 next_changes setting before x l e =
     let of : Event → ParsedStep = λ v. record { step = record { event = v; outcome = x.step.outcome }; parse = x.parse } in
     let P : Event → Type 0 = λ v. Legal setting (of v ∷ before) → Changes setting before (of v) in

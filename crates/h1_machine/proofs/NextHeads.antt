@@ -1,21 +1,18 @@
 -- A head is handed out.
-use Rattle.std.proofs.Common.{◌≡◌, ℕ, zero, suc, ◌+◌, ◌-◌, Bool, true, false, List, [], ◌∷◌, ◌++◌, length, drop, slice_range, Option, Some, None, refl, sym, ap, ◌∙◌, subst, inl, inr, arith, append-nil}
+use Rattle.std.proofs.Common.{◌≡◌, ℕ, zero, suc, ◌+◌, Bool, true, false, List, [], ◌∷◌, ◌++◌, length, drop, slice_range, Option, Some, None, refl, sym, ap, ◌∙◌, subst, inl, inr, arith, append-nil}
 use Rattle.std.specs.Prelude.{◌&&◌, ◌||◌, not, is_some, unwrap_or, slice_get}
 use Rattle.std.specs.List.{list_any}
 use Rattle.std.specs.Option.{option_or}
-use Rattle.std.proofs.lemmas.Bool.{cases_Bool, true≢false, false≢true, or_parts}
+use Rattle.std.proofs.lemmas.Bool.{true≢false, or_parts}
 use Rattle.std.proofs.lemmas.Option.{none-some}
 use Rattle.std.proofs.lemmas.List.{drop-drop}
-use Rattle.h1_model.specs.HeadPiece.{IsHeadPiece}
-use Rattle.h1_model.specs.Request.{fixed_body, Head, Reading, head_is, faulty}
+use Rattle.h1_model.specs.Request.{Head, head_is}
 use Rattle.h1_model.specs.RequestHead.{IsReadingWithin}
 use Rattle.h1_model.specs.Setting.{Setting}
 use Rattle.h1_model.specs.Parse.{Input, Message, next_start, IsBodyOf, IsBodyAfter, IsMessageAt, AreMessages}
 use Rattle.h1_model.specs.End as ends
-use Rattle.h1_model.specs.End.{End}
-use Rattle.h1_model.specs.Event.{Event, Outcome}
 use Rattle.h1_model.specs.Event as on
-use Rattle.h1_model.specs.Sums.{Step, taken, is_body_end, is_body_error, request, since_head, answered, came_since_head, is_complete, is_open, is_upgraded, accepted, is_receiving, is_pull, is_drop, is_go_on, has_ended, answer_len}
+use Rattle.h1_model.specs.Sums.{Step, taken, is_body_end, is_body_error, request, answered, is_complete, is_open, is_upgraded, accepted, is_receiving, is_pull, is_drop, is_go_on, has_ended, answer_len}
 use Rattle.h1_model.specs.Past.{ParsedStep, steps, input_of, parse_of, head_count, current, upcoming, passed}
 use Rattle.h1_model.specs.Text.{step_text, buffered}
 use Rattle.h1_model.specs.Closing.{end_where, told, is_short, body_end_of, closing}
@@ -25,18 +22,18 @@ use Rattle.h1_model.proofs.StepLemmas.{accepted-cons, since_head-head, head_coun
 use Rattle.h1_model.proofs.TraceGrowth.{current_at}
 use Rattle.h1_model.proofs.PulledLemmas.{pulled_to-head}
 use Rattle.h1_model.proofs.CarriedLemmas.{passed_some, passed_complete, passed_pulled}
-use Rattle.h1_machine.specs.Kept.{Rest, Exchange, Kept, unanswered, whole_rest, rest_in, new_exchange}
+use Rattle.h1_machine.specs.Kept.{unanswered, whole_rest, rest_in, new_exchange}
 use Rattle.h1_machine.specs.Local.{closing_by}
 use Rattle.h1_machine.specs.Clock.{Change}
 use Rattle.h1_machine.specs.Change.{behind_head, IsUpcoming, IsNext}
 use Rattle.h1_machine.specs.KeptOf.{rest_of, reply_of, tells_done, exchange_with, exchange_of, kept_of}
 use Rattle.h1_machine.proofs.Changes.{bare, Changes}
-use Rattle.h1_machine.proofs.Current.{Current, NoCurrent, current_of, request-cons}
+use Rattle.h1_machine.proofs.Current.{current_of, request-cons}
 use Rattle.h1_machine.proofs.Orderly.{orderly, waits_open}
 use Rattle.h1_machine.proofs.Coming.{ComesAt, next_comes, none_comes}
-use Rattle.h1_machine.proofs.StepSums.{answered-head}
+use Rattle.h1_machine.proofs.StepSums.{told-cons, answered-head, buffered-more}
 use Rattle.h1_machine.proofs.QuietParts.{rest_by, rest_parts}
-use Rattle.h1_machine.proofs.CalmSteps.{calm_next, taken-calm, clock-calm, sending-calm, told-cons, buffered-more, parse-calm}
+use Rattle.h1_machine.proofs.CalmSteps.{calm_next, taken-calm, clock-calm, sending-calm, parse-calm}
 use Rattle.h1_machine.proofs.NewRest.{read_some, new_rest}
 
 -- ---- the message that is to come
@@ -59,6 +56,7 @@ next_at setting past m l shut e = go (head_count (steps past)) refl
   where
     i : Input
     i = input_of setting (steps past)
+
     go : (count : ℕ) → head_count (steps past) ≡ count → IsMessageAt i (passed past) m
     go zero count = elim (current_of setting past l) [
       | inl n ↦ subst (λ p. IsMessageAt i p m) (sym n.passed_is)
@@ -182,6 +180,7 @@ neither : {A : Type 0} (a b : Option A) → option_or a b ≡ None → (a ≡ No
 neither None b e = (refl, e)
 neither (Some x) b e = absurd (none-some x (sym e))
 
+-- while the connection is open none was told
 untold : (setting : Setting) (past : List ParsedStep) → closing setting past ≡ None → (told (steps past) ≡ None) × (body_end_of (steps past) ≡ None)
 unfolding closing
 untold setting past e =
@@ -224,7 +223,7 @@ head_parts setting before parse m h w end start =
     let all = taken-calm s t calm_next in
     let unread : drop end k.unread ≡ drop (passed (x ∷ before)) (taken (s ∷ t)) = bytes ∙ (λ i. drop (sym place i) (sym all i)) in
     let exchange = ap (λ u. Some (new_exchange (rest_in k.has_ended u (whole_rest h.body)) h)) bytes ∙ sym (head_exchange setting before parse m h w) in
-    let text = sym (buffered-more setting before s w.legal.3 refl ∙ ap (λ b. buffered setting t ++ b) (head_text setting t h) ∙ append-nil (buffered setting t)) in
+    let text = sym (buffered-more setting s before w.legal.3 refl ∙ ap (λ b. buffered setting t ++ b) (head_text setting t h) ∙ append-nil (buffered setting t)) in
     let sends = sym (sending-calm s t calm_next) in
     let clock = sym (clock-calm s t calm_next) in
     let end_told = head_told setting before parse m h w in

@@ -1,30 +1,31 @@
 -- A body in one run, of a stated length or raw: as much of it is passed as was given.
-use Rattle.std.proofs.Common.{◌≡◌, ℕ, ◌+◌, ◌-◌, ◌<◌, ◌≤◌, min, true, false, List, [], ◌∷◌, length, slice_range, Option, Some, None, ◌⊎◌, refl, sym, ap, ◌∙◌, subst, inl, inr, arith, lt-ltb, le-ltb}
-use Rattle.std.specs.Prelude.{IsSome, is_some, unwrap_or, nat_lt}
-use Rattle.std.proofs.lemmas.Bool.{cond-true, cond-false, cases_lt, cases_eq, eq-eqb, ne_eqb, le-leb, true≢false, false≢true}
-use Rattle.std.proofs.lemmas.Option.{none-some, same_Some}
+use Rattle.std.proofs.Common.{◌≡◌, ℕ, ◌+◌, ◌-◌, ◌<◌, ◌≤◌, min, false, List, [], ◌∷◌, length, slice_range, Option, Some, None, ◌⊎◌, refl, sym, ap, ◌∙◌, subst, inl, inr, arith, lt-ltb, le-ltb}
+use Rattle.std.specs.Prelude.{IsSome, unwrap_or, nat_lt}
+use Rattle.std.proofs.lemmas.Bool.{cond-true, cond-false, cases_lt, cases_eq, eq-eqb, ne_eqb, le-leb, false≢true}
 use Rattle.h1_chunks.specs.Runs.{Run}
 use Rattle.h1_model.specs.Request.{Head}
 use Rattle.h1_model.specs.Setting.{Setting}
-use Rattle.h1_model.specs.Parse.{Message, Body, content, Stop, next_start, runs_of, frames_of, run_between}
-use Rattle.h1_model.specs.Event.{Event, Outcome}
+use Rattle.h1_model.specs.Parse.{Message, content, Stop, next_start, runs_of, frames_of, run_between}
+use Rattle.h1_model.specs.Event.{Outcome}
 use Rattle.h1_model.specs.Event as on
 use Rattle.h1_model.specs.Sums.{Step, taken, head_of, since_head, is_complete}
-use Rattle.h1_model.specs.Past.{ParsedStep, steps, current, given_bytes, given_frames, step_bytes, place_behind, has_chunks, pulled_place, pulled_to, passed}
+use Rattle.h1_model.specs.Past.{ParsedStep, steps, current, given_bytes, place_behind, has_chunks, pulled_to, passed}
 use Rattle.h1_model.specs.OutcomeTable.{run_left, gave_trailers, stop_outcome, run_outcome, body_outcome, pull_outcome}
 use Rattle.h1_model.proofs.PastLemmas.{Legal}
 use Rattle.h1_model.proofs.PlaceLemmas.{runs_len, left-within, left-past}
 use Rattle.h1_model.proofs.StepLemmas.{step, given_bytes-more, given_bytes-head, given_frames-more, quiet, reads, stops, accepts, begins, pulls, step_case}
-use Rattle.h1_model.proofs.PulledLemmas.{PullFits, Behind, PullsFit, Idle, idle_pulled, pulled_to-more, pulled_to-head, pulled_to-nil, Holds}
+use Rattle.h1_model.proofs.PulledLemmas.{PullFits, Behind, PullsFit, Idle, idle_pulled, pulled_to-more, pulled_to-head, pulled_to-nil}
 use Rattle.h1_model.proofs.CarriedLemmas.{passed_pulled}
 use Rattle.h1_model.proofs.HeldSteps.{quiet_idle, reads_idle, ends_idle, accepts_idle, pull_no_head}
 use Rattle.h1_machine.proofs.Current.{Current}
 
 -- ---- the run between two places
 
+-- of some bytes
 between_some : (a b : ℕ) → a < b → run_between a b ≡ record { start = a; end = b } ∷ []
 between_some a b some = cond-true (nat_lt a b) _ _ (lt-ltb a b some)
 
+-- and of none
 between_none : (a b : ℕ) → b ≤ a → run_between a b ≡ []
 between_none a b none = cond-false (nat_lt a b) _ _ (le-ltb a b none)
 
@@ -53,10 +54,12 @@ pub one_left : (a b given : ℕ) → a + given < b → run_left given (run_betwe
 one_left a b given more =
     ap (run_left given) (between_some a b (omega arith)) ∙ left-within given (record { start = a; end = b }) [] (omega arith)
 
+-- of no run nothing is left
 left_nothing : (given : ℕ) → run_left given [] ≡ None
 unfolding run_left
 left_nothing given = refl
 
+-- and of a run that was given
 pub none_left : (a b given : ℕ) → b ≤ a + given → run_left given (run_between a b) ≡ None
 none_left a b given all =
     elim (cases_lt a b) [
@@ -81,6 +84,7 @@ one_next runs runs' stop = cong_stop stop
     cong_stop : (s : Stop) → next_start (content runs s) ≡ next_start (content runs' s)
     cong_stop _ = refl
 
+-- and nowhere else
 pub one_ends : (m : Message) (end : ℕ) (stop : Stop) → OneRun m end stop → (place : ℕ) → next_start m.body ≡ Some place → place ≡ end
 one_ends m end stop r place e =
     r.ends place (one_next [] (run_between m.body_start end) stop ∙ sym (ap next_start r.body) ∙ e)
@@ -146,7 +150,8 @@ least_idle m end s t idle fits old =
     omega (arith, idle_pulled m s t idle, given_bytes-more s t idle.head, idle.bytes)
 
 -- behind every legal past
-least : (setting : Setting) (past : List ParsedStep) (m : Message) (end : ℕ) (stop : Stop) → Legal setting past → OneRun m end stop → PullsFit m (steps past)
+least : (setting : Setting) (past : List ParsedStep) (m : Message) (end : ℕ) (stop : Stop) → Legal setting past → OneRun m end stop
+    → PullsFit m (steps past)
     → Least m end (steps past)
 unfolding since_head
 least setting [] m end stop l r fits = omega (arith, pulled_to-nil m)
@@ -171,7 +176,8 @@ least setting (x ∷ before) m end stop l r fits =
 -- ---- the current message
 
 -- As much is passed as was given, and no more than there is.
-pub one_passed : (setting : Setting) (past : List ParsedStep) (m : Message) (h : Head) (end : ℕ) (stop : Stop) → Legal setting past → Current setting past m h
+pub one_passed : (setting : Setting) (past : List ParsedStep) (m : Message) (h : Head) (end : ℕ) (stop : Stop) → Legal setting past
+    → Current setting past m h
     → OneRun m end stop → is_complete (steps past) ≡ false → (next_start m.body ≡ Some end) ⊎ (end ≡ length (taken (steps past)))
     → (passed past ≡ m.body_start + given_bytes (steps past)) × (passed past ≤ end)
 one_passed setting past m h end stop l c r open_yet upto =
@@ -195,7 +201,8 @@ one_passed setting past m h end stop l c r open_yet upto =
     ]
 
 -- the bytes that are left are given
-pub one_gives : (past : List ParsedStep) (m : Message) (end : ℕ) (stop : Stop) → OneRun m end stop → passed past ≡ m.body_start + given_bytes (steps past)
+pub one_gives : (past : List ParsedStep) (m : Message) (end : ℕ) (stop : Stop) → OneRun m end stop
+    → passed past ≡ m.body_start + given_bytes (steps past)
     → passed past < end → pull_outcome (steps past) (Some m) ≡ on.bytes (slice_range (taken (steps past)) (passed past) end)
 one_gives past m end stop r place more =
     let t = steps past in
@@ -203,7 +210,8 @@ one_gives past m end stop r place more =
     ∙ ap (λ n. on.bytes (slice_range (taken t) n end)) (sym place)
 
 -- where none is left the body stops
-pub one_stops : (past : List ParsedStep) (m : Message) (end : ℕ) (stop : Stop) → OneRun m end stop → passed past ≡ m.body_start + given_bytes (steps past)
+pub one_stops : (past : List ParsedStep) (m : Message) (end : ℕ) (stop : Stop) → OneRun m end stop
+    → passed past ≡ m.body_start + given_bytes (steps past)
     → end ≤ passed past → pull_outcome (steps past) (Some m) ≡ stop_outcome (gave_trailers (steps past)) stop
 one_stops past m end stop r place all =
     let t = steps past in

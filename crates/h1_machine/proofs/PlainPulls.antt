@@ -1,27 +1,26 @@
 -- Pulls of a body of a stated length.
-use Rattle.std.proofs.Common.{◌≡◌, ℕ, ◌+◌, ◌-◌, ◌<◌, ◌≤◌, min, Bool, true, false, List, [], ◌∷◌, length, take, drop, slice_range, Option, Some, None, ◌⊎◌, refl, sym, ap, ◌∙◌, subst, inl, inr, arith, length-drop}
+use Rattle.std.proofs.Common.{◌≡◌, ℕ, ◌+◌, ◌-◌, ◌<◌, ◌≤◌, min, Bool, true, false, List, [], ◌∷◌, length, take, drop, Some, ◌⊎◌, refl, sym, ap, ◌∙◌, subst, inl, inr, arith, length-drop}
 use Rattle.std.specs.Prelude.{nat_le, if◌then◌else◌}
 use Rattle.std.proofs.lemmas.Bool.{cond-true, cond-false, cases_lt, le-leb, lt-leb}
 use Rattle.std.proofs.lemmas.Option.{none-some, same_Some}
 use Rattle.std.proofs.lemmas.List.{length-take, take_all, drop-drop, drop_all}
-use Rattle.h1_model.specs.Request.{BodyKind, fixed_body, is_chunked_kind, Head}
+use Rattle.h1_model.specs.Request.{fixed_body, is_chunked_kind, Head}
 use Rattle.h1_model.specs.Setting.{Setting}
-use Rattle.h1_model.specs.Parse.{Message, Body, content, Stop, ended_at, still_open, cut, open_or_cut, fixed_content, next_start, run_between, IsBodyOf}
-use Rattle.h1_model.specs.Event.{Event, Outcome, incomplete}
+use Rattle.h1_model.specs.Parse.{Message, content, Stop, ended_at, still_open, cut, open_or_cut, fixed_content, next_start, IsBodyOf}
+use Rattle.h1_model.specs.Event.{Outcome}
 use Rattle.h1_model.specs.Event as on
-use Rattle.h1_model.specs.Sums.{Step, taken, head_of, completes, is_complete, has_ended}
-use Rattle.h1_model.specs.Past.{ParsedStep, steps, input_of, current, step_bytes, given_bytes, has_chunks, passed}
-use Rattle.h1_model.specs.OutcomeTable.{gave_trailers, stop_outcome, pull_outcome}
+use Rattle.h1_model.specs.Sums.{Step, taken, completes, is_complete, has_ended}
+use Rattle.h1_model.specs.Past.{ParsedStep, steps, input_of, step_bytes, given_bytes, has_chunks, passed}
 use Rattle.h1_model.proofs.PastLemmas.{Legal}
 use Rattle.h1_model.proofs.BodyGrowth.{fixed_whole, fixed_part}
 use Rattle.h1_model.proofs.StepLemmas.{given_bytes-more}
 use Rattle.h1_machine.specs.Kept.{Rest, no_rest, fixed_rest}
 use Rattle.h1_machine.specs.Pull.{Pulled, gives, finishes, lacking, pull_fixed, IsPull}
-use Rattle.h1_machine.specs.KeptOf.{fixed_left, rest_of}
+use Rattle.h1_machine.specs.KeptOf.{rest_of}
 use Rattle.h1_machine.proofs.Changes.{Changes}
 use Rattle.h1_machine.proofs.Current.{Current, current_with}
 use Rattle.h1_machine.proofs.CalmSteps.{calm_pull, taken-calm, since-other}
-use Rattle.h1_machine.proofs.Pulling.{pull_of, pull_headless, pull_current, Gives, pulling_with}
+use Rattle.h1_machine.proofs.Pulling.{pull_of, pull_headless, pull_current, pulling_with}
 use Rattle.h1_machine.proofs.OneRun.{OneRun, one_passed, one_gives, one_stops}
 
 -- ---- a body of one run, of one more pull
@@ -32,7 +31,8 @@ EndsAt past m end = (next_start m.body ≡ Some end) ⊎ (end ≡ length (taken 
 
 -- a pull passes what it gives
 pub passed_more : (setting : Setting) (before : List ParsedStep) (o : Outcome) (parse : List Message) (m : Message) (h : Head) (end : ℕ) (stop : Stop)
-    → Legal setting (pull_of o parse ∷ before) → Current setting before m h → OneRun m end stop → is_complete (steps before) ≡ false → EndsAt before m end
+    → Legal setting (pull_of o parse ∷ before) → Current setting before m h → OneRun m end stop → is_complete (steps before) ≡ false
+    → EndsAt before m end
     → passed (pull_of o parse ∷ before) ≡ passed before + step_bytes o
 passed_more setting before o parse m h end stop l c r open_yet upto =
     let t = steps before in
@@ -73,6 +73,7 @@ open_ends : (ended : Bool) (end place : ℕ) → next_start (content [] (open_or
 open_ends true end place e = absurd (none-some place e)
 open_ends false end place e = absurd (none-some place e)
 
+-- and of one of which bytes are missing
 cut_run : (setting : Setting) (past : List ParsedStep) (m : Message) (h : Head) (n : ℕ) → Current setting past m h → h.body ≡ fixed_body n
     → length (taken (steps past)) < m.body_start + n → OneRun m (length (taken (steps past))) (open_or_cut (has_ended (steps past)))
 cut_run setting past m h n c kind short =
@@ -101,6 +102,7 @@ fixed_more : (past : List ParsedStep) (m : Message) (h : Head) (n : ℕ) → h.b
     → rest_of past m h.body ≡ fixed_rest (m.body_start + n - passed past)
 fixed_more past m h n kind more = ap (rest_of past m) kind ∙ cond-false _ _ _ (lt-leb (m.body_start + n) (passed past) more)
 
+-- and behind its end
 fixed_all : (past : List ParsedStep) (m : Message) (h : Head) (n : ℕ) → h.body ≡ fixed_body n → m.body_start + n ≤ passed past
     → rest_of past m h.body ≡ no_rest
 fixed_all past m h n kind all = ap (rest_of past m) kind ∙ cond-true _ _ _ (le-leb (m.body_start + n) (passed past) all)
@@ -177,17 +179,21 @@ fixed_ends setting before o parse m h n l c kind open_yet r upto place all =
 
 -- no byte is there: the input may go on, or has ended
 fixed_lacks : (setting : Setting) (before : List ParsedStep) (o : Outcome) (parse : List Message) (m : Message) (h : Head) (n : ℕ) (ended : Bool)
-    → Legal setting (pull_of o parse ∷ before) → Current setting before m h → h.body ≡ fixed_body n → is_complete (steps before) ≡ false → has_ended (steps before) ≡ ended
+    → Legal setting (pull_of o parse ∷ before) → Current setting before m h → h.body ≡ fixed_body n → is_complete (steps before) ≡ false
+    → has_ended (steps before) ≡ ended
     → OneRun m (length (taken (steps before))) (open_or_cut ended) → passed before ≡ m.body_start + given_bytes (steps before)
     → passed before ≡ length (taken (steps before)) → length (taken (steps before)) < m.body_start + n → Changes setting before (pull_of o parse)
 fixed_lacks setting before o parse m h n ended l c kind open_yet e r place all short = go ended e r
   where
     t : List Step
     t = steps before
+
     u : List ℕ
     u = drop (passed before) (taken t)
+
     left : Rest
     left = fixed_rest (m.body_start + n - passed before)
+
     -- nothing changes
     stays : (p : Pulled) (stop : Stop) → p.rest ≡ left → p.unread ≡ u → step_bytes p.outcome ≡ 0 → OneRun m (length (taken t)) stop
         → Legal setting (pull_of p.outcome parse ∷ before)
@@ -198,12 +204,14 @@ fixed_lacks setting before o parse m h n ended l c kind open_yet e r place all s
           a ∙ ap (λ k. fixed_rest (m.body_start + n - k)) same ∙ sym (fixed_more (pull_of p.outcome parse ∷ before) m h n kind (omega arith)),
           b ∙ ap (λ k. drop k (taken t)) same,
         )
+
     -- what is pulled
     lacks : (ended : Bool) → has_ended t ≡ ended → IsPull (has_ended t) (rest_of before m h.body) u (lacking ended left u)
     lacks ended e =
         let is : IsPull ended left u (lacking ended left u) = sym (fixed_none ended (m.body_start + n - passed before) u (omega (arith, left_len before))) in
         subst (λ rest. IsPull (has_ended t) rest u (lacking ended left u)) (sym (fixed_more before m h n kind (omega arith)))
         (subst (λ b. IsPull b left u (lacking ended left u)) (sym e) is)
+
     go : (ended : Bool) → has_ended t ≡ ended → OneRun m (length (taken t)) (open_or_cut ended) → Changes setting before (pull_of o parse)
     go true e r =
         pulling_with setting before o parse m h (lacking true left u) l c (one_stops before m (length (taken t)) cut r place (omega arith)) (lacks true e)

@@ -1,32 +1,25 @@
 -- What a pull changes.
-use Rattle.std.proofs.Common.{◌≡◌, ℕ, Bool, true, false, List, ◌∷◌, Option, Some, None, refl, sym, ap, ◌∙◌, subst, inl, inr}
-use Rattle.std.specs.Prelude.{IsTrue, is_some, not, ◌&&◌, ◌||◌}
-use Rattle.std.specs.List.{list_any}
-use Rattle.std.proofs.lemmas.Bool.{false≢true, and_parts, not-true}
+use Rattle.std.proofs.Common.{◌≡◌, ℕ, true, false, List, ◌∷◌, Option, Some, None, refl, sym, ap, ◌∙◌, subst, inl, inr}
+use Rattle.std.specs.Prelude.{is_some, ◌&&◌, ◌||◌}
+use Rattle.std.proofs.lemmas.Bool.{false≢true, and_parts}
 use Rattle.h1_model.specs.Request.{BodyKind, no_body, fixed_body, chunked_body, raw_body, has_body, Head}
 use Rattle.h1_model.specs.Setting.{Setting}
 use Rattle.h1_model.specs.Parse.{Message}
 use Rattle.h1_model.specs.Event.{Event, Outcome}
 use Rattle.h1_model.specs.Event as on
-use Rattle.h1_model.specs.Sums.{Step, request, since_head, is_complete, is_open, is_upgraded, accepted}
+use Rattle.h1_model.specs.Sums.{request, is_complete, is_open, accepted}
 use Rattle.h1_model.specs.Past.{ParsedStep, steps}
-use Rattle.h1_model.specs.Allowed.{gives_up, has_body_left}
+use Rattle.h1_model.specs.Allowed.{has_body_left}
 use Rattle.h1_model.proofs.PastLemmas.{Legal}
 use Rattle.h1_model.proofs.StepLemmas.{allowed_open}
 use Rattle.h1_machine.proofs.Changes.{Changes}
 use Rattle.h1_machine.proofs.Current.{Current, current_of}
 use Rattle.h1_machine.proofs.Received.{upgraded_current}
-use Rattle.h1_machine.proofs.Pulling.{pull_of}
+use Rattle.h1_machine.proofs.Pulling.{pull_of, open_incomplete}
 use Rattle.h1_machine.proofs.PlainPulls.{fixed_pull_changes}
 use Rattle.h1_machine.proofs.RawPulls.{raw_pull_changes}
 use Rattle.h1_machine.proofs.FramePulls.{frames_pull_changes}
 use Rattle.h1_machine.proofs.ChunkPulls.{chunks_pull_changes}
-
--- on no WebSocket, an open request's answer isn't complete
-open_incomplete : (t : List Step) → accepted t ≡ None → is_open t ≡ true → is_complete t ≡ false
-open_incomplete t plain x =
-    not-true (is_complete t)
-    (subst (λ b. (b || not (is_complete t)) ≡ true) (ap is_some plain) (and_parts (is_some (request t)) (is_upgraded t || not (is_complete t)) x).1)
 
 -- by the kind of the body
 by_kind : (setting : Setting) (before : List ParsedStep) (o : Outcome) (parse : List Message) (m : Message) (h : Head) (kind : BodyKind)
@@ -60,7 +53,9 @@ pull_of_changes : (setting : Setting) (before : List ParsedStep) (o : Outcome) (
 pull_of_changes setting before o parse l =
     by_protocol setting before o parse (accepted (steps before)) refl l (allowed_open setting before on.pull refl l.1)
 
-pub pull_changes : (setting : Setting) (before : List ParsedStep) (x : ParsedStep) → Legal setting (x ∷ before) → x.step.event ≡ on.pull → Changes setting before x
+-- more of a body is asked for
+pub pull_changes : (setting : Setting) (before : List ParsedStep) (x : ParsedStep) → Legal setting (x ∷ before) → x.step.event ≡ on.pull
+    → Changes setting before x
 pull_changes setting before x l e =
     let of : Event → ParsedStep = λ v. record { step = record { event = v; outcome = x.step.outcome }; parse = x.parse } in
     let P : Event → Type 0 = λ v. Legal setting (of v ∷ before) → Changes setting before (of v) in

@@ -1,13 +1,14 @@
 -- A pull, by what it gives.
-use Rattle.std.proofs.Common.{◌≡◌, ℕ, Bool, true, false, List, ◌∷◌, ◌++◌, drop, Option, Some, None, refl, sym, ap, ◌∙◌, subst, append-nil}
-use Rattle.std.specs.Prelude.{◌||◌, [], IsTrue}
+use Rattle.std.proofs.Common.{◌≡◌, true, false, List, ◌∷◌, ◌++◌, drop, Some, None, refl, sym, ap, ◌∙◌, subst, append-nil}
+use Rattle.std.specs.Prelude.{◌||◌, [], not, is_some}
 use Rattle.std.specs.Option.{option_or}
+use Rattle.std.proofs.lemmas.Bool.{and_parts, not-true}
 use Rattle.h1_model.specs.Request.{Head}
 use Rattle.h1_model.specs.Setting.{Setting}
 use Rattle.h1_model.specs.Parse.{Message}
-use Rattle.h1_model.specs.Event.{Event, Outcome}
+use Rattle.h1_model.specs.Event.{Outcome}
 use Rattle.h1_model.specs.Event as on
-use Rattle.h1_model.specs.Sums.{Step, step_written, head_of, request, taken, has_ended}
+use Rattle.h1_model.specs.Sums.{Step, step_written, head_of, request, taken, has_ended, accepted, is_upgraded, is_complete, is_open}
 use Rattle.h1_model.specs.Past.{ParsedStep, steps, current, passed}
 use Rattle.h1_model.specs.Text.{step_text, buffered}
 use Rattle.h1_model.specs.Closing.{told_end}
@@ -15,14 +16,14 @@ use Rattle.h1_model.specs.Allowed.{is_over_by, is_over}
 use Rattle.h1_model.specs.OutcomeTable.{pull_outcome, outcome_of}
 use Rattle.h1_model.proofs.PastLemmas.{Legal}
 use Rattle.h1_model.proofs.HeldSteps.{pull_no_head}
-use Rattle.h1_machine.specs.Kept.{Rest, Exchange}
 use Rattle.h1_machine.specs.Pull.{Pulled, IsPull}
 use Rattle.h1_machine.specs.Clock.{Change}
 use Rattle.h1_machine.specs.Change.{IsPulling, pulled_from}
 use Rattle.h1_machine.specs.KeptOf.{rest_of, tells_done, exchange_with, exchange_of, kept_of}
 use Rattle.h1_machine.proofs.Changes.{Changes}
 use Rattle.h1_machine.proofs.Current.{Current, request-more}
-use Rattle.h1_machine.proofs.CalmSteps.{calm_pull, taken-calm, buffered-more, exchange-calm, current-calm, calm_parts}
+use Rattle.h1_machine.proofs.StepSums.{buffered-more}
+use Rattle.h1_machine.proofs.CalmSteps.{calm_pull, taken-calm, exchange-calm, current-calm, calm_parts}
 
 -- a pull with its outcome
 abbrev pub pull_of : Outcome → List Message → ParsedStep
@@ -33,6 +34,7 @@ pull_answers : (setting : Setting) (past : List ParsedStep) → outcome_of setti
 unfolding outcome_of
 pull_answers setting past = refl
 
+-- and that of a legal one
 pub outcome_of_pull : (setting : Setting) (before : List ParsedStep) (o : Outcome) (parse : List Message) → Legal setting (pull_of o parse ∷ before)
     → o ≡ pull_outcome (steps before) (current before)
 outcome_of_pull setting before o parse l = l.2 ∙ pull_answers setting before
@@ -48,10 +50,17 @@ unfolding step_text
 pull_text setting t o = refl
 
 -- the current message is the same
-pub pull_current : (setting : Setting) (before : List ParsedStep) (o : Outcome) (parse : List Message) (m : Message) → Legal setting (pull_of o parse ∷ before)
+pub pull_current : (setting : Setting) (before : List ParsedStep) (o : Outcome) (parse : List Message) (m : Message)
+    → Legal setting (pull_of o parse ∷ before)
     → current before ≡ Some m → current (pull_of o parse ∷ before) ≡ Some m
 pull_current setting before o parse m l e =
     current-calm setting before (pull_of o parse) l calm_pull refl (pull_headless setting before o parse l) ∙ e
+
+-- on no WebSocket, an open request's answer isn't complete
+pub open_incomplete : (t : List Step) → accepted t ≡ None → is_open t ≡ true → is_complete t ≡ false
+open_incomplete t plain x =
+    not-true (is_complete t)
+    (subst (λ b. (b || not (is_complete t)) ≡ true) (ap is_some plain) (and_parts (is_some (request t)) (is_upgraded t || not (is_complete t)) x).1)
 
 -- What a pull gives, and that this is what the longer past says.
 pub record Gives (setting : Setting) (before : List ParsedStep) (m : Message) (h : Head) (p : Pulled) (parse : List Message) : Type 0 where
@@ -95,7 +104,7 @@ pulling setting before parse m h p l c is g =
           (g.unread ∙ ap (drop (passed (x ∷ before))) (sym (taken-calm x.step t calm_pull)))
           (sym (ap (λ b. b || is_over t) g.over))
           new
-          (sym (buffered-more setting before x.step l.3 g.written ∙ ap (λ b. buffered setting t ++ b) (pull_text setting t o) ∙ append-nil (buffered setting t)))
+          (sym (buffered-more setting x.step before l.3 g.written ∙ ap (λ b. buffered setting t ++ b) (pull_text setting t o) ∙ append-nil (buffered setting t)))
           (ap (λ e. option_or e k.told) g.told);
       since = refl;
     }

@@ -1,26 +1,25 @@
 -- Pulls of a raw body, which goes on up to the end of the input.
-use Rattle.std.proofs.Common.{◌≡◌, ℕ, ◌+◌, ◌-◌, ◌<◌, ◌≤◌, Bool, true, false, List, [], ◌∷◌, length, take, drop, Option, Some, None, refl, sym, ap, ◌∙◌, subst, inl, inr, arith}
+use Rattle.std.proofs.Common.{◌≡◌, ℕ, ◌+◌, ◌-◌, ◌<◌, ◌≤◌, Bool, true, false, List, [], ◌∷◌, length, drop, Some, None, refl, sym, ap, ◌∙◌, subst, inl, inr, arith}
 use Rattle.std.specs.Prelude.{nat_le, if◌then◌else◌}
-use Rattle.std.specs.Option.{option_or}
 use Rattle.std.proofs.lemmas.Bool.{cond-true, cond-false, cases_lt, le-leb, lt-leb}
 use Rattle.std.proofs.lemmas.Option.{none-some, same_Some}
 use Rattle.std.proofs.lemmas.List.{take_all, drop_all}
-use Rattle.h1_model.specs.Request.{BodyKind, raw_body, is_chunked_kind, Head}
+use Rattle.h1_model.specs.Request.{raw_body, is_chunked_kind, Head}
 use Rattle.h1_model.specs.Setting.{Setting}
-use Rattle.h1_model.specs.Parse.{Message, Body, content, Stop, ended_at, still_open, raw_content, next_start, run_between, IsBodyOf}
-use Rattle.h1_model.specs.Event.{Event, Outcome}
+use Rattle.h1_model.specs.Parse.{Message, content, Stop, ended_at, still_open, raw_content, next_start, run_between, IsBodyOf}
+use Rattle.h1_model.specs.Event.{Outcome}
 use Rattle.h1_model.specs.Event as on
-use Rattle.h1_model.specs.Sums.{Step, taken, is_complete, has_ended, accepted}
-use Rattle.h1_model.specs.Past.{ParsedStep, steps, input_of, current, given_bytes, has_chunks, passed}
+use Rattle.h1_model.specs.Sums.{taken, is_complete, has_ended, accepted}
+use Rattle.h1_model.specs.Past.{ParsedStep, steps, input_of, given_bytes, has_chunks, passed}
 use Rattle.h1_model.proofs.PastLemmas.{Legal}
 use Rattle.h1_model.proofs.BodyLemmas.{input}
 use Rattle.h1_model.proofs.StepLemmas.{accepted-cons}
 use Rattle.h1_machine.specs.Kept.{Rest, no_rest, raw_rest}
-use Rattle.h1_machine.specs.Pull.{Pulled, gives, finishes, pull_raw, IsPull}
+use Rattle.h1_machine.specs.Pull.{gives, finishes, pull_raw, IsPull}
 use Rattle.h1_machine.specs.KeptOf.{is_passed, raw_left, rest_of}
 use Rattle.h1_machine.proofs.Changes.{Changes}
 use Rattle.h1_machine.proofs.Current.{Current}
-use Rattle.h1_machine.proofs.Pulling.{pull_of, Gives, pulling_with}
+use Rattle.h1_machine.proofs.Pulling.{pull_of, pulling_with}
 use Rattle.h1_machine.proofs.OneRun.{OneRun, one_passed, one_gives, one_stops}
 use Rattle.h1_machine.proofs.PlainPulls.{passed_more, left_len}
 
@@ -28,12 +27,14 @@ use Rattle.h1_machine.proofs.PlainPulls.{passed_more, left_len}
 abbrev pub raw_stop : Bool → ℕ → Stop
 raw_stop ended len = if ended then ended_at len [] else still_open
 
+-- it ends at the end of the bytes alone
 raw_ends : (ended : Bool) (len place : ℕ) → next_start (content [] (raw_stop ended len)) ≡ Some place → place ≡ len
 raw_ends true len place e = sym (same_Some len place e)
 raw_ends false len place e = absurd (none-some place e)
 
 -- the run of such a body
-raw_run : (setting : Setting) (past : List ParsedStep) (m : Message) (h : Head) → Current setting past m h → h.body ≡ raw_body → accepted (steps past) ≡ None
+raw_run : (setting : Setting) (past : List ParsedStep) (m : Message) (h : Head) → Current setting past m h → h.body ≡ raw_body
+    → accepted (steps past) ≡ None
     → OneRun m (length (taken (steps past))) (raw_stop (has_ended (steps past)) (length (taken (steps past))))
 raw_run setting past m h c kind plain =
     let i = input_of setting (steps past) in
@@ -51,7 +52,9 @@ raw_run setting past m h c kind plain =
 abbrev pub raw_rest_at : Bool → ℕ → ℕ → Rest
 raw_rest_at ended len place = if ended then (if nat_le len place then no_rest else raw_rest) else raw_rest
 
-raw_rest_of : (past : List ParsedStep) (m : Message) (len : ℕ) (ended : Bool) → accepted (steps past) ≡ None → m.body ≡ content (run_between m.body_start len) (raw_stop ended len)
+-- that is what is kept
+raw_rest_of : (past : List ParsedStep) (m : Message) (len : ℕ) (ended : Bool) → accepted (steps past) ≡ None
+    → m.body ≡ content (run_between m.body_start len) (raw_stop ended len)
     → rest_of past m raw_body ≡ raw_rest_at ended len (passed past)
 raw_rest_of past m len ended plain body =
     ap (raw_left past m) plain
@@ -78,6 +81,7 @@ rest_before : (ended : Bool) (len place : ℕ) → place < len → raw_rest_at e
 rest_before true len place less = cond-false _ _ _ (lt-leb len place less)
 rest_before false len place less = refl
 
+-- at their end
 rest_behind : (ended : Bool) (len place : ℕ) → len ≤ place → raw_rest_at ended len place ≡ (if ended then no_rest else raw_rest)
 rest_behind true len place all = cond-true _ _ _ (le-leb len place all)
 rest_behind false len place all = refl
@@ -91,14 +95,17 @@ record Raw (setting : Setting) (before : List ParsedStep) (o : Outcome) (parse :
   pub incomplete : is_complete (steps before) ≡ false
   pub run : OneRun m (length (taken (steps before))) (raw_stop (has_ended (steps before)) (length (taken (steps before))))
 
--- what is left of it before the pull and behind it
-raw_before : (setting : Setting) (before : List ParsedStep) (o : Outcome) (parse : List Message) (m : Message) (h : Head) → Raw setting before o parse m h
+-- what is left of it before the pull
+raw_before : (setting : Setting) (before : List ParsedStep) (o : Outcome) (parse : List Message) (m : Message) (h : Head)
+    → Raw setting before o parse m h
     → rest_of before m h.body ≡ raw_rest_at (has_ended (steps before)) (length (taken (steps before))) (passed before)
 raw_before setting before o parse m h w =
     let t = steps before in
     ap (rest_of before m) w.kind ∙ raw_rest_of before m (length (taken t)) (has_ended t) w.unaccepted w.run.body
 
-raw_behind : (setting : Setting) (before : List ParsedStep) (o p : Outcome) (parse : List Message) (m : Message) (h : Head) → Raw setting before o parse m h
+-- and behind the pull
+raw_behind : (setting : Setting) (before : List ParsedStep) (o p : Outcome) (parse : List Message) (m : Message) (h : Head)
+    → Raw setting before o parse m h
     → rest_of (pull_of p parse ∷ before) m h.body ≡ raw_rest_at (has_ended (steps before)) (length (taken (steps before))) (passed (pull_of p parse ∷ before))
 raw_behind setting before o p parse m h w =
     let t = steps before in
@@ -107,8 +114,10 @@ raw_behind setting before o p parse m h w =
     ap (rest_of (x ∷ before) m) w.kind ∙ raw_rest_of (x ∷ before) m (length (taken t)) (has_ended t) plain w.run.body
 
 -- bytes are given
-raw_gives : (setting : Setting) (before : List ParsedStep) (o : Outcome) (parse : List Message) (m : Message) (h : Head) → Raw setting before o parse m h
-    → passed before ≡ m.body_start + given_bytes (steps before) → passed before < length (taken (steps before)) → Changes setting before (pull_of o parse)
+raw_gives : (setting : Setting) (before : List ParsedStep) (o : Outcome) (parse : List Message) (m : Message) (h : Head)
+    → Raw setting before o parse m h
+    → passed before ≡ m.body_start + given_bytes (steps before) → passed before < length (taken (steps before))
+    → Changes setting before (pull_of o parse)
 raw_gives setting before o parse m h w place more =
     let t = steps before in
     let len = length (taken t) in
@@ -132,9 +141,11 @@ raw_gives setting before o parse m h w place more =
     })
 
 -- no byte is there: the body has ended with the input, or may go on
-raw_stops : (setting : Setting) (before : List ParsedStep) (o : Outcome) (parse : List Message) (m : Message) (h : Head) (ended : Bool) → Raw setting before o parse m h
+raw_stops : (setting : Setting) (before : List ParsedStep) (o : Outcome) (parse : List Message) (m : Message) (h : Head) (ended : Bool)
+    → Raw setting before o parse m h
     → has_ended (steps before) ≡ ended → OneRun m (length (taken (steps before))) (raw_stop ended (length (taken (steps before))))
-    → passed before ≡ m.body_start + given_bytes (steps before) → length (taken (steps before)) ≤ passed before → Changes setting before (pull_of o parse)
+    → passed before ≡ m.body_start + given_bytes (steps before) → length (taken (steps before)) ≤ passed before
+    → Changes setting before (pull_of o parse)
 raw_stops setting before o parse m h true w e r place all =
     let t = steps before in
     let len = length (taken t) in

@@ -9,7 +9,16 @@ use Rattle.h1_machine.specs.Change.{IsStep}
 use Rattle.h1_machine.specs.KeptOf.{kept_of}
 use Rattle.h1_machine.proofs.Changes.{Changes}
 use Rattle.h1_machine.proofs.Kernel.{step_of}
-use Rattle.h1_machine.proofs.EventStubs.{read_changes, eof_changes, drain_changes, next_changes, pull_changes, drop_changes, go_on_changes, answer_changes, chunk_changes, body_end_changes, body_error_changes, write_changes, tick_changes, accept_changes, send_changes}
+use Rattle.h1_machine.proofs.ReadChanges.{read_changes}
+use Rattle.h1_machine.proofs.EofChanges.{eof_changes}
+use Rattle.h1_machine.proofs.QuietChanges.{drain_changes, body_error_changes, write_changes, send_changes}
+use Rattle.h1_machine.proofs.ExchangeChanges.{drop_changes, go_on_changes, chunk_changes}
+use Rattle.h1_machine.proofs.AnswerChanges.{answer_changes}
+use Rattle.h1_machine.proofs.BodyEndChanges.{body_end_changes}
+use Rattle.h1_machine.proofs.TickChanges.{tick_changes}
+use Rattle.h1_machine.proofs.NextChanges.{next_changes}
+use Rattle.h1_machine.proofs.PullChanges.{pull_changes}
+use Rattle.h1_machine.proofs.AcceptChanges.{accept_changes}
 
 -- what each event changes
 event_changes : (setting : Setting) (before : List ParsedStep) (x : ParsedStep) (event : Event) → Legal setting (x ∷ before) → x.step.event ≡ event

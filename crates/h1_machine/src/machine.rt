@@ -1,15 +1,16 @@
 //! The laws that tie the machine to the tables over whole traces.
 
-ghost use Rattle.std.specs.Prelude.{◌≡◌, List, [], ◌∷◌, IsTrue, Option, ◌↔◌};
+ghost use Rattle.std.specs.Prelude.{◌≡◌, ℕ, ◌≤◌, List, [], ◌∷◌, length, IsTrue, IsFalse, Some, ◌↔◌};
+ghost use Rattle.h1_chunks.specs.ChunkedText.{MAX_TRAILER_BYTES};
+ghost use Rattle.h1_chunks.specs.Place.{Place};
 ghost use Rattle.h1_model.specs.Setting.{Setting};
 ghost use Rattle.h1_model.specs.Event.{Event, Outcome};
 ghost use Rattle.h1_model.specs.Sums.{Step};
 ghost use Rattle.h1_model.specs.Past.{ParsedStep};
 ghost use Rattle.h1_model.specs.Closing.{closing};
 ghost use Rattle.h1_model.specs.Allowed.{is_allowed};
-ghost use Rattle.h1_model.specs.OutcomeTable.{outcome_of};
-ghost use Rattle.h1_model.specs.Trace.{IsPastOf, IsAllowed, IsOutcome, IsTrace};
-ghost use Rattle.h1_machine.specs.Kept.{Kept, fresh};
+ghost use Rattle.h1_model.specs.Trace.{IsPastOf, IsAllowed, IsMisplaced, IsOutcome, IsTrace};
+ghost use Rattle.h1_machine.specs.Kept.{chunks_rest, Exchange, Kept, fresh};
 ghost use Rattle.h1_machine.specs.Local.{closing_by, allowed_by};
 ghost use Rattle.h1_machine.specs.Change.{IsStep};
 ghost use Rattle.h1_machine.specs.KeptOf.{kept_of};
@@ -22,12 +23,22 @@ pub fn fresh_stands()
 
 /// What a connection keeps tells why it closes.
 pub fn closing_stands()
-    ensures { (setting : Setting) (past : List ParsedStep) (trace : List Step) → IsTrace setting trace → IsPastOf setting trace past → closing_by setting (kept_of setting past) ≡ closing setting past }
+    ensures of_a_past { (setting : Setting) (past : List ParsedStep) (trace : List Step) → IsTrace setting trace → IsPastOf setting trace past → closing_by setting (kept_of setting past) ≡ closing setting past }
+    ensures of_a_trace { (setting : Setting) (k : Kept) (trace : List Step) (past : List ParsedStep) → StandsFor setting k trace → IsPastOf setting trace past → closing_by setting k ≡ closing setting past }
 {}
 
 /// What a connection keeps tells what is allowed.
 pub fn allowed_stands()
-    ensures { (setting : Setting) (past : List ParsedStep) (trace : List Step) (event : Event) → IsTrace setting trace → IsPastOf setting trace past → allowed_by setting (kept_of setting past) event ≡ is_allowed setting past event }
+    ensures of_a_past { (setting : Setting) (past : List ParsedStep) (trace : List Step) (event : Event) → IsTrace setting trace → IsPastOf setting trace past → allowed_by setting (kept_of setting past) event ≡ is_allowed setting past event }
+    ensures allowed { (setting : Setting) (k : Kept) (trace : List Step) (event : Event) → StandsFor setting k trace → IsTrue (allowed_by setting k event) ↔ IsAllowed setting trace event }
+    ensures misplaced { (setting : Setting) (k : Kept) (trace : List Step) (event : Event) → StandsFor setting k trace → IsFalse (allowed_by setting k event) ↔ IsMisplaced setting trace event }
+{}
+
+/// What is kept is bounded, but for what is to be written: no more bytes than may be held, and no more of a trailer
+/// section than may come.
+pub fn kept_is_bounded()
+    ensures unread { (setting : Setting) (k : Kept) (trace : List Step) → StandsFor setting k trace → length k.unread ≤ setting.hold_size }
+    ensures section { (setting : Setting) (k : Kept) (trace : List Step) (x : Exchange) (place : Place) (section : List ℕ) → StandsFor setting k trace → k.exchange ≡ Some x → x.rest ≡ chunks_rest place section → length section ≤ MAX_TRAILER_BYTES }
 {}
 
 /// An event has one outcome and one state behind it.
@@ -46,4 +57,9 @@ pub fn table_steps()
 pub fn step_stands()
     ensures outcome { (setting : Setting) (k next : Kept) (trace : List Step) (event : Event) (o : Outcome) → StandsFor setting k trace → IsTrue (allowed_by setting k event) → IsStep setting k event o next → IsOutcome setting trace event o }
     ensures state { (setting : Setting) (k next : Kept) (trace : List Step) (event : Event) (o : Outcome) → StandsFor setting k trace → IsTrue (allowed_by setting k event) → IsStep setting k event o next → StandsFor setting next (record { event = event; outcome = o } ∷ trace) }
+{}
+
+/// Each allowed event has a step.
+pub fn a_step_is_there()
+    ensures { (setting : Setting) (k : Kept) (trace : List Step) (event : Event) → StandsFor setting k trace → IsTrue (allowed_by setting k event) → (outcome : Outcome) × (next : Kept) × IsStep setting k event outcome next }
 {}

@@ -119,7 +119,7 @@ record Leaves (s : Step) (before : List Step) : Type 0 where
   pub frames : given_frames (s ∷ before) ≡ given_frames before
 
 -- what came since the head, behind an event of another kind
-since_still : (kind : Event → Bool) (s : Step) (before : List Step) → head_of s.outcome ≡ None → kind s.event ≡ false
+pub since_still : (kind : Event → Bool) (s : Step) (before : List Step) → head_of s.outcome ≡ None → kind s.event ≡ false
     → came_since_head kind (s ∷ before) ≡ came_since_head kind before
 since_still kind s before none other =
     ap (list_any (λ t. kind t.event)) (since_head-more s before none) ∙ ap (λ b. b || came_since_head kind before) other
@@ -135,14 +135,14 @@ unfolding request
 request_still s before none = ap (λ o. option_or o (request before)) none
 
 -- its answer
-answered_still : (s : Step) (before : List Step) → head_of s.outcome ≡ None → ((drained : Bool) → answered_by s.event drained ≡ None)
+pub answered_still : (s : Step) (before : List Step) → head_of s.outcome ≡ None → ((drained : Bool) → answered_by s.event drained ≡ None)
     → answered (s ∷ before) ≡ answered before
 unfolding answered
 answered_still s before none other =
     cond-false _ _ _ (ap is_some none) ∙ ap (λ o. option_or o (answered before)) (other (is_draining before))
 
 -- and the length of its body
-len_still : (s : Step) (before : List Step) → head_of s.outcome ≡ None → chunk_len s.event ≡ 0 → answer_len (s ∷ before) ≡ answer_len before
+pub len_still : (s : Step) (before : List Step) → head_of s.outcome ≡ None → chunk_len s.event ≡ 0 → answer_len (s ∷ before) ≡ answer_len before
 unfolding answer_len
 len_still s before none other = cond-false _ _ _ (ap is_some none) ∙ omega (arith, other)
 

@@ -197,7 +197,7 @@ first_step setting x before p q o none =
 -- ---- Next, behind a message
 
 -- Next is allowed behind a complete answer, on a connection that speaks no WebSocket
-is_done : (trace : List Step) (head : Head) → request trace ≡ Some head → is_open trace ≡ false
+pub is_done : (trace : List Step) (head : Head) → request trace ≡ Some head → is_open trace ≡ false
     → (is_upgraded trace ≡ false) × (is_complete trace ≡ true)
 is_done trace head asked shut =
     elim (and_cases (is_some (request trace)) _ shut) [

@@ -114,7 +114,7 @@ failed_step setting x before p q c prefix fault =
 -- ---- all steps
 
 -- by induction on the past
-sound : (setting : Setting) (past : List ParsedStep) → Legal setting past → Sound setting past
+pub sound : (setting : Setting) (past : List ParsedStep) → Legal setting past → Sound setting past
 sound setting [] x = nothing nothing_yet
 sound setting (m ∷ before) x =
     let q = parsed setting before x.3 in

@@ -34,7 +34,13 @@ pub mod HeldSteps
 pub mod HeldLemmas
 pub mod WrittenLemmas
 pub mod EventLemmas
+pub mod ExchangeTexts
+pub mod ExchangeReplies
+pub mod ExchangeSteps
+pub mod ExchangeEvents
+pub mod ExchangeTraces
 pub mod ClosingLemmas
+pub mod DateLemmas
 pub mod HandedPrefix
 pub mod HandedRuns
 pub mod HandedTrace

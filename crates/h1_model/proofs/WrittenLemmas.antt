@@ -34,11 +34,11 @@ unfolding written
 written-cons s before = refl
 
 -- the text
-text-nil : (setting : Setting) → text setting [] ≡ []
+pub text-nil : (setting : Setting) → text setting [] ≡ []
 unfolding text
 text-nil setting = refl
 
-text-cons : (setting : Setting) (s : Step) (before : List Step)
+pub text-cons : (setting : Setting) (s : Step) (before : List Step)
     → text setting (s ∷ before) ≡ text setting before ++ step_text setting before s.event s.outcome
 unfolding text
 text-cons setting s before = refl

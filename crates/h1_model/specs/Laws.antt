@@ -4,3 +4,4 @@ pub mod Moved
 pub mod Upgrade
 pub mod WrittenFrame
 pub mod FrameSize
+pub mod Exchanges

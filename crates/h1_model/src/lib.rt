@@ -10,4 +10,5 @@ pub mod head_piece;
 pub mod parse;
 pub mod parse_examples;
 pub mod request_head;
+pub mod text;
 pub mod trace;
