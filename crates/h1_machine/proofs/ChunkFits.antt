@@ -13,7 +13,7 @@ use Rattle.h1_chunks.specs.TakeNext.{Next, chunk, waits, ended, breaks}
 use Rattle.h1_chunks.proofs.ReadSteps.{read-nil}
 use Rattle.h1_model.specs.Request.{Header, Reading}
 use Rattle.h1_model.specs.Parse.{Input, Message, content, open_or_cut, shifted, trailer_header, chunked_stop, next_start}
-use Rattle.h1_model.specs.Event.{Event, Outcome, BodyFault, corrupted, incomplete}
+use Rattle.h1_model.specs.Event.{BodyFault, corrupted, incomplete}
 use Rattle.h1_model.specs.Event as on
 use Rattle.h1_model.specs.Sums.{Step, step_written, taken, has_ended}
 use Rattle.h1_model.specs.Past.{given_bytes, has_chunks, pulled_place, pulled_to}
@@ -56,12 +56,14 @@ left_of m trace = chunks_rest (after start (text_of m trace)) (read start (text_
 abbrev pub coming_of : Message → List Step → Next
 coming_of m trace = (next_of m.body_start (pulled_to m trace) (taken trace)).next
 
+-- the text of trailer lines in front of it
 abbrev pub lines_of : Message → List Step → List ℕ
 lines_of m trace = (next_of m.body_start (pulled_to m trace) (taken trace)).trailers
 
 -- what a pull gives is told by what comes next
 pulls_next : (m : Message) (trace : List Step) (next : Next) (is_ended : Bool) (p : Pulled) → coming_of m trace ≡ next → has_ended trace ≡ is_ended
-    → IsPullOfChunks is_ended (after start (text_of m trace)) (read start (text_of m trace)).trailers (drop (pulled_to m trace) (taken trace)) next (lines_of m trace) p
+    → IsPullOfChunks is_ended (after start (text_of m trace)) (read start (text_of m trace)).trailers
+    (drop (pulled_to m trace) (taken trace)) next (lines_of m trace) p
     → IsPull (has_ended trace) (left_of m trace) (drop (pulled_to m trace) (taken trace)) p
 pulls_next m trace next is_ended p e f x =
     let bytes = drop (pulled_to m trace) (taken trace) in
@@ -72,7 +74,9 @@ pulls_next m trace next is_ended p e f x =
 
 -- ---- bytes
 
-pub fits_chunk : (r : Reading) (place : ℕ) (runs : List Run) (i : Input) (a : Chunked) (trace : List Step) (given : List ℕ) (next : Place) (behind : List ℕ)
+-- what is given is the rest of the run
+pub fits_chunk : (r : Reading) (place : ℕ) (runs : List Run) (i : Input) (a : Chunked) (trace : List Step) (given : List ℕ)
+    (next : Place) (behind : List ℕ)
     → IsChunked (drop place (taken trace)) a runs → coming_of (of_chunks r place runs i a) trace ≡ chunk given next behind
     → IsGiven place (pulled_to (of_chunks r place runs i a) trace) (taken trace) (lines_of (of_chunks r place runs i a) trace)
     (run_left (given_bytes trace) (shifted place runs)) given next behind
@@ -104,6 +108,7 @@ fits_chunk r place runs i a trace given next behind x e g =
 
 -- ---- a fault
 
+-- a fault leaves all
 pub fits_fault : (r : Reading) (place : ℕ) (runs : List Run) (i : Input) (a : Chunked) (trace : List Step) (fault : BodyFault)
     → is_passed (pulled_to (of_chunks r place runs i a) trace) (of_chunks r place runs i a) ≡ false
     → pull_outcome trace (Some (of_chunks r place runs i a)) ≡ on.broken_by fault
@@ -134,11 +139,13 @@ pub fits_breaks : (r : Reading) (place : ℕ) (runs : List Run) (i : Input) (a :
     → Fits (of_chunks r place runs i a) trace (left_of (of_chunks r place runs i a) trace)
 fits_breaks r place runs i a trace unpassed e none_left kind =
     let m = of_chunks r place runs i a in
-    fits_fault r place runs i a trace corrupted unpassed (outcome_breaks trace i place a (run_left (given_bytes trace) (shifted place runs)) none_left kind)
+    fits_fault r place runs i a trace corrupted unpassed
+    (outcome_breaks trace i place a (run_left (given_bytes trace) (shifted place runs)) none_left kind)
     (pulls_next m trace breaks (has_ended trace) _ e refl refl)
 
 -- ---- nothing comes
 
+-- by whether the input has ended
 pub fits_wait : (r : Reading) (place : ℕ) (runs : List Run) (i : Input) (a : Chunked) (trace : List Step) (next : Place) (is_ended : Bool)
     → has_chunks r ≡ true → i.ended ≡ is_ended → has_ended trace ≡ is_ended
     → coming_of (of_chunks r place runs i a) trace ≡ waits next
@@ -169,7 +176,8 @@ fits_wait r place runs i a trace next false chunks f f' e w =
       pulls = pulls_next m trace (waits next) false _ e f' refl;
       upto = length bytes;
       passes = place_pending r place runs (chunked_stop i place a) trace chunks;
-      rest_is = λ _. (λ j. chunks_rest (sym here j) (sym lines j)) ∙ sym (rest_left m (length bytes) bytes (unfinished_unpassed r place runs i a (length bytes) w.kind));
+      rest_is = λ _. (λ j. chunks_rest (sym here j) (sym lines j))
+          ∙ sym (rest_left m (length bytes) bytes (unfinished_unpassed r place runs i a (length bytes) w.kind));
       unread = sym (drop_all (length bytes) bytes (omega arith));
       done = refl;
       told = refl;
@@ -189,11 +197,13 @@ no_line : (t : Trailer) (ts : List Trailer) → section_text (t ∷ ts) ≡ [] �
 no_line t ts e =
     omega (arith, ap length e, length-append (trailer_text t) (section_text ts), length-append t.name (58 ∷ (t.value ++ (13 ∷ (10 ∷ [])))))
 
+-- no text is none with a byte
 no_byte : (b : ℕ) (section : List ℕ) → [] ≡ b ∷ section → ⊥
 no_byte b section e = cc
 
 -- it is told by the text of their lines
-ends_with : (ts : List Trailer) (section behind : List ℕ) → AllByRecursion IsTrailer ts → section_text ts ≡ section → EndsWith section behind (ending ts behind)
+ends_with : (ts : List Trailer) (section behind : List ℕ) → AllByRecursion IsTrailer ts → section_text ts ≡ section
+    → EndsWith section behind (ending ts behind)
 ends_with [] [] behind x e = refl
 ends_with [] (b ∷ section) behind x e = absurd (no_byte b section e)
 ends_with (t ∷ ts) [] behind x e = absurd (no_line t ts e)
@@ -204,7 +214,8 @@ fits_ending : (r : Reading) (place : ℕ) (runs : List Run) (i : Input) (a : Chu
     → next_start (content (shifted place runs) (chunked_stop i place a)) ≡ Some upto → is_passed upto (of_chunks r place runs i a) ≡ true
     → behind ≡ drop upto (taken trace)
     → pull_outcome trace (Some (of_chunks r place runs i a)) ≡ ended_outcome false (map trailer_header ts)
-    → IsPull (has_ended trace) (left_of (of_chunks r place runs i a) trace) (drop (pulled_to (of_chunks r place runs i a) trace) (taken trace)) (ending ts behind)
+    → IsPull (has_ended trace) (left_of (of_chunks r place runs i a) trace) (drop (pulled_to (of_chunks r place runs i a) trace) (taken trace))
+    (ending ts behind)
     → Fits (of_chunks r place runs i a) trace (left_of (of_chunks r place runs i a) trace)
 fits_ending r place runs i a trace [] behind upto next is after_end e x =
     let m = of_chunks r place runs i a in
@@ -238,12 +249,14 @@ fits_ending r place runs i a trace (t ∷ ts) behind upto next is after_end e x 
     }
 
 -- where a whole body ends
-whole_next : (place : ℕ) (runs : List Run) (i : Input) (bytes front text : List ℕ) (a : Chunked) (behind : List ℕ) → (w : IsWholeTaken bytes front text a behind)
+whole_next : (place : ℕ) (runs : List Run) (i : Input) (bytes front text : List ℕ) (a : Chunked) (behind : List ℕ)
+    → (w : IsWholeTaken bytes front text a behind)
     → next_start (content (shifted place runs) (chunked_stop i place a)) ≡ Some (place + w.size)
 whole_next place runs i bytes front text a behind w = ap (λ b. next_start (content (shifted place runs) (chunked_stop i place b))) w.kind
 
 -- the trailers weren't given yet
-pub fits_end : (r : Reading) (place : ℕ) (runs : List Run) (i : Input) (a : Chunked) (trace : List Step) (behind : List ℕ) → gave_trailers trace ≡ false
+pub fits_end : (r : Reading) (place : ℕ) (runs : List Run) (i : Input) (a : Chunked) (trace : List Step) (behind : List ℕ)
+    → gave_trailers trace ≡ false
     → coming_of (of_chunks r place runs i a) trace ≡ ended behind → run_left (given_bytes trace) (shifted place runs) ≡ None
     → IsWholeTaken (drop place (taken trace)) (text_of (of_chunks r place runs i a) trace) (lines_of (of_chunks r place runs i a) trace) a behind
     → Fits (of_chunks r place runs i a) trace (left_of (of_chunks r place runs i a) trace)
@@ -269,7 +282,8 @@ told_end_next false (line ∷ lines) e = cc
 -- they were given
 pub fits_told : (r : Reading) (place : ℕ) (runs : List Run) (i : Input) (a : Chunked) (trace : List Step) → gave_trailers trace ≡ true
     → run_left (given_bytes trace) (shifted place runs) ≡ None
-    → IsWholeTaken (drop place (taken trace)) (text_of (of_chunks r place runs i a) trace) [] a (drop (pulled_to (of_chunks r place runs i a) trace) (taken trace))
+    → IsWholeTaken (drop place (taken trace)) (text_of (of_chunks r place runs i a) trace) [] a
+    (drop (pulled_to (of_chunks r place runs i a) trace) (taken trace))
     → Fits (of_chunks r place runs i a) trace no_rest
 fits_told r place runs i a trace told none_left w =
     let m = of_chunks r place runs i a in

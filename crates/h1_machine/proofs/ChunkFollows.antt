@@ -18,7 +18,9 @@ unfolding take_next
 done_ends [] = refl
 done_ends (b ∷ bytes) = refl
 
-pub ends_next : (place upto : ℕ) (bytes : List ℕ) → after start (slice_range bytes place upto) ≡ done → next_of place upto bytes ≡ nothing_noted (ended (drop upto bytes))
+-- where the passed text is whole, its end comes next
+pub ends_next : (place upto : ℕ) (bytes : List ℕ) → after start (slice_range bytes place upto) ≡ done
+    → next_of place upto bytes ≡ nothing_noted (ended (drop upto bytes))
 ends_next place upto bytes e = ap (λ p. take_next p (drop upto bytes)) e ∙ done_ends (drop upto bytes)
 
 -- where its trailers were given, too
@@ -30,11 +32,13 @@ told_next place upto given bytes told finished f e = ap (λ (t : Taken). t.next)
 ended_no_chunk : (rest given behind : List ℕ) (next : Place) → ended rest ≡ chunk given next behind → ⊥
 ended_no_chunk rest given behind next e = cc
 
+-- nor that nothing comes
 ended_no_wait : (rest : List ℕ) (next : Place) → ended rest ≡ waits next → ⊥
 ended_no_wait rest next e = cc
 
 -- bytes are given
-pub follows_chunk : (place upto given : ℕ) (bytes text : List ℕ) (told finished : Bool) (left : Option Run) (more : List ℕ) (next : Place) (behind : List ℕ)
+pub follows_chunk : (place upto given : ℕ) (bytes text : List ℕ) (told finished : Bool) (left : Option Run) (more : List ℕ)
+    (next : Place) (behind : List ℕ)
     → Follows place upto bytes given told finished → (next_of place upto bytes).next ≡ chunk more next behind
     → (x : IsGiven place upto bytes text left more next behind) → Follows place (upto + x.size) bytes (given + length more) told finished
 follows_chunk place upto given bytes text told finished left more next behind f e x =
@@ -60,7 +64,8 @@ follows_wait place upto given bytes text told finished a left next f e x =
     let all = part_all bytes place in
     let here = ap (after start) all ∙ x.next_is in
     let body = ap (λ (r : Reading). r.body) x.reads
-    ∙ ap (λ (r : Reading). (read start (slice_range bytes place upto)).body ++ r.body) (read-nil next) ∙ append-nil (read start (slice_range bytes place upto)).body in
+    ∙ ap (λ (r : Reading). (read start (slice_range bytes place upto)).body ++ r.body) (read-nil next)
+    ∙ append-nil (read start (slice_range bytes place upto)).body in
     record {
       order = omega arith;
       within = omega arith;

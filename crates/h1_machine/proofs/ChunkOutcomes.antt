@@ -10,7 +10,7 @@ use Rattle.h1_chunks.specs.Place.{Place}
 use Rattle.h1_chunks.specs.TakeNext.{Next, chunk, waits, ended, breaks}
 use Rattle.h1_model.specs.Request.{Header, Reading}
 use Rattle.h1_model.specs.Parse.{Input, Message, content, Stop, open_or_cut, shifted, trailer_header, chunked_stop}
-use Rattle.h1_model.specs.Event.{Event, Outcome, corrupted, incomplete}
+use Rattle.h1_model.specs.Event.{Outcome, corrupted}
 use Rattle.h1_model.specs.Event as on
 use Rattle.h1_model.specs.Sums.{Step, step_taken, taken, head_of, since_head}
 use Rattle.h1_model.specs.Past.{step_bytes, given_bytes, place_behind, has_chunks, pulled_place, pulled_to}
@@ -27,7 +27,8 @@ use Rattle.h1_machine.proofs.ChunkFollows.{follows_chunk, follows_wait, follows_
 -- ---- the outcome
 
 -- bytes
-pub outcome_given : (trace : List Step) (stop : Stop) (place upto : ℕ) (text : List ℕ) (left : Option Run) (given : List ℕ) (next : Place) (behind : List ℕ)
+pub outcome_given : (trace : List Step) (stop : Stop) (place upto : ℕ) (text : List ℕ) (left : Option Run) (given : List ℕ)
+    (next : Place) (behind : List ℕ)
     → IsGiven place upto (taken trace) text left given next behind → run_outcome trace stop left ≡ on.bytes given
 outcome_given trace stop place upto text left given next behind x = ap (run_outcome trace stop) x.run_is ∙ ap on.bytes x.given_is
 
@@ -38,7 +39,8 @@ pub outcome_waits : (trace : List Step) (i : Input) (place upto : ℕ) (text : L
 outcome_waits trace i place upto text a left next x = λ j. run_outcome trace (chunked_stop i place (x.kind j)) (x.none_left j)
 
 -- the end
-pub outcome_ended : (trace : List Step) (i : Input) (place : ℕ) (bytes front text : List ℕ) (a : Chunked) (left : Option Run) (behind : List ℕ) → left ≡ None
+pub outcome_ended : (trace : List Step) (i : Input) (place : ℕ) (bytes front text : List ℕ) (a : Chunked) (left : Option Run) (behind : List ℕ)
+    → left ≡ None
     → (x : IsWholeTaken bytes front text a behind)
     → run_outcome trace (chunked_stop i place a) left ≡ ended_outcome (gave_trailers trace) (map trailer_header x.trailers)
 outcome_ended trace i place bytes front text a left behind e x = λ j. run_outcome trace (chunked_stop i place (x.kind j)) (e j)
@@ -72,7 +74,8 @@ pub follows_step : (m : Message) (s : Step) (trace : List Step) → head_of s.ou
     → FollowsTo m (s ∷ trace)
 follows_step m s trace none x =
     let since = since_head-more s trace none in
-    same_follows m.body_start _ (pulled_to m (s ∷ trace)) _ (taken (s ∷ trace)) _ (given_bytes (s ∷ trace)) _ (gave_trailers (s ∷ trace)) _ (gave_up (s ∷ trace))
+    same_follows m.body_start _ (pulled_to m (s ∷ trace)) _ (taken (s ∷ trace)) _ (given_bytes (s ∷ trace))
+    _ (gave_trailers (s ∷ trace)) _ (gave_up (s ∷ trace))
     (sym (pulled_to-more m s trace none)) (sym (taken-cons s trace)) (sym (given_bytes-more s trace none))
     (sym (ap (list_any (λ s. is_trailers s.outcome)) since)) (sym (ap (list_any (λ s. gives_up s.event s.outcome)) since)) x
 
@@ -90,21 +93,25 @@ Pulled m trace o =
 
 -- how far bytes of a run pass
 pub place_given : (r : Reading) (place : ℕ) (runs : List Run) (stop : Stop) (trace : List Step) (text given : List ℕ) (next : Place) (behind : List ℕ)
-    → (x : IsGiven place (pulled_to (in_chunks r place runs stop) trace) (taken trace) text (run_left (given_bytes trace) (shifted place runs)) given next behind)
-    → place_behind place (given_bytes (step on.pull (on.bytes given) ∷ trace)) (shifted place runs) ≡ pulled_to (in_chunks r place runs stop) trace + x.size
+    → (x : IsGiven place (pulled_to (in_chunks r place runs stop) trace) (taken trace) text
+    (run_left (given_bytes trace) (shifted place runs)) given next behind)
+    → place_behind place (given_bytes (step on.pull (on.bytes given) ∷ trace)) (shifted place runs)
+    ≡ pulled_to (in_chunks r place runs stop) trace + x.size
 place_given r place runs stop trace text given next behind x =
     let q = x.run in
     let within = x.within in
     let end = x.end_is in
     let len : length given ≡ run_len q = sym (ap length x.given_is) ∙ part_length (taken trace) q.start q.end (omega arith) in
-    ap (λ n. place_behind place n (shifted place runs)) (given_bytes-more (step on.pull (on.bytes given)) trace refl ∙ ap (λ n. given_bytes trace + n) len)
+    ap (λ n. place_behind place n (shifted place runs))
+    (given_bytes-more (step on.pull (on.bytes given)) trace refl ∙ ap (λ n. given_bytes trace + n) len)
     ∙ left_place place (given_bytes trace) (shifted place runs) q x.run_is ∙ end
 
 -- bytes
 pulled_chunk : (r : Reading) (place : ℕ) (runs : List Run) (stop : Stop) (trace : List Step) (text given : List ℕ) (next : Place) (behind : List ℕ)
     → FollowsTo (in_chunks r place runs stop) trace
     → (next_of place (pulled_to (in_chunks r place runs stop) trace) (taken trace)).next ≡ chunk given next behind
-    → IsGiven place (pulled_to (in_chunks r place runs stop) trace) (taken trace) text (run_left (given_bytes trace) (shifted place runs)) given next behind
+    → IsGiven place (pulled_to (in_chunks r place runs stop) trace) (taken trace) text
+    (run_left (given_bytes trace) (shifted place runs)) given next behind
     → Pulled (in_chunks r place runs stop) trace (on.bytes given)
 pulled_chunk r place runs stop trace text given next behind f e x =
     subst (λ n. Follows place n (taken trace) (given_bytes trace + length given) (gave_trailers trace) (gave_up trace))
@@ -128,15 +135,18 @@ pulled_fault m trace f =
 
 -- where nothing comes, all is passed
 pub place_pending : (r : Reading) (place : ℕ) (runs : List Run) (stop : Stop) (trace : List Step) → has_chunks r ≡ true
-    → unwrap_or (pulled_place (in_chunks r place runs stop) (step on.pull on.pending ∷ trace) on.pull on.pending) (pulled_to (in_chunks r place runs stop) trace)
+    → unwrap_or (pulled_place (in_chunks r place runs stop) (step on.pull on.pending ∷ trace) on.pull on.pending)
+    (pulled_to (in_chunks r place runs stop) trace)
     ≡ length (taken trace)
 place_pending r place runs stop trace chunks =
     let s = step on.pull on.pending in
     let len : length (taken (s ∷ trace)) ≡ length (taken trace) = ap length (taken-cons s trace ∙ append-nil (taken trace)) in
-    ap (λ o. unwrap_or o (pulled_to (in_chunks r place runs stop) trace)) (cond-true (has_chunks r) (Some (length (taken (s ∷ trace)))) None chunks) ∙ len
+    ap (λ o. unwrap_or o (pulled_to (in_chunks r place runs stop) trace)) (cond-true (has_chunks r) (Some (length (taken (s ∷ trace)))) None chunks)
+    ∙ len
 
 -- nothing comes, by whether the input has ended
-pulled_wait : (r : Reading) (place : ℕ) (runs : List Run) (stop : Stop) (trace : List Step) (text : List ℕ) (a : Chunked) (next : Place) (is_ended : Bool)
+pulled_wait : (r : Reading) (place : ℕ) (runs : List Run) (stop : Stop) (trace : List Step) (text : List ℕ)
+    (a : Chunked) (next : Place) (is_ended : Bool)
     → has_chunks r ≡ true → FollowsTo (in_chunks r place runs stop) trace
     → (next_of place (pulled_to (in_chunks r place runs stop) trace) (taken trace)).next ≡ waits next
     → IsWaiting place (pulled_to (in_chunks r place runs stop) trace) (taken trace) text a (run_left (given_bytes trace) (shifted place runs)) next
@@ -144,19 +154,24 @@ pulled_wait : (r : Reading) (place : ℕ) (runs : List Run) (stop : Stop) (trace
 pulled_wait r place runs stop trace text a next true chunks f e x = pulled_fault (in_chunks r place runs stop) trace f
 pulled_wait r place runs stop trace text a next false chunks f e x =
     let m = in_chunks r place runs stop in
-    subst (λ n. Follows place n (taken trace) (given_bytes trace + 0) (gave_trailers trace) (gave_up trace)) (sym (place_pending r place runs stop trace chunks))
+    subst (λ n. Follows place n (taken trace) (given_bytes trace + 0) (gave_trailers trace) (gave_up trace))
+    (sym (place_pending r place runs stop trace chunks))
     (given_none place (length (taken trace)) (taken trace) (given_bytes trace) (gave_trailers trace) (gave_up trace)
     (follows_wait place (pulled_to m trace) (given_bytes trace) (taken trace) text (gave_trailers trace) (gave_up trace) a
     (run_left (given_bytes trace) (shifted place runs)) next f e x))
 
 -- the trailers, or the end
-pulled_end : (r : Reading) (place : ℕ) (runs : List Run) (i : Input) (trace : List Step) (text : List ℕ) (size : ℕ) (trailers : List Trailer) (told : Bool)
-    (lines : List Header) → ((told' finished' : Bool) → (told' || finished') ≡ true → Follows place (place + size) (taken trace) (given_bytes trace) told' finished')
+pulled_end : (r : Reading) (place : ℕ) (runs : List Run) (i : Input) (trace : List Step) (text : List ℕ) (size : ℕ)
+    (trailers : List Trailer) (told : Bool)
+    (lines : List Header) → ((told' finished' : Bool) → (told' || finished') ≡ true
+    → Follows place (place + size) (taken trace) (given_bytes trace) told' finished')
     → Pulled (in_chunks r place runs (chunked_stop i place (whole size trailers))) trace (ended_outcome told lines)
 pulled_end r place runs i trace text size trailers told [] f =
-    given_none place (place + size) (taken trace) (given_bytes trace) (gave_trailers trace) true (f (gave_trailers trace) true (or_right (gave_trailers trace) true refl))
+    given_none place (place + size) (taken trace) (given_bytes trace) (gave_trailers trace) true
+    (f (gave_trailers trace) true (or_right (gave_trailers trace) true refl))
 pulled_end r place runs i trace text size trailers true (line ∷ lines) f =
-    given_none place (place + size) (taken trace) (given_bytes trace) (gave_trailers trace) true (f (gave_trailers trace) true (or_right (gave_trailers trace) true refl))
+    given_none place (place + size) (taken trace) (given_bytes trace) (gave_trailers trace) true
+    (f (gave_trailers trace) true (or_right (gave_trailers trace) true refl))
 pulled_end r place runs i trace text size trailers false (line ∷ lines) f =
     given_none place (place + size) (taken trace) (given_bytes trace) true (gave_up trace) (f true (gave_up trace) refl)
 
@@ -169,7 +184,8 @@ whole_within bytes front text place a behind within x = let fits = x.within in o
 pulled_by : (r : Reading) (place : ℕ) (runs : List Run) (i : Input) (trace : List Step) (text : List ℕ) (a : Chunked) (next : Next)
     → has_chunks r ≡ true → FollowsTo (in_chunks r place runs (chunked_stop i place a)) trace
     → (next_of place (pulled_to (in_chunks r place runs (chunked_stop i place a)) trace) (taken trace)).next ≡ next
-    → Gives place (pulled_to (in_chunks r place runs (chunked_stop i place a)) trace) (taken trace) text a (run_left (given_bytes trace) (shifted place runs)) next
+    → Gives place (pulled_to (in_chunks r place runs (chunked_stop i place a)) trace) (taken trace) text a
+    (run_left (given_bytes trace) (shifted place runs)) next
     → Pulled (in_chunks r place runs (chunked_stop i place a)) trace (body_outcome trace (content (shifted place runs) (chunked_stop i place a)))
 pulled_by r place runs i trace text a (chunk given next behind) chunks f e x =
     let m = in_chunks r place runs (chunked_stop i place a) in
@@ -193,7 +209,8 @@ pulled_by r place runs i trace text a (ended behind) chunks f e x =
     let o = ended_outcome (gave_trailers trace) (map trailer_header w.trailers) in
     let here : Pulled (in_chunks r place runs (chunked_stop i place (whole w.size w.trailers))) trace o =
     pulled_end r place runs i trace text w.size w.trailers (gave_trailers trace) (map trailer_header w.trailers)
-    (λ told' finished' closed. follows_end place (pulled_to m trace) (given_bytes trace) bytes text (gave_trailers trace) (gave_up trace) told' finished' a behind f w fits closed) in
+    (λ told' finished' closed. follows_end place (pulled_to m trace) (given_bytes trace) bytes text (gave_trailers trace) (gave_up trace)
+    told' finished' a behind f w fits closed) in
     subst (Pulled m trace) (sym (outcome_ended trace i place (drop place bytes) front text a left behind x.0 w))
     (subst (λ (b : Chunked). Pulled (in_chunks r place runs (chunked_stop i place b)) trace o) (sym w.kind) here)
 pulled_by r place runs i trace text a breaks chunks f e x =

@@ -8,7 +8,7 @@ use Rattle.std.proofs.lemmas.Bool.{or_parts, false≢true}
 use Rattle.h1_model.specs.Request.{BodyKind, chunked_body, no_body, fixed_body, raw_body, is_chunked_kind, Head, Reading, head_is}
 use Rattle.h1_model.specs.Setting.{Setting}
 use Rattle.h1_model.specs.Parse.{Input, Message, IsBodyOf, IsBodyAfter, chunked_stop}
-use Rattle.h1_model.specs.Event.{Event, Outcome}
+use Rattle.h1_model.specs.Event.{Outcome}
 use Rattle.h1_model.specs.Event as on
 use Rattle.h1_model.specs.Sums.{Step, step_taken, taken, is_eof, has_ended, accepted_limit, accepted, head_of, was_pulled, was_dropped}
 use Rattle.h1_model.specs.Past.{ParsedStep, steps, input_of, parse_of, head_count, current, step_bytes, given_bytes, has_chunks, pulled_place, pulled_to}
@@ -37,7 +37,9 @@ pub record WasCurrent (before : List ParsedStep) (n : Message) : Type 0 where
   pub reading : message.reading ≡ n.reading
   pub body_start : message.body_start ≡ n.body_start
 
-was_by_count : (setting : Setting) (before : List ParsedStep) (x : ParsedStep) (n : Message) (count : ℕ) → head_count (steps before) ≡ count → Legal setting (x ∷ before)
+-- by how many heads were handed out
+was_by_count : (setting : Setting) (before : List ParsedStep) (x : ParsedStep) (n : Message) (count : ℕ) → head_count (steps before) ≡ count
+    → Legal setting (x ∷ before)
     → head_of x.step.outcome ≡ None → current (x ∷ before) ≡ Some n → WasCurrent before n
 was_by_count setting before x n zero e l none here =
     absurd (none-some n (sym (current_none (x ∷ before) (head_count-more x.step (steps before) none ∙ e)) ∙ here))
@@ -53,12 +55,15 @@ was_by_count setting before x n (suc k) e l none here =
       body_start = c.body_start ∙ ap (λ (p : Message). p.body_start) same;
     }
 
-was_current : (setting : Setting) (before : List ParsedStep) (x : ParsedStep) (n : Message) → Legal setting (x ∷ before) → head_of x.step.outcome ≡ None
+-- whatever their number is
+was_current : (setting : Setting) (before : List ParsedStep) (x : ParsedStep) (n : Message) → Legal setting (x ∷ before)
+    → head_of x.step.outcome ≡ None
     → current (x ∷ before) ≡ Some n → WasCurrent before n
 was_current setting before x n l none here = was_by_count setting before x n (head_count (steps before)) refl l none here
 
 -- where the parse stays, so does the current message
-same_current : (before : List ParsedStep) (x : ParsedStep) → x.parse ≡ parse_of before → head_of x.step.outcome ≡ None → current (x ∷ before) ≡ current before
+same_current : (before : List ParsedStep) (x : ParsedStep) → x.parse ≡ parse_of before → head_of x.step.outcome ≡ None
+    → current (x ∷ before) ≡ current before
 same_current before x same none =
     let count = head_count-more x.step (steps before) none in
     λ i. cond (eqb (count i) 0) None (slice_get (same i) (count i - 1))
@@ -96,12 +101,14 @@ grown_pulled setting before x m n l unended upgraded reading start was is =
         let g : Grown (length (taken (steps before))) m n = record { reading = reading; body_start = start; body = opened } in
         let old = current_with setting before m l.3 was in
         let new = current_with setting (x ∷ before) n l is in
-        (pulled_grows (length (taken (steps before))) n.body_start (length (taken (x.step ∷ steps before))) m n (steps before) g new.1.lies.runs old.1.holds.pulls_fit).0
+        (pulled_grows (length (taken (steps before))) n.body_start (length (taken (x.step ∷ steps before))) m n (steps before)
+        g new.1.lies.runs old.1.holds.pulls_fit).0
 
 -- ---- each step
 
 -- what holds of a message holds of one from which pulls pass as much
-follows_other : (m n : Message) (trace : List Step) → m.body_start ≡ n.body_start → pulled_to m trace ≡ pulled_to n trace → FollowsTo m trace → FollowsTo n trace
+follows_other : (m n : Message) (trace : List Step) → m.body_start ≡ n.body_start → pulled_to m trace ≡ pulled_to n trace → FollowsTo m trace
+    → FollowsTo n trace
 follows_other m n trace start pulled f =
     subst₂ (λ place upto. Follows place upto (taken trace) (given_bytes trace) (gave_trailers trace) (gave_up trace)) start pulled f
 
@@ -110,13 +117,15 @@ abbrev Shown : List ParsedStep → Type 0
 Shown past = (m : Message) → current past ≡ Some m → has_chunks m.reading ≡ true → FollowsTo m (steps past)
 
 -- a head was handed out
-head_shown : (setting : Setting) (before : List ParsedStep) (x : ParsedStep) (h : Head) → Legal setting (x ∷ before) → head_of x.step.outcome ≡ Some h → Shown (x ∷ before)
+head_shown : (setting : Setting) (before : List ParsedStep) (x : ParsedStep) (h : Head) → Legal setting (x ∷ before)
+    → head_of x.step.outcome ≡ Some h → Shown (x ∷ before)
 head_shown setting before x h l some n here chunks =
     let t = steps before in
     let trace = x.step ∷ t in
     let since = since_head-head x.step t h some in
     let c = current_with setting (x ∷ before) n l here in
-    same_follows n.body_start n.body_start (pulled_to n trace) (taken trace) (taken trace) 0 (given_bytes trace) false (gave_trailers trace) false (gave_up trace)
+    same_follows n.body_start n.body_start (pulled_to n trace) (taken trace) (taken trace) 0 (given_bytes trace)
+    false (gave_trailers trace) false (gave_up trace)
     (sym (pulled_to-head n x.step t h some)) refl (sym (given_bytes-head x.step t h some))
     (sym (ap (list_any (λ s. is_trailers s.outcome)) since)) (sym (ap (list_any (λ s. gives_up s.event s.outcome)) since))
     (nothing_follows n.body_start (taken trace) c.1.start)
@@ -134,8 +143,8 @@ idle_shown setting before x l idle pulled old n here chunks =
     follows_idle n x.step t idle none (follows_other m n t was.body_start (pulled m n was.reading was.body_start was.current_is here) f)
 
 -- the kind of a body in chunks
-chunks_kind : (i : Input) (h : Head) (m : Message) → m.reading ≡ head_is h → has_chunks m.reading ≡ true → h.body ≡ chunked_body
-chunks_kind i h m e chunks = of_kind h.body (sym (ap has_chunks e) ∙ chunks)
+chunks_kind : (h : Head) (m : Message) → m.reading ≡ head_is h → has_chunks m.reading ≡ true → h.body ≡ chunked_body
+chunks_kind h m e chunks = of_kind h.body (sym (ap has_chunks e) ∙ chunks)
   where
     of_kind : (k : BodyKind) → is_chunked_kind k ≡ true → k ≡ chunked_body
     of_kind chunked_body y = refl
@@ -154,7 +163,7 @@ pull_shown setting before x l p same old n here chunks =
     let t = steps before in
     let was = sym same ∙ here in
     let c = current_with setting before n l.3 was in
-    let kind = chunks_kind (input_of setting t) c.0 n c.1.reading chunks in
+    let kind = chunks_kind c.0 n c.1.reading chunks in
     let body = subst (λ k. IsBodyOf (input_of setting t) k n.body_start n.body) kind c.1.body in
     let shape : n ≡ in_chunks n.reading n.body_start body.1 (chunked_stop (input_of setting t) n.body_start body.0) =
     ap (λ b. record { reading = n.reading; body_start = n.body_start; body = b }) body.3 in
@@ -166,7 +175,8 @@ pull_shown setting before x l p same old n here chunks =
     let is : step on.pull o ≡ x.step = λ i. record { event = sym p.event i; outcome = sym told i } in
     let pulled = follows_pull n.reading n.body_start body.1 (input_of setting t) t body.0 chunks body.2 f in
     let behind = follows_step m (step on.pull o) t (sym (ap head_of told) ∙ none)
-    (subst (λ b. Follows n.body_start (pulled_upto m o t) b (given_bytes t + step_bytes o) (is_trailers o || gave_trailers t) (gives_up on.pull o || gave_up t))
+    (subst (λ b. Follows n.body_start (pulled_upto m o t) b (given_bytes t + step_bytes o) (is_trailers o || gave_trailers t)
+    (gives_up on.pull o || gave_up t))
     (sym (append-nil (taken t))) pulled) in
     subst₂ (λ q s. FollowsTo q (s ∷ t)) (sym shape) is behind
 
@@ -175,7 +185,8 @@ still_current : (setting : Setting) (before : List ParsedStep) (x : ParsedStep) 
     → step_taken x.step.event x.step.outcome ≡ [] → is_eof x.step.event ≡ false → accepted_limit x.step.event x.step.outcome ≡ None
     → head_of x.step.outcome ≡ None → current (x ∷ before) ≡ current before
 still_current setting before x l none eof unaccepted headless =
-    same_current before x (same_parse setting x before (same_input setting x.step (steps before) none eof unaccepted) l.0 (parsed setting before l.3)) headless
+    same_current before x (same_parse setting x before (same_input setting x.step (steps before) none eof unaccepted) l.0
+    (parsed setting before l.3)) headless
 
 -- each step
 step_shown : (setting : Setting) (before : List ParsedStep) (x : ParsedStep) → Legal setting (x ∷ before) → Shown before → Shown (x ∷ before)
@@ -206,7 +217,8 @@ step_shown setting before x l old =
     ]
 
 -- Behind a legal past it holds of the current message, if its body is in chunks.
-pub follows_past : (setting : Setting) (past : List ParsedStep) → Legal setting past → (m : Message) → current past ≡ Some m → has_chunks m.reading ≡ true
+pub follows_past : (setting : Setting) (past : List ParsedStep) → Legal setting past → (m : Message) → current past ≡ Some m
+    → has_chunks m.reading ≡ true
     → FollowsTo m (steps past)
 follows_past setting [] l = λ m e chunks. absurd (none-some m e)
 follows_past setting (x ∷ before) l = step_shown setting before x l (follows_past setting before l.3)

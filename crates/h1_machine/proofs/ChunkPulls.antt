@@ -42,7 +42,8 @@ pub record IsPullable (trace : List Step) : Type 0 where
   pub unfinished : gave_up trace ≡ false
 
 -- a body in chunks is no WebSocket
-pub chunks_plain : (setting : Setting) (past : List ParsedStep) (m : Message) (h : Head) → Legal setting past → Current setting past m h → h.body ≡ chunked_body
+pub chunks_plain : (setting : Setting) (past : List ParsedStep) (m : Message) (h : Head) → Legal setting past → Current setting past m h
+    → h.body ≡ chunked_body
     → is_upgraded (steps past) ≡ false
 chunks_plain setting past m h l c kind = elim (cases_Bool (is_upgraded (steps past))) [
   | inr plain ↦ plain
@@ -65,6 +66,7 @@ pullable_by trace h plain e x =
       unfinished = not-true (gave_up trace) parts.1;
     }
 
+-- a pull of such a body that is allowed
 pub pullable : (setting : Setting) (before : List ParsedStep) (o : Outcome) (parse : List Message) (m : Message) (h : Head)
     → Legal setting (pull_of o parse ∷ before) → Current setting before m h → h.body ≡ chunked_body → IsPullable (steps before)
 pullable setting before o parse m h l c kind =
@@ -119,13 +121,16 @@ fits_by : (r : Reading) (place : ℕ) (runs : List Run) (i : Input) (a : Chunked
     → chunks.Gives place (pulled_to (of_chunks r place runs i a) trace) (taken trace) (lines_of (of_chunks r place runs i a) trace) a
     (run_left (given_bytes trace) (shifted place runs)) next
     → Fits (of_chunks r place runs i a) trace (left_of (of_chunks r place runs i a) trace)
-fits_by r place runs i a trace (chunk given next behind) in_chunks same x unpassed untold e g = fits_chunk r place runs i a trace given next behind x e g
-fits_by r place runs i a trace (waits next) in_chunks same x unpassed untold e g = fits_wait r place runs i a trace next (has_ended trace) in_chunks same refl e g
+fits_by r place runs i a trace (chunk given next behind) in_chunks same x unpassed untold e g =
+    fits_chunk r place runs i a trace given next behind x e g
+fits_by r place runs i a trace (waits next) in_chunks same x unpassed untold e g =
+    fits_wait r place runs i a trace next (has_ended trace) in_chunks same refl e g
 fits_by r place runs i a trace (ended behind) in_chunks same x unpassed untold e g = fits_end r place runs i a trace behind untold e g.0 g.1
 fits_by r place runs i a trace breaks in_chunks same x unpassed untold e g = fits_breaks r place runs i a trace unpassed e g.0 g.1
 
 -- where the body isn't passed, its trailers weren't given
-unpassed_untold : (r : Reading) (place : ℕ) (runs : List Run) (i : Input) (a : Chunked) (trace : List Step) → IsChunked (drop place (taken trace)) a runs
+unpassed_untold : (r : Reading) (place : ℕ) (runs : List Run) (i : Input) (a : Chunked) (trace : List Step)
+    → IsChunked (drop place (taken trace)) a runs
     → FollowsTo (of_chunks r place runs i a) trace → is_passed (pulled_to (of_chunks r place runs i a) trace) (of_chunks r place runs i a) ≡ false
     → gave_trailers trace ≡ false
 unpassed_untold r place runs i a trace x f unpassed = elim (cases_Bool (gave_trailers trace)) [
@@ -139,10 +144,12 @@ first_holds true b e x = refl
 first_holds false b e x = absurd (true≢false (sym x ∙ e))
 
 -- a message in chunks
-worker : (setting : Setting) (before : List ParsedStep) (o : Outcome) (parse : List Message) (h : Head) (r : Reading) (place : ℕ) (runs : List Run) (a : Chunked)
-    → Legal setting (pull_of o parse ∷ before) → Current setting before (of_chunks r place runs (input_of setting (steps before)) a) h → h.body ≡ chunked_body
+by_parts : (setting : Setting) (before : List ParsedStep) (o : Outcome) (parse : List Message) (h : Head) (r : Reading) (place : ℕ)
+    (runs : List Run) (a : Chunked)
+    → Legal setting (pull_of o parse ∷ before) → Current setting before (of_chunks r place runs (input_of setting (steps before)) a) h
+    → h.body ≡ chunked_body
     → IsChunked (drop place (taken (steps before))) a runs → has_chunks r ≡ true → Changes setting before (pull_of o parse)
-worker setting before o parse h r place runs a l c kind x in_chunks =
+by_parts setting before o parse h r place runs a l c kind x in_chunks =
     let t = steps before in
     let i = input_of setting t in
     let m = of_chunks r place runs i a in
@@ -155,11 +162,13 @@ worker setting before o parse h r place runs a l c kind x in_chunks =
           let whole = passed_done r place runs i bytes a upto x c.holds.before_next is in
           let g = ended_gives r place runs i t a x f whole in
           let told = first_holds (gave_trailers t) (gave_up t) may.unfinished (f.closes whole) in
-          fits_changes setting before o parse m h no_rest l c kind may.incomplete (rest_passed m upto bytes is) (fits_told r place runs i a t told g.0 g.1)
+          fits_changes setting before o parse m h no_rest l c kind may.incomplete (rest_passed m upto bytes is)
+          (fits_told r place runs i a t told g.0 g.1)
       | inr unpassed ↦
           let untold = unpassed_untold r place runs i a t x f unpassed in
           fits_changes setting before o parse m h (left_of m t) l c kind may.incomplete (rest_left m upto bytes unpassed)
-          (fits_by r place runs i a t (coming_of m t) in_chunks refl x unpassed untold refl (gives place upto (given_bytes t) bytes (gave_trailers t) (gave_up t) a runs x f))
+          (fits_by r place runs i a t (coming_of m t) in_chunks refl x unpassed untold refl
+          (gives place upto (given_bytes t) bytes (gave_trailers t) (gave_up t) a runs x f))
     ]
 
 -- a pull with its outcome
@@ -171,7 +180,7 @@ by_outcome setting before o parse l m h c kind =
     let body = subst (λ k. IsBodyOf i k m.body_start m.body) kind c.body in
     let shape : m ≡ of_chunks m.reading m.body_start body.1 i body.0 =
     ap (λ b. record { reading = m.reading; body_start = m.body_start; body = b }) body.3 in
-    worker setting before o parse h m.reading m.body_start body.1 body.0 l (subst (λ q. Current setting before q h) shape c) kind body.2
+    by_parts setting before o parse h m.reading m.body_start body.1 body.0 l (subst (λ q. Current setting before q h) shape c) kind body.2
     (ap has_chunks c.reading ∙ ap is_chunked_kind kind)
 
 -- A pull of a body in chunks.

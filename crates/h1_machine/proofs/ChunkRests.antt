@@ -29,11 +29,14 @@ abbrev pub of_chunks : Reading → ℕ → List Run → Input → Chunked → Me
 of_chunks r place runs i a = in_chunks r place runs (chunked_stop i place a)
 
 -- no stop of an unfinished body is an end
-open_unpassed : (r : Reading) (place : ℕ) (runs : List Run) (is_ended : Bool) (upto : ℕ) → is_passed upto (in_chunks r place runs (open_or_cut is_ended)) ≡ false
+open_unpassed : (r : Reading) (place : ℕ) (runs : List Run) (is_ended : Bool) (upto : ℕ)
+    → is_passed upto (in_chunks r place runs (open_or_cut is_ended)) ≡ false
 open_unpassed r place runs true upto = refl
 open_unpassed r place runs false upto = refl
 
-pub unfinished_unpassed : (r : Reading) (place : ℕ) (runs : List Run) (i : Input) (a : Chunked) (upto : ℕ) → a ≡ unfinished → is_passed upto (of_chunks r place runs i a) ≡ false
+-- an unfinished body is passed by no place
+pub unfinished_unpassed : (r : Reading) (place : ℕ) (runs : List Run) (i : Input) (a : Chunked) (upto : ℕ) → a ≡ unfinished
+    → is_passed upto (of_chunks r place runs i a) ≡ false
 unfinished_unpassed r place runs i a upto e = ap (λ b. is_passed upto (of_chunks r place runs i b)) e ∙ open_unpassed r place runs i.ended upto
 
 -- a place is behind no end
@@ -41,8 +44,10 @@ abbrev pub NotBehind : ℕ → Message → Type 0
 NotBehind upto m = (place : ℕ) → next_start m.body ≡ Some place → upto ≤ place
 
 -- where the body is passed, its text is whole
-pub passed_done : (r : Reading) (place : ℕ) (runs : List Run) (i : Input) (bytes : List ℕ) (a : Chunked) (upto : ℕ) → IsChunked (drop place bytes) a runs
-    → NotBehind upto (of_chunks r place runs i a) → is_passed upto (of_chunks r place runs i a) ≡ true → after start (slice_range bytes place upto) ≡ done
+pub passed_done : (r : Reading) (place : ℕ) (runs : List Run) (i : Input) (bytes : List ℕ) (a : Chunked) (upto : ℕ)
+    → IsChunked (drop place bytes) a runs
+    → NotBehind upto (of_chunks r place runs i a) → is_passed upto (of_chunks r place runs i a) ≡ true
+    → after start (slice_range bytes place upto) ≡ done
 passed_done r place runs i bytes (whole size trailers) upto x before e =
     let least = leb-true (place + size) upto e in
     let most = before (place + size) refl in
@@ -54,8 +59,10 @@ passed_done r place runs i bytes unfinished upto x before e =
 passed_done r place runs i bytes not_chunked upto x before e = absurd (false≢true e)
 
 -- where it isn't done, it isn't passed
-pub not_done_unpassed : (r : Reading) (place : ℕ) (runs : List Run) (i : Input) (bytes : List ℕ) (a : Chunked) (upto : ℕ) → IsChunked (drop place bytes) a runs
-    → NotBehind upto (of_chunks r place runs i a) → (after start (slice_range bytes place upto) ≡ done → ⊥) → is_passed upto (of_chunks r place runs i a) ≡ false
+pub not_done_unpassed : (r : Reading) (place : ℕ) (runs : List Run) (i : Input) (bytes : List ℕ) (a : Chunked) (upto : ℕ)
+    → IsChunked (drop place bytes) a runs
+    → NotBehind upto (of_chunks r place runs i a) → (after start (slice_range bytes place upto) ≡ done → ⊥)
+    → is_passed upto (of_chunks r place runs i a) ≡ false
 not_done_unpassed r place runs i bytes a upto x before not_done = elim (cases_Bool (is_passed upto (of_chunks r place runs i a))) [
   | inl is ↦ absurd (not_done (passed_done r place runs i bytes a upto x before is))
   | inr not ↦ not
@@ -73,7 +80,8 @@ pub behind_whole : (place : ℕ) (bytes front text : List ℕ) (a : Chunked) (be
 behind_whole place bytes front text a behind x = x.behind_is ∙ drop-drop x.size place bytes
 
 -- what comes next where the text is whole
-pub ended_gives : (r : Reading) (place : ℕ) (runs : List Run) (i : Input) (trace : List Step) (a : Chunked) → IsChunked (drop place (taken trace)) a runs
+pub ended_gives : (r : Reading) (place : ℕ) (runs : List Run) (i : Input) (trace : List Step) (a : Chunked)
+    → IsChunked (drop place (taken trace)) a runs
     → FollowsTo (of_chunks r place runs i a) trace
     → after start (slice_range (taken trace) place (pulled_to (of_chunks r place runs i a) trace)) ≡ done
     → Gives place (pulled_to (of_chunks r place runs i a) trace) (taken trace) [] a (run_left (given_bytes trace) (shifted place runs))
@@ -85,7 +93,8 @@ ended_gives r place runs i trace a x f e =
     (gives place upto (given_bytes trace) (taken trace) (gave_trailers trace) (gave_up trace) a runs x f)
 
 -- where the text is whole, the body is passed
-pub done_passed : (r : Reading) (place : ℕ) (runs : List Run) (i : Input) (trace : List Step) (a : Chunked) → IsChunked (drop place (taken trace)) a runs
+pub done_passed : (r : Reading) (place : ℕ) (runs : List Run) (i : Input) (trace : List Step) (a : Chunked)
+    → IsChunked (drop place (taken trace)) a runs
     → FollowsTo (of_chunks r place runs i a) trace
     → after start (slice_range (taken trace) place (pulled_to (of_chunks r place runs i a) trace)) ≡ done
     → is_passed (pulled_to (of_chunks r place runs i a) trace) (of_chunks r place runs i a) ≡ true
@@ -109,7 +118,9 @@ rest_upto m upto bytes =
     cond (is_passed upto m) no_rest
     (chunks_rest (after start (slice_range bytes m.body_start upto)) (read start (slice_range bytes m.body_start upto)).trailers)
 
-pub rest_is : (past : List ParsedStep) (m : Message) (h : Head) (upto : ℕ) (bytes : List ℕ) → h.body ≡ chunked_body → passed past ≡ upto → taken (steps past) ≡ bytes
+-- what the past leaves of it is that
+pub rest_is : (past : List ParsedStep) (m : Message) (h : Head) (upto : ℕ) (bytes : List ℕ) → h.body ≡ chunked_body → passed past ≡ upto
+    → taken (steps past) ≡ bytes
     → is_complete (steps past) ≡ false → rest_of past m h.body ≡ rest_upto m upto bytes
 rest_is past m h upto bytes kind place is open_yet =
     ap (rest_of past m) kind
@@ -117,9 +128,12 @@ rest_is past m h upto bytes kind place is open_yet =
     (chunks_rest (after start (slice_range (is i) m.body_start (place i)))
     (cond (open_yet i) [] (read start (slice_range (is i) m.body_start (place i))).trailers)))
 
+-- nothing is left of one that is passed
 pub rest_passed : (m : Message) (upto : ℕ) (bytes : List ℕ) → is_passed upto m ≡ true → rest_upto m upto bytes ≡ no_rest
 rest_passed m upto bytes e = cond-true (is_passed upto m) _ _ e
 
+-- chunks are left of one that is not
 pub rest_left : (m : Message) (upto : ℕ) (bytes : List ℕ) → is_passed upto m ≡ false
-    → rest_upto m upto bytes ≡ chunks_rest (after start (slice_range bytes m.body_start upto)) (read start (slice_range bytes m.body_start upto)).trailers
+    → rest_upto m upto bytes ≡ chunks_rest (after start (slice_range bytes m.body_start upto))
+    (read start (slice_range bytes m.body_start upto)).trailers
 rest_left m upto bytes e = cond-false (is_passed upto m) _ _ e

@@ -20,6 +20,7 @@ use Rattle.h1_chunks.proofs.Agreement.{read_whole, whole_read, unfinished_read, 
 abbrev pub read_with : List ℕ → List ℕ → Next → Reading
 read_with front text next = joined (read start front) (with_trailers text (says next []))
 
+-- all bytes are read as what comes next behind the front says
 pub read_by_next : (front rest : List ℕ) → (after start front ≡ broken → ⊥)
     → read start (front ++ rest) ≡ read_with front (take_next (after start front) rest).trailers (take_next (after start front) rest).next
 read_by_next front rest unbroken =
@@ -46,16 +47,19 @@ StopsAs bytes front text a (waits next) = a ≡ unfinished
 StopsAs bytes front text a (ended behind) = IsWholeTaken bytes front text a behind
 StopsAs bytes front text a breaks = a ≡ not_chunked
 
--- two endings are one
+-- what has ended does not go on
 ended_open : (behind : List ℕ) → has_ended behind ≡ goes_on → ⊥
 ended_open behind e = cc
 
+-- what is broken does not go on
 broken_open : is_broken ≡ goes_on → ⊥
 broken_open e = cc
 
+-- what has ended is not broken
 ended_broken : (behind : List ℕ) → has_ended behind ≡ is_broken → ⊥
 ended_broken behind e = cc
 
+-- one end has one rest
 behind_same : (a b : List ℕ) → has_ended a ≡ has_ended b → a ≡ b
 behind_same a b e = cc
 
@@ -91,7 +95,8 @@ ended_whole bytes front text behind (whole k trailers) runs x e =
       behind_is = sym (append-nil behind) ∙ behind_same (behind ++ []) (drop k bytes) same;
       section = sym told.1 ∙ ap (λ (r : Reading). r.trailers) e ∙ ap (λ l. (read start front).trailers ++ l) (append-nil text);
       lines = subst (AllByRecursion IsTrailer) (sym x.3) x.2.0.trailers;
-      body = whole_alone bytes k x.0 x.2 ∙ sym (ap (λ (r : Reading). r.body) (read_whole bytes k x.0 x.2)) ∙ ap (λ (r : Reading). r.body) e ∙ append-nil (read start front).body;
+      body = whole_alone bytes k x.0 x.2 ∙ sym (ap (λ (r : Reading). r.body) (read_whole bytes k x.0 x.2)) ∙ ap (λ (r : Reading). r.body) e
+          ∙ append-nil (read start front).body;
       ends = whole_after bytes k trailers runs x;
     }
 ended_whole bytes front text behind unfinished runs x e =

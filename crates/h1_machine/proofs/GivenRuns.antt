@@ -4,7 +4,7 @@ use Rattle.std.proofs.Common.{◌≡◌, ℕ, suc, ◌+◌, ◌-◌, ◌<◌, fa
 use Rattle.std.proofs.lemmas.Bool.{cond-true, cond-false, cases_lt, cases_eq, eq-eqb, ne_eqb}
 use Rattle.h1_chunks.specs.Runs.{Run, cut_runs}
 use Rattle.h1_chunks.specs.Chunked.{Chunked, IsChunked}
-use Rattle.h1_chunks.specs.Place.{Place, in_bytes, bytes_end, in_section, done, broken, start, bytes_step, step, after}
+use Rattle.h1_chunks.specs.Place.{Place, in_bytes, bytes_end, in_section, broken, start, bytes_step, step, after}
 use Rattle.h1_chunks.specs.Reading.{Reading, noted, read}
 use Rattle.h1_chunks.proofs.ReadSteps.{has_next, read-nil, read-cons}
 use Rattle.h1_chunks.proofs.ReadAfter.{after-nil, after-cons, done_stops}
@@ -28,7 +28,8 @@ one_more from to given rs less =
     elim (cases_lt (suc given) (to - from)) [
       | inl here ↦
           let place : from + suc given ≡ from + 1 + given = omega arith in
-          left-within (suc given) long rs here ∙ ap (λ n. Some (record { start = n; end = to })) place ∙ sym (left-within given short rs (omega arith))
+          left-within (suc given) long rs here ∙ ap (λ n. Some (record { start = n; end = to })) place
+          ∙ sym (left-within given short rs (omega arith))
       | inr past ↦
           let count : suc given - (to - from) ≡ given - (to - (from + 1)) = omega arith in
           left-past (suc given) long rs past ∙ ap (λ n. run_left n rs) count ∙ sym (left-past given short rs (omega arith))
@@ -36,7 +37,8 @@ one_more from to given rs less =
 
 -- the runs from a place in a chunk
 chunk_walked : (len place more b : ℕ) (rest : List ℕ) → place < len
-    → walked len place (in_bytes more) (b ∷ rest) ≡ record { start = place; end = min (place + more + 1) len } ∷ cut_runs len (runs_of (place + 1) (bytes_step more) rest)
+    → walked len place (in_bytes more) (b ∷ rest)
+    ≡ record { start = place; end = min (place + more + 1) len } ∷ cut_runs len (runs_of (place + 1) (bytes_step more) rest)
 chunk_walked len place more b rest within =
     ap (λ l. cut_runs len (record { start = place; end = place + more + 1 } ∷ l)) (runs_of-cons place (in_bytes more) b rest)
     ∙ cut_more len (record { start = place; end = place + more + 1 }) (runs_of (place + 1) (bytes_step more) rest) within
@@ -81,7 +83,8 @@ end_given place given b more some =
     ap (λ p. run_left given (cut_runs len (current (place + 1) p ++ runs))) next
     ∙ ap (run_left given) (cut_end len (record { start = place + 1; end = place + 1 + (more - 1) + 1 }) runs (omega arith)) ∙ left-nil given in
     ap (run_left (suc given)) (chunk_walked len place more b [] (omega arith)) ∙ left-past (suc given) last (cut_runs len runs) (omega arith)
-    ∙ ap (run_left (suc given - (min (place + more + 1) len - place))) none ∙ left-nil (suc given - (min (place + more + 1) len - place)) ∙ sym after_all
+    ∙ ap (run_left (suc given - (min (place + more + 1) len - place))) none ∙ left-nil (suc given - (min (place + more + 1) len - place))
+    ∙ sym after_all
 
 -- a byte of a chunk was given
 byte_given : (place given b more : ℕ) (rest : List ℕ)
@@ -113,11 +116,6 @@ left_on place at b front rest =
     ap (λ l. run_left (length l) (walked (place + suc (length rest)) place at (b ∷ rest))) (outside_body at (step at b) b (read (step at b) front) refl)
     ∙ ap (run_left (length (read (step at b) front).body)) (walked_on (place + suc (length rest)) place at b rest refl)
 
--- a place from which bytes lead anywhere but to what is broken isn't behind a body
-not_done_before : (place : Place) (b : ℕ) (bytes : List ℕ) → (after place (b ∷ bytes) ≡ broken → ⊥) → place ≡ done → ⊥
-not_done_before place b bytes unbroken e =
-    unbroken (ap (λ p. after p (b ∷ bytes)) e ∙ done_stops (b ∷ bytes) (omega arith))
-
 -- so many bytes given as a front holds, the run is the next one behind it
 pub left_behind : (front rest : List ℕ) (place : ℕ) (at : Place) → (after at front ≡ broken → ⊥)
     → run_left (length (read at front).body) (walked (place + length (front ++ rest)) place at (front ++ rest))
@@ -128,11 +126,12 @@ left_behind [] rest place at unbroken =
     ∙ (λ i. next_run (here i) (sym (after-nil at) i) rest)
 left_behind (b ∷ front) rest place at unbroken =
     let next = step at b in
-    let unended = not_done_before at b front unbroken in
+    let more = has_next at (λ e. unbroken (ap (λ p. after p (b ∷ front)) e ∙ done_stops (b ∷ front) (omega arith))) in
     let further : after next front ≡ broken → ⊥ = λ e. unbroken (after-cons at b front ∙ e) in
     let size : place + suc (length (front ++ rest)) ≡ place + 1 + length (front ++ rest) = omega arith in
     let behind : place + 1 + length front ≡ place + suc (length front) = omega arith in
-    ap (λ (r : Reading). run_left (length r.body) (walked (place + suc (length (front ++ rest))) place at (b ∷ (front ++ rest)))) (read-cons at b front (has_next at unended))
+    ap (λ (r : Reading). run_left (length r.body) (walked (place + suc (length (front ++ rest))) place at (b ∷ (front ++ rest))))
+    (read-cons at b front more)
     ∙ left_on place at b front (front ++ rest)
     ∙ ap (λ n. run_left (length (read next front).body) (walked n (place + 1) next (front ++ rest))) size
     ∙ left_behind front rest (place + 1) next further
@@ -140,10 +139,12 @@ left_behind (b ∷ front) rest place at unbroken =
 
 -- ---- runs that are counted from a place
 
+-- a run where there is one
 abbrev pub moved_run : ℕ → Option Run → Option Run
 moved_run place None = None
 moved_run place (Some r) = Some (record { start = place + r.start; end = place + r.end })
 
+-- the run of the next byte is counted from there too
 pub left_shifted : (place given : ℕ) (rs : List Run) → run_left given (shifted place rs) ≡ moved_run place (run_left given rs)
 left_shifted place given [] = left-nil given ∙ sym (ap (moved_run place) (left-nil given))
 left_shifted place given (r ∷ rs) =
@@ -160,7 +161,8 @@ left_shifted place given (r ∷ rs) =
     ]
 
 -- The next byte of a body that begins at a place: its run is the next one behind the passed text.
-pub left_of_body : (place : ℕ) (front rest : List ℕ) (a : Chunked) (runs : List Run) → IsChunked (front ++ rest) a runs → (after start front ≡ broken → ⊥)
+pub left_of_body : (place : ℕ) (front rest : List ℕ) (a : Chunked) (runs : List Run) → IsChunked (front ++ rest) a runs
+    → (after start front ≡ broken → ⊥)
     → run_left (length (read start front).body) (shifted place runs) ≡ moved_run place (next_run (length front) (after start front) rest)
 left_of_body place front rest a runs x unbroken =
     let given = length (read start front).body in

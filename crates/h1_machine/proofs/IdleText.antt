@@ -32,34 +32,42 @@ use Rattle.h1_machine.proofs.ChunkOutcomes.{gave_up, FollowsTo, same_follows}
 no_trailers_either : (b : Bool) (o o' : Outcome) → is_trailers o ≡ false → is_trailers o' ≡ false → is_trailers (cond b o o') ≡ false
 no_trailers_either b o o' x y = cond_both b o o' (λ o. is_trailers o ≡ false) (λ _. x) (λ _. y)
 
+-- a head or its fault
 head_no_trailers : (r : Reading) → is_trailers (head_outcome r) ≡ false
 head_no_trailers (head_is h) = refl
 head_no_trailers (faulty fault) = refl
 
+-- what a call for a head answers while the connection is open
 upcoming_no_trailers : (setting : Setting) (past : List ParsedStep) (m : Option Message) → is_trailers (upcoming_outcome setting past m) ≡ false
 upcoming_no_trailers setting past (Some m) = head_no_trailers m.reading
 upcoming_no_trailers setting past None = no_trailers_either (held past == setting.hold_size) (on.fault too_large) on.pending refl refl
 
+-- what it answers at any time
 next_no_trailers : (setting : Setting) (past : List ParsedStep) (end : Option End) → is_trailers (next_outcome setting past end) ≡ false
 next_no_trailers setting past (Some end) = refl
 next_no_trailers setting past None = upcoming_no_trailers setting past (upcoming past)
 
-tick_no_trailers : (setting : Setting) (past : List ParsedStep) (end : Option End) (first ms : ℕ) → is_trailers (tick_outcome setting past end first ms) ≡ false
+-- what a tick answers
+tick_no_trailers : (setting : Setting) (past : List ParsedStep) (end : Option End) (first ms : ℕ)
+    → is_trailers (tick_outcome setting past end first ms) ≡ false
 tick_no_trailers setting past (Some end) first ms = no_trailers_either (is_abandoned setting past first ms) on.abandoned on.done refl refl
 tick_no_trailers setting past None first ms =
     no_trailers_either (is_slow setting past first ms) (on.expired ends.slow_request) _ refl
     (no_trailers_either (is_idle setting past first ms) (on.expired ends.keep_alive_expired) on.done refl refl)
 
+-- what an acceptance answers
 accept_no_trailers : (error : Option HandshakeError) → is_trailers (unwrap_or (option_map on.refused error) on.done) ≡ false
 accept_no_trailers None = refl
 accept_no_trailers (Some error) = refl
 
+-- what a message that is sent answers
 send_no_trailers : (error : Option ProtocolError) → is_trailers (send_outcome error) ≡ false
 send_no_trailers None = refl
 send_no_trailers (Some error) = refl
 
 -- no other event does
-pub only_pulls_give_trailers : (setting : Setting) (past : List ParsedStep) (e : Event) → is_pull e ≡ false → is_trailers (outcome_of setting past e) ≡ false
+pub only_pulls_give_trailers : (setting : Setting) (past : List ParsedStep) (e : Event) → is_pull e ≡ false
+    → is_trailers (outcome_of setting past e) ≡ false
 unfolding outcome_of
 only_pulls_give_trailers setting past on.next none = next_no_trailers setting past (closing setting past)
 only_pulls_give_trailers setting past on.pull none = absurd (true≢false none)
@@ -102,7 +110,8 @@ follows_idle m s trace idle none f =
     let given : given_bytes trace ≡ given_bytes (s ∷ trace) = omega (arith, given_bytes-more s trace idle.head, idle.bytes) in
     let told : gave_trailers (s ∷ trace) ≡ gave_trailers trace =
     ap (list_any (λ s. is_trailers s.outcome)) since ∙ ap (λ b. b || gave_trailers trace) none in
-    same_follows m.body_start (pulled_to m trace) (pulled_to m (s ∷ trace)) (taken trace ++ more) (taken (s ∷ trace)) (given_bytes trace) (given_bytes (s ∷ trace))
+    same_follows m.body_start (pulled_to m trace) (pulled_to m (s ∷ trace)) (taken trace ++ more) (taken (s ∷ trace))
+    (given_bytes trace) (given_bytes (s ∷ trace))
     (gave_trailers trace) (gave_trailers (s ∷ trace)) (up || gave_up trace) (gave_up (s ∷ trace))
     (sym (idle_pulled m s trace idle)) (sym (taken-cons s trace)) given (sym told)
     (sym (ap (list_any (λ s. gives_up s.event s.outcome)) since))

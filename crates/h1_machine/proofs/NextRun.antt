@@ -8,7 +8,7 @@ use Rattle.h1_chunks.specs.Runs.{Run, cut_runs}
 use Rattle.h1_chunks.specs.Place.{InLine, Place, in_bytes, bytes_end, in_section, done, broken, bytes_step, step, after}
 use Rattle.h1_chunks.specs.Reading.{Ending, only, with_bytes, with_trailers, noted, at_end, read}
 use Rattle.h1_chunks.specs.TakeNext.{Next, chunk, waits, ended, breaks, Taken, of_chunk, noted_line, stops_at, take_next, says}
-use Rattle.h1_chunks.proofs.ReadSteps.{has_next, read-nil, read-cons}
+use Rattle.h1_chunks.proofs.ReadSteps.{HasNext, read-nil, read-cons}
 use Rattle.h1_chunks.proofs.ReadAfter.{after-nil, after-cons}
 use Rattle.h1_chunks.proofs.Complete.{bytes_read}
 use Rattle.h1_chunks.proofs.TakenReads.{taken_is_read}
@@ -36,7 +36,8 @@ left-nil given = refl
 
 -- A chunk as it was taken: the part of the bytes in which it stands, which is the run; the place behind it, and what
 -- is read up to there.
-pub record IsChunkTaken (place : ℕ) (at : Place) (bytes text : List ℕ) (run : Option Run) (given : List ℕ) (next : Place) (behind : List ℕ) : Type 0 where
+pub record IsChunkTaken (place : ℕ) (at : Place) (bytes text : List ℕ) (run : Option Run) (given : List ℕ) (next : Place) (behind : List ℕ)
+    : Type 0 where
   pub from : ℕ
   pub size : ℕ
   pub run_is : run ≡ Some (record { start = place + from; end = place + size })
@@ -58,12 +59,15 @@ TakesNext place at bytes text run breaks = run ≡ None
 -- ---- one byte outside of a chunk
 
 -- the runs from there on are those from the next place on
-pub walked_on : (len place : ℕ) (at : Place) (b : ℕ) (bytes : List ℕ) → in_chunk at ≡ false → walked len place at (b ∷ bytes) ≡ walked len (place + 1) (step at b) bytes
+pub walked_on : (len place : ℕ) (at : Place) (b : ℕ) (bytes : List ℕ) → in_chunk at ≡ false
+    → walked len place at (b ∷ bytes) ≡ walked len (place + 1) (step at b) bytes
 walked_on len place (in_bytes more) b bytes outside = cc
 walked_on len place at b bytes outside =
     ap (cut_runs len) (runs_of-cons place at b bytes ∙ ap (λ l. l ++ runs_of (place + 1) (step at b) bytes) (opened_is_current place at b refl))
 
-next_on : (place : ℕ) (at : Place) (b : ℕ) (bytes : List ℕ) → in_chunk at ≡ false → next_run (place + 1) (step at b) bytes ≡ next_run place at (b ∷ bytes)
+-- so is the first of them
+next_on : (place : ℕ) (at : Place) (b : ℕ) (bytes : List ℕ) → in_chunk at ≡ false
+    → next_run (place + 1) (step at b) bytes ≡ next_run place at (b ∷ bytes)
 next_on place at b bytes outside =
     let len : place + 1 + length bytes ≡ place + suc (length bytes) = omega arith in
     ap (λ n. run_left 0 (walked n (place + 1) (step at b) bytes)) len
@@ -76,9 +80,9 @@ NotesAlike at b text text' = (body : List ℕ) (ending : Ending)
 
 -- a chunk behind that byte
 chunk_on : (place : ℕ) (at : Place) (b : ℕ) (bytes text text' : List ℕ) (run : Option Run) (given : List ℕ) (next : Place) (behind : List ℕ)
-    → (at ≡ done → ⊥) → NotesAlike at b text text'
+    → HasNext at → NotesAlike at b text text'
     → IsChunkTaken (place + 1) (step at b) bytes text run given next behind → IsChunkTaken place at (b ∷ bytes) text' run given next behind
-chunk_on place at b bytes text text' run given next behind unended alike x =
+chunk_on place at b bytes text text' run given next behind more alike x =
     let start : place + 1 + x.from ≡ place + suc x.from = omega arith in
     let end : place + 1 + x.size ≡ place + suc x.size = omega arith in
     let count : x.size - x.from ≡ suc x.size - suc x.from = omega arith in
@@ -94,33 +98,34 @@ chunk_on place at b bytes text text' run given next behind unended alike x =
       next_is = x.next_is ∙ sym (after-cons at b (take x.size bytes));
       lives = x.lives;
       behind_is = x.behind_is;
-      reads = read-cons at b (take x.size bytes) (has_next at unended) ∙ ap (noted at (step at b) b) x.reads ∙ alike given (at_end next);
+      reads = read-cons at b (take x.size bytes) more ∙ ap (noted at (step at b) b) x.reads ∙ alike given (at_end next);
     }
 
 -- anything behind it
 taken_on : (place : ℕ) (at : Place) (b : ℕ) (bytes text text' : List ℕ) (run : Option Run) (next : Next)
-    → (at ≡ done → ⊥) → NotesAlike at b text text'
+    → HasNext at → NotesAlike at b text text'
     → TakesNext (place + 1) (step at b) bytes text run next → TakesNext place at (b ∷ bytes) text' run next
-taken_on place at b bytes text text' run (chunk given next behind) unended alike x =
-    chunk_on place at b bytes text text' run given next behind unended alike x
-taken_on place at b bytes text text' run (waits next) unended alike x = (x.0, x.1 ∙ sym (after-cons at b bytes), x.2)
-taken_on place at b bytes text text' run (ended behind) unended alike x = x
-taken_on place at b bytes text text' run breaks unended alike x = x
+taken_on place at b bytes text text' run (chunk given next behind) more alike x =
+    chunk_on place at b bytes text text' run given next behind more alike x
+taken_on place at b bytes text text' run (waits next) more alike x = (x.0, x.1 ∙ sym (after-cons at b bytes), x.2)
+taken_on place at b bytes text text' run (ended behind) more alike x = x
+taken_on place at b bytes text text' run breaks more alike x = x
 
 -- a byte of a trailer line changes nothing but the text
 line_on : (place : ℕ) (at : InLine) (lines room : ℕ) (q : Place) (b : ℕ) (bytes : List ℕ) (t : Taken) (run : Option Run)
     → step (in_section at lines room) b ≡ q → TakesNext (place + 1) q bytes t.trailers run t.next
-    → TakesNext place (in_section at lines room) (b ∷ bytes) (noted_line (in_section at lines room) q b t).trailers run (noted_line (in_section at lines room) q b t).next
+    → TakesNext place (in_section at lines room) (b ∷ bytes) (noted_line (in_section at lines room) q b t).trailers run
+    (noted_line (in_section at lines room) q b t).next
 line_on place at lines room (in_section at' lines' room') b bytes t run e x =
     let here = subst (λ q. TakesNext (place + 1) q bytes t.trailers run t.next) (sym e) x in
     let alike : NotesAlike (in_section at lines room) b t.trailers (b ∷ t.trailers) = λ body ending.
     ap (λ q. noted (in_section at lines room) q b (with_trailers t.trailers (with_bytes body (only ending)))) e in
-    taken_on place (in_section at lines room) b bytes t.trailers (b ∷ t.trailers) run t.next (λ d. cc) alike here
+    taken_on place (in_section at lines room) b bytes t.trailers (b ∷ t.trailers) run t.next tt alike here
 line_on place at lines room q b bytes t run e x =
     let here = subst (λ q. TakesNext (place + 1) q bytes t.trailers run t.next) (sym e) x in
     let alike : NotesAlike (in_section at lines room) b t.trailers t.trailers = λ body ending.
     ap (λ q. noted (in_section at lines room) q b (with_trailers t.trailers (with_bytes body (only ending)))) e in
-    taken_on place (in_section at lines room) b bytes t.trailers t.trailers run t.next (λ d. cc) alike here
+    taken_on place (in_section at lines room) b bytes t.trailers t.trailers run t.next tt alike here
 
 -- ---- bytes of a chunk
 
@@ -128,7 +133,8 @@ line_on place at lines room q b bytes t run e x =
 after_all : (bytes : List ℕ) (more : ℕ) → length bytes ≡ more + 1 → after (in_bytes more) bytes ≡ bytes_end
 after_all [] more e = absurd (omega arith)
 after_all (b ∷ []) more e =
-    after-cons (in_bytes more) b [] ∙ after-nil (bytes_step more) ∙ cond-true (eqb more 0) bytes_end (in_bytes (more - 1)) (eq-eqb more 0 (omega arith))
+    after-cons (in_bytes more) b [] ∙ after-nil (bytes_step more)
+    ∙ cond-true (eqb more 0) bytes_end (in_bytes (more - 1)) (eq-eqb more 0 (omega arith))
 after_all (b ∷ c ∷ bytes) more e =
     after-cons (in_bytes more) b (c ∷ bytes)
     ∙ ap (λ p. after p (c ∷ bytes)) (cond-false (eqb more 0) bytes_end (in_bytes (more - 1)) (ne_eqb more 0 (omega arith)))
@@ -150,12 +156,14 @@ chunk_run place more size b bytes e =
     let len = place + suc (length bytes) in
     let end : min (place + more + 1) len ≡ place + size = omega arith in
     ap (run_left 0) (cut_more len (record { start = place; end = place + more + 1 }) (runs_of place (in_bytes more) (b ∷ bytes)) (omega arith))
-    ∙ left-within 0 (record { start = place; end = min (place + more + 1) len }) (cut_runs len (runs_of place (in_bytes more) (b ∷ bytes))) (omega arith)
+    ∙ left-within 0 (record { start = place; end = min (place + more + 1) len })
+    (cut_runs len (runs_of place (in_bytes more) (b ∷ bytes))) (omega arith)
     ∙ ap (λ n. Some (record { start = place + 0; end = n })) end
 
 -- all bytes of the chunk are there
 chunk_all : (place more b : ℕ) (bytes : List ℕ) → more < suc (length bytes)
-    → IsChunkTaken place (in_bytes more) (b ∷ bytes) [] (next_run place (in_bytes more) (b ∷ bytes)) (take (more + 1) (b ∷ bytes)) bytes_end (drop (more + 1) (b ∷ bytes))
+    → IsChunkTaken place (in_bytes more) (b ∷ bytes) [] (next_run place (in_bytes more) (b ∷ bytes))
+    (take (more + 1) (b ∷ bytes)) bytes_end (drop (more + 1) (b ∷ bytes))
 chunk_all place more b bytes fits =
     let front = take (more + 1) (b ∷ bytes) in
     let size : length front ≡ more + 1 = omega (arith, length-take (more + 1) (b ∷ bytes)) in
@@ -181,12 +189,14 @@ some_read more b bytes past =
     let all = b ∷ bytes in
     let part : Next = chunk all (in_bytes (more - suc (length bytes))) [] in
     ap (read (in_bytes more)) (sym (append-nil all)) ∙ taken_is_read all (in_bytes more) []
-    ∙ ap (λ (n : Next). says n []) (cond-false (ltb more (suc (length bytes))) (chunk (take (more + 1) all) bytes_end (drop (more + 1) all)) part (le-ltb more (suc (length bytes)) past))
+    ∙ ap (λ (n : Next). says n []) (cond-false (ltb more (suc (length bytes)))
+    (chunk (take (more + 1) all) bytes_end (drop (more + 1) all)) part (le-ltb more (suc (length bytes)) past))
     ∙ ap (with_bytes all) (read-nil (in_bytes (more - suc (length bytes))))
 
 -- some of its bytes are there
 chunk_some : (place more b : ℕ) (bytes : List ℕ) → suc (length bytes) ≤ more
-    → IsChunkTaken place (in_bytes more) (b ∷ bytes) [] (next_run place (in_bytes more) (b ∷ bytes)) (b ∷ bytes) (in_bytes (more - suc (length bytes))) []
+    → IsChunkTaken place (in_bytes more) (b ∷ bytes) [] (next_run place (in_bytes more) (b ∷ bytes))
+    (b ∷ bytes) (in_bytes (more - suc (length bytes))) []
 chunk_some place more b bytes past =
     let all = b ∷ bytes in
     let size = suc (length bytes) in
@@ -211,11 +221,13 @@ chunk_taken : (place more b : ℕ) (bytes : List ℕ)
 chunk_taken place more b bytes = elim (cases_lt more (suc (length bytes))) [
   | inl fits ↦
       subst (TakesNext place (in_bytes more) (b ∷ bytes) [] (next_run place (in_bytes more) (b ∷ bytes)))
-      (sym (cond-true (ltb more (suc (length bytes))) _ (chunk (b ∷ bytes) (in_bytes (more - suc (length bytes))) []) (lt-ltb more (suc (length bytes)) fits)))
+      (sym (cond-true (ltb more (suc (length bytes))) _ (chunk (b ∷ bytes) (in_bytes (more - suc (length bytes))) [])
+      (lt-ltb more (suc (length bytes)) fits)))
       (chunk_all place more b bytes fits)
   | inr past ↦
       subst (TakesNext place (in_bytes more) (b ∷ bytes) [] (next_run place (in_bytes more) (b ∷ bytes)))
-      (sym (cond-false (ltb more (suc (length bytes))) (chunk (take (more + 1) (b ∷ bytes)) bytes_end (drop (more + 1) (b ∷ bytes))) _ (le-ltb more (suc (length bytes)) past)))
+      (sym (cond-false (ltb more (suc (length bytes)))
+      (chunk (take (more + 1) (b ∷ bytes)) bytes_end (drop (more + 1) (b ∷ bytes))) _ (le-ltb more (suc (length bytes)) past)))
       (chunk_some place more b bytes past)
 ]
 
@@ -224,7 +236,8 @@ chunk_taken place more b bytes = elim (cases_lt more (suc (length bytes))) [
 -- no run is left where no byte is
 nothing_left : (place : ℕ) (at : Place) → next_run place at [] ≡ None
 nothing_left place (in_bytes more) =
-    ap (run_left 0) (cut_end (place + 0) (record { start = place; end = place + more + 1 }) (runs_of place (in_bytes more) []) (omega arith)) ∙ left-nil 0
+    ap (run_left 0) (cut_end (place + 0) (record { start = place; end = place + more + 1 }) (runs_of place (in_bytes more) []) (omega arith))
+    ∙ left-nil 0
 nothing_left place at = ap (λ l. run_left 0 (cut_runs (place + 0) l)) (runs_of-nil place at) ∙ ap (run_left 0) (cut_nil (place + 0)) ∙ left-nil 0
 
 -- nor behind the body's end, or where it is broken
@@ -232,6 +245,7 @@ late_left : (place : ℕ) (at : Place) (bytes : List ℕ) → current place at +
 late_left place at bytes none =
     ap (λ l. run_left 0 (cut_runs (place + length bytes) l)) none ∙ ap (run_left 0) (cut_nil (place + length bytes)) ∙ left-nil 0
 
+-- what is taken of no byte
 nothing_taken : (place : ℕ) (at : Place) → TakesNext place at [] [] (next_run place at []) (stops_at at)
 nothing_taken place done = nothing_left place done
 nothing_taken place broken = nothing_left place broken
@@ -253,5 +267,6 @@ next_taken (b ∷ bytes) place (in_section at lines room) =
     (next_on place (in_section at lines room) b bytes refl) (next_taken bytes (place + 1) q))
 next_taken (b ∷ bytes) place at =
     let t = take_next (step at b) bytes in
-    taken_on place at b bytes t.trailers t.trailers (next_run place at (b ∷ bytes)) t.next (λ e. cc) (λ body ending. refl)
-    (subst (λ run. TakesNext (place + 1) (step at b) bytes t.trailers run t.next) (next_on place at b bytes refl) (next_taken bytes (place + 1) (step at b)))
+    taken_on place at b bytes t.trailers t.trailers (next_run place at (b ∷ bytes)) t.next tt (λ body ending. refl)
+    (subst (λ run. TakesNext (place + 1) (step at b) bytes t.trailers run t.next)
+    (next_on place at b bytes refl) (next_taken bytes (place + 1) (step at b)))
