@@ -40,6 +40,7 @@ pub mod ChunkPast
 pub mod ChunkPulls
 pub mod Coming
 pub mod EofChanges
+pub mod KeptBounds
 pub mod Kernel
 pub mod NewRest
 pub mod NextHeads
@@ -53,4 +54,3 @@ pub mod ReadChanges
 pub mod TickChanges
 pub mod TableSteps
 pub mod Stands
-pub mod KeptBounds
