@@ -6,7 +6,7 @@ use Rattle.h1_chunks.specs.ChunkedText.{Trailer, ChunkedText, section_text, cont
 use Rattle.h1_chunks.specs.Runs.{Run, segment_runs, cut_runs, run_bytes}
 use Rattle.h1_chunks.specs.Chunked.{Chunked, whole, unfinished, not_chunked, Spells, IsLongestBeginning, IsChunked}
 use Rattle.h1_chunks.specs.Place.{Place, in_bytes, bytes_end, in_section, broken, start, bytes_step, step, after}
-use Rattle.h1_chunks.specs.Reading.{goes_on, is_broken, has_ended, Reading, only, noted, read}
+use Rattle.h1_chunks.specs.Reading.{goes_on, is_broken, ends_before, Reading, only, noted, read}
 use Rattle.h1_chunks.proofs.ReadSteps.{has_next, read-cons, read_broken}
 use Rattle.h1_chunks.proofs.ReadAfter.{after-nil, after-cons, after-append, read-append, joined, ending_after}
 use Rattle.h1_chunks.proofs.RunPlaces.{runs_of}
@@ -18,13 +18,13 @@ use Rattle.h1_chunks.proofs.Verdicts.{IsLive, live_end, begins_live, unfinished_
 
 -- what is read where a front of the bytes is a whole body
 pub read_whole : (bytes : List ℕ) (k : ℕ) (t : ChunkedText) → Spells (take k bytes) t
-    → read start bytes ≡ record { body = content t; trailers = section_text t.trailers; ending = has_ended (drop k bytes) }
+    → read start bytes ≡ record { body = content t; trailers = section_text t.trailers; ending = ends_before (drop k bytes) }
 read_whole bytes k t x =
     ap (read start) (sym (take-append-drop k bytes)) ∙ front_read (take k bytes) (drop k bytes) t x
 
 -- a whole body's end and trailers
 pub whole_read : (bytes : List ℕ) (k : ℕ) (trailers : List Trailer) (runs : List Run) → IsChunked bytes (whole k trailers) runs
-    → ((read start bytes).ending ≡ has_ended (drop k bytes)) × ((read start bytes).trailers ≡ section_text trailers)
+    → ((read start bytes).ending ≡ ends_before (drop k bytes)) × ((read start bytes).trailers ≡ section_text trailers)
 whole_read bytes k trailers runs x =
     let r = read_whole bytes k x.0 x.2 in
     (ap (λ (r : Reading). r.ending) r, ap (λ (r : Reading). r.trailers) r ∙ ap section_text (sym x.3))

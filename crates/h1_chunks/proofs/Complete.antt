@@ -5,7 +5,7 @@ use Rattle.std.proofs.lemmas.Bool.{ne_eqb, eq-eqb, cond-true, cond-false}
 use Rattle.httparse.specs.Ascii.{crlf_bytes}
 use Rattle.h1_chunks.specs.ChunkedText.{Segment, IsSegment, segment_text, section_text, ChunkedText, chunked_text, IsChunkedText, content}
 use Rattle.h1_chunks.specs.Place.{in_bytes, bytes_end, bytes_cr, start, after_line}
-use Rattle.h1_chunks.specs.Reading.{has_ended, with_bytes, read}
+use Rattle.h1_chunks.specs.Reading.{ends_before, with_bytes, read}
 use Rattle.h1_chunks.proofs.ReadSteps.{read_quiet, read_body_byte, with_bytes-append}
 use Rattle.h1_chunks.proofs.SizeLines.{size_line_read}
 use Rattle.h1_chunks.proofs.TrailerLines.{section_read}
@@ -54,12 +54,12 @@ segments_read (s ∷ segments) rest ok =
 
 -- the text of a body is read as its bytes, its trailers and its end
 pub text_read : (t : ChunkedText) (rest : List ℕ) → IsChunkedText t
-    → read start (chunked_text t ++ rest) ≡ record { body = content t; trailers = section_text t.trailers; ending = has_ended rest }
+    → read start (chunked_text t ++ rest) ≡ record { body = content t; trailers = section_text t.trailers; ending = ends_before rest }
 text_read t rest ok =
     let behind = section_text t.trailers ++ (crlf_bytes ++ rest) in
     let regrouped : chunked_text t ++ rest ≡ flat_map segment_text t.segments ++ (t.last ++ behind) = simp append_assoc in
     ap (read start) regrouped
     ∙ segments_read t.segments (t.last ++ behind) ok.segments
     ∙ ap (with_bytes (content t)) (size_line_read t.last 0 behind ok.last ∙ section_read t.trailers rest ok.trailers ok.lines ok.room)
-    ∙ ap₂ (λ (b s : List ℕ). record { body = b; trailers = s; ending = has_ended rest }) (append-nil (content t))
+    ∙ ap₂ (λ (b s : List ℕ). record { body = b; trailers = s; ending = ends_before rest }) (append-nil (content t))
     (append-nil (section_text t.trailers))

@@ -4,7 +4,7 @@ use Rattle.std.proofs.lemmas.List.{take-append-le, take-take, take_all, take_at,
 use Rattle.std.proofs.lemmas.Bool.{cases_lt, cases_order}
 use Rattle.h1_chunks.specs.ChunkedText.{Trailer, ChunkedText}
 use Rattle.h1_chunks.specs.Runs.{Run, segment_runs, cut_runs}
-use Rattle.h1_chunks.specs.Chunked.{Chunked, whole, unfinished, not_chunked, Spells, Begins, IsLongestBeginning, IsChunked}
+use Rattle.h1_chunks.specs.Chunked.{Chunked, whole, unfinished, not_chunked, Spells, IsBeginning, IsLongestBeginning, IsChunked}
 use Rattle.h1_chunks.specs.Place.{start}
 use Rattle.h1_chunks.specs.Reading.{Reading}
 use Rattle.h1_chunks.proofs.Trailers.{section_tells}
@@ -38,9 +38,9 @@ same_front bytes j k t u x y = elim (cases_order j k) [
 ]
 
 -- bytes that begin a body have no longest beginning before their end
-no_longest : (bytes : List ℕ) (t u : ChunkedText) (n : ℕ) → Begins bytes t → IsLongestBeginning bytes n u → ⊥
+no_longest : (bytes : List ℕ) (t u : ChunkedText) (n : ℕ) → IsBeginning bytes t → IsLongestBeginning bytes n u → ⊥
 no_longest bytes t u n x y =
-    y.longest (length bytes) y.within (omega arith) t (subst (λ l. Begins l t) (sym (take_all (length bytes) bytes (omega arith))) x)
+    y.longest (length bytes) y.within (omega arith) t (subst (λ l. IsBeginning l t) (sym (take_all (length bytes) bytes (omega arith))) x)
 
 -- two whole bodies at the front of the bytes
 whole_unique : (bytes : List ℕ) (j k : ℕ) (a b : List Trailer) (runs runs' : List Run) → IsChunked bytes (whole j a) runs
@@ -85,11 +85,11 @@ whole_stays bytes more k trailers runs x =
     (x.0, omega (arith, x.1, length-append bytes more), subst (λ l. Spells l x.0) (sym (take-append-le k bytes more x.1)) x.2, x.3, x.4)
 
 -- a front of the bytes is a front of the longer text
-begins_shorter : (bytes more : List ℕ) (n : ℕ) (t : ChunkedText) → n ≤ length bytes → Begins (take n (bytes ++ more)) t → Begins (take n bytes) t
-begins_shorter bytes more n t within x = subst (λ l. Begins l t) (take-append-le n bytes more within) x
+begins_shorter : (bytes more : List ℕ) (n : ℕ) (t : ChunkedText) → n ≤ length bytes → IsBeginning (take n (bytes ++ more)) t → IsBeginning (take n bytes) t
+begins_shorter bytes more n t within x = subst (λ l. IsBeginning l t) (take-append-le n bytes more within) x
 
 -- the longer text has no longer beginning
-longest_stays : (bytes more : List ℕ) (len n : ℕ) (t u : ChunkedText) → IsLongestBeginning bytes len t → len < n → Begins (take n (bytes ++ more)) u
+longest_stays : (bytes more : List ℕ) (len n : ℕ) (t u : ChunkedText) → IsLongestBeginning bytes len t → len < n → IsBeginning (take n (bytes ++ more)) u
     → ⊥
 longest_stays bytes more len n t u x longer y = elim (cases_lt (length bytes) n) [
   | inl past ↦
@@ -106,7 +106,7 @@ no_whole_longer bytes more len k t u x none some y = elim (cases_lt (length byte
       let text = take k (bytes ++ more) in
       let longer : length bytes < length text = omega (arith, length-take k (bytes ++ more), length-append bytes more) in
       let front = take-take (length bytes) k (bytes ++ more) (omega arith) in
-      let begun = subst (λ l. Begins l u) front (spells_begins (length bytes) text u longer y) in
+      let begun = subst (λ l. IsBeginning l u) front (spells_begins (length bytes) text u longer y) in
       longest_stays bytes more len (length bytes) t u x x.within begun
   | inr within ↦ none k u (subst (λ l. Spells l u) (take-append-le k bytes more within) y)
 ]
@@ -128,7 +128,7 @@ broken_stays bytes more runs x = (
   x.1,
   record {
     within = omega (arith, length-append bytes more, x.2.within);
-    begins = subst (λ l. Begins l x.0) (sym (take-append-le x.1 bytes more (omega (arith, x.2.within)))) x.2.begins;
+    begins = subst (λ l. IsBeginning l x.0) (sym (take-append-le x.1 bytes more (omega (arith, x.2.within)))) x.2.begins;
     longest = λ n longer _ c. longest_stays bytes more x.1 n x.0 c x.2 longer;
   },
   λ k c. no_whole_stays bytes more x.1 k x.0 c x.2 x.3,
@@ -138,11 +138,11 @@ broken_stays bytes more runs x = (
 -- ---- runs when bytes follow
 
 -- bytes at the front of a text, as a beginning
-front_begins : (bytes more : List ℕ) (t : ChunkedText) → Begins (take (length bytes) (bytes ++ more)) t → Begins bytes t
-front_begins bytes more t x = subst (λ l. Begins l t) (take_at bytes more (length bytes) refl) x
+front_begins : (bytes more : List ℕ) (t : ChunkedText) → IsBeginning (take (length bytes) (bytes ++ more)) t → IsBeginning bytes t
+front_begins bytes more t x = subst (λ l. IsBeginning l t) (take_at bytes more (length bytes) refl) x
 
 -- a body that is whole in the longer text ends behind the beginning
-ends_later : (bytes more : List ℕ) (k : ℕ) (t u : ChunkedText) → Begins bytes t → Spells (take k (bytes ++ more)) u → length bytes < k
+ends_later : (bytes more : List ℕ) (k : ℕ) (t u : ChunkedText) → IsBeginning bytes t → Spells (take k (bytes ++ more)) u → length bytes < k
 ends_later bytes more k t u x y = elim (cases_lt (length bytes) k) [
   | inl later ↦ later
   | inr within ↦
@@ -151,16 +151,16 @@ ends_later bytes more k t u x y = elim (cases_lt (length bytes) k) [
 ]
 
 -- a longest beginning of the longer text is no shorter than the bytes
-reaches : (bytes more : List ℕ) (len : ℕ) (t u : ChunkedText) → Begins bytes t → IsLongestBeginning (bytes ++ more) len u → length bytes ≤ len
+reaches : (bytes more : List ℕ) (len : ℕ) (t u : ChunkedText) → IsBeginning bytes t → IsLongestBeginning (bytes ++ more) len u → length bytes ≤ len
 reaches bytes more len t u x y = elim (cases_lt len (length bytes)) [
   | inl short ↦
-      let begun = subst (λ l. Begins l t) (sym (take_at bytes more (length bytes) refl)) x in
+      let begun = subst (λ l. IsBeginning l t) (sym (take_at bytes more (length bytes) refl)) x in
       absurd (y.longest (length bytes) short (omega (arith, length-append bytes more)) t begun)
   | inr long ↦ long
 ]
 
 -- the runs of two bodies that the bytes begin
-same_runs : (bytes : List ℕ) (t u : ChunkedText) → Begins bytes t → Begins bytes u
+same_runs : (bytes : List ℕ) (t u : ChunkedText) → IsBeginning bytes t → IsBeginning bytes u
     → cut_runs (length bytes) (segment_runs 0 t.segments) ≡ cut_runs (length bytes) (segment_runs 0 u.segments)
 same_runs bytes t u x y = begins_runs bytes t x ∙ sym (begins_runs bytes u y)
 

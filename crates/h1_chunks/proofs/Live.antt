@@ -5,9 +5,9 @@ use Rattle.std.proofs.lemmas.Bool.{cond-true, cond-false, cond_both, ltb-true, l
 use Rattle.std.specs.Char.{digit_value}
 use Rattle.httparse.specs.Grammar.{is_ows, is_value_byte, is_token_byte}
 use Rattle.h1_chunks.specs.ChunkedText.{ChunkedText}
-use Rattle.h1_chunks.specs.Chunked.{Begins}
-use Rattle.h1_chunks.specs.Place.{InLine, Place, in_size, in_blanks, in_extension, size_cr, in_bytes, bytes_end, bytes_cr, in_section, end_cr, done, broken, line_start, in_name, in_value, line_cr, start, section_start, expect, after_digits, size_step, extension_step, after_line, bytes_step, needs, kept, section_step, step}
-use Rattle.h1_chunks.specs.Reading.{goes_on, has_ended, Reading, at_end, read}
+use Rattle.h1_chunks.specs.Chunked.{IsBeginning}
+use Rattle.h1_chunks.specs.Place.{InLine, Place, in_size, in_blanks, in_extension, size_cr, in_bytes, bytes_end, bytes_cr, in_section, end_cr, done, broken, line_start, in_name, in_value, line_cr, start, section_start, expect, after_digits, size_step, extension_step, after_line, bytes_step, needs, with_room, section_step, step}
+use Rattle.h1_chunks.specs.Reading.{goes_on, ends_before, Reading, at_end, read}
 use Rattle.h1_chunks.proofs.ReadSteps.{HasNext, read-nil, read_done, ending-cons}
 use Rattle.h1_chunks.proofs.Sound.{ended_is_text}
 
@@ -17,7 +17,7 @@ Fits (in_section at lines room) = needs at ≤ room
 Fits place = ⊤
 
 -- it is where a byte of the section is kept
-fits_kept : (to : InLine) (lines room : ℕ) → Fits (kept to lines room)
+fits_kept : (to : InLine) (lines room : ℕ) → Fits (with_room to lines room)
 fits_kept to lines room =
     cond_both (ltb (needs to) room) (in_section to lines (room - 1)) broken Fits
     (λ e. let below : needs to < room = ltb-true (needs to) room e in
@@ -58,18 +58,18 @@ fits_bytes more = cond_both (eqb more 0) bytes_end (in_bytes (more - 1)) Fits (�
 -- in a trailer section
 fits_section : (at : InLine) (lines room b : ℕ) → Fits (section_step at lines room b)
 fits_section line_start lines room b =
-    cond_both (eqb b 13) end_cr (cond (ltb 0 lines && is_token_byte b) (kept in_name lines room) broken) Fits (λ _. tt)
-    (λ _. cond_both (ltb 0 lines && is_token_byte b) (kept in_name lines room) broken Fits (λ _. fits_kept in_name lines room) (λ _. tt))
+    cond_both (eqb b 13) end_cr (cond (ltb 0 lines && is_token_byte b) (with_room in_name lines room) broken) Fits (λ _. tt)
+    (λ _. cond_both (ltb 0 lines && is_token_byte b) (with_room in_name lines room) broken Fits (λ _. fits_kept in_name lines room) (λ _. tt))
 fits_section in_name lines room b =
-    cond_both (eqb b 58) (kept in_value lines room) (cond (is_token_byte b) (kept in_name lines room) broken) Fits
+    cond_both (eqb b 58) (with_room in_value lines room) (cond (is_token_byte b) (with_room in_name lines room) broken) Fits
     (λ _. fits_kept in_value lines room)
-    (λ _. cond_both (is_token_byte b) (kept in_name lines room) broken Fits (λ _. fits_kept in_name lines room) (λ _. tt))
+    (λ _. cond_both (is_token_byte b) (with_room in_name lines room) broken Fits (λ _. fits_kept in_name lines room) (λ _. tt))
 fits_section in_value lines room b =
-    cond_both (eqb b 13) (kept line_cr lines room) (cond (is_value_byte b) (kept in_value lines room) broken) Fits
+    cond_both (eqb b 13) (with_room line_cr lines room) (cond (is_value_byte b) (with_room in_value lines room) broken) Fits
     (λ _. fits_kept line_cr lines room)
-    (λ _. cond_both (is_value_byte b) (kept in_value lines room) broken Fits (λ _. fits_kept in_value lines room) (λ _. tt))
+    (λ _. cond_both (is_value_byte b) (with_room in_value lines room) broken Fits (λ _. fits_kept in_value lines room) (λ _. tt))
 fits_section line_cr lines room b =
-    cond_both (eqb b 10) (kept line_start (lines - 1) room) broken Fits (λ _. fits_kept line_start (lines - 1) room) (λ _. tt)
+    cond_both (eqb b 10) (with_room line_start (lines - 1) room) broken Fits (λ _. fits_kept line_start (lines - 1) room) (λ _. tt)
 
 -- behind any byte
 fits_step : (p : Place) (b : ℕ) → Fits (step p b)
@@ -89,7 +89,7 @@ fits_step broken b = tt
 record Way (p : Place) : Type 0 where
   first : ℕ
   further : List ℕ
-  ends : (read p (first ∷ further)).ending ≡ has_ended []
+  ends : (read p (first ∷ further)).ending ≡ ends_before []
 
 -- one more byte in front
 way_on : (p next : Place) (b : ℕ) → HasNext p → step p b ≡ next → Way next → Way p
@@ -187,7 +187,7 @@ way_from broken fits e = absurd (cc)
 record Continued (p : Place) (bytes : List ℕ) : Type 0 where
   more : List ℕ
   some : 0 < length more
-  ends : (read p (bytes ++ more)).ending ≡ has_ended []
+  ends : (read p (bytes ++ more)).ending ≡ ends_before []
 
 -- a way continues no byte
 continued_from_way : (p : Place) → Way p → Continued p []
@@ -209,7 +209,7 @@ continues (b ∷ bytes) p fits e =
     continued_on p b bytes tt (continues bytes (step p b) (fits_step p b) (sym (ending-cons p b bytes tt) ∙ e))
 
 -- what is read and goes on is the beginning of a body
-pub open_begins : (bytes : List ℕ) → (read start bytes).ending ≡ goes_on → (t : ChunkedText) × Begins bytes t
+pub open_begins : (bytes : List ℕ) → (read start bytes).ending ≡ goes_on → (t : ChunkedText) × IsBeginning bytes t
 open_begins bytes e =
     let c = continues bytes start tt e in
     let r = ended_is_text (bytes ++ c.more) [] c.ends in

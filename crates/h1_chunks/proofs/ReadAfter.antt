@@ -1,7 +1,7 @@
 -- How the reading of some bytes and of those behind them hang together, by the place between them.
 use Rattle.std.proofs.Common.{◌≡◌, ℕ, ◌<◌, List, [], ◌∷◌, ◌++◌, length, refl, sym, ap, ◌∙◌, arith}
 use Rattle.h1_chunks.specs.Place.{Place, in_bytes, in_section, done, broken, step, after}
-use Rattle.h1_chunks.specs.Reading.{Ending, is_broken, has_ended, Reading, only, noted, at_end, read}
+use Rattle.h1_chunks.specs.Reading.{Ending, is_broken, ends_before, Reading, only, noted, at_end, read}
 use Rattle.h1_chunks.proofs.ReadSteps.{HasNext, read-nil, read-cons, read_done, read_broken, ending-noted, ending-cons}
 
 -- ---- places
@@ -72,7 +72,7 @@ ending_after place (b ∷ bytes) unbroken =
     ending-cons place b bytes (next_before place b bytes unbroken) ∙ ending_after (step place b) bytes unbroken
 
 -- only behind a whole body it has ended
-ended_place : (place : Place) → at_end place ≡ has_ended [] → place ≡ done
+ended_place : (place : Place) → at_end place ≡ ends_before [] → place ≡ done
 ended_place done e = refl
 ended_place place e = cc
 
@@ -82,7 +82,7 @@ broken_place broken e = refl
 broken_place place e = cc
 
 -- where a reading has ended at the end of its bytes, they lead behind a whole body
-pub done_from_ended : (place : Place) (bytes : List ℕ) → (read place bytes).ending ≡ has_ended [] → after place bytes ≡ done
+pub done_from_ended : (place : Place) (bytes : List ℕ) → (read place bytes).ending ≡ ends_before [] → after place bytes ≡ done
 unfolding after read
 done_from_ended place [] e = ended_place place e
 done_from_ended done (b ∷ bytes) e = cc
@@ -116,18 +116,18 @@ noted-ending (in_section at lines room) (in_section at' lines' room') b r ending
 noted-ending place next b r ending = refl
 
 -- where a body has ended, what follows stands behind the bytes that followed it
-pub ended_reading_stays : (place : Place) (xs ys rest : List ℕ) → (read place xs).ending ≡ has_ended rest
-    → read place (xs ++ ys) ≡ record (read place xs) { ending = has_ended (rest ++ ys) }
+pub ended_reading_stays : (place : Place) (xs ys rest : List ℕ) → (read place xs).ending ≡ ends_before rest
+    → read place (xs ++ ys) ≡ record (read place xs) { ending = ends_before (rest ++ ys) }
 unfolding read
 ended_reading_stays done [] ys rest e =
     let none : [] ≡ rest = cc in
-    read_done ys ∙ ap (λ l. only (has_ended (l ++ ys))) none
+    read_done ys ∙ ap (λ l. only (ends_before (l ++ ys))) none
 ended_reading_stays place [] ys rest e = cc
 ended_reading_stays done (b ∷ xs) ys rest e =
     let same : b ∷ xs ≡ rest = cc in
-    ap (λ l. only (has_ended (l ++ ys))) same
+    ap (λ l. only (ends_before (l ++ ys))) same
 ended_reading_stays place (b ∷ xs) ys rest e =
     let next = step place b in
     ap (noted place next b)
     (ended_reading_stays next xs ys rest (sym (ending-noted place next b (read next xs)) ∙ e))
-    ∙ noted-ending place next b (read next xs) (has_ended (rest ++ ys))
+    ∙ noted-ending place next b (read next xs) (ends_before (rest ++ ys))

@@ -2,7 +2,7 @@
 use Rattle.std.proofs.Common.{◌≡◌, ℕ, List, [], ◌∷◌, ◌++◌, refl, sym, ap, ◌∙◌, append_assoc}
 use Rattle.std.specs.Prelude.{⊤}
 use Rattle.h1_chunks.specs.Place.{InLine, Place, in_bytes, in_section, done, broken, bytes_step, section_step, step}
-use Rattle.h1_chunks.specs.Reading.{Reading, has_ended, is_broken, only, with_bytes, with_trailers, noted, at_end, read}
+use Rattle.h1_chunks.specs.Reading.{Reading, ends_before, is_broken, only, with_bytes, with_trailers, noted, at_end, read}
 
 -- any place but the one behind a whole body
 abbrev pub HasNext : Place → Type 0
@@ -53,7 +53,7 @@ read_line_byte at to lines room lines' room' b bytes e =
     read-cons (in_section at lines room) b bytes tt ∙ ap (λ s. noted (in_section at lines room) s b (read s bytes)) e
 
 -- behind the body nothing is read
-pub read_done : (bytes : List ℕ) → read done bytes ≡ only (has_ended bytes)
+pub read_done : (bytes : List ℕ) → read done bytes ≡ only (ends_before bytes)
 unfolding read
 read_done [] = refl
 read_done (b ∷ bytes) = refl

@@ -4,7 +4,7 @@ use Rattle.std.proofs.lemmas.List.{append_assoc}
 use Rattle.httparse.specs.Grammar.{is_token_byte, is_value_byte}
 use Rattle.httparse.specs.Ascii.{line_feed, carriage_return, colon}
 use Rattle.h1_chunks.specs.Runs.{Run}
-use Rattle.h1_chunks.specs.Place.{InLine, line_start, in_name, in_value, line_cr, Place, size_cr, in_section, end_cr, done, broken, needs, kept, section_step, step, after}
+use Rattle.h1_chunks.specs.Place.{InLine, line_start, in_name, in_value, line_cr, Place, size_cr, in_section, end_cr, done, broken, needs, with_room, section_step, step, after}
 
 -- the run of so many bytes from a place on, if there are some
 abbrev pub run_at : ℕ → ℕ → List Run
@@ -60,25 +60,25 @@ late_choice true x y late_x late_y = late_x
 late_choice false x y late_x late_y = late_y
 
 -- a byte that is kept stays there
-late_kept : (to : InLine) (lines room : ℕ) → is_late (kept to lines room) ≡ true
+late_kept : (to : InLine) (lines room : ℕ) → is_late (with_room to lines room) ≡ true
 late_kept to lines room = late_choice (ltb (needs to) room) (in_section to lines (room - 1)) broken refl refl
 
 -- so does one that leads to a kept one, or to another
 late_or_kept : (b c : Bool) (to : InLine) (x : Place) (lines room : ℕ) → is_late x ≡ true
-    → is_late (cond b x (cond c (kept to lines room) broken)) ≡ true
+    → is_late (cond b x (cond c (with_room to lines room) broken)) ≡ true
 late_or_kept b c to x lines room late =
-    late_choice b x (cond c (kept to lines room) broken) late (late_choice c (kept to lines room) broken (late_kept to lines room) refl)
+    late_choice b x (cond c (with_room to lines room) broken) late (late_choice c (with_room to lines room) broken (late_kept to lines room) refl)
 
 -- so does any byte of a section
 pub late_section : (at : InLine) (lines room b : ℕ) → is_late (section_step at lines room b) ≡ true
 late_section line_start lines room b =
     late_or_kept (eqb b carriage_return) (ltb 0 lines && is_token_byte b) in_name end_cr lines room refl
 late_section in_name lines room b =
-    late_or_kept (eqb b colon) (is_token_byte b) in_name (kept in_value lines room) lines room (late_kept in_value lines room)
+    late_or_kept (eqb b colon) (is_token_byte b) in_name (with_room in_value lines room) lines room (late_kept in_value lines room)
 late_section in_value lines room b =
-    late_or_kept (eqb b carriage_return) (is_value_byte b) in_value (kept line_cr lines room) lines room (late_kept line_cr lines room)
+    late_or_kept (eqb b carriage_return) (is_value_byte b) in_value (with_room line_cr lines room) lines room (late_kept line_cr lines room)
 late_section line_cr lines room b =
-    late_choice (eqb b line_feed) (kept line_start (lines - 1) room) broken (late_kept line_start (lines - 1) room) refl
+    late_choice (eqb b line_feed) (with_room line_start (lines - 1) room) broken (late_kept line_start (lines - 1) room) refl
 
 -- nothing leads back
 pub late_step : (at : Place) (b : ℕ) → is_late at ≡ true → is_late (step at b) ≡ true

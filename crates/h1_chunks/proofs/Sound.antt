@@ -5,8 +5,8 @@ use Rattle.std.proofs.lemmas.Bool.{and_from, and_parts, eqb-true, eqb-false, ltb
 use Rattle.std.specs.Char.{digit_value}
 use Rattle.httparse.specs.Grammar.{is_ows, is_value_byte, is_token_byte}
 use Rattle.h1_chunks.specs.ChunkedText.{ChunkedText, chunked_text, IsChunkedText}
-use Rattle.h1_chunks.specs.Place.{InLine, Place, in_size, in_blanks, in_extension, size_cr, in_bytes, bytes_end, bytes_cr, in_section, end_cr, done, broken, line_start, in_name, in_value, line_cr, start, section_start, expect, after_digits, size_step, extension_step, after_line, bytes_step, needs, kept, section_step, step}
-use Rattle.h1_chunks.specs.Reading.{has_ended, Reading, at_end, read}
+use Rattle.h1_chunks.specs.Place.{InLine, Place, in_size, in_blanks, in_extension, size_cr, in_bytes, bytes_end, bytes_cr, in_section, end_cr, done, broken, line_start, in_name, in_value, line_cr, start, section_start, expect, after_digits, size_step, extension_step, after_line, bytes_step, needs, with_room, section_step, step}
+use Rattle.h1_chunks.specs.Reading.{ends_before, Reading, at_end, read}
 use Rattle.h1_chunks.proofs.ReadSteps.{read-nil, read_done, ending-cons}
 use Rattle.h1_chunks.proofs.Rests.{EndForm, TextForm, HasBody, Section, LineThen, NameForm, TrailerForm, line_from, section_from, section_ends, BytesThen, bytes_from, Completes, section_completes, bytes_complete, SizeThen, size_from, BlankForm, DigitForm, blank_from, semicolon_from, line_end_from, digit_from, no_digit_from, says_size}
 
@@ -56,7 +56,7 @@ module _ (b : ℕ) (text : List ℕ) where
   expected wanted next G f = passed (eqb b wanted) next G (λ e. f (eqb-true b wanted e))
 
   -- a byte of a trailer line that was kept
-  was_kept : (to : InLine) (lines room : ℕ) (G : Type 0) → (needs to < room → From (in_section to lines (room - 1)) G) → From (kept to lines room) G
+  was_kept : (to : InLine) (lines room : ℕ) (G : Type 0) → (needs to < room → From (in_section to lines (room - 1)) G) → From (with_room to lines room) G
   was_kept to lines room G f =
       passed (ltb (needs to) room) (in_section to lines (room - 1)) G (λ e. f (ltb-true (needs to) room e))
 
@@ -187,7 +187,7 @@ module _ (b : ℕ) (text : List ℕ) where
   -- a kept byte in front of the rest of its line
   back_kept : (to : InLine) (P Q : List ℕ → Type 0) (lines room : ℕ)
       → From (in_section to lines (room - 1)) (LineThen P lines (room - 1) text) → ((line : List ℕ) → P line → Q (b ∷ line))
-      → From (kept to lines room) (LineThen Q lines room (b ∷ text))
+      → From (with_room to lines room) (LineThen Q lines room (b ∷ text))
   back_kept to P Q lines room is grows =
       was_kept to lines room (LineThen Q lines room (b ∷ text)) (λ fits r. line_from P Q lines room b text (omega arith) grows (is r))
 
@@ -196,9 +196,9 @@ module _ (b : ℕ) (text : List ℕ) where
   back_line_start lines room =
       let G = Section lines room (b ∷ text) in
       let test = ltb 0 lines && is_token_byte b in
-      split (eqb b 13) end_cr (cond test (kept in_name lines room) broken) G
+      split (eqb b 13) end_cr (cond test (with_room in_name lines room) broken) G
       (λ e lf. section_ends lines room b text (eqb-true b 13 e) lf)
-      (λ _. passed test (kept in_name lines room) G
+      (λ _. passed test (with_room in_name lines room) G
       (λ e h. let parts = and_parts (ltb 0 lines) (is_token_byte b) e in
       let line = back_kept in_name NameForm TrailerForm lines room (λ r. r) (λ line. trailer_from line parts.1) h in
       section_from lines room (b ∷ text) (ltb-true 0 lines parts.0) line))
@@ -208,12 +208,12 @@ module _ (b : ℕ) (text : List ℕ) where
       → From (in_section next lines (room - 1)) (LineThen P lines (room - 1) text)
       → From (in_section here lines (room - 1)) (LineThen Q lines (room - 1) text)
       → ((line : List ℕ) → b ≡ wanted → P line → Q (b ∷ line)) → ((line : List ℕ) → ok ≡ true → Q line → Q (b ∷ line))
-      → From (cond (eqb b wanted) (kept next lines room) (cond ok (kept here lines room) broken)) (LineThen Q lines room (b ∷ text))
+      → From (cond (eqb b wanted) (with_room next lines room) (cond ok (with_room here lines room) broken)) (LineThen Q lines room (b ∷ text))
   back_part wanted ok next here P Q lines room is_next is_here ends goes_on =
       let G = LineThen Q lines room (b ∷ text) in
-      split (eqb b wanted) (kept next lines room) (cond ok (kept here lines room) broken) G
+      split (eqb b wanted) (with_room next lines room) (cond ok (with_room here lines room) broken) G
       (λ e. back_kept next P Q lines room is_next (λ line. ends line (eqb-true b wanted e)))
-      (λ _. passed ok (kept here lines room) G (λ e. back_kept here Q Q lines room is_here (λ line. goes_on line e)))
+      (λ _. passed ok (with_room here lines room) G (λ e. back_kept here Q Q lines room is_here (λ line. goes_on line e)))
 
   -- in a name
   back_name : (lines room : ℕ) → From (section_step in_name lines room b) (LineThen NameForm lines room (b ∷ text))
@@ -229,7 +229,7 @@ module _ (b : ℕ) (text : List ℕ) where
   back_line_cr : (lines room : ℕ) → From (section_step line_cr lines room b) (LineThen EndForm lines room (b ∷ text))
   back_line_cr lines room =
       let G = LineThen EndForm lines room (b ∷ text) in
-      passed (eqb b 10) (kept line_start (lines - 1) room) G
+      passed (eqb b 10) (with_room line_start (lines - 1) room) G
       (λ e. was_kept line_start (lines - 1) room G (λ fits s. record {
         line = b ∷ [];
         behind = text;
@@ -267,7 +267,7 @@ back done b text h = absurd h
 back broken b text h = absurd h
 
 -- only behind a whole body there is an end
-at_end_ended : (p : Place) (rest : List ℕ) → at_end p ≡ has_ended rest → Ends p [] × (rest ≡ [])
+at_end_ended : (p : Place) (rest : List ℕ) → at_end p ≡ ends_before rest → Ends p [] × (rest ≡ [])
 at_end_ended done rest e = (refl, cc)
 at_end_ended p rest e = absurd (cc)
 
@@ -286,26 +286,26 @@ more_ends p b bytes rest r = record {
 }
 
 -- the rest behind a whole body
-done_ends : (bytes rest : List ℕ) → (read done bytes).ending ≡ has_ended rest → EndsIn done bytes rest
+done_ends : (bytes rest : List ℕ) → (read done bytes).ending ≡ ends_before rest → EndsIn done bytes rest
 done_ends bytes rest e =
     let same = sym (ap (λ (r : Reading). r.ending) (read_done bytes)) ∙ e in
     record { text = []; ends = refl; spelled = cc }
 
 -- no byte
-none_ends : (p : Place) (rest : List ℕ) → (read p []).ending ≡ has_ended rest → EndsIn p [] rest
+none_ends : (p : Place) (rest : List ℕ) → (read p []).ending ≡ ends_before rest → EndsIn p [] rest
 none_ends p rest e =
     let parts = at_end_ended p rest (sym (ap (λ (r : Reading). r.ending) (read-nil p)) ∙ e) in
     record { text = []; ends = parts.0; spelled = sym parts.1 }
 
 -- what reads to an end begins with a text that leads there
-ends_from : (bytes : List ℕ) (p : Place) (rest : List ℕ) → (read p bytes).ending ≡ has_ended rest → EndsIn p bytes rest
+ends_from : (bytes : List ℕ) (p : Place) (rest : List ℕ) → (read p bytes).ending ≡ ends_before rest → EndsIn p bytes rest
 ends_from [] p rest e = none_ends p rest e
 ends_from (b ∷ bytes) done rest e = done_ends (b ∷ bytes) rest e
 ends_from (b ∷ bytes) p rest e =
     more_ends p b bytes rest (ends_from bytes (step p b) rest (sym (ending-cons p b bytes tt) ∙ e))
 
 -- what is read up to an end is the text of a body
-pub ended_is_text : (bytes rest : List ℕ) → (read start bytes).ending ≡ has_ended rest
+pub ended_is_text : (bytes rest : List ℕ) → (read start bytes).ending ≡ ends_before rest
     → (t : ChunkedText) × IsChunkedText t × (bytes ≡ chunked_text t ++ rest)
 ended_is_text bytes rest e =
     let r = ends_from bytes start rest e in

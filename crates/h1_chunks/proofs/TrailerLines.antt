@@ -7,7 +7,7 @@ use Rattle.httparse.specs.Grammar.{is_value_byte, is_token_byte}
 use Rattle.httparse.specs.Ascii.{crlf_bytes}
 use Rattle.h1_chunks.specs.ChunkedText.{Trailer, IsTrailer, trailer_text, section_text}
 use Rattle.h1_chunks.specs.Place.{InLine, Place, in_section, end_cr, done, line_start, in_name, in_value, line_cr, section_start, section_step}
-use Rattle.h1_chunks.specs.Reading.{has_ended, only, with_trailers, read}
+use Rattle.h1_chunks.specs.Reading.{ends_before, only, with_trailers, read}
 use Rattle.h1_chunks.proofs.ReadSteps.{read-cons, read_quiet, read_line_byte, read_done, with_trailers-append}
 use Rattle.h1_chunks.proofs.SizeLines.{value_no_cr}
 
@@ -151,14 +151,14 @@ keeps_lines (t ∷ trailers) lines room left ok few fits =
     (keeps_lines trailers (lines - 1) room' left ok.1 (omega arith) refl))
 
 -- the empty line behind them
-end_read : (lines room : ℕ) (rest : List ℕ) → read (between lines room) (crlf_bytes ++ rest) ≡ only (has_ended rest)
+end_read : (lines room : ℕ) (rest : List ℕ) → read (between lines room) (crlf_bytes ++ rest) ≡ only (ends_before rest)
 end_read lines room rest =
     read-cons (between lines room) 13 (10 ∷ rest) tt ∙ read_quiet end_cr done 10 rest tt refl ∙ read_done rest
 
 -- trailer lines within the limits, and the empty line
 pub section_read : (trailers : List Trailer) (rest : List ℕ) → AllByRecursion IsTrailer trailers → length trailers ≤ 64
     → length (section_text trailers) ≤ 8192
-    → read section_start (section_text trailers ++ (crlf_bytes ++ rest)) ≡ with_trailers (section_text trailers) (only (has_ended rest))
+    → read section_start (section_text trailers ++ (crlf_bytes ++ rest)) ≡ with_trailers (section_text trailers) (only (ends_before rest))
 section_read trailers rest ok few small =
     let left = 8192 - length (section_text trailers) in
     (keeps_lines trailers 64 8192 left ok few (omega arith)).reads (crlf_bytes ++ rest)

@@ -6,7 +6,7 @@ use Rattle.std.proofs.lemmas.Bool.{cond-true, cond-false, cases_lt, lt-ltb, le-l
 use Rattle.httparse.specs.Grammar.{is_ows, is_value_byte, is_token_byte}
 use Rattle.httparse.specs.Ascii.{line_feed, carriage_return, colon, semicolon}
 use Rattle.h1_chunks.specs.ChunkedText.{MAX_TRAILER_BYTES}
-use Rattle.h1_chunks.specs.Place.{InLine, line_start, in_name, in_value, line_cr, Place, in_size, in_blanks, in_extension, size_cr, in_bytes, bytes_end, bytes_cr, in_section, end_cr, done, broken, start, section_start, after_digits, after_line, needs, kept, section_step, step}
+use Rattle.h1_chunks.specs.Place.{InLine, line_start, in_name, in_value, line_cr, Place, in_size, in_blanks, in_extension, size_cr, in_bytes, bytes_end, bytes_cr, in_section, end_cr, done, broken, start, section_start, after_digits, after_line, needs, with_room, section_step, step}
 use Rattle.h1_chunks.specs.Reading.{Reading, noted, read}
 
 -- how many bytes of trailer lines may still be read from a place on
@@ -79,7 +79,7 @@ leaves_choice room true x y leaves_x leaves_y = leaves_x
 leaves_choice room false x y leaves_x leaves_y = leaves_y
 
 -- a byte that is kept takes one of the room
-leaves_kept : (to : InLine) (lines room : ℕ) → LeavesRoom room (kept to lines room)
+leaves_kept : (to : InLine) (lines room : ℕ) → LeavesRoom room (with_room to lines room)
 leaves_kept to lines room = elim (cases_lt (needs to) room) [
   | inl fits ↦
       subst (LeavesRoom room) (sym (cond-true (ltb (needs to) room) (in_section to lines (room - 1)) broken (lt-ltb (needs to) room fits))) (omega arith)
@@ -94,16 +94,16 @@ leaves_or_broken room b x leaves_x = leaves_choice room b x broken leaves_x (ome
 -- any byte of a section
 leaves_section : (at : InLine) (lines room b : ℕ) → LeavesRoom room (section_step at lines room b)
 leaves_section line_start lines room b =
-    leaves_choice room (eqb b carriage_return) end_cr (cond (ltb 0 lines && is_token_byte b) (kept in_name lines room) broken) (omega arith)
-    (leaves_or_broken room (ltb 0 lines && is_token_byte b) (kept in_name lines room) (leaves_kept in_name lines room))
+    leaves_choice room (eqb b carriage_return) end_cr (cond (ltb 0 lines && is_token_byte b) (with_room in_name lines room) broken) (omega arith)
+    (leaves_or_broken room (ltb 0 lines && is_token_byte b) (with_room in_name lines room) (leaves_kept in_name lines room))
 leaves_section in_name lines room b =
-    leaves_choice room (eqb b colon) (kept in_value lines room) (cond (is_token_byte b) (kept in_name lines room) broken) (leaves_kept in_value lines room)
-    (leaves_or_broken room (is_token_byte b) (kept in_name lines room) (leaves_kept in_name lines room))
+    leaves_choice room (eqb b colon) (with_room in_value lines room) (cond (is_token_byte b) (with_room in_name lines room) broken) (leaves_kept in_value lines room)
+    (leaves_or_broken room (is_token_byte b) (with_room in_name lines room) (leaves_kept in_name lines room))
 leaves_section in_value lines room b =
-    leaves_choice room (eqb b carriage_return) (kept line_cr lines room) (cond (is_value_byte b) (kept in_value lines room) broken)
-    (leaves_kept line_cr lines room) (leaves_or_broken room (is_value_byte b) (kept in_value lines room) (leaves_kept in_value lines room))
+    leaves_choice room (eqb b carriage_return) (with_room line_cr lines room) (cond (is_value_byte b) (with_room in_value lines room) broken)
+    (leaves_kept line_cr lines room) (leaves_or_broken room (is_value_byte b) (with_room in_value lines room) (leaves_kept in_value lines room))
 leaves_section line_cr lines room b =
-    leaves_or_broken room (eqb b line_feed) (kept line_start (lines - 1) room) (leaves_kept line_start (lines - 1) room)
+    leaves_or_broken room (eqb b line_feed) (with_room line_start (lines - 1) room) (leaves_kept line_start (lines - 1) room)
 
 -- what is noted of it stays within the room
 noted_bounded : (at : InLine) (lines room : ℕ) (q : Place) (b : ℕ) (r : Reading) → LeavesRoom room q → length r.trailers ≤ trailer_room q

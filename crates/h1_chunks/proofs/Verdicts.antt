@@ -4,9 +4,9 @@ use Rattle.std.proofs.lemmas.List.{append_assoc, append-nil, length-append, take
 use Rattle.std.proofs.lemmas.Bool.{cases_lt}
 use Rattle.h1_chunks.specs.ChunkedText.{Trailer, ChunkedText, chunked_text}
 use Rattle.h1_chunks.specs.Runs.{Run, cut_runs}
-use Rattle.h1_chunks.specs.Chunked.{Chunked, whole, unfinished, not_chunked, Spells, Begins, IsLongestBeginning, IsChunked}
+use Rattle.h1_chunks.specs.Chunked.{Chunked, whole, unfinished, not_chunked, Spells, IsBeginning, IsLongestBeginning, IsChunked}
 use Rattle.h1_chunks.specs.Place.{Place, done, broken, start, after}
-use Rattle.h1_chunks.specs.Reading.{goes_on, has_ended, at_end, read}
+use Rattle.h1_chunks.specs.Reading.{goes_on, ends_before, at_end, read}
 use Rattle.h1_chunks.proofs.Sound.{ended_is_text}
 use Rattle.h1_chunks.proofs.Live.{open_begins}
 use Rattle.h1_chunks.proofs.ReadAfter.{after-nil, after-append, after-broken, ending_after}
@@ -35,12 +35,12 @@ live_end place live = refl
 -- bytes that lead behind a body are one
 pub spells_from_done : (bytes : List ℕ) → after start bytes ≡ done → (t : ChunkedText) × Spells bytes t
 spells_from_done bytes e =
-    let ends : (read start bytes).ending ≡ has_ended [] = ending_after start bytes (λ breaks. cc) ∙ ap at_end e in
+    let ends : (read start bytes).ending ≡ ends_before [] = ending_after start bytes (λ breaks. cc) ∙ ap at_end e in
     let t = ended_is_text bytes [] ends in
     (t.0, (t.1, t.2 ∙ append-nil (chunked_text t.0)))
 
 -- bytes behind which a body goes on begin one
-pub begins_from_live : (bytes : List ℕ) → IsLive (after start bytes) → (t : ChunkedText) × Begins bytes t
+pub begins_from_live : (bytes : List ℕ) → IsLive (after start bytes) → (t : ChunkedText) × IsBeginning bytes t
 begins_from_live bytes live = open_begins bytes (ending_after start bytes live.not_broken ∙ live_end (after start bytes) live)
 
 -- ---- from places to the grammar
@@ -92,7 +92,7 @@ longer_breaks front rest b k breaks longer =
     broken_from_front (length front + 1) (take k (front ++ b ∷ rest)) (front ++ b ∷ []) (front_with front rest b k longer) breaks
 
 -- no front of the text is a whole body
-no_whole : (front rest : List ℕ) (b k : ℕ) (t u : ChunkedText) → Begins front u → after start (front ++ b ∷ []) ≡ broken
+no_whole : (front rest : List ℕ) (b k : ℕ) (t u : ChunkedText) → IsBeginning front u → after start (front ++ b ∷ []) ≡ broken
     → Spells (take k (front ++ b ∷ rest)) t → ⊥
 no_whole front rest b k t u begun breaks x = elim (cases_lt (length front) k) [
   | inl longer ↦
@@ -113,7 +113,7 @@ not_chunked_from_broken front rest b live breaks =
       length front,
       record {
         within = omega (arith, length-append front (b ∷ rest));
-        begins = subst (λ l. Begins l t.0) (sym (take_at front (b ∷ rest) (length front) refl)) t.1;
+        begins = subst (λ l. IsBeginning l t.0) (sym (take_at front (b ∷ rest) (length front) refl)) t.1;
         longest = λ n longer _ c x. begins_not_broken (take n (front ++ b ∷ rest)) c x (longer_breaks front rest b n breaks longer);
       },
       λ k c x. no_whole front rest b k c t.0 t.1 breaks x,
@@ -151,7 +151,7 @@ pub whole_after : (bytes : List ℕ) (k : ℕ) (trailers : List Trailer) (runs :
 whole_after bytes k trailers runs x = after-body (take k bytes) x.0 x.2
 
 -- behind bytes that begin a body it goes on
-pub begins_live : (bytes : List ℕ) (t : ChunkedText) → Begins bytes t → IsLive (after start bytes)
+pub begins_live : (bytes : List ℕ) (t : ChunkedText) → IsBeginning bytes t → IsLive (after start bytes)
 begins_live bytes t x = record { not_done = begins_not_done bytes t x; not_broken = begins_not_broken bytes t x }
 
 -- behind an unfinished body's bytes it goes on

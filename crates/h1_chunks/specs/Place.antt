@@ -64,18 +64,18 @@ needs in_value = 2
 needs line_cr = 1
 
 -- a byte of the section, where the rest of its line has room behind it
-abbrev pub kept : InLine → ℕ → ℕ → Place
-kept to lines room = if nat_lt (needs to) room then in_section to lines (room - 1) else broken
+abbrev pub with_room : InLine → ℕ → ℕ → Place
+with_room to lines room = if nat_lt (needs to) room then in_section to lines (room - 1) else broken
 
 abbrev pub section_step : InLine → ℕ → ℕ → ℕ → Place
 section_step line_start lines room b =
     if b == carriage_return then end_cr
-    else (if nat_lt 0 lines && is_token_byte b then kept in_name lines room else broken)
+    else (if nat_lt 0 lines && is_token_byte b then with_room in_name lines room else broken)
 section_step in_name lines room b =
-    if b == colon then kept in_value lines room else (if is_token_byte b then kept in_name lines room else broken)
+    if b == colon then with_room in_value lines room else (if is_token_byte b then with_room in_name lines room else broken)
 section_step in_value lines room b =
-    if b == carriage_return then kept line_cr lines room else (if is_value_byte b then kept in_value lines room else broken)
-section_step line_cr lines room b = if b == line_feed then kept line_start (lines - 1) room else broken
+    if b == carriage_return then with_room line_cr lines room else (if is_value_byte b then with_room in_value lines room else broken)
+section_step line_cr lines room b = if b == line_feed then with_room line_start (lines - 1) room else broken
 
 -- the place behind one more byte; nothing follows a whole body
 abbrev pub step : Place → ℕ → Place

@@ -6,7 +6,7 @@ use Rattle.h1_chunks.specs.Place.{Place, in_bytes, in_section, done, broken, ste
 -- the body goes on, has ended in front of these bytes, or is broken
 pub data Ending : Type 0 where
   goes_on is_broken : Ending
-  has_ended : List ℕ → Ending
+  ends_before : List ℕ → Ending
 
 -- trailers is the text of the trailer lines, from this place on
 pub record Reading : Type 0 where
@@ -33,12 +33,12 @@ noted place next b r = r
 
 -- what no further byte says
 abbrev pub at_end : Place → Ending
-at_end done = has_ended []
+at_end done = ends_before []
 at_end broken = is_broken
 at_end place = goes_on
 
 -- what the bytes say from a place on
 unfoldable pub read : Place → List ℕ → Reading
 read place [] = only (at_end place)
-read done (b ∷ bytes) = only (has_ended (b ∷ bytes))
+read done (b ∷ bytes) = only (ends_before (b ∷ bytes))
 read place (b ∷ bytes) = noted place (step place b) b (read (step place b) bytes)

@@ -2,7 +2,7 @@
 -- the body's end, that it is broken, or nothing yet.
 use Rattle.std.specs.Prelude.{ℕ, ◌+◌, ◌-◌, List, [], ◌∷◌, ◌++◌, length, take, drop, nat_lt, if◌then◌else◌}
 use Rattle.h1_chunks.specs.Place.{Place, in_bytes, bytes_end, in_section, done, broken, step}
-use Rattle.h1_chunks.specs.Reading.{Reading, is_broken, has_ended, only, with_bytes, read}
+use Rattle.h1_chunks.specs.Reading.{Reading, is_broken, ends_before, only, with_bytes, read}
 
 -- bytes of a chunk, the place behind them and the bytes that follow; the place where all bytes lead; the bytes
 -- behind the body's end
@@ -49,5 +49,5 @@ take_next place (b ∷ bytes) = noted_line place (step place b) b (take_next (st
 abbrev pub says : Next → List ℕ → Reading
 says (chunk bytes place rest) z = with_bytes bytes (read place (rest ++ z))
 says (waits place) z = read place z
-says (ended rest) z = only (has_ended (rest ++ z))
+says (ended rest) z = only (ends_before (rest ++ z))
 says breaks z = only is_broken

@@ -5,7 +5,7 @@ ghost use Rattle.std.specs.List.{repeat};
 ghost use Rattle.h1_chunks.specs.Runs.{cut_runs};
 ghost use Rattle.h1_chunks.specs.Chunked.{whole, unfinished, not_chunked, IsChunked};
 ghost use Rattle.h1_chunks.specs.Place.{start, in_bytes, bytes_end, in_section, in_name};
-ghost use Rattle.h1_chunks.specs.Reading.{has_ended, read};
+ghost use Rattle.h1_chunks.specs.Reading.{ends_before, read};
 ghost use Rattle.h1_chunks.specs.TakeNext.{chunk, waits, take_next};
 
 /// A chunk of four bytes and the last one: the body's bytes lie from 3 to 7, it has 14 in all, and what follows is no part of it.
@@ -68,7 +68,7 @@ pub fn blank_in_a_name_is_refused()
 /// What is read of a body with a trailer line, and of three bytes that follow it.
 pub fn body_is_read()
     ensures { read start (codes "4\r\ndata\r\n0\r\nx-sum: 9\r\n\r\nGET")
-        ≡ record { body = codes "data"; trailers = codes "x-sum: 9\r\n"; ending = has_ended (codes "GET") } }
+        ≡ record { body = codes "data"; trailers = codes "x-sum: 9\r\n"; ending = ends_before (codes "GET") } }
 {}
 
 /// What comes next is as much of a chunk as is there: two of its four bytes, and then, behind them, the other two.

@@ -3,25 +3,25 @@
 ghost use Rattle.std.specs.Prelude.{◌≡◌, ℕ, ◌≤◌, List, ◌++◌, length, drop};
 ghost use Rattle.h1_chunks.specs.ChunkedText.{MAX_TRAILER_BYTES, Trailer, ChunkedText, section_text, chunked_text, IsChunkedText, content};
 ghost use Rattle.h1_chunks.specs.Runs.{Run, run_bytes};
-ghost use Rattle.h1_chunks.specs.Chunked.{Chunked, whole, unfinished, not_chunked, Begins, IsChunked};
+ghost use Rattle.h1_chunks.specs.Chunked.{Chunked, whole, unfinished, not_chunked, IsBeginning, IsChunked};
 ghost use Rattle.h1_chunks.specs.Place.{start};
-ghost use Rattle.h1_chunks.specs.Reading.{goes_on, is_broken, has_ended, read};
+ghost use Rattle.h1_chunks.specs.Reading.{goes_on, is_broken, ends_before, read};
 
 /// The text of a body is read as its bytes, its trailers and its end, whatever follows.
 pub fn text_is_read()
     ensures { (t : ChunkedText) (rest : List ℕ) → IsChunkedText t
-        → read start (chunked_text t ++ rest) ≡ record { body = content t; trailers = section_text t.trailers; ending = has_ended rest } }
+        → read start (chunked_text t ++ rest) ≡ record { body = content t; trailers = section_text t.trailers; ending = ends_before rest } }
 {}
 
 /// What is read up to an end is the text of a body.
 pub fn what_ends_is_a_text()
-    ensures { (bytes rest : List ℕ) → (read start bytes).ending ≡ has_ended rest
+    ensures { (bytes rest : List ℕ) → (read start bytes).ending ≡ ends_before rest
         → (t : ChunkedText) × IsChunkedText t × (bytes ≡ chunked_text t ++ rest) }
 {}
 
 /// What is read and goes on is the beginning of a body.
 pub fn what_goes_on_is_a_beginning()
-    ensures { (bytes : List ℕ) → (read start bytes).ending ≡ goes_on → (t : ChunkedText) × Begins bytes t }
+    ensures { (bytes : List ℕ) → (read start bytes).ending ≡ goes_on → (t : ChunkedText) × IsBeginning bytes t }
 {}
 
 /// No body begins with what is broken.
@@ -33,7 +33,7 @@ pub fn what_is_broken_begins_nothing()
 /// The grammar and the reading agree on how the bytes stand to a body, and on its bytes and trailers.
 pub fn grammar_is_read()
     ensures whole_body { (bytes : List ℕ) (k : ℕ) (trailers : List Trailer) (runs : List Run) → IsChunked bytes (whole k trailers) runs
-        → ((read start bytes).ending ≡ has_ended (drop k bytes)) × ((read start bytes).trailers ≡ section_text trailers) }
+        → ((read start bytes).ending ≡ ends_before (drop k bytes)) × ((read start bytes).trailers ≡ section_text trailers) }
     ensures beginning { (bytes : List ℕ) (runs : List Run) → IsChunked bytes unfinished runs → (read start bytes).ending ≡ goes_on }
     ensures no_body { (bytes : List ℕ) (runs : List Run) → IsChunked bytes not_chunked runs → (read start bytes).ending ≡ is_broken }
     ensures body_bytes { (bytes : List ℕ) (a : Chunked) (runs : List Run) → IsChunked bytes a runs → (read start bytes).body ≡ run_bytes bytes runs }

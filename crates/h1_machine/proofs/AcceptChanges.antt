@@ -86,7 +86,7 @@ refused_changes setting before limit parse m h e w wrong =
       change = record { outcome = on.refused e; kept = k };
       changes = accepting_is setting before limit (on.refused e) parse m h (Some e) w wrong;
       answers = refl;
-      parts = calm_parts setting before x k.unread k.is_over k.exchange k.buffered k.told calm refl
+      parts = calm_parts setting before x k.unread k.is_over k.exchange k.buffered k.failed calm refl
           (λ i. drop (sym place i) (sym bytes i)) refl (exchange_still setting before x w.legal still)
           (sym (buffered-more setting x.step before w.legal.3 refl ∙ ap (λ b. k.buffered ++ b) (refused_text setting t limit e) ∙ append-nil k.buffered)) refl;
       since = refl;
@@ -161,7 +161,7 @@ accepted_changes setting before limit parse m h w wrong =
       change = record { outcome = on.done; kept = record k { buffered = text; exchange = exchange } };
       changes = accepting_is setting before limit on.done parse m h None w wrong;
       answers = refl;
-      parts = calm_parts setting before x k.unread k.is_over exchange text k.told calm refl
+      parts = calm_parts setting before x k.unread k.is_over exchange text k.failed calm refl
           (λ i. drop (place i) (bytes i)) refl (accepted_exchange setting before limit parse m n.0 h w n.1) written refl;
       since = refl;
     }

@@ -116,7 +116,7 @@ answer_known setting before head size parse m h l c ok =
             changes = ap doing (sym (cond-true (is_at_once size) at_first later once))
                 ∙ ap (doing_with act) (sym (kept_current setting before m h c));
             answers = refl;
-            parts = kept-completes setting x before m h kind old.reply text k.told l s c incomplete (plain_of t ok) reply buffer (is_sending-cons x.step t) end;
+            parts = kept-completes setting x before m h kind old.reply text k.failed l s c incomplete (plain_of t ok) reply buffer (is_sending-cons x.step t) end;
             since = completing_since kind old next;
           }
       | inr streams ↦
@@ -131,7 +131,7 @@ answer_known setting before head size parse m h l c ok =
             changes = ap doing (sym (cond-false (is_at_once size) at_first later streams))
                 ∙ ap (doing_with act) (sym (kept_current setting before m h c));
             answers = refl;
-            parts = kept-quiet setting x before (Some (record old { reply = sending shape kind (stated shape) })) text k.is_sending k.clock k.told l q streams exchange
+            parts = kept-quiet setting x before (Some (record old { reply = sending shape kind (stated shape) })) text k.is_sending k.clock k.failed l q streams exchange
                 buffer (is_sending-cons x.step t) (clock-quiet x.step t streams refl) end;
             since = refl;
           }

@@ -112,9 +112,9 @@ end_known setting before parse m h a l c answer_is incomplete =
     let text = k.buffered ++ sent_end (asked_of h) shape in
     let short = short_end (asked_of h) shape missing in
     let none = untold setting before (running setting before on.body_end refl l.1) in
-    let end = option_or short k.told in
+    let end = option_or short k.failed in
     let alone : end ≡ short = ap (option_or short) (λ i. option_or (none.0 i) (none.1 i)) ∙ option_or-none short in
-    let put = record k { buffered = text; told = end; exchange = Some old } in
+    let put = record k { buffered = text; failed = end; exchange = Some old } in
     let q : Quiet before x.step = record { taken = refl; eof = refl; accepted = refl; pull = refl; head = refl; bytes = refl; frames = refl } in
     let s : Completes before x = record { quiet = q; completes = refl; tick = refl; drain = refl; drop = refl; go_on = refl; over = refl } in
     let complete : is_complete (x.step ∷ t) ≡ true = complete-more x.step t refl in

@@ -216,8 +216,8 @@ pub calm_parts : (setting : Setting) (before : List ParsedStep) (x : ParsedStep)
     → IsCalm x.step.event → head_of x.step.outcome ≡ None
     → unread ≡ drop (passed (x ∷ before)) (taken (x.step ∷ steps before)) → over ≡ (is_over_by x.step.outcome || is_over (steps before))
     → exchange ≡ exchange_of setting (x ∷ before) (current (x ∷ before)) (request (x.step ∷ steps before))
-    → text ≡ buffered setting (x.step ∷ steps before) → end ≡ option_or (told_end x.step.outcome) (kept_of setting before).told
-    → bare (record (kept_of setting before) { unread = unread; is_over = over; exchange = exchange; buffered = text; told = end })
+    → text ≡ buffered setting (x.step ∷ steps before) → end ≡ option_or (told_end x.step.outcome) (kept_of setting before).failed
+    → bare (record (kept_of setting before) { unread = unread; is_over = over; exchange = exchange; buffered = text; failed = end })
     ≡ bare (kept_of setting (x ∷ before))
 calm_parts setting before x unread over exchange text end c none e f g h k =
     let t = steps before in
@@ -236,5 +236,5 @@ calm_parts setting before x unread over exchange text end c none e f g h k =
       buffered = h i;
       is_sending = sends i;
       clock = clock i;
-      told = telling i;
+      failed = telling i;
     }

@@ -4,7 +4,7 @@ use Rattle.h1_model.specs.Setting.{Setting}
 use Rattle.h1_model.specs.Past.{ParsedStep}
 use Rattle.h1_model.specs.Closing.{closing_since}
 use Rattle.h1_machine.specs.Kept.{Kept}
-use Rattle.h1_machine.specs.Clock.{Change}
+use Rattle.h1_machine.specs.Kept.{Change}
 use Rattle.h1_machine.specs.Change.{IsChange}
 use Rattle.h1_machine.specs.KeptOf.{kept_of}
 

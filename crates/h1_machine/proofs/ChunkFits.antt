@@ -40,7 +40,7 @@ pub record Fits (m : Message) (trace : List Step) (rest : Rest) : Type 0 where
   pub rest_is : NotBehind upto m → pulled.rest ≡ rest_upto m upto (taken trace)
   pub unread : pulled.unread ≡ drop upto (taken trace)
   pub done : pulled.is_done ≡ tells_done on.pull pulled.outcome
-  pub told : pulled.told ≡ told_end pulled.outcome
+  pub failed : pulled.failed ≡ told_end pulled.outcome
   pub written : step_written pulled.outcome ≡ []
   pub over : is_over_by pulled.outcome ≡ false
 
@@ -101,7 +101,7 @@ fits_chunk r place runs i a trace given next behind x e g =
           (λ j. chunks_rest (sym g.next_is j) (sym lines j)) ∙ sym (rest_left m (upto + g.size) bytes unpassed);
       unread = g.behind_is;
       done = refl;
-      told = refl;
+      failed = refl;
       written = refl;
       over = refl;
     }
@@ -127,7 +127,7 @@ fits_fault r place runs i a trace fault unpassed e x =
       rest_is = λ _. sym (rest_left m upto (taken trace) unpassed);
       unread = refl;
       done = refl;
-      told = refl;
+      failed = refl;
       written = refl;
       over = refl;
     }
@@ -180,7 +180,7 @@ fits_wait r place runs i a trace next false chunks f f' e w =
           ∙ sym (rest_left m (length bytes) bytes (unfinished_unpassed r place runs i a (length bytes) w.kind));
       unread = sym (drop_all (length bytes) bytes (omega arith));
       done = refl;
-      told = refl;
+      failed = refl;
       written = refl;
       over = refl;
     }
@@ -228,7 +228,7 @@ fits_ending r place runs i a trace [] behind upto next is after_end e x =
       rest_is = λ _. sym (rest_passed m upto (taken trace) is);
       unread = after_end;
       done = refl;
-      told = refl;
+      failed = refl;
       written = refl;
       over = refl;
     }
@@ -243,7 +243,7 @@ fits_ending r place runs i a trace (t ∷ ts) behind upto next is after_end e x 
       rest_is = λ _. sym (rest_passed m upto (taken trace) is);
       unread = after_end;
       done = refl;
-      told = refl;
+      failed = refl;
       written = refl;
       over = refl;
     }
@@ -301,7 +301,7 @@ fits_told r place runs i a trace told none_left w =
       rest_is = λ _. sym (rest_passed m (place + w.size) bytes (whole_passed r place runs i (drop place bytes) front [] a behind w));
       unread = behind_whole place bytes front [] a behind w;
       done = refl;
-      told = refl;
+      failed = refl;
       written = refl;
       over = refl;
     }

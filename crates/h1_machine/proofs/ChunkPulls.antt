@@ -93,7 +93,7 @@ fits_gives setting before parse m h rest c kind incomplete f l =
       rest = f.rest_is ahead ∙ sym (rest_is (x ∷ before) m h f.upto (taken t) kind place (taken-calm x.step t calm_pull) still);
       unread = f.unread ∙ ap (λ n. drop n (taken t)) (sym place);
       done = f.done;
-      told = f.told;
+      failed = f.failed;
       written = f.written;
       over = f.over;
     }

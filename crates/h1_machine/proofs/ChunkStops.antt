@@ -8,7 +8,7 @@ use Rattle.h1_chunks.specs.ChunkedText.{Trailer, IsTrailer, ChunkedText, section
 use Rattle.h1_chunks.specs.Runs.{Run}
 use Rattle.h1_chunks.specs.Chunked.{Chunked, whole, unfinished, not_chunked, Spells, IsChunked}
 use Rattle.h1_chunks.specs.Place.{done, broken, start, after}
-use Rattle.h1_chunks.specs.Reading.{goes_on, is_broken, has_ended, Reading, with_trailers, read}
+use Rattle.h1_chunks.specs.Reading.{goes_on, is_broken, ends_before, Reading, with_trailers, read}
 use Rattle.h1_chunks.specs.TakeNext.{Next, chunk, waits, ended, breaks, take_next, says}
 use Rattle.h1_chunks.proofs.ReadSteps.{read-nil}
 use Rattle.h1_chunks.proofs.ReadAfter.{read-append, joined}
@@ -48,7 +48,7 @@ StopsAs bytes front text a (ended behind) = IsWholeTaken bytes front text a behi
 StopsAs bytes front text a breaks = a ≡ not_chunked
 
 -- what has ended does not go on
-ended_open : (behind : List ℕ) → has_ended behind ≡ goes_on → ⊥
+ended_open : (behind : List ℕ) → ends_before behind ≡ goes_on → ⊥
 ended_open behind e = cc
 
 -- what is broken does not go on
@@ -56,11 +56,11 @@ broken_open : is_broken ≡ goes_on → ⊥
 broken_open e = cc
 
 -- what has ended is not broken
-ended_broken : (behind : List ℕ) → has_ended behind ≡ is_broken → ⊥
+ended_broken : (behind : List ℕ) → ends_before behind ≡ is_broken → ⊥
 ended_broken behind e = cc
 
 -- one end has one rest
-behind_same : (a b : List ℕ) → has_ended a ≡ has_ended b → a ≡ b
+behind_same : (a b : List ℕ) → ends_before a ≡ ends_before b → a ≡ b
 behind_same a b e = cc
 
 -- nothing comes next

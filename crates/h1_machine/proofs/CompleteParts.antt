@@ -95,7 +95,7 @@ pub record Completes (before : List ParsedStep) (x : ParsedStep) : Type 0 where
 
 -- the state that the text and the end are put in before the answer is complete
 abbrev pub with_text : Kept → List ℕ → Option End → Kept
-with_text k buffer end = record k { buffered = buffer; told = end }
+with_text k buffer end = record k { buffered = buffer; failed = end }
 
 -- The state behind it, whatever the answer was before.
 pub kept-completes : (setting : Setting) (x : ParsedStep) (before : List ParsedStep) (m : Message) (h : Head) (kind : ConnectionType) (was : Reply)
@@ -107,14 +107,14 @@ pub kept-completes : (setting : Setting) (x : ParsedStep) (before : List ParsedS
     → option_or (told (x.step ∷ steps before)) (body_end_of (x.step ∷ steps before)) ≡ end
     → bare (completing kind (record (exchange_with setting before m h) { reply = was }) (record (kept_of setting before) {
       buffered = buffer;
-      told = end;
+      failed = end;
       exchange = Some (record (exchange_with setting before m h) { reply = was });
     })) ≡ bare (kept_of setting (x ∷ before))
 kept-completes setting x before m h kind was buffer end l s c incomplete plain reply buffer_is sending_is end_is =
     let t = steps before in
     let k = kept_of setting before in
     let old = exchange_with setting before m h in
-    let put = record k { buffered = buffer; told = end; exchange = Some (record old { reply = was }) } in
+    let put = record k { buffered = buffer; failed = end; exchange = Some (record old { reply = was }) } in
     let rest = rest_of (x ∷ before) m h.body in
     let unread = drop (passed (x ∷ before)) (taken (x.step ∷ t)) in
     let p : Passed = record { rest = rest; unread = unread } in

@@ -61,7 +61,7 @@ drop_made setting before parse l = elim (current_of setting before l.3) [
         change = doing_with act (with_exchange k (Some old));
         changes = ap (doing_with act) (sym (kept_current setting before m h c));
         answers = refl;
-        parts = kept-quiet setting x before (Some (record old { was_dropped = true })) k.buffered k.is_sending k.clock k.told l q refl exchange
+        parts = kept-quiet setting x before (Some (record old { was_dropped = true })) k.buffered k.is_sending k.clock k.failed l q refl exchange
             (buffered-quiet setting x.step before l.3 refl (drop_silent setting t)) (is_sending-cons x.step t) (clock-quiet x.step t refl refl)
             (told-stays x.step t refl refl (short-stays x.step t refl refl refl refl));
         since = refl;
@@ -109,7 +109,7 @@ go_on_made setting before parse l = elim (current_of setting before l.3) [
         change = doing_with act (with_exchange k (Some old));
         changes = ap (doing_with act) (sym (kept_current setting before m h c));
         answers = refl;
-        parts = kept-quiet setting x before (Some (record old { was_told_to_go_on = true })) (k.buffered ++ interim_text) k.is_sending k.clock k.told l q refl exchange
+        parts = kept-quiet setting x before (Some (record old { was_told_to_go_on = true })) (k.buffered ++ interim_text) k.is_sending k.clock k.failed l q refl exchange
             (buffered-more setting x.step before l.3 refl ∙ ap (λ l. k.buffered ++ l) (go_on_text setting t)) (is_sending-cons x.step t)
             (clock-quiet x.step t refl refl) (told-stays x.step t refl refl (short-stays x.step t refl refl refl refl));
         since = refl;
@@ -215,7 +215,7 @@ chunk_made setting before bytes parse l =
             change = doing_with (sending_piece bytes) (with_exchange k (Some old));
             changes = ap (doing_with (sending_piece bytes)) (sym (kept_sending setting before m h a c out.0.1 out.1));
             answers = refl;
-            parts = kept-quiet setting x before (Some new) text k.is_sending k.clock k.told l q refl exchange
+            parts = kept-quiet setting x before (Some new) text k.is_sending k.clock k.failed l q refl exchange
                 (buffered-more setting x.step before l.3 refl ∙ ap (λ l. k.buffered ++ l) sent) (is_sending-cons x.step t)
                 (clock-quiet x.step t refl refl) (told-stays x.step t refl refl (short-open x.step t refl refl (unended t out.1)));
             since = refl;

@@ -143,7 +143,7 @@ framed_stops setting before o parse m h limit partial w e stops none =
       rest = sym (framed_behind setting before o p.outcome parse m h limit w);
       unread = ap (λ k. drop k (taken t)) (framed_stays setting before o p.outcome parse m h limit w l' refl);
       done = refl;
-      told = refl;
+      failed = refl;
       written = refl;
       over = refl;
     })
@@ -158,7 +158,7 @@ framed_stops setting before o parse m h limit (breaks_rule error) w e stops none
       rest = sym (framed_behind setting before o p.outcome parse m h limit w);
       unread = ap (λ k. drop k (taken t)) (framed_stays setting before o p.outcome parse m h limit w l' refl);
       done = refl;
-      told = refl;
+      failed = refl;
       written = refl;
       over = refl;
     })
@@ -181,7 +181,7 @@ framed_gives setting before o parse m h limit f len w e end some =
       rest = sym (framed_behind setting before o p.outcome parse m h limit w);
       unread = drop-drop len (passed before) (taken t) ∙ ap (λ k. drop k (taken t)) (sym end ∙ sym place);
       done = refl;
-      told = refl;
+      failed = refl;
       written = refl;
       over = refl;
     })

@@ -19,7 +19,7 @@ use Rattle.h1_model.specs.OutcomeTable.{head_outcome, upcoming_outcome, next_out
 use Rattle.h1_model.proofs.PastLemmas.{Legal}
 use Rattle.h1_machine.specs.Kept.{Kept}
 use Rattle.h1_machine.specs.Local.{closing_by}
-use Rattle.h1_machine.specs.Clock.{Change}
+use Rattle.h1_machine.specs.Kept.{Change}
 use Rattle.h1_machine.specs.Change.{behind_head, without_head, IsUpcoming, IsNext}
 use Rattle.h1_machine.specs.KeptOf.{kept_of}
 use Rattle.h1_machine.proofs.Changes.{Changes}
@@ -71,9 +71,9 @@ mild_pending = record {
 mild_changes : (setting : Setting) (before : List ParsedStep) (o : Outcome) (parse : List Message) (over : Bool) (text : List ℕ) (end : Option End)
     → Legal setting (next_of o parse ∷ before) → IsMild o
     → IsNext setting (kept_of setting before) (closing_by setting (kept_of setting before))
-    (record { outcome = o; kept = record (kept_of setting before) { is_over = over; buffered = text; told = end } })
+    (record { outcome = o; kept = record (kept_of setting before) { is_over = over; buffered = text; failed = end } })
     → over ≡ (is_over_by o || is_over (steps before)) → text ≡ buffered setting (steps before) ++ step_text setting (steps before) on.next o
-    → end ≡ option_or (told_end o) (kept_of setting before).told
+    → end ≡ option_or (told_end o) (kept_of setting before).failed
     → Changes setting before (next_of o parse)
 mild_changes setting before o parse over text end l w is f h k =
     let t = steps before in
@@ -81,7 +81,7 @@ mild_changes setting before o parse over text end l w is f h k =
     let place = passed-quiet setting x before l (still_quiet before x.step w.still) refl in
     let bytes = taken-calm x.step t calm_next in
     record {
-      change = record { outcome = o; kept = record (kept_of setting before) { is_over = over; buffered = text; told = end } };
+      change = record { outcome = o; kept = record (kept_of setting before) { is_over = over; buffered = text; failed = end } };
       changes = is;
       answers = refl;
       parts = calm_parts setting before x (kept_of setting before).unread over (kept_of setting before).exchange text end calm_next w.still.head
@@ -114,7 +114,7 @@ closed_changes setting before parse end l e =
     let k = kept_of setting before in
     let c : Change = record { outcome = on.closed end; kept = record k { is_over = true } } in
     let is : IsNext setting k (Some end) c = refl in
-    mild_changes setting before (on.closed end) parse true k.buffered k.told l (mild_closed end)
+    mild_changes setting before (on.closed end) parse true k.buffered k.failed l (mild_closed end)
     (subst (λ closes. IsNext setting k closes c) (sym (closing_of setting before l.3 ∙ e)) is) refl
     (sym (ap (λ b. k.buffered ++ b) (closed_text setting t end) ∙ append-nil k.buffered)) refl
 
@@ -161,7 +161,7 @@ without_changes setting before parse o l e comes is =
           let c : Change = record { outcome = on.pending; kept = k } in
           let change : c ≡ without_head setting k = sym (cond-false _ _ _ (len ∙ room)) in
           subst P (sym same)
-          (λ l'. mild_changes setting before on.pending parse k.is_over k.buffered k.told l' mild_pending (open_is setting before c false l.3 e comes change) refl
+          (λ l'. mild_changes setting before on.pending parse k.is_over k.buffered k.failed l' mild_pending (open_is setting before c false l.3 e comes change) refl
           (sym (ap (λ b. k.buffered ++ b) (pending_text setting t) ∙ append-nil k.buffered)) refl) l
     ]
 

@@ -24,7 +24,7 @@ use Rattle.h1_model.proofs.PulledLemmas.{pulled_to-head}
 use Rattle.h1_model.proofs.CarriedLemmas.{passed_some, passed_complete, passed_pulled}
 use Rattle.h1_machine.specs.Kept.{unanswered, whole_rest, rest_in, new_exchange}
 use Rattle.h1_machine.specs.Local.{closing_by}
-use Rattle.h1_machine.specs.Clock.{Change}
+use Rattle.h1_machine.specs.Kept.{Change}
 use Rattle.h1_machine.specs.Change.{behind_head, IsUpcoming, IsNext}
 use Rattle.h1_machine.specs.KeptOf.{rest_of, reply_of, tells_done, exchange_with, exchange_of, kept_of}
 use Rattle.h1_machine.proofs.Changes.{bare, Changes}
@@ -189,7 +189,7 @@ untold setting past e =
 
 -- nor is one then
 head_told : (setting : Setting) (before : List ParsedStep) (parse : List Message) (m : Message) (h : Head) → Heads setting before parse m h
-    → (kept_of setting before).told ≡ (kept_of setting (head_of_next h parse ∷ before)).told
+    → (kept_of setting before).failed ≡ (kept_of setting (head_of_next h parse ∷ before)).failed
 head_told setting before parse m h w =
     let x = head_of_next h parse in
     let t = steps before in
@@ -233,7 +233,7 @@ head_parts setting before parse m h w end start =
       buffered = text i;
       is_sending = sends i;
       clock = clock i;
-      told = end_told i;
+      failed = end_told i;
     }
 
 -- a head is handed out

@@ -19,7 +19,7 @@ use Rattle.h1_model.proofs.ReadingLemmas.{reading_within_unique}
 use Rattle.h1_machine.specs.Kept.{Rest, no_rest, raw_rest, fixed_rest, chunks_rest, frames_rest, Exchange, Kept, is_free}
 use Rattle.h1_machine.specs.Local.{closing_by}
 use Rattle.h1_machine.specs.Pull.{Pulled, gives, EndsWith, IsPullOfChunks, IsPull}
-use Rattle.h1_machine.specs.Clock.{Change}
+use Rattle.h1_machine.specs.Kept.{Change}
 use Rattle.h1_machine.specs.Change.{behind_head, IsUpcoming, IsNext, pulled_from, IsPulling, IsChange, IsComing, noting_since, IsStep}
 
 -- ---- a pull

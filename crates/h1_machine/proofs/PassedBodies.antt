@@ -6,7 +6,7 @@ use Rattle.std.proofs.lemmas.List.{drop_all, take-take, take-append-le, drop-app
 use Rattle.h1_chunks.specs.Chunked.{Chunked, whole, unfinished, not_chunked, IsChunked}
 use Rattle.h1_chunks.specs.Runs.{Run}
 use Rattle.h1_chunks.specs.Place.{Place, done, broken, start, after}
-use Rattle.h1_chunks.specs.Reading.{goes_on, is_broken, has_ended, Reading, read}
+use Rattle.h1_chunks.specs.Reading.{goes_on, is_broken, ends_before, Reading, read}
 use Rattle.h1_chunks.proofs.ReadSteps.{read_done}
 use Rattle.h1_chunks.proofs.ReadAfter.{after-append, done_stops, read-append}
 use Rattle.h1_chunks.proofs.Verdicts.{whole_after}
@@ -105,7 +105,7 @@ chunks_left place section e = refl
 
 -- what is read of these bytes has no end
 abbrev IsEndless : List ℕ → Type 0
-IsEndless bytes = (behind : List ℕ) → (read start bytes).ending ≡ has_ended behind → ⊥
+IsEndless bytes = (behind : List ℕ) → (read start bytes).ending ≡ ends_before behind → ⊥
 
 -- then no front of them is a whole body
 front_open : (n : ℕ) (bytes : List ℕ) → IsEndless bytes → after start (take n bytes) ≡ done → ⊥
@@ -120,13 +120,13 @@ front_open n bytes endless ends =
 -- bytes of no whole body have no end
 unfinished_open : (bytes : List ℕ) (runs : List Run) → IsChunked bytes unfinished runs → IsEndless bytes
 unfinished_open bytes runs x behind e =
-    let same : goes_on ≡ has_ended behind = sym (unfinished_read bytes runs x) ∙ e in
+    let same : goes_on ≡ ends_before behind = sym (unfinished_read bytes runs x) ∙ e in
     cc
 
 -- nor have those that break one
 not_chunked_open : (bytes : List ℕ) (runs : List Run) → IsChunked bytes not_chunked runs → IsEndless bytes
 not_chunked_open bytes runs x behind e =
-    let same : is_broken ≡ has_ended behind = sym (broken_read bytes runs x) ∙ e in
+    let same : is_broken ≡ ends_before behind = sym (broken_read bytes runs x) ∙ e in
     cc
 
 -- no shorter front of a whole body is one

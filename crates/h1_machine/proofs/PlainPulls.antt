@@ -150,7 +150,7 @@ fixed_gives setting before o parse m h n end stop l c kind open_yet r upto place
     (λ l'.
     let after = passed_more setting before p.outcome parse m h end stop l' c r open_yet upto ∙ ap (λ k. passed before + k) (length-take left u) in
     let both = fixed_given before (pull_of p.outcome parse ∷ before) m h n u kind (omega arith) c.passed_within refl after in
-    record { rest = both.0; unread = both.1; done = refl; told = refl; written = refl; over = refl })
+    record { rest = both.0; unread = both.1; done = refl; failed = refl; written = refl; over = refl })
 
 -- nothing is left of it
 fixed_ends : (setting : Setting) (before : List ParsedStep) (o : Outcome) (parse : List Message) (m : Message) (h : Head) (n : ℕ)
@@ -172,7 +172,7 @@ fixed_ends setting before o parse m h n l c kind open_yet r upto place all =
       rest = sym (fixed_all (pull_of p.outcome parse ∷ before) m h n kind (omega arith));
       unread = ap (λ k. drop k (taken t)) same;
       done = refl;
-      told = refl;
+      failed = refl;
       written = refl;
       over = refl;
     })
@@ -216,11 +216,11 @@ fixed_lacks setting before o parse m h n ended l c kind open_yet e r place all s
     go true e r =
         pulling_with setting before o parse m h (lacking true left u) l c (one_stops before m (length (taken t)) cut r place (omega arith)) (lacks true e)
         (λ l'. let both = stays (lacking true left u) cut refl refl refl r l' in
-        record { rest = both.0; unread = both.1; done = refl; told = refl; written = refl; over = refl })
+        record { rest = both.0; unread = both.1; done = refl; failed = refl; written = refl; over = refl })
     go false e r =
         pulling_with setting before o parse m h (lacking false left u) l c (one_stops before m (length (taken t)) still_open r place (omega arith)) (lacks false e)
         (λ l'. let both = stays (lacking false left u) still_open refl refl refl r l' in
-        record { rest = both.0; unread = both.1; done = refl; told = refl; written = refl; over = refl })
+        record { rest = both.0; unread = both.1; done = refl; failed = refl; written = refl; over = refl })
 
 -- a body of a stated length
 pub fixed_pull_changes : (setting : Setting) (before : List ParsedStep) (o : Outcome) (parse : List Message) (m : Message) (h : Head) (n : ℕ)

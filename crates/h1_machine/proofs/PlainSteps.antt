@@ -111,5 +111,5 @@ kept-plain setting x before unread exchange p =
       buffered = sym p.buffers i;
       is_sending = sym sends i;
       clock = sym clock i;
-      told = sym tells i;
+      failed = sym tells i;
     }

@@ -17,7 +17,7 @@ use Rattle.h1_model.specs.OutcomeTable.{pull_outcome, outcome_of}
 use Rattle.h1_model.proofs.PastLemmas.{Legal}
 use Rattle.h1_model.proofs.HeldSteps.{pull_no_head}
 use Rattle.h1_machine.specs.Pull.{Pulled, IsPull}
-use Rattle.h1_machine.specs.Clock.{Change}
+use Rattle.h1_machine.specs.Kept.{Change}
 use Rattle.h1_machine.specs.Change.{IsPulling, pulled_from}
 use Rattle.h1_machine.specs.KeptOf.{rest_of, tells_done, exchange_with, exchange_of, kept_of}
 use Rattle.h1_machine.proofs.Changes.{Changes}
@@ -67,7 +67,7 @@ pub record Gives (setting : Setting) (before : List ParsedStep) (m : Message) (h
   pub rest : p.rest ≡ rest_of (pull_of p.outcome parse ∷ before) m h.body
   pub unread : p.unread ≡ drop (passed (pull_of p.outcome parse ∷ before)) (taken (steps before))
   pub done : p.is_done ≡ tells_done on.pull p.outcome
-  pub told : p.told ≡ told_end p.outcome
+  pub failed : p.failed ≡ told_end p.outcome
   pub written : step_written p.outcome ≡ []
   pub over : is_over_by p.outcome ≡ false
 
@@ -100,12 +100,12 @@ pulling setting before parse m h p l c is g =
       changes = subst (λ e. IsPulling k e change) (sym here) (p, is, refl);
       answers = refl;
       parts = calm_parts setting before x p.unread (is_over t) (Some (record old { rest = p.rest; was_pulled = true; body_is_done = old.body_is_done || p.is_done }))
-          (buffered setting t) (option_or p.told k.told) calm_pull none
+          (buffered setting t) (option_or p.failed k.failed) calm_pull none
           (g.unread ∙ ap (drop (passed (x ∷ before))) (sym (taken-calm x.step t calm_pull)))
           (sym (ap (λ b. b || is_over t) g.over))
           new
           (sym (buffered-more setting x.step before l.3 g.written ∙ ap (λ b. buffered setting t ++ b) (pull_text setting t o) ∙ append-nil (buffered setting t)))
-          (ap (λ e. option_or e k.told) g.told);
+          (ap (λ e. option_or e k.failed) g.failed);
       since = refl;
     }
 

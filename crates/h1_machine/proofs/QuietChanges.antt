@@ -119,7 +119,7 @@ drain_made setting before parse l =
       change = doing (record k { is_draining = true });
       changes = refl;
       answers = refl;
-      parts = kept-quiet setting x before k.exchange k.buffered k.is_sending k.clock k.told l q refl (exchange-apart setting x before l q a)
+      parts = kept-quiet setting x before k.exchange k.buffered k.is_sending k.clock k.failed l q refl (exchange-apart setting x before l q a)
           (buffered-quiet setting x.step before l.3 refl (drain_silent setting (steps before))) (is_sending-cons x.step (steps before))
           (clock-quiet x.step (steps before) refl refl) (told-apart x before q a refl refl);
       since = refl;
@@ -155,7 +155,7 @@ error_made setting before parse l =
     let end : option_or (told (x.step ∷ t)) (body_end_of (x.step ∷ t)) ≡ Some ends.body =
         ap (λ o. option_or o (body_end_of (x.step ∷ t))) (told-cons x.step t ∙ none) in
     record {
-      change = doing (record k { told = Some ends.body });
+      change = doing (record k { failed = Some ends.body });
       changes = refl;
       answers = refl;
       parts = kept-quiet setting x before k.exchange k.buffered k.is_sending k.clock (Some ends.body) l q refl (exchange-apart setting x before l q a)
@@ -196,7 +196,7 @@ write_made setting before n parse l =
       change = record { outcome = on.gave (take n k.buffered); kept = record k { buffered = drop n k.buffered } };
       changes = refl;
       answers = refl;
-      parts = kept-quiet setting x before k.exchange (drop n k.buffered) k.is_sending k.clock k.told l q refl (exchange-apart setting x before l q a)
+      parts = kept-quiet setting x before k.exchange (drop n k.buffered) k.is_sending k.clock k.failed l q refl (exchange-apart setting x before l q a)
           (buffered-write setting x.step n before l.3 refl (write_silent setting t n given)) (is_sending-cons x.step t)
           (clock-quiet x.step t refl refl) (told-apart x before q a refl refl);
       since = refl;
@@ -245,7 +245,7 @@ send_made setting before m (Some error) parse e l =
     let k = kept_of setting before in
     let q : Quiet before x.step = record { taken = refl; eof = refl; accepted = refl; pull = refl; head = refl; bytes = refl; frames = refl } in
     record {
-      change = record { outcome = on.protocol error; kept = record k { told = Some ends.protocol } };
+      change = record { outcome = on.protocol error; kept = record k { failed = Some ends.protocol } };
       changes = ap (sending_message m k) (sym e);
       answers = refl;
       parts = kept-quiet setting x before k.exchange k.buffered k.is_sending k.clock (Some ends.protocol) l q refl
@@ -266,7 +266,7 @@ send_made setting before m None parse e l =
       change = doing (record k { buffered = text; is_sending = sent });
       changes = ap (sending_message m k) (sym e);
       answers = refl;
-      parts = kept-quiet setting x before k.exchange text sent k.clock k.told l q refl (exchange-apart setting x before l q (send_apart m))
+      parts = kept-quiet setting x before k.exchange text sent k.clock k.failed l q refl (exchange-apart setting x before l q (send_apart m))
           (buffered-more setting x.step before l.3 refl ∙ ap (λ l. k.buffered ++ l) (send_sent setting t m)) (is_sending-cons x.step t)
           (clock-quiet x.step t refl refl) (told-apart x before q (send_apart m) refl refl);
       since = refl;

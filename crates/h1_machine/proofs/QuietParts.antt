@@ -197,7 +197,7 @@ exchange-none setting x before l q c =
 
 -- two states with the same parts
 pub same_bare : (a b : Kept) → a.unread ≡ b.unread → a.has_ended ≡ b.has_ended → a.is_draining ≡ b.is_draining → a.is_over ≡ b.is_over
-    → a.exchange ≡ b.exchange → a.buffered ≡ b.buffered → a.is_sending ≡ b.is_sending → a.clock ≡ b.clock → a.told ≡ b.told → bare a ≡ bare b
+    → a.exchange ≡ b.exchange → a.buffered ≡ b.buffered → a.is_sending ≡ b.is_sending → a.clock ≡ b.clock → a.failed ≡ b.failed → bare a ≡ bare b
 same_bare a b unread ended draining over exchange buffer sending clock told =
     λ i. record {
       unread = unread i;
@@ -209,7 +209,7 @@ same_bare a b unread ended draining over exchange buffer sending clock told =
       buffered = buffer i;
       is_sending = sending i;
       clock = clock i;
-      told = told i;
+      failed = told i;
       closing_since = None;
     }
 
@@ -224,7 +224,7 @@ kept_behind setting before x exchange buffer sending clock told =
       buffered = buffer;
       is_sending = sending;
       clock = clock;
-      told = told;
+      failed = told;
     }
 
 -- the clock, where no answer is completed and no tick comes

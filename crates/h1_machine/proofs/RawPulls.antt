@@ -135,7 +135,7 @@ raw_gives setting before o parse m h w place more =
       rest = sym (raw_behind setting before o p.outcome parse m h w ∙ rest_behind ended len (passed (pull_of p.outcome parse ∷ before)) (omega arith));
       unread = sym (drop_all (passed (pull_of p.outcome parse ∷ before)) (taken t) (omega arith));
       done = refl;
-      told = refl;
+      failed = refl;
       written = refl;
       over = refl;
     })
@@ -163,7 +163,7 @@ raw_stops setting before o parse m h true w e r place all =
           ∙ rest_behind true len (passed (x ∷ before)) (omega arith));
       unread = ap (λ k. drop k (taken t)) same;
       done = refl;
-      told = refl;
+      failed = refl;
       written = refl;
       over = refl;
     })
@@ -184,7 +184,7 @@ raw_stops setting before o parse m h false w e r place all =
       rest = sym (raw_behind setting before o p.outcome parse m h w ∙ ap (λ b. raw_rest_at b len (passed (x ∷ before))) e);
       unread = sym none ∙ ap (λ k. drop k (taken t)) same;
       done = refl;
-      told = refl;
+      failed = refl;
       written = refl;
       over = refl;
     })

@@ -142,7 +142,7 @@ tick_gives setting before ms = refl
 abbrev tick_kept : Setting → List ParsedStep → Outcome → List ℕ → Option End → Change
 tick_kept setting before o buffer end =
     let k = kept_of setting before in
-    record { outcome = o; kept = record k { is_over = is_over_by o || k.is_over; buffered = buffer; told = end } }
+    record { outcome = o; kept = record k { is_over = is_over_by o || k.is_over; buffered = buffer; failed = end } }
 
 -- it has no part in an answer
 tick_apart : (ms : ℕ) → IsApart (on.tick ms)
@@ -184,7 +184,7 @@ tick_by setting before x ms (Some end) closes l e =
           (λ parse l'.
             let y = made (on.tick ms) on.abandoned parse in
             let q : Quiet before y.step = record { taken = refl; eof = refl; accepted = refl; pull = refl; head = refl; bytes = refl; frames = refl } in
-            tick_made setting before ms on.abandoned k.buffered k.told parse l' q
+            tick_made setting before ms on.abandoned k.buffered k.failed parse l' q
             (buffered-quiet setting y.step before l.3 refl (abandoned_silent setting (steps before) ms)) (told-apart y before q (tick_apart ms) refl refl)
             (same ∙ ap (λ b. at_moment ms (if b then record { outcome = on.abandoned; kept = record k { is_over = true } } else record { outcome = on.done; kept = k })) waited))
       | inr waits ↦
@@ -192,7 +192,7 @@ tick_by setting before x ms (Some end) closes l e =
           (λ parse l'.
             let y = made (on.tick ms) on.done parse in
             let q : Quiet before y.step = record { taken = refl; eof = refl; accepted = refl; pull = refl; head = refl; bytes = refl; frames = refl } in
-            tick_made setting before ms on.done k.buffered k.told parse l' q
+            tick_made setting before ms on.done k.buffered k.failed parse l' q
             (buffered-quiet setting y.step before l.3 refl (tick_silent setting (steps before) ms)) (told-apart y before q (tick_apart ms) refl refl)
             (same ∙ ap (λ b. at_moment ms (if b then record { outcome = on.abandoned; kept = record k { is_over = true } } else record { outcome = on.done; kept = k })) waits))
     ]
@@ -205,9 +205,9 @@ tick_by setting before x ms None closes l e =
         λ slow idle. if slow then on.expired ends.slow_request else (if idle then on.expired ends.keep_alive_expired else on.done) in
     let change : Bool → Bool → Change = λ slow idle. at_moment ms
         (if slow
-        then record { outcome = on.expired ends.slow_request; kept = record k { told = Some ends.slow_request; buffered = k.buffered ++ timeout_text ms } }
+        then record { outcome = on.expired ends.slow_request; kept = record k { failed = Some ends.slow_request; buffered = k.buffered ++ timeout_text ms } }
         else (if idle
-        then record { outcome = on.expired ends.keep_alive_expired; kept = record k { told = Some ends.keep_alive_expired } }
+        then record { outcome = on.expired ends.keep_alive_expired; kept = record k { failed = Some ends.keep_alive_expired } }
         else record { outcome = on.done; kept = k })) in
     let slow_is = slow_same setting before first ms l.3 in
     let idle_is = idle_same setting before first ms l.3 in
@@ -236,7 +236,7 @@ tick_by setting before x ms None closes l e =
             (λ parse l'.
               let y = made (on.tick ms) on.done parse in
               let q : Quiet before y.step = record { taken = refl; eof = refl; accepted = refl; pull = refl; head = refl; bytes = refl; frames = refl } in
-              tick_made setting before ms on.done k.buffered k.told parse l' q
+              tick_made setting before ms on.done k.buffered k.failed parse l' q
               (buffered-quiet setting y.step before l.3 refl (tick_silent setting (steps before) ms)) (told-apart y before q (tick_apart ms) refl refl)
               (same ∙ (let s = slow_is ∙ quick in let d = idle_is ∙ busy in λ i. change (s i) (d i))))
         ]

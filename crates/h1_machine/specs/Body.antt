@@ -1,7 +1,7 @@
 -- The body of a request whose answer is complete is passed as far as it has come.
 use Rattle.std.specs.Prelude.{ℕ, ◌-◌, Bool, true, false, List, [], length, drop, nat_le, if◌then◌else◌, Option, Some, None}
 use Rattle.h1_chunks.specs.Place.{Place, after}
-use Rattle.h1_chunks.specs.Reading.{Ending, goes_on, is_broken, has_ended, read}
+use Rattle.h1_chunks.specs.Reading.{Ending, goes_on, is_broken, ends_before, read}
 use Rattle.h1_machine.specs.Kept.{Rest, no_rest, raw_rest, fixed_rest, chunks_rest, frames_rest, Reply, answered, Exchange, Kept}
 
 -- what is then left of the body, and of the bytes
@@ -11,7 +11,7 @@ pub record Passed : Type 0 where
 
 -- the bytes behind an end stay; of a body that isn't read to its end none do
 abbrev pub pass_chunks : Place → List ℕ → Ending → Passed
-pass_chunks place bytes (has_ended behind) = record { rest = no_rest; unread = behind }
+pass_chunks place bytes (ends_before behind) = record { rest = no_rest; unread = behind }
 pass_chunks place bytes _ = record { rest = chunks_rest (after place bytes) []; unread = [] }
 
 abbrev pub pass_rest : Bool → Rest → List ℕ → Passed

@@ -22,13 +22,14 @@ use Rattle.h1_machine.specs.Local.{closing_by}
 use Rattle.h1_machine.specs.Body.{passing}
 use Rattle.h1_machine.specs.Pull.{Pulled, IsPull}
 use Rattle.h1_machine.specs.Reply.{answering, sending_piece, ending_body}
-use Rattle.h1_machine.specs.Clock.{Change, ticking}
+use Rattle.h1_machine.specs.Kept.{Change}
+use Rattle.h1_machine.specs.Clock.{ticking}
 
 -- it is done, and this is kept
 abbrev pub doing : Kept → Change
 doing k = record { outcome = on.done; kept = k }
 
--- the same of the last request, where there is one
+-- what is done with the last request, where there is one, and all is as before where there is none
 abbrev pub doing_with : (Exchange → Kept → Kept) → Kept → Change
 doing_with act k = by_exchange k.exchange
   where
@@ -56,7 +57,7 @@ ending_input k = passing (record k { has_ended = true; exchange = exchange_at_en
 -- a fault is told and answered; a head is handed out
 abbrev pub behind_head : Kept → ℕ → Reading → Change
 behind_head k end (faulty f) =
-    record { outcome = on.fault f; kept = record k { told = Some (fault_end f); buffered = k.buffered ++ fault_answer f (now k) } }
+    record { outcome = on.fault f; kept = record k { failed = Some (fault_end f); buffered = k.buffered ++ fault_answer f (now k) } }
 behind_head k end (head_is h) =
     let unread = drop end k.unread in
     record { outcome = on.head h; kept = record k { unread = unread; exchange = Some (new_exchange (rest_in k.has_ended unread (whole_rest h.body)) h) } }
@@ -83,7 +84,7 @@ pulled_from x p k =
     record k {
       unread = p.unread;
       exchange = Some (record x { rest = p.rest; was_pulled = true; body_is_done = x.body_is_done || p.is_done });
-      told = option_or p.told k.told;
+      failed = option_or p.failed k.failed;
     }
 
 abbrev pub IsPulling : Kept → Option Exchange → Change → Type 0
@@ -107,7 +108,7 @@ accepting_with setting limit k None = doing k
 accepting_with setting limit k (Some x) = accepting setting limit x k x.refusal
 
 abbrev pub sending_message : Message → Kept → Option ProtocolError → Change
-sending_message m k (Some error) = record { outcome = on.protocol error; kept = record k { told = Some ends.protocol } }
+sending_message m k (Some error) = record { outcome = on.protocol error; kept = record k { failed = Some ends.protocol } }
 sending_message m k None =
     doing (record k { buffered = k.buffered ++ message_text m; is_sending = under_way_behind k.is_sending (on.send m) on.done })
 
@@ -126,7 +127,7 @@ IsChange setting k on.go_on c =
 IsChange setting k (on.answer head size) c = c ≡ doing_with (answering setting head size) k
 IsChange setting k (on.chunk bytes) c = c ≡ doing_with (sending_piece bytes) k
 IsChange setting k on.body_end c = c ≡ doing_with ending_body k
-IsChange setting k on.body_error c = c ≡ doing (record k { told = Some ends.body })
+IsChange setting k on.body_error c = c ≡ doing (record k { failed = Some ends.body })
 IsChange setting k (on.write n) c =
     c ≡ record { outcome = on.gave (take n k.buffered); kept = record k { buffered = drop n k.buffered } }
 IsChange setting k (on.tick ms) c = c ≡ ticking setting k (closing_by setting k) ms

@@ -3,17 +3,11 @@ use Rattle.std.specs.Prelude.{ℕ, Bool, true, false, not, ◌&&◌, List, [], �
 use Rattle.std.specs.Option.{option_or}
 use Rattle.h1_model.specs.Setting.{Setting}
 use Rattle.h1_model.specs.AnswerText.{timeout_text}
-use Rattle.h1_model.specs.Event.{Outcome}
 use Rattle.h1_model.specs.Event as on
 use Rattle.h1_model.specs.End as ends
 use Rattle.h1_model.specs.End.{End}
 use Rattle.h1_model.specs.OutcomeTable.{counted_from, has_run_out, is_kept_too_long}
-use Rattle.h1_machine.specs.Kept.{Kept, is_answered, is_nothing, of_exchange}
-
--- an outcome, and what is kept behind it
-pub record Change : Type 0 where
-  pub outcome : Outcome
-  pub kept : Kept
+use Rattle.h1_machine.specs.Kept.{Kept, Change, is_answered, is_nothing, of_exchange}
 
 -- bytes are left that the peer doesn't take
 abbrev pub is_abandoned : Setting → Kept → ℕ → ℕ → Bool
@@ -38,9 +32,9 @@ expiring setting k (Some end) first ms =
     else record { outcome = on.done; kept = k }
 expiring setting k None first ms =
     if is_slow setting k first ms
-    then record { outcome = on.expired ends.slow_request; kept = record k { told = Some ends.slow_request; buffered = k.buffered ++ timeout_text ms } }
+    then record { outcome = on.expired ends.slow_request; kept = record k { failed = Some ends.slow_request; buffered = k.buffered ++ timeout_text ms } }
     else (if is_idle setting k first ms
-    then record { outcome = on.expired ends.keep_alive_expired; kept = record k { told = Some ends.keep_alive_expired } }
+    then record { outcome = on.expired ends.keep_alive_expired; kept = record k { failed = Some ends.keep_alive_expired } }
     else record { outcome = on.done; kept = k })
 
 -- the moment is the last one now, and the first where none came before

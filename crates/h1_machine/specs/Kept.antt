@@ -5,30 +5,35 @@ use Rattle.h1_model.specs.Request.{BodyKind, no_body, fixed_body, chunked_body, 
 use Rattle.h1_model.specs.Answer.{Asked, asked_of, Shape}
 use Rattle.h1_model.specs.Handshake.{HandshakeError, handshake_error, accept_key_of}
 use Rattle.h1_model.specs.End.{End}
+use Rattle.h1_model.specs.Event.{Outcome}
 
--- What is left of a request's body: nothing; so many bytes, of which there are some; chunks from a place that is
--- not the end, with the text of the trailer lines so far; all up to the end of the input; or frames, with
--- whether a message in fragments is under way, and the limit of their payloads.
+-- What is left of a request's body.
 pub data Rest : Type 0 where
+  -- nothing, or all up to the end of the input
   no_rest raw_rest : Rest
+  -- so many bytes, of which there are some
   fixed_rest : ℕ → Rest
+  -- chunks, from a place that is not the end, with the text of the trailer lines so far
   chunks_rest : Place → List ℕ → Rest
+  -- frames, with whether a message in fragments is under way, and the limit of their payloads
   frames_rest : Bool → ℕ → Rest
 
--- How far the answer to a request is: there is none; its body is going out in a shape, with what becomes of the
--- connection behind it, and how many bytes of a stated length are missing; or it is complete.
+-- How far the answer to a request is.
 pub data Reply : Type 0 where
   unanswered : Reply
+  -- its body is going out in a shape; what becomes of the connection behind it; how many bytes of a stated length
+  -- are missing
   sending : Shape → ConnectionType → ℕ → Reply
+  -- it is complete, and this becomes of the connection
   answered : ConnectionType → Reply
 
--- The last request that was handed out, without its head: what its answer needs of it, whether it has a body
--- and expects to be told to go on, why an upgrade to WebSocket would be refused, and the answer to its key.
--- And what happened since.
+-- The last request that was handed out, without its head, and what happened since.
 pub record Exchange : Type 0 where
+  -- what its answer needs of it; whether it has a body; whether its client waits to be told to go on
   pub asked : Asked
   pub has_body : Bool
   pub expects : Bool
+  -- why an upgrade to WebSocket would be refused, and the answer to its key
   pub refusal : Option HandshakeError
   pub accept_key : List ℕ
   pub rest : Rest
@@ -36,6 +41,7 @@ pub record Exchange : Type 0 where
   pub was_pulled : Bool
   pub was_dropped : Bool
   pub was_told_to_go_on : Bool
+  -- a pull told the end or the fault of the body
   pub body_is_done : Bool
 
 -- the moments of the first and of the last tick, and of the last one before the last answer was complete
@@ -44,21 +50,30 @@ pub record Clock : Type 0 where
   pub last : Option ℕ
   pub completed : Option ℕ
 
--- The bytes taken and not passed, and whether a whole head stands there that is next to be handed out. What
--- came of the input's end and of a drain, and whether all is over. What is to be written, and whether a message
--- in fragments is being sent. The end that was told, and the last tick before the connection began to close.
+-- What a connection keeps between two events.
 pub record Kept : Type 0 where
+  -- the bytes taken and not passed, and whether a whole head stands there that is next to be handed out
   pub unread : List ℕ
   pub is_coming : Bool
+  -- the input has ended; a drain came; nothing is allowed any more
   pub has_ended : Bool
   pub is_draining : Bool
   pub is_over : Bool
+  -- the last request, if one was handed out
   pub exchange : Option Exchange
+  -- what is to be written, which has no bound; and whether a message in fragments is being sent
   pub buffered : List ℕ
   pub is_sending : Bool
   pub clock : Clock
-  pub told : Option End
+  -- the end that a fault, an expiry, a broken rule of WebSocket or an answer's body that failed or is short has
+  -- brought; and the last tick before the connection began to close
+  pub failed : Option End
   pub closing_since : Option (Option ℕ)
+
+-- an outcome, and what is kept behind it
+pub record Change : Type 0 where
+  pub outcome : Outcome
+  pub kept : Kept
 
 -- a connection to which nothing has happened
 abbrev pub fresh : Kept
@@ -73,7 +88,7 @@ fresh =
       buffered = [];
       is_sending = false;
       clock = record { first = None; last = None; completed = None };
-      told = None;
+      failed = None;
       closing_since = None;
     }
 

@@ -63,7 +63,7 @@ reply_of setting trace h (Some a) =
 
 -- ---- the last request
 
--- a pull told the body's end, or its fault
+-- a pull told the body's end, or its fault; a drop, which gives a body up too, is a part of its own
 abbrev pub tells_done : Event → Outcome → Bool
 tells_done on.pull on.body_ended = true
 tells_done on.pull (on.broken_by fault) = true
@@ -110,6 +110,6 @@ kept_of setting past =
       buffered = buffered setting trace;
       is_sending = is_sending trace;
       clock = clock_of trace;
-      told = option_or (told trace) (body_end_of trace);
+      failed = option_or (told trace) (body_end_of trace);
       closing_since = closing_since setting past;
     }

@@ -63,7 +63,7 @@ input_end setting k =
 -- why the connection closes, if it does
 unfoldable pub closing_by : Setting → Kept → Option End
 closing_by setting k =
-    option_or k.told
+    option_or k.failed
     (option_or (answered_end k.exchange)
     (option_or (drained_end k) (input_end setting k)))
 

@@ -12,22 +12,24 @@ use Rattle.h1_model.specs.End as ends
 use Rattle.h1_model.specs.End.{End}
 use Rattle.h1_machine.specs.Kept.{Rest, no_rest, raw_rest, fixed_rest, chunks_rest, frames_rest}
 
--- the outcome; what is left of the body; the bytes that stay; whether the body has ended or is given up; the end
--- that a broken rule of WebSocket tells
+-- what a pull gives, and what it leaves
 pub record Pulled : Type 0 where
   pub outcome : Outcome
+  -- what is left of the body, and the bytes that stay
   pub rest : Rest
   pub unread : List ℕ
+  -- the body's end or fault was told
   pub is_done : Bool
-  pub told : Option End
+  -- the end that a broken rule of WebSocket brings
+  pub failed : Option End
 
 -- the outcome, with all else as before
 abbrev pub gives : Outcome → Rest → List ℕ → Pulled
-gives outcome rest unread = record { outcome = outcome; rest = rest; unread = unread; is_done = false; told = None }
+gives outcome rest unread = record { outcome = outcome; rest = rest; unread = unread; is_done = false; failed = None }
 
 -- the body ends with this outcome
 abbrev pub finishes : Outcome → Rest → List ℕ → Pulled
-finishes outcome rest unread = record { outcome = outcome; rest = rest; unread = unread; is_done = true; told = None }
+finishes outcome rest unread = record { outcome = outcome; rest = rest; unread = unread; is_done = true; failed = None }
 
 -- no byte is there: the input has ended inside the body, or more may come
 abbrev pub lacking : Bool → Rest → List ℕ → Pulled
@@ -52,7 +54,7 @@ pull_front under_way limit bytes partial = gives on.pending (frames_rest under_w
 pull_front under_way limit bytes (whole frame len) =
     gives (on.frame frame) (frames_rest (is_under_way under_way frame) limit) (drop len bytes)
 pull_front under_way limit bytes (breaks_rule error) =
-    record (gives (on.protocol error) (frames_rest under_way limit) bytes) { told = Some ends.protocol }
+    record (gives (on.protocol error) (frames_rest under_way limit) bytes) { failed = Some ends.protocol }
 
 -- The end of a body in chunks: its trailers, if its section has lines, and else its end. The section is the text
 -- of the trailers' lines.

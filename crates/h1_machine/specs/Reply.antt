@@ -63,6 +63,6 @@ ending_body x k = by_reply x.reply
     by_reply (sending shape kind missing) =
         completing kind x (record k {
           buffered = k.buffered ++ (if x.asked.is_head then [] else end_text shape);
-          told = option_or (short_end x.asked shape missing) k.told;
+          failed = option_or (short_end x.asked shape missing) k.failed;
         })
     by_reply _ = k

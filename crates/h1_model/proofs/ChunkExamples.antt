@@ -9,7 +9,7 @@ use Rattle.httparse.specs.Grammar.{is_ows, is_token_byte}
 use Rattle.httparse.specs.Ascii.{crlf_bytes}
 use Rattle.h1_chunks.specs.ChunkedText.{IsExtension, SaysSize, Segment, IsSegment, segment_text, Trailer, section_text, ChunkedText, chunked_text, IsChunkedText}
 use Rattle.h1_chunks.specs.Runs.{segment_runs, cut_runs}
-use Rattle.h1_chunks.specs.Chunked.{whole, unfinished, not_chunked, Spells, Begins, IsChunked}
+use Rattle.h1_chunks.specs.Chunked.{whole, unfinished, not_chunked, Spells, IsBeginning, IsChunked}
 
 -- ---- a whole body
 
@@ -128,7 +128,7 @@ no_front zero t x = omega (arith, ap length x.1, (text_other t x.0).0)
 no_front (suc k) t x = false≢true (sym (text_other t x.0).1 ∙ ap begins_g (sym x.1))
 
 -- nor begins one, but for the empty front
-no_beginning : (n : ℕ) → 0 < n → n ≤ 1 → (t : ChunkedText) → Begins (take n (codes "g")) t → ⊥
+no_beginning : (n : ℕ) → 0 < n → n ≤ 1 → (t : ChunkedText) → IsBeginning (take n (codes "g")) t → ⊥
 no_beginning zero some most t x = omega arith
 no_beginning (suc n) some most t (more, has, x) = false≢true (sym (text_other t x.0).1 ∙ ap begins_g (sym x.1))
 
