@@ -1,17 +1,18 @@
 -- What comes next in the bytes of a body in chunks stands in the next run that the walk finds, up to the end of the
 -- bytes.
-use Rattle.std.proofs.Common.{◌≡◌, ℕ, suc, ◌+◌, ◌-◌, ◌<◌, ◌≤◌, false, ltb, eqb, min, List, [], ◌∷◌, ◌++◌, length, take, drop, Option, Some, None, refl, sym, ap, ◌∙◌, subst, inl, inr, arith, append-nil, length-take}
+use Rattle.std.proofs.Common.{◌≡◌, ℕ, suc, ◌+◌, ◌-◌, ◌<◌, ◌≤◌, false, ltb, min, List, [], ◌∷◌, ◌++◌, length, take, drop, Option, Some, None, refl, sym, ap, ◌∙◌, subst, inl, inr, arith, append-nil, length-take}
 use Rattle.std.specs.Prelude.{slice_range}
-use Rattle.std.proofs.lemmas.Bool.{cond-true, cond-false, cases_lt, lt-ltb, le-ltb, eq-eqb, ne_eqb}
+use Rattle.std.proofs.lemmas.Bool.{cond-true, cond-false, cases_lt, lt-ltb, le-ltb}
 use Rattle.std.proofs.lemmas.List.{take_all, drop_all}
 use Rattle.h1_chunks.specs.Runs.{Run, cut_runs}
-use Rattle.h1_chunks.specs.Place.{InLine, Place, in_bytes, bytes_end, in_section, done, broken, bytes_step, step, after}
+use Rattle.h1_chunks.specs.Place.{InLine, Place, in_bytes, bytes_end, in_section, done, broken, step, after}
 use Rattle.h1_chunks.specs.Reading.{Ending, only, with_bytes, with_trailers, noted, at_end, read}
 use Rattle.h1_chunks.specs.TakeNext.{Next, chunk, waits, ended, breaks, Taken, of_chunk, noted_line, stops_at, take_next, says}
 use Rattle.h1_chunks.proofs.ReadSteps.{HasNext, read-nil, read-cons}
 use Rattle.h1_chunks.proofs.ReadAfter.{after-nil, after-cons}
 use Rattle.h1_chunks.proofs.Complete.{bytes_read}
 use Rattle.h1_chunks.proofs.TakenReads.{taken_is_read}
+use Rattle.h1_chunks.proofs.TakenPlaces.{after_all, after_some}
 use Rattle.h1_chunks.proofs.Verdicts.{IsLive}
 use Rattle.h1_chunks.proofs.RunPlaces.{runs_of, runs_of-nil, runs_of-cons, runs_of_late}
 use Rattle.h1_chunks.proofs.RunBytes.{in_chunk, current, opened_is_current}
@@ -128,26 +129,6 @@ line_on place at lines room q b bytes t run e x =
     taken_on place (in_section at lines room) b bytes t.trailers t.trailers run t.next tt alike here
 
 -- ---- bytes of a chunk
-
--- behind all of them
-after_all : (bytes : List ℕ) (more : ℕ) → length bytes ≡ more + 1 → after (in_bytes more) bytes ≡ bytes_end
-after_all [] more e = absurd (omega arith)
-after_all (b ∷ []) more e =
-    after-cons (in_bytes more) b [] ∙ after-nil (bytes_step more)
-    ∙ cond-true (eqb more 0) bytes_end (in_bytes (more - 1)) (eq-eqb more 0 (omega arith))
-after_all (b ∷ c ∷ bytes) more e =
-    after-cons (in_bytes more) b (c ∷ bytes)
-    ∙ ap (λ p. after p (c ∷ bytes)) (cond-false (eqb more 0) bytes_end (in_bytes (more - 1)) (ne_eqb more 0 (omega arith)))
-    ∙ after_all (c ∷ bytes) (more - 1) (omega arith)
-
--- behind some
-after_some : (bytes : List ℕ) (more : ℕ) → length bytes ≤ more → after (in_bytes more) bytes ≡ in_bytes (more - length bytes)
-after_some [] more e = let same : more ≡ more - 0 = omega arith in after-nil (in_bytes more) ∙ ap in_bytes same
-after_some (b ∷ bytes) more e =
-    let same : more - 1 - length bytes ≡ more - suc (length bytes) = omega arith in
-    after-cons (in_bytes more) b bytes
-    ∙ ap (λ p. after p bytes) (cond-false (eqb more 0) bytes_end (in_bytes (more - 1)) (ne_eqb more 0 (omega arith)))
-    ∙ after_some bytes (more - 1) (omega arith) ∙ ap in_bytes same
 
 -- the run that goes on there
 chunk_run : (place more size b : ℕ) (bytes : List ℕ) → min (more + 1) (suc (length bytes)) ≡ size

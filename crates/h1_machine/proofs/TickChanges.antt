@@ -21,10 +21,10 @@ use Rattle.h1_model.specs.OutcomeTable as table
 use Rattle.h1_model.proofs.PastLemmas.{Legal}
 use Rattle.h1_model.proofs.StepLemmas.{Quiet}
 use Rattle.h1_model.proofs.CarriedLemmas.{passed_complete}
-use Rattle.h1_machine.specs.Kept.{is_answered, is_nothing, of_exchange}
+use Rattle.h1_machine.specs.Kept.{is_answered, is_nothing, of_exchange, Change}
 use Rattle.h1_machine.specs.KeptOf.{rest_of, kept_of}
 use Rattle.h1_machine.specs.Local.{closing_by}
-use Rattle.h1_machine.specs.Clock.{Change, is_abandoned, is_slow, is_idle, at_moment, ticking}
+use Rattle.h1_machine.specs.Clock.{is_abandoned, is_slow, is_idle, at_moment, ticking}
 use Rattle.h1_machine.proofs.Changes.{Changes}
 use Rattle.h1_machine.proofs.Current.{current_of}
 use Rattle.h1_machine.proofs.Orderly.{orderly}
