@@ -16,7 +16,8 @@ pub record Counted : Type 0 where
   pub number : ℕ
   pub days : ℕ
 
--- the year in which a day lies, counted from the first day of a year; at most so many years are looked at
+-- the year in which a day lies, counted from the first day of a year; at most so many years are passed, and what is
+-- left behind them counts to the next
 unfoldable pub year_at : ℕ → ℕ → ℕ → Counted
 year_at zero year days = record { number = year; days = days }
 year_at (suc more) year days =
@@ -80,12 +81,12 @@ appended ([] ∷ groups) h = [] ∷ appended groups h
 appended ((g ∷ gs) ∷ groups) h =
     if bytes_eq g.name h.name then (g ∷ gs ++ h ∷ []) ∷ groups else (g ∷ gs) ∷ appended groups h
 
--- the headers name by name, in the order in which the names came first
+-- the headers name by name, in the order in which the names came first; names are compared as they are, in lower case
 abbrev pub by_name : List Header → List Header
 by_name headers = flat_map (λ group. group) (fold appended [] headers)
 
--- The connection's own lines are never a header's, and the framing's only where no framing is added: for
--- a 304, and for a raw stream that isn't another protocol's.
+-- A header never gives a connection line. It gives a framing line in two cases alone: for a 304, and for a raw stream
+-- that isn't another protocol's.
 abbrev pub is_sent : AnswerHead → Shape → Header → Bool
 is_sent answer shape h =
     not (bytes_eq h.name (codes "connection"))

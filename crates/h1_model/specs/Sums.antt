@@ -132,13 +132,13 @@ abbrev pub answered_by : Event → Bool → Option Answered
 answered_by (on.answer head size) drained = Some (record { head = head; size = size; drained = drained })
 answered_by _ drained = None
 
--- the answer to the last request, if there is one
+-- the answer that was handed in behind the last head, if there is one
 unfoldable pub answered : List Step → Option Answered
 answered [] = None
 answered (s ∷ before) =
     if is_some (head_of s.outcome) then None else option_or (answered_by s.event (is_draining before)) (answered before)
 
--- the event completes an answer
+-- the event completes an answer, if one may come there
 abbrev pub completes : Event → Bool
 completes (on.answer head size) = is_at_once size
 completes on.body_end = true
