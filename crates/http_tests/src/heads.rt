@@ -1,40 +1,50 @@
 //! Heads of requests and responses.
 use http_types::{
-    BadReason, ConnectionType, HeaderMap, HeaderName, HeaderValue, Method, ParseError, RequestHead,
-    ResponseHead, StatusCode, Uri, Version,
+    BadReason, ConnectionType, HeaderMap, HeaderName, HeaderValue, Method, NoMemory, ParseError,
+    RequestHead, ResponseHead, StatusCode, Uri, Version,
 };
 use std::alloc::Global;
 use std::test::Fail;
 
-fn get(alloc: Global, version: Version) -> Result<RequestHead, Fail> {
+// The one header `host: a`.
+fn one_header(alloc: Global) -> Result<HeaderMap, Fail> {
+    let name = HeaderName::from_bytes(alloc, b"host")?;
+    let value = HeaderValue::from_bytes(alloc, b"a")?;
     let mut headers = HeaderMap::new(alloc);
-    headers.append(
-        HeaderName::from_bytes(alloc, b"host")?,
-        HeaderValue::from_bytes(alloc, b"a")?,
-    )?;
+    headers.append(name, value)?;
+    Ok(headers)
+}
+
+fn get(alloc: Global) -> Result<RequestHead, Fail> {
+    let headers = one_header(alloc)?;
     let uri = Uri::from_bytes(alloc, b"/b?c")?;
-    Ok(RequestHead::from_parts(Method::GET, uri, version, headers))
+    Ok(RequestHead::from_parts(Method::GET, uri, Version::HTTP_11, headers))
+}
+
+// The path of a copy, and whether it has the header.
+fn has_copy(head: &RequestHead, path: &str) -> Result<bool, NoMemory> {
+    let copy = head.copy()?;
+    Ok(copy.uri.path() == path && copy.headers().contains_key("Host"))
 }
 
 #[test]
-fn a_request_head_is_its_parts(rt: HostRuntime) -> Result<(), Fail> {
-    let mut head = get(rt.alloc(), Version::HTTP_11)?;
-    assert!(rt; !head.expect() && head.peer_addr.is_none());
-    head.set_expect();
-    head.set_connection_type(ConnectionType::Upgrade);
-    let copy = head.copy()?;
-    assert_eq!(rt; copy.method.as_str(), "GET");
-    assert_eq!(rt; copy.uri.path(), "/b");
-    assert_eq!(rt; copy.version, Version::HTTP_11);
-    assert_eq!(rt; copy.headers().len(), 1);
-    assert!(rt; copy.headers().contains_key("Host"));
-    assert!(rt; copy.expect());
-    assert_eq!(rt; copy.connection_type(), ConnectionType::Upgrade);
+fn a_request_head_is_copied(rt: HostRuntime) -> Result<(), Fail> {
+    assert!(rt; has_copy(&get(rt.alloc())?, "/b")?);
     Ok(())
 }
 
+// The type of a head of this version with these marks.
+fn type_of(alloc: Global, version: Version, marks: &[ConnectionType]) -> ConnectionType {
+    let mut head = ResponseHead::new(alloc, StatusCode::OK);
+    head.version = version;
+    for mark in marks {
+        head.set_connection_type(*mark);
+    }
+    head.connection_type()
+}
+
 #[test]
-fn the_first_mark_gives_the_type(rt: HostRuntime) -> Result<(), Fail> {
+fn the_first_mark_gives_the_type(rt: HostRuntime) {
     use ConnectionType::{Close, KeepAlive, Upgrade};
 
     let rows: [(Version, &[ConnectionType], ConnectionType); 5] = [
@@ -45,61 +55,48 @@ fn the_first_mark_gives_the_type(rt: HostRuntime) -> Result<(), Fail> {
         (Version::HTTP_11, &[Upgrade], Upgrade),
     ];
     for (version, marks, want) in rows {
-        let mut request = get(rt.alloc(), version)?;
-        let mut response = ResponseHead::new(rt.alloc(), StatusCode::OK);
-        response.version = version;
-        for mark in marks {
-            request.set_connection_type(*mark);
-            response.set_connection_type(*mark);
-        }
-        assert_eq!(rt; request.connection_type(), want);
-        assert_eq!(rt; response.connection_type(), want);
-        assert_eq!(rt; response.keep_alive(), want == KeepAlive);
-        assert_eq!(rt; response.upgrade(), want == Upgrade);
-        assert_eq!(rt; response.conn_type().is_none(), marks.is_empty());
+        assert!(rt; type_of(rt.alloc(), version, marks) == want);
+    }
+}
+
+// Whether a status has this reason.
+fn has_reason(alloc: Global, status: u16, reason: &str) -> Result<bool, Fail> {
+    let status = StatusCode::from_u16(status)?;
+    Ok(ResponseHead::new(alloc, status).reason() == reason)
+}
+
+#[test]
+fn a_reason_is_that_of_the_status(rt: HostRuntime) -> Result<(), Fail> {
+    for (status, want) in [(404, "Not Found"), (299, "<unknown status code>")] {
+        assert!(rt; has_reason(rt.alloc(), status, want)?);
     }
     Ok(())
 }
 
-#[test]
-fn a_reason_is_the_own_one_or_that_of_the_status(rt: HostRuntime) -> Result<(), Fail> {
-    let alloc = rt.alloc();
-    for (status, own, want) in [
-        (404, None, "Not Found"),
-        (299, None, "<unknown status code>"),
-        (299, Some(""), ""),
-    ] {
-        let mut head = ResponseHead::new(alloc, StatusCode::from_u16(status)?);
-        if let Some(own) = own {
-            head.set_reason(String::from_str(alloc, own)?)?;
-        }
-        assert_eq!(rt; head.reason(), want);
-        assert_eq!(rt; head.has_own_reason(), own.is_some());
-    }
-    Ok(())
-}
-
-#[test]
-fn a_copy_keeps_all_of_a_head(rt: HostRuntime) -> Result<(), Fail> {
-    let alloc = rt.alloc();
+// A head with a reason and a header of its own.
+fn own_head(alloc: Global) -> Result<ResponseHead, Fail> {
     let mut head = ResponseHead::new(alloc, StatusCode::OK);
-    assert!(rt; head.copy()?.is_plain());
-    head.set_reason(String::from_str(alloc, "Fine")?)?;
-    let name = HeaderName::from_bytes(alloc, b"a")?;
-    head.headers
-        .append(name, HeaderValue::from_bytes(alloc, b"b")?)?;
+    head.headers = one_header(alloc)?;
+    let reason = String::from_str(alloc, "Fine")?;
+    head.set_reason(reason)?;
+    Ok(head)
+}
+
+// Whether a copy has this reason, and one header.
+fn copies(head: &ResponseHead, reason: &str) -> Result<bool, NoMemory> {
     let copy = head.copy()?;
-    assert!(rt; !copy.is_plain() && copy.headers().len() == 1);
-    assert_eq!(rt; copy.reason(), "Fine");
+    Ok(copy.reason() == reason && copy.headers().len() == 1)
+}
+
+#[test]
+fn a_response_head_is_copied(rt: HostRuntime) -> Result<(), Fail> {
+    assert!(rt; copies(&own_head(rt.alloc())?, "Fine")?);
     Ok(())
 }
 
 #[test]
 fn errors_print_their_cause(rt: HostRuntime) -> Result<(), Fail> {
     let shown = format!(in rt.alloc(); "{}, {BadReason}", ParseError::TooLarge)?;
-    assert_eq!(rt;
-        shown.as_str(),
-        "the head is too large, the reason has a line break"
-    );
+    assert!(rt; shown.as_str() == "the head is too large, the reason has a line break");
     Ok(())
 }

@@ -1,5 +1,7 @@
 //! The map and its iterators.
-use http_map::{ACCEPT, HOST, HeaderMap, HeaderName, Removed, SET_COOKIE, value_of_str};
+use http_map::{
+    ACCEPT, Drain, HOST, HeaderMap, HeaderName, HeaderValue, Removed, SET_COOKIE, value_of_str,
+};
 use std::alloc::Global;
 use std::test::Fail;
 
@@ -23,16 +25,22 @@ enum Edit {
     Clear,
 }
 
+// A name and a value, of their texts.
+fn pair(alloc: Global, name: &str, value: &str) -> Result<(HeaderName, HeaderValue), Fail> {
+    let name = HeaderName::from_bytes(alloc, name.as_bytes())?;
+    Ok((name, value_of_str(alloc, value)?))
+}
+
 // The values that the edit took out of the map.
 fn edited(alloc: Global, map: &mut HeaderMap, edit: Edit) -> Result<Removed, Fail> {
     match edit {
         Edit::Insert(name, value) => {
-            let name = HeaderName::from_bytes(alloc, name.as_bytes())?;
-            return Ok(map.insert(name, value_of_str(alloc, value)?)?);
+            let (name, value) = pair(alloc, name, value)?;
+            return Ok(map.insert(name, value)?);
         }
         Edit::Append(name, value) => {
-            let name = HeaderName::from_bytes(alloc, name.as_bytes())?;
-            map.append(name, value_of_str(alloc, value)?)?;
+            let (name, value) = pair(alloc, name, value)?;
+            map.append(name, value)?;
         }
         Edit::Remove(name) => return Ok(map.remove(name)),
         Edit::KeepValuesThatBegin(text) => {
@@ -47,8 +55,8 @@ fn edited(alloc: Global, map: &mut HeaderMap, edit: Edit) -> Result<Removed, Fai
 fn map_of(alloc: Global, lines: &[(&str, &str)]) -> Result<HeaderMap, Fail> {
     let mut map = HeaderMap::new(alloc);
     for line in lines {
-        let name = HeaderName::from_bytes(alloc, line.0.as_bytes())?;
-        map.append(name, value_of_str(alloc, line.1)?)?;
+        let (name, value) = pair(alloc, line.0, line.1)?;
+        map.append(name, value)?;
     }
     Ok(map)
 }
@@ -153,57 +161,75 @@ fn writes_through_to_the_first_value(rt: HostRuntime) -> Result<(), Fail> {
     Ok(())
 }
 
+// Whether the drain gives these names and values, and then none for good.
+fn drains(mut drain: Drain, wanted: &[(Option<&str>, &str)]) -> bool {
+    let mut same = drain.len() == wanted.len();
+    for (name, value) in wanted {
+        same &= match drain.next() {
+            Some((given, bytes)) => {
+                let is_named = match (given, name) {
+                    (Some(given), Some(name)) => given.as_str() == *name,
+                    (given, name) => given.is_none() && name.is_none(),
+                };
+                is_named && bytes.as_bytes() == value.as_bytes()
+            }
+            None => false,
+        };
+    }
+    same && drain.next().is_none() && drain.next().is_none()
+}
+
 #[test]
 fn is_drained(rt: HostRuntime) -> Result<(), Fail> {
     let mut map = map_of(rt.alloc(), &COOKIES)?;
-    let mut drain = map.drain();
-    assert!(rt; map.is_empty() && drain.len() == 3);
-    for (name, value) in [
-        (Some("set-cookie"), "one=1"),
-        (None, "two=2"),
-        (Some("accept"), "text/plain"),
-    ] {
-        match drain.next() {
-            Some((given, bytes)) => {
-                assert!(rt; bytes.as_bytes() == value.as_bytes());
-                match (given, name) {
-                    (Some(given), Some(name)) => assert!(rt; given.as_str() == name),
-                    (given, name) => assert!(rt; given.is_none() && name.is_none()),
-                }
-            }
-            None => assert!(rt; false),
-        }
-    }
-    assert!(rt; drain.next().is_none() && drain.next().is_none());
+    assert!(rt;
+        drains(
+            map.drain(),
+            &[
+                (Some("set-cookie"), "one=1"),
+                (None, "two=2"),
+                (Some("accept"), "text/plain"),
+            ]
+        )
+    );
+    assert!(rt; map.is_empty());
     Ok(())
+}
+
+// A map that is made of these pairs at once.
+fn made_of(alloc: Global, lines: &[(&str, &str)]) -> Result<HeaderMap, Fail> {
+    let mut pairs = Vec::with_capacity(alloc, lines.len())?;
+    for line in lines {
+        pairs.push(pair(alloc, line.0, line.1)?)?;
+    }
+    Ok(HeaderMap::try_from_pairs(alloc, pairs.into_iter())?)
+}
+
+// Whether the map gives itself up as these pairs, and then as none for good.
+fn gives_back(map: HeaderMap, lines: &[(&str, &str)]) -> bool {
+    let mut owned = map.into_iter();
+    let mut same = owned.len() == lines.len();
+    for line in lines {
+        same &= match owned.next() {
+            Some(Ok((name, value))) => {
+                name.as_str() == line.0 && value.as_bytes() == line.1.as_bytes()
+            }
+            _ => false,
+        };
+    }
+    same && owned.next().is_none() && owned.next().is_none()
 }
 
 #[test]
 fn is_made_of_pairs_and_gives_them_back(rt: HostRuntime) -> Result<(), Fail> {
-    let alloc = rt.alloc();
     let lines = [
         ("content-type", "text/plain"),
         ("cookie", "foo=1"),
         ("cookie", "bar=1"),
     ];
-    let mut pairs = Vec::with_capacity(alloc, 3)?;
-    for (name, value) in lines {
-        let name = HeaderName::from_bytes(alloc, name.as_bytes())?;
-        pairs.push((name, value_of_str(alloc, value)?))?;
-    }
-    let map = HeaderMap::try_from_pairs(alloc, pairs.into_iter())?;
-    assert!(rt; map.len() == 3 && map.len_keys() == 2 && map.keys().len() == 2);
-    let mut owned = map.into_iter();
-    assert!(rt; owned.len() == 3);
-    for line in lines {
-        match owned.next() {
-            Some(Ok((name, value))) => {
-                assert!(rt; name.as_str() == line.0 && value.as_bytes() == line.1.as_bytes());
-            }
-            _ => assert!(rt; false),
-        }
-    }
-    assert!(rt; owned.next().is_none() && owned.next().is_none());
+    let map = made_of(rt.alloc(), &lines)?;
+    assert!(rt; map.len_keys() == 2 && map.keys().len() == 2);
+    assert!(rt; gives_back(map, &lines));
     Ok(())
 }
 
