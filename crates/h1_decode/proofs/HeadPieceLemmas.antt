@@ -1,5 +1,5 @@
 -- The head piece of a buffer, and what a scan may pass over.
-use Rattle.std.proofs.Common.{◌≡◌, ℕ, zero, suc, ◌+◌, ◌-◌, ◌<◌, ◌≤◌, max, List, ◌++◌, length, take, drop, slice_range, inl, inr, sym, ap, ◌∙◌, subst, arith, append_assoc, length-append, length-take}
+use Rattle.std.proofs.Common.{◌≡◌, ℕ, zero, suc, ◌+◌, ◌-◌, ◌<◌, ◌≤◌, max, List, ◌++◌, length, take, drop, slice_range, inl, inr, sym, ap, ◌∙◌, subst, arith, append_assoc, length-append}
 use Rattle.std.proofs.lemmas.Bool.{cases_lt}
 use Rattle.std.proofs.lemmas.List.{take-append-le, take-take, take-append-drop, drop-append-le, length-take-le}
 use Rattle.std.proofs.lemmas.Slice.{between_is}
@@ -89,17 +89,4 @@ HasScanned-append position bytes more has =
       in_range = omega (arith, has.in_range, length-append bytes more);
       blank = subst AreBlankLines (sym (take-append-le position.start bytes more fits)) has.blank;
       no_head = subst HasNoHeadPiece (sym (take-append-le position.scanned bytes more has.in_range)) has.no_head;
-    }
-
--- a position in the front of some bytes is one in a longer front
-pub HasScanned-take : (position : HeadPosition) (bytes : List ℕ) (m n : ℕ) → m ≤ n → HasScanned position (take m bytes) → HasScanned position (take n bytes)
-HasScanned-take position bytes m n le has =
-    let front = λ (k : ℕ) (low : k ≤ m). take-take k m bytes low ∙ sym (take-take k n bytes (omega arith)) in
-    let short : length (take m bytes) ≤ m = omega (arith, length-take m bytes) in
-    let longer : length (take m bytes) ≤ length (take n bytes) = omega (arith, length-take m bytes, length-take n bytes) in
-    record {
-      ordered = has.ordered;
-      in_range = omega (arith, has.in_range);
-      blank = subst AreBlankLines (front position.start (omega (arith, has.ordered, has.in_range))) has.blank;
-      no_head = subst HasNoHeadPiece (front position.scanned (omega (arith, has.in_range))) has.no_head;
     }

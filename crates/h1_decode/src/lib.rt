@@ -1,11 +1,26 @@
 //! Reading the heads of messages: where a head begins and ends in a buffer, and what it says.
+//! `HeadScanner` keeps its place over a buffer that grows, so a head that comes byte by byte costs
+//! what it costs in one piece.
+//!
+//! # Example
+//!
+//! ```ignore
+//! let bytes = b"\r\nGET /a HTTP/1.1\r\nHost: b\r\n\r\nrest";
+//! assert_eq!(rt; scan_head(bytes), HeadScan::Piece(2, 30));
+//! let item = request_head(alloc, Bytes::copy_from_slice(alloc, &bytes[2..30])?)?;
+//! assert!(rt; item.target.as_slice() == b"/a".as_slice() && item.body == BodyKind::None);
+//! ```
+//!
+//! # Contract
+//!
+//! A scan answers the head piece of the bytes, and `Open` exactly where they have none; a head that
+//! is read is what the definitions read in its piece, and no other is: `NotYet` comes only for a
+//! piece that isn't a simple head.
 #![tactic(auto)]
 
 mod decoder;
 mod lines;
 mod scan;
-#[cfg(test)]
-mod tests;
 
 pub use decoder::{BodyKind, HeadItem, request_head};
 pub use scan::{HeadScan, HeadScanner, scan_head};

@@ -1,18 +1,6 @@
 //! Replays a script of connection events over the program's input and output.
 #![tactic(auto)]
 
-mod input;
-mod output;
-mod pieces;
-mod reply;
-mod report;
-mod run;
-mod script;
-#[cfg(test)]
-mod tests;
-mod text;
-mod word;
-
 use http_types::{StdSink, StdSource};
 use std::alloc::Global;
 use std::process::ExitCode;
@@ -25,7 +13,7 @@ fn main(rt: HostRuntime) -> ExitCode {
     let words = words(&rt).unwrap_or(Vec::new(alloc));
     let mut input = StdSource::new(rt.stdin());
     let mut output = StdSink::new(rt.stdout());
-    ExitCode::from(run::run(alloc, &words, &mut input, &mut output))
+    ExitCode::from(h1_replay::run(alloc, &words, &mut input, &mut output))
 }
 
 // The program's arguments, without its name.

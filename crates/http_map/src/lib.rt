@@ -1,5 +1,22 @@
 //! The header map of an HTTP message: names in the order of their first insertion, each with its
-//! values, after the module `header` of actix-http.
+//! values, after the module `header` of actix-http. With it come the names and values that go into a
+//! map, and what they are made of.
+//!
+//! # Example
+//!
+//! ```ignore
+//! let mut map = HeaderMap::new(alloc);
+//! map.append(SET_COOKIE, value_of_str(alloc, "one=1")?)?;
+//! map.append(ACCEPT, value_of_str(alloc, "text/plain")?)?;
+//! map.append(SET_COOKIE, value_of_str(alloc, "two=2")?)?;
+//! // The map gives set-cookie: one=1, set-cookie: two=2, accept: text/plain.
+//! assert!(rt; map.len() == 3 && map.len_keys() == 2 && map.contains_key("Set-Cookie"));
+//! ```
+//!
+//! # Contract
+//!
+//! A clause sees a map as the list of its names, each with the list of its values: every call gives
+//! exactly what that list gives, and leaves what it says; want of memory leaves the map as it was.
 #![tactic(auto)]
 
 mod any_case;
@@ -11,8 +28,6 @@ mod iter;
 mod map;
 mod owned;
 mod removed;
-#[cfg(test)]
-mod tests;
 mod values;
 
 pub use as_name::AsHeaderName;

@@ -1,4 +1,20 @@
-//! The values that an HTTP/1 connection speaks of: heads, settings, sources and sinks.
+//! The values that an HTTP/1 connection speaks of: heads of requests and responses, settings, sizes
+//! and errors, and the sources and sinks between which bytes move. It re-exports `http_map` as `header`.
+//!
+//! # Example
+//!
+//! ```ignore
+//! let config = ServiceConfigBuilder::new().keep_alive(KeepAlive::Os).build();
+//! let mut head = ResponseHead::new(alloc, StatusCode::OK);
+//! head.set_connection_type(ConnectionType::Close);
+//! assert!(rt; config.keep_alive() == KeepAlive::Os && head.reason() == "OK" && !head.keep_alive());
+//! ```
+//!
+//! # Contract
+//!
+//! Heads and settings are records, and each call says which field it gives or changes; a source or a
+//! sink says how many bytes moved, which, and what is left or was given, and it fails only where its
+//! count of faults rose.
 #![tactic(auto)]
 
 mod body;
@@ -32,6 +48,3 @@ pub use sink::Sink;
 pub use source::Source;
 pub use standard::{StdSink, StdSource};
 pub use sure::{SureSink, SureSource};
-
-#[cfg(test)]
-mod tests;

@@ -1,0 +1,28 @@
+-- What the reading of a line or a script gives, against what stands there. Memory may run out.
+use Rattle.std.specs.Prelude.{ℕ, ◌≡◌, ⊤, List, Vec, Option, Some, None, Result, Ok, Err}
+use Rattle.std.specs.declared.alloc.Global.{Global}
+use Rattle.http_types.specs.Config.{Settings}
+use Rattle.h1_dispatch.specs.declared.event.Event.{Event}
+use Rattle.h1_replay.specs.declared.word.LineError.{LineError}
+use Rattle.h1_replay.specs.declared.word.LineError.TheVariants as line
+use Rattle.h1_replay.specs.declared.script.Script.{Script}
+use Rattle.h1_replay.specs.declared.script.ScriptError.{ScriptError}
+use Rattle.h1_replay.specs.declared.script.ScriptError.TheVariants as script
+
+-- a value of the text, or its refusal
+abbrev pub Reads : {T : Type 0} → Result T LineError → Option T → Type 0
+Reads (Ok value) there = there ≡ Some value
+Reads (Err line.Unreadable) there = there ≡ None
+Reads (Err line.NoMemory) there = ⊤
+
+-- the events of some lines, or the number of the line that names none
+abbrev pub ReadsEvents : Result (Vec Event Global) ScriptError → Result (List Event) ℕ → Type 0
+ReadsEvents (Ok events) there = there ≡ Ok events.items
+ReadsEvents (Err (script.BadLine n)) there = there ≡ Err n
+ReadsEvents (Err script.NoMemory) there = ⊤
+
+-- the whole script, or the number of the first line that is none
+abbrev pub ReadsScript : Result Script ScriptError → Result (Settings × List Event) ℕ → Type 0
+ReadsScript (Ok read) there = there ≡ Ok (read.config, read.events.items)
+ReadsScript (Err (script.BadLine n)) there = there ≡ Err n
+ReadsScript (Err script.NoMemory) there = ⊤

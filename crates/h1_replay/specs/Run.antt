@@ -1,0 +1,83 @@
+-- What the program answers: a status, and the text that goes to its output.
+use Rattle.std.specs.Prelude.{ℕ, ◌≡◌, ◌++◌, ◌<◌, List, [], ◌∷◌, Option, IfSome, Ok, Err, length, codes, decimal}
+use Rattle.std.specs.Io.KnownBytes.{Consumes, Keeps, IsAtEnd}
+use Rattle.http_types.specs.Config.{Settings}
+use Rattle.h1_dispatch.specs.Run.{IsWhole, IsMisplaced, IsPremature}
+use Rattle.h1_dispatch.specs.declared.event.Event.{Event}
+use Rattle.h1_dispatch.specs.declared.trace.Trace.{Trace}
+use Rattle.h1_replay.specs.Report.{IsReport}
+use Rattle.h1_replay.specs.Script.{script_of}
+
+-- the one command that there is
+abbrev pub IsReplay : List (List ℕ) → Type 0
+IsReplay words = words ≡ codes "replay" ∷ []
+
+-- the texts that nothing but the status decides
+abbrev pub usage_text : List ℕ
+usage_text = codes "usage: h1_run replay | h1_run gen SEED COUNT\n"
+
+abbrev pub read_fault_text : List ℕ
+read_fault_text = codes "read fault\n"
+
+abbrev pub too_long_text : List ℕ
+too_long_text = codes "too long\n"
+
+abbrev pub no_memory_text : List ℕ
+no_memory_text = codes "no memory\n"
+
+-- a word and a number on a line
+abbrev pub numbered_line : List ℕ → ℕ → List ℕ
+numbered_line word number = word ++ decimal number ++ codes "\n"
+
+-- ---- what a script gives
+
+-- the report of the script's one trace, in which each event was allowed and served
+pub record IsDone (bytes text : List ℕ) : Type 0 where
+  pub config : Settings
+  pub events : List Event
+  pub trace : Trace
+  pub script : script_of bytes ≡ Ok (config, events)
+  pub whole : IsWhole config events trace
+  pub report : IsReport trace text
+
+-- the number of the first line that is none of the grammar
+pub record IsBadLine (bytes text : List ℕ) : Type 0 where
+  pub number : ℕ
+  pub script : script_of bytes ≡ Err number
+  pub line : text ≡ numbered_line (codes "bad line ") number
+
+-- the report of the events before the one that stopped the run, and a line with that one's place
+pub record IsStoppedText (trace : Trace) (word : List ℕ) (index : ℕ) (text : List ℕ) : Type 0 where
+  pub before : List ℕ
+  pub report : IsReport trace before
+  pub line : text ≡ before ++ numbered_line word index
+
+-- such a text for a script that an event stops
+pub record IsStopped (stop : Settings → List Event → ℕ → Trace → Type 0) (word bytes text : List ℕ) : Type 0 where
+  pub config : Settings
+  pub events : List Event
+  pub index : ℕ
+  pub trace : Trace
+  pub script : script_of bytes ≡ Ok (config, events)
+  pub stops : stop config events index trace
+  pub is_text : IsStoppedText trace word index text
+
+-- ---- what the words and the input give
+
+-- the input was read to its end: these are its bytes
+pub record ReadsWhole (left then : Option (List ℕ)) (bytes : List ℕ) : Type 0 where
+  pub read : Consumes left then bytes
+  pub at_end : IsAtEnd then
+
+-- Each status says what it says. Want of memory may come at any time. The input's known bytes go from `left` to `then`.
+pub data IsAnswer (words : List (List ℕ)) (left then : Option (List ℕ)) (status : ℕ) (text : List ℕ) : Type 0 where
+  done : (bytes : List ℕ) → IsReplay words → ReadsWhole left then bytes → IsDone bytes text → status ≡ 0 → IsAnswer words left then status text
+  usage : ¬ IsReplay words → Keeps left then → text ≡ usage_text → status ≡ 1 → IsAnswer words left then status text
+  bad_line : (bytes : List ℕ) → IsReplay words → ReadsWhole left then bytes → IsBadLine bytes text → status ≡ 2 → IsAnswer words left then status text
+  misplaced : (bytes : List ℕ) → IsReplay words → ReadsWhole left then bytes → IsStopped IsMisplaced (codes "misplaced ") bytes text → status ≡ 3
+      → IsAnswer words left then status text
+  read_fault : IsReplay words → text ≡ read_fault_text → status ≡ 4 → IsAnswer words left then status text
+  too_long : IsReplay words → IfSome left (λ bytes. 16777216 < length bytes) → text ≡ too_long_text → status ≡ 6 → IsAnswer words left then status text
+  no_memory : IsReplay words → text ≡ no_memory_text → status ≡ 7 → IsAnswer words left then status text
+  not_yet : (bytes : List ℕ) → IsReplay words → ReadsWhole left then bytes → IsStopped IsPremature (codes "not yet ") bytes text → status ≡ 8
+      → IsAnswer words left then status text

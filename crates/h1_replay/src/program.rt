@@ -1,0 +1,64 @@
+//! The program over any source and sink.
+ghost use Rattle.std.specs.Prelude.{◌≡◌, ◌≢◌, ◌≤◌, ◌↔◌, ℕ, List, IsTrue, map, string_bytes};
+ghost use Rattle.std.specs.Io.KnownBytes.{Appends};
+ghost use Rattle.http_types.specs.Causes.{Rose};
+ghost use Rattle.h1_replay.specs.Output.{AppendsPrefix};
+ghost use Rattle.h1_replay.specs.Reply.{status_of_reply, text_of_reply};
+ghost use Rattle.h1_replay.specs.Run.{IsReplay, IsAnswer};
+
+use crate::input::{InputError, read_input};
+use crate::output::write_all;
+use crate::reply::{Reply, WRITE_FAULT, replay};
+use http_types::{Sink, Source};
+use std::alloc::Global;
+
+/// Answers the program's words: reads `input` to its end as a script and writes its report. The
+/// answer is the exit status: 0 for a report, 1 for wrong words, 2 for a bad line, 3 for a misplaced
+/// event, 4 for a failed read, 5 for a failed write, 6 for more than 16777216 bytes of input, 7 for
+/// want of memory, 8 for an event that isn't served yet. Nothing is written before the whole text is
+/// made.
+pub fn run<S: Source, K: Sink>(alloc: Global, words: &[String], input: &mut S, output: &mut K) -> u8
+    ensures known { result ≤ 8 }
+
+    // With each status but 5 the output grew by that status's text.
+    ensures answered { result ≢ 5 → ((text : List ℕ) × IsAnswer (map (λ w. string_bytes w) words.now) (S.left input.old) (S.left input.new) result text
+        × Appends (K.given output.old) (K.given output.new) text) }
+
+    // With 5 it grew by a front part of the text of another.
+    ensures cut { result ≡ 5 → ((status : ℕ) × (text : List ℕ) × IsAnswer (map (λ w. string_bytes w) words.now) (S.left input.old) (S.left input.new) status text
+        × AppendsPrefix (K.given output.old) (K.given output.new) text) }
+
+    // Faults are told only where there were any.
+    ensures read_fault { result ≡ 4 → Rose (S.faults input.old) (S.faults input.new) }
+    ensures write_fault { result ≡ 5 → Rose (K.faults output.old) (K.faults output.new) }
+{
+    let reply = reply_to(alloc, words, input);
+    match write_all(output, reply.text()) {
+        Ok(()) => reply.status(),
+        Err(_) => WRITE_FAULT,
+    }
+}
+
+fn reply_to<S: Source>(alloc: Global, words: &[String], input: &mut S) -> Reply
+    ensures answer { IsAnswer (map (λ w. string_bytes w) words.now) (S.left input.old) (S.left input.new) (status_of_reply result) (text_of_reply result) }
+    ensures read_fault { status_of_reply result ≡ 4 → Rose (S.faults input.old) (S.faults input.new) }
+{
+    if !is_replay(words) {
+        return Reply::Usage;
+    }
+    match read_input(alloc, input) {
+        Ok(text) => replay(alloc, &text),
+        Err(InputError::Fault) => Reply::ReadFault,
+        Err(InputError::TooLong) => Reply::TooLong,
+        Err(InputError::NoMemory) => Reply::NoMemory,
+    }
+}
+
+fn is_replay(words: &[String]) -> bool
+    ensures { IsTrue result ↔ IsReplay (map (λ w. string_bytes w) words.now) }
+{
+    match words {
+        [word] => word.as_str() == "replay",
+        _ => false,
+    }
+}

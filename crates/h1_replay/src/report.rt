@@ -1,0 +1,168 @@
+//! The report of a trace.
+ghost use Rattle.std.specs.Prelude.{◌≡◌, ◌++◌, OnOk, IfOk};
+ghost use Rattle.http_map.specs.HeaderMap.{pairs};
+ghost use Rattle.h1_replay.specs.Report.{end_word, body_word, type_word, expect_word, IsVersionWord, spaced, IsRequestPart, IsBodyPart, pair_words, IsHeadLine, IsOutcomeLine, AreStepLines, state_word, last_lines, IsReport};
+ghost use Rattle.h1_replay.specs.Text.{Adds};
+
+use crate::text::{put_hex, put_number};
+use h1_decode::{BodyKind, HeadItem};
+use h1_dispatch::{End, Outcome, Steps, Trace};
+use http_types::{ConnectionType, HeaderMap, NoMemory, Version};
+use std::alloc::Global;
+
+/// A line for each outcome of the trace, then the bytes that are still to be written, and the state.
+pub fn report_of(alloc: Global, trace: &Trace) -> Result<Vec<u8>, NoMemory>
+    ensures { IfOk result (λ text. IsReport trace.now text.items) }
+{
+    let mut text = step_lines(alloc, &trace.steps)?;
+    put_last_lines(alloc, &mut text, trace)?;
+    Ok(text)
+}
+
+fn step_lines(alloc: Global, steps: &Steps) -> Result<Vec<u8>, NoMemory>
+    ensures { IfOk result (λ text. AreStepLines steps.now text.items) }
+{
+    let mut text = Vec::new(alloc);
+    for index in 0..steps.len() {
+        let step = steps.get(index).unwrap();
+        put_outcome(alloc, &mut text, &step.outcome)?;
+        text.extend_from_slice(b"\n")?;
+    }
+    Ok(text)
+}
+
+fn put_outcome(alloc: Global, text: &mut Vec<u8>, outcome: &Outcome) -> Result<(), NoMemory>
+    ensures { OnOk result (Adds (IsOutcomeLine outcome.now) text.old.items text.new.items) }
+{
+    match outcome {
+        Outcome::Took(count) => {
+            text.extend_from_slice(b"took ")?;
+            put_number(text, *count as u64)
+        }
+        Outcome::Head(item) => put_head(alloc, text, item),
+        Outcome::Pending => text.extend_from_slice(b"pending"),
+        Outcome::Closed(end) => {
+            text.extend_from_slice(b"closed ")?;
+            text.extend_from_slice(end_word(*end))
+        }
+        Outcome::Gave(bytes) => {
+            text.extend_from_slice(b"gave ")?;
+            put_hex(alloc, text, bytes)
+        }
+        Outcome::Done => text.extend_from_slice(b"done"),
+    }
+}
+
+fn put_head(alloc: Global, text: &mut Vec<u8>, item: &HeadItem) -> Result<(), NoMemory>
+    ensures { OnOk result (Adds (IsHeadLine item.now) text.old.items text.new.items) }
+{
+    text.extend_from_slice(b"head")?;
+    put_request_part(text, item)?;
+    put_body_part(text, item)?;
+    put_pairs(alloc, text, item.head.headers())
+}
+
+fn put_request_part(text: &mut Vec<u8>, item: &HeadItem) -> Result<(), NoMemory>
+    ensures { OnOk result (Adds (IsRequestPart item.now) text.old.items text.new.items) }
+{
+    put_spaced(text, item.head.method.as_str().as_bytes())?;
+    put_spaced(text, &item.target)?;
+    put_spaced(text, version_word(item.head.version))
+}
+
+fn put_body_part(text: &mut Vec<u8>, item: &HeadItem) -> Result<(), NoMemory>
+    ensures { OnOk result (Adds (IsBodyPart item.now) text.old.items text.new.items) }
+{
+    text.extend_from_slice(b" ")?;
+    put_body(text, item.body)?;
+    put_spaced(text, type_word(item.head.connection_type()))?;
+    put_spaced(text, expect_word(item.head.expect()))
+}
+
+// A word behind a blank.
+fn put_spaced(text: &mut Vec<u8>, word: &[u8]) -> Result<(), NoMemory>
+    ensures { OnOk result (text.new.items ≡ text.old.items ++ spaced word.now) }
+{
+    text.extend_from_slice(b" ")?;
+    text.extend_from_slice(word)
+}
+
+fn put_body(text: &mut Vec<u8>, body: BodyKind) -> Result<(), NoMemory>
+    ensures { OnOk result (text.new.items ≡ text.old.items ++ body_word body) }
+{
+    match body {
+        BodyKind::None => text.extend_from_slice(b"none"),
+        BodyKind::Length(length) => {
+            text.extend_from_slice(b"length:")?;
+            put_number(text, length)
+        }
+        BodyKind::Chunked => text.extend_from_slice(b"chunked"),
+        BodyKind::Raw => text.extend_from_slice(b"raw"),
+    }
+}
+
+fn put_pairs(alloc: Global, text: &mut Vec<u8>, headers: &HeaderMap) -> Result<(), NoMemory>
+    ensures { OnOk result (text.new.items ≡ text.old.items ++ pair_words (pairs headers.now)) }
+{
+    for (name, value) in headers.iter() {
+        put_spaced(text, name.as_bytes())?;
+        text.extend_from_slice(b"=")?;
+        put_hex(alloc, text, value.as_bytes())?;
+    }
+    Ok(())
+}
+
+fn put_last_lines(alloc: Global, text: &mut Vec<u8>, trace: &Trace) -> Result<(), NoMemory>
+    ensures { OnOk result (text.new.items ≡ text.old.items ++ last_lines trace.now.buffered trace.now.closing) }
+{
+    text.extend_from_slice(b"buffered ")?;
+    put_hex(alloc, text, &trace.buffered)?;
+    text.extend_from_slice(b"\nstate ")?;
+    text.extend_from_slice(state_word(trace.closing))?;
+    text.extend_from_slice(b"\n")
+}
+
+fn version_word(version: Version) -> &'static [u8]
+    ensures { IsVersionWord version result.now }
+{
+    if version == Version::HTTP_10 {
+        b"1.0"
+    } else {
+        b"1.1"
+    }
+}
+
+fn type_word(connection: ConnectionType) -> &'static [u8]
+    ensures { result.now ≡ type_word connection }
+{
+    match connection {
+        ConnectionType::Close => b"close",
+        ConnectionType::KeepAlive => b"keep-alive",
+        ConnectionType::Upgrade => b"upgrade",
+    }
+}
+
+fn expect_word(expect: bool) -> &'static [u8]
+    ensures { result.now ≡ expect_word expect }
+{
+    if expect { b"expect" } else { b"-" }
+}
+
+fn end_word(end: End) -> &'static [u8]
+    ensures { result.now ≡ end_word end }
+{
+    match end {
+        End::Asked => b"asked",
+        End::HalfClosed => b"half-closed",
+        End::InputEnded => b"input-ended",
+    }
+}
+
+fn state_word(closing: Option<End>) -> &'static [u8]
+    ensures { result.now ≡ state_word closing }
+{
+    match closing {
+        None => b"open",
+        Some(end) => end_word(end),
+    }
+}

@@ -1,0 +1,186 @@
+//! A script: a line for the settings of a connection, and a line for each event that comes to it.
+ghost use Rattle.std.specs.Prelude.{◌≡◌};
+ghost use Rattle.h1_replay.specs.Script.{settings_by, settings_of, config_of, answer_of, read_of, write_of, tick_of, alone_of, event_of, words_of, without_last_feed, events_of, script_of};
+ghost use Rattle.h1_replay.specs.Reading.{Reads, ReadsEvents, ReadsScript};
+
+use crate::pieces::Pieces;
+use crate::word::{LineError, bytes, flag, keep_alive, number, size, status};
+use h1_dispatch::Event;
+use http_types::{ResponseHead, ServiceConfig, ServiceConfigBuilder};
+use std::alloc::Global;
+use thiserror::Error;
+
+const BLANK: u8 = b' ';
+
+const LINE_FEED: u8 = b'\n';
+
+/// What a script says.
+#[derive(Drop)]
+pub struct Script {
+    pub config: ServiceConfig,
+    pub events: Vec<Event>,
+}
+
+/// Why a script isn't read.
+#[derive(Clone, Copy, Debug, PartialEq, Eq, Error)]
+pub enum ScriptError {
+    /// This line, from 1, is the first that isn't of the grammar in its place.
+    #[error("line {0} is not of the grammar")]
+    BadLine(usize),
+    /// Memory ran out.
+    #[error("no memory is left")]
+    NoMemory,
+}
+
+/// The config and the events of a script. Its last line feed may be missing.
+pub fn read_script(alloc: Global, text: &[u8]) -> Result<Script, ScriptError>
+    ensures { ReadsScript result (script_of text.now) }
+{
+    let mut lines = Pieces::new(without_last_feed(text), LINE_FEED);
+    let Some(line) = lines.next() else {
+        return Err(ScriptError::BadLine(1));
+    };
+    let Some(config) = config_line(line) else {
+        return Err(ScriptError::BadLine(1));
+    };
+    let events = event_lines(alloc, lines)?;
+    Ok(Script { config, events })
+}
+
+fn without_last_feed(text: &[u8]) -> &[u8]
+    ensures { result.now ≡ without_last_feed text.now }
+{
+    match text {
+        [front @ .., LINE_FEED] => front,
+        _ => text,
+    }
+}
+
+// The events of the second line and those behind it.
+fn event_lines(alloc: Global, mut lines: Pieces<'_>) -> Result<Vec<Event>, ScriptError>
+    ensures { ReadsEvents result (events_of 2 lines.entry) }
+{
+    let mut events = Vec::new(alloc);
+    while let Some(line) = lines.next() {
+        match event_line(alloc, line) {
+            Ok(event) => events.push(event).map_err(|_| ScriptError::NoMemory)?,
+            Err(LineError::Unreadable) => return Err(ScriptError::BadLine(events.len() + 2)),
+            Err(LineError::NoMemory) => return Err(ScriptError::NoMemory),
+        }
+    }
+    Ok(events)
+}
+
+fn config_line(line: &[u8]) -> Option<ServiceConfig>
+    ensures { result ≡ config_of (words_of line.now) }
+{
+    let mut words = Pieces::new(line, BLANK);
+    if words.next()? != b"config".as_slice() {
+        return None;
+    }
+    settings(words)
+}
+
+fn settings(mut words: Pieces<'_>) -> Option<ServiceConfig>
+    ensures { result ≡ settings_of words.entry }
+{
+    let keep_alive_word = words.next()?;
+    let request = words.next()?;
+    let disconnect = words.next()?;
+    let half_closed = words.next()?;
+    let write_buffer = words.only()?;
+    settings_by(
+        keep_alive_word,
+        request,
+        disconnect,
+        half_closed,
+        write_buffer,
+    )
+}
+
+fn settings_by(
+    keep_alive_word: &[u8],
+    request: &[u8],
+    disconnect: &[u8],
+    half_closed: &[u8],
+    write_buffer: &[u8],
+) -> Option<ServiceConfig>
+    ensures { result ≡ settings_by keep_alive_word.now request.now disconnect.now half_closed.now write_buffer.now }
+{
+    let builder = ServiceConfigBuilder::new()
+        .keep_alive(keep_alive(keep_alive_word)?)
+        .client_request_timeout(number(request)?)
+        .client_disconnect_timeout(number(disconnect)?)
+        .h1_allow_half_closed(flag(half_closed)?)
+        .h1_write_buffer_size(number(write_buffer)? as usize)
+        .ok()?;
+    Some(builder.build())
+}
+
+fn event_line(alloc: Global, line: &[u8]) -> Result<Event, LineError>
+    ensures { Reads result (event_of (words_of line.now)) }
+{
+    let mut words = Pieces::new(line, BLANK);
+    let Some(name) = words.next() else {
+        return Err(LineError::Unreadable);
+    };
+    if name == b"eof".as_slice() {
+        alone(words, Event::Eof)
+    } else if name == b"next".as_slice() {
+        alone(words, Event::Next)
+    } else if name == b"read".as_slice() {
+        read(alloc, words)
+    } else if name == b"write".as_slice() {
+        write(words).ok_or(LineError::Unreadable)
+    } else if name == b"tick".as_slice() {
+        tick(words).ok_or(LineError::Unreadable)
+    } else if name == b"answer".as_slice() {
+        answer(alloc, words).ok_or(LineError::Unreadable)
+    } else {
+        Err(LineError::Unreadable)
+    }
+}
+
+// An event of no further words.
+fn alone(mut words: Pieces<'_>, event: Event) -> Result<Event, LineError>
+    ensures { Reads result (alone_of event words.entry) }
+{
+    match words.next() {
+        Some(_) => Err(LineError::Unreadable),
+        None => Ok(event),
+    }
+}
+
+fn read(alloc: Global, words: Pieces<'_>) -> Result<Event, LineError>
+    ensures { Reads result (read_of words.entry) }
+{
+    match words.only() {
+        Some(word) => Ok(Event::Read(bytes(alloc, word)?)),
+        None => Err(LineError::Unreadable),
+    }
+}
+
+fn write(words: Pieces<'_>) -> Option<Event>
+    ensures { result ≡ write_of words.entry }
+{
+    let count = number(words.only()?)?;
+    Some(Event::Write(count as usize))
+}
+
+fn tick(words: Pieces<'_>) -> Option<Event>
+    ensures { result ≡ tick_of words.entry }
+{
+    Some(Event::Tick(number(words.only()?)?))
+}
+
+fn answer(alloc: Global, mut words: Pieces<'_>) -> Option<Event>
+    ensures { result ≡ answer_of words.entry }
+{
+    let status_word = words.next()?;
+    let size_word = words.next()?;
+    if words.only()? != b"-".as_slice() {
+        return None;
+    }
+    let head = ResponseHead::new(alloc, status(status_word)?);
+    Some(Event::Answer(head, size(size_word)?))
+}

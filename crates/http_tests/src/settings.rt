@@ -1,0 +1,45 @@
+//! Settings.
+use http_types::{KeepAlive, ServiceConfigBuilder};
+use std::test::Fail;
+
+#[test]
+fn settings_have_defaults(rt: HostRuntime) {
+    let config = ServiceConfigBuilder::default().build();
+    assert_eq!(rt; config.keep_alive(), KeepAlive::Timeout(5000));
+    assert_eq!(rt; config.keep_alive_deadline(7), Some(5007));
+    assert_eq!(rt; config.client_request_deadline(7), Some(5007));
+    assert_eq!(rt; config.client_disconnect_deadline(7), None);
+    assert!(rt; config.h1_allow_half_closed());
+    assert_eq!(rt; config.h1_write_buffer_size(), 32768);
+}
+
+#[test]
+fn settings_are_set(rt: HostRuntime) -> Result<(), Fail> {
+    let config = ServiceConfigBuilder::new()
+        .keep_alive(KeepAlive::from(0))
+        .client_request_timeout(1)
+        .client_disconnect_timeout(2)
+        .h1_allow_half_closed(false)
+        .h1_write_buffer_size(1)?
+        .build();
+    assert_eq!(rt; config.keep_alive(), KeepAlive::Disabled);
+    assert_eq!(rt; config.keep_alive_deadline(7), None);
+    assert_eq!(rt; config.client_request_deadline(7), Some(8));
+    assert_eq!(rt; config.client_disconnect_deadline(7), Some(9));
+    assert!(rt; !config.h1_allow_half_closed());
+    assert_eq!(rt; config.h1_write_buffer_size(), 1);
+    Ok(())
+}
+
+#[test]
+fn keep_alive_is_made_of_durations(rt: HostRuntime) {
+    for (setting, want, duration) in [
+        (KeepAlive::default(), KeepAlive::Timeout(5000), Some(5000)),
+        (KeepAlive::from(3), KeepAlive::Timeout(3), Some(3)),
+        (KeepAlive::from(Some(0)), KeepAlive::Disabled, None),
+        (KeepAlive::from(None), KeepAlive::Disabled, None),
+    ] {
+        assert_eq!(rt; setting, want);
+        assert_eq!(rt; setting.duration(), duration);
+    }
+}

@@ -1,3 +1,0 @@
-mod ends;
-mod heads;
-mod settings;
