@@ -1,11 +1,12 @@
 -- Lists with commas, one part or value more at a time.
-use Rattle.std.proofs.Common.{◌≡◌, ℕ, ◌<◌, ◌⊎◌, inl, inr, List, [], ◌∷◌, ◌++◌, length, refl, sym, ap, subst, ◌∙◌, append_assoc, append-nil, ◌+◌, get_or, take, add-one, Option, Some, None}
+use Rattle.std.proofs.Common.{◌≡◌, ℕ, ◌<◌, ◌⊎◌, inl, inr, List, [], ◌∷◌, ◌++◌, length, refl, sym, ap, subst, ◌∙◌, append_assoc, append-nil, ◌+◌, get_or, take, add-one, Bool, true, false, arith, Option, Some, None}
 use Rattle.std.proofs.Math.Seq.{take-suc}
 use Rattle.std.specs.Borrow.{Bor}
 use Rattle.std.specs.Str.{trim}
 use Rattle.std.specs.List.{flat_map}
 use Rattle.std.specs.Fmt.{◌++?◌, option_append}
-use Rattle.std.specs.Prelude.{codes, map}
+use Rattle.std.specs.Prelude.{codes, map, ◌==◌}
+use Rattle.std.proofs.lemmas.Bool.Decides.{nat_tests}
 use Rattle.http_header.specs.FieldValue.{FieldValue, IsVisibleAscii}
 use Rattle.http_values.specs.CommaList.{IsFilled, AreRead, AreTexts, comma_parts, values_parts, later_output}
 
@@ -31,6 +32,15 @@ module _ {T : Type 0} (is_text : List ℕ → Type 0) (reads : List ℕ → T �
       → reads (trim part) item → AreRead is_text reads (parts ++ part ∷ []) (items ++ item ∷ [])
   AreRead-take parts items part item h filled read =
       AreRead-append parts (part ∷ []) items (item ∷ []) h (inr (item, [], filled, read, refl, refl))
+
+-- whether a part is filled, from a test of what is left of it
+pub not_filled : (t u : List ℕ) → true ≡ (length t == 0) → t ≡ u → 0 < length u → ⊥
+not_filled t u test e filled =
+    let same : length t ≡ length u = ap (λ (x : List ℕ). length x) e in let zero : length t ≡ 0 = grind (arith, nat_tests) in omega (arith, same, zero, filled)
+
+pub is_filled : (t u : List ℕ) → false ≡ (length t == 0) → t ≡ u → 0 < length u
+is_filled t u test e =
+    let same : length t ≡ length u = ap (λ (x : List ℕ). length x) e in let some : 0 < length t = grind (arith, nat_tests) in omega (arith, same, some)
 
 -- what references point to, with one more behind
 pub now_push : {A : Type 0} (xs : List (Bor A)) (x : Bor A) → map (λ y. y.now) (xs ++ x ∷ []) ≡ map (λ y. y.now) xs ++ x.now ∷ []
