@@ -1,5 +1,5 @@
 -- What a content coding prints is read as that coding.
-use Rattle.std.proofs.Common.{◌≡◌, List, ℕ, refl}
+use Rattle.std.proofs.Common.{refl}
 use Rattle.std.specs.Str.{chars, trim_start, trim_end}
 use lib.Utf8.{encode}
 use Rattle.http_values.specs.declared.shared.content_encoding.ContentEncoding.{ContentEncoding}

@@ -1,5 +1,5 @@
 -- Two tests that agree on each number below a bound.
-use Rattle.std.proofs.Common.{◌≡◌, ℕ, zero, suc, ◌<◌, Bool, true, false, ◌&&◌, refl, sym, ap, subst, ◌∙◌, arith, ◌⊎◌, inl, inr}
+use Rattle.std.proofs.Common.{◌≡◌, ℕ, zero, suc, ◌<◌, Bool, true, false, ◌&&◌, refl, ap, ◌∙◌, arith, ◌⊎◌, inl, inr}
 
 -- whether two answers are one
 unfoldable pub same : Bool → Bool → Bool
@@ -34,9 +34,9 @@ holds_below : (test : ℕ → Bool) (n b : ℕ) → all_below test n ≡ true �
 unfolding all_below
 holds_below test zero b h small = absurd (omega (arith, small))
 holds_below test (suc n) b h small = elim (last_or_below n b small) [
-    inl e ↦ ap test e ∙ first_of_both (test n) (all_below test n) h
+  | inl e ↦ ap test e ∙ first_of_both (test n) (all_below test n) h
   | inr below ↦ holds_below test n b (second_of_both (test n) (all_below test n) h) below
-  ]
+]
 
 -- tests that agree by computing agree at each number below
 pub agree_below : (f g : ℕ → Bool) (n : ℕ) → all_below (λ b. same (f b) (g b)) n ≡ true → (b : ℕ) → b < n → f b ≡ g b

@@ -1,9 +1,8 @@
 -- How the text of an extended value is cut.
-use Rattle.std.proofs.Common.{◌≡◌, ◌≢◌, ℕ, ◌+◌, ◌<◌, ◌⊎◌, suc, List, [], ◌∷◌, ◌++◌, length, Option, Some, None, MatchOption, get_or, refl, sym, ap, subst, arith, ◌∙◌, lit<}
+use Rattle.std.proofs.Common.{◌≡◌, ◌≢◌, ℕ, ◌<◌, suc, List, [], ◌∷◌, ◌++◌, length, Option, Some, None, MatchOption, get_or, refl, sym, subst, arith, ◌∙◌}
 use Rattle.std.proofs.Math.Seq.{get_or-append_seam}
 use Rattle.std.proofs.lemmas.List.{length-append}
 use Rattle.std.specs.Borrow.{Bor}
-use Rattle.std.proofs.lemmas.Str.Pattern.{IsSplitOnceResult, split_parts}
 use Rattle.http_values.specs.ExtendedText.{HasNoQuote, IsFirstCut, IsCutInThree, IsTagOrNone, IsExtendedText}
 
 -- what is cut has a quote

@@ -1,10 +1,9 @@
 -- Lists with commas, one part or value more at a time.
-use Rattle.std.proofs.Common.{◌≡◌, ℕ, ◌<◌, ◌⊎◌, inl, inr, List, [], ◌∷◌, ◌++◌, length, refl, sym, ap, subst, ◌∙◌, append_assoc, append-nil, ◌+◌, get_or, take, add-one, Bool, true, false, arith, Option, Some, None}
+use Rattle.std.proofs.Common.{◌≡◌, ℕ, ◌<◌, inl, inr, List, [], ◌∷◌, ◌++◌, length, refl, sym, ap, subst, ◌∙◌, append_assoc, append-nil, ◌+◌, get_or, take, add-one, true, false, arith, Option, Some, None}
 use Rattle.std.proofs.Math.Seq.{take-suc}
 use Rattle.std.specs.Borrow.{Bor}
 use Rattle.std.specs.Str.{trim}
-use Rattle.std.specs.List.{flat_map}
-use Rattle.std.specs.Fmt.{◌++?◌, option_append}
+use Rattle.std.specs.Fmt.{◌++?◌}
 use Rattle.std.specs.Prelude.{codes, map, ◌==◌}
 use Rattle.std.proofs.lemmas.Bool.Decides.{nat_tests}
 use Rattle.http_header.specs.FieldValue.{FieldValue, IsVisibleAscii}
@@ -101,5 +100,5 @@ pub later_output-more : {T : Type 0} (output : T → Option (List ℕ)) (parts :
     → later_output output (take (i + 1) parts) ≡ later_output output (take i parts) ++? (Some (codes ", ") ++? output part)
 later_output-more output parts i part inside is =
     let e : take (i + 1) parts ≡ take i parts ++ part ∷ [] =
-        ap (λ (n : ℕ). take n parts) (add-one i) ∙ (take-suc parts i part inside ∙ ap (λ x. take i parts ++ x ∷ []) (sym is)) in
+    ap (λ (n : ℕ). take n parts) (add-one i) ∙ (take-suc parts i part inside ∙ ap (λ x. take i parts ++ x ∷ []) (sym is)) in
     ap (λ ps. later_output output ps) e ∙ later_output-push output (take i parts) part

@@ -1,6 +1,6 @@
 -- What a quality prints is read as that quality.
-use Rattle.std.proofs.Common.{◌≡◌, ℕ, ◌+◌, ◌*◌, ◌-◌, ◌/◌, ◌%◌, ◌≤◌, ◌<◌, List, [], ◌∷◌, length, IsTrue, Bool, true, false, refl, subst, arith, cond, ◌&&◌, sym, ◌∙◌, lit≤}
-use Rattle.std.specs.Prelude.{◌==◌, if◌then◌else◌}
+use Rattle.std.proofs.Common.{◌≡◌, ℕ, ◌+◌, ◌*◌, ◌/◌, ◌%◌, ◌≤◌, ◌<◌, [], ◌∷◌, IsTrue, Bool, true, false, refl, subst, arith, cond, ◌&&◌, sym, ◌∙◌, lit≤}
+use Rattle.std.specs.Prelude.{◌==◌}
 use Rattle.std.specs.Char.{is_ascii_digit}
 use Rattle.std.specs.List.{list_all}
 use Rattle.std.proofs.lemmas.Bool.Decides.{nat_tests}
@@ -26,7 +26,7 @@ three_digits a b c la lb lc = both (is_ascii_digit (48 + a)) _ (is_digit_of a la
 -- the digits that are left, by whether the last and the one before are zeros
 shortest_by : (a b c : ℕ) (y z : Bool) → a < 10 → b < 10 → c < 10 → (y ≡ true → b ≡ 0) → (z ≡ true → c ≡ 0)
     → let text = cond z (cond y ((48 + a) ∷ []) ((48 + a) ∷ (48 + b) ∷ [])) ((48 + a) ∷ (48 + b) ∷ (48 + c) ∷ []) in
-      ArePlaces text × (places_thousandths text ≡ a * 100 + b * 10 + c)
+    ArePlaces text × (places_thousandths text ≡ a * 100 + b * 10 + c)
 shortest_by a b c true true la lb lc no_b no_c =
     let e = no_b refl in let f = no_c refl in ((one_digit a la, omega arith), omega arith)
 shortest_by a b c false true la lb lc no_b no_c =

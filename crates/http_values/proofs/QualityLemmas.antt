@@ -2,7 +2,7 @@
 use Rattle.std.proofs.Common.{◌≡◌, ℕ, ◌+◌, ◌*◌, ◌≤◌, ◌⊎◌, inl, inr, List, [], ◌∷◌, length, IsTrue, Option, Some, None, MatchOption, get_or, drop, subst, refl, arith, ◌<◌}
 use Rattle.std.specs.Char.{is_ascii_digit}
 use Rattle.std.specs.List.{list_all}
-use Rattle.http_values.specs.Quality.{Weight, IsWeight, IsQualityText, ArePlaces, digit, places_text, digits_of, places_thousandths}
+use Rattle.http_values.specs.Quality.{IsQualityText, ArePlaces, digit, places_text, digits_of, places_thousandths}
 
 -- a digit alone
 pub record IsWhole (text : List ℕ) (n : ℕ) : Type 0 where

@@ -1,5 +1,5 @@
 -- One part more of a list that is written.
-use Rattle.std.proofs.Common.{◌≡◌, ℕ, List, ◌++◌, Option, Some, None, Result, refl}
+use Rattle.std.proofs.Common.{ℕ, List, Option, Some, None, Result}
 use Rattle.std.specs.Prelude.{IfSome, IsOk}
 use Rattle.std.specs.declared.fmt.Formatter.{Formatter}
 use Rattle.std.specs.declared.fmt.Error.{Error}
@@ -16,7 +16,7 @@ later_step took None separator x f f1 f2 f3 r s before write ok show fine = tt
 later_step took (Some a) separator None f f1 f2 f3 r s before write ok show fine = tt
 later_step took (Some a) separator (Some b) f f1 f2 f3 r s before write ok show fine =
     λ plain.
-      let first = before plain in
-      let second = write first.plain ok in
-      let third = show second.plain fine in
-      has_written_append _ _ _ _ _ _ first (has_written_append _ _ _ _ _ _ second third)
+    let first = before plain in
+    let second = write first.plain ok in
+    let third = show second.plain fine in
+    has_written_append _ _ _ _ _ _ first (has_written_append _ _ _ _ _ _ second third)

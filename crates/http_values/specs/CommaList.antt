@@ -1,5 +1,5 @@
 -- Lists with commas (RFC 7230, section 7): how they are read and printed.
-use Rattle.std.specs.Prelude.{◌≡◌, ℕ, ◌<◌, ◌⊎◌, List, [], ◌∷◌, ◌++◌, length, ◌==◌, Option, Some, None, codes}
+use Rattle.std.specs.Prelude.{◌≡◌, ℕ, ◌<◌, ◌⊎◌, List, [], ◌∷◌, length, ◌==◌, Option, Some, codes}
 use Rattle.std.specs.Borrow.{Bor}
 use Rattle.std.specs.List.{slice_split, flat_map}
 use Rattle.std.specs.Str.{trim}

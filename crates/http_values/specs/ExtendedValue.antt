@@ -1,11 +1,11 @@
 -- Extended values and their texts (RFC 5987, section 3.2.1).
-use Rattle.std.specs.Prelude.{◌≡◌, ℕ, List, [], ◌∷◌, ◌++◌, Option, Some, None}
+use Rattle.std.specs.Prelude.{◌≡◌, ℕ, List, [], Option, Some, None}
 use Rattle.percent_encoding.specs.Percent as percent
 use Rattle.http_values.specs.declared.shared.language_tag.LanguageTag.{LanguageTag}
 use Rattle.http_values.specs.declared.shared.extended.ExtendedValue.{ExtendedValue}
 use Rattle.http_values.specs.LanguageTag.{IsLanguageTag}
 use Rattle.http_values.specs.TagText.{tag_text}
-use Rattle.http_values.specs.Charset.{IsCharsetText, charset_text}
+use Rattle.http_values.specs.Charset.{IsCharsetText}
 use Rattle.http_values.specs.ExtendedText.{IsCutInThree}
 
 -- an empty text is no tag, and any other the tag that it is

@@ -1,6 +1,6 @@
 -- Language tags (RFC 5646, section 2.1): subtags with hyphens between them. The grammar is regular: each rule reads
 -- one subtag, and says after which place it may stand and which place it leads to.
-use Rattle.std.specs.Prelude.{ℕ, ◌-◌, Bool, true, false, ◌&&◌, ◌||◌, not, List, [], ◌∷◌, length, IsTrue, Option, Some, None, ◌==◌, nat_le, nat_lt, if◌then◌else◌, slice_index, fold}
+use Rattle.std.specs.Prelude.{ℕ, ◌-◌, Bool, true, false, ◌&&◌, ◌||◌, not, List, length, IsTrue, Option, Some, None, ◌==◌, nat_le, nat_lt, if◌then◌else◌, slice_index, fold}
 use Rattle.std.specs.List.{slice_split, list_all}
 use Rattle.std.specs.Char.{is_ascii_alphabetic, is_ascii_digit, is_ascii_alphanumeric}
 use Rattle.http_values.specs.declared.shared.language_tag.Place.{Place}

@@ -43,6 +43,7 @@ pub trait FromText: Drop {
 
 impl FromText for String {
     ghost reads = { λ text value. string_bytes value ≡ text };
+
     ghost is_text = { IsAnyText };
 
     /// A copy of the text. Each text is that of a value.

@@ -48,7 +48,10 @@ pub(crate) const HTTP_VALUE: AsciiSet = ascii_set!(
 /// Reads the text of a header's single value. `Header` comes exactly where there is no value, or
 /// it has a byte that is neither a tab nor visible ASCII nor a blank, or is empty, or is the text
 /// of nothing that is read.
-pub fn from_one_raw_str<T: FromText>(alloc: Global, val: Option<&HeaderValue>) -> Result<T, ParseError>
+pub fn from_one_raw_str<T: FromText>(
+    alloc: Global,
+    val: Option<&HeaderValue>,
+) -> Result<T, ParseError>
     ensures ok { IfOk result (λ value. HasReading (λ text. T.reads text value) (option_copied val.entry)) }
     ensures header { IsErrOf result ParseError.Header ↔ ¬ (HasReading T.is_text (option_copied val.entry)) }
     ensures err { IfErr result (λ e. (e ≡ ParseError.Header) ⊎ (e ≡ ParseError.NoMemory)) }
@@ -127,7 +130,10 @@ fn fmt_later<W: fmt::Write, T: fmt::Display>(f: &mut fmt::Formatter<W>, parts: &
 }
 
 /// Writes the parts with a comma and a blank between them.
-pub fn fmt_comma_delimited<W: fmt::Write, T: fmt::Display>(f: &mut fmt::Formatter<W>, parts: &[T]) -> fmt::Result
+pub fn fmt_comma_delimited<W: fmt::Write, T: fmt::Display>(
+    f: &mut fmt::Formatter<W>,
+    parts: &[T],
+) -> fmt::Result
     ensures { DisplaysOnOk W.write_str_gives f.old result (list_output T.output parts.now) f.new }
 {
     let Some((first, later)) = parts.split_first() else {

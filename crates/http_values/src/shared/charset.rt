@@ -210,6 +210,7 @@ fn other(text: &str) -> Option<Charset>
 
 impl FromText for Charset {
     ghost reads = { IsCharsetText };
+
     ghost is_text = { IsAnyText };
 
     /// Reads a label, in either case. One that is not known is kept in upper case.

@@ -100,6 +100,7 @@ fn read_coding(s: &str) -> Option<ContentEncoding>
 
 impl FromText for ContentEncoding {
     ghost reads = { IsCodingText };
+
     ghost is_text = { λ text. (coding : Coding) × IsCodingText text coding };
 
     /// Reads a coding's name, in either case and with white space around it.

@@ -50,6 +50,7 @@ fn read_date(text: &[u8]) -> Option<HttpDate>
 
 impl FromText for HttpDate {
     ghost reads = { IsHttpDateText };
+
     ghost is_text = { λ text. (d : Date) × IsHttpDateText text d };
 
     /// Reads a date in any of the three formats, with white space around it.

@@ -91,7 +91,8 @@ fn begins_region(s: &[u8]) -> bool
 fn begins_variant(s: &[u8]) -> bool
     ensures { result ≡ is_variant s.now }
 {
-    are_letters_or_digits(s, 5, 8) || are_letters_or_digits(s, 4, 4) && s.len() == 4 && s[0].is_ascii_digit()
+    are_letters_or_digits(s, 5, 8)
+        || are_letters_or_digits(s, 4, 4) && s.len() == 4 && s[0].is_ascii_digit()
 }
 
 #[tactic(auto, unfolding(crate::specs::LanguageTag::is_x))]
@@ -240,6 +241,7 @@ impl FromText for LanguageTag {
     ghost use Rattle.http_values.specs.TagText.{tag_text};
 
     ghost reads = { λ text tag. IsLanguageTag text × (tag_text tag ≡ text) };
+
     ghost is_text = { IsLanguageTag };
 
     /// Reads a tag and keeps its text.

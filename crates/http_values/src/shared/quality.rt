@@ -5,9 +5,8 @@ ghost use Rattle.std.specs.Char.{is_ascii_digit};
 ghost use Rattle.http_values.specs.Quality.{IsQualityText, ArePlaces, places_thousandths, quality_text};
 ghost use Rattle.http_values.specs.Quality as spec;
 
-use std::fmt;
 use std::marker::Model;
-use std::str;
+use std::{fmt, str};
 use thiserror::Error;
 
 /// How much an item is wanted, in thousandths: the q-value of RFC 7231, section 5.3.1. Qualities

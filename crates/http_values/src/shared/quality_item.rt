@@ -56,9 +56,7 @@ impl<T> QualityItem<T> {
     pub fn cmp_quality(&self, other: &Self) -> Ordering
         ensures { result ≡ nat_cmp self.now.quality other.now.quality }
     {
-        self.quality
-            .thousandths()
-            .cmp(&other.quality.thousandths())
+        self.quality.thousandths().cmp(&other.quality.thousandths())
     }
 }
 
@@ -104,6 +102,7 @@ fn split_item(s: &str) -> Option<(&str, Quality)>
 
 impl<T: FromText> FromText for QualityItem<T> {
     ghost reads = { λ text x. (item : List ℕ) × IsQualityItemText text item x.quality × T.reads item x.item };
+
     ghost is_text = { λ text. (item : List ℕ) × (n : ℕ) × IsQualityItemText text item n × T.is_text item };
 
     /// Reads an item, and after its last semicolon a quality. A text without one has the greatest.

@@ -1,4 +1,4 @@
-use Rattle.std.proofs.Common.{◌≡◌, ℕ, List, Option, take, sym, subst, arith, refl}
+use Rattle.std.proofs.Common.{ℕ, List, Option, take, sym, subst, arith, refl}
 use Rattle.std.specs.Prelude.{IfSome, codes}
 use Rattle.http_values.specs.CommaList.{later_output}
 use Rattle.std.specs.Fmt.{HasWritten, IsPlainFormatter}

@@ -1,5 +1,5 @@
-use Rattle.std.proofs.Common.{◌≡◌, take}
-use Rattle.std.specs.Fmt.{DisplaysOnOk, HasWritten, IsPlainFormatter}
+use Rattle.std.proofs.Common.{take}
+use Rattle.std.specs.Fmt.{HasWritten, IsPlainFormatter}
 use Rattle.std.specs.Prelude.{IfSome}
 use Rattle.http_values.specs.CommaList.{later_output}
 use Rattle.http_values.proofs.utils.fmt_later.Given as goal

@@ -1,4 +1,3 @@
-use Rattle.std.proofs.Common.{◌≡◌, List}
 use Rattle.http_values.specs.CommaList.{AreRead, AreTexts, values_parts}
 use Rattle.http_values.proofs.utils.from_comma_delimited.Given as goal
 

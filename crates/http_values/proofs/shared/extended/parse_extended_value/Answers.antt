@@ -8,6 +8,6 @@ returns-in_default-clause-header c = (λ _ h. c.in_default.ensures h.0 h.1 h.2 h
 pub returns-in-Err-Invalid-clause-header : goal.returns-in-Err-Invalid-clause-header
 returns-in-Err-Invalid-clause-header c = (
   λ _ h.
-    no_tag_is_none c.args.val.now c.in-Some.charset.now c.in-Some.tag.now c.in-Some.value.now c.in-Some.ensures ((rw c.in-Err-Invalid.field-0-is at c.in-Err-Invalid.ensures.invalid).0 refl) h,
-  λ _. refl
+      no_tag_is_none c.args.val.now c.in-Some.charset.now c.in-Some.tag.now c.in-Some.value.now c.in-Some.ensures ((rw c.in-Err-Invalid.field-0-is at c.in-Err-Invalid.ensures.invalid).0 refl) h,
+  λ _. refl,
 )

@@ -1,4 +1,4 @@
-use Rattle.std.proofs.Common.{◌≡◌, List, map, Some}
+use Rattle.std.proofs.Common.{◌≡◌, map, Some}
 use Rattle.std.specs.Prelude.{fold}
 use Rattle.http_values.specs.declared.shared.language_tag.Place.TheVariants.{Start}
 use Rattle.http_values.specs.LanguageTag.{step}

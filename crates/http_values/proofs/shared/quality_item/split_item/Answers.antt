@@ -1,4 +1,4 @@
-use Rattle.std.proofs.Common.{◌≡◌, ℕ, ◌≤◌, ◌<◌, List, length, arith, ap, subst, ◌∙◌}
+use Rattle.std.proofs.Common.{ℕ, ◌≤◌, ◌<◌, List, length, arith, ap, subst, ◌∙◌}
 use Rattle.std.specs.Str.{trim}
 use Rattle.http_values.specs.QualityItem.{IsMarked}
 use Rattle.http_values.proofs.QualityItemLemmas.{short_is_none, unread_is_none, unweighed_item}
