@@ -1,0 +1,9 @@
+pub mod CharsetLemmas
+pub mod CodingLemmas
+pub mod EscapeLemmas
+pub mod ExtendedLemmas
+pub mod ListLemmas
+pub mod PrintedQuality
+pub mod QualityItemLemmas
+pub mod QualityLemmas
+pub mod WriteLemmas

@@ -1,0 +1,13 @@
+pub mod AnyText
+pub mod Charset
+pub mod CommaList
+pub mod ContentEncoding
+pub mod Escapes
+pub mod ExtendedText
+pub mod ExtendedValue
+pub mod HttpDate
+pub mod LanguageTag
+pub mod OneValue
+pub mod Quality
+pub mod QualityItem
+pub mod TagText
