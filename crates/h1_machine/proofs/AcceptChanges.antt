@@ -23,12 +23,12 @@ use Rattle.h1_machine.specs.Kept as kept
 use Rattle.h1_machine.specs.Change.{accepting, accepting_with}
 use Rattle.h1_machine.specs.KeptOf.{raw_left, rest_of, exchange_with, exchange_of, kept_of}
 use Rattle.h1_machine.proofs.Changes.{Changes}
-use Rattle.h1_machine.proofs.Current.{Current, current_of, plain_of, request-more}
+use Rattle.h1_machine.proofs.Current.{Current, current_of, plain_of}
 use Rattle.h1_machine.proofs.Frames.{current_carried, current_stays}
 use Rattle.h1_machine.proofs.Received.{receives}
-use Rattle.h1_machine.proofs.StepSums.{is_receiving-cons, came-more, buffered-more}
+use Rattle.h1_machine.proofs.StepSums.{is_receiving-cons, came-more, buffered-more, request-more}
 use Rattle.h1_machine.proofs.QuietParts.{passed-quiet}
-use Rattle.h1_machine.proofs.CalmSteps.{calm_accept, taken-calm, since-other, or_comm, exchange-calm, calm_parts}
+use Rattle.h1_machine.proofs.CalmSteps.{calm_accept, taken-calm, since-other, exchange-unpulled, calm_parts}
 use Rattle.h1_machine.proofs.Pulling.{open_incomplete}
 use Rattle.h1_machine.proofs.FramePulls.{raw_is}
 use Rattle.h1_machine.proofs.StillSteps.{IsStill, still_quiet, exchange_still}
@@ -79,7 +79,7 @@ refused_changes setting before limit parse m h e w wrong =
     let x = accept_of limit (on.refused e) parse in
     let k = kept_of setting before in
     let calm = calm_accept limit in
-    let still : IsStill x.step = record { calm = calm; pull = refl; accepts = refl; head = refl; bytes = refl; frames = refl; done = refl } in
+    let still : IsStill x.step = record { calm = calm; pull = refl; accepts = refl; head = refl; bytes = refl; frames = refl } in
     let place = passed-quiet setting x before w.legal (still_quiet before x.step still) refl in
     let bytes = taken-calm x.step t calm in
     record {
@@ -133,9 +133,7 @@ accepted_exchange setting before limit parse m n h w e =
     let old = exchange_with setting before m h in
     let asked = request-more x.step t refl ∙ w.current.request_is in
     let rest = sym (accepted_rest setting before limit parse m n h w) in
-    let done : old.body_is_done ≡ (old.body_is_done || false) = or_comm false old.body_is_done in
-    (λ i. Some (record old { rest = rest i; body_is_done = done i }))
-    ∙ ap Some (exchange-calm setting before x m n h refl (calm_accept limit))
+    (λ i. Some (record old { rest = rest i })) ∙ ap Some (exchange-unpulled setting before x m n h refl (calm_accept limit).aside refl)
     ∙ sym (λ i. exchange_of setting (x ∷ before) (e i) (asked i))
 
 -- what changes then

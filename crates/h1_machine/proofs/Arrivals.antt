@@ -1,7 +1,8 @@
 -- Bytes that come, or the end of the input: the current message grows, what was passed stays passed, and what is left of
 -- its body is passed where the answer is complete.
 use Rattle.std.proofs.Common.{◌≡◌, ℕ, ◌≤◌, Bool, true, false, List, ◌∷◌, ◌++◌, length, drop, Option, Some, None, refl, sym, ap, ◌∙◌, subst, inl, inr, arith, true≢false}
-use Rattle.std.specs.Prelude.{unwrap_or, is_some}
+use Rattle.std.specs.Prelude.{◌||◌, unwrap_or, is_some}
+use Rattle.std.specs.Option.{option_or}
 use Rattle.std.proofs.lemmas.Bool.{cases_Bool, false≢true}
 use Rattle.std.proofs.lemmas.Option.{same_Some}
 use Rattle.h1_model.specs.Request.{BodyKind, no_body, fixed_body, chunked_body, raw_body, is_raw_kind, Head, head_is}
@@ -18,16 +19,20 @@ use Rattle.h1_model.proofs.TraceGrowth.{current_none}
 use Rattle.h1_model.proofs.CarriedLemmas.{passed_none, end_of, passed_complete, passed_pulled, below_end}
 use Rattle.h1_model.proofs.HeldLemmas.{passed_grows}
 use Rattle.h1_machine.specs.Kept.{Rest, frames_rest, Reply, unanswered, sending, answered, Exchange, Kept, is_answered}
+use Rattle.h1_model.specs.Text.{buffered}
+use Rattle.h1_model.specs.Closing.{told_end}
+use Rattle.h1_model.specs.Allowed.{is_over_by}
 use Rattle.h1_machine.specs.KeptOf.{rest_of, reply_of, exchange_with, exchange_of, kept_of}
 use Rattle.h1_machine.specs.Body.{Passed, pass_rest, passing}
 use Rattle.h1_machine.proofs.Changes.{bare}
-use Rattle.h1_machine.proofs.Current.{Current, NoCurrent, current_with, request-more}
+use Rattle.h1_machine.proofs.Current.{Current, NoCurrent, current_with}
+use Rattle.h1_machine.proofs.StepSums.{request-more}
 use Rattle.h1_machine.proofs.Orderly.{Orderly, orderly}
 use Rattle.h1_machine.proofs.Frames.{current_carried, current_stays, raw_head}
 use Rattle.h1_machine.proofs.QuietParts.{rest_by, rest_parts}
 use Rattle.h1_machine.proofs.Completion.{passing_of}
 use Rattle.h1_machine.proofs.PassedBodies.{left_at, left_is}
-use Rattle.h1_machine.proofs.PlainSteps.{IsPlain, exchange-plain, kept-plain}
+use Rattle.h1_machine.proofs.CalmSteps.{IsAside, exchange-unpulled, aside_parts}
 
 -- A step before the end of the input that adds bytes, or ends the input, and does nothing else.
 pub record Adds (before : List ParsedStep) (s : Step) (more : List ℕ) : Type 0 where
@@ -37,6 +42,13 @@ pub record Adds (before : List ParsedStep) (s : Step) (more : List ℕ) : Type 0
   pub idle : Idle s
   pub complete : is_complete (s ∷ steps before) ≡ is_complete (steps before)
   pub receiving : is_receiving (s ∷ steps before) ≡ is_receiving (steps before)
+
+-- It tells nothing, and no text goes out for it.
+pub record IsPlain (setting : Setting) (before : List ParsedStep) (s : Step) : Type 0 where
+  pub aside : IsAside s.event
+  pub tells : told_end s.outcome ≡ None
+  pub over : is_over_by s.outcome ≡ false
+  pub buffers : buffered setting (s ∷ steps before) ≡ buffered setting (steps before)
 
 -- Behind such a step: the current message before it, and the same as it is parsed then, with its head.
 pub record Grows (setting : Setting) (before : List ParsedStep) (x : ParsedStep) (more : List ℕ) (m n : Message) (h : Head) : Type 0 where
@@ -292,6 +304,17 @@ none_behind before x more a none =
     let gone = current_none (x ∷ before) (head_count-more x.step (steps before) a.idle.head ∙ none.count) in
     (gone, passed_none (x ∷ before) gone)
 
+-- all but the bytes, the input's end and the last request stays
+plain_parts : (setting : Setting) (before : List ParsedStep) (x : ParsedStep) (more unread : List ℕ) (exchange : Option Exchange) → Adds before x.step more
+    → IsPlain setting before x.step → unread ≡ drop (passed (x ∷ before)) (taken (x.step ∷ steps before))
+    → exchange ≡ exchange_of setting (x ∷ before) (current (x ∷ before)) (request (x.step ∷ steps before))
+    → bare (record (kept_of setting before) { unread = unread; has_ended = has_ended (x.step ∷ steps before); exchange = exchange })
+    ≡ bare (kept_of setting (x ∷ before))
+plain_parts setting before x more unread exchange a p e g =
+    let k = kept_of setting before in
+    aside_parts setting before x unread k.is_over exchange k.buffered k.failed p.aside a.idle.head e (sym (ap (λ b. b || k.is_over) p.over)) g
+    (sym p.buffers) (sym (ap (λ o. option_or o k.failed) p.tells))
+
 -- what is kept before the step, where no head was handed out, is so behind it
 pub parts-none : (setting : Setting) (before : List ParsedStep) (x : ParsedStep) (more : List ℕ) → Adds before x.step more → IsPlain setting before x.step
     → NoCurrent before
@@ -305,8 +328,7 @@ parts-none setting before x more a plain none =
     let behind = none_behind before x more a none in
     let place = none.passed_is ∙ sym behind.1 in
     let gone = ap (λ o. exchange_of setting (x ∷ before) o (request t)) behind.0 in
-    kept-plain setting x before (drop (passed before) (taken t)) None plain
-    ∙ (λ i. bare (record (kept_of setting (x ∷ before)) { unread = drop (place i) (taken t); exchange = sym gone i }))
+    plain_parts setting before x more (drop (passed before) (taken t)) None a plain (λ i. drop (place i) (taken t)) (sym gone)
 
 -- and so it is of a request
 pub parts-some : (setting : Setting) (before : List ParsedStep) (x : ParsedStep) (more : List ℕ) (m n : Message) (h : Head)
@@ -317,7 +339,7 @@ parts-some setting before x more m n h g plain =
     let t = x.step ∷ steps before in
     let unread = drop (passed (x ∷ before)) (taken t) in
     let rest = rest_of (x ∷ before) n h.body in
-    let there : exchange_of setting (x ∷ before) (current (x ∷ before)) (request t) ≡ Some (record (exchange_with setting before m h) { rest = rest }) =
-        (λ i. exchange_of setting (x ∷ before) (g.new.current_is i) (g.new.request_is i)) ∙ ap Some (exchange-plain setting x before m n h plain) in
-    kept-plain setting x before unread (Some (record (exchange_with setting before m h) { rest = rest })) plain
-    ∙ (λ i. bare (record (kept_of setting (x ∷ before)) { unread = unread; exchange = sym there i }))
+    let idle = g.adds.idle in
+    let there = ap Some (exchange-unpulled setting before x m n h idle.head plain.aside idle.pull)
+    ∙ sym (λ i. exchange_of setting (x ∷ before) (g.new.current_is i) (g.new.request_is i)) in
+    plain_parts setting before x more unread (Some (record (exchange_with setting before m h) { rest = rest })) g.adds plain refl there

@@ -20,6 +20,7 @@ use Rattle.h1_model.proofs.PulledLemmas.{Holds}
 use Rattle.h1_model.proofs.CarriedLemmas.{passed_none, passed_some}
 use Rattle.h1_model.proofs.HeldSteps.{pull_no_head}
 use Rattle.h1_model.proofs.HeldLemmas.{bounded}
+use Rattle.h1_machine.proofs.StepSums.{request-cons, request-more}
 
 -- the current message and its head
 pub record Current (setting : Setting) (past : List ParsedStep) (m : Message) (h : Head) : Type 0 where
@@ -123,15 +124,6 @@ carried setting before x k m l e =
     ]
 
 -- ---- the last request
-
--- the last request, of one more step
-pub request-cons : (s : Step) (before : List Step) → request (s ∷ before) ≡ option_or (head_of s.outcome) (request before)
-unfolding request
-request-cons s before = refl
-
--- behind a step that hands out no head
-pub request-more : (s : Step) (before : List Step) → head_of s.outcome ≡ None → request (s ∷ before) ≡ request before
-request-more s before none = request-cons s before ∙ ap (λ o. option_or o (request before)) none
 
 -- where no head was handed out there is none
 no_request : (trace : List Step) → head_count trace ≡ 0 → request trace ≡ None

@@ -24,8 +24,8 @@ use Rattle.h1_machine.proofs.Orderly.{orderly}
 use Rattle.h1_machine.proofs.Frames.{raw_head}
 use Rattle.h1_machine.proofs.StepSums.{buffered-more}
 use Rattle.h1_machine.proofs.PassedBodies.{left_at, left_ends}
-use Rattle.h1_machine.proofs.PlainSteps.{IsPlain}
-use Rattle.h1_machine.proofs.Arrivals.{Adds, Grows, IsLeft, left_before, framed_left, grows_of, passing-none, passing_grown, parts-none, parts-some}
+use Rattle.h1_machine.proofs.CalmSteps.{eof_aside}
+use Rattle.h1_machine.proofs.Arrivals.{Adds, IsPlain, Grows, IsLeft, left_before, framed_left, grows_of, passing-none, passing_grown, parts-none, parts-some}
 
 -- the step that ends the input
 abbrev eof_step : Step
@@ -46,24 +46,7 @@ eof_adds before unended = record {
 -- and is of the input alone
 eof_plain : (setting : Setting) (before : List ParsedStep) → Legal setting before → IsPlain setting before eof_step
 unfolding step_text
-eof_plain setting before l = record {
-  head = refl;
-  tells = refl;
-  over = refl;
-  answer = refl;
-  completes = refl;
-  chunk = refl;
-  pull = refl;
-  drop = refl;
-  go_on = refl;
-  drain = refl;
-  body_end = refl;
-  body_error = refl;
-  done = refl;
-  tick = refl;
-  sends = refl;
-  buffers = buffered-more setting eof_step before l refl ∙ append-nil _;
-}
+eof_plain setting before l = record { aside = eof_aside; tells = refl; over = refl; buffers = buffered-more setting eof_step before l refl ∙ append-nil _ }
 
 -- the bytes stay
 same_bytes : (before : List ParsedStep) → Adds before eof_step [] → taken (eof_step ∷ steps before) ≡ taken (steps before)

@@ -49,21 +49,21 @@ record IsMild (o : Outcome) : Type 0 where
 -- that the connection closes
 mild_closed : (end : End) → IsMild (on.closed end)
 mild_closed end = record {
-  still = record { calm = calm_next; pull = refl; accepts = refl; head = refl; bytes = refl; frames = refl; done = refl };
+  still = record { calm = calm_next; pull = refl; accepts = refl; head = refl; bytes = refl; frames = refl };
   written = refl;
 }
 
 -- a fault
 mild_fault : (f : Fault) → IsMild (on.fault f)
 mild_fault f = record {
-  still = record { calm = calm_next; pull = refl; accepts = refl; head = refl; bytes = refl; frames = refl; done = refl };
+  still = record { calm = calm_next; pull = refl; accepts = refl; head = refl; bytes = refl; frames = refl };
   written = refl;
 }
 
 -- and that nothing is there yet
 mild_pending : IsMild on.pending
 mild_pending = record {
-  still = record { calm = calm_next; pull = refl; accepts = refl; head = refl; bytes = refl; frames = refl; done = refl };
+  still = record { calm = calm_next; pull = refl; accepts = refl; head = refl; bytes = refl; frames = refl };
   written = refl;
 }
 

@@ -17,7 +17,8 @@ use Rattle.h1_model.specs.OutcomeTable.{next_outcome, outcome_of}
 use Rattle.h1_model.proofs.PastLemmas.{Legal}
 use Rattle.h1_model.proofs.StepLemmas.{step, accepted-cons, complete-head, complete-more, allowed_open, quiet, reads, stops, accepts, begins, pulls, step_case}
 use Rattle.h1_model.proofs.HeldSteps.{pull_no_head}
-use Rattle.h1_machine.proofs.Current.{plain_of, request-more}
+use Rattle.h1_machine.proofs.Current.{plain_of}
+use Rattle.h1_machine.proofs.StepSums.{request-more}
 
 -- ---- the answer, of one more step
 

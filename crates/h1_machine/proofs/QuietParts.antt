@@ -149,7 +149,7 @@ rest-quiet setting x before m kind l q incomplete =
     rest_parts (x ∷ before) m kind ∙ (λ i. rest_by (place i) (bytes i) (complete i) (limit i) (receiving i) m kind) ∙ sym (rest_parts before m kind)
 
 -- a pull alone tells a body's end
-undone : (e : Event) (o : Outcome) → is_pull e ≡ false → tells_done e o ≡ false
+pub undone : (e : Event) (o : Outcome) → is_pull e ≡ false → tells_done e o ≡ false
 undone on.pull o no_pull = absurd (true≢false no_pull)
 undone _ o no_pull = refl
 
@@ -291,15 +291,21 @@ short-open s before none no_end unended =
     ap (λ b. b && is_short (request (s ∷ before)) (answer_of (s ∷ before)) (answer_len (s ∷ before))) came
     ∙ sym (ap (λ b. b && is_short (request before) (answer_of before) (answer_len before)) unended)
 
+-- the end that the answer's body brings stays
+pub body_end-stays : (s : Step) (before : List Step) → is_body_error s.event ≡ false → is_cut_short (s ∷ before) ≡ is_cut_short before
+    → body_end_of (s ∷ before) ≡ body_end_of before
+body_end-stays s before no_error short =
+    let failed : list_any (λ t. is_body_error t.event) (s ∷ before) ≡ list_any (λ t. is_body_error t.event) before =
+        ap (λ b. b || list_any (λ t. is_body_error t.event) before) no_error in
+    λ i. option_or (end_where (failed i) ends.body) (end_where (short i) ends.body_short)
+
 -- the end that was told stays
 pub told-stays : (s : Step) (before : List Step) → told_end s.outcome ≡ None → is_body_error s.event ≡ false
     → is_cut_short (s ∷ before) ≡ is_cut_short before
     → option_or (told (s ∷ before)) (body_end_of (s ∷ before)) ≡ option_or (told before) (body_end_of before)
 told-stays s before none no_error short =
     let told_same : told (s ∷ before) ≡ told before = told-cons s before ∙ ap (λ o. option_or o (told before)) none in
-    let failed : list_any (λ t. is_body_error t.event) (s ∷ before) ≡ list_any (λ t. is_body_error t.event) before =
-        ap (λ b. b || list_any (λ t. is_body_error t.event) before) no_error in
-    λ i. option_or (told_same i) (option_or (end_where (failed i) ends.body) (end_where (short i) ends.body_short))
+    λ i. option_or (told_same i) (body_end-stays s before no_error short i)
 
 -- a fault, an expiry or a broken rule is told
 pub told-now : (s : Step) (before : List Step) (end : End) → told_end s.outcome ≡ Some end

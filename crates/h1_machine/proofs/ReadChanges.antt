@@ -26,8 +26,8 @@ use Rattle.h1_machine.proofs.Orderly.{orderly}
 use Rattle.h1_machine.proofs.Frames.{raw_head}
 use Rattle.h1_machine.proofs.StepSums.{buffered-more}
 use Rattle.h1_machine.proofs.PassedBodies.{left_at, left_stays}
-use Rattle.h1_machine.proofs.PlainSteps.{IsPlain}
-use Rattle.h1_machine.proofs.Arrivals.{Adds, Grows, IsLeft, left_before, framed_left, grows_of, passing-none, passing_grown, parts-none, parts-some}
+use Rattle.h1_machine.proofs.CalmSteps.{read_aside}
+use Rattle.h1_machine.proofs.Arrivals.{Adds, IsPlain, Grows, IsLeft, left_before, framed_left, grows_of, passing-none, passing_grown, parts-none, parts-some}
 
 -- the step that takes so many bytes
 abbrev read_step : List ℕ → ℕ → Step
@@ -48,24 +48,7 @@ read_adds before bytes n unended = record {
 -- and is of the input alone
 read_plain : (setting : Setting) (before : List ParsedStep) (bytes : List ℕ) (n : ℕ) → Legal setting before → IsPlain setting before (read_step bytes n)
 unfolding step_text
-read_plain setting before bytes n l = record {
-  head = refl;
-  tells = refl;
-  over = refl;
-  answer = refl;
-  completes = refl;
-  chunk = refl;
-  pull = refl;
-  drop = refl;
-  go_on = refl;
-  drain = refl;
-  body_end = refl;
-  body_error = refl;
-  done = refl;
-  tick = refl;
-  sends = refl;
-  buffers = buffered-more setting (read_step bytes n) before l refl ∙ append-nil _;
-}
+read_plain setting before bytes n l = record { aside = read_aside bytes; tells = refl; over = refl; buffers = buffered-more setting (read_step bytes n) before l refl ∙ append-nil _ }
 
 -- the bytes that aren't passed, of the longer ones
 longer_unread : (setting : Setting) (before : List ParsedStep) (s : Step) (more : List ℕ) → Legal setting before → Adds before s more

@@ -57,14 +57,13 @@ is_receiving-cons s before = refl
 -- ---- a step that hands out no head
 
 -- the last request
-pub request-more : (s : Step) (before : List Step) → head_of s.outcome ≡ None → request (s ∷ before) ≡ request before
+pub request-cons : (s : Step) (before : List Step) → request (s ∷ before) ≡ option_or (head_of s.outcome) (request before)
 unfolding request
-request-more s before none = ap (λ o. option_or o (request before)) none
+request-cons s before = refl
 
--- behind a head it is that one
-pub request-head : (s : Step) (before : List Step) (h : Head) → head_of s.outcome ≡ Some h → request (s ∷ before) ≡ Some h
-unfolding request
-request-head s before h some = ap (λ o. option_or o (request before)) some
+-- behind a step that hands out no head
+pub request-more : (s : Step) (before : List Step) → head_of s.outcome ≡ None → request (s ∷ before) ≡ request before
+request-more s before none = request-cons s before ∙ ap (λ o. option_or o (request before)) none
 
 -- its answer
 pub answered-more : (s : Step) (before : List Step) → head_of s.outcome ≡ None

@@ -71,7 +71,8 @@ unfolding PullsFit
 fit-more m s before none here others =
     subst (λ o. Behind o (PullFits m (s ∷ before) s.event s.outcome × PullsFit m before)) (sym none) (here, others)
 
-fit-less : (m : Message) (s : Step) (before : List Step) → head_of s.outcome ≡ None → PullsFit m (s ∷ before)
+-- and what that says of the step and of those before it
+pub fit-less : (m : Message) (s : Step) (before : List Step) → head_of s.outcome ≡ None → PullsFit m (s ∷ before)
     → PullFits m (s ∷ before) s.event s.outcome × PullsFit m before
 unfolding PullsFit
 fit-less m s before none x = subst (λ o. Behind o (PullFits m (s ∷ before) s.event s.outcome × PullsFit m before)) none x
