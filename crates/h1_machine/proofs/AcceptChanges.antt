@@ -23,7 +23,8 @@ use Rattle.h1_machine.specs.Kept as kept
 use Rattle.h1_machine.specs.Change.{accepting, accepting_with}
 use Rattle.h1_machine.specs.KeptOf.{raw_left, rest_of, exchange_with, exchange_of, kept_of}
 use Rattle.h1_machine.proofs.Changes.{Changes}
-use Rattle.h1_machine.proofs.Current.{Current, current_of, plain_of}
+use Rattle.h1_model.proofs.HeldLemmas.{not_upgraded}
+use Rattle.h1_machine.proofs.Current.{Current, current_of}
 use Rattle.h1_machine.proofs.Frames.{current_carried, current_stays}
 use Rattle.h1_machine.proofs.Received.{receives}
 use Rattle.h1_machine.proofs.StepSums.{is_receiving-cons, came-more, buffered-more, request-more}
@@ -187,7 +188,7 @@ accept_of_changes setting before limit o parse l =
     let first = and_parts (is_unanswered t && asks_raw (request t)) (not (was_pulled t || was_dropped t)) (and_parts _ _ test).0 in
     let parts = and_parts (is_unanswered t) (asks_raw (request t)) first.0 in
     let waits = and_parts (is_open t) (is_none (answered t)) (and_parts (is_open t && is_none (answered t)) (not (is_upgraded t)) parts.0).0 in
-    let plain = plain_of t parts.0 in
+    let plain = not_upgraded t parts.0 in
     let unpulled = (or_parts (was_pulled t) (was_dropped t) (not-true (was_pulled t || was_dropped t) first.1)).0 in
     elim (current_of setting before l.3) [
       | inl n ↦ absurd (false≢true (sym (ap asks_raw n.request_is) ∙ parts.1))

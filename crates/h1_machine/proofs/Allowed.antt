@@ -127,7 +127,8 @@ waits_of setting past l = elim (current_of setting past l) [
 ]
 
 -- its answer's body is going out
-answering_of : (setting : Setting) (past : List ParsedStep) → Legal setting past → is_answering (kept_of setting past) ≡ sums.is_answering (steps past)
+answering_of : (setting : Setting) (past : List ParsedStep) → Legal setting past
+    → is_answering (kept_of setting past) ≡ sums.is_answering (steps past)
 answering_of setting past l = elim (current_of setting past l) [
   | inl n ↦ rw (exchange_none setting past n) (sym (ap (λ b. b && not (is_complete (steps past))) (none_answered setting past l n)))
   | inr (m, h, c) ↦ rw (exchange_is setting past m h c) (reply_sending setting (steps past) h)

@@ -20,7 +20,8 @@ use Rattle.h1_machine.specs.Reply.{stated, completing, answering}
 use Rattle.h1_machine.specs.KeptOf.{reply_of, exchange_with, kept_of}
 use Rattle.h1_machine.specs.Change.{doing, doing_with}
 use Rattle.h1_machine.proofs.Changes.{Changes}
-use Rattle.h1_machine.proofs.Current.{Current, current_of, plain_of}
+use Rattle.h1_model.proofs.HeldLemmas.{not_upgraded}
+use Rattle.h1_machine.proofs.Current.{Current, current_of}
 use Rattle.h1_machine.proofs.StepSums.{answered-more, answer_len-more, is_sending-cons, buffered-more}
 use Rattle.h1_machine.proofs.QuietParts.{complete-quiet, rest-quiet, exchange-quiet, clock-quiet, kept-quiet, short-open, told-stays}
 use Rattle.h1_machine.proofs.StepForms.{made, at_step, kept_current, both_none, open_request, open_incomplete, no_request, unended}
@@ -116,7 +117,7 @@ answer_known setting before head size parse m h l c ok =
             changes = ap doing (sym (cond-true (is_at_once size) at_first later once))
                 ∙ ap (doing_with act) (sym (kept_current setting before m h c));
             answers = refl;
-            parts = kept-completes setting x before m h kind old.reply text k.failed l s c incomplete (plain_of t ok) reply buffer (is_sending-cons x.step t) end;
+            parts = kept-completes setting x before m h kind old.reply text k.failed l s c incomplete (not_upgraded t ok) reply buffer (is_sending-cons x.step t) end;
             since = completing_since kind old next;
           }
       | inr streams ↦

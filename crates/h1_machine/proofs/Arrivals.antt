@@ -305,7 +305,8 @@ none_behind before x more a none =
     (gone, passed_none (x ∷ before) gone)
 
 -- all but the bytes, the input's end and the last request stays
-plain_parts : (setting : Setting) (before : List ParsedStep) (x : ParsedStep) (more unread : List ℕ) (exchange : Option Exchange) → Adds before x.step more
+plain_parts : (setting : Setting) (before : List ParsedStep) (x : ParsedStep) (more unread : List ℕ) (exchange : Option Exchange)
+    → Adds before x.step more
     → IsPlain setting before x.step → unread ≡ drop (passed (x ∷ before)) (taken (x.step ∷ steps before))
     → exchange ≡ exchange_of setting (x ∷ before) (current (x ∷ before)) (request (x.step ∷ steps before))
     → bare (record (kept_of setting before) { unread = unread; has_ended = has_ended (x.step ∷ steps before); exchange = exchange })
@@ -316,7 +317,8 @@ plain_parts setting before x more unread exchange a p e g =
     (sym p.buffers) (sym (ap (λ o. option_or o k.failed) p.tells))
 
 -- what is kept before the step, where no head was handed out, is so behind it
-pub parts-none : (setting : Setting) (before : List ParsedStep) (x : ParsedStep) (more : List ℕ) → Adds before x.step more → IsPlain setting before x.step
+pub parts-none : (setting : Setting) (before : List ParsedStep) (x : ParsedStep) (more : List ℕ) → Adds before x.step more
+    → IsPlain setting before x.step
     → NoCurrent before
     → bare (record (kept_of setting before) {
         unread = drop (passed before) (taken (x.step ∷ steps before));

@@ -93,10 +93,6 @@ pub record Completes (before : List ParsedStep) (x : ParsedStep) : Type 0 where
   pub go_on : is_go_on x.step.event ≡ false
   pub over : is_over_by x.step.outcome ≡ false
 
--- the state that the text and the end are put in before the answer is complete
-abbrev pub with_text : Kept → List ℕ → Option End → Kept
-with_text k buffer end = record k { buffered = buffer; failed = end }
-
 -- The state behind it, whatever the answer was before.
 pub kept-completes : (setting : Setting) (x : ParsedStep) (before : List ParsedStep) (m : Message) (h : Head) (kind : ConnectionType) (was : Reply)
     (buffer : List ℕ) (end : Option End)

@@ -18,8 +18,8 @@ use Rattle.h1_model.proofs.StepLemmas.{taken-cons, accepted-cons, head_count-mor
 use Rattle.h1_model.proofs.TraceGrowth.{message_at, grown_at, accepted_at, current_at, current_none}
 use Rattle.h1_model.proofs.PulledLemmas.{Holds}
 use Rattle.h1_model.proofs.CarriedLemmas.{passed_none, passed_some}
-use Rattle.h1_model.proofs.HeldSteps.{pull_no_head}
-use Rattle.h1_model.proofs.HeldLemmas.{bounded}
+use Rattle.h1_model.proofs.HeldSteps.{headless_or_begins}
+use Rattle.h1_model.proofs.HeldLemmas.{accepted_message, bounded}
 use Rattle.h1_machine.proofs.StepSums.{request-cons, request-more}
 
 -- the current message and its head
@@ -40,17 +40,6 @@ pub record NoCurrent (past : List ParsedStep) : Type 0 where
   pub current_is : current past ≡ None
   pub request_is : request (steps past) ≡ None
   pub passed_is : passed past ≡ 0
-
--- ---- a WebSocket
-
--- what waits for its answer is no WebSocket yet
-pub plain_of : (trace : List Step) → is_unanswered trace ≡ true → accepted trace ≡ None
-plain_of trace x =
-    go (accepted trace) (not-true (is_upgraded trace) (and_parts (is_open trace && is_none (answered trace)) (not (is_upgraded trace)) x).1)
-  where
-    go : (o : Option ℕ) → is_some o ≡ false → o ≡ None
-    go None e = refl
-    go (Some limit) e = absurd (true≢false e)
 
 -- ---- a message in the longer past
 
@@ -84,21 +73,11 @@ grown_carried setting before x k m more l bytes upgraded unended e =
     record { message = n.0; at = n.1; reading = n.2.reading; body_start = n.2.body_start }
 
 -- where a WebSocket is accepted
-accepted_carried : (setting : Setting) (before : List ParsedStep) (x : ParsedStep) (k : ℕ) (m : Message) → Accepts before x.step → Legal setting (x ∷ before)
+accepted_carried : (setting : Setting) (before : List ParsedStep) (x : ParsedStep) (k : ℕ) (m : Message) → Accepts before x.step
+    → Legal setting (x ∷ before)
     → slice_get (parse_of before) k ≡ Some m → Carried x k m
 accepted_carried setting before x k m a l e =
-    let t = steps before in
-    let size = setting.hold_size in
-    let j = input_of setting (x.step ∷ t) in
-    let none : step_taken x.step.event x.step.outcome ≡ [] = ap (λ e. step_taken e x.step.outcome) a.event in
-    let bytes : taken (x.step ∷ t) ≡ taken t = taken-cons x.step t ∙ ap (λ b. taken t ++ b) none ∙ append-nil (taken t) in
-    let now_upgraded : j.upgraded ≡ Some a.limit =
-    accepted-cons x.step t ∙ (λ i. option_or (accepted_limit (a.event i) (a.outcome i)) (accepted t)) in
-    let ended : j.ended ≡ has_ended t = ap (λ e. is_eof e || has_ended t) a.event in
-    let was = subst (λ u. IsParse (input (taken t) u (has_ended t) size) (parse_of before)) (plain_of t a.unanswered) (parsed setting before l.3) in
-    let is : j ≡ input (taken t) (Some a.limit) (has_ended t) size = λ i. input (bytes i) (now_upgraded i) (ended i) size in
-    let now = subst (λ (k : Input). IsParse k x.parse) is l.0 in
-    let n = accepted_at (taken t) a.limit (has_ended t) size 0 (parse_of before) x.parse k m was now e in
+    let n = accepted_message setting before x k m a l.0 (parsed setting before l.3) e in
     record { message = n.0; at = n.1; reading = n.2.reading; body_start = n.2.body_start }
 
 -- Behind each step a message that was parsed stands in its place.
@@ -162,13 +141,9 @@ last_read : (setting : Setting) (past : List ParsedStep) (k : ℕ) → Legal set
 last_read setting [] k l e = absurd (omega arith)
 last_read setting (x ∷ before) k l e =
     let old = last_read setting before k l.3 in
-    elim (step_case setting before x.step.event x.step.outcome l.1 l.2) [
-      | quiet q ↦ idle_read setting before x k l q.head e old
-      | reads r ↦ idle_read setting before x k l (ap head_of r.outcome) e old
-      | stops r ↦ idle_read setting before x k l (ap head_of r.outcome) e old
-      | accepts a ↦ idle_read setting before x k l (ap head_of a.outcome) e old
-      | begins b ↦ begun_read setting before x k l b e
-      | pulls p ↦ idle_read setting before x k l (ap head_of p.outcome ∙ pull_no_head (steps before) (current before)) e old
+    elim (headless_or_begins setting before x l) [
+      | inl none ↦ idle_read setting before x k l none e old
+      | inr b ↦ begun_read setting before x k l b e
     ]
 
 -- ---- all of it

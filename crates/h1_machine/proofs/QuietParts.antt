@@ -94,14 +94,6 @@ current-quiet setting x before l q =
     let parse = parse-quiet setting x before l q in
     λ i. if count i == 0 then None else slice_get (parse i) (count i - 1)
 
--- and the one that is to come
-pub upcoming-quiet : (setting : Setting) (x : ParsedStep) (before : List ParsedStep) → Legal setting (x ∷ before) → Quiet before x.step
-    → upcoming (x ∷ before) ≡ upcoming before
-upcoming-quiet setting x before l q =
-    let count = head_count-more x.step (steps before) q.head in
-    let parse = parse-quiet setting x before l q in
-    λ i. slice_get (parse i) (count i)
-
 -- what is passed of the current message, where the step completes no answer
 message-quiet : (x : ParsedStep) (before : List ParsedStep) (m : Message) → Quiet before x.step → completes x.step.event ≡ false
     → message_passed (x ∷ before) m ≡ message_passed before m

@@ -61,7 +61,8 @@ raw_rest_of past m len ended plain body =
     ∙ (λ i. if is_passed (passed past) (record m { body = body i }) then no_rest else raw_rest)
     ∙ by_end ended
   where
-    by_end : (ended : Bool) → (if is_passed (passed past) (record m { body = content (run_between m.body_start len) (raw_stop ended len) }) then no_rest else raw_rest)
+    by_end : (ended : Bool)
+        → (if is_passed (passed past) (record m { body = content (run_between m.body_start len) (raw_stop ended len) }) then no_rest else raw_rest)
         ≡ raw_rest_at ended len (passed past)
     by_end true = refl
     by_end false = refl

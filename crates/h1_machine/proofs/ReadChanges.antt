@@ -46,7 +46,8 @@ read_adds before bytes n unended = record {
 }
 
 -- and is of the input alone
-read_plain : (setting : Setting) (before : List ParsedStep) (bytes : List ℕ) (n : ℕ) → Legal setting before → IsPlain setting before (read_step bytes n)
+read_plain : (setting : Setting) (before : List ParsedStep) (bytes : List ℕ) (n : ℕ) → Legal setting before
+    → IsPlain setting before (read_step bytes n)
 unfolding step_text
 read_plain setting before bytes n l = record { aside = read_aside bytes; tells = refl; over = refl; buffers = buffered-more setting (read_step bytes n) before l refl ∙ append-nil _ }
 
@@ -76,7 +77,8 @@ read_left setting before parse bytes n m p h g =
 -- the step that takes as many bytes as there is room for
 taking : (setting : Setting) (before : List ParsedStep) (parse : List Message) (bytes : List ℕ) (n : ℕ)
     → n ≡ min (length bytes) (setting.hold_size - length (drop (passed before) (taken (steps before))))
-    → Legal setting (record { step = read_step bytes n; parse = parse } ∷ before) → Changes setting before (record { step = read_step bytes n; parse = parse })
+    → Legal setting (record { step = read_step bytes n; parse = parse } ∷ before)
+    → Changes setting before (record { step = read_step bytes n; parse = parse })
 taking setting before parse bytes n e l =
     let x : ParsedStep = record { step = read_step bytes n; parse = parse } in
     let k = kept_of setting before in

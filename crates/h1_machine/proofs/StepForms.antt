@@ -48,10 +48,6 @@ pub kept_current : (setting : Setting) (past : List ParsedStep) (m : Message) (h
     → kept_of setting past ≡ with_exchange (kept_of setting past) (Some (exchange_with setting past m h))
 kept_current setting past m h c = λ i. with_exchange (kept_of setting past) (exchange_of setting past (c.current_is i) (c.request_is i))
 
--- and where there is none
-pub kept_none : (setting : Setting) (past : List ParsedStep) → NoCurrent past → kept_of setting past ≡ with_exchange (kept_of setting past) None
-kept_none setting past c = λ i. with_exchange (kept_of setting past) (exchange_of setting past (c.current_is i) (request (steps past)))
-
 -- ---- while the connection is open
 
 -- an event that isn't allowed while the connection closes comes while it doesn't

@@ -35,6 +35,7 @@ open_test : (closes closed opened : Bool) → cond closes closed opened ≡ true
 open_test true closed opened x shut = absurd (false≢true (sym shut ∙ x))
 open_test false closed opened x shut = refl
 
+-- an event that isn't allowed while the connection closes comes while it doesn't
 stays_open : (setting : Setting) (past : List ParsedStep) (e : Event) → is_allowed_closing (steps past) e ≡ false
     → IsTrue (is_allowed setting past e) → is_some (closing setting past) ≡ false
 unfolding is_allowed
@@ -268,6 +269,7 @@ send_goes setting before m None (e ∷ es) up spoken =
 
 -- ---- each event
 
+-- each event that is allowed goes on with the exchanges
 pub event_goes : (setting : Setting) (past : List ParsedStep) (event : Event) (es : List Exchange) (r : Option Refusal)
     → IsTrue (is_allowed setting past event) → Sound setting past → Spoken setting (steps past) es r
     → Goes setting (steps past) event (outcome_of setting past event) es r

@@ -188,7 +188,8 @@ ended_pulled r place runs end trailers (line ∷ more) false before none_left li
     end_pulled (message r place (content runs (ended_at end trailers))) before _ end refl refl refl refl refl refl none_left refl lies x
 
 -- content, by how it stops, where all that is there was given
-stop_pulled : (r : Reading) (place : ℕ) (runs : List Run) (stop : Stop) (given : Bool) (before : List Step) → run_left (given_bytes before) runs ≡ None
+stop_pulled : (r : Reading) (place : ℕ) (runs : List Run) (stop : Stop) (given : Bool) (before : List Step)
+    → run_left (given_bytes before) runs ≡ None
     → Lies (length (taken before)) place (content runs stop) → Holds (length (taken before)) (message r place (content runs stop)) before
     → Pulled (message r place (content runs stop)) before (stop_outcome given stop)
 stop_pulled r place runs (ended_at end trailers) given before none_left lies x =

@@ -1,6 +1,5 @@
 -- The messages before a WebSocket is accepted, and those behind it.
-use Rattle.std.proofs.Common.{◌≡◌, ℕ, ◌+◌, Bool, true, false, List, [], ◌∷◌, length, drop, slice_range, Option, Some, None, MatchOption, refl, sym, ap, ap₂, ◌∙◌, subst, subst₂, arith, true≢false}
-use Rattle.h1_model.specs.RequestHead.{IsReadingWithin}
+use Rattle.std.proofs.Common.{◌≡◌, ℕ, Bool, true, false, List, [], ◌∷◌, length, Option, Some, None, MatchOption, refl, sym, ap, ◌∙◌, subst, subst₂, arith, true≢false}
 use Rattle.h1_model.specs.Request.{BodyKind, no_body, fixed_body, chunked_body, raw_body, is_raw_kind, Reading, head_is, faulty}
 use Rattle.h1_model.specs.Parse.{Input, Message, Body, raw_content, next_start, IsBodyOf, IsBodyAfter, IsMessageAt, AreMessages, IsParse}
 use Rattle.h1_model.specs.Laws.Upgrade.{has_raw_body, StaysUpgraded, StayUpgraded}
