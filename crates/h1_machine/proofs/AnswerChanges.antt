@@ -1,5 +1,5 @@
 -- An answer that is handed in: it is complete at once, or its body is to be sent.
-use Rattle.std.proofs.Common.{◌≡◌, ◌-◌, true, false, List, [], ◌∷◌, ◌++◌, Option, Some, None, refl, sym, ap, ◌∙◌, inl, inr, arith}
+use Rattle.std.proofs.Common.{◌≡◌, ◌-◌, true, List, [], ◌∷◌, ◌++◌, Option, Some, None, refl, sym, ap, ◌∙◌, inl, inr, arith}
 use Rattle.std.specs.Prelude.{◌||◌, not, is_some, IsTrue}
 use Rattle.std.proofs.lemmas.Bool.{cases_Bool, cond-true, cond-false, and_parts, false≢true}
 use Rattle.h1_model.specs.Request.{Head}
@@ -99,19 +99,19 @@ answer_known setting before head size parse m h l c ok =
     let incomplete = open_incomplete t ok in
     let answer : answer_of (x.step ∷ t) ≡ Some a = answered-more x.step t refl in
     let buffer : buffered setting (x.step ∷ t) ≡ text =
-        buffered-more setting x.step before l.3 refl
-            ∙ ap (λ l. k.buffered ++ l) (answer_text_is setting t head size ∙ ap (answer_text setting t head size) c.request_is) in
+    buffered-more setting x.step before l.3 refl
+    ∙ ap (λ l. k.buffered ++ l) (answer_text_is setting t head size ∙ ap (answer_text setting t head size) c.request_is) in
     let end = told-stays x.step t refl refl (short-open x.step t refl refl (unended t incomplete)) in
     let at_first = completing kind old next in
     let later = record next { exchange = Some (record old { reply = sending shape kind (stated shape) }) } in
     elim (cases_Bool (is_at_once size)) [
       | inl once ↦
           let s : Completes before x =
-              record { quiet = q; completes = once; tick = refl; drain = refl; drop = refl; go_on = refl; over = refl } in
+          record { quiet = q; completes = once; tick = refl; drain = refl; drop = refl; go_on = refl; over = refl } in
           let complete : is_complete (x.step ∷ t) ≡ true = complete-more x.step t refl ∙ ap (λ b. b || is_complete t) once in
           let reply : reply_of setting (x.step ∷ t) h (answer_of (x.step ∷ t)) ≡ answered kind =
-              ap (reply_of setting (x.step ∷ t) h) answer
-              ∙ cond-true (is_complete (x.step ∷ t)) (answered kind) (sending shape kind (stated shape - answer_len (x.step ∷ t))) complete in
+          ap (reply_of setting (x.step ∷ t) h) answer
+          ∙ cond-true (is_complete (x.step ∷ t)) (answered kind) (sending shape kind (stated shape - answer_len (x.step ∷ t))) complete in
           record {
             change = doing at_first;
             changes = ap doing (sym (cond-true (is_at_once size) at_first later once))
@@ -125,7 +125,7 @@ answer_known setting before head size parse m h l c ok =
           let none = unanswered_len setting before l.3 (open_request t ok).1 in
           let whole : stated shape - answer_len (x.step ∷ t) ≡ stated shape = omega (arith, answer_len-more x.step t refl) in
           let reply = reply-sending setting (x.step ∷ t) h a answer (complete-quiet x before q streams ∙ incomplete)
-              ∙ ap (sending shape kind) whole in
+          ∙ ap (sending shape kind) whole in
           let exchange = exchange-quiet setting x before m h l q c ∙ (λ i. Some (record old { rest = rest i; reply = reply i })) in
           record {
             change = doing later;

@@ -153,7 +153,7 @@ left_before setting before x more m n h g plain =
 left_behind : (setting : Setting) (before : List ParsedStep) (x : ParsedStep) (more : List ℕ) (m n : Message) (h : Head) (complete receiving : Bool)
     → Grows setting before x more m n h → accepted (steps before) ≡ None
     → rest_by (passed before) (taken (x.step ∷ steps before)) complete None receiving n h.body
-      ≡ left_at (has_ended (x.step ∷ steps before)) complete h.body m.body_start (passed before) (taken (x.step ∷ steps before))
+    ≡ left_at (has_ended (x.step ∷ steps before)) complete h.body m.body_start (passed before) (taken (x.step ∷ steps before))
 left_behind setting before x more m n h complete receiving g plain =
     let t = x.step ∷ steps before in
     let size = setting.hold_size in
@@ -200,7 +200,7 @@ left_open setting before x more m n h rest g left answering = go (accepted (step
 left_passed : (setting : Setting) (before : List ParsedStep) (x : ParsedStep) (more : List ℕ) (m n : Message) (h : Head) (rest : Rest)
     → Grows setting before x more m n h → IsLeft before x m h rest → is_complete (steps before) ≡ true
     → pass_rest (has_ended (x.step ∷ steps before)) rest (drop (passed before) (taken (x.step ∷ steps before)))
-      ≡ record { rest = rest_of (x ∷ before) n h.body; unread = drop (passed (x ∷ before)) (taken (x.step ∷ steps before)) }
+    ≡ record { rest = rest_of (x ∷ before) n h.body; unread = drop (passed (x ∷ before)) (taken (x.step ∷ steps before)) }
 left_passed setting before x more m n h rest g left complete =
     let t = x.step ∷ steps before in
     let plain = complete_plain setting before g.legal.3 complete in
@@ -211,7 +211,7 @@ left_passed setting before x more m n h rest g left complete =
     let begun : n.body_start ≤ passed before = omega (arith, passed_end setting before m h g.old complete, end_behind setting before m h g.old) in
     let within : passed before ≤ length (taken t) = omega (arith, g.new.passed_within) in
     let before_next : (next : ℕ) → next_start n.body ≡ Some next → passed before ≤ next = λ next e.
-        let end = passed_end setting (x ∷ before) n h g.new complete' ∙ ap (λ o. unwrap_or o (length (taken t))) e in omega arith in
+    let end = passed_end setting (x ∷ before) n h g.new complete' ∙ ap (λ o. unwrap_or o (length (taken t))) e in omega arith in
     ap (λ r. pass_rest (has_ended t) r (drop (passed before) (taken t))) is
     ∙ passing_of setting (x ∷ before) n h (passed before) (is_complete (steps before)) (is_receiving t) g.new complete' (g.adds.accepted ∙ plain) begun within before_next
 
@@ -245,10 +245,10 @@ passing-by k x (answered kind) e = absurd (true≢false e)
 -- and where it is, the rest of its body
 passing-answered : (k : Kept) (x : Exchange) (reply : Reply) → is_answered reply ≡ true
     → passing (record k { exchange = Some (record x { reply = reply }) })
-      ≡ record k {
-          unread = (pass_rest k.has_ended x.rest k.unread).unread;
-          exchange = Some (record x { reply = reply; rest = (pass_rest k.has_ended x.rest k.unread).rest });
-        }
+    ≡ record k {
+      unread = (pass_rest k.has_ended x.rest k.unread).unread;
+      exchange = Some (record x { reply = reply; rest = (pass_rest k.has_ended x.rest k.unread).rest });
+    }
 unfolding passing
 passing-answered k x unanswered e = absurd (false≢true e)
 passing-answered k x (sending shape kind missing) e = absurd (false≢true e)
@@ -267,7 +267,7 @@ kept_with setting before m h ended unread rest =
 pub passing_grown : (setting : Setting) (before : List ParsedStep) (x : ParsedStep) (more : List ℕ) (m n : Message) (h : Head) (rest : Rest)
     → Grows setting before x more m n h → IsLeft before x m h rest
     → passing (kept_with setting before m h (has_ended (x.step ∷ steps before)) (drop (passed before) (taken (x.step ∷ steps before))) rest)
-      ≡ kept_with setting before m h (has_ended (x.step ∷ steps before)) (drop (passed (x ∷ before)) (taken (x.step ∷ steps before))) (rest_of (x ∷ before) n h.body)
+    ≡ kept_with setting before m h (has_ended (x.step ∷ steps before)) (drop (passed (x ∷ before)) (taken (x.step ∷ steps before))) (rest_of (x ∷ before) n h.body)
 passing_grown setting before x more m n h rest g left =
     let t = x.step ∷ steps before in
     let ended = has_ended t in
@@ -321,10 +321,10 @@ pub parts-none : (setting : Setting) (before : List ParsedStep) (x : ParsedStep)
     → IsPlain setting before x.step
     → NoCurrent before
     → bare (record (kept_of setting before) {
-        unread = drop (passed before) (taken (x.step ∷ steps before));
-        has_ended = has_ended (x.step ∷ steps before);
-        exchange = None;
-      }) ≡ bare (kept_of setting (x ∷ before))
+      unread = drop (passed before) (taken (x.step ∷ steps before));
+      has_ended = has_ended (x.step ∷ steps before);
+      exchange = None;
+    }) ≡ bare (kept_of setting (x ∷ before))
 parts-none setting before x more a plain none =
     let t = x.step ∷ steps before in
     let behind = none_behind before x more a none in
@@ -336,7 +336,7 @@ parts-none setting before x more a plain none =
 pub parts-some : (setting : Setting) (before : List ParsedStep) (x : ParsedStep) (more : List ℕ) (m n : Message) (h : Head)
     → Grows setting before x more m n h → IsPlain setting before x.step
     → bare (kept_with setting before m h (has_ended (x.step ∷ steps before)) (drop (passed (x ∷ before)) (taken (x.step ∷ steps before))) (rest_of (x ∷ before) n h.body))
-      ≡ bare (kept_of setting (x ∷ before))
+    ≡ bare (kept_of setting (x ∷ before))
 parts-some setting before x more m n h g plain =
     let t = x.step ∷ steps before in
     let unread = drop (passed (x ∷ before)) (taken t) in

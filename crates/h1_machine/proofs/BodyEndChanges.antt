@@ -83,7 +83,7 @@ end_told : (setting : Setting) (before : List ParsedStep) (parse : List Message)
     → body_end_of (steps before) ≡ None
     → request (steps before) ≡ Some h → answer_of (steps before) ≡ Some a
     → option_or (told ((made on.body_end on.done parse).step ∷ steps before)) (body_end_of ((made on.body_end on.done parse).step ∷ steps before))
-      ≡ short_end (asked_of h) (shape_by h a) (stated (shape_by h a) - answer_len (steps before))
+    ≡ short_end (asked_of h) (shape_by h a) (stated (shape_by h a) - answer_len (steps before))
 end_told setting before parse h a quiet whole request_is answer_is =
     let t = steps before in
     let s = (made on.body_end on.done parse).step in
@@ -120,12 +120,12 @@ end_known setting before parse m h a l c answer_is incomplete =
     let complete : is_complete (x.step ∷ t) ≡ true = complete-more x.step t refl in
     let answer : answer_of (x.step ∷ t) ≡ Some a = answered-more x.step t refl ∙ answer_is in
     let reply : reply_of setting (x.step ∷ t) h (answer_of (x.step ∷ t)) ≡ answered kind =
-        ap (reply_of setting (x.step ∷ t) h) answer
-        ∙ cond-true (is_complete (x.step ∷ t)) (answered kind) (sending shape kind (stated shape - answer_len (x.step ∷ t))) complete in
+    ap (reply_of setting (x.step ∷ t) h) answer
+    ∙ cond-true (is_complete (x.step ∷ t)) (answered kind) (sending shape kind (stated shape - answer_len (x.step ∷ t))) complete in
     let request_is = c.request_is in
     let buffer : buffered setting (x.step ∷ t) ≡ text =
-        buffered-more setting x.step before l.3 refl
-            ∙ ap (λ l. k.buffered ++ l) (end_text_is setting t ∙ (λ i. end_sent (request_is i) (answer_is i))) in
+    buffered-more setting x.step before l.3 refl
+    ∙ ap (λ l. k.buffered ++ l) (end_text_is setting t ∙ (λ i. end_sent (request_is i) (answer_is i))) in
     let told_is = end_told setting before parse h a none.0 none.1 c.request_is answer_is ∙ sym alone in
     record {
       change = doing_with ending_body (with_exchange k (Some old));

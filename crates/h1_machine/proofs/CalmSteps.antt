@@ -1,6 +1,6 @@
 -- What a step leaves that hands out no head, is no tick and has no part in an answer.
-use Rattle.std.proofs.Common.{◌≡◌, ℕ, Bool, true, false, List, [], ◌∷◌, ◌++◌, drop, Option, Some, None, refl, sym, ap, ◌∙◌, arith, append-nil}
-use Rattle.std.specs.Prelude.{◌||◌, ◌&&◌, ◌-◌, if◌then◌else◌, slice_get, ◌==◌}
+use Rattle.std.proofs.Common.{◌≡◌, ℕ, Bool, false, List, [], ◌∷◌, ◌++◌, drop, Option, Some, None, refl, sym, ap, ◌∙◌, arith, append-nil}
+use Rattle.std.specs.Prelude.{◌||◌, ◌-◌, if◌then◌else◌, slice_get, ◌==◌}
 use Rattle.std.specs.List.{list_any}
 use Rattle.std.specs.Option.{option_or}
 use Rattle.std.proofs.Math.Bool.{or_comm}
@@ -8,14 +8,13 @@ use Rattle.h1_model.specs.Request.{Head}
 use Rattle.h1_model.specs.Setting.{Setting}
 use Rattle.h1_model.specs.Answer.{asked_of, shape_of, type_of}
 use Rattle.h1_model.specs.Parse.{Message}
-use Rattle.h1_model.specs.End as ends
 use Rattle.h1_model.specs.End.{End}
 use Rattle.h1_model.specs.Event.{Event, Outcome}
 use Rattle.h1_model.specs.Event as on
 use Rattle.h1_model.specs.Sums.{Step, Answered, step_taken, taken, is_eof, is_drain, is_drop, is_pull, is_go_on, is_body_end, is_body_error, tick_of, head_of, request, since_head, answered, answered_by, completes, came_since_head, is_complete, was_pulled, chunk_len, answer_len, under_way_behind, is_sending, has_ended, is_draining, accepted_limit}
 use Rattle.h1_model.specs.Past.{ParsedStep, steps, parse_of, current, passed}
 use Rattle.h1_model.specs.Text.{buffered}
-use Rattle.h1_model.specs.Closing.{end_where, told_end, told, is_short, body_end_of}
+use Rattle.h1_model.specs.Closing.{told_end, told, body_end_of}
 use Rattle.h1_model.specs.Allowed.{is_over_by, is_over}
 use Rattle.h1_model.proofs.PastLemmas.{Legal}
 use Rattle.h1_model.proofs.StepLemmas.{taken-cons, since_head-more, head_count-more, same_input, same_parse, parsed}
@@ -23,7 +22,7 @@ use Rattle.h1_machine.specs.Kept.{answered as answered_as, sending, Exchange}
 use Rattle.h1_machine.specs.Reply.{stated}
 use Rattle.h1_machine.specs.KeptOf.{rest_of, reply_of, tells_done, exchange_with, exchange_of, clock_of, kept_of}
 use Rattle.h1_machine.proofs.Changes.{bare}
-use Rattle.h1_machine.proofs.StepSums.{told-cons, is_sending-cons, answered-more, answer_len-more, came-more, request-more}
+use Rattle.h1_machine.proofs.StepSums.{told-cons, is_sending-cons, answered-more, answer_len-more, came-more}
 use Rattle.h1_machine.proofs.QuietParts.{undone, clock-quiet, body_end-stays, short-stays}
 
 -- ---- such events
@@ -50,13 +49,31 @@ pub record IsCalm (e : Event) : Type 0 where
 -- bytes that come
 pub read_aside : (bytes : List ℕ) → IsAside (on.read bytes)
 read_aside bytes = record {
-      answers = λ d. refl; sends = λ u o. refl; tick = refl; drain = refl; drop = refl; go_on = refl; body_end = refl; body_error = refl; completes = refl; chunk = refl;
+  answers = λ d. refl;
+  sends = λ u o. refl;
+  tick = refl;
+  drain = refl;
+  drop = refl;
+  go_on = refl;
+  body_end = refl;
+  body_error = refl;
+  completes = refl;
+  chunk = refl;
 }
 
 -- the end of the input
 pub eof_aside : IsAside on.eof
 eof_aside = record {
-      answers = λ d. refl; sends = λ u o. refl; tick = refl; drain = refl; drop = refl; go_on = refl; body_end = refl; body_error = refl; completes = refl; chunk = refl;
+  answers = λ d. refl;
+  sends = λ u o. refl;
+  tick = refl;
+  drain = refl;
+  drop = refl;
+  go_on = refl;
+  body_end = refl;
+  body_error = refl;
+  completes = refl;
+  chunk = refl;
 }
 
 -- a call for the next head
@@ -65,7 +82,16 @@ calm_next = record { aside = next_aside; takes = λ o. refl; eof = refl }
   where
     next_aside : IsAside on.next
     next_aside = record {
-      answers = λ d. refl; sends = λ u o. refl; tick = refl; drain = refl; drop = refl; go_on = refl; body_end = refl; body_error = refl; completes = refl; chunk = refl;
+      answers = λ d. refl;
+      sends = λ u o. refl;
+      tick = refl;
+      drain = refl;
+      drop = refl;
+      go_on = refl;
+      body_end = refl;
+      body_error = refl;
+      completes = refl;
+      chunk = refl;
     }
 
 -- a pull
@@ -74,7 +100,16 @@ calm_pull = record { aside = pull_aside; takes = λ o. refl; eof = refl }
   where
     pull_aside : IsAside on.pull
     pull_aside = record {
-      answers = λ d. refl; sends = λ u o. refl; tick = refl; drain = refl; drop = refl; go_on = refl; body_end = refl; body_error = refl; completes = refl; chunk = refl;
+      answers = λ d. refl;
+      sends = λ u o. refl;
+      tick = refl;
+      drain = refl;
+      drop = refl;
+      go_on = refl;
+      body_end = refl;
+      body_error = refl;
+      completes = refl;
+      chunk = refl;
     }
 
 -- that a WebSocket is accepted
@@ -83,7 +118,16 @@ calm_accept limit = record { aside = accept_aside; takes = λ o. refl; eof = ref
   where
     accept_aside : IsAside (on.accept limit)
     accept_aside = record {
-      answers = λ d. refl; sends = λ u o. refl; tick = refl; drain = refl; drop = refl; go_on = refl; body_end = refl; body_error = refl; completes = refl; chunk = refl;
+      answers = λ d. refl;
+      sends = λ u o. refl;
+      tick = refl;
+      drain = refl;
+      drop = refl;
+      go_on = refl;
+      body_end = refl;
+      body_error = refl;
+      completes = refl;
+      chunk = refl;
     }
 
 -- ---- the sums

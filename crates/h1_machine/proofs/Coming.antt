@@ -1,12 +1,11 @@
 -- Whether a head is coming is as the bytes say: it stands behind what is passed.
-use Rattle.std.proofs.Common.{◌≡◌, ℕ, zero, suc, Bool, true, false, List, [], ◌∷◌, length, drop, Option, Some, None, MatchOption, refl, sym, ap, ◌∙◌, subst, inl, inr}
+use Rattle.std.proofs.Common.{◌≡◌, ℕ, zero, suc, Bool, true, false, List, length, drop, Option, Some, None, refl, sym, ap, ◌∙◌, subst, inl, inr}
 use Rattle.std.specs.Prelude.{◌&&◌, ◌||◌, not, is_some, slice_get, unwrap_or}
 use Rattle.std.proofs.lemmas.Bool.{true≢false, cases_Bool, or_right}
-use Rattle.std.proofs.lemmas.Option.{none-some, same_Some}
-use Rattle.h1_model.specs.HeadPiece.{HasNoHeadPiece}
+use Rattle.std.proofs.lemmas.Option.{none-some}
 use Rattle.h1_model.specs.Request.{Head}
 use Rattle.h1_model.specs.Setting.{Setting}
-use Rattle.h1_model.specs.Parse.{Input, Message, next_start, IsMessageAt, AreMessages}
+use Rattle.h1_model.specs.Parse.{Input, Message, next_start}
 use Rattle.h1_model.specs.Sums.{taken, is_complete, is_open, is_upgraded, was_dropped}
 use Rattle.h1_model.specs.Past.{ParsedStep, steps, input_of, parse_of, head_count, current, upcoming, passed}
 use Rattle.h1_model.proofs.PastLemmas.{Legal}

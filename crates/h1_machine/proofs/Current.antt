@@ -1,21 +1,18 @@
 -- The last message that was handed out, behind a legal past: its head, its body, and how much of it is passed.
-use Rattle.std.proofs.Common.{◌≡◌, ℕ, zero, suc, ◌≤◌, true, false, List, [], ◌∷◌, ◌++◌, length, Option, Some, None, refl, sym, ap, ◌∙◌, subst, inl, inr, arith, append-nil}
-use Rattle.std.specs.Prelude.{◌⊎◌, ◌||◌, ◌&&◌, not, is_some, is_none, slice_get}
-use Rattle.std.proofs.lemmas.Bool.{true≢false, and_parts, not-true}
+use Rattle.std.proofs.Common.{◌≡◌, ℕ, zero, suc, ◌≤◌, false, List, [], ◌∷◌, ◌++◌, length, Option, Some, None, refl, sym, ap, ◌∙◌, subst, inl, inr, arith}
+use Rattle.std.specs.Prelude.{◌⊎◌, slice_get}
 use Rattle.std.proofs.lemmas.Option.{none-some, same_Some}
 use Rattle.std.specs.Option.{option_or}
 use Rattle.h1_model.specs.Request.{Head, head_is}
 use Rattle.h1_model.specs.Setting.{Setting}
-use Rattle.h1_model.specs.Parse.{Input, Message, IsBodyOf, IsBodyAfter, IsParse}
-use Rattle.h1_model.specs.Sums.{Step, step_taken, taken, is_eof, has_ended, accepted_limit, accepted, head_of, request, answered, is_open, is_upgraded}
+use Rattle.h1_model.specs.Parse.{Message, IsBodyOf, IsBodyAfter}
+use Rattle.h1_model.specs.Sums.{Step, step_taken, taken, is_eof, has_ended, accepted_limit, accepted, head_of, request}
 use Rattle.h1_model.specs.Past.{ParsedStep, steps, input_of, parse_of, head_count, current, passed, message_passed}
-use Rattle.h1_model.specs.Allowed.{is_unanswered}
 use Rattle.h1_model.proofs.PastLemmas.{Legal}
-use Rattle.h1_model.proofs.BodyLemmas.{input}
 use Rattle.h1_model.proofs.MessageGrowth.{parse_grows}
 use Rattle.h1_model.proofs.BodySteps.{Lies}
 use Rattle.h1_model.proofs.StepLemmas.{taken-cons, accepted-cons, head_count-more, head_count-head, Accepts, Begins, quiet, reads, stops, accepts, begins, pulls, step_case, parsed, same_input, same_parse}
-use Rattle.h1_model.proofs.TraceGrowth.{message_at, grown_at, accepted_at, current_at, current_none}
+use Rattle.h1_model.proofs.TraceGrowth.{message_at, grown_at, current_at, current_none}
 use Rattle.h1_model.proofs.PulledLemmas.{Holds}
 use Rattle.h1_model.proofs.CarriedLemmas.{passed_none, passed_some}
 use Rattle.h1_model.proofs.HeldSteps.{headless_or_begins}

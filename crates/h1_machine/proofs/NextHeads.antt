@@ -1,5 +1,5 @@
 -- A head is handed out.
-use Rattle.std.proofs.Common.{◌≡◌, ℕ, zero, suc, ◌+◌, Bool, true, false, List, [], ◌∷◌, ◌++◌, length, drop, slice_range, Option, Some, None, refl, sym, ap, ◌∙◌, subst, inl, inr, arith, append-nil}
+use Rattle.std.proofs.Common.{◌≡◌, ℕ, ◌+◌, Bool, true, false, List, [], ◌∷◌, ◌++◌, length, drop, slice_range, Option, Some, None, refl, sym, ap, ◌∙◌, subst, inl, inr, append-nil}
 use Rattle.std.specs.Prelude.{◌&&◌, ◌||◌, not, is_some, unwrap_or, slice_get}
 use Rattle.std.specs.List.{list_any}
 use Rattle.std.specs.Option.{option_or}
@@ -9,7 +9,7 @@ use Rattle.std.proofs.lemmas.List.{drop-drop}
 use Rattle.h1_model.specs.Request.{Head, head_is}
 use Rattle.h1_model.specs.RequestHead.{IsReadingWithin}
 use Rattle.h1_model.specs.Setting.{Setting}
-use Rattle.h1_model.specs.Parse.{Input, Message, next_start, IsBodyOf, IsBodyAfter, IsMessageAt, AreMessages}
+use Rattle.h1_model.specs.Parse.{Input, Message, next_start, IsBodyOf, IsBodyAfter, IsMessageAt}
 use Rattle.h1_model.specs.End as ends
 use Rattle.h1_model.specs.Event as on
 use Rattle.h1_model.specs.Sums.{Step, taken, is_body_end, is_body_error, request, answered, is_complete, is_open, is_upgraded, accepted, is_receiving, is_pull, is_drop, is_go_on, has_ended, answer_len}

@@ -1,6 +1,6 @@
 -- A body in one run, of a stated length or raw: as much of it is passed as was given.
-use Rattle.std.proofs.Common.{◌≡◌, ℕ, ◌+◌, ◌-◌, ◌<◌, ◌≤◌, min, false, List, [], ◌∷◌, length, slice_range, Option, Some, None, ◌⊎◌, refl, sym, ap, ◌∙◌, subst, inl, inr, arith, lt-ltb, le-ltb}
-use Rattle.std.specs.Prelude.{IsSome, unwrap_or, nat_lt}
+use Rattle.std.proofs.Common.{◌≡◌, ℕ, ◌+◌, ◌-◌, ◌<◌, ◌≤◌, min, false, List, [], ◌∷◌, length, slice_range, Option, Some, None, ◌⊎◌, refl, sym, ap, ◌∙◌, subst, inl, inr, arith}
+use Rattle.std.specs.Prelude.{IsSome, unwrap_or}
 use Rattle.std.proofs.lemmas.Bool.{cond-true, cond-false, cases_lt, cases_eq, eq-eqb, ne_eqb, le-leb, false≢true}
 use Rattle.h1_chunks.specs.Runs.{Run}
 use Rattle.h1_model.specs.Request.{Head}
@@ -14,7 +14,7 @@ use Rattle.h1_model.specs.OutcomeTable.{run_left, gave_trailers, stop_outcome, r
 use Rattle.h1_model.proofs.PastLemmas.{Legal}
 use Rattle.h1_model.proofs.PlaceLemmas.{runs_len, left-within, left-past, left_nothing, between-some, between-none}
 use Rattle.h1_model.proofs.StepLemmas.{step, given_bytes-more, given_bytes-head, given_frames-more, quiet, reads, stops, accepts, begins, pulls, step_case}
-use Rattle.h1_model.proofs.PulledLemmas.{PullFits, Behind, PullsFit, Idle, idle_pulled, pulled_to-more, pulled_to-head, pulled_to-nil, fit-less}
+use Rattle.h1_model.proofs.PulledLemmas.{PullFits, PullsFit, Idle, idle_pulled, pulled_to-more, pulled_to-head, pulled_to-nil, fit-less}
 use Rattle.h1_model.proofs.CarriedLemmas.{passed_pulled}
 use Rattle.h1_model.proofs.HeldSteps.{quiet_idle, reads_idle, ends_idle, accepts_idle, pull_no_head}
 use Rattle.h1_machine.proofs.Current.{Current}

@@ -1,12 +1,10 @@
 -- An event has one outcome and one state behind it.
 use Rattle.std.proofs.Common.{◌≡◌, ℕ, Bool, true, false, List, [], ◌∷◌, ◌++◌, map, Option, Some, None, refl, sym, ap, ◌∙◌, subst}
-use Rattle.std.specs.List.{AllByRecursion}
 use Rattle.std.specs.Prelude.{slice_range}
-use Rattle.h1_chunks.specs.ChunkedText.{Trailer, IsTrailer, section_text}
+use Rattle.h1_chunks.specs.ChunkedText.{Trailer}
 use Rattle.h1_chunks.specs.Place.{Place}
 use Rattle.h1_chunks.specs.TakeNext.{Next, chunk, waits, ended, breaks, take_next}
 use Rattle.h1_chunks.proofs.Trailers.{section_tells}
-use Rattle.h1_model.specs.HeadPiece.{IsHeadPiece, HasNoHeadPiece}
 use Rattle.h1_model.specs.Request.{Reading}
 use Rattle.h1_model.specs.RequestHead.{IsReadingWithin}
 use Rattle.h1_model.specs.Setting.{Setting}

@@ -10,12 +10,12 @@ use Rattle.h1_model.specs.Event.{Event, Outcome}
 use Rattle.h1_model.specs.Event as on
 use Rattle.h1_model.specs.End.{End}
 use Rattle.h1_model.specs.Sums.{Step, accepted_limit, accepted, head_of, since_head, request, answered_by, answered, is_draining, completes, is_complete, is_open, is_upgraded, is_answering}
-use Rattle.h1_model.specs.Past.{ParsedStep, steps, current}
+use Rattle.h1_model.specs.Past.{ParsedStep, steps}
 use Rattle.h1_model.specs.Closing.{closing}
 use Rattle.h1_model.specs.Allowed.{is_allowed, is_allowed_running, is_unanswered, asks_raw}
 use Rattle.h1_model.specs.OutcomeTable.{next_outcome, outcome_of}
 use Rattle.h1_model.proofs.PastLemmas.{Legal}
-use Rattle.h1_model.proofs.StepLemmas.{step, accepted-cons, complete-head, complete-more, allowed_open, quiet, reads, stops, accepts, begins, pulls, step_case}
+use Rattle.h1_model.proofs.StepLemmas.{step, accepted-cons, complete-head, complete-more, allowed_open}
 use Rattle.h1_model.proofs.HeldSteps.{headless_or_begins}
 use Rattle.h1_model.proofs.HeldLemmas.{not_upgraded}
 use Rattle.h1_machine.proofs.StepSums.{request-more}

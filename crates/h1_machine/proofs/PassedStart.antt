@@ -6,7 +6,7 @@ use Rattle.h1_model.specs.Parse.{Message}
 use Rattle.h1_model.specs.Sums.{head_of}
 use Rattle.h1_model.specs.Past.{ParsedStep, steps, current, passed}
 use Rattle.h1_model.proofs.PastLemmas.{Legal}
-use Rattle.h1_model.proofs.StepLemmas.{quiet, reads, stops, accepts, begins, pulls, step_case, head_count-more, complete-head}
+use Rattle.h1_model.proofs.StepLemmas.{head_count-more, complete-head}
 use Rattle.h1_model.proofs.TraceGrowth.{current_none}
 use Rattle.h1_model.proofs.CarriedLemmas.{passed_some, passed_pulled}
 use Rattle.h1_model.proofs.PulledLemmas.{pulled_to-head}
@@ -39,6 +39,6 @@ passed_begun setting (x ∷ before) m l e =
       | inr b ↦
           let some = ap head_of b.outcome in
           let at = passed_some (x ∷ before) m e ∙ passed_pulled (x ∷ before) m (complete-head x.step (steps before) b.head some)
-              ∙ pulled_to-head m x.step (steps before) b.head some in
+          ∙ pulled_to-head m x.step (steps before) b.head some in
           omega arith
     ]

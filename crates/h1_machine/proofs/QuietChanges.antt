@@ -153,7 +153,7 @@ error_made setting before parse l =
     let a : IsApart on.body_error = record { answers = λ d. refl; chunk = refl; completes = refl; body_end = refl; drop = refl; go_on = refl } in
     let none = (untold setting before (running setting before on.body_error refl l.1)).0 in
     let end : option_or (told (x.step ∷ t)) (body_end_of (x.step ∷ t)) ≡ Some ends.body =
-        ap (λ o. option_or o (body_end_of (x.step ∷ t))) (told-cons x.step t ∙ none) in
+    ap (λ o. option_or o (body_end_of (x.step ∷ t))) (told-cons x.step t ∙ none) in
     record {
       change = doing (record k { failed = Some ends.body });
       changes = refl;

@@ -11,7 +11,6 @@ use Rattle.h1_model.specs.Event as on
 use Rattle.h1_model.specs.Sums.{Step, taken, has_ended, accepted, request, since_head, is_complete, is_receiving}
 use Rattle.h1_model.specs.Past.{ParsedStep, steps, passed, held}
 use Rattle.h1_model.specs.Text.{step_text}
-use Rattle.h1_model.specs.Closing.{closing_since}
 use Rattle.h1_model.specs.OutcomeTable.{outcome_of}
 use Rattle.h1_model.proofs.PastLemmas.{Legal}
 use Rattle.h1_model.proofs.StepLemmas.{allowed_open}
@@ -121,7 +120,7 @@ unfolding outcome_of
 reads setting before parse bytes o l =
     let n = min (length bytes) (setting.hold_size - held before) in
     let same : n ≡ min (length bytes) (setting.hold_size - length (drop (passed before) (taken (steps before)))) =
-        ap (λ j. min (length bytes) (setting.hold_size - j)) (sym (length-drop (passed before) (taken (steps before)))) in
+    ap (λ j. min (length bytes) (setting.hold_size - j)) (sym (length-drop (passed before) (taken (steps before)))) in
     let outcome : o ≡ on.took n = l.2 in
     let step : Outcome → ParsedStep = λ p. record { step = record { event = on.read bytes; outcome = p }; parse = parse } in
     let by : Outcome → Type 0 = λ p. Legal setting (step p ∷ before) → Changes setting before (step p) in

@@ -21,7 +21,7 @@ use Rattle.h1_model.proofs.ClosingLemmas.{allowed_closing}
 use Rattle.h1_machine.specs.Kept.{Exchange, Kept}
 use Rattle.h1_machine.specs.KeptOf.{exchange_with, exchange_of, kept_of}
 use Rattle.h1_machine.proofs.Changes.{Changes}
-use Rattle.h1_machine.proofs.Current.{Current, NoCurrent}
+use Rattle.h1_machine.proofs.Current.{Current}
 
 -- ---- a step as a record
 

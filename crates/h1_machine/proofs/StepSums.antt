@@ -126,7 +126,7 @@ buffered-more setting s before l none =
     let more = step_text setting t s.event s.outcome in
     let same : written (s ∷ t) ≡ w = written-cons s t ∙ ap (λ m. w ++ m) none ∙ append-nil w in
     let all : text setting (s ∷ t) ≡ w ++ (buffer ++ more) =
-        text-cons setting s t ∙ ap (λ l. l ++ more) (sym (written_buffered setting t (traced setting before l))) ∙ append_assoc w buffer more in
+    text-cons setting s t ∙ ap (λ l. l ++ more) (sym (written_buffered setting t (traced setting before l))) ∙ append_assoc w buffer more in
     (λ i. drop (length (same i)) (all i)) ∙ drop_at w (buffer ++ more) (length w) refl
 
 -- a step that hands out bytes for writing leaves the others
@@ -140,7 +140,7 @@ buffered-write setting s n before l given none =
     let now = w ++ take n buffer in
     let same : written (s ∷ t) ≡ now = written-cons s t ∙ ap (λ m. w ++ m) given in
     let all : text setting (s ∷ t) ≡ now ++ drop n buffer =
-        text-cons setting s t ∙ ap (λ m. text setting t ++ m) none ∙ append-nil (text setting t)
-        ∙ sym (written_buffered setting t (traced setting before l)) ∙ ap (λ m. w ++ m) (sym (take-append-drop n buffer))
-        ∙ sym (append_assoc w (take n buffer) (drop n buffer)) in
+    text-cons setting s t ∙ ap (λ m. text setting t ++ m) none ∙ append-nil (text setting t)
+    ∙ sym (written_buffered setting t (traced setting before l)) ∙ ap (λ m. w ++ m) (sym (take-append-drop n buffer))
+    ∙ sym (append_assoc w (take n buffer) (drop n buffer)) in
     (λ i. drop (length (same i)) (all i)) ∙ drop_at now (drop n buffer) (length now) refl

@@ -1,12 +1,11 @@
 -- The last request behind a step that leaves it as it is.
 use Rattle.std.proofs.Common.{◌≡◌, false, List, ◌∷◌, Some, None, sym, ap, ◌∙◌, inl, inr}
-use Rattle.std.specs.Prelude.{◌||◌}
 use Rattle.h1_model.specs.Setting.{Setting}
-use Rattle.h1_model.specs.Sums.{Step, head_of, is_pull, request, accepted_limit, was_pulled}
+use Rattle.h1_model.specs.Sums.{Step, head_of, is_pull, request, accepted_limit}
 use Rattle.h1_model.specs.Past.{ParsedStep, steps, current, step_bytes, step_frames}
 use Rattle.h1_model.proofs.PastLemmas.{Legal}
 use Rattle.h1_model.proofs.StepLemmas.{Quiet}
-use Rattle.h1_machine.specs.KeptOf.{tells_done, exchange_with, exchange_of}
+use Rattle.h1_machine.specs.KeptOf.{exchange_with, exchange_of}
 use Rattle.h1_machine.proofs.Current.{current_of}
 use Rattle.h1_machine.proofs.StepSums.{request-more}
 use Rattle.h1_machine.proofs.CalmSteps.{IsCalm, exchange-unpulled, current-calm}
