@@ -56,7 +56,8 @@ record Upgrades (setting : Setting) (before : List ParsedStep) (limit : ℕ) (o 
 -- the change, by what is kept of the handshake's check
 accepting_is : (setting : Setting) (before : List ParsedStep) (limit : ℕ) (o : Outcome) (parse : List Message) (m : Message) (h : Head) (wrong : Option HandshakeError)
     → Upgrades setting before limit o parse m h → handshake_error h ≡ wrong
-    → accepting setting limit (exchange_with setting before m h) (kept_of setting before) wrong ≡ accepting_with setting limit (kept_of setting before) (kept_of setting before).exchange
+    → accepting setting limit (exchange_with setting before m h) (kept_of setting before) wrong
+    ≡ accepting_with setting limit (kept_of setting before) (kept_of setting before).exchange
 accepting_is setting before limit o parse m h wrong w e =
     let k = kept_of setting before in
     let c = w.current in

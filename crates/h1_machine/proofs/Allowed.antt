@@ -137,7 +137,8 @@ answering_of setting past l = elim (current_of setting past l) [
 -- what the last request says, where it waits
 asks_of : (setting : Setting) (past : List ParsedStep) (test : Exchange → Bool) (says : Option Head → Bool) (since : Bool) → Legal setting past
     → ((m : Message) (h : Head) → test (exchange_with setting past m h) ≡ (says (Some h) && since))
-    → (waits_for_answer (kept_of setting past) && of_exchange test (kept_of setting past)) ≡ ((is_unanswered (steps past) && says (request (steps past))) && since)
+    → (waits_for_answer (kept_of setting past) && of_exchange test (kept_of setting past))
+    ≡ ((is_unanswered (steps past) && says (request (steps past))) && since)
 asks_of setting past test says since l same = elim (current_of setting past l) [
   | inl n ↦
       let none = none_waits past n in

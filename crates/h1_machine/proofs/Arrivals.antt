@@ -177,7 +177,8 @@ framed_left past m raw_body limit raw up =
 -- What the machine has of the body before it passes it: what is left by the longer bytes, or by frames.
 pub record IsLeft (before : List ParsedStep) (x : ParsedStep) (m : Message) (h : Head) (rest : Rest) : Type 0 where
   pub plain : accepted (steps before) ≡ None
-      → rest ≡ left_at (has_ended (x.step ∷ steps before)) (is_complete (steps before)) h.body m.body_start (passed before) (taken (x.step ∷ steps before))
+      → rest
+      ≡ left_at (has_ended (x.step ∷ steps before)) (is_complete (steps before)) h.body m.body_start (passed before) (taken (x.step ∷ steps before))
   pub framed : (limit : ℕ) → accepted (steps before) ≡ Some limit → rest ≡ frames_rest (is_receiving (steps before)) limit
 
 -- while the answer isn't complete it is what is left behind the step

@@ -46,89 +46,49 @@ pub record IsCalm (e : Event) : Type 0 where
   pub takes : (o : Outcome) → step_taken e o ≡ []
   pub eof : is_eof e ≡ false
 
+-- what the sums see in an event, but for its bytes, its answer and a message that it sends
+abbrev Marks : Type 0
+Marks = Option ℕ × Bool × Bool × Bool × Bool × Bool × Bool × ℕ
+
+-- of each event
+abbrev marks : Event → Marks
+marks e = (tick_of e, is_drain e, is_drop e, is_go_on e, is_body_end e, is_body_error e, completes e, chunk_len e)
+
+-- an event of which they see nothing
+unmarked : (e : Event) → ((d : Bool) → answered_by e d ≡ None) → ((u : Bool) (o : Outcome) → under_way_behind u e o ≡ u)
+    → marks e ≡ (None, false, false, false, false, false, false, 0) → IsAside e
+unmarked e answers sends none = record {
+  answers = answers;
+  sends = sends;
+  tick = ap (λ (m : Marks). m.0) none;
+  drain = ap (λ (m : Marks). m.1) none;
+  drop = ap (λ (m : Marks). m.2) none;
+  go_on = ap (λ (m : Marks). m.3) none;
+  body_end = ap (λ (m : Marks). m.4) none;
+  body_error = ap (λ (m : Marks). m.5) none;
+  completes = ap (λ (m : Marks). m.6) none;
+  chunk = ap (λ (m : Marks). m.7) none;
+}
+
 -- bytes that come
 pub read_aside : (bytes : List ℕ) → IsAside (on.read bytes)
-read_aside bytes = record {
-  answers = λ d. refl;
-  sends = λ u o. refl;
-  tick = refl;
-  drain = refl;
-  drop = refl;
-  go_on = refl;
-  body_end = refl;
-  body_error = refl;
-  completes = refl;
-  chunk = refl;
-}
+read_aside bytes = unmarked (on.read bytes) (λ d. refl) (λ u o. refl) refl
 
 -- the end of the input
 pub eof_aside : IsAside on.eof
-eof_aside = record {
-  answers = λ d. refl;
-  sends = λ u o. refl;
-  tick = refl;
-  drain = refl;
-  drop = refl;
-  go_on = refl;
-  body_end = refl;
-  body_error = refl;
-  completes = refl;
-  chunk = refl;
-}
+eof_aside = unmarked on.eof (λ d. refl) (λ u o. refl) refl
 
 -- a call for the next head
 pub calm_next : IsCalm on.next
-calm_next = record { aside = next_aside; takes = λ o. refl; eof = refl }
-  where
-    next_aside : IsAside on.next
-    next_aside = record {
-      answers = λ d. refl;
-      sends = λ u o. refl;
-      tick = refl;
-      drain = refl;
-      drop = refl;
-      go_on = refl;
-      body_end = refl;
-      body_error = refl;
-      completes = refl;
-      chunk = refl;
-    }
+calm_next = record { aside = unmarked on.next (λ d. refl) (λ u o. refl) refl; takes = λ o. refl; eof = refl }
 
 -- a pull
 pub calm_pull : IsCalm on.pull
-calm_pull = record { aside = pull_aside; takes = λ o. refl; eof = refl }
-  where
-    pull_aside : IsAside on.pull
-    pull_aside = record {
-      answers = λ d. refl;
-      sends = λ u o. refl;
-      tick = refl;
-      drain = refl;
-      drop = refl;
-      go_on = refl;
-      body_end = refl;
-      body_error = refl;
-      completes = refl;
-      chunk = refl;
-    }
+calm_pull = record { aside = unmarked on.pull (λ d. refl) (λ u o. refl) refl; takes = λ o. refl; eof = refl }
 
 -- that a WebSocket is accepted
 pub calm_accept : (limit : ℕ) → IsCalm (on.accept limit)
-calm_accept limit = record { aside = accept_aside; takes = λ o. refl; eof = refl }
-  where
-    accept_aside : IsAside (on.accept limit)
-    accept_aside = record {
-      answers = λ d. refl;
-      sends = λ u o. refl;
-      tick = refl;
-      drain = refl;
-      drop = refl;
-      go_on = refl;
-      body_end = refl;
-      body_error = refl;
-      completes = refl;
-      chunk = refl;
-    }
+calm_accept limit = record { aside = unmarked (on.accept limit) (λ d. refl) (λ u o. refl) refl; takes = λ o. refl; eof = refl }
 
 -- ---- the sums
 

@@ -154,7 +154,8 @@ reply-sending setting trace h a e incomplete =
 -- the state with such a request
 pub kept_sending : (setting : Setting) (past : List ParsedStep) (m : Message) (h : Head) (a : Answered) → Current setting past m h
     → answer_of (steps past) ≡ Some a → is_complete (steps past) ≡ false
-    → kept_of setting past ≡ with_exchange (kept_of setting past) (Some (with_reply setting past m h a (stated (shape_by h a) - answer_len (steps past))))
+    → kept_of setting past
+    ≡ with_exchange (kept_of setting past) (Some (with_reply setting past m h a (stated (shape_by h a) - answer_len (steps past))))
 kept_sending setting past m h a c e incomplete =
     let reply = reply-sending setting (steps past) h a e incomplete in
     kept_current setting past m h c ∙ (λ i. with_exchange (kept_of setting past) (Some (record (exchange_with setting past m h) { reply = reply i })))

@@ -111,7 +111,8 @@ head_plain setting before parse m h w = go (accepted (steps before)) refl
 
 -- what is left of its body
 head_rest : (setting : Setting) (before : List ParsedStep) (parse : List Message) (m : Message) (h : Head) → Heads setting before parse m h
-    → rest_of (head_of_next h parse ∷ before) m h.body ≡ rest_in (has_ended (steps before)) (drop m.body_start (taken (steps before))) (whole_rest h.body)
+    → rest_of (head_of_next h parse ∷ before) m h.body
+    ≡ rest_in (has_ended (steps before)) (drop m.body_start (taken (steps before))) (whole_rest h.body)
 head_rest setting before parse m h w =
     let x = head_of_next h parse in
     let t = steps before in

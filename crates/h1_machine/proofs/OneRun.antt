@@ -46,7 +46,7 @@ pub one_left : (a b given : ℕ) → a + given < b → run_left given (run_betwe
 one_left a b given more =
     ap (run_left given) (between-some a b (omega arith)) ∙ left-within given (record { start = a; end = b }) [] (omega arith)
 
--- and of a run that was given nothing
+-- where all of it was given nothing is
 pub none_left : (a b given : ℕ) → b ≤ a + given → run_left given (run_between a b) ≡ None
 none_left a b given all =
     elim (cases_lt a b) [

@@ -54,7 +54,8 @@ raw_parts past m None = refl
 
 -- what is left of a body is so by its parts
 pub rest_parts : (past : List ParsedStep) (m : Message) (kind : BodyKind)
-    → rest_of past m kind ≡ rest_by (passed past) (taken (steps past)) (is_complete (steps past)) (accepted (steps past)) (is_receiving (steps past)) m kind
+    → rest_of past m kind
+    ≡ rest_by (passed past) (taken (steps past)) (is_complete (steps past)) (accepted (steps past)) (is_receiving (steps past)) m kind
 rest_parts past m no_body = refl
 rest_parts past m (fixed_body n) = refl
 rest_parts past m chunked_body = refl
@@ -221,7 +222,8 @@ kept_behind setting before x exchange buffer sending clock told =
 
 -- the clock, where no answer is completed and no tick comes
 pub clock-ticked : (s : Step) (before : List Step) → completes s.event ≡ false
-    → clock_of (s ∷ before) ≡ record { first = option_or (first_tick before) (tick_of s.event); last = option_or (tick_of s.event) (last_tick before); completed = completed_at before }
+    → clock_of (s ∷ before)
+    ≡ record { first = option_or (first_tick before) (tick_of s.event); last = option_or (tick_of s.event) (last_tick before); completed = completed_at before }
 clock-ticked s before incomplete =
     let first = first_tick-cons s before in
     let last = last_tick-cons s before in

@@ -107,7 +107,8 @@ raw_before setting before o parse m h w =
 -- and behind the pull
 raw_behind : (setting : Setting) (before : List ParsedStep) (o p : Outcome) (parse : List Message) (m : Message) (h : Head)
     → Raw setting before o parse m h
-    → rest_of (pull_of p parse ∷ before) m h.body ≡ raw_rest_at (has_ended (steps before)) (length (taken (steps before))) (passed (pull_of p parse ∷ before))
+    → rest_of (pull_of p parse ∷ before) m h.body
+    ≡ raw_rest_at (has_ended (steps before)) (length (taken (steps before))) (passed (pull_of p parse ∷ before))
 raw_behind setting before o p parse m h w =
     let t = steps before in
     let x = pull_of p parse in

@@ -88,7 +88,8 @@ came-more kind s before none = ap (list_any (λ t. kind t.event)) (since_head-mo
 
 -- the same of a step's event and outcome
 pub any-more : (kind : Event → Outcome → Bool) (s : Step) (before : List Step) → head_of s.outcome ≡ None
-    → list_any (λ t. kind t.event t.outcome) (since_head (s ∷ before)) ≡ (kind s.event s.outcome || list_any (λ t. kind t.event t.outcome) (since_head before))
+    → list_any (λ t. kind t.event t.outcome) (since_head (s ∷ before))
+    ≡ (kind s.event s.outcome || list_any (λ t. kind t.event t.outcome) (since_head before))
 any-more kind s before none = ap (list_any (λ t. kind t.event t.outcome)) (since_head-more s before none)
 
 -- ---- what is to be written

@@ -34,7 +34,8 @@ still_quiet before s w = record {
 
 -- the last request is the same
 pub exchange_still : (setting : Setting) (before : List ParsedStep) (x : ParsedStep) → Legal setting (x ∷ before) → IsStill x.step
-    → exchange_of setting before (current before) (request (steps before)) ≡ exchange_of setting (x ∷ before) (current (x ∷ before)) (request (x.step ∷ steps before))
+    → exchange_of setting before (current before) (request (steps before))
+    ≡ exchange_of setting (x ∷ before) (current (x ∷ before)) (request (x.step ∷ steps before))
 exchange_still setting before x l w =
     let t = steps before in
     let now = current-calm setting before x l w.calm w.accepts w.head in
