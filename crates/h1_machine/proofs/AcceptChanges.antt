@@ -33,6 +33,7 @@ use Rattle.h1_machine.proofs.CalmSteps.{calm_accept, taken-calm, since-other, ex
 use Rattle.h1_machine.proofs.Pulling.{open_incomplete}
 use Rattle.h1_machine.proofs.FramePulls.{raw_is}
 use Rattle.h1_machine.proofs.StillSteps.{IsStill, still_quiet, exchange_still}
+use Rattle.h1_machine.proofs.StepForms.{at_event}
 
 -- that a WebSocket is accepted, with its outcome
 abbrev accept_of : ℕ → Outcome → List Message → ParsedStep
@@ -210,7 +211,4 @@ accept_of_changes setting before limit o parse l =
 pub accept_changes : (setting : Setting) (before : List ParsedStep) (x : ParsedStep) (limit : ℕ) → Legal setting (x ∷ before)
     → x.step.event ≡ on.accept limit
     → Changes setting before x
-accept_changes setting before x limit l e =
-    let of : Event → ParsedStep = λ v. record { step = record { event = v; outcome = x.step.outcome }; parse = x.parse } in
-    let P : Event → Type 0 = λ v. Legal setting (of v ∷ before) → Changes setting before (of v) in
-    subst P (sym e) (accept_of_changes setting before limit x.step.outcome x.parse) l
+accept_changes setting before x limit l e = at_event setting before x (on.accept limit) l e (accept_of_changes setting before limit)

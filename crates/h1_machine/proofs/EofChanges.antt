@@ -26,6 +26,7 @@ use Rattle.h1_machine.proofs.StepSums.{buffered-more}
 use Rattle.h1_machine.proofs.PassedBodies.{left_at, left_ends}
 use Rattle.h1_machine.proofs.CalmSteps.{eof_aside}
 use Rattle.h1_machine.proofs.Arrivals.{Adds, IsPlain, Grows, IsLeft, left_before, framed_left, grows_of, passing-none, passing_grown, parts-none, parts-some}
+use Rattle.h1_machine.proofs.StepForms.{at_step}
 
 -- the step that ends the input
 abbrev eof_step : Step
@@ -115,23 +116,12 @@ ending setting before parse l =
           }
     ]
 
--- with its outcome
-ends : (setting : Setting) (before : List ParsedStep) (parse : List Message) (o : Outcome)
-    → Legal setting (record { step = record { event = on.eof; outcome = o }; parse = parse } ∷ before)
-    → Changes setting before (record { step = record { event = on.eof; outcome = o }; parse = parse })
+-- its outcome
+eof_done : (setting : Setting) (before : List ParsedStep) → outcome_of setting before on.eof ≡ on.done
 unfolding outcome_of
-ends setting before parse o l =
-    let outcome : o ≡ on.done = l.2 in
-    let step : Outcome → ParsedStep = λ p. record { step = record { event = on.eof; outcome = p }; parse = parse } in
-    let by : Outcome → Type 0 = λ p. Legal setting (step p ∷ before) → Changes setting before (step p) in
-    let there : by on.done = ending setting before parse in
-    subst by (sym outcome) there l
+eof_done setting before = refl
 
 -- The end of the input changes what is kept as the longer past has it.
 pub eof_changes : (setting : Setting) (before : List ParsedStep) (x : ParsedStep) → Legal setting (x ∷ before) → x.step.event ≡ on.eof
     → Changes setting before x
-eof_changes setting before x l e =
-    let step : Event → ParsedStep = λ event. record { step = record { event = event; outcome = x.step.outcome }; parse = x.parse } in
-    let by : Event → Type 0 = λ event. Legal setting (step event ∷ before) → Changes setting before (step event) in
-    let there : by on.eof = ends setting before x.parse x.step.outcome in
-    subst by (sym e) there l
+eof_changes setting before x l e = at_step setting before x on.eof on.done l e (eof_done setting before) (ending setting before)

@@ -27,6 +27,7 @@ use Rattle.h1_machine.proofs.StepSums.{buffered-more}
 use Rattle.h1_machine.proofs.PassedBodies.{left_at, left_stays}
 use Rattle.h1_machine.proofs.CalmSteps.{read_aside}
 use Rattle.h1_machine.proofs.Arrivals.{Adds, IsPlain, Grows, IsLeft, left_before, framed_left, grows_of, passing-none, passing_grown, parts-none, parts-some}
+use Rattle.h1_machine.proofs.StepForms.{at_step}
 
 -- the step that takes so many bytes
 abbrev read_step : List ℕ → ℕ → Step
@@ -112,26 +113,17 @@ taking setting before parse bytes n e l =
           }
     ]
 
--- as the table says
-reads : (setting : Setting) (before : List ParsedStep) (parse : List Message) (bytes : List ℕ) (o : Outcome)
-    → Legal setting (record { step = record { event = on.read bytes; outcome = o }; parse = parse } ∷ before)
-    → Changes setting before (record { step = record { event = on.read bytes; outcome = o }; parse = parse })
+-- its outcome
+read_took : (setting : Setting) (before : List ParsedStep) (bytes : List ℕ)
+    → outcome_of setting before (on.read bytes) ≡ on.took (min (length bytes) (setting.hold_size - held before))
 unfolding outcome_of
-reads setting before parse bytes o l =
-    let n = min (length bytes) (setting.hold_size - held before) in
-    let same : n ≡ min (length bytes) (setting.hold_size - length (drop (passed before) (taken (steps before)))) =
-    ap (λ j. min (length bytes) (setting.hold_size - j)) (sym (length-drop (passed before) (taken (steps before)))) in
-    let outcome : o ≡ on.took n = l.2 in
-    let step : Outcome → ParsedStep = λ p. record { step = record { event = on.read bytes; outcome = p }; parse = parse } in
-    let by : Outcome → Type 0 = λ p. Legal setting (step p ∷ before) → Changes setting before (step p) in
-    let there : by (on.took n) = taking setting before parse bytes n same in
-    subst by (sym outcome) there l
+read_took setting before bytes = refl
 
 -- Bytes that come change what is kept as the longer past has it.
 pub read_changes : (setting : Setting) (before : List ParsedStep) (x : ParsedStep) (bytes : List ℕ) → Legal setting (x ∷ before)
     → x.step.event ≡ on.read bytes → Changes setting before x
 read_changes setting before x bytes l e =
-    let step : Event → ParsedStep = λ event. record { step = record { event = event; outcome = x.step.outcome }; parse = x.parse } in
-    let by : Event → Type 0 = λ event. Legal setting (step event ∷ before) → Changes setting before (step event) in
-    let there : by (on.read bytes) = reads setting before x.parse bytes x.step.outcome in
-    subst by (sym e) there l
+    let n = min (length bytes) (setting.hold_size - held before) in
+    let same : n ≡ min (length bytes) (setting.hold_size - length (drop (passed before) (taken (steps before)))) =
+    ap (λ j. min (length bytes) (setting.hold_size - j)) (sym (length-drop (passed before) (taken (steps before)))) in
+    at_step setting before x (on.read bytes) (on.took n) l e (read_took setting before bytes) (λ parse. taking setting before parse bytes n same)

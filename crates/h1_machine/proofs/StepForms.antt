@@ -1,6 +1,6 @@
 -- The forms in which the case of an event is proved: its step as a record, the last request where there is one, and what
 -- an allowed event says while the connection is open.
-use Rattle.std.proofs.Common.{◌≡◌, true, false, List, [], ◌∷◌, Option, Some, None, refl, sym, ap, ◌∙◌, subst₂}
+use Rattle.std.proofs.Common.{◌≡◌, true, false, List, [], ◌∷◌, Option, Some, None, refl, sym, ap, ◌∙◌, subst, subst₂}
 use Rattle.std.specs.Prelude.{IsTrue, is_some, is_none, not, ◌&&◌, ◌||◌}
 use Rattle.std.specs.List.{list_any}
 use Rattle.std.specs.Option.{option_or}
@@ -36,6 +36,13 @@ pub at_step : (setting : Setting) (before : List ParsedStep) (x : ParsedStep) (e
 at_step setting before x e o l event outcome f =
     let is : x.step.outcome ≡ o = l.2 ∙ ap (outcome_of setting before) event ∙ outcome in
     subst₂ (λ e o. Legal setting (made e o x.parse ∷ before) → Changes setting before (made e o x.parse)) (sym event) (sym is) (f x.parse) l
+
+-- and where the table is split, that of its step with any outcome
+pub at_event : (setting : Setting) (before : List ParsedStep) (x : ParsedStep) (e : Event) → Legal setting (x ∷ before) → x.step.event ≡ e
+    → ((o : Outcome) (parse : List Message) → Legal setting (made e o parse ∷ before) → Changes setting before (made e o parse)) → Changes setting before x
+at_event setting before x e l event f =
+    subst (λ v. Legal setting (made v x.step.outcome x.parse ∷ before) → Changes setting before (made v x.step.outcome x.parse)) (sym event)
+    (f x.step.outcome x.parse) l
 
 -- ---- the last request
 
