@@ -1,5 +1,5 @@
 -- Bytes that come: as many are taken as there is room for, and the body of a request whose answer is complete is passed.
-use Rattle.std.proofs.Common.{◌≡◌, ℕ, ◌-◌, min, false, List, ◌∷◌, ◌++◌, length, take, drop, Some, None, refl, sym, ap, ◌∙◌, subst, inl, inr, append-nil, length-drop}
+use Rattle.std.proofs.Common.{◌≡◌, ℕ, ◌-◌, min, false, List, ◌∷◌, ◌++◌, length, take, drop, Some, None, refl, sym, ap, ◌∙◌, inl, inr, append-nil, length-drop}
 use Rattle.std.specs.Prelude.{is_some}
 use Rattle.std.proofs.lemmas.Bool.{not-true}
 use Rattle.std.proofs.lemmas.List.{drop-append-le}
