@@ -19,6 +19,7 @@ use Rattle.h1_model.specs.Closing.{end_where, told, lacks_bytes, is_short, body_
 use Rattle.h1_model.specs.OutcomeTable.{outcome_of}
 use Rattle.h1_model.proofs.PastLemmas.{Legal}
 use Rattle.h1_model.proofs.StepLemmas.{Quiet, allowed_open, complete-more}
+use Rattle.h1_model.proofs.ClosingLemmas.{running}
 use Rattle.h1_machine.specs.Kept.{sending, answered}
 use Rattle.h1_machine.specs.Reply.{stated, short_end, ending_body}
 use Rattle.h1_machine.specs.KeptOf.{reply_of, kept_of}
@@ -29,7 +30,7 @@ use Rattle.h1_machine.proofs.Orderly.{orderly}
 use Rattle.h1_machine.proofs.Parts.{none_answered}
 use Rattle.h1_machine.proofs.StepSums.{told-cons, request-more, answered-more, answer_len-more, came-more, is_sending-cons, buffered-more}
 use Rattle.h1_machine.proofs.QuietParts.{option_or-none}
-use Rattle.h1_machine.proofs.StepForms.{made, at_step, with_exchange, running, both_none, untold}
+use Rattle.h1_machine.proofs.StepForms.{made, at_step, with_exchange, both_none, untold}
 use Rattle.h1_machine.proofs.ExchangeChanges.{going_out, shape_by, with_reply, kept_sending}
 use Rattle.h1_machine.proofs.CompleteParts.{Completes, kept-completes, completing_since}
 

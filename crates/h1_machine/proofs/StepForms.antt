@@ -17,7 +17,6 @@ use Rattle.h1_model.specs.Closing.{told, body_end_of, closing}
 use Rattle.h1_model.specs.Allowed.{is_allowed, is_allowed_closing, is_unanswered}
 use Rattle.h1_model.specs.OutcomeTable.{outcome_of}
 use Rattle.h1_model.proofs.PastLemmas.{Legal}
-use Rattle.h1_model.proofs.ClosingLemmas.{allowed_closing}
 use Rattle.h1_machine.specs.Kept.{Exchange, Kept}
 use Rattle.h1_machine.specs.KeptOf.{exchange_with, exchange_of, kept_of}
 use Rattle.h1_machine.proofs.Changes.{Changes}
@@ -56,16 +55,6 @@ pub kept_current : (setting : Setting) (past : List ParsedStep) (m : Message) (h
 kept_current setting past m h c = λ i. with_exchange (kept_of setting past) (exchange_of setting past (c.current_is i) (c.request_is i))
 
 -- ---- while the connection is open
-
--- an event that isn't allowed while the connection closes comes while it doesn't
-pub running : (setting : Setting) (past : List ParsedStep) (e : Event) → is_allowed_closing (steps past) e ≡ false
-    → IsTrue (is_allowed setting past e)
-    → closing setting past ≡ None
-running setting past e shut ok = go (closing setting past) refl
-  where
-    go : (end : Option End) → closing setting past ≡ end → end ≡ None
-    go None same = refl
-    go (Some end) same = absurd (false≢true (sym shut ∙ allowed_closing setting past e end same ok))
 
 -- two options of which neither is some
 pub both_none : {A : Type 0} (a b : Option A) → option_or a b ≡ None → (a ≡ None) × (b ≡ None)

@@ -32,6 +32,16 @@ pub allowed_closing : (setting : Setting) (past : List ParsedStep) (e : Event) (
 unfolding is_allowed
 allowed_closing setting past e end closes x = closed_test (is_some (closing setting past)) _ _ (and_parts _ _ x).1 (ap is_some closes)
 
+-- an event that isn't allowed while the connection closes comes while it doesn't
+pub running : (setting : Setting) (past : List ParsedStep) (e : Event) → is_allowed_closing (steps past) e ≡ false
+    → IsTrue (is_allowed setting past e)
+    → closing setting past ≡ None
+running setting past e shut ok = go (closing setting past) refl
+  where
+    go : (end : Option End) → closing setting past ≡ end → end ≡ None
+    go None same = refl
+    go (Some end) same = absurd (false≢true (sym shut ∙ allowed_closing setting past e end same ok))
+
 -- The event says nothing of the input, of an answer or of a body, and doesn't upgrade.
 record IsStill (e : Event) : Type 0 where
   pub takes : (o : Outcome) → step_taken e o ≡ []
