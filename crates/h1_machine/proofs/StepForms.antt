@@ -1,20 +1,19 @@
 -- The forms in which the case of an event is proved: its step as a record, the last request where there is one, and what
 -- an allowed event says while the connection is open.
 use Rattle.std.proofs.Common.{◌≡◌, true, false, List, [], ◌∷◌, Option, Some, None, refl, sym, ap, ◌∙◌, subst, subst₂}
-use Rattle.std.specs.Prelude.{IsTrue, is_some, is_none, not, ◌&&◌, ◌||◌}
+use Rattle.std.specs.Prelude.{is_some, is_none, not, ◌&&◌, ◌||◌}
 use Rattle.std.specs.List.{list_any}
 use Rattle.std.specs.Option.{option_or}
 use Rattle.std.proofs.lemmas.Bool.{and_parts, or_parts, not-true, false≢true}
 use Rattle.h1_model.specs.Request.{Head}
 use Rattle.h1_model.specs.Setting.{Setting}
 use Rattle.h1_model.specs.Parse.{Message}
-use Rattle.h1_model.specs.End.{End}
 use Rattle.h1_model.specs.Event.{Event, Outcome}
 use Rattle.h1_model.specs.Event as on
 use Rattle.h1_model.specs.Sums.{Step, request, since_head, answered, is_body_end, completes, came_since_head, is_complete, is_open, is_upgraded}
 use Rattle.h1_model.specs.Past.{ParsedStep, steps}
 use Rattle.h1_model.specs.Closing.{told, body_end_of, closing}
-use Rattle.h1_model.specs.Allowed.{is_allowed, is_allowed_closing, is_unanswered}
+use Rattle.h1_model.specs.Allowed.{is_unanswered}
 use Rattle.h1_model.specs.OutcomeTable.{outcome_of}
 use Rattle.h1_model.proofs.PastLemmas.{Legal}
 use Rattle.h1_machine.specs.Kept.{Exchange, Kept}

@@ -1,5 +1,5 @@
 -- What each event that is allowed adds to the exchanges of a trace.
-use Rattle.std.proofs.Common.{◌≡◌, ℕ, Bool, true, false, cond, List, [], ◌∷◌, length, Option, Some, None, is_some, inl, inr, refl, sym, ap, ◌∙◌, subst, arith}
+use Rattle.std.proofs.Common.{◌≡◌, ℕ, Bool, true, false, List, [], ◌∷◌, length, Option, Some, None, is_some, inl, inr, refl, sym, ap, ◌∙◌, subst, arith}
 use Rattle.std.specs.Prelude.{IsTrue, unwrap_or, option_map, option_and_then, ◌==◌}
 use Rattle.std.proofs.lemmas.Bool.{cond-false, cond_both, and_parts, not-true, eqb-true, true≢false, false≢true, cases_Bool}
 use Rattle.std.proofs.lemmas.Option.{slice_get_within}
