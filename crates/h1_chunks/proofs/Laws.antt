@@ -85,11 +85,13 @@ whole_stays bytes more k trailers runs x =
     (x.0, omega (arith, x.1, length-append bytes more), subst (λ l. Spells l x.0) (sym (take-append-le k bytes more x.1)) x.2, x.3, x.4)
 
 -- a front of the bytes is a front of the longer text
-begins_shorter : (bytes more : List ℕ) (n : ℕ) (t : ChunkedText) → n ≤ length bytes → IsBeginning (take n (bytes ++ more)) t → IsBeginning (take n bytes) t
+begins_shorter : (bytes more : List ℕ) (n : ℕ) (t : ChunkedText) → n ≤ length bytes → IsBeginning (take n (bytes ++ more)) t
+    → IsBeginning (take n bytes) t
 begins_shorter bytes more n t within x = subst (λ l. IsBeginning l t) (take-append-le n bytes more within) x
 
 -- the longer text has no longer beginning
-longest_stays : (bytes more : List ℕ) (len n : ℕ) (t u : ChunkedText) → IsLongestBeginning bytes len t → len < n → IsBeginning (take n (bytes ++ more)) u
+longest_stays : (bytes more : List ℕ) (len n : ℕ) (t u : ChunkedText) → IsLongestBeginning bytes len t → len < n
+    → IsBeginning (take n (bytes ++ more)) u
     → ⊥
 longest_stays bytes more len n t u x longer y = elim (cases_lt (length bytes) n) [
   | inl past ↦

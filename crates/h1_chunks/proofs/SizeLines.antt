@@ -58,6 +58,7 @@ step_digit size b digit fits = cond-true _ _ _ (lt-ltb _ _ digit) ∙ cond-true 
 abbrev up_to_cr : List ℕ → List ℕ
 up_to_cr text = text ++ 13 ∷ []
 
+-- what stands behind the digits
 abbrev behind_digits : List ℕ → List ℕ → List ℕ
 behind_digits blanks extension = blanks ++ up_to_cr extension
 

@@ -56,7 +56,8 @@ module _ (b : ℕ) (text : List ℕ) where
   expected wanted next G f = passed (eqb b wanted) next G (λ e. f (eqb-true b wanted e))
 
   -- a byte of a trailer line that was kept
-  was_kept : (to : InLine) (lines room : ℕ) (G : Type 0) → (needs to < room → From (in_section to lines (room - 1)) G) → From (with_room to lines room) G
+  was_kept : (to : InLine) (lines room : ℕ) (G : Type 0) → (needs to < room → From (in_section to lines (room - 1)) G)
+      → From (with_room to lines room) G
   was_kept to lines room G f =
       passed (ltb (needs to) room) (in_section to lines (room - 1)) G (λ e. f (ltb-true (needs to) room e))
 

@@ -23,15 +23,17 @@ use Rattle.h1_machine.specs.Kept as kept
 use Rattle.h1_machine.specs.Change.{accepting, accepting_with}
 use Rattle.h1_machine.specs.KeptOf.{raw_left, rest_of, exchange_with, exchange_of, kept_of}
 use Rattle.h1_machine.proofs.Changes.{Changes}
-use Rattle.h1_machine.proofs.Current.{Current, current_of, plain_of, request-more}
+use Rattle.h1_model.proofs.HeldLemmas.{not_upgraded}
+use Rattle.h1_machine.proofs.Current.{Current, current_of}
 use Rattle.h1_machine.proofs.Frames.{current_carried, current_stays}
 use Rattle.h1_machine.proofs.Received.{receives}
-use Rattle.h1_machine.proofs.StepSums.{is_receiving-cons, came-more, buffered-more}
+use Rattle.h1_machine.proofs.StepSums.{is_receiving-cons, came-more, buffered-more, request-more}
 use Rattle.h1_machine.proofs.QuietParts.{passed-quiet}
-use Rattle.h1_machine.proofs.CalmSteps.{calm_accept, taken-calm, since-other, or_comm, exchange-calm, calm_parts}
+use Rattle.h1_machine.proofs.CalmSteps.{calm_accept, taken-calm, since-other, exchange-unpulled, calm_parts}
 use Rattle.h1_machine.proofs.Pulling.{open_incomplete}
 use Rattle.h1_machine.proofs.FramePulls.{raw_is}
 use Rattle.h1_machine.proofs.StillSteps.{IsStill, still_quiet, exchange_still}
+use Rattle.h1_machine.proofs.StepForms.{at_event}
 
 -- that a WebSocket is accepted, with its outcome
 abbrev accept_of : ℕ → Outcome → List Message → ParsedStep
@@ -55,7 +57,8 @@ record Upgrades (setting : Setting) (before : List ParsedStep) (limit : ℕ) (o 
 -- the change, by what is kept of the handshake's check
 accepting_is : (setting : Setting) (before : List ParsedStep) (limit : ℕ) (o : Outcome) (parse : List Message) (m : Message) (h : Head) (wrong : Option HandshakeError)
     → Upgrades setting before limit o parse m h → handshake_error h ≡ wrong
-    → accepting setting limit (exchange_with setting before m h) (kept_of setting before) wrong ≡ accepting_with setting limit (kept_of setting before) (kept_of setting before).exchange
+    → accepting setting limit (exchange_with setting before m h) (kept_of setting before) wrong
+    ≡ accepting_with setting limit (kept_of setting before) (kept_of setting before).exchange
 accepting_is setting before limit o parse m h wrong w e =
     let k = kept_of setting before in
     let c = w.current in
@@ -79,7 +82,7 @@ refused_changes setting before limit parse m h e w wrong =
     let x = accept_of limit (on.refused e) parse in
     let k = kept_of setting before in
     let calm = calm_accept limit in
-    let still : IsStill x.step = record { calm = calm; pull = refl; accepts = refl; head = refl; bytes = refl; frames = refl; done = refl } in
+    let still : IsStill x.step = record { calm = calm; pull = refl; accepts = refl; head = refl; bytes = refl; frames = refl } in
     let place = passed-quiet setting x before w.legal (still_quiet before x.step still) refl in
     let bytes = taken-calm x.step t calm in
     record {
@@ -133,9 +136,7 @@ accepted_exchange setting before limit parse m n h w e =
     let old = exchange_with setting before m h in
     let asked = request-more x.step t refl ∙ w.current.request_is in
     let rest = sym (accepted_rest setting before limit parse m n h w) in
-    let done : old.body_is_done ≡ (old.body_is_done || false) = or_comm false old.body_is_done in
-    (λ i. Some (record old { rest = rest i; body_is_done = done i }))
-    ∙ ap Some (exchange-calm setting before x m n h refl (calm_accept limit))
+    (λ i. Some (record old { rest = rest i })) ∙ ap Some (exchange-unpulled setting before x m n h refl (calm_accept limit).aside refl)
     ∙ sym (λ i. exchange_of setting (x ∷ before) (e i) (asked i))
 
 -- what changes then
@@ -189,7 +190,7 @@ accept_of_changes setting before limit o parse l =
     let first = and_parts (is_unanswered t && asks_raw (request t)) (not (was_pulled t || was_dropped t)) (and_parts _ _ test).0 in
     let parts = and_parts (is_unanswered t) (asks_raw (request t)) first.0 in
     let waits = and_parts (is_open t) (is_none (answered t)) (and_parts (is_open t && is_none (answered t)) (not (is_upgraded t)) parts.0).0 in
-    let plain = plain_of t parts.0 in
+    let plain = not_upgraded t parts.0 in
     let unpulled = (or_parts (was_pulled t) (was_dropped t) (not-true (was_pulled t || was_dropped t) first.1)).0 in
     elim (current_of setting before l.3) [
       | inl n ↦ absurd (false≢true (sym (ap asks_raw n.request_is) ∙ parts.1))
@@ -210,7 +211,4 @@ accept_of_changes setting before limit o parse l =
 pub accept_changes : (setting : Setting) (before : List ParsedStep) (x : ParsedStep) (limit : ℕ) → Legal setting (x ∷ before)
     → x.step.event ≡ on.accept limit
     → Changes setting before x
-accept_changes setting before x limit l e =
-    let of : Event → ParsedStep = λ v. record { step = record { event = v; outcome = x.step.outcome }; parse = x.parse } in
-    let P : Event → Type 0 = λ v. Legal setting (of v ∷ before) → Changes setting before (of v) in
-    subst P (sym e) (accept_of_changes setting before limit x.step.outcome x.parse) l
+accept_changes setting before x limit l e = at_event setting before x (on.accept limit) l e (accept_of_changes setting before limit)

@@ -127,7 +127,8 @@ waits_of setting past l = elim (current_of setting past l) [
 ]
 
 -- its answer's body is going out
-answering_of : (setting : Setting) (past : List ParsedStep) → Legal setting past → is_answering (kept_of setting past) ≡ sums.is_answering (steps past)
+answering_of : (setting : Setting) (past : List ParsedStep) → Legal setting past
+    → is_answering (kept_of setting past) ≡ sums.is_answering (steps past)
 answering_of setting past l = elim (current_of setting past l) [
   | inl n ↦ rw (exchange_none setting past n) (sym (ap (λ b. b && not (is_complete (steps past))) (none_answered setting past l n)))
   | inr (m, h, c) ↦ rw (exchange_is setting past m h c) (reply_sending setting (steps past) h)
@@ -136,7 +137,8 @@ answering_of setting past l = elim (current_of setting past l) [
 -- what the last request says, where it waits
 asks_of : (setting : Setting) (past : List ParsedStep) (test : Exchange → Bool) (says : Option Head → Bool) (since : Bool) → Legal setting past
     → ((m : Message) (h : Head) → test (exchange_with setting past m h) ≡ (says (Some h) && since))
-    → (waits_for_answer (kept_of setting past) && of_exchange test (kept_of setting past)) ≡ ((is_unanswered (steps past) && says (request (steps past))) && since)
+    → (waits_for_answer (kept_of setting past) && of_exchange test (kept_of setting past))
+    ≡ ((is_unanswered (steps past) && says (request (steps past))) && since)
 asks_of setting past test says since l same = elim (current_of setting past l) [
   | inl n ↦
       let none = none_waits past n in

@@ -1,5 +1,5 @@
 -- An answer that is handed in: it is complete at once, or its body is to be sent.
-use Rattle.std.proofs.Common.{◌≡◌, ◌-◌, true, false, List, [], ◌∷◌, ◌++◌, Option, Some, None, refl, sym, ap, ◌∙◌, inl, inr, arith}
+use Rattle.std.proofs.Common.{◌≡◌, ◌-◌, true, List, [], ◌∷◌, ◌++◌, Option, Some, None, refl, sym, ap, ◌∙◌, inl, inr, arith}
 use Rattle.std.specs.Prelude.{◌||◌, not, is_some, IsTrue}
 use Rattle.std.proofs.lemmas.Bool.{cases_Bool, cond-true, cond-false, and_parts, false≢true}
 use Rattle.h1_model.specs.Request.{Head}
@@ -20,7 +20,8 @@ use Rattle.h1_machine.specs.Reply.{stated, completing, answering}
 use Rattle.h1_machine.specs.KeptOf.{reply_of, exchange_with, kept_of}
 use Rattle.h1_machine.specs.Change.{doing, doing_with}
 use Rattle.h1_machine.proofs.Changes.{Changes}
-use Rattle.h1_machine.proofs.Current.{Current, current_of, plain_of}
+use Rattle.h1_model.proofs.HeldLemmas.{not_upgraded}
+use Rattle.h1_machine.proofs.Current.{Current, current_of}
 use Rattle.h1_machine.proofs.StepSums.{answered-more, answer_len-more, is_sending-cons, buffered-more}
 use Rattle.h1_machine.proofs.QuietParts.{complete-quiet, rest-quiet, exchange-quiet, clock-quiet, kept-quiet, short-open, told-stays}
 use Rattle.h1_machine.proofs.StepForms.{made, at_step, kept_current, both_none, open_request, open_incomplete, no_request, unended}
@@ -98,25 +99,25 @@ answer_known setting before head size parse m h l c ok =
     let incomplete = open_incomplete t ok in
     let answer : answer_of (x.step ∷ t) ≡ Some a = answered-more x.step t refl in
     let buffer : buffered setting (x.step ∷ t) ≡ text =
-        buffered-more setting x.step before l.3 refl
-            ∙ ap (λ l. k.buffered ++ l) (answer_text_is setting t head size ∙ ap (answer_text setting t head size) c.request_is) in
+    buffered-more setting x.step before l.3 refl
+    ∙ ap (λ l. k.buffered ++ l) (answer_text_is setting t head size ∙ ap (answer_text setting t head size) c.request_is) in
     let end = told-stays x.step t refl refl (short-open x.step t refl refl (unended t incomplete)) in
     let at_first = completing kind old next in
     let later = record next { exchange = Some (record old { reply = sending shape kind (stated shape) }) } in
     elim (cases_Bool (is_at_once size)) [
       | inl once ↦
           let s : Completes before x =
-              record { quiet = q; completes = once; tick = refl; drain = refl; drop = refl; go_on = refl; over = refl } in
+          record { quiet = q; completes = once; tick = refl; drain = refl; drop = refl; go_on = refl; over = refl } in
           let complete : is_complete (x.step ∷ t) ≡ true = complete-more x.step t refl ∙ ap (λ b. b || is_complete t) once in
           let reply : reply_of setting (x.step ∷ t) h (answer_of (x.step ∷ t)) ≡ answered kind =
-              ap (reply_of setting (x.step ∷ t) h) answer
-              ∙ cond-true (is_complete (x.step ∷ t)) (answered kind) (sending shape kind (stated shape - answer_len (x.step ∷ t))) complete in
+          ap (reply_of setting (x.step ∷ t) h) answer
+          ∙ cond-true (is_complete (x.step ∷ t)) (answered kind) (sending shape kind (stated shape - answer_len (x.step ∷ t))) complete in
           record {
             change = doing at_first;
             changes = ap doing (sym (cond-true (is_at_once size) at_first later once))
                 ∙ ap (doing_with act) (sym (kept_current setting before m h c));
             answers = refl;
-            parts = kept-completes setting x before m h kind old.reply text k.failed l s c incomplete (plain_of t ok) reply buffer (is_sending-cons x.step t) end;
+            parts = kept-completes setting x before m h kind old.reply text k.failed l s c incomplete (not_upgraded t ok) reply buffer (is_sending-cons x.step t) end;
             since = completing_since kind old next;
           }
       | inr streams ↦
@@ -124,7 +125,7 @@ answer_known setting before head size parse m h l c ok =
           let none = unanswered_len setting before l.3 (open_request t ok).1 in
           let whole : stated shape - answer_len (x.step ∷ t) ≡ stated shape = omega (arith, answer_len-more x.step t refl) in
           let reply = reply-sending setting (x.step ∷ t) h a answer (complete-quiet x before q streams ∙ incomplete)
-              ∙ ap (sending shape kind) whole in
+          ∙ ap (sending shape kind) whole in
           let exchange = exchange-quiet setting x before m h l q c ∙ (λ i. Some (record old { rest = rest i; reply = reply i })) in
           record {
             change = doing later;

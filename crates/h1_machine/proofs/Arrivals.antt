@@ -1,7 +1,8 @@
 -- Bytes that come, or the end of the input: the current message grows, what was passed stays passed, and what is left of
 -- its body is passed where the answer is complete.
 use Rattle.std.proofs.Common.{◌≡◌, ℕ, ◌≤◌, Bool, true, false, List, ◌∷◌, ◌++◌, length, drop, Option, Some, None, refl, sym, ap, ◌∙◌, subst, inl, inr, arith, true≢false}
-use Rattle.std.specs.Prelude.{unwrap_or, is_some}
+use Rattle.std.specs.Prelude.{◌||◌, unwrap_or, is_some}
+use Rattle.std.specs.Option.{option_or}
 use Rattle.std.proofs.lemmas.Bool.{cases_Bool, false≢true}
 use Rattle.std.proofs.lemmas.Option.{same_Some}
 use Rattle.h1_model.specs.Request.{BodyKind, no_body, fixed_body, chunked_body, raw_body, is_raw_kind, Head, head_is}
@@ -18,16 +19,20 @@ use Rattle.h1_model.proofs.TraceGrowth.{current_none}
 use Rattle.h1_model.proofs.CarriedLemmas.{passed_none, end_of, passed_complete, passed_pulled, below_end}
 use Rattle.h1_model.proofs.HeldLemmas.{passed_grows}
 use Rattle.h1_machine.specs.Kept.{Rest, frames_rest, Reply, unanswered, sending, answered, Exchange, Kept, is_answered}
+use Rattle.h1_model.specs.Text.{buffered}
+use Rattle.h1_model.specs.Closing.{told_end}
+use Rattle.h1_model.specs.Allowed.{is_over_by}
 use Rattle.h1_machine.specs.KeptOf.{rest_of, reply_of, exchange_with, exchange_of, kept_of}
 use Rattle.h1_machine.specs.Body.{Passed, pass_rest, passing}
 use Rattle.h1_machine.proofs.Changes.{bare}
-use Rattle.h1_machine.proofs.Current.{Current, NoCurrent, current_with, request-more}
+use Rattle.h1_machine.proofs.Current.{Current, NoCurrent, current_with}
+use Rattle.h1_machine.proofs.StepSums.{request-more}
 use Rattle.h1_machine.proofs.Orderly.{Orderly, orderly}
 use Rattle.h1_machine.proofs.Frames.{current_carried, current_stays, raw_head}
 use Rattle.h1_machine.proofs.QuietParts.{rest_by, rest_parts}
 use Rattle.h1_machine.proofs.Completion.{passing_of}
 use Rattle.h1_machine.proofs.PassedBodies.{left_at, left_is}
-use Rattle.h1_machine.proofs.PlainSteps.{IsPlain, exchange-plain, kept-plain}
+use Rattle.h1_machine.proofs.CalmSteps.{IsAside, exchange-unpulled, aside_parts}
 
 -- A step before the end of the input that adds bytes, or ends the input, and does nothing else.
 pub record Adds (before : List ParsedStep) (s : Step) (more : List ℕ) : Type 0 where
@@ -37,6 +42,13 @@ pub record Adds (before : List ParsedStep) (s : Step) (more : List ℕ) : Type 0
   pub idle : Idle s
   pub complete : is_complete (s ∷ steps before) ≡ is_complete (steps before)
   pub receiving : is_receiving (s ∷ steps before) ≡ is_receiving (steps before)
+
+-- It tells nothing, and no text goes out for it.
+pub record IsPlain (setting : Setting) (before : List ParsedStep) (s : Step) : Type 0 where
+  pub aside : IsAside s.event
+  pub tells : told_end s.outcome ≡ None
+  pub over : is_over_by s.outcome ≡ false
+  pub buffers : buffered setting (s ∷ steps before) ≡ buffered setting (steps before)
 
 -- Behind such a step: the current message before it, and the same as it is parsed then, with its head.
 pub record Grows (setting : Setting) (before : List ParsedStep) (x : ParsedStep) (more : List ℕ) (m n : Message) (h : Head) : Type 0 where
@@ -141,7 +153,7 @@ left_before setting before x more m n h g plain =
 left_behind : (setting : Setting) (before : List ParsedStep) (x : ParsedStep) (more : List ℕ) (m n : Message) (h : Head) (complete receiving : Bool)
     → Grows setting before x more m n h → accepted (steps before) ≡ None
     → rest_by (passed before) (taken (x.step ∷ steps before)) complete None receiving n h.body
-      ≡ left_at (has_ended (x.step ∷ steps before)) complete h.body m.body_start (passed before) (taken (x.step ∷ steps before))
+    ≡ left_at (has_ended (x.step ∷ steps before)) complete h.body m.body_start (passed before) (taken (x.step ∷ steps before))
 left_behind setting before x more m n h complete receiving g plain =
     let t = x.step ∷ steps before in
     let size = setting.hold_size in
@@ -165,7 +177,8 @@ framed_left past m raw_body limit raw up =
 -- What the machine has of the body before it passes it: what is left by the longer bytes, or by frames.
 pub record IsLeft (before : List ParsedStep) (x : ParsedStep) (m : Message) (h : Head) (rest : Rest) : Type 0 where
   pub plain : accepted (steps before) ≡ None
-      → rest ≡ left_at (has_ended (x.step ∷ steps before)) (is_complete (steps before)) h.body m.body_start (passed before) (taken (x.step ∷ steps before))
+      → rest
+      ≡ left_at (has_ended (x.step ∷ steps before)) (is_complete (steps before)) h.body m.body_start (passed before) (taken (x.step ∷ steps before))
   pub framed : (limit : ℕ) → accepted (steps before) ≡ Some limit → rest ≡ frames_rest (is_receiving (steps before)) limit
 
 -- while the answer isn't complete it is what is left behind the step
@@ -188,7 +201,7 @@ left_open setting before x more m n h rest g left answering = go (accepted (step
 left_passed : (setting : Setting) (before : List ParsedStep) (x : ParsedStep) (more : List ℕ) (m n : Message) (h : Head) (rest : Rest)
     → Grows setting before x more m n h → IsLeft before x m h rest → is_complete (steps before) ≡ true
     → pass_rest (has_ended (x.step ∷ steps before)) rest (drop (passed before) (taken (x.step ∷ steps before)))
-      ≡ record { rest = rest_of (x ∷ before) n h.body; unread = drop (passed (x ∷ before)) (taken (x.step ∷ steps before)) }
+    ≡ record { rest = rest_of (x ∷ before) n h.body; unread = drop (passed (x ∷ before)) (taken (x.step ∷ steps before)) }
 left_passed setting before x more m n h rest g left complete =
     let t = x.step ∷ steps before in
     let plain = complete_plain setting before g.legal.3 complete in
@@ -199,7 +212,7 @@ left_passed setting before x more m n h rest g left complete =
     let begun : n.body_start ≤ passed before = omega (arith, passed_end setting before m h g.old complete, end_behind setting before m h g.old) in
     let within : passed before ≤ length (taken t) = omega (arith, g.new.passed_within) in
     let before_next : (next : ℕ) → next_start n.body ≡ Some next → passed before ≤ next = λ next e.
-        let end = passed_end setting (x ∷ before) n h g.new complete' ∙ ap (λ o. unwrap_or o (length (taken t))) e in omega arith in
+    let end = passed_end setting (x ∷ before) n h g.new complete' ∙ ap (λ o. unwrap_or o (length (taken t))) e in omega arith in
     ap (λ r. pass_rest (has_ended t) r (drop (passed before) (taken t))) is
     ∙ passing_of setting (x ∷ before) n h (passed before) (is_complete (steps before)) (is_receiving t) g.new complete' (g.adds.accepted ∙ plain) begun within before_next
 
@@ -233,10 +246,10 @@ passing-by k x (answered kind) e = absurd (true≢false e)
 -- and where it is, the rest of its body
 passing-answered : (k : Kept) (x : Exchange) (reply : Reply) → is_answered reply ≡ true
     → passing (record k { exchange = Some (record x { reply = reply }) })
-      ≡ record k {
-          unread = (pass_rest k.has_ended x.rest k.unread).unread;
-          exchange = Some (record x { reply = reply; rest = (pass_rest k.has_ended x.rest k.unread).rest });
-        }
+    ≡ record k {
+      unread = (pass_rest k.has_ended x.rest k.unread).unread;
+      exchange = Some (record x { reply = reply; rest = (pass_rest k.has_ended x.rest k.unread).rest });
+    }
 unfolding passing
 passing-answered k x unanswered e = absurd (false≢true e)
 passing-answered k x (sending shape kind missing) e = absurd (false≢true e)
@@ -255,7 +268,7 @@ kept_with setting before m h ended unread rest =
 pub passing_grown : (setting : Setting) (before : List ParsedStep) (x : ParsedStep) (more : List ℕ) (m n : Message) (h : Head) (rest : Rest)
     → Grows setting before x more m n h → IsLeft before x m h rest
     → passing (kept_with setting before m h (has_ended (x.step ∷ steps before)) (drop (passed before) (taken (x.step ∷ steps before))) rest)
-      ≡ kept_with setting before m h (has_ended (x.step ∷ steps before)) (drop (passed (x ∷ before)) (taken (x.step ∷ steps before))) (rest_of (x ∷ before) n h.body)
+    ≡ kept_with setting before m h (has_ended (x.step ∷ steps before)) (drop (passed (x ∷ before)) (taken (x.step ∷ steps before))) (rest_of (x ∷ before) n h.body)
 passing_grown setting before x more m n h rest g left =
     let t = x.step ∷ steps before in
     let ended = has_ended t in
@@ -292,32 +305,44 @@ none_behind before x more a none =
     let gone = current_none (x ∷ before) (head_count-more x.step (steps before) a.idle.head ∙ none.count) in
     (gone, passed_none (x ∷ before) gone)
 
+-- all but the bytes, the input's end and the last request stays
+plain_parts : (setting : Setting) (before : List ParsedStep) (x : ParsedStep) (more unread : List ℕ) (exchange : Option Exchange)
+    → Adds before x.step more
+    → IsPlain setting before x.step → unread ≡ drop (passed (x ∷ before)) (taken (x.step ∷ steps before))
+    → exchange ≡ exchange_of setting (x ∷ before) (current (x ∷ before)) (request (x.step ∷ steps before))
+    → bare (record (kept_of setting before) { unread = unread; has_ended = has_ended (x.step ∷ steps before); exchange = exchange })
+    ≡ bare (kept_of setting (x ∷ before))
+plain_parts setting before x more unread exchange a p e g =
+    let k = kept_of setting before in
+    aside_parts setting before x unread k.is_over exchange k.buffered k.failed p.aside a.idle.head e (sym (ap (λ b. b || k.is_over) p.over)) g
+    (sym p.buffers) (sym (ap (λ o. option_or o k.failed) p.tells))
+
 -- what is kept before the step, where no head was handed out, is so behind it
-pub parts-none : (setting : Setting) (before : List ParsedStep) (x : ParsedStep) (more : List ℕ) → Adds before x.step more → IsPlain setting before x.step
+pub parts-none : (setting : Setting) (before : List ParsedStep) (x : ParsedStep) (more : List ℕ) → Adds before x.step more
+    → IsPlain setting before x.step
     → NoCurrent before
     → bare (record (kept_of setting before) {
-        unread = drop (passed before) (taken (x.step ∷ steps before));
-        has_ended = has_ended (x.step ∷ steps before);
-        exchange = None;
-      }) ≡ bare (kept_of setting (x ∷ before))
+      unread = drop (passed before) (taken (x.step ∷ steps before));
+      has_ended = has_ended (x.step ∷ steps before);
+      exchange = None;
+    }) ≡ bare (kept_of setting (x ∷ before))
 parts-none setting before x more a plain none =
     let t = x.step ∷ steps before in
     let behind = none_behind before x more a none in
     let place = none.passed_is ∙ sym behind.1 in
     let gone = ap (λ o. exchange_of setting (x ∷ before) o (request t)) behind.0 in
-    kept-plain setting x before (drop (passed before) (taken t)) None plain
-    ∙ (λ i. bare (record (kept_of setting (x ∷ before)) { unread = drop (place i) (taken t); exchange = sym gone i }))
+    plain_parts setting before x more (drop (passed before) (taken t)) None a plain (λ i. drop (place i) (taken t)) (sym gone)
 
 -- and so it is of a request
 pub parts-some : (setting : Setting) (before : List ParsedStep) (x : ParsedStep) (more : List ℕ) (m n : Message) (h : Head)
     → Grows setting before x more m n h → IsPlain setting before x.step
     → bare (kept_with setting before m h (has_ended (x.step ∷ steps before)) (drop (passed (x ∷ before)) (taken (x.step ∷ steps before))) (rest_of (x ∷ before) n h.body))
-      ≡ bare (kept_of setting (x ∷ before))
+    ≡ bare (kept_of setting (x ∷ before))
 parts-some setting before x more m n h g plain =
     let t = x.step ∷ steps before in
     let unread = drop (passed (x ∷ before)) (taken t) in
     let rest = rest_of (x ∷ before) n h.body in
-    let there : exchange_of setting (x ∷ before) (current (x ∷ before)) (request t) ≡ Some (record (exchange_with setting before m h) { rest = rest }) =
-        (λ i. exchange_of setting (x ∷ before) (g.new.current_is i) (g.new.request_is i)) ∙ ap Some (exchange-plain setting x before m n h plain) in
-    kept-plain setting x before unread (Some (record (exchange_with setting before m h) { rest = rest })) plain
-    ∙ (λ i. bare (record (kept_of setting (x ∷ before)) { unread = unread; exchange = sym there i }))
+    let idle = g.adds.idle in
+    let there = ap Some (exchange-unpulled setting before x m n h idle.head plain.aside idle.pull)
+    ∙ sym (λ i. exchange_of setting (x ∷ before) (g.new.current_is i) (g.new.request_is i)) in
+    plain_parts setting before x more unread (Some (record (exchange_with setting before m h) { rest = rest })) g.adds plain refl there

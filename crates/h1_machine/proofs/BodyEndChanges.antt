@@ -19,6 +19,7 @@ use Rattle.h1_model.specs.Closing.{end_where, told, lacks_bytes, is_short, body_
 use Rattle.h1_model.specs.OutcomeTable.{outcome_of}
 use Rattle.h1_model.proofs.PastLemmas.{Legal}
 use Rattle.h1_model.proofs.StepLemmas.{Quiet, allowed_open, complete-more}
+use Rattle.h1_model.proofs.ClosingLemmas.{running}
 use Rattle.h1_machine.specs.Kept.{sending, answered}
 use Rattle.h1_machine.specs.Reply.{stated, short_end, ending_body}
 use Rattle.h1_machine.specs.KeptOf.{reply_of, kept_of}
@@ -29,7 +30,7 @@ use Rattle.h1_machine.proofs.Orderly.{orderly}
 use Rattle.h1_machine.proofs.Parts.{none_answered}
 use Rattle.h1_machine.proofs.StepSums.{told-cons, request-more, answered-more, answer_len-more, came-more, is_sending-cons, buffered-more}
 use Rattle.h1_machine.proofs.QuietParts.{option_or-none}
-use Rattle.h1_machine.proofs.StepForms.{made, at_step, with_exchange, running, both_none, untold}
+use Rattle.h1_machine.proofs.StepForms.{made, at_step, with_exchange, both_none, untold}
 use Rattle.h1_machine.proofs.ExchangeChanges.{going_out, shape_by, with_reply, kept_sending}
 use Rattle.h1_machine.proofs.CompleteParts.{Completes, kept-completes, completing_since}
 
@@ -83,7 +84,7 @@ end_told : (setting : Setting) (before : List ParsedStep) (parse : List Message)
     → body_end_of (steps before) ≡ None
     → request (steps before) ≡ Some h → answer_of (steps before) ≡ Some a
     → option_or (told ((made on.body_end on.done parse).step ∷ steps before)) (body_end_of ((made on.body_end on.done parse).step ∷ steps before))
-      ≡ short_end (asked_of h) (shape_by h a) (stated (shape_by h a) - answer_len (steps before))
+    ≡ short_end (asked_of h) (shape_by h a) (stated (shape_by h a) - answer_len (steps before))
 end_told setting before parse h a quiet whole request_is answer_is =
     let t = steps before in
     let s = (made on.body_end on.done parse).step in
@@ -120,12 +121,12 @@ end_known setting before parse m h a l c answer_is incomplete =
     let complete : is_complete (x.step ∷ t) ≡ true = complete-more x.step t refl in
     let answer : answer_of (x.step ∷ t) ≡ Some a = answered-more x.step t refl ∙ answer_is in
     let reply : reply_of setting (x.step ∷ t) h (answer_of (x.step ∷ t)) ≡ answered kind =
-        ap (reply_of setting (x.step ∷ t) h) answer
-        ∙ cond-true (is_complete (x.step ∷ t)) (answered kind) (sending shape kind (stated shape - answer_len (x.step ∷ t))) complete in
+    ap (reply_of setting (x.step ∷ t) h) answer
+    ∙ cond-true (is_complete (x.step ∷ t)) (answered kind) (sending shape kind (stated shape - answer_len (x.step ∷ t))) complete in
     let request_is = c.request_is in
     let buffer : buffered setting (x.step ∷ t) ≡ text =
-        buffered-more setting x.step before l.3 refl
-            ∙ ap (λ l. k.buffered ++ l) (end_text_is setting t ∙ (λ i. end_sent (request_is i) (answer_is i))) in
+    buffered-more setting x.step before l.3 refl
+    ∙ ap (λ l. k.buffered ++ l) (end_text_is setting t ∙ (λ i. end_sent (request_is i) (answer_is i))) in
     let told_is = end_told setting before parse h a none.0 none.1 c.request_is answer_is ∙ sym alone in
     record {
       change = doing_with ending_body (with_exchange k (Some old));

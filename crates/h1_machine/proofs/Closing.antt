@@ -67,7 +67,8 @@ current_ends setting past m h l c = go (answered (steps past)) (is_complete (ste
         ∙ ap (option_or (end_where (not (is_kept (type_of setting a.drained (asked_of h) a.head a.size))) ends.asked)) rest.end ∙ sym table
 
 -- the end behind a complete answer
-answered_of : (setting : Setting) (past : List ParsedStep) → Legal setting past → answered_end (kept_of setting past).exchange ≡ model.answered_end setting past
+answered_of : (setting : Setting) (past : List ParsedStep) → Legal setting past
+    → answered_end (kept_of setting past).exchange ≡ model.answered_end setting past
 answered_of setting past l = elim (current_of setting past l) [
   | inl n ↦ ap answered_end (exchange_none setting past n) ∙ sym (none_ends setting past n)
   | inr (m, h, c) ↦ ap answered_end (exchange_is setting past m h c) ∙ current_ends setting past m h l c
@@ -143,7 +144,8 @@ exhausted_of setting past l = go (accepted (steps past)) refl
         ∙ sym (cond-true (sums.is_upgraded (steps past)) _ _ (ap is_some e))
 
 -- and when the end of the input does
-input_of_end : (setting : Setting) (past : List ParsedStep) → Legal setting past → input_end setting (kept_of setting past) ≡ model.input_end setting past
+input_of_end : (setting : Setting) (past : List ParsedStep) → Legal setting past
+    → input_end setting (kept_of setting past) ≡ model.input_end setting past
 input_of_end setting past l =
     λ i. if has_ended (steps past)
     then option_or (end_where (not setting.allows_half_closed) ends.half_closed) (end_where (exhausted_of setting past l i) ends.input_ended)
@@ -157,7 +159,8 @@ or_grouped None b c = refl
 or_grouped (Some a) b c = refl
 
 -- what is kept tells why the connection closes
-pub closing_same : (setting : Setting) (past : List ParsedStep) → Legal setting past → closing_by setting (kept_of setting past) ≡ closing setting past
+pub closing_same : (setting : Setting) (past : List ParsedStep) → Legal setting past
+    → closing_by setting (kept_of setting past) ≡ closing setting past
 unfolding closing closing_by
 closing_same setting past l =
     or_grouped (told (steps past)) (body_end_of (steps past)) _

@@ -1,17 +1,16 @@
 -- Whether a head is coming is as the bytes say: it stands behind what is passed.
-use Rattle.std.proofs.Common.{◌≡◌, ℕ, zero, suc, Bool, true, false, List, [], ◌∷◌, length, drop, Option, Some, None, MatchOption, refl, sym, ap, ◌∙◌, subst, inl, inr}
+use Rattle.std.proofs.Common.{◌≡◌, ℕ, zero, suc, Bool, true, false, List, length, drop, Option, Some, None, refl, sym, ap, ◌∙◌, subst, inl, inr}
 use Rattle.std.specs.Prelude.{◌&&◌, ◌||◌, not, is_some, slice_get, unwrap_or}
 use Rattle.std.proofs.lemmas.Bool.{true≢false, cases_Bool, or_right}
-use Rattle.std.proofs.lemmas.Option.{none-some, same_Some}
-use Rattle.h1_model.specs.HeadPiece.{HasNoHeadPiece}
+use Rattle.std.proofs.lemmas.Option.{none-some}
 use Rattle.h1_model.specs.Request.{Head}
 use Rattle.h1_model.specs.Setting.{Setting}
-use Rattle.h1_model.specs.Parse.{Input, Message, next_start, IsMessageAt, AreMessages}
+use Rattle.h1_model.specs.Parse.{Input, Message, next_start}
 use Rattle.h1_model.specs.Sums.{taken, is_complete, is_open, is_upgraded, was_dropped}
 use Rattle.h1_model.specs.Past.{ParsedStep, steps, input_of, parse_of, head_count, current, upcoming, passed}
 use Rattle.h1_model.proofs.PastLemmas.{Legal}
 use Rattle.h1_model.proofs.StepLemmas.{parsed}
-use Rattle.h1_model.proofs.TraceGrowth.{current_at, current_none}
+use Rattle.h1_model.proofs.TraceGrowth.{ComesAt, first_comes, ComesBehind, comes_behind, current_at, current_none}
 use Rattle.h1_model.proofs.CarriedLemmas.{passed_complete}
 use Rattle.h1_machine.specs.Kept.{is_free, is_nothing}
 use Rattle.h1_machine.specs.KeptOf.{rest_of, kept_of}
@@ -20,51 +19,6 @@ use Rattle.h1_machine.proofs.Current.{Current, NoCurrent, current_of}
 use Rattle.h1_machine.proofs.Orderly.{orderly}
 use Rattle.h1_machine.proofs.Rests.{rest_says}
 use Rattle.h1_machine.proofs.Parts.{exchange_is, exchange_none, reply_answered, none_open, current_open}
-
--- ---- the message behind another
-
--- the first of the messages from a place on, if there is one
-abbrev pub ComesAt : Input → ℕ → Option Message → Type 0
-ComesAt i place None = HasNoHeadPiece (drop place i.bytes)
-ComesAt i place (Some m) = IsMessageAt i place m
-
--- of messages from the place on it is the first
-first_comes : (i : Input) (place : ℕ) (ms : List Message) → AreMessages i place ms → ComesAt i place (slice_get ms 0)
-first_comes i place [] x = x
-first_comes i place (m ∷ ms) x = x.0
-
--- what stands behind a message that has ended at a place
-rest_at : (i : Input) (o : Option ℕ) (ms : List Message) (next : ℕ) → o ≡ Some next → MatchOption o (ms ≡ []) (λ p. AreMessages i p ms) → AreMessages i next ms
-rest_at i o ms next e x = subst (λ (u : Option ℕ). MatchOption u (ms ≡ []) (λ p. AreMessages i p ms)) e x
-
--- and behind one that hasn't
-rest_none : (i : Input) (o : Option ℕ) (ms : List Message) → o ≡ None → MatchOption o (ms ≡ []) (λ p. AreMessages i p ms) → ms ≡ []
-rest_none i o ms e x = subst (λ (u : Option ℕ). MatchOption u (ms ≡ []) (λ p. AreMessages i p ms)) e x
-
--- behind a message that has ended comes what stands at its end
-pub next_comes : (i : Input) (place : ℕ) (ms : List Message) (k : ℕ) (m : Message) (next : ℕ) → AreMessages i place ms → slice_get ms k ≡ Some m
-    → next_start m.body ≡ Some next → ComesAt i next (slice_get ms (suc k))
-next_comes i place [] k m next x e f = absurd (none-some m e)
-next_comes i place (q ∷ ms) zero m next x e f =
-    first_comes i next ms (rest_at i (next_start q.body) ms next (ap (λ (p : Message). next_start p.body) (same_Some q m e) ∙ f) x.1)
-next_comes i place (q ∷ ms) (suc k) m next x e f = go (next_start q.body) refl (λ p y. next_comes i p ms k m next y e f)
-  where
-    go : (o : Option ℕ) → next_start q.body ≡ o → ((p : ℕ) → AreMessages i p ms → ComesAt i next (slice_get ms (suc k)))
-        → ComesAt i next (slice_get ms (suc k))
-    go None g later = absurd (none-some m (sym (ap (λ (l : List Message). slice_get l k) (rest_none i (next_start q.body) ms g x.1)) ∙ e))
-    go (Some p) g later = later p (rest_at i (next_start q.body) ms p g x.1)
-
--- behind one that hasn't ended comes none
-pub none_comes : (i : Input) (place : ℕ) (ms : List Message) (k : ℕ) (m : Message) → AreMessages i place ms → slice_get ms k ≡ Some m
-    → next_start m.body ≡ None → slice_get ms (suc k) ≡ None
-none_comes i place [] k m x e f = absurd (none-some m e)
-none_comes i place (q ∷ ms) zero m x e f =
-    ap (λ (l : List Message). slice_get l 0) (rest_none i (next_start q.body) ms (ap (λ (p : Message). next_start p.body) (same_Some q m e) ∙ f) x.1)
-none_comes i place (q ∷ ms) (suc k) m x e f = go (next_start q.body) refl (λ p y. none_comes i p ms k m y e f)
-  where
-    go : (o : Option ℕ) → next_start q.body ≡ o → ((p : ℕ) → AreMessages i p ms → slice_get ms (suc k) ≡ None) → slice_get ms (suc k) ≡ None
-    go None g later = absurd (none-some m (sym (ap (λ (l : List Message). slice_get l k) (rest_none i (next_start q.body) ms g x.1)) ∙ e))
-    go (Some p) g later = later p (rest_at i (next_start q.body) ms p g x.1)
 
 -- ---- whether it is coming
 
@@ -91,29 +45,25 @@ none_coming setting past l n =
     (comes_is i 0 (slice_get (parse_of past) 0) (first_comes i 0 (parse_of past) (parsed setting past l)))
 
 -- the message behind the current one, by where that has ended
-behind_current : (setting : Setting) (past : List ParsedStep) (m : Message) → Legal setting past → current past ≡ Some m
-    → MatchOption (next_start m.body) (upcoming past ≡ None) (λ next. ComesAt (input_of setting (steps past)) next (upcoming past))
+pub behind_current : (setting : Setting) (past : List ParsedStep) (m : Message) → Legal setting past → current past ≡ Some m
+    → ComesBehind (input_of setting (steps past)) (next_start m.body) (upcoming past)
 behind_current setting past m l e = by_count (head_count (steps past)) refl
   where
     i : Input
     i = input_of setting (steps past)
 
-    by_end : (k : ℕ) (o : Option ℕ) → slice_get (parse_of past) k ≡ Some m → upcoming past ≡ slice_get (parse_of past) (suc k) → next_start m.body ≡ o
-        → MatchOption o (upcoming past ≡ None) (λ next. ComesAt i next (upcoming past))
-    by_end k None here next f = next ∙ none_comes i 0 (parse_of past) k m (parsed setting past l) here f
-    by_end k (Some place) here next f = subst (ComesAt i place) (sym next) (next_comes i 0 (parse_of past) k m place (parsed setting past l) here f)
-
-    by_count : (count : ℕ) → head_count (steps past) ≡ count → MatchOption (next_start m.body) (upcoming past ≡ None) (λ next. ComesAt i next (upcoming past))
+    by_count : (count : ℕ) → head_count (steps past) ≡ count → ComesBehind i (next_start m.body) (upcoming past)
     by_count zero f = absurd (none-some m (sym (current_none past f) ∙ e))
-    by_count (suc k) f = by_end k (next_start m.body) (sym (current_at past k f) ∙ e) (ap (slice_get (parse_of past)) f) refl
+    by_count (suc k) f =
+        subst (ComesBehind i (next_start m.body)) (sym (ap (slice_get (parse_of past)) f))
+        (comes_behind i 0 (parse_of past) k m (parsed setting past l) (sym (current_at past k f) ∙ e))
 
 -- where the answer is complete
 complete_coming : (setting : Setting) (past : List ParsedStep) (m : Message) (h : Head) → Legal setting past → Current setting past m h
     → is_complete (steps past) ≡ true → (next : Option ℕ) → next_start m.body ≡ next
     → IsComing (is_some next) (kept_of setting past).unread (kept_of setting past).is_coming
 complete_coming setting past m h l c done None e =
-    let behind = subst (λ (o : Option ℕ). MatchOption o (upcoming past ≡ None) (λ next. ComesAt (input_of setting (steps past)) next (upcoming past))) e
-    (behind_current setting past m l c.current_is) in
+    let behind = subst (λ o. ComesBehind (input_of setting (steps past)) o (upcoming past)) e (behind_current setting past m l c.current_is) in
     go (is_open (steps past)) behind
   where
     go : (opened : Bool) → upcoming past ≡ None → (not opened && is_some (upcoming past)) ≡ false
@@ -121,8 +71,7 @@ complete_coming setting past m h l c done None e =
     go false none = ap is_some none
 complete_coming setting past m h l c done (Some place) e =
     let i = input_of setting (steps past) in
-    let behind = subst (λ (o : Option ℕ). MatchOption o (upcoming past ≡ None) (λ next. ComesAt i next (upcoming past))) e
-    (behind_current setting past m l c.current_is) in
+    let behind = subst (λ o. ComesBehind i o (upcoming past)) e (behind_current setting past m l c.current_is) in
     let at : passed past ≡ place = c.passed_is ∙ passed_complete past m done ∙ ap (λ o. unwrap_or o (length (taken (steps past)))) e in
     let closed : is_open (steps past) ≡ false = current_open setting past m h c ∙ (λ j. plain j || not (done j)) in
     comes_as true true _ _ _ _ refl (ap (λ p. drop p (taken (steps past))) at) (ap (λ b. not b && is_some (upcoming past)) closed)

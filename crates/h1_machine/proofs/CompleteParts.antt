@@ -46,7 +46,7 @@ pub passes_rest : (setting : Setting) (x : ParsedStep) (before : List ParsedStep
     → Quiet before x.step
     → Current setting before m h → completes x.step.event ≡ true → is_complete (steps before) ≡ false → accepted (steps before) ≡ None
     → pass_rest (has_ended (steps before)) (rest_of before m h.body) (drop (passed before) (taken (steps before)))
-      ≡ record { rest = rest_of (x ∷ before) m h.body; unread = drop (passed (x ∷ before)) (taken (x.step ∷ steps before)) }
+    ≡ record { rest = rest_of (x ∷ before) m h.body; unread = drop (passed (x ∷ before)) (taken (x.step ∷ steps before)) }
 passes_rest setting x before m h l q c done incomplete plain =
     let t = steps before in
     let place = passed before in
@@ -55,9 +55,9 @@ passes_rest setting x before m h l q c done incomplete plain =
     let complete : is_complete (x.step ∷ t) ≡ true = complete-more x.step t q.head ∙ ap (λ b. b || is_complete t) done in
     let within : place ≤ length (taken (x.step ∷ t)) = subst (λ b. place ≤ length b) (sym bytes) c.passed_within in
     let passes = passing_of setting (x ∷ before) m h place (is_complete t) (is_receiving t) (current-stays setting x before m h l q c) complete
-        (accepted-quiet x before q ∙ plain) (passed_begun setting before m l.3 c.current_is) within (before_end setting before m h c incomplete) in
+    (accepted-quiet x before q ∙ plain) (passed_begun setting before m l.3 c.current_is) within (before_end setting before m h c incomplete) in
     let rest : rest_of before m h.body ≡ rest_by place (taken (x.step ∷ t)) (is_complete t) None (is_receiving t) m h.body =
-        rest_parts before m h.body ∙ (λ i. rest_by place (sym bytes i) (is_complete t) (plain i) (is_receiving t) m h.body) in
+    rest_parts before m h.body ∙ (λ i. rest_by place (sym bytes i) (is_complete t) (plain i) (is_receiving t) m h.body) in
     (λ i. pass_rest (sym ended i) (rest i) (drop place (sym bytes i))) ∙ passes
 
 -- what completing an answer leaves, by what is passed
@@ -93,10 +93,6 @@ pub record Completes (before : List ParsedStep) (x : ParsedStep) : Type 0 where
   pub go_on : is_go_on x.step.event ≡ false
   pub over : is_over_by x.step.outcome ≡ false
 
--- the state that the text and the end are put in before the answer is complete
-abbrev pub with_text : Kept → List ℕ → Option End → Kept
-with_text k buffer end = record k { buffered = buffer; failed = end }
-
 -- The state behind it, whatever the answer was before.
 pub kept-completes : (setting : Setting) (x : ParsedStep) (before : List ParsedStep) (m : Message) (h : Head) (kind : ConnectionType) (was : Reply)
     (buffer : List ℕ) (end : Option End)
@@ -126,8 +122,8 @@ kept-completes setting x before m h kind was buffer end l s c incomplete plain r
     let dropped = ap (λ b. b || was_dropped t) s.drop in
     let told = ap (λ b. b || was_told_to_go_on t) s.go_on in
     let exchange : exchange_of setting (x ∷ before) (current (x ∷ before)) (request (x.step ∷ t)) ≡ Some (record old { reply = answered kind; rest = rest }) =
-        exchange-quiet setting x before m h l s.quiet c
-        ∙ (λ i. Some (record old { rest = rest; reply = reply i; was_dropped = dropped i; was_told_to_go_on = told i })) in
+    exchange-quiet setting x before m h l s.quiet c
+    ∙ (λ i. Some (record old { rest = rest; reply = reply i; was_dropped = dropped i; was_told_to_go_on = told i })) in
     ap bare (completing_parts kind (record old { reply = was }) put p (passes_rest setting x before m h l s.quiet c s.completes incomplete plain))
     ∙ same_bare now (kept_of setting (x ∷ before)) refl (sym (ended-quiet x before s.quiet)) (sym (ap (λ b. b || k.is_draining) s.drain))
     (sym (ap (λ b. b || k.is_over) s.over)) (sym exchange) (sym buffer_is) (sym sending_is) (sym (clock-completes x.step t s.completes s.tick)) (sym end_is)

@@ -114,7 +114,7 @@ left_at bytes kind m receiving place = left (rest_by place bytes true None recei
 fixed_done : (bytes : List ℕ) (ended : Bool) (size n : ℕ) (m : Message) (place : ℕ) (complete receiving still : Bool)
     → Reaches bytes ended size (fixed_body n) m place
     → pass_rest ended (rest_by place bytes complete None receiving m (fixed_body n)) (drop place bytes)
-      ≡ left_at bytes (fixed_body n) m still (end_of (length bytes) m.body)
+    ≡ left_at bytes (fixed_body n) m still (end_of (length bytes) m.body)
 fixed_done bytes ended size n m place complete receiving still r =
     let s = m.body_start in
     let end = s + n in
@@ -130,7 +130,7 @@ fixed_done bytes ended size n m place complete receiving still r =
             | inl before ↦
                 let rest : fixed_left end place ≡ fixed_rest (end - place) = cond-false (leb end place) _ _ (lt-leb end place before) in
                 let all = cond-true (leb (end - place) (length more)) (left no_rest (drop (end - place) more)) (left (fixed_rest (end - place - length more)) [])
-                    (le-leb (end - place) (length more) (omega (arith, length-drop place bytes))) in
+                (le-leb (end - place) (length more) (omega (arith, length-drop place bytes))) in
                 let behind : place + (end - place) ≡ end = omega arith in
                 ap (λ r. pass_rest ended r more) rest ∙ all ∙ ap (left no_rest) (drop-drop (end - place) place bytes ∙ ap (λ p. drop p bytes) behind)
                 ∙ ap (λ r. left r (drop end bytes)) (sym gone) ∙ goal
@@ -142,13 +142,13 @@ fixed_done bytes ended size n m place complete receiving still r =
           ]
       | inl short ↦
           let next : next_start m.body ≡ None = ap next_start (r.body ∙ fixed_part bytes None ended size s n short)
-              ∙ open_next (run_between s len) ended in
+          ∙ open_next (run_between s len) ended in
           let at = end_none len m.body next in
           let within = r.within in
           let rest : fixed_left end place ≡ fixed_rest (end - place) = cond-false (leb end place) _ _ (lt-leb end place (omega arith)) in
           let count = length-drop place bytes in
           let part = cond-false (leb (end - place) (length more)) (left no_rest (drop (end - place) more)) (left (fixed_rest (end - place - length more)) [])
-              (lt-leb (end - place) (length more) (omega (arith, count))) in
+          (lt-leb (end - place) (length more) (omega (arith, count))) in
           let missing : end - place - length more ≡ end - len = omega (arith, count) in
           let now : fixed_left end len ≡ fixed_rest (end - len) = cond-false (leb end len) _ _ (lt-leb end len short) in
           ap (λ r. pass_rest ended r more) rest ∙ part ∙ ap (λ n. left (fixed_rest n) []) missing
@@ -159,7 +159,7 @@ fixed_done bytes ended size n m place complete receiving still r =
 raw_done : (bytes : List ℕ) (ended : Bool) (size : ℕ) (m : Message) (place : ℕ) (complete receiving still : Bool)
     → Reaches bytes ended size raw_body m place
     → pass_rest ended (rest_by place bytes complete None receiving m raw_body) (drop place bytes)
-      ≡ left_at bytes raw_body m still (end_of (length bytes) m.body)
+    ≡ left_at bytes raw_body m still (end_of (length bytes) m.body)
 raw_done bytes true size m place complete receiving still r =
     let len = length bytes in
     let next : next_start m.body ≡ Some len = ap next_start r.body in
@@ -194,9 +194,9 @@ from_place bytes s place begun =
 open_done : (bytes : List ℕ) (ended : Bool) (m : Message) (place : ℕ) (complete receiving still : Bool) → next_start m.body ≡ None
     → m.body_start ≤ place
     → ((section : List ℕ) → pass_rest ended (chunks_rest (after start (take (place - m.body_start) (drop m.body_start bytes))) section)
-      (drop (place - m.body_start) (drop m.body_start bytes)) ≡ left (chunks_rest (after start (drop m.body_start bytes)) []) [])
+    (drop (place - m.body_start) (drop m.body_start bytes)) ≡ left (chunks_rest (after start (drop m.body_start bytes)) []) [])
     → pass_rest ended (rest_by place bytes complete None receiving m chunked_body) (drop place bytes)
-      ≡ left_at bytes chunked_body m still (end_of (length bytes) m.body)
+    ≡ left_at bytes chunked_body m still (end_of (length bytes) m.body)
 open_done bytes ended m place complete receiving still next begun passes =
     let s = m.body_start in
     let len = length bytes in
@@ -205,7 +205,7 @@ open_done bytes ended m place complete receiving still next begun passes =
     let rest = cond-false (is_passed place m) no_rest (chunks_rest (after start front) section) (passed_none place m next) in
     let all : slice_range bytes s len ≡ drop s bytes = take_all (len - s) (drop s bytes) (omega (arith, length-drop s bytes)) in
     let now = cond-false (is_passed len m) no_rest (chunks_rest (after start (slice_range bytes s len)) []) (passed_none len m next)
-        ∙ ap (λ l. chunks_rest (after start l) []) all in
+    ∙ ap (λ l. chunks_rest (after start l) []) all in
     ap (λ r. pass_rest ended r (drop place bytes)) rest
     ∙ ap (pass_rest ended (chunks_rest (after start front) section)) (sym (from_place bytes s place begun))
     ∙ passes section ∙ (λ i. left (sym now i) (sym (drop_all len bytes (omega arith)) i))
@@ -217,7 +217,7 @@ chunks_done : (bytes : List ℕ) (ended : Bool) (size : ℕ) (m : Message) (plac
     → m.body ≡ content (shifted m.body_start runs) (chunked_stop (input bytes None ended size) m.body_start a)
     → Reaches bytes ended size chunked_body m place
     → pass_rest ended (rest_by place bytes complete None receiving m chunked_body) (drop place bytes)
-      ≡ left_at bytes chunked_body m still (end_of (length bytes) m.body)
+    ≡ left_at bytes chunked_body m still (end_of (length bytes) m.body)
 chunks_done bytes ended size m place complete receiving still (whole k trailers) runs x is r =
     let s = m.body_start in
     let len = length bytes in
@@ -260,7 +260,7 @@ chunks_done bytes ended size m place complete receiving still not_chunked runs x
 pub body_done : (bytes : List ℕ) (ended : Bool) (size : ℕ) (kind : BodyKind) (m : Message) (place : ℕ) (complete receiving still : Bool)
     → Reaches bytes ended size kind m place
     → pass_rest ended (rest_by place bytes complete None receiving m kind) (drop place bytes)
-      ≡ record { rest = rest_by (end_of (length bytes) m.body) bytes true None still m kind; unread = drop (end_of (length bytes) m.body) bytes }
+    ≡ record { rest = rest_by (end_of (length bytes) m.body) bytes true None still m kind; unread = drop (end_of (length bytes) m.body) bytes }
 body_done bytes ended size no_body m place complete receiving still r =
     let s = m.body_start in
     let next : next_start m.body ≡ Some s = ap next_start r.body in
@@ -281,14 +281,14 @@ pub passing_of : (setting : Setting) (past : List ParsedStep) (m : Message) (h :
     → is_complete (steps past) ≡ true → accepted (steps past) ≡ None
     → m.body_start ≤ place → place ≤ length (taken (steps past)) → ((next : ℕ) → next_start m.body ≡ Some next → place ≤ next)
     → pass_rest (has_ended (steps past)) (rest_by place (taken (steps past)) complete None receiving m h.body) (drop place (taken (steps past)))
-      ≡ record { rest = rest_of past m h.body; unread = drop (passed past) (taken (steps past)) }
+    ≡ record { rest = rest_of past m h.body; unread = drop (passed past) (taken (steps past)) }
 passing_of setting past m h place complete receiving c is_done plain begun within before_next =
     let t = steps past in
     let body = subst (λ o. IsBodyOf (record { bytes = taken t; upgraded = o; ended = has_ended t; hold_size = setting.hold_size }) h.body m.body_start m.body) plain c.body in
     let reaches : Reaches (taken t) (has_ended t) setting.hold_size h.body m place =
-        record { body = body; begun = begun; within = within; before_next = before_next } in
+    record { body = body; begun = begun; within = within; before_next = before_next } in
     let at : passed past ≡ end_of (length (taken t)) m.body = c.passed_is ∙ passed_complete past m is_done in
     let rest : rest_of past m h.body ≡ rest_by (end_of (length (taken t)) m.body) (taken t) true None (is_receiving t) m h.body =
-        rest_parts past m h.body ∙ (λ i. rest_by (at i) (taken t) (is_done i) (plain i) (is_receiving t) m h.body) in
+    rest_parts past m h.body ∙ (λ i. rest_by (at i) (taken t) (is_done i) (plain i) (is_receiving t) m h.body) in
     body_done (taken t) (has_ended t) setting.hold_size h.body m place complete receiving (is_receiving t) reaches
     ∙ (λ i. record { rest = sym rest i; unread = drop (sym at i) (taken t) })

@@ -1,25 +1,23 @@
 -- The last message that was handed out, behind a legal past: its head, its body, and how much of it is passed.
-use Rattle.std.proofs.Common.{◌≡◌, ℕ, zero, suc, ◌≤◌, true, false, List, [], ◌∷◌, ◌++◌, length, Option, Some, None, refl, sym, ap, ◌∙◌, subst, inl, inr, arith, append-nil}
-use Rattle.std.specs.Prelude.{◌⊎◌, ◌||◌, ◌&&◌, not, is_some, is_none, slice_get}
-use Rattle.std.proofs.lemmas.Bool.{true≢false, and_parts, not-true}
+use Rattle.std.proofs.Common.{◌≡◌, ℕ, zero, suc, ◌≤◌, false, List, [], ◌∷◌, ◌++◌, length, Option, Some, None, refl, sym, ap, ◌∙◌, subst, inl, inr, arith}
+use Rattle.std.specs.Prelude.{◌⊎◌, slice_get}
 use Rattle.std.proofs.lemmas.Option.{none-some, same_Some}
 use Rattle.std.specs.Option.{option_or}
 use Rattle.h1_model.specs.Request.{Head, head_is}
 use Rattle.h1_model.specs.Setting.{Setting}
-use Rattle.h1_model.specs.Parse.{Input, Message, IsBodyOf, IsBodyAfter, IsParse}
-use Rattle.h1_model.specs.Sums.{Step, step_taken, taken, is_eof, has_ended, accepted_limit, accepted, head_of, request, answered, is_open, is_upgraded}
+use Rattle.h1_model.specs.Parse.{Message, IsBodyOf, IsBodyAfter}
+use Rattle.h1_model.specs.Sums.{Step, step_taken, taken, is_eof, has_ended, accepted_limit, accepted, head_of, request}
 use Rattle.h1_model.specs.Past.{ParsedStep, steps, input_of, parse_of, head_count, current, passed, message_passed}
-use Rattle.h1_model.specs.Allowed.{is_unanswered}
 use Rattle.h1_model.proofs.PastLemmas.{Legal}
-use Rattle.h1_model.proofs.BodyLemmas.{input}
 use Rattle.h1_model.proofs.MessageGrowth.{parse_grows}
 use Rattle.h1_model.proofs.BodySteps.{Lies}
 use Rattle.h1_model.proofs.StepLemmas.{taken-cons, accepted-cons, head_count-more, head_count-head, Accepts, Begins, quiet, reads, stops, accepts, begins, pulls, step_case, parsed, same_input, same_parse}
-use Rattle.h1_model.proofs.TraceGrowth.{message_at, grown_at, accepted_at, current_at, current_none}
+use Rattle.h1_model.proofs.TraceGrowth.{message_at, grown_at, current_at, current_none}
 use Rattle.h1_model.proofs.PulledLemmas.{Holds}
 use Rattle.h1_model.proofs.CarriedLemmas.{passed_none, passed_some}
-use Rattle.h1_model.proofs.HeldSteps.{pull_no_head}
-use Rattle.h1_model.proofs.HeldLemmas.{bounded}
+use Rattle.h1_model.proofs.HeldSteps.{headless_or_begins}
+use Rattle.h1_model.proofs.HeldLemmas.{accepted_message, bounded}
+use Rattle.h1_machine.proofs.StepSums.{request-cons, request-more}
 
 -- the current message and its head
 pub record Current (setting : Setting) (past : List ParsedStep) (m : Message) (h : Head) : Type 0 where
@@ -39,17 +37,6 @@ pub record NoCurrent (past : List ParsedStep) : Type 0 where
   pub current_is : current past ≡ None
   pub request_is : request (steps past) ≡ None
   pub passed_is : passed past ≡ 0
-
--- ---- a WebSocket
-
--- what waits for its answer is no WebSocket yet
-pub plain_of : (trace : List Step) → is_unanswered trace ≡ true → accepted trace ≡ None
-plain_of trace x =
-    go (accepted trace) (not-true (is_upgraded trace) (and_parts (is_open trace && is_none (answered trace)) (not (is_upgraded trace)) x).1)
-  where
-    go : (o : Option ℕ) → is_some o ≡ false → o ≡ None
-    go None e = refl
-    go (Some limit) e = absurd (true≢false e)
 
 -- ---- a message in the longer past
 
@@ -83,21 +70,11 @@ grown_carried setting before x k m more l bytes upgraded unended e =
     record { message = n.0; at = n.1; reading = n.2.reading; body_start = n.2.body_start }
 
 -- where a WebSocket is accepted
-accepted_carried : (setting : Setting) (before : List ParsedStep) (x : ParsedStep) (k : ℕ) (m : Message) → Accepts before x.step → Legal setting (x ∷ before)
+accepted_carried : (setting : Setting) (before : List ParsedStep) (x : ParsedStep) (k : ℕ) (m : Message) → Accepts before x.step
+    → Legal setting (x ∷ before)
     → slice_get (parse_of before) k ≡ Some m → Carried x k m
 accepted_carried setting before x k m a l e =
-    let t = steps before in
-    let size = setting.hold_size in
-    let j = input_of setting (x.step ∷ t) in
-    let none : step_taken x.step.event x.step.outcome ≡ [] = ap (λ e. step_taken e x.step.outcome) a.event in
-    let bytes : taken (x.step ∷ t) ≡ taken t = taken-cons x.step t ∙ ap (λ b. taken t ++ b) none ∙ append-nil (taken t) in
-    let now_upgraded : j.upgraded ≡ Some a.limit =
-    accepted-cons x.step t ∙ (λ i. option_or (accepted_limit (a.event i) (a.outcome i)) (accepted t)) in
-    let ended : j.ended ≡ has_ended t = ap (λ e. is_eof e || has_ended t) a.event in
-    let was = subst (λ u. IsParse (input (taken t) u (has_ended t) size) (parse_of before)) (plain_of t a.unanswered) (parsed setting before l.3) in
-    let is : j ≡ input (taken t) (Some a.limit) (has_ended t) size = λ i. input (bytes i) (now_upgraded i) (ended i) size in
-    let now = subst (λ (k : Input). IsParse k x.parse) is l.0 in
-    let n = accepted_at (taken t) a.limit (has_ended t) size 0 (parse_of before) x.parse k m was now e in
+    let n = accepted_message setting before x k m a l.0 (parsed setting before l.3) e in
     record { message = n.0; at = n.1; reading = n.2.reading; body_start = n.2.body_start }
 
 -- Behind each step a message that was parsed stands in its place.
@@ -123,15 +100,6 @@ carried setting before x k m l e =
     ]
 
 -- ---- the last request
-
--- the last request, of one more step
-pub request-cons : (s : Step) (before : List Step) → request (s ∷ before) ≡ option_or (head_of s.outcome) (request before)
-unfolding request
-request-cons s before = refl
-
--- behind a step that hands out no head
-pub request-more : (s : Step) (before : List Step) → head_of s.outcome ≡ None → request (s ∷ before) ≡ request before
-request-more s before none = request-cons s before ∙ ap (λ o. option_or o (request before)) none
 
 -- where no head was handed out there is none
 no_request : (trace : List Step) → head_count trace ≡ 0 → request trace ≡ None
@@ -170,13 +138,9 @@ last_read : (setting : Setting) (past : List ParsedStep) (k : ℕ) → Legal set
 last_read setting [] k l e = absurd (omega arith)
 last_read setting (x ∷ before) k l e =
     let old = last_read setting before k l.3 in
-    elim (step_case setting before x.step.event x.step.outcome l.1 l.2) [
-      | quiet q ↦ idle_read setting before x k l q.head e old
-      | reads r ↦ idle_read setting before x k l (ap head_of r.outcome) e old
-      | stops r ↦ idle_read setting before x k l (ap head_of r.outcome) e old
-      | accepts a ↦ idle_read setting before x k l (ap head_of a.outcome) e old
-      | begins b ↦ begun_read setting before x k l b e
-      | pulls p ↦ idle_read setting before x k l (ap head_of p.outcome ∙ pull_no_head (steps before) (current before)) e old
+    elim (headless_or_begins setting before x l) [
+      | inl none ↦ idle_read setting before x k l none e old
+      | inr b ↦ begun_read setting before x k l b e
     ]
 
 -- ---- all of it

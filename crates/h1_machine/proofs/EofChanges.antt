@@ -1,6 +1,6 @@
 -- The end of the input: a raw body of which no byte is left has ended, and the body of a request whose answer is complete
 -- is passed.
-use Rattle.std.proofs.Common.{◌≡◌, ℕ, Bool, true, false, List, [], ◌∷◌, drop, Some, None, refl, sym, ap, ◌∙◌, subst, inl, inr, append-nil}
+use Rattle.std.proofs.Common.{◌≡◌, ℕ, Bool, true, false, List, [], ◌∷◌, drop, Some, None, refl, sym, ap, ◌∙◌, inl, inr, append-nil}
 use Rattle.std.specs.Prelude.{is_some}
 use Rattle.std.proofs.lemmas.Bool.{not-true}
 use Rattle.h1_model.specs.Request.{Head}
@@ -24,8 +24,9 @@ use Rattle.h1_machine.proofs.Orderly.{orderly}
 use Rattle.h1_machine.proofs.Frames.{raw_head}
 use Rattle.h1_machine.proofs.StepSums.{buffered-more}
 use Rattle.h1_machine.proofs.PassedBodies.{left_at, left_ends}
-use Rattle.h1_machine.proofs.PlainSteps.{IsPlain}
-use Rattle.h1_machine.proofs.Arrivals.{Adds, Grows, IsLeft, left_before, framed_left, grows_of, passing-none, passing_grown, parts-none, parts-some}
+use Rattle.h1_machine.proofs.CalmSteps.{eof_aside}
+use Rattle.h1_machine.proofs.Arrivals.{Adds, IsPlain, Grows, IsLeft, left_before, framed_left, grows_of, passing-none, passing_grown, parts-none, parts-some}
+use Rattle.h1_machine.proofs.StepForms.{at_step}
 
 -- the step that ends the input
 abbrev eof_step : Step
@@ -46,24 +47,7 @@ eof_adds before unended = record {
 -- and is of the input alone
 eof_plain : (setting : Setting) (before : List ParsedStep) → Legal setting before → IsPlain setting before eof_step
 unfolding step_text
-eof_plain setting before l = record {
-  head = refl;
-  tells = refl;
-  over = refl;
-  answer = refl;
-  completes = refl;
-  chunk = refl;
-  pull = refl;
-  drop = refl;
-  go_on = refl;
-  drain = refl;
-  body_end = refl;
-  body_error = refl;
-  done = refl;
-  tick = refl;
-  sends = refl;
-  buffers = buffered-more setting eof_step before l refl ∙ append-nil _;
-}
+eof_plain setting before l = record { aside = eof_aside; tells = refl; over = refl; buffers = buffered-more setting eof_step before l refl ∙ append-nil _ }
 
 -- the bytes stay
 same_bytes : (before : List ParsedStep) → Adds before eof_step [] → taken (eof_step ∷ steps before) ≡ taken (steps before)
@@ -132,23 +116,12 @@ ending setting before parse l =
           }
     ]
 
--- with its outcome
-ends : (setting : Setting) (before : List ParsedStep) (parse : List Message) (o : Outcome)
-    → Legal setting (record { step = record { event = on.eof; outcome = o }; parse = parse } ∷ before)
-    → Changes setting before (record { step = record { event = on.eof; outcome = o }; parse = parse })
+-- its outcome
+eof_done : (setting : Setting) (before : List ParsedStep) → outcome_of setting before on.eof ≡ on.done
 unfolding outcome_of
-ends setting before parse o l =
-    let outcome : o ≡ on.done = l.2 in
-    let step : Outcome → ParsedStep = λ p. record { step = record { event = on.eof; outcome = p }; parse = parse } in
-    let by : Outcome → Type 0 = λ p. Legal setting (step p ∷ before) → Changes setting before (step p) in
-    let there : by on.done = ending setting before parse in
-    subst by (sym outcome) there l
+eof_done setting before = refl
 
 -- The end of the input changes what is kept as the longer past has it.
 pub eof_changes : (setting : Setting) (before : List ParsedStep) (x : ParsedStep) → Legal setting (x ∷ before) → x.step.event ≡ on.eof
     → Changes setting before x
-eof_changes setting before x l e =
-    let step : Event → ParsedStep = λ event. record { step = record { event = event; outcome = x.step.outcome }; parse = x.parse } in
-    let by : Event → Type 0 = λ event. Legal setting (step event ∷ before) → Changes setting before (step event) in
-    let there : by on.eof = ends setting before x.parse x.step.outcome in
-    subst by (sym e) there l
+eof_changes setting before x l e = at_step setting before x on.eof on.done l e (eof_done setting before) (ending setting before)

@@ -10,7 +10,7 @@ use Rattle.h1_model.specs.Parse.{Message}
 use Rattle.h1_model.specs.Event as on
 use Rattle.h1_model.specs.Sums.{Step, request, Answered, answered as answer_of, is_answering, is_complete, is_upgraded, was_told_to_go_on, answer_len}
 use Rattle.h1_model.specs.Past.{ParsedStep, steps}
-use Rattle.h1_model.specs.Text.{chunk_sent, step_text, buffered}
+use Rattle.h1_model.specs.Text.{chunk_sent, step_text}
 use Rattle.h1_model.specs.Allowed.{has_body_left, is_unanswered, expects_go_on, has_room}
 use Rattle.h1_model.specs.OutcomeTable.{outcome_of}
 use Rattle.h1_model.proofs.PastLemmas.{Legal}
@@ -104,7 +104,7 @@ go_on_made setting before parse l = elim (current_of setting before l.3) [
       let rest = rest-quiet setting x before m h.body l q refl in
       let reply = reply-stays setting x before h q refl refl refl in
       let exchange = exchange-quiet setting x before m h l q c
-          ∙ (λ i. Some (record old { rest = rest i; reply = reply i; was_told_to_go_on = true })) in
+      ∙ (λ i. Some (record old { rest = rest i; reply = reply i; was_told_to_go_on = true })) in
       record {
         change = doing_with act (with_exchange k (Some old));
         changes = ap (doing_with act) (sym (kept_current setting before m h c));
@@ -145,16 +145,17 @@ with_reply setting past m h a missing =
 -- as it is kept
 pub reply-sending : (setting : Setting) (trace : List Step) (h : Head) (a : Answered) → answer_of trace ≡ Some a → is_complete trace ≡ false
     → reply_of setting trace h (answer_of trace)
-      ≡ sending (shape_by h a) (type_of setting a.drained (asked_of h) a.head a.size) (stated (shape_by h a) - answer_len trace)
+    ≡ sending (shape_by h a) (type_of setting a.drained (asked_of h) a.head a.size) (stated (shape_by h a) - answer_len trace)
 reply-sending setting trace h a e incomplete =
     ap (reply_of setting trace h) e
     ∙ cond-false (is_complete trace) (answered (type_of setting a.drained (asked_of h) a.head a.size))
-      (sending (shape_by h a) (type_of setting a.drained (asked_of h) a.head a.size) (stated (shape_by h a) - answer_len trace)) incomplete
+    (sending (shape_by h a) (type_of setting a.drained (asked_of h) a.head a.size) (stated (shape_by h a) - answer_len trace)) incomplete
 
 -- the state with such a request
 pub kept_sending : (setting : Setting) (past : List ParsedStep) (m : Message) (h : Head) (a : Answered) → Current setting past m h
     → answer_of (steps past) ≡ Some a → is_complete (steps past) ≡ false
-    → kept_of setting past ≡ with_exchange (kept_of setting past) (Some (with_reply setting past m h a (stated (shape_by h a) - answer_len (steps past))))
+    → kept_of setting past
+    ≡ with_exchange (kept_of setting past) (Some (with_reply setting past m h a (stated (shape_by h a) - answer_len (steps past))))
 kept_sending setting past m h a c e incomplete =
     let reply = reply-sending setting (steps past) h a e incomplete in
     kept_current setting past m h c ∙ (λ i. with_exchange (kept_of setting past) (Some (record (exchange_with setting past m h) { reply = reply i })))
@@ -209,8 +210,8 @@ chunk_made setting before bytes parse l =
           let request_is = c.request_is in
           let answer_is = out.0.1 in
           let sent : step_text setting t (on.chunk bytes) on.done ≡ piece_sent (asked_of h) shape missing bytes =
-              chunk_text_is setting t bytes ∙ (λ i. chunk_sent (answer_len t) bytes (request_is i) (answer_is i))
-                  ∙ piece_same (asked_of h) shape (answer_len t) bytes in
+          chunk_text_is setting t bytes ∙ (λ i. chunk_sent (answer_len t) bytes (request_is i) (answer_is i))
+          ∙ piece_same (asked_of h) shape (answer_len t) bytes in
           record {
             change = doing_with (sending_piece bytes) (with_exchange k (Some old));
             changes = ap (doing_with (sending_piece bytes)) (sym (kept_sending setting before m h a c out.0.1 out.1));

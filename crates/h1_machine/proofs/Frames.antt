@@ -39,7 +39,8 @@ going-append (suc k) [] rest u fits = absurd (omega arith)
 going-append (suc k) (f ∷ fs) rest u fits = going-append k fs rest (is_under_way u f.frame) (omega arith)
 
 -- behind one more frame
-pub going-more : (k : ℕ) (fs : List PlacedFrame) (f : PlacedFrame) (u : Bool) → slice_get fs k ≡ Some f → going (suc k) fs u ≡ is_under_way (going k fs u) f.frame
+pub going-more : (k : ℕ) (fs : List PlacedFrame) (f : PlacedFrame) (u : Bool) → slice_get fs k ≡ Some f
+    → going (suc k) fs u ≡ is_under_way (going k fs u) f.frame
 unfolding going
 going-more k [] f u e = absurd (none-some f e)
 going-more zero (g ∷ fs) f u e = ap (λ (h : PlacedFrame). is_under_way u h.frame) (same_Some g f e)
@@ -101,7 +102,8 @@ framed setting past m h limit l c up =
 -- ---- the current message, of one more step
 
 -- it keeps its reading and its place
-pub current_carried : (setting : Setting) (before : List ParsedStep) (x : ParsedStep) (m n : Message) → Legal setting (x ∷ before) → head_of x.step.outcome ≡ None
+pub current_carried : (setting : Setting) (before : List ParsedStep) (x : ParsedStep) (m n : Message) → Legal setting (x ∷ before)
+    → head_of x.step.outcome ≡ None
     → current before ≡ Some m → current (x ∷ before) ≡ Some n → (m.reading ≡ n.reading) × (m.body_start ≡ n.body_start)
 current_carried setting before x m n l none e f = go (head_count (steps before)) refl
   where
@@ -114,7 +116,8 @@ current_carried setting before x m n l none e f = go (head_count (steps before))
         (c.reading ∙ ap (λ (p : Message). p.reading) same, c.body_start ∙ ap (λ (p : Message). p.body_start) same)
 
 -- it is there still
-pub current_stays : (setting : Setting) (before : List ParsedStep) (x : ParsedStep) (m : Message) → Legal setting (x ∷ before) → head_of x.step.outcome ≡ None
+pub current_stays : (setting : Setting) (before : List ParsedStep) (x : ParsedStep) (m : Message) → Legal setting (x ∷ before)
+    → head_of x.step.outcome ≡ None
     → current before ≡ Some m → (n : Message) × (current (x ∷ before) ≡ Some n)
 current_stays setting before x m l none e = go (head_count (steps before)) refl
   where
@@ -126,7 +129,8 @@ current_stays setting before x m l none e = go (head_count (steps before)) refl
 
 -- its frames come first
 pub frames_stay : (setting : Setting) (before : List ParsedStep) (x : ParsedStep) (m n : Message) (limit : ℕ) → m.body_start ≡ n.body_start
-    → IsFramed setting before m limit → IsFramed setting (x ∷ before) n limit → (rest : List PlacedFrame) × (frames_of n.body ≡ frames_of m.body ++ rest)
+    → IsFramed setting before m limit → IsFramed setting (x ∷ before) n limit
+    → (rest : List PlacedFrame) × (frames_of n.body ≡ frames_of m.body ++ rest)
 frames_stay setting before x m n limit start a b =
     let now = subst₂ (λ t p. ReadsFrames (connection_reader limit) false p t b.placed b.fail) (taken-cons x.step (steps before)) (sym start) b.reads in
     let both = frames_begin (connection_reader limit) false m.body_start (taken (steps before)) (step_taken x.step.event x.step.outcome) a.placed b.placed a.fail b.fail a.reads now in

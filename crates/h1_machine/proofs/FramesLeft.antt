@@ -172,6 +172,7 @@ front_partial reader u place bytes k placed fail x =
       | inl some ↦ go (drop k placed) x (omega (arith, length-drop k placed)) ∙ sym (ap (λ b. not (b || is_some fail)) (lt-ltb k (length placed) some))
     ]
   where
-    go : (fs : List PlacedFrame) → ReadsFrames reader u place bytes fs fail → 1 ≤ length fs → is_partial (front_frame reader u (drop place bytes)) ≡ false
+    go : (fs : List PlacedFrame) → ReadsFrames reader u place bytes fs fail → 1 ≤ length fs
+        → is_partial (front_frame reader u (drop place bytes)) ≡ false
     go [] y long = absurd (omega arith)
     go (f ∷ fs) y long = ap is_partial y.1

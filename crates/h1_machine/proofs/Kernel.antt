@@ -36,7 +36,8 @@ coming_of setting past l = coming_same setting past l
 -- ---- a step
 
 -- why a connection closes doesn't depend on since when
-closing_bare : (setting : Setting) (k : Kept) (since : Option (Option ℕ)) → closing_by setting (record k { closing_since = since }) ≡ closing_by setting k
+closing_bare : (setting : Setting) (k : Kept) (since : Option (Option ℕ))
+    → closing_by setting (record k { closing_since = since }) ≡ closing_by setting k
 unfolding closing_by
 closing_bare setting k since = refl
 

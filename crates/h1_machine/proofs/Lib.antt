@@ -23,7 +23,6 @@ pub mod PassedStart
 pub mod CompleteParts
 pub mod AnswerChanges
 pub mod PassedBodies
-pub mod PlainSteps
 pub mod Arrivals
 pub mod BodyEndChanges
 pub mod ChunkStops

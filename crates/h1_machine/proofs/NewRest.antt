@@ -111,7 +111,8 @@ none_read bytes a =
 
 -- a raw body is passed at once where no byte is there and none comes
 raw_new : (bytes : List ℕ) (ended : Bool) (m : Message) (u : List ℕ) → u ≡ drop m.body_start bytes
-    → (if is_passed m.body_start (record m { body = raw_content (input bytes None ended 0) m.body_start }) then no_rest else raw_rest) ≡ rest_in ended u raw_rest
+    → (if is_passed m.body_start (record m { body = raw_content (input bytes None ended 0) m.body_start }) then no_rest else raw_rest)
+    ≡ rest_in ended u raw_rest
 raw_new bytes true m [] e =
     cond-true _ _ _ (le-leb (length bytes) m.body_start (omega (arith, ap length e, length-drop m.body_start bytes)))
 raw_new bytes true m (b ∷ u) e =

@@ -29,6 +29,7 @@ use Rattle.h1_machine.proofs.QuietParts.{passed-quiet}
 use Rattle.h1_machine.proofs.CalmSteps.{calm_next, taken-calm, calm_parts}
 use Rattle.h1_machine.proofs.StillSteps.{IsStill, still_quiet, exchange_still}
 use Rattle.h1_machine.proofs.NextHeads.{next_at, head_changes}
+use Rattle.h1_machine.proofs.StepForms.{at_event}
 
 -- a call for the next head, with its outcome
 abbrev next_of : Outcome → List Message → ParsedStep
@@ -49,21 +50,21 @@ record IsMild (o : Outcome) : Type 0 where
 -- that the connection closes
 mild_closed : (end : End) → IsMild (on.closed end)
 mild_closed end = record {
-  still = record { calm = calm_next; pull = refl; accepts = refl; head = refl; bytes = refl; frames = refl; done = refl };
+  still = record { calm = calm_next; pull = refl; accepts = refl; head = refl; bytes = refl; frames = refl };
   written = refl;
 }
 
 -- a fault
 mild_fault : (f : Fault) → IsMild (on.fault f)
 mild_fault f = record {
-  still = record { calm = calm_next; pull = refl; accepts = refl; head = refl; bytes = refl; frames = refl; done = refl };
+  still = record { calm = calm_next; pull = refl; accepts = refl; head = refl; bytes = refl; frames = refl };
   written = refl;
 }
 
 -- and that nothing is there yet
 mild_pending : IsMild on.pending
 mild_pending = record {
-  still = record { calm = calm_next; pull = refl; accepts = refl; head = refl; bytes = refl; frames = refl; done = refl };
+  still = record { calm = calm_next; pull = refl; accepts = refl; head = refl; bytes = refl; frames = refl };
   written = refl;
 }
 
@@ -233,7 +234,4 @@ next_of_changes setting before o parse l =
 -- the next request is asked for
 pub next_changes : (setting : Setting) (before : List ParsedStep) (x : ParsedStep) → Legal setting (x ∷ before) → x.step.event ≡ on.next
     → Changes setting before x
-next_changes setting before x l e =
-    let of : Event → ParsedStep = λ v. record { step = record { event = v; outcome = x.step.outcome }; parse = x.parse } in
-    let P : Event → Type 0 = λ v. Legal setting (of v ∷ before) → Changes setting before (of v) in
-    subst P (sym e) (next_of_changes setting before x.step.outcome x.parse) l
+next_changes setting before x l e = at_event setting before x on.next l e (next_of_changes setting before)

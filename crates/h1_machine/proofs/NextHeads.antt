@@ -1,5 +1,5 @@
 -- A head is handed out.
-use Rattle.std.proofs.Common.{◌≡◌, ℕ, zero, suc, ◌+◌, Bool, true, false, List, [], ◌∷◌, ◌++◌, length, drop, slice_range, Option, Some, None, refl, sym, ap, ◌∙◌, subst, inl, inr, arith, append-nil}
+use Rattle.std.proofs.Common.{◌≡◌, ℕ, ◌+◌, Bool, true, false, List, [], ◌∷◌, ◌++◌, length, drop, slice_range, Option, Some, None, refl, sym, ap, ◌∙◌, subst, inl, inr, append-nil}
 use Rattle.std.specs.Prelude.{◌&&◌, ◌||◌, not, is_some, unwrap_or, slice_get}
 use Rattle.std.specs.List.{list_any}
 use Rattle.std.specs.Option.{option_or}
@@ -9,7 +9,7 @@ use Rattle.std.proofs.lemmas.List.{drop-drop}
 use Rattle.h1_model.specs.Request.{Head, head_is}
 use Rattle.h1_model.specs.RequestHead.{IsReadingWithin}
 use Rattle.h1_model.specs.Setting.{Setting}
-use Rattle.h1_model.specs.Parse.{Input, Message, next_start, IsBodyOf, IsBodyAfter, IsMessageAt, AreMessages}
+use Rattle.h1_model.specs.Parse.{Input, Message, next_start, IsBodyOf, IsBodyAfter, IsMessageAt}
 use Rattle.h1_model.specs.End as ends
 use Rattle.h1_model.specs.Event as on
 use Rattle.h1_model.specs.Sums.{Step, taken, is_body_end, is_body_error, request, answered, is_complete, is_open, is_upgraded, accepted, is_receiving, is_pull, is_drop, is_go_on, has_ended, answer_len}
@@ -19,7 +19,7 @@ use Rattle.h1_model.specs.Closing.{end_where, told, is_short, body_end_of, closi
 use Rattle.h1_model.proofs.BodyLemmas.{input}
 use Rattle.h1_model.proofs.PastLemmas.{Legal}
 use Rattle.h1_model.proofs.StepLemmas.{accepted-cons, since_head-head, head_count-head, complete-head, parsed}
-use Rattle.h1_model.proofs.TraceGrowth.{current_at}
+use Rattle.h1_model.proofs.TraceGrowth.{ComesAt, first_comes, ComesBehind, current_at}
 use Rattle.h1_model.proofs.PulledLemmas.{pulled_to-head}
 use Rattle.h1_model.proofs.CarriedLemmas.{passed_some, passed_complete, passed_pulled}
 use Rattle.h1_machine.specs.Kept.{unanswered, whole_rest, rest_in, new_exchange}
@@ -28,59 +28,43 @@ use Rattle.h1_machine.specs.Kept.{Change}
 use Rattle.h1_machine.specs.Change.{behind_head, IsUpcoming, IsNext}
 use Rattle.h1_machine.specs.KeptOf.{rest_of, reply_of, tells_done, exchange_with, exchange_of, kept_of}
 use Rattle.h1_machine.proofs.Changes.{bare, Changes}
-use Rattle.h1_machine.proofs.Current.{current_of, request-cons}
+use Rattle.h1_machine.proofs.Current.{current_of}
 use Rattle.h1_machine.proofs.Orderly.{orderly, waits_open}
-use Rattle.h1_machine.proofs.Coming.{ComesAt, next_comes, none_comes}
-use Rattle.h1_machine.proofs.StepSums.{told-cons, answered-head, buffered-more}
+use Rattle.h1_machine.proofs.Coming.{behind_current}
+use Rattle.h1_machine.proofs.StepSums.{told-cons, answered-head, buffered-more, request-cons}
 use Rattle.h1_machine.proofs.QuietParts.{rest_by, rest_parts}
-use Rattle.h1_machine.proofs.CalmSteps.{calm_next, taken-calm, clock-calm, sending-calm, parse-calm}
+use Rattle.h1_machine.proofs.StepForms.{both_none, untold}
+use Rattle.h1_machine.proofs.CalmSteps.{calm_next, taken-calm, clock-aside, sending-aside, parse-calm}
 use Rattle.h1_machine.proofs.NewRest.{read_some, new_rest}
 
 -- ---- the message that is to come
 
--- the first message from a place on
-first_at : (i : Input) (place : ℕ) (ms : List Message) (m : Message) → AreMessages i place ms → slice_get ms 0 ≡ Some m → IsMessageAt i place m
-first_at i place [] m x e = absurd (none-some m e)
-first_at i place (q ∷ ms) m x e = let same : q ≡ m = cc in subst (IsMessageAt i place) same x.0
-
--- behind a message that has ended
-behind_at : (i : Input) (ms : List Message) (k : ℕ) (q m : Message) (len : ℕ) (o : Option ℕ) → AreMessages i 0 ms → slice_get ms k ≡ Some q
-    → slice_get ms (suc k) ≡ Some m → next_start q.body ≡ o → IsMessageAt i (unwrap_or o len) m
-behind_at i ms k q m len None x e f none = absurd (none-some m (sym (none_comes i 0 ms k q x e none) ∙ f))
-behind_at i ms k q m len (Some place) x e f next = subst (ComesAt i place) f (next_comes i 0 ms k q place x e next)
-
 -- where no request is open, it begins at the place that is passed
 pub next_at : (setting : Setting) (past : List ParsedStep) (m : Message) → Legal setting past → is_open (steps past) ≡ false → upcoming past ≡ Some m
     → IsMessageAt (input_of setting (steps past)) (passed past) m
-next_at setting past m l shut e = go (head_count (steps past)) refl
+next_at setting past m l shut e =
+    let t = steps past in
+    elim (current_of setting past l) [
+      | inl n ↦
+          let first = ap (slice_get (parse_of past)) (sym n.count) ∙ e in
+          subst (λ p. IsMessageAt i p m) (sym n.passed_is) (subst (ComesAt i 0) first (first_comes i 0 (parse_of past) (parsed setting past l)))
+      | inr (q, h, c) ↦
+          let open_not = sym (ap (λ b. b && (is_upgraded t || not (is_complete t))) (ap is_some c.request_is)) ∙ shut in
+          let complete = shut_complete (is_complete t) (or_parts (is_upgraded t) (not (is_complete t)) open_not).1 in
+          let place = c.passed_is ∙ passed_complete past q complete in
+          subst (λ p. IsMessageAt i p m) (sym place) (behind_at (next_start q.body) (behind_current setting past q l c.current_is))
+    ]
   where
     i : Input
     i = input_of setting (steps past)
 
-    go : (count : ℕ) → head_count (steps past) ≡ count → IsMessageAt i (passed past) m
-    go zero count = elim (current_of setting past l) [
-      | inl n ↦ subst (λ p. IsMessageAt i p m) (sym n.passed_is)
-          (first_at i 0 (parse_of past) m (parsed setting past l) (ap (slice_get (parse_of past)) (sym count) ∙ e))
-      | inr (q, h, c) ↦ absurd (none-some q (sym (none_yet count) ∙ c.current_is))
-    ]
-      where
-        none_yet : head_count (steps past) ≡ 0 → current past ≡ None
-        none_yet f = rw f refl
-    go (suc k) count = elim (current_of setting past l) [
-      | inl n ↦ absurd (omega (arith, n.count))
-      | inr (q, h, c) ↦
-          let t = steps past in
-          let open_not = sym (ap (λ b. b && (is_upgraded t || not (is_complete t))) (ap is_some c.request_is)) ∙ shut in
-          let complete = shut_complete (is_complete t) (or_parts (is_upgraded t) (not (is_complete t)) open_not).1 in
-          let place = c.passed_is ∙ passed_complete past q complete in
-          subst (λ p. IsMessageAt i p m) (sym place)
-          (behind_at i (parse_of past) k q m (length (taken t)) (next_start q.body) (parsed setting past l) (sym (current_at past k count) ∙ c.current_is)
-          (ap (slice_get (parse_of past)) (sym count) ∙ e) refl)
-    ]
-      where
-        shut_complete : (b : Bool) → not b ≡ false → b ≡ true
-        shut_complete true f = refl
-        shut_complete false f = absurd (true≢false f)
+    behind_at : (o : Option ℕ) → ComesBehind i o (upcoming past) → IsMessageAt i (unwrap_or o (length (taken (steps past)))) m
+    behind_at None x = absurd (none-some m (sym x ∙ e))
+    behind_at (Some place) x = subst (ComesAt i place) e x
+
+    shut_complete : (b : Bool) → not b ≡ false → b ≡ true
+    shut_complete true f = refl
+    shut_complete false f = absurd (true≢false f)
 
 -- ---- what a head changes
 
@@ -127,7 +111,8 @@ head_plain setting before parse m h w = go (accepted (steps before)) refl
 
 -- what is left of its body
 head_rest : (setting : Setting) (before : List ParsedStep) (parse : List Message) (m : Message) (h : Head) → Heads setting before parse m h
-    → rest_of (head_of_next h parse ∷ before) m h.body ≡ rest_in (has_ended (steps before)) (drop m.body_start (taken (steps before))) (whole_rest h.body)
+    → rest_of (head_of_next h parse ∷ before) m h.body
+    ≡ rest_in (has_ended (steps before)) (drop m.body_start (taken (steps before))) (whole_rest h.body)
 head_rest setting before parse m h w =
     let x = head_of_next h parse in
     let t = steps before in
@@ -175,19 +160,7 @@ head_exchange setting before parse m h w =
 
 -- ---- no end was told
 
--- two options of which neither is some
-neither : {A : Type 0} (a b : Option A) → option_or a b ≡ None → (a ≡ None) × (b ≡ None)
-neither None b e = (refl, e)
-neither (Some x) b e = absurd (none-some x (sym e))
-
--- while the connection is open none was told
-untold : (setting : Setting) (past : List ParsedStep) → closing setting past ≡ None → (told (steps past) ≡ None) × (body_end_of (steps past) ≡ None)
-unfolding closing
-untold setting past e =
-    let parts = neither (told (steps past)) _ e in
-    (parts.0, (neither (body_end_of (steps past)) _ parts.1).0)
-
--- nor is one then
+-- while the connection is open none was told, nor is one then
 head_told : (setting : Setting) (before : List ParsedStep) (parse : List Message) (m : Message) (h : Head) → Heads setting before parse m h
     → (kept_of setting before).failed ≡ (kept_of setting (head_of_next h parse ∷ before)).failed
 head_told setting before parse m h w =
@@ -195,7 +168,7 @@ head_told setting before parse m h w =
     let t = steps before in
     let s = x.step in
     let none = untold setting before w.open_yet in
-    let failed = (neither (end_where (list_any (λ u. is_body_error u.event) t) ends.body) _ none.1).0 in
+    let failed = (both_none (end_where (list_any (λ u. is_body_error u.event) t) ends.body) _ none.1).0 in
     let ended = ap (list_any (λ u. is_body_end u.event)) (since_head-head s t h refl) in
     let told_same : told (s ∷ t) ≡ told t = told-cons s t in
     let body : body_end_of (s ∷ t) ≡ None =
@@ -224,8 +197,8 @@ head_parts setting before parse m h w end start =
     let unread : drop end k.unread ≡ drop (passed (x ∷ before)) (taken (s ∷ t)) = bytes ∙ (λ i. drop (sym place i) (sym all i)) in
     let exchange = ap (λ u. Some (new_exchange (rest_in k.has_ended u (whole_rest h.body)) h)) bytes ∙ sym (head_exchange setting before parse m h w) in
     let text = sym (buffered-more setting s before w.legal.3 refl ∙ ap (λ b. buffered setting t ++ b) (head_text setting t h) ∙ append-nil (buffered setting t)) in
-    let sends = sym (sending-calm s t calm_next) in
-    let clock = sym (clock-calm s t calm_next) in
+    let sends = sym (sending-aside s t calm_next.aside) in
+    let clock = sym (clock-aside s t calm_next.aside) in
     let end_told = head_told setting before parse m h w in
     λ i. record (bare (kept_of setting (x ∷ before))) {
       unread = unread i;

@@ -1,6 +1,6 @@
 -- A body in one run, of a stated length or raw: as much of it is passed as was given.
-use Rattle.std.proofs.Common.{◌≡◌, ℕ, ◌+◌, ◌-◌, ◌<◌, ◌≤◌, min, false, List, [], ◌∷◌, length, slice_range, Option, Some, None, ◌⊎◌, refl, sym, ap, ◌∙◌, subst, inl, inr, arith, lt-ltb, le-ltb}
-use Rattle.std.specs.Prelude.{IsSome, unwrap_or, nat_lt}
+use Rattle.std.proofs.Common.{◌≡◌, ℕ, ◌+◌, ◌-◌, ◌<◌, ◌≤◌, min, false, List, [], ◌∷◌, length, slice_range, Option, Some, None, ◌⊎◌, refl, sym, ap, ◌∙◌, subst, inl, inr, arith}
+use Rattle.std.specs.Prelude.{IsSome, unwrap_or}
 use Rattle.std.proofs.lemmas.Bool.{cond-true, cond-false, cases_lt, cases_eq, eq-eqb, ne_eqb, le-leb, false≢true}
 use Rattle.h1_chunks.specs.Runs.{Run}
 use Rattle.h1_model.specs.Request.{Head}
@@ -12,29 +12,21 @@ use Rattle.h1_model.specs.Sums.{Step, taken, head_of, since_head, is_complete}
 use Rattle.h1_model.specs.Past.{ParsedStep, steps, current, given_bytes, place_behind, has_chunks, pulled_to, passed}
 use Rattle.h1_model.specs.OutcomeTable.{run_left, gave_trailers, stop_outcome, run_outcome, body_outcome, pull_outcome}
 use Rattle.h1_model.proofs.PastLemmas.{Legal}
-use Rattle.h1_model.proofs.PlaceLemmas.{runs_len, left-within, left-past}
+use Rattle.h1_model.proofs.PlaceLemmas.{runs_len, left-within, left-past, left_nothing, between-some, between-none}
 use Rattle.h1_model.proofs.StepLemmas.{step, given_bytes-more, given_bytes-head, given_frames-more, quiet, reads, stops, accepts, begins, pulls, step_case}
-use Rattle.h1_model.proofs.PulledLemmas.{PullFits, Behind, PullsFit, Idle, idle_pulled, pulled_to-more, pulled_to-head, pulled_to-nil}
+use Rattle.h1_model.proofs.PulledLemmas.{PullFits, PullsFit, Idle, idle_pulled, pulled_to-more, pulled_to-head, pulled_to-nil, fit-less}
 use Rattle.h1_model.proofs.CarriedLemmas.{passed_pulled}
 use Rattle.h1_model.proofs.HeldSteps.{quiet_idle, reads_idle, ends_idle, accepts_idle, pull_no_head}
 use Rattle.h1_machine.proofs.Current.{Current}
 
 -- ---- the run between two places
 
--- of some bytes
-between_some : (a b : ℕ) → a < b → run_between a b ≡ record { start = a; end = b } ∷ []
-between_some a b some = cond-true (nat_lt a b) _ _ (lt-ltb a b some)
-
--- and of none
-between_none : (a b : ℕ) → b ≤ a → run_between a b ≡ []
-between_none a b none = cond-false (nat_lt a b) _ _ (le-ltb a b none)
-
 -- its length
 between_len : (a b : ℕ) → runs_len (run_between a b) ≡ b - a
 between_len a b =
     elim (cases_lt a b) [
-      | inl some ↦ ap runs_len (between_some a b some) ∙ omega arith
-      | inr none ↦ ap runs_len (between_none a b none) ∙ omega arith
+      | inl some ↦ ap runs_len (between-some a b some) ∙ omega arith
+      | inr none ↦ ap runs_len (between-none a b none) ∙ omega arith
     ]
 
 -- the place behind some of its bytes
@@ -42,8 +34,8 @@ one_place : (a b given : ℕ) → given ≤ b - a → place_behind a given (run_
 unfolding place_behind
 one_place a b given fits =
     elim (cases_lt a b) [
-      | inr none ↦ let zero_given : a ≡ a + given = omega arith in ap (place_behind a given) (between_none a b none) ∙ zero_given
-      | inl some ↦ ap (place_behind a given) (between_some a b some) ∙ elim (cases_eq given 0) [
+      | inr none ↦ let zero_given : a ≡ a + given = omega arith in ap (place_behind a given) (between-none a b none) ∙ zero_given
+      | inl some ↦ ap (place_behind a given) (between-some a b some) ∙ elim (cases_eq given 0) [
         | inl zero_given ↦ cond-true _ _ _ (eq-eqb given 0 zero_given) ∙ omega arith
         | inr more ↦ cond-false _ _ _ (ne_eqb given 0 more) ∙ cond-true _ _ _ (le-leb given (b - a) fits)
       ]
@@ -52,19 +44,14 @@ one_place a b given fits =
 -- what is left of it
 pub one_left : (a b given : ℕ) → a + given < b → run_left given (run_between a b) ≡ Some (record { start = a + given; end = b })
 one_left a b given more =
-    ap (run_left given) (between_some a b (omega arith)) ∙ left-within given (record { start = a; end = b }) [] (omega arith)
+    ap (run_left given) (between-some a b (omega arith)) ∙ left-within given (record { start = a; end = b }) [] (omega arith)
 
--- of no run nothing is left
-left_nothing : (given : ℕ) → run_left given [] ≡ None
-unfolding run_left
-left_nothing given = refl
-
--- and of a run that was given
+-- where all of it was given nothing is
 pub none_left : (a b given : ℕ) → b ≤ a + given → run_left given (run_between a b) ≡ None
 none_left a b given all =
     elim (cases_lt a b) [
-      | inr none ↦ ap (run_left given) (between_none a b none) ∙ left_nothing given
-      | inl some ↦ ap (run_left given) (between_some a b some) ∙ left-past given (record { start = a; end = b }) [] (omega arith)
+      | inr none ↦ ap (run_left given) (between-none a b none) ∙ left_nothing given
+      | inl some ↦ ap (run_left given) (between-some a b some) ∙ left-past given (record { start = a; end = b }) [] (omega arith)
           ∙ left_nothing (given - (b - a))
     ]
 
@@ -88,12 +75,6 @@ one_next runs runs' stop = cong_stop stop
 pub one_ends : (m : Message) (end : ℕ) (stop : Stop) → OneRun m end stop → (place : ℕ) → next_start m.body ≡ Some place → place ≡ end
 one_ends m end stop r place e =
     r.ends place (one_next [] (run_between m.body_start end) stop ∙ sym (ap next_start r.body) ∙ e)
-
--- the pulls behind the head fit
-less_fit : (m : Message) (s : Step) (before : List Step) → head_of s.outcome ≡ None → PullsFit m (s ∷ before)
-    → PullFits m (s ∷ before) s.event s.outcome × PullsFit m before
-unfolding PullsFit
-less_fit m s before none x = subst (λ o. Behind o (PullFits m (s ∷ before) s.event s.outcome × PullsFit m before)) none x
 
 -- no less is passed than was given of the run
 abbrev Least : Message → ℕ → List Step → Type 0
@@ -146,7 +127,7 @@ least_pull m end stop t o r none fits old =
 -- behind an idle step
 least_idle : (m : Message) (end : ℕ) (s : Step) (t : List Step) → Idle s → PullsFit m (s ∷ t) → (PullsFit m t → Least m end t) → Least m end (s ∷ t)
 least_idle m end s t idle fits old =
-    let least = old (less_fit m s t idle.head fits).1 in
+    let least = old (fit-less m s t idle.head fits).1 in
     omega (arith, idle_pulled m s t idle, given_bytes-more s t idle.head, idle.bytes)
 
 -- behind every legal past
@@ -167,7 +148,7 @@ least setting (x ∷ before) m end stop l r fits =
       | pulls p ↦
           let o = x.step.outcome in
           let none = ap head_of p.outcome ∙ pull_no_head t (current before) in
-          let both = less_fit m x.step t none fits in
+          let both = fit-less m x.step t none fits in
           let same : step on.pull o ≡ x.step = λ i. record { event = sym p.event i; outcome = o } in
           let here = subst (λ e. PullFits m (step e o ∷ t) e o) p.event both.0 in
           subst (λ s. Least m end (s ∷ t)) same (least_pull m end stop t o r none here (old both.1))

@@ -1,6 +1,6 @@
 -- What a legal past keeps in order: an answer is one to a request, what is complete was begun, and a WebSocket is an
 -- open request with no answer.
-use Rattle.std.proofs.Common.{◌≡◌, ℕ, Bool, true, false, List, [], ◌∷◌, Option, Some, None, refl, sym, ap, ◌∙◌, subst}
+use Rattle.std.proofs.Common.{◌≡◌, ℕ, Bool, true, false, List, [], ◌∷◌, Option, Some, None, refl, sym, ap, ◌∙◌, subst, inl, inr}
 use Rattle.std.specs.Prelude.{IsTrue, ◌||◌, ◌&&◌, not, is_some, is_none, if◌then◌else◌}
 use Rattle.std.specs.Option.{option_or}
 use Rattle.std.proofs.lemmas.Bool.{cond-true, cond-false, true≢false, false≢true, and_parts, not-true}
@@ -10,14 +10,15 @@ use Rattle.h1_model.specs.Event.{Event, Outcome}
 use Rattle.h1_model.specs.Event as on
 use Rattle.h1_model.specs.End.{End}
 use Rattle.h1_model.specs.Sums.{Step, accepted_limit, accepted, head_of, since_head, request, answered_by, answered, is_draining, completes, is_complete, is_open, is_upgraded, is_answering}
-use Rattle.h1_model.specs.Past.{ParsedStep, steps, current}
+use Rattle.h1_model.specs.Past.{ParsedStep, steps}
 use Rattle.h1_model.specs.Closing.{closing}
 use Rattle.h1_model.specs.Allowed.{is_allowed, is_allowed_running, is_unanswered, asks_raw}
 use Rattle.h1_model.specs.OutcomeTable.{next_outcome, outcome_of}
 use Rattle.h1_model.proofs.PastLemmas.{Legal}
-use Rattle.h1_model.proofs.StepLemmas.{step, accepted-cons, complete-head, complete-more, allowed_open, quiet, reads, stops, accepts, begins, pulls, step_case}
-use Rattle.h1_model.proofs.HeldSteps.{pull_no_head}
-use Rattle.h1_machine.proofs.Current.{plain_of, request-more}
+use Rattle.h1_model.proofs.StepLemmas.{step, accepted-cons, complete-head, complete-more, allowed_open}
+use Rattle.h1_model.proofs.HeldSteps.{headless_or_begins}
+use Rattle.h1_model.proofs.HeldLemmas.{not_upgraded}
+use Rattle.h1_machine.proofs.StepSums.{request-more}
 
 -- ---- the answer, of one more step
 
@@ -116,7 +117,7 @@ unanswered_parts : (trace : List Step) → is_unanswered trace ≡ true → (is_
 unanswered_parts trace x =
     let parts = and_parts (is_open trace && is_none (answered trace)) (not (is_upgraded trace)) x in
     let both = and_parts (is_open trace) (is_none (answered trace)) parts.0 in
-    (both.0, none_of (answered trace) both.1, plain_of trace x)
+    (both.0, none_of (answered trace) both.1, not_upgraded trace x)
   where
     none_of : {A : Type 0} (o : Option A) → is_none o ≡ true → o ≡ None
     none_of None e = refl
@@ -206,14 +207,9 @@ pub orderly : (setting : Setting) (past : List ParsedStep) → Legal setting pas
 orderly setting [] l = nothing_orderly
 orderly setting (x ∷ before) l =
     let old = orderly setting before l.3 in
-    let go : head_of x.step.outcome ≡ None → Orderly (steps (x ∷ before)) = λ none. event_orderly setting before x.step.event x.step.outcome none l.1 l.2 old in
-    elim (step_case setting before x.step.event x.step.outcome l.1 l.2) [
-      | quiet q ↦ go q.head
-      | reads r ↦ go (ap head_of r.outcome)
-      | stops r ↦ go (ap head_of r.outcome)
-      | accepts a ↦ go (ap head_of a.outcome)
-      | pulls p ↦ go (ap head_of p.outcome ∙ pull_no_head (steps before) (current before))
-      | begins b ↦
+    elim (headless_or_begins setting before x l) [
+      | inl none ↦ event_orderly setting before x.step.event x.step.outcome none l.1 l.2 old
+      | inr b ↦
           let ok = subst (λ e. IsTrue (is_allowed setting before e)) b.event l.1 in
           let is = sym b.outcome ∙ l.2 ∙ ap (outcome_of setting before) b.event in
           head_orderly x.step (steps before) b.head (ap head_of b.outcome) (ap (λ e. accepted_limit e x.step.outcome) b.event)

@@ -30,7 +30,8 @@ exchange_none setting past n = ap (λ o. exchange_of setting past o (request (st
 -- ---- the answer
 
 -- it is complete in both
-pub reply_answered : (setting : Setting) (trace : List Step) (h : Head) → Orderly trace → is_answered (reply_of setting trace h (answered trace)) ≡ is_complete trace
+pub reply_answered : (setting : Setting) (trace : List Step) (h : Head) → Orderly trace
+    → is_answered (reply_of setting trace h (answered trace)) ≡ is_complete trace
 reply_answered setting trace h o = go (answered trace) (is_complete trace) refl refl
   where
     go : (a : Option Answered) (c : Bool) → answered trace ≡ a → is_complete trace ≡ c → is_answered (reply_of setting trace h a) ≡ c
@@ -40,7 +41,8 @@ reply_answered setting trace h o = go (answered trace) (is_complete trace) refl 
     go (Some a) false e f = rw f refl
 
 -- there is none in both
-pub reply_unanswered : (setting : Setting) (trace : List Step) (h : Head) → is_unanswered (reply_of setting trace h (answered trace)) ≡ is_none (answered trace)
+pub reply_unanswered : (setting : Setting) (trace : List Step) (h : Head)
+    → is_unanswered (reply_of setting trace h (answered trace)) ≡ is_none (answered trace)
 reply_unanswered setting trace h = go (answered trace) (is_complete trace) refl
   where
     go : (a : Option Answered) (c : Bool) → is_complete trace ≡ c → is_unanswered (reply_of setting trace h a) ≡ is_none a
@@ -49,10 +51,12 @@ reply_unanswered setting trace h = go (answered trace) (is_complete trace) refl
     go (Some a) false f = rw f refl
 
 -- its body is going out in both
-pub reply_sending : (setting : Setting) (trace : List Step) (h : Head) → is_sending_body (reply_of setting trace h (answered trace)) ≡ sums.is_answering trace
+pub reply_sending : (setting : Setting) (trace : List Step) (h : Head)
+    → is_sending_body (reply_of setting trace h (answered trace)) ≡ sums.is_answering trace
 reply_sending setting trace h = go (answered trace) (is_complete trace) refl
   where
-    go : (a : Option Answered) (c : Bool) → is_complete trace ≡ c → is_sending_body (reply_of setting trace h a) ≡ (is_some a && not (is_complete trace))
+    go : (a : Option Answered) (c : Bool) → is_complete trace ≡ c
+        → is_sending_body (reply_of setting trace h a) ≡ (is_some a && not (is_complete trace))
     go None c f = refl
     go (Some a) true f = rw f refl
     go (Some a) false f = rw f refl
@@ -106,7 +110,8 @@ pub current_open : (setting : Setting) (past : List ParsedStep) (m : Message) (h
 current_open setting past m h c = ap (λ (o : Option Head). is_some o && (sums.is_upgraded (steps past) || not (is_complete (steps past)))) c.request_is
 
 -- the parts tell whether the connection speaks WebSocket
-pub upgraded_of : (setting : Setting) (past : List ParsedStep) → Legal setting past → is_upgraded (kept_of setting past) ≡ sums.is_upgraded (steps past)
+pub upgraded_of : (setting : Setting) (past : List ParsedStep) → Legal setting past
+    → is_upgraded (kept_of setting past) ≡ sums.is_upgraded (steps past)
 upgraded_of setting past l = elim (current_of setting past l) [
   | inl n ↦ rw (exchange_none setting past n) (sym (none_upgraded setting past l n))
   | inr (m, h, c) ↦ rw (exchange_is setting past m h c) (current_frames setting past m h l c)

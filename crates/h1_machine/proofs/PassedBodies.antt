@@ -68,7 +68,8 @@ left_ends complete no_body from place bytes = no_in (drop place bytes)
 left_ends complete (fixed_body n) from place bytes = fixed_in (nat_le (from + n) place) (drop place bytes)
   where
     fixed_in : (passed : Bool) (unread : List ℕ)
-        → rest_in true unread (if passed then no_rest else fixed_rest (from + n - place)) ≡ (if passed then no_rest else fixed_rest (from + n - place))
+        → rest_in true unread (if passed then no_rest else fixed_rest (from + n - place))
+        ≡ (if passed then no_rest else fixed_rest (from + n - place))
     fixed_in true [] = refl
     fixed_in true (b ∷ unread) = refl
     fixed_in false [] = refl

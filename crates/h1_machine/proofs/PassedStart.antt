@@ -6,11 +6,11 @@ use Rattle.h1_model.specs.Parse.{Message}
 use Rattle.h1_model.specs.Sums.{head_of}
 use Rattle.h1_model.specs.Past.{ParsedStep, steps, current, passed}
 use Rattle.h1_model.proofs.PastLemmas.{Legal}
-use Rattle.h1_model.proofs.StepLemmas.{quiet, reads, stops, accepts, begins, pulls, step_case, head_count-more, complete-head}
+use Rattle.h1_model.proofs.StepLemmas.{head_count-more, complete-head}
 use Rattle.h1_model.proofs.TraceGrowth.{current_none}
 use Rattle.h1_model.proofs.CarriedLemmas.{passed_some, passed_pulled}
 use Rattle.h1_model.proofs.PulledLemmas.{pulled_to-head}
-use Rattle.h1_model.proofs.HeldSteps.{pull_no_head}
+use Rattle.h1_model.proofs.HeldSteps.{headless_or_begins}
 use Rattle.h1_model.proofs.HeldLemmas.{passed_grows}
 use Rattle.h1_machine.proofs.Current.{current_of}
 use Rattle.h1_machine.proofs.Frames.{current_carried}
@@ -34,16 +34,11 @@ pub passed_begun : (setting : Setting) (past : List ParsedStep) (m : Message) �
 passed_begun setting [] m l e = absurd (none-some m (sym (current_none [] refl) ∙ e))
 passed_begun setting (x ∷ before) m l e =
     let old : (n : Message) → current before ≡ Some n → n.body_start ≤ passed before = λ n f. passed_begun setting before n l.3 f in
-    let go : head_of x.step.outcome ≡ None → m.body_start ≤ passed (x ∷ before) = λ none. still_begun setting before x m l none e old in
-    elim (step_case setting before x.step.event x.step.outcome l.1 l.2) [
-      | quiet q ↦ go q.head
-      | reads r ↦ go (ap head_of r.outcome)
-      | stops r ↦ go (ap head_of r.outcome)
-      | accepts a ↦ go (ap head_of a.outcome)
-      | pulls p ↦ go (ap head_of p.outcome ∙ pull_no_head (steps before) (current before))
-      | begins b ↦
+    elim (headless_or_begins setting before x l) [
+      | inl none ↦ still_begun setting before x m l none e old
+      | inr b ↦
           let some = ap head_of b.outcome in
           let at = passed_some (x ∷ before) m e ∙ passed_pulled (x ∷ before) m (complete-head x.step (steps before) b.head some)
-              ∙ pulled_to-head m x.step (steps before) b.head some in
+          ∙ pulled_to-head m x.step (steps before) b.head some in
           omega arith
     ]

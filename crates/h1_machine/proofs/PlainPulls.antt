@@ -88,7 +88,8 @@ cut_run setting past m h n c kind short =
 
 -- some bytes are there
 fixed_some : (is_ended : Bool) (n : ℕ) (bytes : List ℕ) → 0 < length bytes
-    → pull_fixed is_ended n bytes ≡ gives (on.bytes (take n bytes)) (if nat_le n (length bytes) then no_rest else fixed_rest (n - length bytes)) (drop n bytes)
+    → pull_fixed is_ended n bytes
+    ≡ gives (on.bytes (take n bytes)) (if nat_le n (length bytes) then no_rest else fixed_rest (n - length bytes)) (drop n bytes)
 fixed_some is_ended n [] some = absurd (omega arith)
 fixed_some is_ended n (b ∷ bytes) some = refl
 
@@ -135,7 +136,8 @@ fixed_gives : (setting : Setting) (before : List ParsedStep) (o : Outcome) (pars
     → Legal setting (pull_of o parse ∷ before) → Current setting before m h → h.body ≡ fixed_body n → is_complete (steps before) ≡ false
     → OneRun m end stop → EndsAt before m end → passed before ≡ m.body_start + given_bytes (steps before) → passed before < end
     → end ≤ length (taken (steps before)) → end ≤ m.body_start + n
-    → take (end - passed before) (drop (passed before) (taken (steps before))) ≡ take (m.body_start + n - passed before) (drop (passed before) (taken (steps before)))
+    → take (end - passed before) (drop (passed before) (taken (steps before)))
+    ≡ take (m.body_start + n - passed before) (drop (passed before) (taken (steps before)))
     → Changes setting before (pull_of o parse)
 fixed_gives setting before o parse m h n end stop l c kind open_yet r upto place more within fits same =
     let t = steps before in

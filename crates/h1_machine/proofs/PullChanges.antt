@@ -1,5 +1,5 @@
 -- What a pull changes.
-use Rattle.std.proofs.Common.{◌≡◌, ℕ, true, false, List, ◌∷◌, Option, Some, None, refl, sym, ap, ◌∙◌, subst, inl, inr}
+use Rattle.std.proofs.Common.{◌≡◌, ℕ, true, false, List, ◌∷◌, Option, Some, None, refl, sym, ap, ◌∙◌, inl, inr}
 use Rattle.std.specs.Prelude.{is_some, ◌&&◌, ◌||◌}
 use Rattle.std.proofs.lemmas.Bool.{false≢true, and_parts}
 use Rattle.h1_model.specs.Request.{BodyKind, no_body, fixed_body, chunked_body, raw_body, has_body, Head}
@@ -20,6 +20,7 @@ use Rattle.h1_machine.proofs.PlainPulls.{fixed_pull_changes}
 use Rattle.h1_machine.proofs.RawPulls.{raw_pull_changes}
 use Rattle.h1_machine.proofs.FramePulls.{frames_pull_changes}
 use Rattle.h1_machine.proofs.ChunkPulls.{chunks_pull_changes}
+use Rattle.h1_machine.proofs.StepForms.{at_event}
 
 -- by the kind of the body
 by_kind : (setting : Setting) (before : List ParsedStep) (o : Outcome) (parse : List Message) (m : Message) (h : Head) (kind : BodyKind)
@@ -56,7 +57,4 @@ pull_of_changes setting before o parse l =
 -- more of a body is asked for
 pub pull_changes : (setting : Setting) (before : List ParsedStep) (x : ParsedStep) → Legal setting (x ∷ before) → x.step.event ≡ on.pull
     → Changes setting before x
-pull_changes setting before x l e =
-    let of : Event → ParsedStep = λ v. record { step = record { event = v; outcome = x.step.outcome }; parse = x.parse } in
-    let P : Event → Type 0 = λ v. Legal setting (of v ∷ before) → Changes setting before (of v) in
-    subst P (sym e) (pull_of_changes setting before x.step.outcome x.parse) l
+pull_changes setting before x l e = at_event setting before x on.pull l e (pull_of_changes setting before)

@@ -21,9 +21,9 @@ use Rattle.h1_machine.specs.Kept.{Change}
 use Rattle.h1_machine.specs.Change.{IsPulling, pulled_from}
 use Rattle.h1_machine.specs.KeptOf.{rest_of, tells_done, exchange_with, exchange_of, kept_of}
 use Rattle.h1_machine.proofs.Changes.{Changes}
-use Rattle.h1_machine.proofs.Current.{Current, request-more}
-use Rattle.h1_machine.proofs.StepSums.{buffered-more}
-use Rattle.h1_machine.proofs.CalmSteps.{calm_pull, taken-calm, exchange-calm, current-calm, calm_parts}
+use Rattle.h1_machine.proofs.Current.{Current}
+use Rattle.h1_machine.proofs.StepSums.{buffered-more, request-more}
+use Rattle.h1_machine.proofs.CalmSteps.{calm_pull, taken-calm, exchange-aside, current-calm, calm_parts}
 
 -- a pull with its outcome
 abbrev pub pull_of : Outcome → List Message → ParsedStep
@@ -94,7 +94,7 @@ pulling setting before parse m h p l c is g =
     let new : Some (record old { rest = p.rest; was_pulled = true; body_is_done = old.body_is_done || p.is_done })
     ≡ exchange_of setting (x ∷ before) (current (x ∷ before)) (request (x.step ∷ t)) =
     (λ i. Some (record old { rest = g.rest i; was_pulled = true; body_is_done = old.body_is_done || g.done i }))
-    ∙ ap Some (exchange-calm setting before x m m h none calm_pull) ∙ sym there in
+    ∙ ap Some (exchange-aside setting before x m m h none calm_pull.aside) ∙ sym there in
     record {
       change = change;
       changes = subst (λ e. IsPulling k e change) (sym here) (p, is, refl);

@@ -19,6 +19,7 @@ use Rattle.h1_model.specs.Closing.{told_end, told, body_end_of}
 use Rattle.h1_model.specs.OutcomeTable.{send_outcome, outcome_of}
 use Rattle.h1_model.proofs.PastLemmas.{Legal}
 use Rattle.h1_model.proofs.StepLemmas.{Quiet}
+use Rattle.h1_model.proofs.ClosingLemmas.{running}
 use Rattle.h1_machine.specs.Kept.{sending, answered}
 use Rattle.h1_machine.specs.Reply.{stated}
 use Rattle.h1_machine.specs.KeptOf.{reply_of, exchange_with, exchange_of, kept_of}
@@ -27,7 +28,7 @@ use Rattle.h1_machine.proofs.Changes.{Changes}
 use Rattle.h1_machine.proofs.Current.{current_of}
 use Rattle.h1_machine.proofs.StepSums.{told-cons, answered-more, answer_len-more, is_sending-cons, buffered-more, buffered-write}
 use Rattle.h1_machine.proofs.QuietParts.{complete-quiet, rest-quiet, exchange-quiet, exchange-none, clock-quiet, kept-quiet, short-stays, told-stays, told-now}
-use Rattle.h1_machine.proofs.StepForms.{made, at_step, running, untold}
+use Rattle.h1_machine.proofs.StepForms.{made, at_step, untold}
 
 -- ---- events that are no part of an answer
 
@@ -153,7 +154,7 @@ error_made setting before parse l =
     let a : IsApart on.body_error = record { answers = λ d. refl; chunk = refl; completes = refl; body_end = refl; drop = refl; go_on = refl } in
     let none = (untold setting before (running setting before on.body_error refl l.1)).0 in
     let end : option_or (told (x.step ∷ t)) (body_end_of (x.step ∷ t)) ≡ Some ends.body =
-        ap (λ o. option_or o (body_end_of (x.step ∷ t))) (told-cons x.step t ∙ none) in
+    ap (λ o. option_or o (body_end_of (x.step ∷ t))) (told-cons x.step t ∙ none) in
     record {
       change = doing (record k { failed = Some ends.body });
       changes = refl;

@@ -1,6 +1,6 @@
 -- What every part that is kept is behind a quiet step: one that takes no bytes, hands out nothing of a message, is no
 -- pull, and leaves the input's end and the protocol.
-use Rattle.std.proofs.Common.{◌≡◌, ℕ, ◌+◌, ◌-◌, Bool, true, false, List, [], ◌∷◌, ◌++◌, length, drop, slice_range, Option, Some, None, refl, sym, ap, ◌∙◌, arith, append-nil}
+use Rattle.std.proofs.Common.{◌≡◌, ℕ, ◌+◌, ◌-◌, Bool, false, List, [], ◌∷◌, ◌++◌, length, drop, slice_range, Option, Some, None, refl, sym, ap, ◌∙◌, arith, append-nil}
 use Rattle.std.specs.Prelude.{◌&&◌, ◌||◌, ◌==◌, if◌then◌else◌, unwrap_or, slice_get}
 use Rattle.std.specs.List.{list_any}
 use Rattle.std.specs.Option.{option_or}
@@ -15,7 +15,7 @@ use Rattle.h1_model.specs.End.{End}
 use Rattle.h1_model.specs.Event.{Event, Outcome}
 use Rattle.h1_model.specs.Event as on
 use Rattle.h1_model.specs.Sums.{Step, taken, is_drain, is_drop, is_pull, is_go_on, is_body_end, is_body_error, has_ended, is_draining, accepted, tick_of, first_tick, last_tick, head_of, request, since_head, answered_by, answered as answer_of, completes, came_since_head, is_complete, was_pulled, was_dropped, was_told_to_go_on, completed_at, chunk_len, answer_len, is_sending, received_behind, is_receiving}
-use Rattle.h1_model.specs.Past.{ParsedStep, steps, parse_of, current, upcoming, step_frames, message_passed, passed}
+use Rattle.h1_model.specs.Past.{ParsedStep, steps, parse_of, current, step_frames, message_passed, passed}
 use Rattle.h1_model.specs.Text.{buffered}
 use Rattle.h1_model.specs.Closing.{end_where, told_end, told, is_short, body_end_of}
 use Rattle.h1_model.specs.Allowed.{is_over_by}
@@ -54,7 +54,8 @@ raw_parts past m None = refl
 
 -- what is left of a body is so by its parts
 pub rest_parts : (past : List ParsedStep) (m : Message) (kind : BodyKind)
-    → rest_of past m kind ≡ rest_by (passed past) (taken (steps past)) (is_complete (steps past)) (accepted (steps past)) (is_receiving (steps past)) m kind
+    → rest_of past m kind
+    ≡ rest_by (passed past) (taken (steps past)) (is_complete (steps past)) (accepted (steps past)) (is_receiving (steps past)) m kind
 rest_parts past m no_body = refl
 rest_parts past m (fixed_body n) = refl
 rest_parts past m chunked_body = refl
@@ -93,14 +94,6 @@ current-quiet setting x before l q =
     let count = head_count-more x.step (steps before) q.head in
     let parse = parse-quiet setting x before l q in
     λ i. if count i == 0 then None else slice_get (parse i) (count i - 1)
-
--- and the one that is to come
-pub upcoming-quiet : (setting : Setting) (x : ParsedStep) (before : List ParsedStep) → Legal setting (x ∷ before) → Quiet before x.step
-    → upcoming (x ∷ before) ≡ upcoming before
-upcoming-quiet setting x before l q =
-    let count = head_count-more x.step (steps before) q.head in
-    let parse = parse-quiet setting x before l q in
-    λ i. slice_get (parse i) (count i)
 
 -- what is passed of the current message, where the step completes no answer
 message-quiet : (x : ParsedStep) (before : List ParsedStep) (m : Message) → Quiet before x.step → completes x.step.event ≡ false
@@ -149,7 +142,7 @@ rest-quiet setting x before m kind l q incomplete =
     rest_parts (x ∷ before) m kind ∙ (λ i. rest_by (place i) (bytes i) (complete i) (limit i) (receiving i) m kind) ∙ sym (rest_parts before m kind)
 
 -- a pull alone tells a body's end
-undone : (e : Event) (o : Outcome) → is_pull e ≡ false → tells_done e o ≡ false
+pub undone : (e : Event) (o : Outcome) → is_pull e ≡ false → tells_done e o ≡ false
 undone on.pull o no_pull = absurd (true≢false no_pull)
 undone _ o no_pull = refl
 
@@ -171,12 +164,12 @@ exchange-quiet setting x before m h l q c =
     let message = current-quiet setting x before l q ∙ c.current_is in
     let head = request-more x.step (steps before) q.head ∙ c.request_is in
     let pulled : was_pulled (x.step ∷ steps before) ≡ was_pulled (steps before) =
-        came-more is_pull x.step (steps before) q.head ∙ ap (λ b. b || was_pulled (steps before)) q.pull in
+    came-more is_pull x.step (steps before) q.head ∙ ap (λ b. b || was_pulled (steps before)) q.pull in
     let dropped = came-more is_drop x.step (steps before) q.head in
     let told = came-more is_go_on x.step (steps before) q.head in
     let done : list_any (λ s. tells_done s.event s.outcome) (since_head (x.step ∷ steps before)) ≡ list_any (λ s. tells_done s.event s.outcome) (since_head (steps before)) =
-        any-more tells_done x.step (steps before) q.head
-        ∙ ap (λ b. b || list_any (λ s. tells_done s.event s.outcome) (since_head (steps before))) (undone x.step.event x.step.outcome q.pull) in
+    any-more tells_done x.step (steps before) q.head
+    ∙ ap (λ b. b || list_any (λ s. tells_done s.event s.outcome) (since_head (steps before))) (undone x.step.event x.step.outcome q.pull) in
     (λ i. exchange_of setting (x ∷ before) (message i) (head i))
     ∙ (λ i. Some (record (exchange_with setting (x ∷ before) m h) {
       was_pulled = pulled i;
@@ -229,7 +222,8 @@ kept_behind setting before x exchange buffer sending clock told =
 
 -- the clock, where no answer is completed and no tick comes
 pub clock-ticked : (s : Step) (before : List Step) → completes s.event ≡ false
-    → clock_of (s ∷ before) ≡ record { first = option_or (first_tick before) (tick_of s.event); last = option_or (tick_of s.event) (last_tick before); completed = completed_at before }
+    → clock_of (s ∷ before)
+    ≡ record { first = option_or (first_tick before) (tick_of s.event); last = option_or (tick_of s.event) (last_tick before); completed = completed_at before }
 clock-ticked s before incomplete =
     let first = first_tick-cons s before in
     let last = last_tick-cons s before in
@@ -260,7 +254,7 @@ kept-quiet setting x before exchange buffer sending clock end l q incomplete exc
     let place = passed-quiet setting x before l q incomplete in
     let bytes = taken-quiet x before q in
     let unread : drop (passed (x ∷ before)) (taken (x.step ∷ steps before)) ≡ drop (passed before) (taken (steps before)) =
-        λ i. drop (place i) (bytes i) in
+    λ i. drop (place i) (bytes i) in
     same_bare (kept_behind setting before x exchange buffer sending clock end) (kept_of setting (x ∷ before))
     (sym unread) (sym (ended-quiet x before q)) refl refl
     (sym exchange_is) (sym buffer_is) (sym sending_is) (sym clock_is) (sym end_is)
@@ -276,7 +270,7 @@ pub short-stays : (s : Step) (before : List Step) → head_of s.outcome ≡ None
     → answered_by s.event (is_draining before) ≡ None → chunk_len s.event ≡ 0 → is_cut_short (s ∷ before) ≡ is_cut_short before
 short-stays s before none no_end unanswered no_chunk =
     let came : came_since_head is_body_end (s ∷ before) ≡ came_since_head is_body_end before =
-        came-more is_body_end s before none ∙ ap (λ b. b || came_since_head is_body_end before) no_end in
+    came-more is_body_end s before none ∙ ap (λ b. b || came_since_head is_body_end before) no_end in
     let request = request-more s before none in
     let answer : answer_of (s ∷ before) ≡ answer_of before = answered-more s before none ∙ ap (λ o. option_or o (answer_of before)) unanswered in
     let len : answer_len (s ∷ before) ≡ answer_len before = answer_len-more s before none ∙ omega (arith, no_chunk) in
@@ -287,9 +281,17 @@ pub short-open : (s : Step) (before : List Step) → head_of s.outcome ≡ None 
     → came_since_head is_body_end before ≡ false → is_cut_short (s ∷ before) ≡ is_cut_short before
 short-open s before none no_end unended =
     let came : came_since_head is_body_end (s ∷ before) ≡ false =
-        came-more is_body_end s before none ∙ (λ i. no_end i || unended i) in
+    came-more is_body_end s before none ∙ (λ i. no_end i || unended i) in
     ap (λ b. b && is_short (request (s ∷ before)) (answer_of (s ∷ before)) (answer_len (s ∷ before))) came
     ∙ sym (ap (λ b. b && is_short (request before) (answer_of before) (answer_len before)) unended)
+
+-- the end that the answer's body brings stays
+pub body_end-stays : (s : Step) (before : List Step) → is_body_error s.event ≡ false → is_cut_short (s ∷ before) ≡ is_cut_short before
+    → body_end_of (s ∷ before) ≡ body_end_of before
+body_end-stays s before no_error short =
+    let failed : list_any (λ t. is_body_error t.event) (s ∷ before) ≡ list_any (λ t. is_body_error t.event) before =
+    ap (λ b. b || list_any (λ t. is_body_error t.event) before) no_error in
+    λ i. option_or (end_where (failed i) ends.body) (end_where (short i) ends.body_short)
 
 -- the end that was told stays
 pub told-stays : (s : Step) (before : List Step) → told_end s.outcome ≡ None → is_body_error s.event ≡ false
@@ -297,9 +299,7 @@ pub told-stays : (s : Step) (before : List Step) → told_end s.outcome ≡ None
     → option_or (told (s ∷ before)) (body_end_of (s ∷ before)) ≡ option_or (told before) (body_end_of before)
 told-stays s before none no_error short =
     let told_same : told (s ∷ before) ≡ told before = told-cons s before ∙ ap (λ o. option_or o (told before)) none in
-    let failed : list_any (λ t. is_body_error t.event) (s ∷ before) ≡ list_any (λ t. is_body_error t.event) before =
-        ap (λ b. b || list_any (λ t. is_body_error t.event) before) no_error in
-    λ i. option_or (told_same i) (option_or (end_where (failed i) ends.body) (end_where (short i) ends.body_short))
+    λ i. option_or (told_same i) (body_end-stays s before no_error short i)
 
 -- a fault, an expiry or a broken rule is told
 pub told-now : (s : Step) (before : List Step) (end : End) → told_end s.outcome ≡ Some end

@@ -61,7 +61,8 @@ raw_rest_of past m len ended plain body =
     ∙ (λ i. if is_passed (passed past) (record m { body = body i }) then no_rest else raw_rest)
     ∙ by_end ended
   where
-    by_end : (ended : Bool) → (if is_passed (passed past) (record m { body = content (run_between m.body_start len) (raw_stop ended len) }) then no_rest else raw_rest)
+    by_end : (ended : Bool)
+        → (if is_passed (passed past) (record m { body = content (run_between m.body_start len) (raw_stop ended len) }) then no_rest else raw_rest)
         ≡ raw_rest_at ended len (passed past)
     by_end true = refl
     by_end false = refl
@@ -106,7 +107,8 @@ raw_before setting before o parse m h w =
 -- and behind the pull
 raw_behind : (setting : Setting) (before : List ParsedStep) (o p : Outcome) (parse : List Message) (m : Message) (h : Head)
     → Raw setting before o parse m h
-    → rest_of (pull_of p parse ∷ before) m h.body ≡ raw_rest_at (has_ended (steps before)) (length (taken (steps before))) (passed (pull_of p parse ∷ before))
+    → rest_of (pull_of p parse ∷ before) m h.body
+    ≡ raw_rest_at (has_ended (steps before)) (length (taken (steps before))) (passed (pull_of p parse ∷ before))
 raw_behind setting before o p parse m h w =
     let t = steps before in
     let x = pull_of p parse in

@@ -1,5 +1,5 @@
 -- Bytes that come: as many are taken as there is room for, and the body of a request whose answer is complete is passed.
-use Rattle.std.proofs.Common.{◌≡◌, ℕ, ◌-◌, min, false, List, ◌∷◌, ◌++◌, length, take, drop, Some, None, refl, sym, ap, ◌∙◌, subst, inl, inr, append-nil, length-drop}
+use Rattle.std.proofs.Common.{◌≡◌, ℕ, ◌-◌, min, false, List, ◌∷◌, ◌++◌, length, take, drop, Some, None, refl, sym, ap, ◌∙◌, inl, inr, append-nil, length-drop}
 use Rattle.std.specs.Prelude.{is_some}
 use Rattle.std.proofs.lemmas.Bool.{not-true}
 use Rattle.std.proofs.lemmas.List.{drop-append-le}
@@ -11,7 +11,6 @@ use Rattle.h1_model.specs.Event as on
 use Rattle.h1_model.specs.Sums.{Step, taken, has_ended, accepted, request, since_head, is_complete, is_receiving}
 use Rattle.h1_model.specs.Past.{ParsedStep, steps, passed, held}
 use Rattle.h1_model.specs.Text.{step_text}
-use Rattle.h1_model.specs.Closing.{closing_since}
 use Rattle.h1_model.specs.OutcomeTable.{outcome_of}
 use Rattle.h1_model.proofs.PastLemmas.{Legal}
 use Rattle.h1_model.proofs.StepLemmas.{allowed_open}
@@ -26,8 +25,9 @@ use Rattle.h1_machine.proofs.Orderly.{orderly}
 use Rattle.h1_machine.proofs.Frames.{raw_head}
 use Rattle.h1_machine.proofs.StepSums.{buffered-more}
 use Rattle.h1_machine.proofs.PassedBodies.{left_at, left_stays}
-use Rattle.h1_machine.proofs.PlainSteps.{IsPlain}
-use Rattle.h1_machine.proofs.Arrivals.{Adds, Grows, IsLeft, left_before, framed_left, grows_of, passing-none, passing_grown, parts-none, parts-some}
+use Rattle.h1_machine.proofs.CalmSteps.{read_aside}
+use Rattle.h1_machine.proofs.Arrivals.{Adds, IsPlain, Grows, IsLeft, left_before, framed_left, grows_of, passing-none, passing_grown, parts-none, parts-some}
+use Rattle.h1_machine.proofs.StepForms.{at_step}
 
 -- the step that takes so many bytes
 abbrev read_step : List ℕ → ℕ → Step
@@ -46,26 +46,10 @@ read_adds before bytes n unended = record {
 }
 
 -- and is of the input alone
-read_plain : (setting : Setting) (before : List ParsedStep) (bytes : List ℕ) (n : ℕ) → Legal setting before → IsPlain setting before (read_step bytes n)
+read_plain : (setting : Setting) (before : List ParsedStep) (bytes : List ℕ) (n : ℕ) → Legal setting before
+    → IsPlain setting before (read_step bytes n)
 unfolding step_text
-read_plain setting before bytes n l = record {
-  head = refl;
-  tells = refl;
-  over = refl;
-  answer = refl;
-  completes = refl;
-  chunk = refl;
-  pull = refl;
-  drop = refl;
-  go_on = refl;
-  drain = refl;
-  body_end = refl;
-  body_error = refl;
-  done = refl;
-  tick = refl;
-  sends = refl;
-  buffers = buffered-more setting (read_step bytes n) before l refl ∙ append-nil _;
-}
+read_plain setting before bytes n l = record { aside = read_aside bytes; tells = refl; over = refl; buffers = buffered-more setting (read_step bytes n) before l refl ∙ append-nil _ }
 
 -- the bytes that aren't passed, of the longer ones
 longer_unread : (setting : Setting) (before : List ParsedStep) (s : Step) (more : List ℕ) → Legal setting before → Adds before s more
@@ -93,7 +77,8 @@ read_left setting before parse bytes n m p h g =
 -- the step that takes as many bytes as there is room for
 taking : (setting : Setting) (before : List ParsedStep) (parse : List Message) (bytes : List ℕ) (n : ℕ)
     → n ≡ min (length bytes) (setting.hold_size - length (drop (passed before) (taken (steps before))))
-    → Legal setting (record { step = read_step bytes n; parse = parse } ∷ before) → Changes setting before (record { step = read_step bytes n; parse = parse })
+    → Legal setting (record { step = read_step bytes n; parse = parse } ∷ before)
+    → Changes setting before (record { step = read_step bytes n; parse = parse })
 taking setting before parse bytes n e l =
     let x : ParsedStep = record { step = read_step bytes n; parse = parse } in
     let k = kept_of setting before in
@@ -128,26 +113,17 @@ taking setting before parse bytes n e l =
           }
     ]
 
--- as the table says
-reads : (setting : Setting) (before : List ParsedStep) (parse : List Message) (bytes : List ℕ) (o : Outcome)
-    → Legal setting (record { step = record { event = on.read bytes; outcome = o }; parse = parse } ∷ before)
-    → Changes setting before (record { step = record { event = on.read bytes; outcome = o }; parse = parse })
+-- its outcome
+read_took : (setting : Setting) (before : List ParsedStep) (bytes : List ℕ)
+    → outcome_of setting before (on.read bytes) ≡ on.took (min (length bytes) (setting.hold_size - held before))
 unfolding outcome_of
-reads setting before parse bytes o l =
-    let n = min (length bytes) (setting.hold_size - held before) in
-    let same : n ≡ min (length bytes) (setting.hold_size - length (drop (passed before) (taken (steps before)))) =
-        ap (λ j. min (length bytes) (setting.hold_size - j)) (sym (length-drop (passed before) (taken (steps before)))) in
-    let outcome : o ≡ on.took n = l.2 in
-    let step : Outcome → ParsedStep = λ p. record { step = record { event = on.read bytes; outcome = p }; parse = parse } in
-    let by : Outcome → Type 0 = λ p. Legal setting (step p ∷ before) → Changes setting before (step p) in
-    let there : by (on.took n) = taking setting before parse bytes n same in
-    subst by (sym outcome) there l
+read_took setting before bytes = refl
 
 -- Bytes that come change what is kept as the longer past has it.
 pub read_changes : (setting : Setting) (before : List ParsedStep) (x : ParsedStep) (bytes : List ℕ) → Legal setting (x ∷ before)
     → x.step.event ≡ on.read bytes → Changes setting before x
 read_changes setting before x bytes l e =
-    let step : Event → ParsedStep = λ event. record { step = record { event = event; outcome = x.step.outcome }; parse = x.parse } in
-    let by : Event → Type 0 = λ event. Legal setting (step event ∷ before) → Changes setting before (step event) in
-    let there : by (on.read bytes) = reads setting before x.parse bytes x.step.outcome in
-    subst by (sym e) there l
+    let n = min (length bytes) (setting.hold_size - held before) in
+    let same : n ≡ min (length bytes) (setting.hold_size - length (drop (passed before) (taken (steps before)))) =
+    ap (λ j. min (length bytes) (setting.hold_size - j)) (sym (length-drop (passed before) (taken (steps before)))) in
+    at_step setting before x (on.read bytes) (on.took n) l e (read_took setting before bytes) (λ parse. taking setting before parse bytes n same)

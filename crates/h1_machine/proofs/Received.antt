@@ -20,8 +20,8 @@ use Rattle.h1_model.proofs.PastLemmas.{Legal}
 use Rattle.h1_model.proofs.BodySteps.{is_frames}
 use Rattle.h1_model.proofs.StepLemmas.{accepted-cons, given_frames-more, Accepts, Begins, quiet, reads, stops, accepts, begins, pulls, step_case}
 use Rattle.h1_model.proofs.HeldSteps.{accepts_idle, pull_no_head}
-use Rattle.h1_model.proofs.HeldLemmas.{unpulled_given}
-use Rattle.h1_machine.proofs.Current.{Current, plain_of, current_of, current_with}
+use Rattle.h1_model.proofs.HeldLemmas.{not_upgraded, unpulled_given}
+use Rattle.h1_machine.proofs.Current.{Current, current_of, current_with}
 use Rattle.h1_machine.proofs.Orderly.{orderly, waits_open, head_free}
 use Rattle.h1_machine.proofs.Frames.{going, going-none, going-append, going-more, IsFramed, framed, current_carried, frames_stay}
 
@@ -75,7 +75,8 @@ still_receives setting before x l none no_frame same old =
     }
 
 -- a frame that is handed out is the next one
-frame_receives : (setting : Setting) (before : List ParsedStep) (x : ParsedStep) (m : Message) (h : Head) (f : PlacedFrame) → Legal setting (x ∷ before)
+frame_receives : (setting : Setting) (before : List ParsedStep) (x : ParsedStep) (m : Message) (h : Head) (f : PlacedFrame)
+    → Legal setting (x ∷ before)
     → x.step.outcome ≡ on.frame f.frame → slice_get (frames_of m.body) (given_frames (steps before)) ≡ Some f
     → accepted (x.step ∷ steps before) ≡ accepted (steps before) → Current setting before m h → is_upgraded (steps before) ≡ true
     → Receives before → Receives (x ∷ before)
@@ -181,7 +182,7 @@ accept_receives setting before x l a old =
     let unpulled = (or_parts (was_pulled t) (was_dropped t) a.unpulled).0 in
     let given : given_frames (x.step ∷ t) ≡ 0 =
     omega (arith, given_frames-more x.step t idle.head, idle.frames, (unpulled_given setting before l.3 unpulled).1) in
-    let still = receiving-cons x.step t ∙ received_still (is_receiving t) x.step.outcome idle.frames ∙ old.plain (plain_of t a.unanswered) in
+    let still = receiving-cons x.step t ∙ received_still (is_receiving t) x.step.outcome idle.frames ∙ old.plain (not_upgraded t a.unanswered) in
     record {
       plain = λ e. still;
       framed = λ n limit up now. still ∙ sym (going-none (frames_of n.body) false) ∙ ap (λ k. going k (frames_of n.body) false) (sym given);

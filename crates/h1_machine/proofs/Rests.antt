@@ -28,7 +28,8 @@ pub record Says (rest : Rest) (b : Body) (chunks dropped : Bool) : Type 0 where
   pub nothing : is_nothing rest ≡ is_some (next_start b)
 
 -- nothing is left of an ended body
-ended_says : (runs : List Run) (end : ℕ) (trailers : List Header) (chunks dropped : Bool) → Says no_rest (content runs (ended_at end trailers)) chunks dropped
+ended_says : (runs : List Run) (end : ℕ) (trailers : List Header) (chunks dropped : Bool)
+    → Says no_rest (content runs (ended_at end trailers)) chunks dropped
 ended_says runs end trailers chunks dropped = record { end = refl; nothing = refl }
 
 -- a rest that can't be passed
@@ -38,7 +39,8 @@ open_says rest runs true dropped e some = record { end = e; nothing = some }
 open_says rest runs false dropped e some = record { end = e; nothing = some }
 
 -- the place that is passed, of an ended body
-ended_place : (past : List ParsedStep) (b : Body) (end : ℕ) → passed past ≡ end_of (length (taken (steps past))) b → next_start b ≡ Some end → passed past ≡ end
+ended_place : (past : List ParsedStep) (b : Body) (end : ℕ) → passed past ≡ end_of (length (taken (steps past))) b → next_start b ≡ Some end
+    → passed past ≡ end
 ended_place past b end e next = e ∙ ap (λ o. unwrap_or o (length (taken (steps past)))) next
 
 -- and of one that hasn't ended
@@ -54,7 +56,8 @@ open_next runs false = refl
 -- ---- each kind
 
 -- a body of a fixed length
-fixed_says : (setting : Setting) (past : List ParsedStep) (place n : ℕ) (b : Body) (dropped : Bool) → passed past ≡ end_of (length (taken (steps past))) b
+fixed_says : (setting : Setting) (past : List ParsedStep) (place n : ℕ) (b : Body) (dropped : Bool)
+    → passed past ≡ end_of (length (taken (steps past))) b
     → IsBodyOf (input_of setting (steps past)) (fixed_body n) place b → Says (fixed_left (place + n) (passed past)) b false dropped
 fixed_says setting past place n b dropped e x =
     let t = steps past in
@@ -120,7 +123,8 @@ chunks_say setting past m dropped unfinished runs e complete x is =
       nothing = sym (ap is_some none);
     })
   where
-    open_end : (runs : List Run) (ended passable : Bool) → unread_end (content runs (open_or_cut ended)) passable ≡ end_where (not passable) ends.unread_body
+    open_end : (runs : List Run) (ended passable : Bool)
+        → unread_end (content runs (open_or_cut ended)) passable ≡ end_where (not passable) ends.unread_body
     open_end runs true passable = refl
     open_end runs false passable = refl
 chunks_say setting past m dropped not_chunked runs e complete x is =
@@ -131,7 +135,8 @@ chunks_say setting past m dropped not_chunked runs e complete x is =
     subst (λ r. Says r m.body true dropped) (sym rest) (record { end = sym (ap (λ b. unread_end b dropped) is); nothing = sym (ap is_some none) })
 
 -- a raw body of no WebSocket
-raw_says : (setting : Setting) (past : List ParsedStep) (m : Message) (ended dropped : Bool) → passed past ≡ end_of (length (taken (steps past))) m.body
+raw_says : (setting : Setting) (past : List ParsedStep) (m : Message) (ended dropped : Bool)
+    → passed past ≡ end_of (length (taken (steps past))) m.body
     → m.body ≡ raw_content (input (taken (steps past)) None ended setting.hold_size) m.body_start → Says (raw_left past m None) m.body false dropped
 raw_says setting past m true dropped e is =
     let at = ended_place past m.body (length (taken (steps past))) e (ap next_start is) in
@@ -144,7 +149,8 @@ raw_says setting past m false dropped e is =
     (record { end = sym (ap (λ b. unread_end b false) is); nothing = sym (ap (λ b. is_some (next_start b)) is) })
 
 -- a raw body
-any_raw_says : (setting : Setting) (past : List ParsedStep) (m : Message) (u : Option ℕ) (dropped : Bool) → passed past ≡ end_of (length (taken (steps past))) m.body
+any_raw_says : (setting : Setting) (past : List ParsedStep) (m : Message) (u : Option ℕ) (dropped : Bool)
+    → passed past ≡ end_of (length (taken (steps past))) m.body
     → IsBodyOf (record (input_of setting (steps past)) { upgraded = u }) raw_body m.body_start m.body → Says (raw_left past m u) m.body false dropped
 any_raw_says setting past m None dropped e is = raw_says setting past m (has_ended (steps past)) dropped e is
 any_raw_says setting past m (Some limit) dropped e is =

@@ -47,7 +47,8 @@ closing_of_trace setting k trace past x y =
     ∙ ap (closing setting) (past_of_unique setting trace x.past past x.of_trace y)
 
 -- and what is allowed
-pub allowed_stands : (setting : Setting) (past : List ParsedStep) (trace : List Step) (event : Event) → IsTrace setting trace → IsPastOf setting trace past
+pub allowed_stands : (setting : Setting) (past : List ParsedStep) (trace : List Step) (event : Event) → IsTrace setting trace
+    → IsPastOf setting trace past
     → allowed_by setting (kept_of setting past) event ≡ is_allowed setting past event
 allowed_stands setting past trace event x y = allowed_of setting past event (legal_of setting trace past x y)
 
@@ -84,7 +85,8 @@ first_step : (s t : Step) (ss ts : List Step) → s ∷ ss ≡ t ∷ ts → s �
 first_step s t ss ts e = cc
 
 -- an allowed event with the table's outcome is a step
-pub table_steps : (setting : Setting) (s : Step) (before : List Step) (p q : List ParsedStep) → IsTrace setting (s ∷ before) → IsPastOf setting before p
+pub table_steps : (setting : Setting) (s : Step) (before : List Step) (p q : List ParsedStep) → IsTrace setting (s ∷ before)
+    → IsPastOf setting before p
     → IsPastOf setting (s ∷ before) q → IsStep setting (kept_of setting p) s.event s.outcome (kept_of setting q)
 table_steps setting s before p [] t x y = absurd (omega (arith, ap length y.same))
 table_steps setting s before p (m ∷ after) t x y =

@@ -1,27 +1,25 @@
 -- The forms in which the case of an event is proved: its step as a record, the last request where there is one, and what
 -- an allowed event says while the connection is open.
-use Rattle.std.proofs.Common.{◌≡◌, true, false, List, [], ◌∷◌, Option, Some, None, refl, sym, ap, ◌∙◌, subst₂}
-use Rattle.std.specs.Prelude.{IsTrue, is_some, is_none, not, ◌&&◌, ◌||◌}
+use Rattle.std.proofs.Common.{◌≡◌, true, false, List, [], ◌∷◌, Option, Some, None, refl, sym, ap, ◌∙◌, subst, subst₂}
+use Rattle.std.specs.Prelude.{is_some, is_none, not, ◌&&◌, ◌||◌}
 use Rattle.std.specs.List.{list_any}
 use Rattle.std.specs.Option.{option_or}
 use Rattle.std.proofs.lemmas.Bool.{and_parts, or_parts, not-true, false≢true}
 use Rattle.h1_model.specs.Request.{Head}
 use Rattle.h1_model.specs.Setting.{Setting}
 use Rattle.h1_model.specs.Parse.{Message}
-use Rattle.h1_model.specs.End.{End}
 use Rattle.h1_model.specs.Event.{Event, Outcome}
 use Rattle.h1_model.specs.Event as on
 use Rattle.h1_model.specs.Sums.{Step, request, since_head, answered, is_body_end, completes, came_since_head, is_complete, is_open, is_upgraded}
 use Rattle.h1_model.specs.Past.{ParsedStep, steps}
 use Rattle.h1_model.specs.Closing.{told, body_end_of, closing}
-use Rattle.h1_model.specs.Allowed.{is_allowed, is_allowed_closing, is_unanswered}
+use Rattle.h1_model.specs.Allowed.{is_unanswered}
 use Rattle.h1_model.specs.OutcomeTable.{outcome_of}
 use Rattle.h1_model.proofs.PastLemmas.{Legal}
-use Rattle.h1_model.proofs.ClosingLemmas.{allowed_closing}
 use Rattle.h1_machine.specs.Kept.{Exchange, Kept}
 use Rattle.h1_machine.specs.KeptOf.{exchange_with, exchange_of, kept_of}
 use Rattle.h1_machine.proofs.Changes.{Changes}
-use Rattle.h1_machine.proofs.Current.{Current, NoCurrent}
+use Rattle.h1_machine.proofs.Current.{Current}
 
 -- ---- a step as a record
 
@@ -37,6 +35,13 @@ at_step setting before x e o l event outcome f =
     let is : x.step.outcome ≡ o = l.2 ∙ ap (outcome_of setting before) event ∙ outcome in
     subst₂ (λ e o. Legal setting (made e o x.parse ∷ before) → Changes setting before (made e o x.parse)) (sym event) (sym is) (f x.parse) l
 
+-- and where the table is split, that of its step with any outcome
+pub at_event : (setting : Setting) (before : List ParsedStep) (x : ParsedStep) (e : Event) → Legal setting (x ∷ before) → x.step.event ≡ e
+    → ((o : Outcome) (parse : List Message) → Legal setting (made e o parse ∷ before) → Changes setting before (made e o parse)) → Changes setting before x
+at_event setting before x e l event f =
+    subst (λ v. Legal setting (made v x.step.outcome x.parse ∷ before) → Changes setting before (made v x.step.outcome x.parse)) (sym event)
+    (f x.step.outcome x.parse) l
+
 -- ---- the last request
 
 -- a state with another last request
@@ -48,21 +53,7 @@ pub kept_current : (setting : Setting) (past : List ParsedStep) (m : Message) (h
     → kept_of setting past ≡ with_exchange (kept_of setting past) (Some (exchange_with setting past m h))
 kept_current setting past m h c = λ i. with_exchange (kept_of setting past) (exchange_of setting past (c.current_is i) (c.request_is i))
 
--- and where there is none
-pub kept_none : (setting : Setting) (past : List ParsedStep) → NoCurrent past → kept_of setting past ≡ with_exchange (kept_of setting past) None
-kept_none setting past c = λ i. with_exchange (kept_of setting past) (exchange_of setting past (c.current_is i) (request (steps past)))
-
 -- ---- while the connection is open
-
--- an event that isn't allowed while the connection closes comes while it doesn't
-pub running : (setting : Setting) (past : List ParsedStep) (e : Event) → is_allowed_closing (steps past) e ≡ false
-    → IsTrue (is_allowed setting past e)
-    → closing setting past ≡ None
-running setting past e shut ok = go (closing setting past) refl
-  where
-    go : (end : Option End) → closing setting past ≡ end → end ≡ None
-    go None same = refl
-    go (Some end) same = absurd (false≢true (sym shut ∙ allowed_closing setting past e end same ok))
 
 -- two options of which neither is some
 pub both_none : {A : Type 0} (a b : Option A) → option_or a b ≡ None → (a ≡ None) × (b ≡ None)

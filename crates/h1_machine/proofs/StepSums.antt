@@ -57,14 +57,13 @@ is_receiving-cons s before = refl
 -- ---- a step that hands out no head
 
 -- the last request
-pub request-more : (s : Step) (before : List Step) → head_of s.outcome ≡ None → request (s ∷ before) ≡ request before
+pub request-cons : (s : Step) (before : List Step) → request (s ∷ before) ≡ option_or (head_of s.outcome) (request before)
 unfolding request
-request-more s before none = ap (λ o. option_or o (request before)) none
+request-cons s before = refl
 
--- behind a head it is that one
-pub request-head : (s : Step) (before : List Step) (h : Head) → head_of s.outcome ≡ Some h → request (s ∷ before) ≡ Some h
-unfolding request
-request-head s before h some = ap (λ o. option_or o (request before)) some
+-- behind a step that hands out no head
+pub request-more : (s : Step) (before : List Step) → head_of s.outcome ≡ None → request (s ∷ before) ≡ request before
+request-more s before none = request-cons s before ∙ ap (λ o. option_or o (request before)) none
 
 -- its answer
 pub answered-more : (s : Step) (before : List Step) → head_of s.outcome ≡ None
@@ -89,7 +88,8 @@ came-more kind s before none = ap (list_any (λ t. kind t.event)) (since_head-mo
 
 -- the same of a step's event and outcome
 pub any-more : (kind : Event → Outcome → Bool) (s : Step) (before : List Step) → head_of s.outcome ≡ None
-    → list_any (λ t. kind t.event t.outcome) (since_head (s ∷ before)) ≡ (kind s.event s.outcome || list_any (λ t. kind t.event t.outcome) (since_head before))
+    → list_any (λ t. kind t.event t.outcome) (since_head (s ∷ before))
+    ≡ (kind s.event s.outcome || list_any (λ t. kind t.event t.outcome) (since_head before))
 any-more kind s before none = ap (list_any (λ t. kind t.event t.outcome)) (since_head-more s before none)
 
 -- ---- what is to be written
@@ -127,7 +127,7 @@ buffered-more setting s before l none =
     let more = step_text setting t s.event s.outcome in
     let same : written (s ∷ t) ≡ w = written-cons s t ∙ ap (λ m. w ++ m) none ∙ append-nil w in
     let all : text setting (s ∷ t) ≡ w ++ (buffer ++ more) =
-        text-cons setting s t ∙ ap (λ l. l ++ more) (sym (written_buffered setting t (traced setting before l))) ∙ append_assoc w buffer more in
+    text-cons setting s t ∙ ap (λ l. l ++ more) (sym (written_buffered setting t (traced setting before l))) ∙ append_assoc w buffer more in
     (λ i. drop (length (same i)) (all i)) ∙ drop_at w (buffer ++ more) (length w) refl
 
 -- a step that hands out bytes for writing leaves the others
@@ -141,7 +141,7 @@ buffered-write setting s n before l given none =
     let now = w ++ take n buffer in
     let same : written (s ∷ t) ≡ now = written-cons s t ∙ ap (λ m. w ++ m) given in
     let all : text setting (s ∷ t) ≡ now ++ drop n buffer =
-        text-cons setting s t ∙ ap (λ m. text setting t ++ m) none ∙ append-nil (text setting t)
-        ∙ sym (written_buffered setting t (traced setting before l)) ∙ ap (λ m. w ++ m) (sym (take-append-drop n buffer))
-        ∙ sym (append_assoc w (take n buffer) (drop n buffer)) in
+    text-cons setting s t ∙ ap (λ m. text setting t ++ m) none ∙ append-nil (text setting t)
+    ∙ sym (written_buffered setting t (traced setting before l)) ∙ ap (λ m. w ++ m) (sym (take-append-drop n buffer))
+    ∙ sym (append_assoc w (take n buffer) (drop n buffer)) in
     (λ i. drop (length (same i)) (all i)) ∙ drop_at now (drop n buffer) (length now) refl

@@ -1,14 +1,14 @@
 -- The last request behind a step that leaves it as it is.
 use Rattle.std.proofs.Common.{◌≡◌, false, List, ◌∷◌, Some, None, sym, ap, ◌∙◌, inl, inr}
-use Rattle.std.specs.Prelude.{◌||◌}
 use Rattle.h1_model.specs.Setting.{Setting}
-use Rattle.h1_model.specs.Sums.{Step, head_of, is_pull, request, accepted_limit, was_pulled}
+use Rattle.h1_model.specs.Sums.{Step, head_of, is_pull, request, accepted_limit}
 use Rattle.h1_model.specs.Past.{ParsedStep, steps, current, step_bytes, step_frames}
 use Rattle.h1_model.proofs.PastLemmas.{Legal}
 use Rattle.h1_model.proofs.StepLemmas.{Quiet}
-use Rattle.h1_machine.specs.KeptOf.{tells_done, exchange_with, exchange_of}
-use Rattle.h1_machine.proofs.Current.{current_of, request-more}
-use Rattle.h1_machine.proofs.CalmSteps.{IsCalm, or_comm, exchange-calm, current-calm}
+use Rattle.h1_machine.specs.KeptOf.{exchange_with, exchange_of}
+use Rattle.h1_machine.proofs.Current.{current_of}
+use Rattle.h1_machine.proofs.StepSums.{request-more}
+use Rattle.h1_machine.proofs.CalmSteps.{IsCalm, exchange-unpulled, current-calm}
 use Rattle.h1_machine.proofs.QuietParts.{rest-quiet}
 
 -- The step is calm, is no pull, accepts nothing, and hands out nothing of a message.
@@ -19,7 +19,6 @@ pub record IsStill (s : Step) : Type 0 where
   pub head : head_of s.outcome ≡ None
   pub bytes : step_bytes s.outcome ≡ 0
   pub frames : step_frames s.outcome ≡ 0
-  pub done : tells_done s.event s.outcome ≡ false
 
 -- such a step is quiet
 pub still_quiet : (before : List ParsedStep) (s : Step) → IsStill s → Quiet before s
@@ -35,7 +34,8 @@ still_quiet before s w = record {
 
 -- the last request is the same
 pub exchange_still : (setting : Setting) (before : List ParsedStep) (x : ParsedStep) → Legal setting (x ∷ before) → IsStill x.step
-    → exchange_of setting before (current before) (request (steps before)) ≡ exchange_of setting (x ∷ before) (current (x ∷ before)) (request (x.step ∷ steps before))
+    → exchange_of setting before (current before) (request (steps before))
+    ≡ exchange_of setting (x ∷ before) (current (x ∷ before)) (request (x.step ∷ steps before))
 exchange_still setting before x l w =
     let t = steps before in
     let now = current-calm setting before x l w.calm w.accepts w.head in
@@ -46,12 +46,9 @@ exchange_still setting before x l w =
           let asked = request-more x.step t w.head ∙ c.request_is in
           let here = now ∙ c.current_is in
           let old = exchange_with setting before m h in
-          let rest = sym (rest-quiet setting x before m h.body l (still_quiet before x.step w) w.calm.completes) in
-          let pulled = sym (ap (λ b. b || was_pulled t) w.pull) in
-          let done : old.body_is_done ≡ (old.body_is_done || tells_done x.step.event x.step.outcome) =
-          sym (or_comm old.body_is_done (tells_done x.step.event x.step.outcome) ∙ ap (λ b. b || old.body_is_done) w.done) in
+          let rest = sym (rest-quiet setting x before m h.body l (still_quiet before x.step w) w.calm.aside.completes) in
           (λ i. exchange_of setting before (c.current_is i) (c.request_is i))
-          ∙ (λ i. Some (record old { rest = rest i; was_pulled = pulled i; body_is_done = done i }))
-          ∙ ap Some (exchange-calm setting before x m m h w.head w.calm)
+          ∙ (λ i. Some (record old { rest = rest i }))
+          ∙ ap Some (exchange-unpulled setting before x m m h w.head w.calm.aside w.pull)
           ∙ sym (λ i. exchange_of setting (x ∷ before) (here i) (asked i))
     ]

@@ -47,7 +47,7 @@ no_first (m ∷ ms) = sym (ne_eqb (length (m ∷ ms)) 0 (omega arith))
 some_parsed : (past : List ParsedStep) (m : Message) (ms : List Message) → current past ≡ Some m → parse_of past ≡ ms → (length ms == 0) ≡ false
 some_parsed past m [] e parse =
     absurd (none-some m (sym (ap (λ ms. if head_count (steps past) == 0 then None else slice_get ms (head_count (steps past) - 1)) parse
-        ∙ cond_both (head_count (steps past) == 0) None None (λ o. o ≡ None) (λ _. refl) (λ _. refl)) ∙ e))
+    ∙ cond_both (head_count (steps past) == 0) None None (λ o. o ≡ None) (λ _. refl) (λ _. refl)) ∙ e))
 some_parsed past m (n ∷ ms) e parse = ne_eqb (length (n ∷ ms)) 0 (omega arith)
 
 -- no head was handed out and none is coming: none is parsed
@@ -61,7 +61,7 @@ unparsed_same setting past l = elim (current_of setting past l) [
       (λ i. is_none (gone i) && not (not (shut i) && is_some (slice_get (parse_of past) (count i)))) ∙ no_first (parse_of past)
   | inr (m, h, c) ↦
       ap (λ o. is_none o && not (kept_of setting past).is_coming) (exchange_is setting past m h c)
-          ∙ sym (some_parsed past m (parse_of past) c.current_is refl)
+      ∙ sym (some_parsed past m (parse_of past) c.current_is refl)
 ]
 
 -- the request is too slow in both
@@ -77,7 +77,7 @@ and_false false = refl
 -- nothing is left of an answered request in both
 done_same : (setting : Setting) (past : List ParsedStep) → Legal setting past
     → of_exchange (λ x. is_answered x.reply && is_nothing x.rest) (kept_of setting past)
-      ≡ (is_complete (steps past) && not (is_open (steps past)) && has_ended_body (current past))
+    ≡ (is_complete (steps past) && not (is_open (steps past)) && has_ended_body (current past))
 done_same setting past l = elim (current_of setting past l) [
   | inl n ↦
       rw (exchange_none setting past n, n.current_is) (sym (and_false (is_complete (steps past) && not (is_open (steps past)))))
@@ -86,12 +86,12 @@ done_same setting past l = elim (current_of setting past l) [
       let order = orderly setting past l in
       let reply = reply_answered setting t h order in
       let shown : of_exchange (λ x. is_answered x.reply && is_nothing x.rest) (kept_of setting past) ≡ (is_complete t && is_nothing (rest_of past m h.body)) =
-          rw (exchange_is setting past m h c) (ap (λ b. b && is_nothing (rest_of past m h.body)) reply) in
+      rw (exchange_is setting past m h c) (ap (λ b. b && is_nothing (rest_of past m h.body)) reply) in
       let ended : has_ended_body (current past) ≡ is_some (next_start m.body) = ap has_ended_body c.current_is in
       elim (cases_Bool (is_complete t)) [
         | inr unfinished ↦
             shown ∙ (λ i. unfinished i && is_nothing (rest_of past m h.body))
-                ∙ sym (λ i. unfinished i && not (is_open t) && has_ended_body (current past))
+            ∙ sym (λ i. unfinished i && not (is_open t) && has_ended_body (current past))
         | inl complete ↦
             let nothing = (rest_says setting past m h.body false (c.passed_is ∙ passed_complete past m complete) complete c.body).nothing in
             let shut : is_open t ≡ false = elim (cases_Bool (is_upgraded t)) [
@@ -182,19 +182,19 @@ tick_by setting before x ms (Some end) closes l e =
       | inl waited ↦
           at_step setting before x (on.tick ms) on.abandoned l e (gives ∙ ap (λ b. if b then on.abandoned else on.done) waited)
           (λ parse l'.
-            let y = made (on.tick ms) on.abandoned parse in
-            let q : Quiet before y.step = record { taken = refl; eof = refl; accepted = refl; pull = refl; head = refl; bytes = refl; frames = refl } in
-            tick_made setting before ms on.abandoned k.buffered k.failed parse l' q
-            (buffered-quiet setting y.step before l.3 refl (abandoned_silent setting (steps before) ms)) (told-apart y before q (tick_apart ms) refl refl)
-            (same ∙ ap (λ b. at_moment ms (if b then record { outcome = on.abandoned; kept = record k { is_over = true } } else record { outcome = on.done; kept = k })) waited))
+          let y = made (on.tick ms) on.abandoned parse in
+          let q : Quiet before y.step = record { taken = refl; eof = refl; accepted = refl; pull = refl; head = refl; bytes = refl; frames = refl } in
+          tick_made setting before ms on.abandoned k.buffered k.failed parse l' q
+          (buffered-quiet setting y.step before l.3 refl (abandoned_silent setting (steps before) ms)) (told-apart y before q (tick_apart ms) refl refl)
+          (same ∙ ap (λ b. at_moment ms (if b then record { outcome = on.abandoned; kept = record k { is_over = true } } else record { outcome = on.done; kept = k })) waited))
       | inr waits ↦
           at_step setting before x (on.tick ms) on.done l e (gives ∙ ap (λ b. if b then on.abandoned else on.done) waits)
           (λ parse l'.
-            let y = made (on.tick ms) on.done parse in
-            let q : Quiet before y.step = record { taken = refl; eof = refl; accepted = refl; pull = refl; head = refl; bytes = refl; frames = refl } in
-            tick_made setting before ms on.done k.buffered k.failed parse l' q
-            (buffered-quiet setting y.step before l.3 refl (tick_silent setting (steps before) ms)) (told-apart y before q (tick_apart ms) refl refl)
-            (same ∙ ap (λ b. at_moment ms (if b then record { outcome = on.abandoned; kept = record k { is_over = true } } else record { outcome = on.done; kept = k })) waits))
+          let y = made (on.tick ms) on.done parse in
+          let q : Quiet before y.step = record { taken = refl; eof = refl; accepted = refl; pull = refl; head = refl; bytes = refl; frames = refl } in
+          tick_made setting before ms on.done k.buffered k.failed parse l' q
+          (buffered-quiet setting y.step before l.3 refl (tick_silent setting (steps before) ms)) (told-apart y before q (tick_apart ms) refl refl)
+          (same ∙ ap (λ b. at_moment ms (if b then record { outcome = on.abandoned; kept = record k { is_over = true } } else record { outcome = on.done; kept = k })) waits))
     ]
 tick_by setting before x ms None closes l e =
     let k = kept_of setting before in
@@ -202,44 +202,44 @@ tick_by setting before x ms None closes l e =
     let gives = tick_gives setting before ms ∙ ap (λ c. tick_outcome setting before c first ms) closes in
     let same = ap (λ c. ticking setting k c ms) (closing_of setting before l.3 ∙ closes) in
     let outcome : Bool → Bool → Outcome =
-        λ slow idle. if slow then on.expired ends.slow_request else (if idle then on.expired ends.keep_alive_expired else on.done) in
+    λ slow idle. if slow then on.expired ends.slow_request else (if idle then on.expired ends.keep_alive_expired else on.done) in
     let change : Bool → Bool → Change = λ slow idle. at_moment ms
-        (if slow
-        then record { outcome = on.expired ends.slow_request; kept = record k { failed = Some ends.slow_request; buffered = k.buffered ++ timeout_text ms } }
-        else (if idle
-        then record { outcome = on.expired ends.keep_alive_expired; kept = record k { failed = Some ends.keep_alive_expired } }
-        else record { outcome = on.done; kept = k })) in
+    (if slow
+    then record { outcome = on.expired ends.slow_request; kept = record k { failed = Some ends.slow_request; buffered = k.buffered ++ timeout_text ms } }
+    else (if idle
+    then record { outcome = on.expired ends.keep_alive_expired; kept = record k { failed = Some ends.keep_alive_expired } }
+    else record { outcome = on.done; kept = k })) in
     let slow_is = slow_same setting before first ms l.3 in
     let idle_is = idle_same setting before first ms l.3 in
     elim (cases_Bool (table.is_slow setting before first ms)) [
       | inl slow ↦
           at_step setting before x (on.tick ms) (on.expired ends.slow_request) l e (gives ∙ ap (λ b. outcome b (table.is_idle setting before first ms)) slow)
           (λ parse l'.
-            let y = made (on.tick ms) (on.expired ends.slow_request) parse in
-            let q : Quiet before y.step = record { taken = refl; eof = refl; accepted = refl; pull = refl; head = refl; bytes = refl; frames = refl } in
-            tick_made setting before ms (on.expired ends.slow_request) (k.buffered ++ timeout_text ms) (Some ends.slow_request) parse l' q
-            (buffered-more setting y.step before l.3 refl ∙ ap (λ t. k.buffered ++ t) (slow_text setting (steps before) ms))
-            (told-now y.step (steps before) ends.slow_request refl)
-            (same ∙ ap (λ b. change b (is_idle setting k first ms)) (slow_is ∙ slow)))
+          let y = made (on.tick ms) (on.expired ends.slow_request) parse in
+          let q : Quiet before y.step = record { taken = refl; eof = refl; accepted = refl; pull = refl; head = refl; bytes = refl; frames = refl } in
+          tick_made setting before ms (on.expired ends.slow_request) (k.buffered ++ timeout_text ms) (Some ends.slow_request) parse l' q
+          (buffered-more setting y.step before l.3 refl ∙ ap (λ t. k.buffered ++ t) (slow_text setting (steps before) ms))
+          (told-now y.step (steps before) ends.slow_request refl)
+          (same ∙ ap (λ b. change b (is_idle setting k first ms)) (slow_is ∙ slow)))
       | inr quick ↦ elim (cases_Bool (table.is_idle setting before first ms)) [
         | inl idle ↦
             at_step setting before x (on.tick ms) (on.expired ends.keep_alive_expired) l e (gives ∙ (λ i. outcome (quick i) (idle i)))
             (λ parse l'.
-              let y = made (on.tick ms) (on.expired ends.keep_alive_expired) parse in
-              let q : Quiet before y.step = record { taken = refl; eof = refl; accepted = refl; pull = refl; head = refl; bytes = refl; frames = refl } in
-              tick_made setting before ms (on.expired ends.keep_alive_expired) k.buffered (Some ends.keep_alive_expired) parse l' q
-              (buffered-quiet setting y.step before l.3 refl (idle_silent setting (steps before) ms))
-              (told-now y.step (steps before) ends.keep_alive_expired refl)
-              (same ∙ (let s = slow_is ∙ quick in let d = idle_is ∙ idle in λ i. change (s i) (d i))))
+            let y = made (on.tick ms) (on.expired ends.keep_alive_expired) parse in
+            let q : Quiet before y.step = record { taken = refl; eof = refl; accepted = refl; pull = refl; head = refl; bytes = refl; frames = refl } in
+            tick_made setting before ms (on.expired ends.keep_alive_expired) k.buffered (Some ends.keep_alive_expired) parse l' q
+            (buffered-quiet setting y.step before l.3 refl (idle_silent setting (steps before) ms))
+            (told-now y.step (steps before) ends.keep_alive_expired refl)
+            (same ∙ (let s = slow_is ∙ quick in let d = idle_is ∙ idle in λ i. change (s i) (d i))))
         | inr busy ↦
             at_step setting before x (on.tick ms) on.done l e (gives ∙ (λ i. outcome (quick i) (busy i)))
             (λ parse l'.
-              let y = made (on.tick ms) on.done parse in
-              let q : Quiet before y.step = record { taken = refl; eof = refl; accepted = refl; pull = refl; head = refl; bytes = refl; frames = refl } in
-              tick_made setting before ms on.done k.buffered k.failed parse l' q
-              (buffered-quiet setting y.step before l.3 refl (tick_silent setting (steps before) ms)) (told-apart y before q (tick_apart ms) refl refl)
-              (same ∙ (let s = slow_is ∙ quick in let d = idle_is ∙ busy in λ i. change (s i) (d i))))
-        ]
+            let y = made (on.tick ms) on.done parse in
+            let q : Quiet before y.step = record { taken = refl; eof = refl; accepted = refl; pull = refl; head = refl; bytes = refl; frames = refl } in
+            tick_made setting before ms on.done k.buffered k.failed parse l' q
+            (buffered-quiet setting y.step before l.3 refl (tick_silent setting (steps before) ms)) (told-apart y before q (tick_apart ms) refl refl)
+            (same ∙ (let s = slow_is ∙ quick in let d = idle_is ∙ busy in λ i. change (s i) (d i))))
+      ]
     ]
 
 -- what a tick changes

@@ -1,7 +1,7 @@
 -- The body of a request whose answer is complete is passed as far as it has come.
-use Rattle.std.specs.Prelude.{ℕ, ◌-◌, Bool, true, false, List, [], length, drop, nat_le, if◌then◌else◌, Option, Some, None}
+use Rattle.std.specs.Prelude.{ℕ, ◌-◌, Bool, List, [], length, drop, nat_le, if◌then◌else◌, Option, Some, None}
 use Rattle.h1_chunks.specs.Place.{Place, after}
-use Rattle.h1_chunks.specs.Reading.{Ending, goes_on, is_broken, ends_before, read}
+use Rattle.h1_chunks.specs.Reading.{Ending, ends_before, read}
 use Rattle.h1_machine.specs.Kept.{Rest, no_rest, raw_rest, fixed_rest, chunks_rest, frames_rest, Reply, answered, Exchange, Kept}
 
 -- what is then left of the body, and of the bytes
@@ -29,9 +29,11 @@ passing k = by_exchange k.exchange
   where
     put : Exchange → Passed → Kept
     put x p = record k { unread = p.unread; exchange = Some (record x { rest = p.rest }) }
+
     by_reply : Exchange → Reply → Kept
     by_reply x (answered kind) = put x (pass_rest k.has_ended x.rest k.unread)
     by_reply x _ = k
+
     by_exchange : Option Exchange → Kept
     by_exchange None = k
     by_exchange (Some x) = by_reply x x.reply

@@ -1,11 +1,11 @@
 -- What a connection answers to an allowed event, and what it keeps behind it: a short case for each event.
-use Rattle.std.specs.Prelude.{◌≡◌, ℕ, ◌-◌, Bool, true, false, ◌||◌, List, [], ◌++◌, length, take, drop, min, slice_range, ◌==◌, if◌then◌else◌, Option, Some, None, is_some}
+use Rattle.std.specs.Prelude.{◌≡◌, ℕ, ◌-◌, Bool, true, false, ◌||◌, List, ◌++◌, length, take, drop, min, slice_range, ◌==◌, if◌then◌else◌, Option, Some, None, is_some}
 use Rattle.std.specs.Option.{option_or}
 use Rattle.h1_model.specs.HeadPiece.{IsHeadPiece, HasNoHeadPiece}
-use Rattle.h1_model.specs.Request.{Head, Fault, too_large, Reading, head_is, faulty}
+use Rattle.h1_model.specs.Request.{too_large, Reading, head_is, faulty}
 use Rattle.h1_model.specs.RequestHead.{IsReadingWithin}
 use Rattle.h1_model.specs.Setting.{Setting}
-use Rattle.h1_model.specs.Answer.{AnswerHead, BodySize, size_stream}
+use Rattle.h1_model.specs.Answer.{size_stream}
 use Rattle.h1_model.specs.AnswerText.{interim_text}
 use Rattle.h1_model.specs.Handshake.{HandshakeError, accepting_head}
 use Rattle.h1_model.specs.Frame.{Message, ProtocolError}

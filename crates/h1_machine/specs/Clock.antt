@@ -1,5 +1,5 @@
 -- What a tick answers and does.
-use Rattle.std.specs.Prelude.{ℕ, Bool, true, false, not, ◌&&◌, List, [], ◌++◌, length, ◌==◌, if◌then◌else◌, Option, Some, None, is_none, unwrap_or}
+use Rattle.std.specs.Prelude.{ℕ, Bool, true, not, ◌&&◌, ◌++◌, length, ◌==◌, if◌then◌else◌, Option, Some, None, is_none, unwrap_or}
 use Rattle.std.specs.Option.{option_or}
 use Rattle.h1_model.specs.Setting.{Setting}
 use Rattle.h1_model.specs.AnswerText.{timeout_text}

@@ -1,5 +1,5 @@
 -- What a connection keeps: bounded parts, each a value of the model's.
-use Rattle.std.specs.Prelude.{ℕ, Bool, true, false, not, ◌&&◌, ◌||◌, List, [], ◌∷◌, if◌then◌else◌, Option, Some, None, unwrap_or}
+use Rattle.std.specs.Prelude.{ℕ, Bool, true, false, not, ◌&&◌, ◌||◌, List, [], if◌then◌else◌, Option, Some, None, unwrap_or}
 use Rattle.h1_chunks.specs.Place.{Place, start}
 use Rattle.h1_model.specs.Request.{BodyKind, no_body, fixed_body, chunked_body, raw_body, ConnectionType, Head, has_body, is_raw_kind}
 use Rattle.h1_model.specs.Answer.{Asked, asked_of, Shape}

@@ -1,8 +1,7 @@
 -- Why a connection closes, and which events are allowed: of the parts alone.
-use Rattle.std.specs.Prelude.{ℕ, ◌+◌, Bool, true, false, not, ◌&&◌, ◌||◌, List, [], ◌∷◌, length, nat_lt, nat_le, if◌then◌else◌, Option, Some, None, is_some}
+use Rattle.std.specs.Prelude.{ℕ, ◌+◌, Bool, true, false, not, ◌&&◌, ◌||◌, List, length, nat_lt, nat_le, if◌then◌else◌, Option, Some, None, is_some}
 use Rattle.std.specs.Option.{option_or}
 use Rattle.h1_chunks.specs.Place.{Place, broken}
-use Rattle.h1_model.specs.Request.{ConnectionType}
 use Rattle.h1_model.specs.Setting.{Setting}
 use Rattle.h1_model.specs.Limits.{MAX_FRAME_HEAD, MAX_MOMENT}
 use Rattle.h1_model.specs.FrameText.{Front, partial, front_frame}

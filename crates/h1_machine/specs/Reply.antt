@@ -1,14 +1,14 @@
 -- What an answer, a piece of its body and its end do to a connection.
-use Rattle.std.specs.Prelude.{ℕ, ◌-◌, Bool, true, false, not, ◌&&◌, List, [], ◌++◌, length, take, nat_lt, if◌then◌else◌, Option, Some, None}
+use Rattle.std.specs.Prelude.{ℕ, ◌-◌, not, ◌&&◌, List, [], ◌++◌, length, take, nat_lt, if◌then◌else◌, Option, Some, None}
 use Rattle.std.specs.Option.{option_or}
 use Rattle.h1_model.specs.Request.{ConnectionType}
 use Rattle.h1_model.specs.Setting.{Setting}
-use Rattle.h1_model.specs.Answer.{AnswerHead, BodySize, is_at_once, Asked, Shape, shape_none, shape_chunked, shape_raw, shape_length, shape_of, type_of}
+use Rattle.h1_model.specs.Answer.{AnswerHead, BodySize, is_at_once, Asked, Shape, shape_length, shape_of, type_of}
 use Rattle.h1_model.specs.AnswerText.{piece_text, end_text}
 use Rattle.h1_model.specs.Text.{answer_head_text}
 use Rattle.h1_model.specs.End as ends
 use Rattle.h1_model.specs.End.{End}
-use Rattle.h1_machine.specs.Kept.{Reply, unanswered, sending, answered, Clock, Exchange, Kept, now}
+use Rattle.h1_machine.specs.Kept.{Reply, sending, answered, Exchange, Kept, now}
 use Rattle.h1_machine.specs.Body.{passing}
 
 -- how many bytes a shape states

@@ -106,7 +106,8 @@ chunks_later bytes more u ended size place unfinished runs runs' shown within x 
 chunks_later bytes more u ended size place not_chunked runs runs' shown within x y next e = absurd (none-some next e)
 
 -- a body in chunks
-chunks_move : (bytes more : List ℕ) (u : Option ℕ) (ended : Bool) (size : ℕ) (place : ℕ) (a b : Chunked) (runs runs' : List Run) → place ≤ length bytes
+chunks_move : (bytes more : List ℕ) (u : Option ℕ) (ended : Bool) (size : ℕ) (place : ℕ) (a b : Chunked) (runs runs' : List Run)
+    → place ≤ length bytes
     → IsChunked (drop place bytes) a runs → IsChunked (drop place bytes ++ more) b runs'
     → Moves (length bytes) (content (shifted place runs) (chunked_stop (input bytes u false size) place a))
     (content (shifted place runs') (chunked_stop (input (bytes ++ more) u ended size) place b))
@@ -302,6 +303,7 @@ unframed i (fixed_body n) h place b e x chunks = absurd (false≢true (subst (λ
 unframed i chunked_body h place b e x chunks = ap is_frames x.3
 unframed i raw_body h place b e x chunks = absurd (false≢true (subst (λ k. has_chunks (head_is (record h { body = k })) ≡ true) e chunks))
 
+-- a body in chunks holds no frames
 pub chunks_unframed : (i : Input) (r : Reading) (place : ℕ) (b : Body) → IsBodyAfter i r place b → has_chunks r ≡ true → is_frames b ≡ false
 chunks_unframed i (faulty fault) place b x chunks = ap is_frames x
 chunks_unframed i (head_is h) place b x chunks = unframed i h.body h place b refl x chunks

@@ -17,6 +17,7 @@ use Rattle.h1_model.proofs.PulledLemmas.{Holds}
 pub passed_none : (past : List ParsedStep) → current past ≡ None → passed past ≡ 0
 passed_none past e = rw e refl
 
+-- and else what is passed of the current message
 pub passed_some : (past : List ParsedStep) (m : Message) → current past ≡ Some m → passed past ≡ message_passed past m
 passed_some past m e = rw e refl
 
@@ -29,6 +30,7 @@ pub passed_complete : (past : List ParsedStep) (m : Message) → is_complete (st
     → message_passed past m ≡ end_of (length (taken (steps past))) m.body
 passed_complete past m e = cond-true (is_complete (steps past)) _ _ e
 
+-- and before that the place that pulls have come to
 pub passed_pulled : (past : List ParsedStep) (m : Message) → is_complete (steps past) ≡ false → message_passed past m ≡ pulled_to m (steps past)
 passed_pulled past m e = cond-false (is_complete (steps past)) _ _ e
 
@@ -53,7 +55,8 @@ pub record Sound (past : List ParsedStep) : Type 0 where
 pub record Advance (before : List ParsedStep) (x : ParsedStep) (m n : Message) : Type 0 where
   pub holds : Holds (length (taken (x.step ∷ steps before))) n (x.step ∷ steps before)
   pub pulled : pulled_to m (steps before) ≤ pulled_to n (x.step ∷ steps before)
-  pub ended : is_complete (steps before) ≡ true → end_of (length (taken (steps before))) m.body ≤ end_of (length (taken (x.step ∷ steps before))) n.body
+  pub ended : is_complete (steps before) ≡ true
+      → end_of (length (taken (steps before))) m.body ≤ end_of (length (taken (x.step ∷ steps before))) n.body
 
 -- what is passed of a message that advances
 advance_passed : (before : List ParsedStep) (x : ParsedStep) (m n : Message) → head_of x.step.outcome ≡ None → Advance before x m n

@@ -26,10 +26,21 @@ closed_test : (closes closed opened : Bool) → cond closes closed opened ≡ tr
 closed_test true closed opened x e = x
 closed_test false closed opened x e = absurd (false≢true e)
 
+-- what is allowed once the connection closes is allowed then by the events alone
 pub allowed_closing : (setting : Setting) (past : List ParsedStep) (e : Event) (end : End) → closing setting past ≡ Some end
     → IsTrue (is_allowed setting past e) → is_allowed_closing (steps past) e ≡ true
 unfolding is_allowed
 allowed_closing setting past e end closes x = closed_test (is_some (closing setting past)) _ _ (and_parts _ _ x).1 (ap is_some closes)
+
+-- an event that isn't allowed while the connection closes comes while it doesn't
+pub running : (setting : Setting) (past : List ParsedStep) (e : Event) → is_allowed_closing (steps past) e ≡ false
+    → IsTrue (is_allowed setting past e)
+    → closing setting past ≡ None
+running setting past e shut ok = go (closing setting past) refl
+  where
+    go : (end : Option End) → closing setting past ≡ end → end ≡ None
+    go None same = refl
+    go (Some end) same = absurd (false≢true (sym shut ∙ allowed_closing setting past e end same ok))
 
 -- The event says nothing of the input, of an answer or of a body, and doesn't upgrade.
 record IsStill (e : Event) : Type 0 where
@@ -173,7 +184,8 @@ body_same s before x = λ i.
     (end_where (x.ended i && is_short (x.request i) (x.answered i) (x.len i)) ends.body_short)
 
 -- the current message and the one behind it
-current_same : (x : ParsedStep) (before : List ParsedStep) → x.parse ≡ parse_of before → head_count (x.step ∷ steps before) ≡ head_count (steps before)
+current_same : (x : ParsedStep) (before : List ParsedStep) → x.parse ≡ parse_of before
+    → head_count (x.step ∷ steps before) ≡ head_count (steps before)
     → (current (x ∷ before) ≡ current before) × (upcoming (x ∷ before) ≡ upcoming before)
 current_same x before parse count = (
   (λ i. if count i == 0 then None else slice_get (parse i) (count i - 1)),

@@ -1,5 +1,5 @@
 -- What each event that is allowed adds to the exchanges of a trace.
-use Rattle.std.proofs.Common.{◌≡◌, ℕ, Bool, true, false, cond, List, [], ◌∷◌, length, Option, Some, None, is_some, inl, inr, refl, sym, ap, ◌∙◌, subst, arith}
+use Rattle.std.proofs.Common.{◌≡◌, ℕ, Bool, true, false, List, [], ◌∷◌, length, Option, Some, None, is_some, inl, inr, refl, sym, ap, ◌∙◌, subst, arith}
 use Rattle.std.specs.Prelude.{IsTrue, unwrap_or, option_map, option_and_then, ◌==◌}
 use Rattle.std.proofs.lemmas.Bool.{cond-false, cond_both, and_parts, not-true, eqb-true, true≢false, false≢true, cases_Bool}
 use Rattle.std.proofs.lemmas.Option.{slice_get_within}
@@ -21,6 +21,7 @@ use Rattle.h1_model.specs.Closing.{told, fault_end, closing}
 use Rattle.h1_model.specs.Allowed.{is_allowed_closing, is_allowed, is_unanswered}
 use Rattle.h1_model.specs.OutcomeTable.{head_outcome, upcoming_outcome, next_outcome, tick_outcome, is_abandoned, is_slow, is_idle, send_outcome, outcome_of}
 use Rattle.h1_model.specs.Laws.Exchanges.{Exchange, changed_by, Refusal, faulty_head, too_slow, refused_by}
+use Rattle.h1_model.proofs.ClosingLemmas.{running as not_closing}
 use Rattle.h1_model.proofs.StepLemmas.{step, allowed_open}
 use Rattle.h1_model.proofs.HeldSteps.{pull_no_head}
 use Rattle.h1_model.proofs.HandedTrace.{told-here, told_closes}
@@ -30,15 +31,11 @@ use Rattle.h1_model.proofs.ExchangeSteps.{Newest, NewestIs, Spoken, Goes, quiet_
 
 -- ---- where the connection is open
 
--- what isn't allowed while the connection closes is allowed where it doesn't
-open_test : (closes closed opened : Bool) → cond closes closed opened ≡ true → closed ≡ false → closes ≡ false
-open_test true closed opened x shut = absurd (false≢true (sym shut ∙ x))
-open_test false closed opened x shut = refl
-
+-- an event that isn't allowed while the connection closes comes while it doesn't
 stays_open : (setting : Setting) (past : List ParsedStep) (e : Event) → is_allowed_closing (steps past) e ≡ false
     → IsTrue (is_allowed setting past e) → is_some (closing setting past) ≡ false
 unfolding is_allowed
-stays_open setting past e shut ok = open_test (is_some (closing setting past)) _ _ (and_parts _ _ ok).1 shut
+stays_open setting past e shut ok = ap is_some (not_closing setting past e shut ok)
 
 -- there no end was told
 untold : (setting : Setting) (past : List ParsedStep) → is_some (closing setting past) ≡ false → is_some (told (steps past)) ≡ false
@@ -268,6 +265,7 @@ send_goes setting before m None (e ∷ es) up spoken =
 
 -- ---- each event
 
+-- each event that is allowed goes on with the exchanges
 pub event_goes : (setting : Setting) (past : List ParsedStep) (event : Event) (es : List Exchange) (r : Option Refusal)
     → IsTrue (is_allowed setting past event) → Sound setting past → Spoken setting (steps past) es r
     → Goes setting (steps past) event (outcome_of setting past event) es r

@@ -191,6 +191,7 @@ first_holds : (a b : Bool) → (a && b) ≡ true → a ≡ true
 first_holds true b h = refl
 first_holds false b h = h
 
+-- of two conditions that hold the second does
 second_holds : (a b : Bool) → (a && b) ≡ true → b ≡ true
 second_holds true b h = h
 second_holds false b h = cc

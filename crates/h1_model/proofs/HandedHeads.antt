@@ -274,7 +274,8 @@ next_by setting x before None h hs d e outcome =
 -- Next behind a message, where bytes may be held
 pub next_step : (setting : Setting) (x : ParsedStep) (before : List ParsedStep) → IsParse (input_of setting (x.step ∷ steps before)) x.parse
     → IsParse (input_of setting (steps before)) (parse_of before) → 0 < setting.hold_size → Comes setting before x.step
-    → (h : Handed) (hs : List Handed) → handed_out (steps before) ≡ only (h ∷ hs) → Running (taken (steps before)) (parse_of before) (steps before) h hs → Sound setting (x ∷ before)
+    → (h : Handed) (hs : List Handed) → handed_out (steps before) ≡ only (h ∷ hs)
+    → Running (taken (steps before)) (parse_of before) (steps before) h hs → Sound setting (x ∷ before)
 next_step setting x before p q room o h hs handed r =
     let done = is_done (steps before) r.head r.asked o.done in
     let d : Done setting x before h hs = record {

@@ -188,7 +188,8 @@ add_piece text body items more rest x e some =
       follow = (last_items body, refl);
     }
   where
-    each_and_one : (pieces : List (List ℕ)) → AllByRecursion (λ piece. 0 < length piece) pieces → AllByRecursion (λ piece. 0 < length piece) (pieces ++ more ∷ [])
+    each_and_one : (pieces : List (List ℕ)) → AllByRecursion (λ piece. 0 < length piece) pieces
+        → AllByRecursion (λ piece. 0 < length piece) (pieces ++ more ∷ [])
     each_and_one [] each = (some, tt)
     each_and_one (piece ∷ pieces) each = (each.0, each_and_one pieces each.1)
 

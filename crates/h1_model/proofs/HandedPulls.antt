@@ -68,7 +68,8 @@ ended_hands text runs place (line ∷ more) false items x all left told =
 
 -- a fault, where nothing stands behind the bytes yet
 fault_hands : (text : List ℕ) (runs : List Run) (stop : Stop) (fault : BodyFault) (items : List Item)
-    → (x : AreItemsOf text (content runs stop) items) → stop_items stop ≡ item_fault fault ∷ [] → joined x.pieces ≡ run_bytes text runs → have_ending x.last ≡ false
+    → (x : AreItemsOf text (content runs stop) items) → stop_items stop ≡ item_fault fault ∷ [] → joined x.pieces ≡ run_bytes text runs
+    → have_ending x.last ≡ false
     → Hands (on.broken_by fault) text (content runs stop) items
 fault_hands text runs stop fault items x e all left =
     let none = none_ended (item_fault fault) [] x.last refl (x.follow.0, sym e ∙ x.follow.1) left in

@@ -1,6 +1,6 @@
 -- What is passed never falls and is never more than was taken; what is held stays below the bound.
 use Rattle.std.proofs.Common.{◌≡◌, ℕ, zero, suc, ◌-◌, ◌≤◌, min, Bool, true, false, List, [], ◌∷◌, ◌++◌, length, take, Option, Some, None, refl, sym, ap, ◌∙◌, subst, inl, inr, arith, append-nil, length-append}
-use Rattle.std.specs.Prelude.{is_some, is_none, not, ◌||◌, ◌&&◌}
+use Rattle.std.specs.Prelude.{slice_get, is_some, is_none, not, ◌||◌, ◌&&◌}
 use Rattle.std.specs.List.{list_any}
 use Rattle.std.specs.Option.{option_or}
 use Rattle.std.proofs.lemmas.Option.{none-some}
@@ -15,7 +15,7 @@ use Rattle.h1_model.proofs.BodyLemmas.{input}
 use Rattle.h1_model.proofs.PastLemmas.{Legal}
 use Rattle.h1_model.proofs.PlaceLemmas.{get_before}
 use Rattle.h1_model.proofs.StepLemmas.{taken-nil, taken-cons, accepted-cons, since_head-more, given_bytes-more, given_bytes-head, given_frames-more, given_frames-head, Accepts, quiet, reads, stops, accepts, begins, pulls, step_case, parsed}
-use Rattle.h1_model.proofs.TraceGrowth.{IsParsed, message_at, accepted_at, current_at, current_none}
+use Rattle.h1_model.proofs.TraceGrowth.{IsParsed, message_at, Accepted, accepted_at, current_at, current_none}
 use Rattle.h1_model.proofs.PulledLemmas.{Idle, idle_pulled, idle_holds, fresh_holds, unpulled_place, unpulled_fits}
 use Rattle.h1_model.proofs.CarriedLemmas.{passed_none, passed_some, passed_complete, passed_pulled, end_below, Sound, Advance, Result, carry}
 use Rattle.h1_model.proofs.HeldSteps.{quiet_idle, reads_idle, ends_idle, accepts_idle, quiet_step, pull_no_head, pull_step, head_step, read_step, end_step}
@@ -64,8 +64,8 @@ not_complete trace x complete =
     go false true a b d = false≢true b
     go false false a b d = false≢true d
 
--- it was no WebSocket yet
-not_upgraded : (trace : List Step) → is_unanswered trace ≡ true → accepted trace ≡ None
+-- what waits for its answer is no WebSocket yet
+pub not_upgraded : (trace : List Step) → is_unanswered trace ≡ true → accepted trace ≡ None
 not_upgraded trace x =
     go (accepted trace) (not-true (is_upgraded trace) (and_parts (is_open trace && is_none (answered trace)) (not (is_upgraded trace)) x).1)
   where
@@ -92,26 +92,42 @@ accept_advance setting before x m n a old start parsed len =
       ended = λ complete. absurd (not_complete t a.unanswered complete);
     }
 
--- a WebSocket is accepted
-accept_step : (setting : Setting) (before : List ParsedStep) (x : ParsedStep) → Accepts before x.step → Legal setting before
-    → IsParse (input_of setting (x.step ∷ steps before)) x.parse
-    → IsParse (input_of setting (steps before)) (parse_of before) → Sound before → Result before x
-accept_step setting before x a old here there s =
+-- the acceptance takes no bytes
+accepted_bytes : (before : List ParsedStep) (x : ParsedStep) → Accepts before x.step → taken (x.step ∷ steps before) ≡ taken (steps before)
+accepted_bytes before x a =
+    let t = steps before in
+    taken-cons x.step t ∙ ap (λ e. taken t ++ step_taken e x.step.outcome) a.event ∙ append-nil (taken t)
+
+-- a message of the parse stands in its place behind the acceptance
+pub accepted_message : (setting : Setting) (before : List ParsedStep) (x : ParsedStep) (k : ℕ) (m : Message) → Accepts before x.step
+    → IsParse (input_of setting (x.step ∷ steps before)) x.parse → IsParse (input_of setting (steps before)) (parse_of before)
+    → slice_get (parse_of before) k ≡ Some m
+    → (n : Message) × (slice_get x.parse k ≡ Some n) × Accepted (length (taken (steps before))) m n
+accepted_message setting before x k m a here there e =
     let t = steps before in
     let size = setting.hold_size in
     let j = input_of setting (x.step ∷ t) in
-    let none : step_taken x.step.event x.step.outcome ≡ [] = ap (λ e. step_taken e x.step.outcome) a.event in
-    let bytes : taken (x.step ∷ t) ≡ taken t = taken-cons x.step t ∙ ap (λ b. taken t ++ b) none ∙ append-nil (taken t) in
+    let bytes = accepted_bytes before x a in
     let now_upgraded : j.upgraded ≡ Some a.limit =
     accepted-cons x.step t ∙ (λ i. option_or (accepted_limit (a.event i) (a.outcome i)) (accepted t)) in
     let ended : j.ended ≡ has_ended t = ap (λ e. is_eof e || has_ended t) a.event in
     let was = subst (λ u. IsParse (input (taken t) u (has_ended t) size) (parse_of before)) (not_upgraded t a.unanswered) there in
     let is : j ≡ input (taken t) (Some a.limit) (has_ended t) size = λ i. input (bytes i) (now_upgraded i) (ended i) size in
     let now = subst (λ (k : Input). IsParse k x.parse) is here in
+    accepted_at (taken t) a.limit (has_ended t) size 0 (parse_of before) x.parse k m was now e
+
+-- a WebSocket is accepted
+accept_step : (setting : Setting) (before : List ParsedStep) (x : ParsedStep) → Accepts before x.step → Legal setting before
+    → IsParse (input_of setting (x.step ∷ steps before)) x.parse
+    → IsParse (input_of setting (steps before)) (parse_of before) → Sound before → Result before x
+accept_step setting before x a old here there s =
+    let t = steps before in
+    let j = input_of setting (x.step ∷ t) in
     carry before x (head_count t) refl (ap head_of a.outcome) s
     (λ k m at current_is.
-    let n = accepted_at (taken t) a.limit (has_ended t) size 0 (parse_of before) x.parse k m was now at in
-    (n.0, n.1, accept_advance setting before x m n.0 a old n.2.body_start (message_at j 0 x.parse k n.0 here (omega arith) n.1) (ap length bytes)))
+    let n = accepted_message setting before x k m a here there at in
+    let parsed = message_at j 0 x.parse k n.0 here (omega arith) n.1 in
+    (n.0, n.1, accept_advance setting before x m n.0 a old n.2.body_start parsed (ap length (accepted_bytes before x a))))
 
 -- ---- every past
 
@@ -167,6 +183,7 @@ pub record Bounded (setting : Setting) (past : List ParsedStep) : Type 0 where
   pub passed : passed past ≤ length (taken (steps past))
   pub held : held past ≤ setting.hold_size
 
+-- each legal past keeps to the bounds
 pub bounded : (setting : Setting) (past : List ParsedStep) → Legal setting past → Bounded setting past
 bounded setting [] l =
     let none = passed_none [] refl in

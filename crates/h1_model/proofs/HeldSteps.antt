@@ -1,5 +1,5 @@
 -- How a step that hands out, pulls, reads or ends the input carries what is passed of the current message.
-use Rattle.std.proofs.Common.{◌≡◌, ℕ, zero, suc, ◌≤◌, Bool, true, false, List, [], ◌∷◌, ◌++◌, length, Option, Some, None, refl, sym, ap, ◌∙◌, subst, subst₂, inl, inr, arith, append-nil, length-append}
+use Rattle.std.proofs.Common.{◌≡◌, ℕ, zero, suc, ◌≤◌, Bool, true, false, List, [], ◌∷◌, ◌++◌, length, Option, Some, None, ◌⊎◌, refl, sym, ap, ◌∙◌, subst, subst₂, inl, inr, arith, append-nil, length-append}
 use Rattle.std.specs.Prelude.{unwrap_or, slice_get}
 use Rattle.std.specs.Option.{option_or}
 use Rattle.std.proofs.lemmas.Option.{same_Some, slice_get_within}
@@ -18,7 +18,8 @@ use Rattle.h1_model.proofs.MessageGrowth.{parse_grows}
 use Rattle.h1_model.proofs.BodyLemmas.{input}
 use Rattle.h1_model.proofs.PlaceLemmas.{get_before}
 use Rattle.h1_model.proofs.BodySteps.{Moves, body_moves, Lies, chunks_unframed}
-use Rattle.h1_model.proofs.StepLemmas.{step, taken-cons, accepted-cons, head_count-head, given_bytes-head, given_frames-head, complete-head, Quiet, Reads, Ends, Accepts, Begins, Pulls, parsed, same_input, same_parse}
+use Rattle.h1_model.proofs.PastLemmas.{Legal}
+use Rattle.h1_model.proofs.StepLemmas.{step, taken-cons, accepted-cons, head_count-head, given_bytes-head, given_frames-head, complete-head, Quiet, Reads, Ends, Accepts, Begins, Pulls, quiet, reads, stops, accepts, begins, pulls, step_case, parsed, same_input, same_parse}
 use Rattle.h1_model.proofs.TraceGrowth.{IsParsed, message_at, message_behind, grown_at, current_at, current_none}
 use Rattle.h1_model.proofs.PulledLemmas.{Grown, Holds, longer_holds, Idle, idle_pulled, idle_holds, pulled_grows, grown_holds, fresh_holds, pulled_to-head, fit-head}
 use Rattle.h1_model.proofs.PullSteps.{body_pulled}
@@ -30,14 +31,17 @@ use Rattle.h1_model.proofs.CarriedLemmas.{passed_none, passed_some, end_of, pass
 pub quiet_idle : (before : List ParsedStep) (s : Step) → Quiet before s → Idle s
 quiet_idle before s q = record { pull = q.pull; head = q.head; bytes = q.bytes; frames = q.frames }
 
+-- a step that reads
 pub reads_idle : (setting : Setting) (before : List ParsedStep) (s : Step) → Reads setting before s → Idle s
 reads_idle setting before s r =
     record { pull = ap is_pull r.event; head = ap head_of r.outcome; bytes = ap step_bytes r.outcome; frames = ap step_frames r.outcome }
 
+-- one that ends the input
 pub ends_idle : (before : List ParsedStep) (s : Step) → Ends before s → Idle s
 ends_idle before s e =
     record { pull = ap is_pull e.event; head = ap head_of e.outcome; bytes = ap step_bytes e.outcome; frames = ap step_frames e.outcome }
 
+-- one that accepts a WebSocket
 pub accepts_idle : (before : List ParsedStep) (s : Step) → Accepts before s → Idle s
 accepts_idle before s a =
     record { pull = ap is_pull a.event; head = ap head_of a.outcome; bytes = ap step_bytes a.outcome; frames = ap step_frames a.outcome }
@@ -73,6 +77,7 @@ ended_no_head given [] = refl
 ended_no_head true (line ∷ more) = refl
 ended_no_head false (line ∷ more) = refl
 
+-- what a pull gives of runs is no head
 run_no_head : (trace : List Step) (stop : Stop) (left : Option Run) → head_of (run_outcome trace stop left) ≡ None
 run_no_head trace stop (Some r) = refl
 run_no_head trace (ended_at place trailers) None = ended_no_head (gave_trailers trace) trailers
@@ -80,19 +85,34 @@ run_no_head trace still_open None = refl
 run_no_head trace broken None = refl
 run_no_head trace cut None = refl
 
+-- nor what it gives of frames
 frame_no_head : (fail : Option ProtocolError) (next : Option PlacedFrame) → head_of (frame_outcome fail next) ≡ None
 frame_no_head fail (Some f) = refl
 frame_no_head (Some e) None = refl
 frame_no_head None None = refl
 
+-- nor of any body
 body_no_head : (trace : List Step) (b : Body) → head_of (body_outcome trace b) ≡ None
 body_no_head trace no_content = refl
 body_no_head trace (content runs stop) = run_no_head trace stop (run_left (given_bytes trace) runs)
 body_no_head trace (frames placed fail) = frame_no_head fail (slice_get placed (given_frames trace))
 
+-- so that a pull hands out no head
 pub pull_no_head : (trace : List Step) (m : Option Message) → head_of (pull_outcome trace m) ≡ None
 pull_no_head trace None = refl
 pull_no_head trace (Some m) = body_no_head trace m.body
+
+-- A step hands out no head, or that of the message that is to come.
+pub headless_or_begins : (setting : Setting) (before : List ParsedStep) (x : ParsedStep) → Legal setting (x ∷ before)
+    → (head_of x.step.outcome ≡ None) ⊎ Begins before x.step
+headless_or_begins setting before x l = elim (step_case setting before x.step.event x.step.outcome l.1 l.2) [
+  | quiet q ↦ inl q.head
+  | reads r ↦ inl (ap head_of r.outcome)
+  | stops r ↦ inl (ap head_of r.outcome)
+  | accepts a ↦ inl (ap head_of a.outcome)
+  | begins b ↦ inr b
+  | pulls p ↦ inl (ap head_of p.outcome ∙ pull_no_head (steps before) (current before))
+]
 
 -- a message advances by a pull
 pull_advance : (setting : Setting) (before : List ParsedStep) (x : ParsedStep) (m : Message) → x.step.event ≡ on.pull

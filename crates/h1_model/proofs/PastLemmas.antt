@@ -15,6 +15,7 @@ use Rattle.h1_model.proofs.MessageLemmas.{messages_unique}
 first_step : (s t : Step) (ss ts : List Step) → s ∷ ss ≡ t ∷ ts → s ≡ t
 first_step s t ss ts e = cc
 
+-- and the same others
 other_steps : (s t : Step) (ss ts : List Step) → s ∷ ss ≡ t ∷ ts → ss ≡ ts
 other_steps s t ss ts e = cc
 

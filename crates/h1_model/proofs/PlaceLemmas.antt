@@ -1,5 +1,5 @@
 -- Places in the runs of a body and behind its frames.
-use Rattle.std.proofs.Common.{◌≡◌, ℕ, zero, suc, ◌+◌, ◌-◌, ◌<◌, ◌≤◌, min, eqb, ltb, leb, List, [], ◌∷◌, ◌++◌, length, Some, refl, sym, ap, ◌∙◌, subst, inl, inr, arith}
+use Rattle.std.proofs.Common.{◌≡◌, ℕ, zero, suc, ◌+◌, ◌-◌, ◌<◌, ◌≤◌, min, eqb, ltb, leb, List, [], ◌∷◌, ◌++◌, length, Some, None, refl, sym, ap, ◌∙◌, subst, inl, inr, arith}
 use Rattle.std.specs.Prelude.{slice_get}
 use Rattle.std.proofs.lemmas.Option.{slice_get_within, none-some}
 use Rattle.std.proofs.lemmas.Bool.{cond-true, cond-false, cases_lt, cases_eq, le-ltb, lt-ltb, le-leb, lt-leb, eq-eqb, ne_eqb}
@@ -60,6 +60,11 @@ unfolding run_left
 left-past given r rs past = cond-false (ltb given (run_len r)) _ _ (le-ltb given (run_len r) past)
 
 -- no run, no byte
+pub left_nothing : (given : ℕ) → run_left given [] ≡ None
+unfolding run_left
+left_nothing given = refl
+
+-- so that there is no run of it
 pub left-none : (given : ℕ) (r : Run) → run_left given [] ≡ Some r → ⊥
 unfolding run_left
 left-none given r e = cc
@@ -278,11 +283,12 @@ cut_shifted n place (r ∷ rs) =
           ap (shifted place) (cut_end n r rs past) ∙ sym (cut_end (place + n) q (shifted place rs) (omega arith))
     ]
 
--- there are bytes between the places, or there are none
-between-some : (start end : ℕ) → start < end → run_between start end ≡ record { start = start; end = end } ∷ []
+-- the run between two places with bytes between them
+pub between-some : (start end : ℕ) → start < end → run_between start end ≡ record { start = start; end = end } ∷ []
 between-some start end some = cond-true (ltb start end) _ _ (lt-ltb start end some)
 
-between-none : (start end : ℕ) → end ≤ start → run_between start end ≡ []
+-- there is none where there are none
+pub between-none : (start end : ℕ) → end ≤ start → run_between start end ≡ []
 between-none start end none = cond-false (ltb start end) _ _ (le-ltb start end none)
 
 -- the run between two places lies between them

@@ -14,7 +14,7 @@ use Rattle.h1_model.specs.Event as on
 use Rattle.h1_model.specs.Sums.{Step, taken, head_of}
 use Rattle.h1_model.specs.Past.{step_bytes, step_frames, given_bytes, given_frames, place_behind, frame_end, has_chunks, pulled_place, pulled_to}
 use Rattle.h1_model.specs.OutcomeTable.{run_left, gave_trailers, ended_outcome, stop_outcome, run_outcome, frame_outcome, body_outcome}
-use Rattle.h1_model.proofs.PlaceLemmas.{run_len, left_some, left_within, left_place, left_len, left_next, IsBeforeLeft, frame_end-at, frame_within, frame_next}
+use Rattle.h1_model.proofs.PlaceLemmas.{run_len, left_nothing, left_some, left_within, left_place, left_len, left_next, IsBeforeLeft, frame_end-at, frame_within, frame_next}
 use Rattle.h1_model.proofs.BodySteps.{is_frames, Lies}
 use Rattle.h1_model.proofs.StepLemmas.{step, taken-cons, given_bytes-more, given_frames-more}
 use Rattle.h1_model.proofs.PulledLemmas.{pulled_to-more, PullFits, fit-more, Holds}
@@ -188,7 +188,8 @@ ended_pulled r place runs end trailers (line ∷ more) false before none_left li
     end_pulled (message r place (content runs (ended_at end trailers))) before _ end refl refl refl refl refl refl none_left refl lies x
 
 -- content, by how it stops, where all that is there was given
-stop_pulled : (r : Reading) (place : ℕ) (runs : List Run) (stop : Stop) (given : Bool) (before : List Step) → run_left (given_bytes before) runs ≡ None
+stop_pulled : (r : Reading) (place : ℕ) (runs : List Run) (stop : Stop) (given : Bool) (before : List Step)
+    → run_left (given_bytes before) runs ≡ None
     → Lies (length (taken before)) place (content runs stop) → Holds (length (taken before)) (message r place (content runs stop)) before
     → Pulled (message r place (content runs stop)) before (stop_outcome given stop)
 stop_pulled r place runs (ended_at end trailers) given before none_left lies x =
@@ -205,11 +206,6 @@ content_pulled : (r : Reading) (place : ℕ) (runs : List Run) (stop : Stop) (be
     → Pulled (message r place (content runs stop)) before (run_outcome before stop left)
 content_pulled r place runs stop before (Some q) e lies x = bytes_pulled (message r place (content runs stop)) before q e refl lies x
 content_pulled r place runs stop before None e lies x = stop_pulled r place runs stop (gave_trailers before) before e lies x
-
--- of no run nothing is left
-left_nothing : (given : ℕ) → run_left given [] ≡ None
-unfolding run_left
-left_nothing given = refl
 
 -- frames, by the next one
 frames_pulled : (r : Reading) (place : ℕ) (placed : List PlacedFrame) (fail : Option ProtocolError) (before : List Step) (next : Option PlacedFrame)

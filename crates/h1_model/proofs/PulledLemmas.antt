@@ -71,7 +71,8 @@ unfolding PullsFit
 fit-more m s before none here others =
     subst (λ o. Behind o (PullFits m (s ∷ before) s.event s.outcome × PullsFit m before)) (sym none) (here, others)
 
-fit-less : (m : Message) (s : Step) (before : List Step) → head_of s.outcome ≡ None → PullsFit m (s ∷ before)
+-- and what that says of the step and of those before it
+pub fit-less : (m : Message) (s : Step) (before : List Step) → head_of s.outcome ≡ None → PullsFit m (s ∷ before)
     → PullFits m (s ∷ before) s.event s.outcome × PullsFit m before
 unfolding PullsFit
 fit-less m s before none x = subst (λ o. Behind o (PullFits m (s ∷ before) s.event s.outcome × PullsFit m before)) none x
@@ -237,7 +238,8 @@ pub unpulled_place : (m : Message) (trace : List Step) → was_pulled trace ≡ 
 unpulled_place m [] x = pulled_to-nil m
 unpulled_place m (s ∷ before) x = go (head_of s.outcome) refl (unpulled_place m before)
   where
-    go : (o : Option Head) → head_of s.outcome ≡ o → (was_pulled before ≡ false → pulled_to m before ≡ m.body_start) → pulled_to m (s ∷ before) ≡ m.body_start
+    go : (o : Option Head) → head_of s.outcome ≡ o → (was_pulled before ≡ false → pulled_to m before ≡ m.body_start)
+        → pulled_to m (s ∷ before) ≡ m.body_start
     go (Some h) e more = pulled_to-head m s before h e
     go None e more =
         let parts = or_parts (is_pull s.event) (was_pulled before) (sym (ap (list_any (λ t. is_pull t.event)) (since_head-more s before e)) ∙ x) in

@@ -143,7 +143,8 @@ line_decided text =
     dec_like (λ x. line_from x.0.0 x.0.1.0 x.0.1.1 x.1 x.2) (λ x. ((x.0.name, (x.0.raw, x.0.end)), x.1, FieldLine_parts x.0 text x.1 x.2))
     (then_decided (Word is_token_byte 58) Text Name_deterministic (plain_word_decided is_token_byte 58) text_decided text)
   where
-    line_from : (name raw : List ℕ) (end : LineEnd) (rest : List ℕ) → Then (Word is_token_byte 58) Text (name, (raw, end)) text rest → Begins FieldLine text
+    line_from : (name raw : List ℕ) (end : LineEnd) (rest : List ℕ) → Then (Word is_token_byte 58) Text (name, (raw, end)) text rest
+        → Begins FieldLine text
     line_from name raw end rest x =
         let f : Field = record { name = name; raw = raw; end = end } in (
           f,

@@ -93,6 +93,7 @@ open_test : (closes closed opened : Bool) → cond closes closed opened ≡ true
 open_test true closed opened x shut = absurd (false≢true (sym shut ∙ x))
 open_test false closed opened x shut = x
 
+-- an event that isn't allowed while the connection closes is allowed as while it is open
 pub allowed_open : (setting : Setting) (past : List ParsedStep) (e : Event) → is_allowed_closing (steps past) e ≡ false
     → IsTrue (is_allowed setting past e) → is_allowed_running setting (steps past) e ≡ true
 unfolding is_allowed
@@ -150,6 +151,7 @@ pub record Pulls (before : List ParsedStep) (s : Step) : Type 0 where
   pub event : s.event ≡ on.pull
   pub outcome : s.outcome ≡ pull_outcome (steps before) (current before)
 
+-- each allowed step is one of these
 pub data StepCase (setting : Setting) (before : List ParsedStep) (s : Step) : Type 0 where
   quiet : Quiet before s → StepCase setting before s
   reads : Reads setting before s → StepCase setting before s

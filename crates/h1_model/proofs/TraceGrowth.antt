@@ -3,6 +3,7 @@ use Rattle.std.proofs.Common.{◌≡◌, ℕ, zero, suc, ◌+◌, ◌-◌, ◌�
 use Rattle.std.specs.Prelude.{slice_get}
 use Rattle.std.proofs.lemmas.Option.{none-some, same_Some}
 use Rattle.std.proofs.lemmas.Bool.{cond-false, ne_eqb}
+use Rattle.h1_model.specs.HeadPiece.{HasNoHeadPiece}
 use Rattle.h1_model.specs.RequestHead.{IsReadingWithin}
 use Rattle.h1_model.specs.Frame.{ProtocolError}
 use Rattle.h1_model.specs.FrameText.{PlacedFrame}
@@ -46,21 +47,46 @@ message_at i place (q ∷ ms) (suc k) m x within e =
     let end = (at_place i place q x.0 within).lies.next rest.0 rest.1 in
     message_at i rest.0 ms k m rest.2 end.1 e
 
--- the first message of the list
-first_at : (i : Input) (place : ℕ) (ms : List Message) (m : Message) → AreMessages i place ms → slice_get ms 0 ≡ Some m → IsMessageAt i place m
-first_at i place [] m x e = absurd (none-some m e)
-first_at i place (q ∷ ms) m x e = subst (IsMessageAt i place) (same_Some q m e) x.0
+-- the first of the messages from a place on, if there is one
+abbrev pub ComesAt : Input → ℕ → Option Message → Type 0
+ComesAt i place None = HasNoHeadPiece (drop place i.bytes)
+ComesAt i place (Some m) = IsMessageAt i place m
+
+-- of messages from the place on it is the first
+pub first_comes : (i : Input) (place : ℕ) (ms : List Message) → AreMessages i place ms → ComesAt i place (slice_get ms 0)
+first_comes i place [] x = x
+first_comes i place (m ∷ ms) x = x.0
+
+-- what stands behind a message: where it has ended what comes there, and else nothing
+abbrev pub ComesBehind : Input → Option ℕ → Option Message → Type 0
+ComesBehind i next n = MatchOption next (n ≡ None) (λ place. ComesAt i place n)
+
+-- of the messages behind it it is the first
+first_behind : (i : Input) (next : Option ℕ) (ms : List Message) → MatchOption next (ms ≡ []) (λ place. AreMessages i place ms)
+    → ComesBehind i next (slice_get ms 0)
+first_behind i None ms x = ap (λ (l : List Message). slice_get l 0) x
+first_behind i (Some place) ms x = first_comes i place ms x
+
+-- behind a message of the list
+pub comes_behind : (i : Input) (place : ℕ) (ms : List Message) (k : ℕ) (m : Message) → AreMessages i place ms → slice_get ms k ≡ Some m
+    → ComesBehind i (next_start m.body) (slice_get ms (suc k))
+comes_behind i place [] k m x e = absurd (none-some m e)
+comes_behind i place (q ∷ ms) zero m x e =
+    subst (λ p. ComesBehind i (next_start p.body) (slice_get ms 0)) (same_Some q m e) (first_behind i (next_start q.body) ms x.1)
+comes_behind i place (q ∷ ms) (suc k) m x e =
+    let rest = rest_of i (next_start q.body) ms k m x.1 e in
+    comes_behind i rest.0 ms k m rest.2 e
+
+-- a message that comes behind another starts where that one's body ends
+comes_there : (i : Input) (next : Option ℕ) (u : Option Message) (n : Message) → ComesBehind i next u → u ≡ Some n
+    → (place : ℕ) × (next ≡ Some place) × IsMessageAt i place n
+comes_there i None u n x f = absurd (none-some n (sym x ∙ f))
+comes_there i (Some place) u n x f = (place, refl, subst (ComesAt i place) f x)
 
 -- The message behind another starts where that one's body ends.
 pub message_behind : (i : Input) (place : ℕ) (ms : List Message) (k : ℕ) (m n : Message) → AreMessages i place ms → slice_get ms k ≡ Some m
     → slice_get ms (suc k) ≡ Some n → (next : ℕ) × (next_start m.body ≡ Some next) × IsMessageAt i next n
-message_behind i place [] k m n x e f = absurd (none-some m e)
-message_behind i place (q ∷ ms) zero m n x e f =
-    let rest = rest_of i (next_start q.body) ms 0 n x.1 f in
-    (rest.0, sym (ap (λ (p : Message). next_start p.body) (same_Some q m e)) ∙ rest.1, first_at i rest.0 ms n rest.2 f)
-message_behind i place (q ∷ ms) (suc k) m n x e f =
-    let rest = rest_of i (next_start q.body) ms k m x.1 e in
-    message_behind i rest.0 ms k m n rest.2 e f
+message_behind i place ms k m n x e f = comes_there i (next_start m.body) (slice_get ms (suc k)) n (comes_behind i place ms k m x e) f
 
 -- ---- growth
 
@@ -80,6 +106,7 @@ BodyAccepted len a b =
     (a ≡ b) ⊎ ((placed : List PlacedFrame) × (fail : Option ProtocolError) × (b ≡ frames placed fail)
     × ((next : ℕ) → next_start a ≡ Some next → len ≤ next))
 
+-- a message before the acceptance, and the same one behind it
 pub record Accepted (len : ℕ) (m n : Message) : Type 0 where
   pub reading : m.reading ≡ n.reading
   pub body_start : m.body_start ≡ n.body_start
@@ -103,6 +130,7 @@ kind_accepted bytes limit ended size chunked_body place a b x y =
 kind_accepted bytes limit ended size raw_body place a b x y =
     inr (y.0, y.1, y.3, λ next e. raw_last bytes ended size place next (sym (ap next_start x) ∙ e))
 
+-- the same behind a reading
 body_accepted : (bytes : List ℕ) (limit : ℕ) (ended : Bool) (size : ℕ) (r : Reading) (place : ℕ) (a b : Body)
     → IsBodyAfter (input bytes None ended size) r place a
     → IsBodyAfter (input bytes (Some limit) ended size) r place b → BodyAccepted (length bytes) a b

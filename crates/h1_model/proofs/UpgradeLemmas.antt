@@ -1,13 +1,10 @@
 -- The messages before a WebSocket is accepted, and those behind it.
-use Rattle.std.proofs.Common.{◌≡◌, ℕ, ◌+◌, Bool, true, false, List, [], ◌∷◌, length, drop, slice_range, Option, Some, None, MatchOption, refl, sym, ap, ap₂, ◌∙◌, subst, subst₂, arith, true≢false}
-use Rattle.h1_model.specs.RequestHead.{IsReadingWithin}
+use Rattle.std.proofs.Common.{◌≡◌, ℕ, Bool, true, false, List, [], ◌∷◌, length, Option, Some, None, MatchOption, refl, sym, ap, ◌∙◌, subst, subst₂, arith, true≢false}
 use Rattle.h1_model.specs.Request.{BodyKind, no_body, fixed_body, chunked_body, raw_body, is_raw_kind, Reading, head_is, faulty}
 use Rattle.h1_model.specs.Parse.{Input, Message, Body, raw_content, next_start, IsBodyOf, IsBodyAfter, IsMessageAt, AreMessages, IsParse}
 use Rattle.h1_model.specs.Laws.Upgrade.{has_raw_body, StaysUpgraded, StayUpgraded}
-use Rattle.h1_model.proofs.HeadPieceLemmas.{head_piece_unique}
-use Rattle.h1_model.proofs.ReadingLemmas.{reading_within_unique}
 use Rattle.h1_model.proofs.BodyLemmas.{input, body_unique}
-use Rattle.h1_model.proofs.MessageGrowth.{piece_long}
+use Rattle.h1_model.proofs.TraceGrowth.{message_accepted, none_behind}
 
 -- ---- bodies
 
@@ -29,9 +26,7 @@ body_stays bytes limit ended size (head_is h) place b other x = kind_stays bytes
 none_at_end : (bytes : List ℕ) (u : Option ℕ) (ended : Bool) (size : ℕ) (ms : List Message)
     → AreMessages (input bytes u ended size) (length bytes) ms → ms ≡ []
 none_at_end bytes u ended size [] x = refl
-none_at_end bytes u ended size (m ∷ ms) x =
-    let long = piece_long bytes (length bytes) x.0.start x.0.end x.0.piece in
-    absurd (omega arith)
+none_at_end bytes u ended size (m ∷ ms) x = absurd (none_behind bytes u ended size (length bytes) (m ∷ ms) 0 m x (omega arith) refl)
 
 -- what stands behind a body
 abbrev AreBehind : Input → Body → List Message → Type 0
@@ -65,15 +60,11 @@ body_is_last bytes u ended size (head_is h) place b ms raw x y = kind_is_last by
 message_stays : (bytes : List ℕ) (limit : ℕ) (ended : Bool) (size place : ℕ) (m n : Message) → IsMessageAt (input bytes None ended size) place m
     → IsMessageAt (input bytes (Some limit) ended size) place n → StaysUpgraded m n
 message_stays bytes limit ended size place m n x y =
-    let piece = head_piece_unique (drop place bytes) x.start x.end y.start y.end x.piece y.piece in
-    let body_start : m.body_start ≡ n.body_start = x.body_start ∙ ap (λ e. place + e) piece.1 ∙ sym y.body_start in
-    let text = ap₂ (slice_range (drop place bytes)) (sym piece.0) (sym piece.1) in
-    let reading = reading_within_unique size (slice_range (drop place bytes) x.start x.end) m.reading n.reading x.reading
-    (subst (λ t. IsReadingWithin size t n.reading) text y.reading) in
-    let behind = subst₂ (λ r p. IsBodyAfter (input bytes (Some limit) ended size) r p n.body) (sym reading) (sym body_start) y.body in
+    let a = message_accepted bytes limit ended size place m n x y in
+    let behind = subst₂ (λ r p. IsBodyAfter (input bytes (Some limit) ended size) r p n.body) (sym a.reading) (sym a.body_start) y.body in
     record {
-      reading = reading;
-      body_start = body_start;
+      reading = a.reading;
+      body_start = a.body_start;
       body = λ other. body_unique (input bytes None ended size) m.reading m.body_start m.body n.body x.body
           (body_stays bytes limit ended size m.reading m.body_start n.body other behind);
     }

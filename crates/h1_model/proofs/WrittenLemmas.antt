@@ -33,11 +33,7 @@ written-cons : (s : Step) (before : List Step) → written (s ∷ before) ≡ wr
 unfolding written
 written-cons s before = refl
 
--- the text
-pub text-nil : (setting : Setting) → text setting [] ≡ []
-unfolding text
-text-nil setting = refl
-
+-- the text, of one more step
 pub text-cons : (setting : Setting) (s : Step) (before : List Step)
     → text setting (s ∷ before) ≡ text setting before ++ step_text setting before s.event s.outcome
 unfolding text
@@ -55,11 +51,13 @@ head_writes_none : (r : Reading) → step_written (head_outcome r) ≡ []
 head_writes_none (head_is h) = refl
 head_writes_none (faulty fault) = refl
 
+-- nor does a call for the message that is to come
 upcoming_writes_none : (setting : Setting) (past : List ParsedStep) (m : Option Message) → step_written (upcoming_outcome setting past m) ≡ []
 upcoming_writes_none setting past (Some m) = head_writes_none m.reading
 upcoming_writes_none setting past None =
     cond_both (held past == setting.hold_size) (on.fault too_large) on.pending (λ o. step_written o ≡ []) (λ _. refl) (λ _. refl)
 
+-- nor any call for the next head
 next_writes_none : (setting : Setting) (past : List ParsedStep) (end : Option End) → step_written (next_outcome setting past end) ≡ []
 next_writes_none setting past (Some end) = refl
 next_writes_none setting past None = upcoming_writes_none setting past (upcoming past)
@@ -70,6 +68,7 @@ ended_writes_none given [] = refl
 ended_writes_none true (line ∷ more) = refl
 ended_writes_none false (line ∷ more) = refl
 
+-- nor what a pull gives of runs
 run_writes_none : (trace : List Step) (stop : Stop) (left : Option Run) → step_written (run_outcome trace stop left) ≡ []
 run_writes_none trace stop (Some r) = refl
 run_writes_none trace (ended_at place trailers) None = ended_writes_none (gave_trailers trace) trailers
@@ -77,16 +76,19 @@ run_writes_none trace still_open None = refl
 run_writes_none trace broken None = refl
 run_writes_none trace cut None = refl
 
+-- of frames
 frame_writes_none : (fail : Option ProtocolError) (next : Option PlacedFrame) → step_written (frame_outcome fail next) ≡ []
 frame_writes_none fail (Some f) = refl
 frame_writes_none (Some e) None = refl
 frame_writes_none None None = refl
 
+-- of any body
 body_writes_none : (trace : List Step) (b : Body) → step_written (body_outcome trace b) ≡ []
 body_writes_none trace no_content = refl
 body_writes_none trace (content runs stop) = run_writes_none trace stop (run_left (given_bytes trace) runs)
 body_writes_none trace (frames placed fail) = frame_writes_none fail (slice_get placed (given_frames trace))
 
+-- so that a pull hands out nothing for writing
 pull_writes_none : (trace : List Step) (m : Option Message) → step_written (pull_outcome trace m) ≡ []
 pull_writes_none trace None = refl
 pull_writes_none trace (Some m) = body_writes_none trace m.body
@@ -105,6 +107,7 @@ refusal_writes_none : (e : Option HandshakeError) → step_written (unwrap_or (o
 refusal_writes_none (Some e) = refl
 refusal_writes_none None = refl
 
+-- nor a message that is sent
 send_writes_none : (e : Option ProtocolError) → step_written (unwrap_or (option_map on.protocol e) on.done) ≡ []
 send_writes_none (Some e) = refl
 send_writes_none None = refl

@@ -6,7 +6,7 @@ use Rattle.h1_model.specs.HeadPiece.{HasNoHeadPiece}
 use Rattle.h1_model.specs.Request.{Header, too_large, Reading, head_is, faulty}
 use Rattle.h1_model.specs.Setting.{Setting}
 use Rattle.h1_model.specs.Frame.{Frame}
-use Rattle.h1_model.specs.Parse.{Message, Body, no_content, content, frames, Stop, ended_at, still_open, broken, cut, next_start, runs_of, frames_of}
+use Rattle.h1_model.specs.Parse.{Message, Body, no_content, content, frames, Stop, ended_at, still_open, broken, cut, next_start, runs_of}
 use Rattle.h1_model.specs.Event.{Outcome, BodyFault, corrupted, incomplete}
 use Rattle.h1_model.specs.Event as on
 use Rattle.h1_model.specs.Sums.{Step, completes, taken}

@@ -7,7 +7,8 @@ ghost use Rattle.h1_model.specs.RequestHead.{IsReading, IsReadingWithin};
 /// One piece has one reading.
 pub fn reading_is_unique()
     ensures of_a_piece { (piece : List ℕ) (a b : Reading) → IsReading piece a → IsReading piece b → a ≡ b }
-    ensures within_a_size { (hold_size : ℕ) (piece : List ℕ) (a b : Reading) → IsReadingWithin hold_size piece a → IsReadingWithin hold_size piece b → a ≡ b }
+    ensures within_a_size { (hold_size : ℕ) (piece : List ℕ) (a b : Reading) → IsReadingWithin hold_size piece a → IsReadingWithin hold_size piece b
+        → a ≡ b }
 {}
 
 /// Each piece has a reading.

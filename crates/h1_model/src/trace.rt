@@ -23,7 +23,8 @@ pub fn past_is_unique()
 
 /// An event has one outcome behind a trace.
 pub fn outcome_is_unique()
-    ensures { (setting : Setting) (trace : List Step) (event : Event) (a b : Outcome) → IsOutcome setting trace event a → IsOutcome setting trace event b → a ≡ b }
+    ensures { (setting : Setting) (trace : List Step) (event : Event) (a b : Outcome) → IsOutcome setting trace event a
+        → IsOutcome setting trace event b → a ≡ b }
 {}
 
 /// Behind a trace each event is allowed or misplaced, and never both.
@@ -34,7 +35,8 @@ pub fn allowed_or_misplaced()
 
 /// Whether an event is allowed behind a trace does not depend on the past that shows it.
 pub fn what_is_allowed_is_one()
-    ensures { (setting : Setting) (trace : List Step) (event : Event) (past : List ParsedStep) → IsAllowed setting trace event → IsPastOf setting trace past → IsTrue (is_allowed setting past event) }
+    ensures { (setting : Setting) (trace : List Step) (event : Event) (past : List ParsedStep) → IsAllowed setting trace event
+        → IsPastOf setting trace past → IsTrue (is_allowed setting past event) }
 {}
 
 /// The events fix the trace: a connection that is driven by the same events answers the same.
@@ -44,13 +46,16 @@ pub fn events_fix_the_trace()
 
 /// No more is passed than was taken, and what is held stays within the hold size.
 pub fn held_is_bounded()
-    ensures passed { (setting : Setting) (trace : List Step) (past : List ParsedStep) → IsTrace setting trace → IsPastOf setting trace past → passed past ≤ length (taken trace) }
-    ensures held { (setting : Setting) (trace : List Step) (past : List ParsedStep) → IsTrace setting trace → IsPastOf setting trace past → held past ≤ setting.hold_size }
+    ensures passed { (setting : Setting) (trace : List Step) (past : List ParsedStep) → IsTrace setting trace → IsPastOf setting trace past
+        → passed past ≤ length (taken trace) }
+    ensures held { (setting : Setting) (trace : List Step) (past : List ParsedStep) → IsTrace setting trace → IsPastOf setting trace past
+        → held past ≤ setting.hold_size }
 {}
 
 /// A connection that closes keeps its reason, whatever comes.
 pub fn closing_keeps_its_reason()
-    ensures { (setting : Setting) (s : Step) (before : List Step) (p q : List ParsedStep) (end : End) → IsTrace setting (s ∷ before) → IsPastOf setting before p → IsPastOf setting (s ∷ before) q → closing setting p ≡ Some end → closing setting q ≡ Some end }
+    ensures { (setting : Setting) (s : Step) (before : List Step) (p q : List ParsedStep) (end : End) → IsTrace setting (s ∷ before)
+        → IsPastOf setting before p → IsPastOf setting (s ∷ before) q → closing setting p ≡ Some end → closing setting q ≡ Some end }
 {}
 
 /// What was handed out for writing, and what is still to be, is the whole text.
