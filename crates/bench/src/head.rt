@@ -7,7 +7,8 @@ pub struct NamedHead {
     pub text: &'static [u8],
 }
 
-/// The least that a request has to say, what curl says, and what a browser says: 27, 77 and 668 bytes.
+/// The least that a request has to say, what curl says, and what a browser says as it asks for a
+/// page again: 27, 77 and 668 bytes.
 pub static HEADS: [NamedHead; 3] = [
     NamedHead {
         name: "minimal",
@@ -28,17 +29,16 @@ pub static HEADS: [NamedHead; 3] = [
             User-Agent: Mozilla/5.0 (X11; Linux x86_64; rv:145.0) Gecko/20100101 Firefox/145.0\r\n\
             Accept: text/html,application/xhtml+xml,application/xml;q=0.9,image/avif,image/webp,*/*;q=0.8\r\n\
             Accept-Language: en-US,en;q=0.5\r\n\
-            Accept-Encoding: gzip, deflate, br, zstd\r\n\
-            Referer: https://www.example.org/articles/2026/11/\r\n\
-            Cookie: session=5f2b8c1d9e7a4036b1c8d2e9f0a7b654; theme=light; consent=necessary\r\n\
+            Accept-Encoding: gzip, deflate\r\n\
+            Referer: http://www.example.org/articles/2026/11/\r\n\
+            Cookie: session=5f2b8c1d9e7a4036b1c8d2e9f0a7b654; theme=light; consent=necessary; language=english\r\n\
             DNT: 1\r\n\
             Upgrade-Insecure-Requests: 1\r\n\
-            Sec-Fetch-Dest: document\r\n\
-            Sec-Fetch-Mode: navigate\r\n\
-            Sec-Fetch-Site: same-origin\r\n\
-            Sec-Fetch-User: ?1\r\n\
-            Priority: u=0, i\r\n\
+            If-Modified-Since: Thu, 26 Nov 2026 09:30:00 GMT\r\n\
+            If-None-Match: \"5c8d-64a1f0b2\"\r\n\
             Cache-Control: max-age=0\r\n\
+            Sec-GPC: 1\r\n\
+            Priority: u=0, i\r\n\
             \r\n",
     },
 ];
