@@ -1,0 +1,122 @@
+//! What is measured.
+use crate::checksum::Checksum;
+use crate::error::BenchError;
+use bytes::Bytes;
+use h1_decode::{HeadScan, request_head, scan_head};
+use h1_dispatch::{Connection, Event, Outcome};
+use http_types::{BodySize, NoMemory, ResponseHead, ServiceConfigBuilder, StatusCode};
+use std::alloc::Global;
+
+/// How many requests come in one read where several do.
+const PIPELINED: u64 = 16;
+
+/// The most bytes that are asked for to be written at once.
+const WRITE_LIMIT: usize = 65_536;
+
+/// The moment of the answers: the start of 27 November 2026.
+const MOMENT: u64 = 1_795_737_600_000;
+
+/// Every work, in the table's order.
+pub static WORKS: [Work; 3] = [Work::Head, Work::Get, Work::PipelinedGets];
+
+/// A work that is done once for each request.
+#[derive(Clone, Copy, Debug, PartialEq, Eq)]
+pub enum Work {
+    /// Where the head ends is found, and then the head is read.
+    Head,
+
+    /// A request comes in one read, its head is handed out and answered, and the answer is given to be written.
+    Get,
+
+    /// The same for sixteen requests that come in one read, and whose answers are given at once.
+    PipelinedGets,
+}
+
+impl Work {
+    /// The work that a word stands for.
+    pub fn named(word: &str) -> Option<Work> {
+        WORKS.iter().copied().find(|work| work.name() == word)
+    }
+
+    /// The word for it.
+    pub fn name(self) -> &'static str {
+        match self {
+            Work::Head => "head",
+            Work::Get => "get",
+            Work::PipelinedGets => "get16",
+        }
+    }
+
+    /// Does the work for so many requests, or so many whole reads as they make, and gives a checksum of what came.
+    pub fn run(self, alloc: Global, head: &[u8], requests: u64) -> Result<u64, BenchError> {
+        match self {
+            Work::Head => heads(alloc, head, requests),
+            Work::Get => gets(alloc, head, 1, requests),
+            Work::PipelinedGets => gets(alloc, head, PIPELINED, requests / PIPELINED),
+        }
+    }
+}
+
+fn heads(alloc: Global, head: &[u8], requests: u64) -> Result<u64, BenchError> {
+    let bytes = Bytes::copy_from_slice(alloc, head)?;
+    let mut checksum = Checksum::new();
+    for _ in 0..requests {
+        let HeadScan::Piece(start, end) = scan_head(bytes.as_slice()) else {
+            return Err(BenchError::NoHead);
+        };
+        match request_head(alloc, bytes.slice(start..end)?) {
+            Ok(item) => checksum.add_head(&item),
+            Err(error) => return Err(error.into()),
+        }
+    }
+    Ok(checksum.sum())
+}
+
+/// Serves so many reads of `depth` requests each, on one connection. The events are made once.
+fn gets(alloc: Global, head: &[u8], depth: u64, reads: u64) -> Result<u64, BenchError> {
+    let read = Event::Read(repeated(alloc, head, depth)?);
+    let next = Event::Next;
+    let answer = Event::Answer(ResponseHead::new(alloc, StatusCode::OK), BodySize::ZERO);
+    let write = Event::Write(WRITE_LIMIT);
+
+    let mut connection = Connection::new(alloc, ServiceConfigBuilder::new().build());
+    let mut checksum = Checksum::new();
+    bring(&mut connection, &Event::Tick(MOMENT), &mut checksum)?;
+    for _ in 0..reads {
+        bring(&mut connection, &read, &mut checksum)?;
+        for _ in 0..depth {
+            bring(&mut connection, &next, &mut checksum)?;
+            bring(&mut connection, &answer, &mut checksum)?;
+        }
+        bring(&mut connection, &write, &mut checksum)?;
+    }
+    Ok(checksum.sum())
+}
+
+/// Brings an event to the connection and counts its outcome in.
+fn bring(
+    connection: &mut Connection,
+    event: &Event,
+    checksum: &mut Checksum,
+) -> Result<(), BenchError> {
+    if !connection.allowed(event) {
+        return Err(BenchError::Misplaced);
+    }
+    match connection.step(event) {
+        Ok(Outcome::Took(count)) => checksum.add(count),
+        Ok(Outcome::Head(item)) => checksum.add_head(&item),
+        Ok(Outcome::Gave(bytes)) => checksum.add_bytes(bytes.as_slice()),
+        Ok(Outcome::Done) => checksum.add(1),
+        Ok(Outcome::Pending | Outcome::Closed(_)) => return Err(BenchError::NoHead),
+        Err(error) => return Err(error.into()),
+    }
+    Ok(())
+}
+
+fn repeated(alloc: Global, head: &[u8], times: u64) -> Result<Bytes, NoMemory> {
+    let mut bytes = Vec::new(alloc);
+    for _ in 0..times {
+        bytes.extend_from_slice(head)?;
+    }
+    Ok(Bytes::from_vec(bytes)?)
+}
