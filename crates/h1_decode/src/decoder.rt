@@ -139,7 +139,7 @@ fn read_parts(
     }
     let target = share(piece, spans.path)?;
     let method = read_method(alloc, spans.method.of(piece.as_slice()))?;
-    let uri = read_uri(alloc, target.as_slice())?;
+    let uri = read_uri(share(piece, spans.path)?)?;
     let headers = read_headers(alloc, piece, fields)?;
     Ok(HeadItem {
         head: RequestHead::from_parts(method, uri, Version::HTTP_11, headers),
@@ -167,12 +167,12 @@ fn read_method(alloc: Global, src: &[u8]) -> Result<Method, ParseError>
     Ok(method)
 }
 
-/// The request target (RFC 7230, section 5.3).
-fn read_uri(alloc: Global, src: &[u8]) -> Result<Uri, ParseError>
-    ensures spelled { IfOk result (Spells src.now) }
-    ensures refused { IfErr result (λ e. UnlessNoMemory e (SpellsNone src.now)) }
+/// The request target (RFC 7230, section 5.3), which shares the memory of the bytes.
+fn read_uri(src: Bytes) -> Result<Uri, ParseError>
+    ensures spelled { IfOk result (Spells src) }
+    ensures refused { IfErr result (λ e. UnlessNoMemory e (SpellsNone src)) }
 {
-    match Uri::from_bytes(alloc, src) {
+    match Uri::from_shared(src) {
         Ok(uri) => Ok(uri),
         Err(UriError::Invalid(_)) => Err(ParseError::Uri),
         Err(UriError::OutOfMemory) => Err(ParseError::NoMemory),
