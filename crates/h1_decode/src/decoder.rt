@@ -1,5 +1,5 @@
 //! What the head of a request says (RFC 7230, section 3).
-ghost use Rattle.std.specs.Prelude.{◌≡◌, ◌⊎◌, false, length, codes, bytes_eq, Err, IfOk, IfErr, IfSome, IfNone, All};
+ghost use Rattle.std.specs.Prelude.{◌≡◌, ◌⊎◌, ◌↔◌, ◌≤◌, IsTrue, false, length, codes, bytes_eq, Err, IfOk, IfErr, IfSome, IfNone, All};
 ghost use Rattle.http_header.specs.Token.{IsToken};
 ghost use Rattle.http_uri.specs.Uri.{Spells, SpellsNone};
 ghost use Rattle.httparse.specs.Spans.{IsHeaderWithin, IsRequestWithin, IsWithin};
@@ -9,9 +9,10 @@ ghost use Rattle.h1_decode.specs.HeadItem.{SaysHead};
 ghost use Rattle.h1_decode.specs.ReadParts.{SaysPartsAt};
 ghost use Rattle.h1_decode.specs.Refusal.{UnlessNoMemory};
 ghost use Rattle.h1_decode.specs.SimpleHead.{IsSimpleReading, IsNotSimple};
-ghost use Rattle.h1_decode.specs.WholeHead.{AreSimpleAt, IsWholeHeadAt, HasNoWholeHead};
+ghost use Rattle.h1_decode.specs.WholeHead.{AreSimpleAt, HasFewFields, IsWholeHeadAt, HasNoWholeHead};
 
 use crate::lines::{read_headers, share};
+use crate::scan::line_end_len;
 use bytes::Bytes;
 use http::method::MethodError;
 use http_types::{Method, NoMemory, ParseError, RequestHead, Uri, Version};
@@ -104,12 +105,26 @@ fn parse_whole(piece: &[u8], fields: &mut [HeaderSpan]) -> Option<RequestSpans>
     ensures found { IfSome result (IsWholeHeadAt piece.now fields.new) }
     ensures none { IfNone result (HasNoWholeHead piece.now) }
 {
-    if count_header_lines(piece) > MAX_HEADERS {
-        return None;
+    let spans = match parse_request(piece, fields) {
+        Ok(Status::Complete(spans)) if spans.len == piece.len() => spans,
+        _ => return None,
+    };
+    if has_few_lines(piece) {
+        Some(spans)
+    } else {
+        None
     }
-    match parse_request(piece, fields) {
-        Ok(Status::Complete(spans)) if spans.len == piece.len() => Some(spans),
-        _ => None,
+}
+
+/// Whether a piece that is a head of at most 96 fields has at most 96 header lines as well. Behind its
+/// first line each line is a field, so that there is nothing to count, unless it begins with empty lines.
+fn has_few_lines(piece: &[u8]) -> bool
+    requires { HasFewFields piece.now }
+    ensures { IsTrue result ↔ header_lines piece.now ≤ MAX_HEADERS }
+{
+    match line_end_len(piece) {
+        None => true,
+        Some(_) => count_header_lines(piece) <= MAX_HEADERS,
     }
 }
 
