@@ -17,6 +17,7 @@ is_feed b = b == line_feed
 abbrev feeds : List ℕ → ℕ
 feeds text = length (filter is_feed text)
 
+-- those of two texts are theirs together
 feeds-append : (a b : List ℕ) → feeds (a ++ b) ≡ feeds a + feeds b
 feeds-append a b = ap length (filter-append is_feed a b) ∙ length-append (filter is_feed a) (filter is_feed b)
 
@@ -38,10 +39,12 @@ feeds-none test fails (b ∷ text) pass =
     by_byte true is none = absurd (cc (fails, subst (λ x. IsTrue (test x)) (eqb-true _ _ is) here))
     by_byte false is none = rw is none
 
+-- a token has none
 feeds-token : (text : List ℕ) → AllPass is_token_byte text → feeds text ≡ 0
 unfolding is_token_byte
 feeds-token text pass = feeds-none is_token_byte refl text pass
 
+-- nor has a version
 feeds-version : (minor : ℕ) → minor ≤ 1 → feeds (print_version minor) ≡ 0
 feeds-version zero low = refl
 feeds-version (suc zero) low = refl
@@ -59,6 +62,7 @@ feeds-field f is =
       feeds-print_end f.end,
     )
 
+-- and field lines have as many as they are
 feeds-fields : (fields : List Field) → All IsField fields → feeds (flat_map print_field fields) ≡ length fields
 feeds-fields [] all = refl
 feeds-fields (f ∷ fields) all =
@@ -99,6 +103,7 @@ feeds-head h is =
     )
 
 module _ (piece : List ℕ) (h : RequestHead) (reads : ReadsRequest piece h []) where
+  -- the same of a piece that is a head
   feeds-piece : count_by (λ b. b == line_feed) piece ≡ feeds (print_blank h.blank) + (length h.fields + 2)
   feeds-piece = ap (count_by (λ b. b == line_feed)) (reads.1 ∙ append-nil (print_request h)) ∙ feeds-head h reads.0
 

@@ -1,14 +1,14 @@
 //! What the head of a request says (RFC 7230, section 3).
-ghost use Rattle.std.specs.Prelude.{◌≡◌, ◌⊎◌, ◌↔◌, ◌≤◌, IsTrue, false, length, codes, bytes_eq, Err, IfOk, IfErr, IfSome, IfNone, All};
+ghost use Rattle.std.specs.Prelude.{◌≡◌, ◌⊎◌, ◌↔◌, ◌≤◌, IsTrue, false, length, map, codes, bytes_eq, Err, IfOk, IfErr, IfSome, IfNone, All};
 ghost use Rattle.http_header.specs.Token.{IsToken};
 ghost use Rattle.http_uri.specs.Uri.{Spells, SpellsNone};
-ghost use Rattle.httparse.specs.Spans.{IsHeaderWithin, IsRequestWithin, IsWithin};
+ghost use Rattle.httparse.specs.Spans.{IsHeaderWithin, IsRequestWithin, IsWithin, header_bytes};
 ghost use Rattle.h1_model.specs.HeadPiece.{header_lines};
 ghost use Rattle.h1_model.specs.Request.{Head};
 ghost use Rattle.h1_decode.specs.HeadItem.{SaysHead};
 ghost use Rattle.h1_decode.specs.ReadParts.{SaysPartsAt};
 ghost use Rattle.h1_decode.specs.Refusal.{UnlessNoMemory};
-ghost use Rattle.h1_decode.specs.SimpleHead.{IsSimpleReading, IsNotSimple};
+ghost use Rattle.h1_decode.specs.SimpleHead.{HasFieldValue, IsSimpleReading, IsNotSimple};
 ghost use Rattle.h1_decode.specs.WholeHead.{AreSimpleAt, HasFewFields, IsWholeHeadAt, HasNoWholeHead};
 
 use crate::lines::{read_headers, share};
@@ -145,6 +145,7 @@ fn read_parts(
     requires method { IsWithin (length piece.now) spans.method }
     requires path { IsWithin (length piece.now) spans.path }
     requires fields { All (IsHeaderWithin (length piece.now)) fields.now }
+    requires values { All HasFieldValue (map (header_bytes piece.now) fields.now) }
     ensures simple { IfOk result (λ _. AreSimpleAt piece.now spans fields.now) }
     ensures says { IfOk result (SaysPartsAt piece.now spans fields.now) }
     ensures refused { IfErr result (λ e. UnlessNoMemory e (¬ (AreSimpleAt piece.now spans fields.now))) }
