@@ -74,6 +74,7 @@ impl HeadItem {
 /// versions than HTTP/1.1, tunnels, and heads with a line on the body or the connection are not
 /// read yet: these, malformed heads and those of more than 96 header lines are all
 /// `ParseError::NotYet`. The only other error is `ParseError::NoMemory`.
+#[inline(always)]
 pub fn request_head(alloc: Global, piece: Bytes) -> Result<HeadItem, ParseError>
     ensures head { IfOk result (λ item. (h : Head) × IsSimpleReading piece h × SaysHead item h) }
     ensures not_yet { result ≡ Err ParseError.NotYet → IsNotSimple piece }
@@ -87,6 +88,7 @@ pub fn request_head(alloc: Global, piece: Bytes) -> Result<HeadItem, ParseError>
 }
 
 /// The head that the piece is.
+#[inline(always)]
 fn read_head(alloc: Global, piece: &Bytes) -> Result<HeadItem, ParseError>
     ensures head { IfOk result (λ item. (h : Head) × IsSimpleReading piece.now h × SaysHead item h) }
     ensures refused { IfErr result (λ e. UnlessNoMemory e (IsNotSimple piece.now)) }
@@ -99,6 +101,7 @@ fn read_head(alloc: Global, piece: &Bytes) -> Result<HeadItem, ParseError>
 }
 
 /// Where the parts of the head are that is the whole piece.
+#[inline(always)]
 fn parse_whole(piece: &[u8], fields: &mut [HeaderSpan]) -> Option<RequestSpans>
     requires { length fields.old ≡ MAX_HEADERS }
     ensures within { IfSome result (IsRequestWithin piece.now fields.new) }
@@ -136,6 +139,7 @@ fn count_header_lines(piece: &[u8]) -> usize
 }
 
 /// The head whose parts the spans cover.
+#[inline(always)]
 fn read_parts(
     alloc: Global,
     piece: &Bytes,
