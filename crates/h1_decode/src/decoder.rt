@@ -70,6 +70,22 @@ impl HeadItem {
     }
 }
 
+/// Room for the places of a head's header lines. Kept from head to head, it is cleared once, when it is
+/// made. What one head leaves in it says nothing of the next.
+#[derive(Debug, Drop)]
+pub struct HeadRoom {
+    fields: [HeaderSpan; MAX_HEADERS],
+}
+
+impl HeadRoom {
+    /// Cleared room.
+    pub fn new() -> Self {
+        HeadRoom {
+            fields: [EMPTY_HEADER_SPAN; MAX_HEADERS],
+        }
+    }
+}
+
 /// What the head says that `piece` is, from its first line to its empty line. Heads of other
 /// versions than HTTP/1.1, tunnels, and heads with a line on the body or the connection are not
 /// read yet: these, malformed heads and those of more than 96 header lines are all
@@ -80,7 +96,21 @@ pub fn request_head(alloc: Global, piece: Bytes) -> Result<HeadItem, ParseError>
     ensures not_yet { result ≡ Err ParseError.NotYet → IsNotSimple piece }
     ensures errors { IfErr result (λ e. (e ≡ ParseError.NotYet) ⊎ (e ≡ ParseError.NoMemory)) }
 {
-    match read_head(alloc, &piece) {
+    request_head_in(alloc, piece, &mut HeadRoom::new())
+}
+
+/// The same as `request_head`, with room that the caller keeps.
+#[inline(always)]
+pub fn request_head_in(
+    alloc: Global,
+    piece: Bytes,
+    room: &mut HeadRoom,
+) -> Result<HeadItem, ParseError>
+    ensures head { IfOk result (λ item. (h : Head) × IsSimpleReading piece h × SaysHead item h) }
+    ensures not_yet { result ≡ Err ParseError.NotYet → IsNotSimple piece }
+    ensures errors { IfErr result (λ e. (e ≡ ParseError.NotYet) ⊎ (e ≡ ParseError.NoMemory)) }
+{
+    match read_head(alloc, &piece, room) {
         Ok(item) => Ok(item),
         Err(ParseError::NoMemory) => Err(ParseError::NoMemory),
         Err(_) => Err(ParseError::NotYet),
@@ -89,13 +119,12 @@ pub fn request_head(alloc: Global, piece: Bytes) -> Result<HeadItem, ParseError>
 
 /// The head that the piece is.
 #[inline(always)]
-fn read_head(alloc: Global, piece: &Bytes) -> Result<HeadItem, ParseError>
+fn read_head(alloc: Global, piece: &Bytes, room: &mut HeadRoom) -> Result<HeadItem, ParseError>
     ensures head { IfOk result (λ item. (h : Head) × IsSimpleReading piece.now h × SaysHead item h) }
     ensures refused { IfErr result (λ e. UnlessNoMemory e (IsNotSimple piece.now)) }
 {
-    let mut fields = [EMPTY_HEADER_SPAN; MAX_HEADERS];
-    match parse_whole(piece.as_slice(), &mut fields) {
-        Some(spans) => read_parts(alloc, piece, spans, &fields[..spans.headers]),
+    match parse_whole(piece.as_slice(), &mut room.fields) {
+        Some(spans) => read_parts(alloc, piece, spans, &room.fields[..spans.headers]),
         None => Err(ParseError::Header),
     }
 }

@@ -7,5 +7,5 @@ mod scan;
 #[cfg(test)]
 mod tests;
 
-pub use decoder::{BodyKind, HeadItem, request_head};
+pub use decoder::{BodyKind, HeadItem, HeadRoom, request_head, request_head_in};
 pub use scan::{HeadScan, HeadScanner, scan_head};
