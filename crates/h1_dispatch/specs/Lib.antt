@@ -4,3 +4,6 @@ pub mod Held
 pub mod Run
 pub mod State
 pub mod Stepping
+pub mod Meaning
+pub mod Served
+pub mod Driven
