@@ -1,9 +1,7 @@
-pub mod Allowed
-pub mod AnswerText
 pub mod Held
-pub mod Run
-pub mod State
-pub mod Stepping
 pub mod Meaning
 pub mod Served
-pub mod Driven
+pub mod State
+pub mod Parts
+pub mod BareAnswer
+pub mod Run

@@ -1,5 +1,5 @@
 -- Which events are served so far, by what the tables answer to them.
-use Rattle.std.specs.Prelude.{◌≡◌, ◌≢◌, false, List, [], None}
+use Rattle.std.specs.Prelude.{◌≡◌, ◌≢◌, true, false, List, [], None}
 use Rattle.h1_model.specs.Setting.{Setting}
 use Rattle.h1_model.specs.Answer.{AnswerHead, BodySize, is_at_once}
 use Rattle.h1_model.specs.Event.{Event, Outcome}
