@@ -3,6 +3,7 @@ use Rattle.std.proofs.Common.{◌≡◌, ℕ, zero, suc, ◌+◌, Bool, true, fa
 use Rattle.std.proofs.lemmas.List.{length-append, length-map}
 use Rattle.std.specs.Prelude.{option_map, is_some, unwrap_or, flat_map, IsTrue, IsSome, ◌↔◌, ◌==◌, if◌then◌else◌}
 use Rattle.std.specs.Option.{option_or}
+use Rattle.http_header.specs.FieldValue.{FieldValue}
 use Rattle.http_map.specs.HeaderMap.{Entries, value_count}
 use Rattle.http_types.specs.Config.{Settings}
 use Rattle.http_types.specs.ResponseHead.{ResponseParts}
@@ -48,7 +49,9 @@ unmarked false false false is = (refl, refl, refl)
 -- a map has as many lines as values
 count_lines : (m : Entries) → length (headers_of m) ≡ value_count m
 count_lines [] = refl
-count_lines (e ∷ m) = omega (arith, length-append (lines_of e) (headers_of m), length-map (λ v. record { name = e.0; value = v.bytes }) e.1, count_lines m)
+count_lines (e ∷ m) =
+    let line : FieldValue → model.Header = λ v. record { name = e.0; value = v.bytes } in
+    length-append (lines_of e) (headers_of m) ∙ (λ i. length-map line e.1 i + count_lines m i)
 
 empty_of : {A : Type 0} (xs : List A) → length xs ≡ 0 → xs ≡ []
 empty_of [] is = refl

@@ -1,6 +1,6 @@
 -- The text of a bare answer's head, piece by piece.
 use Rattle.std.proofs.Common.{◌≡◌, ℕ, ◌/◌, List, [], ◌∷◌, ◌++◌, Option, refl, sym, ap, ◌∙◌}
-use Rattle.std.proofs.lemmas.List.{append-assoc}
+use Rattle.std.proofs.lemmas.List.{append_assoc}
 use Rattle.std.specs.Prelude.{codes, unwrap_or, false}
 use Rattle.http.specs.StatusCode.{code_digits, reason_phrase}
 use Rattle.httpdate.specs.Date.{date_text, unix_secs}
@@ -14,8 +14,8 @@ use Rattle.h1_dispatch.specs.BareAnswer.{bare_head}
 -- five pieces behind one another
 five : (xs a b c d e : List ℕ) → ((((xs ++ a) ++ b) ++ c) ++ d) ++ e ≡ xs ++ (a ++ (b ++ (c ++ (d ++ e))))
 five xs a b c d e =
-    append-assoc (((xs ++ a) ++ b) ++ c) d e ∙ append-assoc ((xs ++ a) ++ b) c (d ++ e) ∙ append-assoc (xs ++ a) b (c ++ (d ++ e))
-    ∙ append-assoc xs a (b ++ (c ++ (d ++ e)))
+    append_assoc (((xs ++ a) ++ b) ++ c) d e ∙ append_assoc ((xs ++ a) ++ b) c (d ++ e) ∙ append_assoc (xs ++ a) b (c ++ (d ++ e))
+    ∙ append_assoc xs a (b ++ (c ++ (d ++ e)))
 
 -- the same of texts that grow
 pub grown : (xs a b c d e one two three four all : List ℕ) → one ≡ xs ++ a → two ≡ one ++ b → three ≡ two ++ c → four ≡ three ++ d → all ≡ four ++ e
@@ -23,6 +23,12 @@ pub grown : (xs a b c d e one two three four all : List ℕ) → one ≡ xs ++ a
 grown xs a b c d e one two three four all one_is two_is three_is four_is all_is =
     all_is ∙ ap (λ (l : List ℕ). l ++ e) (four_is ∙ ap (λ (l : List ℕ). l ++ d) (three_is ∙ ap (λ (l : List ℕ). l ++ c) (two_is ∙ ap (λ (l : List ℕ). l ++ b) one_is)))
     ∙ five xs a b c d e
+
+-- the same from nothing on
+pub grown_new : (xs a b c d e one two three four all : List ℕ) → xs ≡ [] → one ≡ xs ++ a → two ≡ one ++ b → three ≡ two ++ c → four ≡ three ++ d
+    → all ≡ four ++ e → all ≡ a ++ (b ++ (c ++ (d ++ e)))
+grown_new xs a b c d e one two three four all empty one_is two_is three_is four_is all_is =
+    grown xs a b c d e one two three four all one_is two_is three_is four_is all_is ∙ ap (λ (l : List ℕ). l ++ (a ++ (b ++ (c ++ (d ++ e))))) empty
 
 -- the status line, of its pieces
 pub status_same : (status : ℕ) (xs digits reason all : List ℕ) → digits ≡ code_digits status

@@ -5,3 +5,4 @@ pub mod StepLemmas
 pub mod NextLemmas
 pub mod AnswerLemmas
 pub mod EncodedLemmas
+pub mod RunLemmas

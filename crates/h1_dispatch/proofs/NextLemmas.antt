@@ -44,6 +44,10 @@ use Rattle.h1_dispatch.proofs.StepLemmas.{state_of}
 slice_fits : (bytes : List ℕ) (start end : ℕ) → length (slice_range bytes start end) ≤ length bytes
 slice_fits bytes start end = omega (arith, length-take (end - start) (drop start bytes), length-drop start bytes)
 
+-- nor is what is left of it
+pub drop_fits : (n : ℕ) (bytes rest : List ℕ) → rest ≡ drop n bytes → length bytes ≤ HELD_BYTES → length rest ≤ HELD_BYTES
+drop_fits n bytes rest is fits = omega (arith, ap (λ (l : List ℕ). length l) is, length-drop n bytes, fits)
+
 -- what is said of the fields is said of the connection
 pub later_viewed : (before now : State) (event : on.Event) → before ≡ now → IsServedLater before event → IsServedLater now event
 later_viewed before now event is x = subst (λ (k : State). IsServedLater k event) is x
@@ -51,6 +55,15 @@ later_viewed before now event is x = subst (λ (k : State). IsServedLater k even
 pub running_viewed : (before now : State) → before ≡ now → closing_by (setting_of now.settings) now.kept ≡ None
     → closing_by (setting_of before.settings) before.kept ≡ None
 running_viewed before now is x = subst (λ (k : State). closing_by (setting_of k.settings) k.kept ≡ None) (sym is) x
+
+pub closes_viewed : (before now : State) (end : Option ends.End) → before ≡ now → end ≡ closing_by (setting_of now.settings) now.kept
+    → end ≡ closing_by (setting_of before.settings) before.kept
+closes_viewed before now end is x = subst (λ (k : State). end ≡ closing_by (setting_of k.settings) k.kept) (sym is) x
+
+-- where no end is handed out, it doesn't close
+pub none_running : (before now : State) (end : Option End) → before ≡ now → option_map end_of end ≡ closing_by (setting_of now.settings) now.kept → end ≡ None
+    → closing_by (setting_of before.settings) before.kept ≡ None
+none_running before now end is x none = sym (closes_viewed before now (option_map end_of end) is x) ∙ ap (option_map end_of) none
 
 pub piece_viewed : (before now : State) (start end : ℕ) → before ≡ now → IsHeadPiece now.kept.unread start end → IsHeadPiece before.kept.unread start end
 piece_viewed before now start end is x = subst (λ (k : State). IsHeadPiece k.kept.unread start end) (sym is) x

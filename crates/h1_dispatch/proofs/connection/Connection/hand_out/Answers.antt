@@ -2,19 +2,16 @@ use Rattle.std.proofs.Common.{◌≡◌, ℕ, List, drop, refl, ap, ◌∙◌, s
 use Rattle.std.specs.Prelude.{slice_range}
 use Rattle.h1_decode.specs.SimpleHead.{IsSimpleReading, IsNotSimple}
 use Rattle.h1_dispatch.specs.declared.event.Outcome.TheVariants.{Head}
-use Rattle.h1_dispatch.proofs.NextLemmas.{later_viewed, running_viewed, piece_viewed, head_answers, handed_noted, refused_later}
+use Rattle.h1_dispatch.proofs.NextLemmas.{later_viewed, running_viewed, piece_viewed, head_answers, drop_fits, handed_noted, refused_later}
 use Rattle.h1_dispatch.proofs.StepLemmas.{viewed, allowed_viewed}
 use Rattle.h1_dispatch.proofs.connection.Connection.hand_out.Goals as goal
-
-pub returns-in-NotYet : goal.returns-in-NotYet
-returns-in-NotYet c = ?
 
 pub invariant_of-self : goal.invariant_of-self
 invariant_of-self c = record {
   moment = c.self.invariant.moment;
   scanned = c.pass.ensures.scanned;
-  limit = ?;
-  noted = handed_noted _ _ c.pass.new.self.bytes _ _ (running_viewed _ _ c.self.view_is c.requires.running) c.self.invariant;
+  limit = drop_fits c.args.end _ _ c.pass.ensures.rest c.self.invariant.limit;
+  noted = handed_noted _ _ c.pass.new.self.bytes c.pass.new.self.piece c.eq-is_head.result (running_viewed _ _ c.self.view_is c.requires.running) c.self.invariant;
   completed = c.self.invariant.completed;
   since = c.self.invariant.since;
 }
