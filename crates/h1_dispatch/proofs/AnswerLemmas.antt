@@ -1,6 +1,6 @@
 -- The machine's step of an answer that is its status alone.
 use Rattle.std.proofs.Common.{◌≡◌, ℕ, zero, suc, ◌+◌, Bool, true, false, not, ◌&&◌, List, [], ◌∷◌, ◌++◌, length, map, Option, Some, None, refl, sym, ap, ◌∙◌, subst, arith}
-use Rattle.std.proofs.lemmas.List.{length-append, length-map}
+use Rattle.std.proofs.lemmas.List.{length-append}
 use Rattle.std.specs.Prelude.{option_map, is_some, unwrap_or, flat_map, IsTrue, IsSome, ◌↔◌, ◌==◌, if◌then◌else◌}
 use Rattle.std.specs.Option.{option_or}
 use Rattle.http_header.specs.FieldValue.{FieldValue}
@@ -46,13 +46,16 @@ unmarked false true c is = absurd (cc is)
 unmarked false false true is = absurd (cc is)
 unmarked false false false is = (refl, refl, refl)
 
--- a map has as many lines as values
+-- a name has as many lines as values, and so has a map
+line_count : (name : List ℕ) (values : List FieldValue) → length (lines_of (name, values)) ≡ length values
+line_count name [] = refl
+line_count name (v ∷ values) = ap (λ n. suc n) (line_count name values)
+
 count_lines : (m : Entries) → length (headers_of m) ≡ value_count m
 count_lines [] = refl
-count_lines (e ∷ m) =
-    let line : FieldValue → model.Header = λ v. record { name = e.0; value = v.bytes } in
-    length-append (lines_of e) (headers_of m) ∙ (λ i. length-map line e.1 i + count_lines m i)
+count_lines (e ∷ m) = length-append (lines_of e) (headers_of m) ∙ (λ i. line_count e.0 e.1 i + count_lines m i)
 
+-- no element
 empty_of : {A : Type 0} (xs : List A) → length xs ≡ 0 → xs ≡ []
 empty_of [] is = refl
 empty_of (x ∷ xs) is = absurd (omega (arith, is))

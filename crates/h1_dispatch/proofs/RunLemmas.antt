@@ -1,6 +1,7 @@
 -- A run that grows by a step, behind the trace that the connection stands for.
-use Rattle.std.proofs.Common.{◌≡◌, ℕ, ◌+◌, ◌<◌, Bool, true, false, List, [], ◌∷◌, ◌++◌, length, get_or, map, take, reverse, Option, Some, Result, Ok, Err, refl, sym, ap, ◌∙◌, subst}
-use Rattle.std.proofs.lemmas.List.{map-append, take_more}
+use Rattle.std.proofs.Common.{◌≡◌, ℕ, ◌+◌, ◌<◌, ◌≤◌, Bool, true, false, List, [], ◌∷◌, ◌++◌, length, get_or, map, take, reverse, Option, Some, Result, Ok, Err, refl, sym, ap, ◌∙◌, subst}
+use Rattle.std.proofs.lemmas.List.{map-append, take_more, take_all}
+use Rattle.std.proofs.lemmas.Grind.{reverse_onto}
 use Rattle.std.specs.Prelude.{IsTrue, IsFalse, IfOk, OnOk, option_map, slice_get}
 use Rattle.http_types.specs.Config.{Settings}
 use Rattle.h1_model.specs.Setting.{Setting}
@@ -93,7 +94,9 @@ driven_more settings events index steps now after event outcome in_range is driv
           ∙ sym (take_more events index event in_range);
       model = step ∷ driven.model;
       stands = subst (λ (s : Settings). StandsFor (setting_of s) after.kept (step ∷ driven.model)) (same ∙ driven.settings_are) next.3;
-      says = say_more steps (reverse driven.model) (record { event = event; outcome = outcome }) step driven.says (record { event = refl; outcome = next.1 });
+      says =
+          subst (λ (l : List sums.Step). SaySteps (steps ++ (record { event = event; outcome = outcome }) ∷ []) l) (sym (reverse_onto driven.model step []))
+          (say_more steps (reverse driven.model) (record { event = event; outcome = outcome }) step driven.says (record { event = refl; outcome = next.1 }));
     }
 
 -- ---- what the run gives
@@ -117,6 +120,16 @@ run_of settings events index steps now trace x steps_are buffered_are closing_is
           closing_is ∙ ap (λ (s : Settings). closing_by (setting_of s) now.kept) x.settings_are ∙ ap (λ (k : Kept). closing_by set k) stands.parts
           ∙ closing_stands set stands.past x.model stands.traced stands.of_trace
           ∙ ap (λ (p : List ParsedStep). closing set p) (past_of_unique set x.model stands.past past stands.of_trace is_past);
+    }
+
+pub whole_of : (settings : Settings) (events : List Event) (index : ℕ) (steps : List Step) (now : State) (trace : Trace) → IsDrivenTo settings events index steps now
+    → trace.steps ≡ steps → trace.buffered ≡ now.kept.buffered → option_map end_of trace.closing ≡ closing_by (setting_of now.settings) now.kept
+    → length events ≤ index → IsWhole settings events trace
+whole_of settings events index steps now trace x steps_are buffered_are closing_is all =
+    record {
+      model = x.model;
+      driven = subst (λ (l : List Event). IsDriven settings l trace x.model) (take_all index events all)
+          (run_of settings events index steps now trace x steps_are buffered_are closing_is);
     }
 
 -- whether an event is allowed behind the run

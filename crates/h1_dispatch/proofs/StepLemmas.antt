@@ -40,6 +40,10 @@ pub viewed : (before now : State) (event : on.Event) (outcome : Outcome) (after 
     → Answers before event outcome after → Answers now event outcome after
 viewed before now event outcome after is x = subst (λ (k : State). Answers k event outcome after) is x
 
+pub stays_viewed : (before now : State) (event : on.Event) (outcome : Outcome) → before ≡ now
+    → Answers before event outcome before.kept → Answers now event outcome now.kept
+stays_viewed before now event outcome is x = subst (λ (k : State). Answers k event outcome k.kept) is x
+
 pub allowed_viewed : (before now : State) (event : on.Event) → before ≡ now → IsAllowed now event → IsAllowed before event
 allowed_viewed before now event is x = subst (λ (k : State). IsAllowed k event) (sym is) x
 

@@ -1,10 +1,20 @@
-use Rattle.std.proofs.Common.{◌≡◌, ℕ, List, drop, refl, ap, ◌∙◌, subst, rules}
+use Rattle.std.proofs.Common.{◌≡◌, ℕ, List, Err, ap, ◌∙◌, subst, rules}
 use Rattle.std.specs.Prelude.{slice_range}
 use Rattle.h1_decode.specs.SimpleHead.{IsSimpleReading, IsNotSimple}
+use Rattle.h1_model.specs.Event as on
 use Rattle.h1_dispatch.specs.declared.event.Outcome.TheVariants.{Head}
 use Rattle.h1_dispatch.proofs.NextLemmas.{later_viewed, running_viewed, piece_viewed, head_answers, drop_fits, handed_noted, refused_later}
 use Rattle.h1_dispatch.proofs.StepLemmas.{viewed, allowed_viewed}
 use Rattle.h1_dispatch.proofs.connection.Connection.hand_out.Goals as goal
+
+pub returns-in-Err-NotYet-clause-not_yet : goal.returns-in-Err-NotYet-clause-not_yet
+returns-in-Err-NotYet-clause-not_yet c = λ is.
+    let text : c.in_ok-piece.piece ≡ slice_range c.self.inside.input.bytes c.args.start c.args.end =
+        c.in_ok-piece.ensures ∙ ap (λ (bytes : List ℕ). slice_range bytes c.args.start c.args.end) c.as_slice.ensures in
+    later_viewed _ _ on.next c.self.view_is
+    (refused_later _ _ c.args.start c.args.end (allowed_viewed _ _ _ c.self.view_is c.requires.allowed) (running_viewed _ _ c.self.view_is c.requires.running)
+    (piece_viewed _ _ _ _ c.self.view_is c.requires.piece)
+    (subst (λ (bytes : List ℕ). IsNotSimple bytes) text (c.in-Err-NotYet.ensures.not_yet (ap Err c.in-Err-NotYet.field-0-is))) c.self.invariant)
 
 pub invariant_of-self : goal.invariant_of-self
 invariant_of-self c = record {
