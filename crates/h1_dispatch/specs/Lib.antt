@@ -1,6 +1,7 @@
-pub mod Allowed
-pub mod AnswerText
 pub mod Held
-pub mod Run
+pub mod Meaning
+pub mod Served
 pub mod State
-pub mod Stepping
+pub mod Parts
+pub mod BareAnswer
+pub mod Run

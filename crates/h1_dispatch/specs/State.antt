@@ -1,79 +1,52 @@
--- What a connection keeps, and when it ends.
-use Rattle.std.specs.Prelude.{ℕ, Bool, true, false, not, ◌&&◌, if◌then◌else◌, List, [], Option, Some, None, is_none, unwrap_or}
+-- A connection as its contracts see it: its settings, and what the machine keeps.
+use Rattle.std.specs.Prelude.{◌≡◌, List, ◌∷◌, IsTrue, IsSome, ⊤, None}
 use Rattle.http_types.specs.Config.{Settings}
-use Rattle.http_types.specs.declared.message.ConnectionType.{ConnectionType}
-use Rattle.http_types.specs.declared.message.ConnectionType.TheVariants.{Close, KeepAlive, Upgrade}
-use Rattle.h1_decode.specs.declared.scan.HeadScan.{HeadScan}
-use Rattle.h1_decode.specs.declared.scan.HeadScan.TheVariants.{Open, Piece}
-use Rattle.h1_dispatch.specs.declared.event.End.{End}
-use Rattle.h1_dispatch.specs.declared.event.End.TheVariants.{Asked, HalfClosed, InputEnded}
+use Rattle.h1_model.specs.Event as on
+use Rattle.h1_model.specs.Sums as sums
+use Rattle.h1_model.specs.Trace.{IsOutcome}
+use Rattle.h1_machine.specs.Kept.{Kept, fresh}
+use Rattle.h1_machine.specs.Local.{closing_by, allowed_by}
+use Rattle.h1_machine.specs.Change.{IsStep}
+use Rattle.h1_machine.specs.StandsFor.{StandsFor}
+use Rattle.h1_dispatch.specs.Meaning.{setting_of, SaysOutcome}
+use Rattle.h1_dispatch.specs.Served.{IsNotServed}
+use Rattle.h1_dispatch.specs.declared.event.Outcome.{Outcome}
 
--- Each part has a meaning of its own in what happened before:
--- the settings that the connection was made with;
--- the bytes taken behind the last head that was handed out, and where the first head stands among them;
--- whether the input's end came;
--- whether a head was handed out and isn't answered yet;
--- what the last answer says of the connection;
--- the moment of the last tick, in milliseconds;
--- the answers' bytes that were not given out yet;
--- whether the connection's end was handed out.
 pub record State : Type 0 where
   pub settings : Settings
-  pub held : List ℕ
-  pub piece : HeadScan
-  pub input_ended : Bool
-  pub request_open : Bool
-  pub answered : Option ConnectionType
-  pub ticked : Option ℕ
-  pub buffered : List ℕ
-  pub closed : Bool
+  pub kept : Kept
 
 -- a connection to which nothing came
-abbrev pub fresh : Settings → State
-fresh settings = record {
-  settings = settings;
-  held = [];
-  piece = Open;
-  input_ended = false;
-  request_open = false;
-  answered = None;
-  ticked = None;
-  buffered = [];
-  closed = false;
-}
+abbrev pub fresh_state : Settings → State
+fresh_state settings = record { settings = settings; kept = fresh }
 
--- the time, which is 0 before the first tick
-abbrev pub now_of : State → ℕ
-now_of state = unwrap_or state.ticked 0
+-- the event is allowed
+abbrev pub IsAllowed : State → on.Event → Type 0
+IsAllowed state event = IsTrue (allowed_by (setting_of state.settings) state.kept event)
 
--- no request follows an answer of this type
-abbrev pub is_last : Option ConnectionType → Bool
-is_last None = false
-is_last (Some KeepAlive) = false
-is_last (Some Close) = true
-is_last (Some Upgrade) = true
+-- the connection stands for the trace
+abbrev pub Stands : State → List sums.Step → Type 0
+Stands state trace = StandsFor (setting_of state.settings) state.kept trace
 
--- no head is whole
-abbrev pub is_headless : HeadScan → Bool
-is_headless Open = true
-is_headless (Piece start end) = false
+-- the outcome says the machine's, which keeps what is behind it
+abbrev pub Answers : State → on.Event → Outcome → Kept → Type 0
+Answers state event outcome after =
+    (out : on.Outcome) × SaysOutcome outcome out × IsStep (setting_of state.settings) state.kept event out after
 
--- the input has ended, and half-closed connections are not kept
-abbrev pub is_half_closed : State → Bool
-is_half_closed state = state.input_ended && not state.settings.h1_allow_half_closed
+-- Behind each trace that the connection stands for, the outcome says the table's, and the connection stands for the longer trace.
+abbrev pub GoesOn : State → on.Event → Outcome → State → Type 0
+GoesOn state event outcome after =
+    (trace : List sums.Step) → Stands state trace
+    → (out : on.Outcome) × SaysOutcome outcome out × IsOutcome (setting_of state.settings) trace event out
+    × Stands after (record { event = event; outcome = out } ∷ trace)
 
--- the input has ended, and no request is open nor comes any more
-abbrev pub is_exhausted : State → Bool
-is_exhausted state = state.input_ended && (not state.request_open && is_headless state.piece)
+-- behind each trace that the connection stands for, the event isn't served yet
+abbrev pub IsServedLater : State → on.Event → Type 0
+IsServedLater state event = (trace : List sums.Step) → Stands state trace → IsNotServed (setting_of state.settings) trace event
 
--- why the connection is to end, where it is: the first reason that holds
-abbrev pub closing_of : State → Option End
-closing_of state =
-    if is_last state.answered then Some Asked else (
-    if is_half_closed state then Some HalfClosed else (
-    if is_exhausted state then Some InputEnded else
-    None))
-
--- nothing asks for the connection's end
-abbrev pub is_going_on : State → Bool
-is_going_on state = is_none (closing_of state)
+-- the event takes no memory: the input's end, a next one that hands out the connection's end, and a first tick
+abbrev pub TakesNoMemory : State → on.Event → Type 0
+TakesNoMemory state on.eof = ⊤
+TakesNoMemory state on.next = IsSome (closing_by (setting_of state.settings) state.kept)
+TakesNoMemory state (on.tick ms) = state.kept.clock.last ≡ None
+TakesNoMemory state event = ⊥

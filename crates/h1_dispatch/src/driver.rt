@@ -1,6 +1,7 @@
 //! A connection's answers to a list of events.
-ghost use Rattle.std.specs.Prelude.{◌≡◌, IfOk, IfErr};
-ghost use Rattle.h1_dispatch.specs.State.{closing_of};
+ghost use Rattle.std.specs.Prelude.{◌≡◌, option_map, IfOk, IfErr};
+ghost use Rattle.h1_machine.specs.Local.{closing_by};
+ghost use Rattle.h1_dispatch.specs.Meaning.{setting_of, end_of};
 ghost use Rattle.h1_dispatch.specs.Run.{IsWhole, IsStop};
 
 use crate::{Connection, DriveError, Event, StepError, Steps, Trace};
@@ -36,8 +37,8 @@ pub fn drive(alloc: Global, config: &ServiceConfig, events: &[Event]) -> Result<
 // The trace of these steps, which left the connection as it is.
 fn trace_of(alloc: Global, connection: &Connection, steps: Steps) -> Result<Trace, NoMemory>
     ensures steps { IfOk result (λ trace. trace.steps ≡ steps) }
-    ensures buffered { IfOk result (λ trace. trace.buffered ≡ connection.now.buffered) }
-    ensures closing { IfOk result (λ trace. trace.closing ≡ closing_of connection.now) }
+    ensures buffered { IfOk result (λ trace. trace.buffered ≡ connection.now.kept.buffered) }
+    ensures closing { IfOk result (λ trace. option_map end_of trace.closing ≡ closing_by (setting_of connection.now.settings) connection.now.kept) }
 {
     let buffered = Bytes::copy_from_slice(alloc, connection.output())?;
     Ok(Trace {

@@ -73,6 +73,7 @@ impl Input {
         ensures count { IfOk result (λ count. count ≡ min (length bytes.now) (131072 - length self.old.bytes)) }
         ensures ok { IfOk result (λ count. self.new.bytes ≡ self.old.bytes ++ take count bytes.now) }
         ensures scanned { OnOk result (AnswersScan self.new.bytes self.new.piece) }
+        ensures limit { OnOk result (length self.new.bytes ≤ 131072) }
         ensures err { OnErr result (self.new ≡ self.old) }
     {
         let count = bytes.len().min(HELD_LIMIT - self.unread.len());

@@ -27,6 +27,7 @@ mod error;
 mod event;
 mod h1;
 mod input;
+mod request;
 mod trace;
 
 pub use connection::Connection;
