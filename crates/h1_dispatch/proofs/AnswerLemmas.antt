@@ -163,7 +163,7 @@ answered_kept s p r status size kind text once kind_is text_is =
     let asked = simple_asked r.is_head in
     let grown : Kept = record (kept_of p) { buffered = p.buffered ++ answer_head_text set false asked (bare_head status) size (unwrap_or p.ticked 0) } in
     let chosen : answering set (bare_head status) size (exchange_of r) (kept_of p)
-        ≡ completing (type_of set false asked (bare_head status) size) (exchange_of r) grown = rw once refl in
+    ≡ completing (type_of set false asked (bare_head status) size) (exchange_of r) grown = rw once refl in
     chosen
     ∙ (λ i. completing (kind_is i) (exchange_of r) (record (kept_of p) { buffered = p.buffered ++ sym text_is i }))
     ∙ passing_same q q.request (kept_of p).is_coming
@@ -196,15 +196,18 @@ answer_answers s p r head size kind buffered text since there bare kind_is buffe
     let shape = at_once_shape (simple_asked r.is_head) head.status (size_of size) bare.at_once in
     let of_shape : Shape → model.ConnectionType → List ℕ = λ f k. head_text 1 (bare_head head.status) f (size_of size) k (unwrap_or p.ticked 0) in
     let same_text : text ≡ answer_head_text set false (simple_asked r.is_head) (bare_head head.status) (size_of size) (unwrap_or p.ticked 0) =
-        text_is ∙ (λ i. of_shape (sym shape i) (sym type i)) in
+    text_is ∙ (λ i. of_shape (sym shape i) (sym type i)) in
     let kept = answered_kept s p r head.status (size_of size) kind text bare.at_once type same_text in
     let named : doing_with (answering set (answer_of head) (size_of size)) (kept_of p)
-        ≡ record { outcome = on.done; kept = answering set (bare_head head.status) (size_of size) (exchange_of r) (kept_of p) } =
-        (λ i. doing_with (answering set (bare_is (answer_of head) (size_of size) refl refl bare i) (size_of size)) (kept_of (record p { request = there i })))
-        ∙ (λ i. record { outcome = on.done; kept = answering set (bare_head head.status) (size_of size) (exchange_of r) (kept_of (record p { request = sym there i })) }) in
+    ≡ record { outcome = on.done; kept = answering set (bare_head head.status) (size_of size) (exchange_of r) (kept_of p) } =
+    (λ i. doing_with (answering set (bare_is (answer_of head) (size_of size) refl refl bare i) (size_of size)) (kept_of (record p { request = there i })))
+    ∙ (λ i. record { outcome = on.done; kept = answering set (bare_head head.status) (size_of size) (exchange_of r) (kept_of (record p { request = sym there i })) }) in
     let done : record { outcome = on.done; kept = record (kept_of q) { is_coming = was; closing_since = p.closing_since } }
-        ≡ record { outcome = on.done; kept = answering set (bare_head head.status) (size_of size) (exchange_of r) (kept_of p) } =
-        ap (λ (k : Kept). record { outcome = on.done; kept = k })
-        ((λ i. record (kept_of q) { is_coming = was; closing_since = p.closing_since; buffered = buffered_is i }) ∙ sym kept) in
-    (on.done, refl, step_of s p q (on.answer (answer_of head) (size_of size)) on.done was (done ∙ sym named) linked.scanned
-    (noted_now s p q since linked running since_is))
+    ≡ record { outcome = on.done; kept = answering set (bare_head head.status) (size_of size) (exchange_of r) (kept_of p) } =
+    ap (λ (k : Kept). record { outcome = on.done; kept = k })
+    ((λ i. record (kept_of q) { is_coming = was; closing_since = p.closing_since; buffered = buffered_is i }) ∙ sym kept) in (
+      on.done,
+      refl,
+      step_of s p q (on.answer (answer_of head) (size_of size)) on.done was (done ∙ sym named) linked.scanned
+          (noted_now s p q since linked running since_is),
+    )

@@ -46,4 +46,4 @@ pub head_same : (status : ℕ) (size : BodySize) (kind : ConnectionType) (moment
 unfolding head_text
 head_same status size kind moment date all date_is is =
     is ∙ ap (λ (d : List ℕ). status_line 1 (bare_head status) ++ (framing_line (bare_head status) shape_none size ++ (connection_line 1 false kind
-        ++ (line_text (codes "date") d ++ codes "\r\n")))) (sym (date_same (moment / 1000) date date_is))
+    ++ (line_text (codes "date") d ++ codes "\r\n")))) (sym (date_same (moment / 1000) date date_is))

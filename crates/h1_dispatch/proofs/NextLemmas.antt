@@ -73,10 +73,13 @@ piece_viewed before now start end is x = subst (λ (k : State). IsHeadPiece k.ke
 pub closed_answers : (s : Settings) (p : Parts) (end : End) → Some (end_of end) ≡ closing_by (setting_of s) (kept_of p) → AreLinked s p
     → Answers (state_of s p) on.next (Closed end) (kept_of (record p { is_over = true }))
 closed_answers s p end closes linked =
-    let c : Change = record { outcome = on.closed (end_of end); kept = record (kept_of p) { is_over = true } } in
-    (on.closed (end_of end), refl, step_of s p (record p { is_over = true }) on.next (on.closed (end_of end)) (kept_of p).is_coming
-    (subst (λ (o : Option ends.End). IsNext (setting_of s) (kept_of p) o c) closes refl)
-    linked.scanned (stays_noted p.closing_since p.ticked (is_some (end_of_parts s p)) linked.noted))
+    let c : Change = record { outcome = on.closed (end_of end); kept = record (kept_of p) { is_over = true } } in (
+      on.closed (end_of end),
+      refl,
+      step_of s p (record p { is_over = true }) on.next (on.closed (end_of end)) (kept_of p).is_coming
+          (subst (λ (o : Option ends.End). IsNext (setting_of s) (kept_of p) o c) closes refl)
+          linked.scanned (stays_noted p.closing_since p.ticked (is_some (end_of_parts s p)) linked.noted),
+    )
 
 -- ---- a head
 
@@ -117,10 +120,13 @@ pub pending_answers : (s : Settings) (p : Parts) → p.piece ≡ Open → (lengt
     → closing_by (setting_of s) (kept_of p) ≡ None → AreLinked s p
     → Answers (state_of s p) on.next Pending (kept_of p)
 pending_answers s p none room running linked =
-    let c : Change = record { outcome = on.pending; kept = kept_of p } in
-    (on.pending, refl, step_of s p p on.next on.pending (kept_of p).is_coming
-    (next_change (setting_of s) (kept_of p) false c running (open_not_coming p none) (rw room refl))
-    linked.scanned (stays_noted p.closing_since p.ticked (is_some (end_of_parts s p)) linked.noted))
+    let c : Change = record { outcome = on.pending; kept = kept_of p } in (
+      on.pending,
+      refl,
+      step_of s p p on.next on.pending (kept_of p).is_coming
+          (next_change (setting_of s) (kept_of p) false c running (open_not_coming p none) (rw room refl))
+          linked.scanned (stays_noted p.closing_since p.ticked (is_some (end_of_parts s p)) linked.noted),
+    )
 
 -- ---- a head that is handed out
 
@@ -132,10 +138,10 @@ simple_is piece h reading =
     let simple = reading.1 in
     let minor : h.minor ≡ 1 = simple.minor in
     let body : Some h.body ≡ Some model.no_body =
-        sym (subst (λ m. body_kind m h.method h.headers ≡ Some h.body) minor of.body_is)
-        ∙ body_kind-plain h.headers simple.headers h.method simple.method in
+    sym (subst (λ m. body_kind m h.method h.headers ≡ Some h.body) minor of.body_is)
+    ∙ body_kind-plain h.headers simple.headers h.method simple.method in
     let connection : h.connection ≡ model.keep_alive =
-        of.connection_is ∙ ap (λ m. connection_of m h.headers) minor ∙ connection_of-plain h.headers simple.headers in
+    of.connection_is ∙ ap (λ m. connection_of m h.headers) minor ∙ connection_of-plain h.headers simple.headers in
     let expects : h.expects ≡ false = of.expects_is ∙ expects_continue-plain h.headers simple.headers in
     let body_is : h.body ≡ model.no_body = cc body in
     λ i. record h { minor = minor i; body = body_is i; connection = connection i; expects = expects i }
@@ -191,10 +197,13 @@ head_answers s p start end item h is_head unread piece allowed running here read
     let exchange = new_kept text p.has_ended (drop end p.unread) h is_head reading method in
     let c : Change = record { outcome = on.head h; kept = record (kept_of q) { is_coming = k.is_coming; closing_since = p.closing_since } } in
     let c_is : c ≡ behind_head k end (head_is h) =
-        λ i. record { outcome = on.head h; kept = record k { unread = unread_is i; exchange = Some (sym exchange i) } } in
-    (on.head h, (h, says, refl), step_of s p q on.next (on.head h) k.is_coming
-    (next_change set k true c running coming (start, end, head_is h, here, inl (fits, reading.0), c_is))
-    scanned (stays_noted p.closing_since p.ticked (is_some (end_of_parts s q)) (handed_noted s p unread piece is_head running linked)))
+    λ i. record { outcome = on.head h; kept = record k { unread = unread_is i; exchange = Some (sym exchange i) } } in (
+      on.head h,
+      (h, says, refl),
+      step_of s p q on.next (on.head h) k.is_coming
+          (next_change set k true c running coming (start, end, head_is h, here, inl (fits, reading.0), c_is))
+          scanned (stays_noted p.closing_since p.ticked (is_some (end_of_parts s q)) (handed_noted s p unread piece is_head running linked)),
+    )
 
 -- ---- what isn't served yet
 
@@ -205,12 +214,13 @@ some_step set k event c changes = of_free (machine.is_free c.kept) refl
     with_coming : (b : Bool) → IsComing (machine.is_free c.kept) c.kept.unread b → (next : Kept) × IsStep set k event c.outcome next
     with_coming b comes =
         (noting_since set (record c.kept { is_coming = b }), record { change = c; coming = b; changes = changes; answers = refl; comes = comes; keeps = refl })
+
     of_free : (free : Bool) → machine.is_free c.kept ≡ free → (next : Kept) × IsStep set k event c.outcome next
     of_free false is = with_coming false (subst (λ (b : Bool). IsComing b c.kept.unread false) (sym is) refl)
     of_free true is = elim (head_piece_decided c.kept.unread) [
-        inl none ↦ with_coming false (subst (λ (b : Bool). IsComing b c.kept.unread false) (sym is) none)
+      | inl none ↦ with_coming false (subst (λ (b : Bool). IsComing b c.kept.unread false) (sym is) none)
       | inr here ↦ with_coming true (subst (λ (b : Bool). IsComing b c.kept.unread true) (sym is) here)
-      ]
+    ]
 
 -- a change whose outcome isn't given yet
 later : (s : Settings) (p : Parts) (c : Change) → IsAllowed (state_of s p) on.next → IsChange (setting_of s) (kept_of p) on.next c

@@ -147,7 +147,7 @@ step_of s p q event out was changes answer since =
     let before : Kept = kept_of (record q { closing_since = p.closing_since }) in
     let closes : is_some (closing_by (setting_of s) before) ≡ is_some (end_of_parts s q) = closes_same s (record q { closing_since = p.closing_since }) in
     let noted : q.closing_since ≡ (noting_since (setting_of s) before).closing_since =
-        since ∙ ap (λ b. option_or p.closing_since (if b then Some q.ticked else None)) (sym closes) in
+    since ∙ ap (λ b. option_or p.closing_since (if b then Some q.ticked else None)) (sym closes) in
     record {
       change = record { outcome = out; kept = record (kept_of q) { is_coming = was; closing_since = p.closing_since } };
       coming = (kept_of q).is_coming;

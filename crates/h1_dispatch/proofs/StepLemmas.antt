@@ -59,8 +59,8 @@ pub allows_viewed : (s : Settings) (p : Parts) (now : State) (event : Event) (cl
     → takes p.is_over closes p.has_ended free moment event ≡ allowed_by (setting_of now.settings) now.kept (event_of event)
 allows_viewed s p now event closes free moment end view closes_is end_is free_is moment_is =
     let closes_so : closes ≡ is_some (end_of_parts s p) =
-        closes_is ∙ sym (some_same end) ∙ ap is_some end_is
-        ∙ sym (ap (λ (k : State). is_some (closing_by (setting_of k.settings) k.kept)) view) ∙ closes_same s p in
+    closes_is ∙ sym (some_same end) ∙ ap is_some end_is
+    ∙ sym (ap (λ (k : State). is_some (closing_by (setting_of k.settings) k.kept)) view) ∙ closes_same s p in
     let moment_so : moment ≡ unwrap_or p.ticked 0 = moment_is ∙ sym (ap (λ (k : State). machine.now k.kept) view) in
     (λ i. takes p.is_over (closes_so i) p.has_ended (free_is i) (moment_so i) event)
     ∙ sym (allowed_same s p event) ∙ ap (λ (k : State). allowed_by (setting_of k.settings) k.kept (event_of event)) view
@@ -111,11 +111,14 @@ read_answers s p bytes unread count piece count_is unread_is scanned linked allo
     let grown : p.unread ++ take n bytes ≡ unread = ap (λ k. p.unread ++ take k bytes) (sym count_is) ∙ sym unread_is in
     let passed = passing_same (record p { unread = p.unread ++ take n bytes }) p.request was in
     let all : record { outcome = on.took count; kept = record (kept_of q) { is_coming = was; closing_since = p.closing_since } }
-            ≡ record { outcome = on.took n; kept = passing (record (kept_of p) { unread = p.unread ++ take n bytes }) } =
-        (λ i. record { outcome = on.took (count_is i); kept = record (kept_of p) { unread = sym grown i } })
-        ∙ ap (λ (k : Kept). record { outcome = on.took n; kept = k }) (sym passed) in
-    (on.took count, refl, step_of s p q (on.read bytes) (on.took count) was all scanned
-    (stays_noted p.closing_since p.ticked (is_some (end_of_parts s q)) (read_noted s p unread piece (read_allowed s p bytes allowed).1 linked)))
+    ≡ record { outcome = on.took n; kept = passing (record (kept_of p) { unread = p.unread ++ take n bytes }) } =
+    (λ i. record { outcome = on.took (count_is i); kept = record (kept_of p) { unread = sym grown i } })
+    ∙ ap (λ (k : Kept). record { outcome = on.took n; kept = k }) (sym passed) in (
+      on.took count,
+      refl,
+      step_of s p q (on.read bytes) (on.took count) was all scanned
+          (stays_noted p.closing_since p.ticked (is_some (end_of_parts s q)) (read_noted s p unread piece (read_allowed s p bytes allowed).1 linked)),
+    )
 
 -- ---- writes
 
@@ -128,10 +131,13 @@ drop_bounded n count bytes is = rw is (grind (arith, common_steps))
 
 pub write_answers : (s : Settings) (p : Parts) (limit : ℕ) (bytes rest : List ℕ) → bytes ≡ take limit p.buffered → rest ≡ drop limit p.buffered
     → AreLinked s p → Answers (state_of s p) (on.write limit) (Gave bytes) (kept_of (record p { buffered = rest }))
-write_answers s p limit bytes rest bytes_are rest_is linked =
-    (on.gave bytes, refl, step_of s p (record p { buffered = rest }) (on.write limit) (on.gave bytes) (kept_of p).is_coming
-    (λ i. record { outcome = on.gave (bytes_are i); kept = record (kept_of p) { buffered = rest_is i } })
-    linked.scanned (stays_noted p.closing_since p.ticked (is_some (end_of_parts s p)) linked.noted))
+write_answers s p limit bytes rest bytes_are rest_is linked = (
+  on.gave bytes,
+  refl,
+  step_of s p (record p { buffered = rest }) (on.write limit) (on.gave bytes) (kept_of p).is_coming
+      (λ i. record { outcome = on.gave (bytes_are i); kept = record (kept_of p) { buffered = rest_is i } })
+      linked.scanned (stays_noted p.closing_since p.ticked (is_some (end_of_parts s p)) linked.noted),
+)
 
 -- ---- the input's end
 
@@ -146,7 +152,7 @@ pub noted_now : (s : Settings) (p q : Parts) (since : Option (Option ℕ)) → A
     → since ≡ option_or p.closing_since (if is_some (end_of_parts s q) then Some q.ticked else None)
 noted_now s p q since linked running is =
     is ∙ ap (λ (o : Option (Option ℕ)). option_or o (if is_some (end_of_parts s q) then Some q.ticked else None))
-        (sym (none_of p.closing_since (linked.noted ∙ running)))
+    (sym (none_of p.closing_since (linked.noted ∙ running)))
 
 -- a body that isn't there has no rest
 exchange_ends : (bytes : List ℕ) (x : Option Request) → exchange_at_end bytes (option_map exchange_of x) ≡ option_map exchange_of x
@@ -161,11 +167,14 @@ eof_answers s p since linked allowed is =
     let q : Parts = record p { has_ended = true; closing_since = since } in
     let was = (kept_of p).is_coming in
     let same : ending_input (kept_of p) ≡ record (kept_of q) { is_coming = was; closing_since = p.closing_since } =
-        ap (λ (x : Option Exchange). passing (record (kept_of p) { has_ended = true; exchange = x })) (exchange_ends p.unread p.request)
-        ∙ passing_same (record p { has_ended = true }) p.request was in
-    (on.done, refl, step_of s p q on.eof on.done was
-    (ap (λ (k : Kept). record { outcome = on.done; kept = k }) (sym same))
-    linked.scanned (noted_now s p q since linked (eof_allowed s p allowed).0 is))
+    ap (λ (x : Option Exchange). passing (record (kept_of p) { has_ended = true; exchange = x })) (exchange_ends p.unread p.request)
+    ∙ passing_same (record p { has_ended = true }) p.request was in (
+      on.done,
+      refl,
+      step_of s p q on.eof on.done was
+          (ap (λ (k : Kept). record { outcome = on.done; kept = k }) (sym same))
+          linked.scanned (noted_now s p q since linked (eof_allowed s p allowed).0 is),
+    )
 
 -- ---- the first tick
 
@@ -230,9 +239,12 @@ tick_answers s p ms first normal linked =
     let q : Parts = record p { ticked = Some ms } in
     let c : Change = record { outcome = on.done; kept = kept_of p } in
     let same : ticking (setting_of s) (kept_of p) (closing_by (setting_of s) (kept_of p)) ms ≡ at_moment ms c =
-        ap (λ (t : Option ℕ). at_moment ms (expiring (setting_of s) (kept_of p) (closing_by (setting_of s) (kept_of p)) (unwrap_or t ms) ms)) first
-        ∙ ap (at_moment ms) (nothing_expires s p (closing_by (setting_of s) (kept_of p)) ms normal (linked.completed first) (linked.since first)) in
+    ap (λ (t : Option ℕ). at_moment ms (expiring (setting_of s) (kept_of p) (closing_by (setting_of s) (kept_of p)) (unwrap_or t ms) ms)) first
+    ∙ ap (at_moment ms) (nothing_expires s p (closing_by (setting_of s) (kept_of p)) ms normal (linked.completed first) (linked.since first)) in
     let at : at_moment ms c ≡ record { outcome = on.done; kept = record (kept_of q) { is_coming = (kept_of p).is_coming; closing_since = p.closing_since } } =
-        λ i. record { outcome = on.done; kept = record (kept_of p) { clock = record { first = option_or (first i) (Some ms); last = Some ms; completed = p.completed } } } in
-    (on.done, refl, step_of s p q (on.tick ms) on.done (kept_of p).is_coming (sym (same ∙ at)) linked.scanned
-    (stays_noted p.closing_since (Some ms) (is_some (end_of_parts s p)) linked.noted))
+    λ i. record { outcome = on.done; kept = record (kept_of p) { clock = record { first = option_or (first i) (Some ms); last = Some ms; completed = p.completed } } } in (
+      on.done,
+      refl,
+      step_of s p q (on.tick ms) on.done (kept_of p).is_coming (sym (same ∙ at)) linked.scanned
+          (stays_noted p.closing_since (Some ms) (is_some (end_of_parts s p)) linked.noted),
+    )

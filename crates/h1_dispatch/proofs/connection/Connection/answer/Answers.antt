@@ -1,4 +1,4 @@
-use Rattle.std.proofs.Common.{◌≡◌, ℕ, Option, Some, ap, ◌∙◌, sym}
+use Rattle.std.proofs.Common.{◌≡◌, Some, ap, ◌∙◌, sym}
 use Rattle.std.specs.Prelude.{unwrap_or, if◌then◌else◌}
 use Rattle.http_types.specs.ResponseHead.{ResponseParts}
 use Rattle.http_types.specs.declared.keep_alive.KeepAlive.{KeepAlive}
@@ -13,7 +13,6 @@ use Rattle.h1_dispatch.specs.Meaning.{keep_alive_of}
 use Rattle.h1_dispatch.specs.Parts.{type_of, end_by}
 use Rattle.h1_dispatch.specs.State.{State}
 use Rattle.h1_dispatch.specs.declared.event.Outcome.TheVariants.{Done}
-use Rattle.h1_dispatch.specs.declared.request.Request.{Request}
 use Rattle.h1_dispatch.proofs.AnswerLemmas.{no_request, answer_allowed, answer_answers}
 use Rattle.h1_dispatch.proofs.StepLemmas.{viewed, allowed_viewed, since_of}
 use Rattle.h1_dispatch.proofs.connection.Connection.answer.Goals as goal
@@ -26,13 +25,13 @@ returns-clause-ok c =
     let allowed = allowed_viewed _ _ _ c.self.view_is c.requires in
     let bare = c.is_bare.ensures.bare c.if-not-is_bare.false in
     let kind = c.answer_type-connection.ensures
-        ∙ ap (λ (k : KeepAlive). if keeps (keep_alive_of k) then model.keep_alive else model.close) c.keep_alive.ensures.value in
+    ∙ ap (λ (k : KeepAlive). if keeps (keep_alive_of k) then model.keep_alive else model.close) c.keep_alive.ensures.value in
     let status : c.head.inside.status ≡ c.args.head.now.status = ap (λ (h : ResponseParts). h.status) c.head.view_is in
     let size = c.length_of.ensures bare.at_once in
     let moment : c.now.result ≡ unwrap_or c.self.inside.ticked 0 =
-        c.now.ensures.value ∙ sym (ap (λ (k : State). machine.now k.kept) c.self.view_is) in
+    c.now.ensures.value ∙ sym (ap (λ (k : State). machine.now k.kept) c.self.view_is) in
     let text = c.as_slice.ensures.value ∙ c.in_ok-text.ensures
-        ∙ (λ i. head_text 1 (bare_head (status i)) shape_none (size i) (type_of c.answer_type-connection.result) (moment i)) in
+    ∙ (λ i. head_text 1 (bare_head (status i)) shape_none (size i) (type_of c.answer_type-connection.result) (moment i)) in
     viewed _ _ _ Done _ c.self.view_is
     (answer_answers _ _ c.in-Some.request c.args.head.now c.args.size c.answer_type-connection.result c.extend_from_slice.new.self c.as_slice.result.now _
     c.in-Some.is bare kind c.in_ok-extend_from_slice.ensures.ok text c.self.invariant (answer_allowed _ _ c.args.head.now c.args.size allowed).0

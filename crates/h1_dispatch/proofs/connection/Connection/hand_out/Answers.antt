@@ -10,7 +10,7 @@ use Rattle.h1_dispatch.proofs.connection.Connection.hand_out.Goals as goal
 pub returns-in-Err-NotYet-clause-not_yet : goal.returns-in-Err-NotYet-clause-not_yet
 returns-in-Err-NotYet-clause-not_yet c = λ is.
     let text : c.in_ok-piece.piece ≡ slice_range c.self.inside.input.bytes c.args.start c.args.end =
-        c.in_ok-piece.ensures ∙ ap (λ (bytes : List ℕ). slice_range bytes c.args.start c.args.end) c.as_slice.ensures in
+    c.in_ok-piece.ensures ∙ ap (λ (bytes : List ℕ). slice_range bytes c.args.start c.args.end) c.as_slice.ensures in
     later_viewed _ _ on.next c.self.view_is
     (refused_later _ _ c.args.start c.args.end (allowed_viewed _ _ _ c.self.view_is c.requires.allowed) (running_viewed _ _ c.self.view_is c.requires.running)
     (piece_viewed _ _ _ _ c.self.view_is c.requires.piece)
@@ -30,7 +30,7 @@ pub returns-clause-ok : goal.returns-clause-ok
 returns-clause-ok c =
     let read = c.in-Ok.ensures.head in
     let text : c.in_ok-piece.piece ≡ slice_range c.self.inside.input.bytes c.args.start c.args.end =
-        c.in_ok-piece.ensures ∙ ap (λ (bytes : List ℕ). slice_range bytes c.args.start c.args.end) c.as_slice.ensures in
+    c.in_ok-piece.ensures ∙ ap (λ (bytes : List ℕ). slice_range bytes c.args.start c.args.end) c.as_slice.ensures in
     viewed _ _ _ (Head c.in-Ok.item) _ c.self.view_is
     (head_answers _ _ c.args.start c.args.end c.in-Ok.item read.0 c.eq-is_head.result c.pass.new.self.bytes c.pass.new.self.piece
     (allowed_viewed _ _ _ c.self.view_is c.requires.allowed) (running_viewed _ _ c.self.view_is c.requires.running)

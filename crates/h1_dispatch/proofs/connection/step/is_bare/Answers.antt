@@ -1,4 +1,4 @@
-use Rattle.std.proofs.Common.{◌≡◌, sym, ap, ◌∙◌, ◌≢◌}
+use Rattle.std.proofs.Common.{sym, ap, ◌∙◌}
 use Rattle.std.proofs.lemmas.Bool.{eqb-true, eqb-false}
 use Rattle.http_map.specs.HeaderMap.{Entries, value_count}
 use Rattle.h1_dispatch.proofs.AnswerLemmas.{bare_of, bare_lines, nothing_there}

@@ -1,4 +1,4 @@
-use Rattle.std.proofs.Common.{◌≡◌, ℕ, List, ◌++◌, ◌∙◌, ap}
+use Rattle.std.proofs.Common.{ℕ, List, ◌++◌, ◌∙◌, ap}
 use Rattle.h1_dispatch.proofs.EncodedLemmas.{grown_new, head_same}
 use Rattle.h1_dispatch.proofs.h1.encoder.encode_head.Goals as goal
 

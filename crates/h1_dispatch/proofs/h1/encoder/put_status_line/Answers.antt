@@ -1,4 +1,4 @@
-use Rattle.std.proofs.Common.{rules, ◌∙◌}
+use Rattle.std.proofs.Common.{rules}
 use Rattle.h1_dispatch.proofs.EncodedLemmas.{grown, status_same}
 use Rattle.h1_dispatch.proofs.h1.encoder.put_status_line.Goals as goal
 
