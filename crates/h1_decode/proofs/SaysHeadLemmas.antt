@@ -1,5 +1,5 @@
 -- An item that says what simple parts say, against the simple head with these parts.
-use Rattle.std.proofs.Common.{◌≡◌, List, ℕ, take, map, refl, sym, ap, subst, inl, inr}
+use Rattle.std.proofs.Common.{◌≡◌, List, ℕ, take, map, refl, sym, ap, subst}
 use Rattle.std.specs.Prelude.{Result, Ok, Err, IfOk, IfErr}
 use Rattle.http.specs.declared.version.Version.{Version}
 use Rattle.http.specs.declared.version.TheConstants.Version.{HTTP_11}
@@ -22,11 +22,7 @@ use Rattle.h1_decode.proofs.ReadingLemmas.{simple_head, reads_simple, parts_simp
 
 -- a head of HTTP/1.1 without marks keeps its connection
 keeps : IsTypeOf no_flags HTTP_11 KeepAlive
-keeps = record {
-  marked = λ t is. cc is;
-  old = λ none below. elim below [ inl is ↦ cc (ap (λ (v : Version). v.0) is) | inr is ↦ cc (ap (λ (v : Version). v.0) is) ];
-  new = λ none above. refl;
-}
+keeps = refl
 
 pub says_simple : (item : HeadItem) (method target : List ℕ) (lines : List Line)
     → SaysParts item method target lines → SaysHead item (simple_head method target lines)
