@@ -11,7 +11,7 @@ use Rattle.httparse.specs.Spans.{header_bytes}
 use Rattle.httparse.specs.declared.spans.HeaderSpan.{HeaderSpan}
 use Rattle.h1_model.specs.Request.{Header}
 use Rattle.h1_decode.specs.HeadMap.{header_map}
-use Rattle.h1_decode.specs.SimpleHead.{line_header, IsSimpleLine}
+use Rattle.h1_decode.specs.SimpleHead.{HasFieldValue, line_header, IsSimpleLine}
 
 module _ (piece : List ℕ) (fields : List HeaderSpan) (i : ℕ) (d : HeaderSpan) (below : i < length fields) where
   -- among simple lines is each one simple
@@ -19,6 +19,12 @@ module _ (piece : List ℕ) (fields : List HeaderSpan) (i : ℕ) (d : HeaderSpan
   simple_at all =
       subst IsSimpleLine (get_or-map (header_bytes piece) fields i d (header_bytes piece d) below)
       (All-get_or IsSimpleLine (map (header_bytes piece) fields) i (header_bytes piece d) (rw length-map below) all)
+
+  -- among known values is each one known
+  pub value_at : All HasFieldValue (map (header_bytes piece) fields) → HasFieldValue (header_bytes piece (get_or fields i d))
+  value_at all =
+      subst HasFieldValue (get_or-map (header_bytes piece) fields i d (header_bytes piece d) below)
+      (All-get_or HasFieldValue (map (header_bytes piece) fields) i (header_bytes piece d) (rw length-map below) all)
 
   -- one more simple line
   pub simple_more : All IsSimpleLine (map (header_bytes piece) (take i fields)) → IsSimpleLine (header_bytes piece (get_or fields i d))

@@ -1,7 +1,9 @@
 -- A simple head of the model, by the parts that the spans cover.
-use Rattle.std.proofs.Common.{◌≡◌, ℕ, false, List, [], map, take, All, refl, sym, ap, ◌∙◌, subst}
+use Rattle.std.proofs.Common.{◌≡◌, ℕ, false, List, [], ◌∷◌, map, take, All, refl, sym, ap, ◌∙◌, subst}
 use Rattle.std.specs.Prelude.{codes, bytes_eq}
-use Rattle.httparse.specs.Grammar.{RequestHead}
+use Rattle.std.proofs.lemmas.List.Elements.{All-nil, All-cons, All-head, All-tail}
+use Rattle.httparse.specs.Grammar.{is_value_byte, Field, IsField, RequestHead}
+use Rattle.httparse.proofs.TrimLemmas.{AllPass-trim_ows}
 use Rattle.httparse.specs.Spans.{IsRequestAt, span_bytes, header_bytes, name_and_value}
 use Rattle.httparse.specs.declared.spans.HeaderSpan.{HeaderSpan}
 use Rattle.httparse.specs.declared.spans.RequestSpans.{RequestSpans}
@@ -9,7 +11,7 @@ use Rattle.httparse.proofs.GrammarLemmas.{request_unique}
 use Rattle.http_header.specs.Token.{IsToken}
 use Rattle.h1_model.specs.Request.{Head, no_body, keep_alive}
 use Rattle.h1_model.specs.RequestHead.{IsHeadOf, IsTarget, header_of}
-use Rattle.h1_decode.specs.SimpleHead.{Line, line_header, IsSimpleLine, IsSimpleReading, IsNotSimple}
+use Rattle.h1_decode.specs.SimpleHead.{HasFieldValue, Line, line_header, IsSimpleLine, IsSimpleReading, IsNotSimple}
 use Rattle.h1_decode.specs.WholeHead.{IsWholeHeadAt, HasNoWholeHead, AreSimpleAt}
 use Rattle.h1_decode.proofs.PlainHeadLemmas.{IsPlain, body_kind-plain, connection_of-plain, expects_continue-plain, line_headers, fields_of_lines, plain_of_lines, lines_of_fields}
 
@@ -17,6 +19,20 @@ use Rattle.h1_decode.proofs.PlainHeadLemmas.{IsPlain, body_kind-plain, connectio
 abbrev pub simple_head : List ℕ → List ℕ → List Line → Head
 simple_head method target lines =
     record { method = method; target = target; minor = 1; headers = map line_header lines; body = no_body; connection = keep_alive; expects = false }
+
+-- the values of fields are values of headers
+values_of_fields : (fields : List Field) → All IsField fields → All HasFieldValue (map name_and_value fields)
+values_of_fields [] valid = All-nil HasFieldValue
+values_of_fields (f ∷ fields) valid =
+    All-cons HasFieldValue (name_and_value f) (map name_and_value fields) (AllPass-trim_ows is_value_byte f.raw (All-head IsField f fields valid).raw)
+    (values_of_fields fields (All-tail IsField f fields valid))
+
+-- so are those that the spans of a whole head cover
+pub values_whole : (piece text : List ℕ) (all : List HeaderSpan) (spans : RequestSpans) → text ≡ piece → IsWholeHeadAt text all spans
+    → All HasFieldValue (map (header_bytes piece) (take spans.headers all))
+values_whole piece text all spans same whole =
+    subst (λ (t : List ℕ). All HasFieldValue (map (header_bytes t) (take spans.headers all))) same
+    (subst (All HasFieldValue) (sym whole.at.fields) (values_of_fields whole.text.fields whole.whole.0.fields))
 
 module _ (piece : List ℕ) (all : List HeaderSpan) (spans : RequestSpans) where
   -- the parts of a whole head, where they are simple, are read as a simple head

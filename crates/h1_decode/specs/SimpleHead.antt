@@ -38,6 +38,10 @@ Line = List ℕ × List ℕ
 abbrev pub line_header : Line → Header
 line_header line = record { name = lowercase line.0; value = line.1 }
 
+-- a header field may have the line's value
+abbrev pub HasFieldValue : Line → Type 0
+HasFieldValue line = IsFieldValue line.1
+
 -- a line that a simple head may have
 pub record IsSimpleLine (line : Line) : Type 0 where
   pub name : IsFieldName line.0

@@ -1,5 +1,5 @@
 -- A head that is a whole piece, by the spans of its parts.
-use Rattle.std.specs.Prelude.{ℕ, ◌≤◌, List, [], map}
+use Rattle.std.specs.Prelude.{ℕ, ◌≤◌, List, [], length, map}
 use Rattle.httparse.specs.Grammar.{RequestHead, ReadsRequest}
 use Rattle.httparse.specs.Spans.{IsRequestAt, span_bytes, header_bytes}
 use Rattle.httparse.specs.declared.spans.HeaderSpan.{HeaderSpan}
@@ -14,6 +14,10 @@ pub record IsWholeHeadAt (piece : List ℕ) (fields : List HeaderSpan) (spans : 
   pub text : RequestHead
   pub at : IsRequestAt piece fields spans text
   pub whole : ReadsRequest piece text []
+
+-- the piece is a head of no more fields than a head may have header lines
+abbrev pub HasFewFields : List ℕ → Type 0
+HasFewFields piece = (text : RequestHead) × ReadsRequest piece text [] × (length text.fields ≤ MAX_HEADER_LINES)
 
 -- the piece is no such head
 abbrev pub HasNoWholeHead : List ℕ → Type 0

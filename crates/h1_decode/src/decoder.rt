@@ -1,17 +1,18 @@
 //! What the head of a request says (RFC 7230, section 3).
-ghost use Rattle.std.specs.Prelude.{◌≡◌, ◌⊎◌, false, length, codes, bytes_eq, Err, IfOk, IfErr, IfSome, IfNone, All};
+ghost use Rattle.std.specs.Prelude.{◌≡◌, ◌⊎◌, ◌↔◌, ◌≤◌, IsTrue, false, length, map, codes, bytes_eq, Err, IfOk, IfErr, IfSome, IfNone, All};
 ghost use Rattle.http_header.specs.Token.{IsToken};
 ghost use Rattle.http_uri.specs.Uri.{Spells, SpellsNone};
-ghost use Rattle.httparse.specs.Spans.{IsHeaderWithin, IsRequestWithin, IsWithin};
+ghost use Rattle.httparse.specs.Spans.{IsHeaderWithin, IsRequestWithin, IsWithin, header_bytes};
 ghost use Rattle.h1_model.specs.HeadPiece.{header_lines};
 ghost use Rattle.h1_model.specs.Request.{Head};
 ghost use Rattle.h1_decode.specs.HeadItem.{SaysHead};
 ghost use Rattle.h1_decode.specs.ReadParts.{SaysPartsAt};
 ghost use Rattle.h1_decode.specs.Refusal.{UnlessNoMemory};
-ghost use Rattle.h1_decode.specs.SimpleHead.{IsSimpleReading, IsNotSimple};
-ghost use Rattle.h1_decode.specs.WholeHead.{AreSimpleAt, IsWholeHeadAt, HasNoWholeHead};
+ghost use Rattle.h1_decode.specs.SimpleHead.{HasFieldValue, IsSimpleReading, IsNotSimple};
+ghost use Rattle.h1_decode.specs.WholeHead.{AreSimpleAt, HasFewFields, IsWholeHeadAt, HasNoWholeHead};
 
 use crate::lines::{read_headers, share};
+use crate::scan::line_end_len;
 use bytes::Bytes;
 use http::method::MethodError;
 use http_types::{Method, NoMemory, ParseError, RequestHead, Uri, Version};
@@ -69,16 +70,47 @@ impl HeadItem {
     }
 }
 
+/// Room for the places of a head's header lines. Kept from head to head, it is cleared once, when it is
+/// made. What one head leaves in it says nothing of the next.
+#[derive(Debug, Drop)]
+pub struct HeadRoom {
+    fields: [HeaderSpan; MAX_HEADERS],
+}
+
+impl HeadRoom {
+    /// Cleared room.
+    pub fn new() -> Self {
+        HeadRoom {
+            fields: [EMPTY_HEADER_SPAN; MAX_HEADERS],
+        }
+    }
+}
+
 /// What the head says that `piece` is, from its first line to its empty line. Heads of other
 /// versions than HTTP/1.1, tunnels, and heads with a line on the body or the connection are not
 /// read yet: these, malformed heads and those of more than 96 header lines are all
 /// `ParseError::NotYet`. The only other error is `ParseError::NoMemory`.
+#[inline(always)]
 pub fn request_head(alloc: Global, piece: Bytes) -> Result<HeadItem, ParseError>
     ensures head { IfOk result (λ item. (h : Head) × IsSimpleReading piece h × SaysHead item h) }
     ensures not_yet { result ≡ Err ParseError.NotYet → IsNotSimple piece }
     ensures errors { IfErr result (λ e. (e ≡ ParseError.NotYet) ⊎ (e ≡ ParseError.NoMemory)) }
 {
-    match read_head(alloc, &piece) {
+    request_head_in(alloc, piece, &mut HeadRoom::new())
+}
+
+/// The same as `request_head`, with room that the caller keeps.
+#[inline(always)]
+pub fn request_head_in(
+    alloc: Global,
+    piece: Bytes,
+    room: &mut HeadRoom,
+) -> Result<HeadItem, ParseError>
+    ensures head { IfOk result (λ item. (h : Head) × IsSimpleReading piece h × SaysHead item h) }
+    ensures not_yet { result ≡ Err ParseError.NotYet → IsNotSimple piece }
+    ensures errors { IfErr result (λ e. (e ≡ ParseError.NotYet) ⊎ (e ≡ ParseError.NoMemory)) }
+{
+    match read_head(alloc, &piece, room) {
         Ok(item) => Ok(item),
         Err(ParseError::NoMemory) => Err(ParseError::NoMemory),
         Err(_) => Err(ParseError::NotYet),
@@ -86,30 +118,45 @@ pub fn request_head(alloc: Global, piece: Bytes) -> Result<HeadItem, ParseError>
 }
 
 /// The head that the piece is.
-fn read_head(alloc: Global, piece: &Bytes) -> Result<HeadItem, ParseError>
+#[inline(always)]
+fn read_head(alloc: Global, piece: &Bytes, room: &mut HeadRoom) -> Result<HeadItem, ParseError>
     ensures head { IfOk result (λ item. (h : Head) × IsSimpleReading piece.now h × SaysHead item h) }
     ensures refused { IfErr result (λ e. UnlessNoMemory e (IsNotSimple piece.now)) }
 {
-    let mut fields = [EMPTY_HEADER_SPAN; MAX_HEADERS];
-    match parse_whole(piece.as_slice(), &mut fields) {
-        Some(spans) => read_parts(alloc, piece, spans, &fields[..spans.headers]),
+    match parse_whole(piece.as_slice(), &mut room.fields) {
+        Some(spans) => read_parts(alloc, piece, spans, &room.fields[..spans.headers]),
         None => Err(ParseError::Header),
     }
 }
 
 /// Where the parts of the head are that is the whole piece.
+#[inline(always)]
 fn parse_whole(piece: &[u8], fields: &mut [HeaderSpan]) -> Option<RequestSpans>
     requires { length fields.old ≡ MAX_HEADERS }
     ensures within { IfSome result (IsRequestWithin piece.now fields.new) }
     ensures found { IfSome result (IsWholeHeadAt piece.now fields.new) }
     ensures none { IfNone result (HasNoWholeHead piece.now) }
 {
-    if count_header_lines(piece) > MAX_HEADERS {
-        return None;
+    let spans = match parse_request(piece, fields) {
+        Ok(Status::Complete(spans)) if spans.len == piece.len() => spans,
+        _ => return None,
+    };
+    if has_few_lines(piece) {
+        Some(spans)
+    } else {
+        None
     }
-    match parse_request(piece, fields) {
-        Ok(Status::Complete(spans)) if spans.len == piece.len() => Some(spans),
-        _ => None,
+}
+
+/// Whether a piece that is a head of at most 96 fields has at most 96 header lines as well. Behind its
+/// first line each line is a field, so that there is nothing to count, unless it begins with empty lines.
+fn has_few_lines(piece: &[u8]) -> bool
+    requires { HasFewFields piece.now }
+    ensures { IsTrue result ↔ header_lines piece.now ≤ MAX_HEADERS }
+{
+    match line_end_len(piece) {
+        None => true,
+        Some(_) => count_header_lines(piece) <= MAX_HEADERS,
     }
 }
 
@@ -121,6 +168,7 @@ fn count_header_lines(piece: &[u8]) -> usize
 }
 
 /// The head whose parts the spans cover.
+#[inline(always)]
 fn read_parts(
     alloc: Global,
     piece: &Bytes,
@@ -130,6 +178,7 @@ fn read_parts(
     requires method { IsWithin (length piece.now) spans.method }
     requires path { IsWithin (length piece.now) spans.path }
     requires fields { All (IsHeaderWithin (length piece.now)) fields.now }
+    requires values { All HasFieldValue (map (header_bytes piece.now) fields.now) }
     ensures simple { IfOk result (λ _. AreSimpleAt piece.now spans fields.now) }
     ensures says { IfOk result (SaysPartsAt piece.now spans fields.now) }
     ensures refused { IfErr result (λ e. UnlessNoMemory e (¬ (AreSimpleAt piece.now spans fields.now))) }
@@ -139,7 +188,7 @@ fn read_parts(
     }
     let target = share(piece, spans.path)?;
     let method = read_method(alloc, spans.method.of(piece.as_slice()))?;
-    let uri = read_uri(alloc, target.as_slice())?;
+    let uri = read_uri(share(piece, spans.path)?)?;
     let headers = read_headers(alloc, piece, fields)?;
     Ok(HeadItem {
         head: RequestHead::from_parts(method, uri, Version::HTTP_11, headers),
@@ -167,12 +216,12 @@ fn read_method(alloc: Global, src: &[u8]) -> Result<Method, ParseError>
     Ok(method)
 }
 
-/// The request target (RFC 7230, section 5.3).
-fn read_uri(alloc: Global, src: &[u8]) -> Result<Uri, ParseError>
-    ensures spelled { IfOk result (Spells src.now) }
-    ensures refused { IfErr result (λ e. UnlessNoMemory e (SpellsNone src.now)) }
+/// The request target (RFC 7230, section 5.3), which shares the memory of the bytes.
+fn read_uri(src: Bytes) -> Result<Uri, ParseError>
+    ensures spelled { IfOk result (Spells src) }
+    ensures refused { IfErr result (λ e. UnlessNoMemory e (SpellsNone src)) }
 {
-    match Uri::from_bytes(alloc, src) {
+    match Uri::from_shared(src) {
         Ok(uri) => Ok(uri),
         Err(UriError::Invalid(_)) => Err(ParseError::Uri),
         Err(UriError::OutOfMemory) => Err(ParseError::NoMemory),

@@ -22,5 +22,5 @@ mod decoder;
 mod lines;
 mod scan;
 
-pub use decoder::{BodyKind, HeadItem, request_head};
+pub use decoder::{BodyKind, HeadItem, HeadRoom, request_head, request_head_in};
 pub use scan::{HeadScan, HeadScanner, scan_head};

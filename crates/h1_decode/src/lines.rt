@@ -5,7 +5,7 @@ ghost use Rattle.http_header.specs.FieldValue.{IsFieldValue, plain_value};
 ghost use Rattle.http_header.specs.Token.{lowercase};
 ghost use Rattle.httparse.specs.Spans.{IsHeaderWithin, IsWithin, header_bytes, span_bytes};
 ghost use Rattle.h1_decode.specs.Refusal.{UnlessNoMemory};
-ghost use Rattle.h1_decode.specs.SimpleHead.{IsSimpleLine, is_special, line_header};
+ghost use Rattle.h1_decode.specs.SimpleHead.{HasFieldValue, IsSimpleLine, is_special, line_header};
 ghost use Rattle.h1_decode.specs.HeadMap.{header_map};
 
 use bytes::Bytes;
@@ -14,13 +14,14 @@ use http_types::{HeaderMap, HeaderName, HeaderValue, ParseError};
 use httparse::spans::{HeaderSpan, Span};
 use std::alloc::Global;
 
-/// The headers that the spans cover, in line order.
+/// The headers that the spans cover, in line order, where the values are known to be such.
 pub(crate) fn read_headers(
     alloc: Global,
     piece: &Bytes,
     fields: &[HeaderSpan],
 ) -> Result<HeaderMap, ParseError>
-    requires { All (IsHeaderWithin (length piece.now)) fields.now }
+    requires within { All (IsHeaderWithin (length piece.now)) fields.now }
+    requires values { All HasFieldValue (map (header_bytes piece.now) fields.now) }
     ensures simple { IfOk result (λ _. All IsSimpleLine (map (header_bytes piece.now) fields.now)) }
     ensures headers { IfOk result (λ headers. headers
         ≡ header_map (map line_header (map (header_bytes piece.now) fields.now))) }
@@ -37,13 +38,14 @@ pub(crate) fn read_headers(
     Ok(headers)
 }
 
-/// The name and the value that the spans cover.
+/// The name and the value that the spans cover, where the value is known to be one.
 fn read_line(
     alloc: Global,
     piece: &Bytes,
     field: HeaderSpan,
 ) -> Result<(HeaderName, HeaderValue), ParseError>
-    requires { IsHeaderWithin (length piece.now) field }
+    requires within { IsHeaderWithin (length piece.now) field }
+    requires value { HasFieldValue (header_bytes piece.now field) }
     ensures simple { IfOk result (λ _. IsSimpleLine (header_bytes piece.now field)) }
     ensures name { IfOk result (λ line. line.0 ≡ lowercase (span_bytes piece.now field.name)) }
     ensures value { IfOk result (λ line. line.1 ≡ plain_value (span_bytes piece.now field.value)) }
@@ -84,14 +86,14 @@ fn is_special(name: &str) -> bool
     )
 }
 
-/// The value that the span covers, which shares the memory of the piece.
+/// The value that the span covers, which shares the memory of the piece and is not checked again.
 fn read_value(piece: &Bytes, span: Span) -> Result<HeaderValue, ParseError>
-    requires { IsWithin (length piece.now) span }
+    requires within { IsWithin (length piece.now) span }
+    requires valid { IsFieldValue (span_bytes piece.now span) }
     ensures value { IfOk result (λ value. value ≡ plain_value (span_bytes piece.now span)) }
-    ensures valid { IfOk result (λ _. IsFieldValue (span_bytes piece.now span)) }
-    ensures refused { IfErr result (λ e. UnlessNoMemory e (¬ (IsFieldValue (span_bytes piece.now span)))) }
+    ensures no_memory { IfErr result (λ e. e ≡ ParseError.NoMemory) }
 {
-    HeaderValue::from_shared(share(piece, span)?).map_err(|_| ParseError::Header)
+    Ok(HeaderValue::from_known_valid(share(piece, span)?))
 }
 
 /// The bytes that the span covers, which share the memory of the piece.

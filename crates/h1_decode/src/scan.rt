@@ -116,7 +116,7 @@ fn find_end(bytes: &[u8], from: usize) -> Option<usize>
 }
 
 /// How many bytes the line end has with which `bytes` begins.
-fn line_end_len(bytes: &[u8]) -> Option<usize>
+pub(crate) fn line_end_len(bytes: &[u8]) -> Option<usize>
     ensures found { IfSome result (λ len. IsLineEndAt bytes.now 0 len) }
     ensures none { IfNone result (¬ (BeginsBlank bytes.now)) }
 {

@@ -1,18 +1,9 @@
 use Rattle.std.proofs.Common.{◌≡◌, ℕ, ◌≤◌, List, [], length, sym, ap, ◌∙◌, append-nil, arith}
-use Rattle.std.specs.Prelude.{count_by, ◌==◌}
-use Rattle.httparse.specs.Ascii.{line_feed}
 use Rattle.httparse.specs.Grammar.{RequestHead, print_request, ReadsRequest}
-use Rattle.h1_model.specs.HeadPiece.{header_lines}
-use Rattle.h1_decode.proofs.FeedLemmas.{length-fields}
+use Rattle.h1_decode.proofs.FeedLemmas.{few_fields}
 use Rattle.h1_decode.proofs.decoder.parse_whole.Goals as goal
 
--- a head that is the whole piece has no more fields than the piece has header lines
-few_fields : (piece : List ℕ) (text : RequestHead) → ReadsRequest piece text [] → length text.fields ≤ header_lines piece
-few_fields piece text (valid, is) =
-    let whole : piece ≡ print_request text = is ∙ append-nil (print_request text) in
-    omega (arith, length-fields text, ap (count_by (λ b. b == line_feed)) whole)
-
--- and its length is the piece's
+-- a head that is the whole piece is as long as the piece
 same_length : (piece : List ℕ) (text : RequestHead) → ReadsRequest piece text [] → length (print_request text) ≡ length piece
 same_length piece text (valid, is) = ap length (sym (is ∙ append-nil (print_request text)))
 

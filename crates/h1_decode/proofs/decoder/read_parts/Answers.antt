@@ -11,14 +11,12 @@ returns-clause-simple c =
     let spans = c.args.spans in
     let method : c.of.result.now ≡ span_bytes c.args.piece.now spans.method =
     c.of.ensures ∙ ap (λ bytes. slice_range bytes spans.method.start spans.method.end) c.as_slice.ensures in
-    let path : c.as_slice-2.result.now ≡ span_bytes c.args.piece.now spans.path =
-    c.as_slice-2.ensures ∙ c.in_ok-target.ensures.bytes in
     record {
       minor_is = c.if-spans-ne-MINOR_VERSION.false;
       method_is = subst IsToken method c.in_ok-method.ensures.token;
       no_tunnel = subst (λ (m : List ℕ). bytes_eq m (codes "CONNECT") ≡ false) method c.in_ok-method.ensures.no_tunnel;
       target_is =
           let uri = c.in_ok-uri.uri in
-          subst IsTarget path (uri_scheme uri, uri_authority uri, uri_data uri, c.in_ok-uri.ensures.spelled);
+          subst IsTarget c.in_ok-share.ensures.bytes (uri_scheme uri, uri_authority uri, uri_data uri, c.in_ok-uri.ensures.spelled);
       simple = c.in_ok-headers.ensures.simple;
     }

@@ -2,12 +2,17 @@ use Rattle.std.proofs.Common.{◌≡◌}
 use Rattle.std.proofs.lemmas.Result.{err_from_is_err_and}
 use Rattle.http_map.specs.HeaderMap.{append}
 use Rattle.httparse.specs.declared.spans.HeaderSpan.{HeaderSpan}
-use Rattle.h1_decode.proofs.LinesLemmas.{simple_at, simple_more, header_map-more, known_ok}
+use Rattle.h1_decode.proofs.LinesLemmas.{simple_at, value_at, simple_more, header_map-more, known_ok}
 use Rattle.h1_decode.proofs.lines.read_headers.Goals as goal
 
 -- what a span is past the end of the list
 no_span : HeaderSpan
 no_span = record { name = record { start = 0; end = 0 }; value = record { start = 0; end = 0 } }
+
+pub read_line-requires-clause-value : goal.read_line-requires-clause-value
+unfolding no_span
+read_line-requires-clause-value c =
+    value_at c.args.piece.now c.args.fields.now c.loop-field.field-index no_span c.loop-field-test.true c.requires.values
 
 pub returns-in_err-name-clause-refused : goal.returns-in_err-name-clause-refused
 unfolding no_span
