@@ -5,3 +5,4 @@ pub mod LinesLemmas
 pub mod PlainHeadLemmas
 pub mod ReadingLemmas
 pub mod SaysHeadLemmas
+pub mod ConnectionLemmas

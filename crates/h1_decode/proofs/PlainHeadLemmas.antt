@@ -1,12 +1,12 @@
 -- What the model reads in the lines of a simple head: no body, a connection that stays, no wait for leave.
-use Rattle.std.proofs.Common.{◌≡◌, ℕ, Bool, true, false, ◌||◌, List, [], ◌∷◌, map, All, Some, None, refl, ap}
+use Rattle.std.proofs.Common.{◌≡◌, ℕ, Bool, true, false, ◌||◌, List, [], ◌∷◌, map, All, Option, Some, None, refl, ap}
 use Rattle.std.specs.Prelude.{codes, bytes_eq, option_and_then, unwrap_or, nat_eq}
 use Rattle.std.specs.List.{AllByRecursion, list_any, last_or, starts_with}
 use Rattle.std.proofs.lemmas.List.Elements.{All-nil, All-cons, All-head, All-tail}
 use Rattle.httparse.specs.Grammar.{Field}
 use Rattle.httparse.specs.Spans.{name_and_value}
-use Rattle.h1_model.specs.LengthTable.{values_of, body_kind, connection_of, expects_continue, named_type, default_type}
-use Rattle.h1_model.specs.Request.{Header, no_body, keep_alive}
+use Rattle.h1_model.specs.LengthTable.{values_of, body_kind, asked_type, connection_of, expects_continue, named_type, default_type}
+use Rattle.h1_model.specs.Request.{Header, ConnectionType, no_body, keep_alive}
 use Rattle.h1_model.specs.RequestHead.{IsHeaderField, header_of}
 use Rattle.h1_decode.specs.SimpleHead.{is_special, Line, line_header, IsSimpleLine}
 
@@ -58,9 +58,11 @@ module _ (headers : List Header) (all : All IsPlain headers) where
   pub body_kind-plain : (method : List ℕ) → bytes_eq method (codes "CONNECT") ≡ false → body_kind 1 method headers ≡ Some no_body
   body_kind-plain method no_tunnel = rw (no_coding, no_length, no_upgrade, no_tunnel) refl
 
+  pub asked_type-plain : asked_type headers ≡ None
+  asked_type-plain = ap (λ (values : List (List ℕ)). option_and_then named_type (last_or None values)) no_connection
+
   pub connection_of-plain : connection_of 1 headers ≡ keep_alive
-  connection_of-plain =
-      ap (λ (values : List (List ℕ)). unwrap_or (option_and_then named_type (last_or None values)) (default_type 1)) no_connection
+  connection_of-plain = ap (λ (asked : Option ConnectionType). unwrap_or asked (default_type 1)) asked_type-plain
 
   pub expects_continue-plain : expects_continue headers ≡ false
   expects_continue-plain =

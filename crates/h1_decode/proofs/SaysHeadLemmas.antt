@@ -1,46 +1,36 @@
 -- An item that says what simple parts say, against the simple head with these parts.
-use Rattle.std.proofs.Common.{◌≡◌, List, ℕ, take, map, refl, sym, ap, subst, inl, inr}
+use Rattle.std.proofs.Common.{◌≡◌, List, ℕ, Option, All, false, take, map, sym, ap, ◌∙◌, subst}
 use Rattle.std.specs.Prelude.{Result, Ok, Err, IfOk, IfErr}
-use Rattle.http.specs.declared.version.Version.{Version}
-use Rattle.http.specs.declared.version.TheConstants.Version.{HTTP_11}
 use Rattle.http_types.specs.declared.error.ParseError.{ParseError}
-use Rattle.http_types.specs.declared.message.ConnectionType.TheVariants.{KeepAlive}
-use Rattle.http_types.specs.declared.message.Flags.{Flags}
-use Rattle.http_types.specs.ConnectionType.{IsTypeOf}
 use Rattle.http_types.specs.Flags.{no_flags}
 use Rattle.httparse.specs.Spans.{span_bytes, header_bytes}
 use Rattle.httparse.specs.declared.spans.HeaderSpan.{HeaderSpan}
 use Rattle.httparse.specs.declared.spans.RequestSpans.{RequestSpans}
-use Rattle.h1_model.specs.Request.{Head}
+use Rattle.h1_model.specs.Request.{Head, ConnectionType}
 use Rattle.h1_decode.specs.declared.decoder.HeadItem.{HeadItem}
-use Rattle.h1_decode.specs.HeadItem.{SaysHead, kind_of}
+use Rattle.h1_decode.specs.HeadItem.{SaysHead, kind_of, asked_flags, flags_of}
 use Rattle.h1_decode.specs.ReadParts.{SaysParts, SaysPartsAt}
 use Rattle.h1_decode.specs.Refusal.{UnlessNoMemory}
-use Rattle.h1_decode.specs.SimpleHead.{Line, IsSimpleReading, IsNotSimple}
+use Rattle.h1_decode.specs.SimpleHead.{Line, line_header, IsSimpleLine, IsSimpleReading, IsNotSimple}
 use Rattle.h1_decode.specs.WholeHead.{IsWholeHeadAt, AreSimpleAt}
+use Rattle.h1_decode.proofs.PlainHeadLemmas.{asked_type-plain, plain_of_lines}
 use Rattle.h1_decode.proofs.ReadingLemmas.{simple_head, reads_simple, parts_simple}
 
--- a head of HTTP/1.1 without marks keeps its connection
-keeps : IsTypeOf no_flags HTTP_11 KeepAlive
-keeps = record {
-  marked = λ t is. cc is;
-  old = λ none below. elim below [ inl is ↦ cc (ap (λ (v : Version). v.0) is) | inr is ↦ cc (ap (λ (v : Version). v.0) is) ];
-  new = λ none above. refl;
-}
+-- lines of a simple head ask for no mark
+no_marks : (method target : List ℕ) (lines : List Line) → All IsSimpleLine lines → flags_of (simple_head method target lines) ≡ no_flags
+no_marks method target lines simple =
+    ap (λ (asked : Option ConnectionType). record (asked_flags asked) { expect = false }) (asked_type-plain (map line_header lines) (plain_of_lines lines simple))
 
 pub says_simple : (item : HeadItem) (method target : List ℕ) (lines : List Line)
-    → SaysParts item method target lines → SaysHead item (simple_head method target lines)
-says_simple item method target lines says = record {
+    → All IsSimpleLine lines → SaysParts item method target lines → SaysHead item (simple_head method target lines)
+says_simple item method target lines simple says = record {
   method = says.method_is;
   target = says.target_is;
   uri = says.uri_is;
   version = says.version_is;
   headers = says.headers_are;
   body = ap kind_of says.body_is;
-  connection =
-      subst (λ (f : Flags). IsTypeOf f item.head.version KeepAlive) (sym says.flags_are)
-      (subst (λ (v : Version). IsTypeOf no_flags v KeepAlive) (sym says.version_is) keeps);
-  expects = ap (λ (f : Flags). f.expect) says.flags_are;
+  flags = says.flags_are ∙ sym (no_marks method target lines simple);
   peer = says.peer_is;
 }
 
@@ -58,7 +48,7 @@ says_whole piece text all spans r same whole simple says =
     both_on_ok r simple says (λ item parts said. (
       simple_head (span_bytes piece spans.method) (span_bytes piece spans.path) (map (header_bytes piece) (take spans.headers all)),
       reads_simple piece all spans (subst (λ (t : List ℕ). IsWholeHeadAt t all spans) same whole) parts,
-      says_simple item _ _ _ said,
+      says_simple item _ _ _ parts.simple said,
     ))
 
 -- and where the parts are refused, the piece is read as no simple head

@@ -1,16 +1,18 @@
 -- What a head that was read says.
-use Rattle.std.specs.Prelude.{◌≡◌, ℕ, zero, suc, None}
+use Rattle.std.specs.Prelude.{◌≡◌, ℕ, zero, suc, Option, Some, None}
 use Rattle.http.specs.declared.version.Version.{Version}
 use Rattle.http.specs.declared.version.TheConstants.Version.{HTTP_10, HTTP_11}
 use Rattle.http_types.specs.declared.message.ConnectionType.{ConnectionType}
 use Rattle.http_types.specs.declared.message.ConnectionType.TheVariants.{Close, KeepAlive, Upgrade}
-use Rattle.http_types.specs.ConnectionType.{IsTypeOf}
+use Rattle.http_types.specs.declared.message.Flags.{Flags}
+use Rattle.http_types.specs.Flags.{no_flags, with_type}
 use Rattle.http_types.specs.RequestHead.{request_flags}
 use Rattle.http_uri.specs.Uri.{Spells}
 use Rattle.h1_decode.specs.declared.decoder.BodyKind.{BodyKind}
 use Rattle.h1_decode.specs.declared.decoder.BodyKind.TheVariants.{None as NoBody, Length, Chunked, Raw}
 use Rattle.h1_decode.specs.declared.decoder.HeadItem.{HeadItem}
 use Rattle.h1_decode.specs.HeadMap.{header_map}
+use Rattle.h1_model.specs.LengthTable.{asked_type}
 use Rattle.h1_model.specs.Request as model
 
 -- HTTP/1.0 or HTTP/1.1
@@ -31,6 +33,15 @@ type_of model.close = Close
 type_of model.keep_alive = KeepAlive
 type_of model.upgrade = Upgrade
 
+-- the mark of the type that was asked for, if one was
+abbrev pub asked_flags : Option model.ConnectionType → Flags
+asked_flags None = no_flags
+asked_flags (Some type) = with_type no_flags (type_of type)
+
+-- the marks of a head that was read: what its last Connection line asks for, and whether its client waits for leave
+abbrev pub flags_of : model.Head → Flags
+flags_of h = record (asked_flags (asked_type h.headers)) { expect = h.expects }
+
 -- the item says what the head says
 pub record SaysHead (item : HeadItem) (h : model.Head) : Type 0 where
   pub method : item.head.method ≡ h.method
@@ -39,6 +50,5 @@ pub record SaysHead (item : HeadItem) (h : model.Head) : Type 0 where
   pub version : item.head.version ≡ version_of h.minor
   pub headers : item.head.headers ≡ header_map h.headers
   pub body : kind_of item.body ≡ h.body
-  pub connection : IsTypeOf (request_flags item.head) item.head.version (type_of h.connection)
-  pub expects : (request_flags item.head).expect ≡ h.expects
+  pub flags : request_flags item.head ≡ flags_of h
   pub peer : item.head.peer_addr ≡ None

@@ -19,6 +19,7 @@
 #![tactic(auto)]
 
 mod decoder;
+pub mod laws;
 mod lines;
 mod scan;
 

@@ -89,10 +89,13 @@ named_type value =
 abbrev pub default_type : ℕ → ConnectionType
 default_type minor = if minor == 0 then close else keep_alive
 
+-- the type that the last Connection line names, if it names one
+abbrev pub asked_type : List Header → Option ConnectionType
+asked_type headers = option_and_then named_type (last_or None (values_of (codes "connection") headers))
+
 -- the last Connection line decides
 abbrev pub connection_of : ℕ → List Header → ConnectionType
-connection_of minor headers =
-    unwrap_or (option_and_then named_type (last_or None (values_of (codes "connection") headers))) (default_type minor)
+connection_of minor headers = unwrap_or (asked_type headers) (default_type minor)
 
 -- some Expect line begins as 100-continue does
 abbrev pub expects_continue : List Header → Bool

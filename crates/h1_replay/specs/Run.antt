@@ -1,5 +1,5 @@
 -- What the program answers: a status, and the text that goes to its output.
-use Rattle.std.specs.Prelude.{ℕ, ◌≡◌, ◌++◌, ◌<◌, List, [], ◌∷◌, Option, IfSome, Ok, Err, length, codes, decimal}
+use Rattle.std.specs.Prelude.{ℕ, ◌≡◌, ◌++◌, ◌<◌, ◌≤◌, List, [], ◌∷◌, Option, IfSome, Ok, Err, length, codes, decimal}
 use Rattle.std.specs.Io.KnownBytes.{Consumes, Keeps, IsAtEnd}
 use Rattle.http_types.specs.Config.{Settings}
 use Rattle.h1_dispatch.specs.Run.{IsWhole, IsMisplaced, IsPremature}
@@ -7,6 +7,10 @@ use Rattle.h1_dispatch.specs.declared.event.Event.{Event}
 use Rattle.h1_dispatch.specs.declared.trace.Trace.{Trace}
 use Rattle.h1_replay.specs.Report.{IsReport}
 use Rattle.h1_replay.specs.Script.{script_of}
+
+-- the most bytes of an input
+abbrev pub MAX_INPUT : ℕ
+MAX_INPUT = 16777216
 
 -- the one command that there is
 abbrev pub IsReplay : List (List ℕ) → Type 0
@@ -64,9 +68,10 @@ pub record IsStopped (stop : Settings → List Event → ℕ → Trace → Type 
 
 -- ---- what the words and the input give
 
--- the input was read to its end: these are its bytes
+-- the input was read to its end: these are its bytes, no more than are read
 pub record ReadsWhole (left then : Option (List ℕ)) (bytes : List ℕ) : Type 0 where
   pub read : Consumes left then bytes
+  pub within : length bytes ≤ MAX_INPUT
   pub at_end : IsAtEnd then
 
 -- Each status says what it says. Want of memory may come at any time. The input's known bytes go from `left` to `then`.
@@ -77,7 +82,7 @@ pub data IsAnswer (words : List (List ℕ)) (left then : Option (List ℕ)) (sta
   misplaced : (bytes : List ℕ) → IsReplay words → ReadsWhole left then bytes → IsStopped IsMisplaced (codes "misplaced ") bytes text → status ≡ 3
       → IsAnswer words left then status text
   read_fault : IsReplay words → text ≡ read_fault_text → status ≡ 4 → IsAnswer words left then status text
-  too_long : IsReplay words → IfSome left (λ bytes. 16777216 < length bytes) → text ≡ too_long_text → status ≡ 6 → IsAnswer words left then status text
+  too_long : IsReplay words → IfSome left (λ bytes. MAX_INPUT < length bytes) → text ≡ too_long_text → status ≡ 6 → IsAnswer words left then status text
   no_memory : IsReplay words → text ≡ no_memory_text → status ≡ 7 → IsAnswer words left then status text
   not_yet : (bytes : List ℕ) → IsReplay words → ReadsWhole left then bytes → IsStopped IsPremature (codes "not yet ") bytes text → status ≡ 8
       → IsAnswer words left then status text
