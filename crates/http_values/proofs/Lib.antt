@@ -3,6 +3,7 @@ pub mod CodingLemmas
 pub mod EscapeLemmas
 pub mod ExtendedLemmas
 pub mod ListLemmas
+pub mod MimeLemmas
 pub mod PrintedQuality
 pub mod QualityItemLemmas
 pub mod QualityLemmas
