@@ -1,8 +1,8 @@
 -- Media types and their texts (RFC 7231, section 3.1.1.1, in a profile): type "/" subtype, then parameters. Each rule
 -- takes the longest run of bytes of its class, and then the byte that has to follow.
-use Rattle.std.specs.Prelude.{◌≡◌, ℕ, ◌<◌, ◌⊎◌, Bool, ◌&&◌, not, List, [], ◌∷◌, length, take, drop, ◌==◌, nat_le, map, string_bytes, Option, Some, None, if◌then◌else◌}
-use Rattle.std.specs.List.{prefix_len, find}
-use Rattle.std.specs.Str.{str_eq_ignore_ascii_case}
+use Rattle.std.specs.Prelude.{◌≡◌, ℕ, ◌<◌, ◌⊎◌, Bool, ◌&&◌, not, List, [], ◌∷◌, length, take, drop, ◌==◌, nat_le, map, string_bytes}
+use Rattle.std.specs.List.{prefix_len}
+use Rattle.std.specs.Char.{to_ascii_lowercase}
 use Rattle.http_header.specs.Token.{is_token_byte}
 use Rattle.http_values.specs.declared.shared.mime.Class.{Class}
 use Rattle.http_values.specs.declared.shared.mime.Class.TheVariants.{Token, Blank, Quotable}
@@ -73,3 +73,17 @@ pair_of p = (string_bytes p.name, string_bytes p.value)
 
 abbrev pub pairs_of : List Parameter → List (List ℕ × List ℕ)
 pairs_of ps = map pair_of ps
+
+-- the two names are one, but for case
+abbrev pub IsSameName : List ℕ → List ℕ → Type 0
+IsSameName a b = map to_ascii_lowercase a ≡ map to_ascii_lowercase b
+
+-- no parameter has the name
+abbrev pub HasNoName : List ℕ → List (List ℕ × List ℕ) → Type 0
+HasNoName name [] = Unit {0}
+HasNoName name (p ∷ ps) = ¬ (IsSameName p.0 name) × HasNoName name ps
+
+-- the value is that of the first parameter of the name
+abbrev pub IsFirstValue : List ℕ → List (List ℕ × List ℕ) → List ℕ → Type 0
+IsFirstValue name [] value = ⊥
+IsFirstValue name (p ∷ ps) value = (IsSameName p.0 name × (value ≡ p.1)) ⊎ (¬ (IsSameName p.0 name) × IsFirstValue name ps value)

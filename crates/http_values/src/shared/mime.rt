@@ -3,11 +3,13 @@ ghost use Rattle.std.specs.Prelude.{◌≡◌, ◌↔◌, ◌∷◌, [], ◌≤�
 ghost use Rattle.std.specs.List.{prefix_len};
 ghost use Rattle.std.specs.Str.{IsAscii};
 ghost use Rattle.http_header.specs.FieldValue.{FieldValue, plain_value};
-ghost use Rattle.http_values.specs.Mime.{in_class, IsRun, IsTokenCut, IsValueCut, IsParameterCut, AreParameters, IsEssenceCut, IsMimeText, IsSomeMime, pairs_of};
+ghost use Rattle.http_values.specs.Mime.{in_class, IsRun, IsTokenCut, IsValueCut, IsParameterCut, AreParameters, IsEssenceCut, IsMimeText, IsSomeMime, HasNoName, IsFirstValue, pairs_of};
 ghost use Rattle.http_values.specs.MimeValue.{mime_text, SaysMime};
 
 use crate::read::{FromText, ReadError};
 use http_header::is_token_char;
+use http_types::HeaderValue;
+use http_types::header::{TryIntoHeaderValue, ValueError, value_of_str};
 use std::alloc::Global;
 use std::{fmt, str};
 
@@ -204,6 +206,18 @@ impl Mime {
         self.subtype.as_str()
     }
 
+    /// The value of the first parameter of the name, in either case, without its quotes.
+    pub fn get_param(&self, name: &str) -> Option<&str>
+        ensures { MatchOption result (HasNoName name.now (pairs_of self.now.params.items)) (λ value. IsFirstValue name.now (pairs_of self.now.params.items) value.now) }
+    {
+        for param in self.params.iter() {
+            if param.name.eq_ignore_ascii_case(name) {
+                return Some(param.value.as_str());
+            }
+        }
+        None
+    }
+
     /// The text that was read.
     pub fn as_str(&self) -> &str
         ensures { result.now ≡ mime_text self.now }
@@ -251,6 +265,14 @@ impl fmt::Display for Mime {
 
     fn fmt<W: fmt::Write>(&self, f: &mut fmt::Formatter<W>) -> fmt::Result {
         f.write_str(self.text.as_str())
+    }
+}
+
+impl TryIntoHeaderValue for Mime {
+    ghost field_value = { λ m. plain_value (mime_text m) };
+
+    fn try_into_value(self, alloc: Global) -> Result<HeaderValue, ValueError> {
+        value_of_str(alloc, self.text.as_str())
     }
 }
 
