@@ -3,6 +3,8 @@ pub mod CodingLemmas
 pub mod EscapeLemmas
 pub mod ExtendedLemmas
 pub mod ListLemmas
+pub mod MimeLemmas
+pub mod MimeParameters
 pub mod PrintedQuality
 pub mod QualityItemLemmas
 pub mod QualityLemmas

@@ -7,6 +7,8 @@ pub mod ExtendedText
 pub mod ExtendedValue
 pub mod HttpDate
 pub mod LanguageTag
+pub mod Mime
+pub mod MimeValue
 pub mod OneValue
 pub mod Quality
 pub mod QualityItem

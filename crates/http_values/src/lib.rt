@@ -23,7 +23,7 @@ mod utils;
 
 pub use read::{FromText, ReadError};
 pub use shared::{
-    Charset, ContentEncoding, ContentEncodingParseError, ExtendedValue, HttpDate, LanguageTag,
+    Charset, ContentEncoding, ContentEncodingParseError, ExtendedValue, HttpDate, LanguageTag, Mime,
     Quality, QualityItem, QualityOutOfBounds, parse_extended_value, q,
 };
 pub use utils::{

@@ -4,6 +4,7 @@ pub(crate) mod content_encoding;
 pub(crate) mod extended;
 pub(crate) mod http_date;
 pub(crate) mod language_tag;
+pub(crate) mod mime;
 pub(crate) mod quality;
 pub(crate) mod quality_item;
 
@@ -12,5 +13,6 @@ pub use content_encoding::{ContentEncoding, ContentEncodingParseError};
 pub use extended::{ExtendedValue, parse_extended_value};
 pub use http_date::HttpDate;
 pub use language_tag::LanguageTag;
+pub use mime::Mime;
 pub use quality::{Quality, QualityOutOfBounds, q};
 pub use quality_item::QualityItem;

@@ -1,8 +1,9 @@
 //! Values and their texts.
 use http_types::{HeaderValue, ParseError};
 use http_values::{
-    Charset, ContentEncoding, FromText, HttpDate, Quality, QualityItem, ReadError,
-    fmt_comma_delimited, from_comma_delimited, from_one_raw_str, http_percent_encode, q,
+    Charset, ContentEncoding, FromText, HttpDate, LanguageTag, Mime, Quality, QualityItem, ReadError,
+    fmt_comma_delimited, from_comma_delimited, from_one_raw_str, http_percent_encode,
+    parse_extended_value, q,
 };
 use std::fmt;
 use std::test::Fail;
@@ -146,5 +147,81 @@ fn dates_are_read_in_three_formats(rt: HostRuntime) -> Result<(), Fail> {
         assert_eq!(rt; printed.as_str(), "Sun, 06 Nov 1994 08:49:37 GMT");
     }
     assert!(rt; HttpDate::from_unix_secs(253402300800).is_none());
+    Ok(())
+}
+
+#[test]
+fn language_tags_print_as_read(rt: HostRuntime) -> Result<(), Fail> {
+    for text in [
+        "en",
+        "zh-Hant-TW",
+        "de-CH-1996",
+        "sr-Latn-RS",
+        "es-419",
+        "zh-yue-HK",
+        "sl-rozaj-biske",
+        "en-a-bbb-x-a-ccc",
+        "x-whatever",
+    ] {
+        let tag = LanguageTag::from_text(rt.alloc(), text)?;
+        let printed = tag.to_string(rt.alloc())?;
+        assert_eq!(rt; printed.as_str(), text);
+    }
+    for text in ["", "a", "en-", "en-x", "de-419-DE-x-", "a-DE", "en--US", "i-klingon", "x-ninechars"] {
+        let read = LanguageTag::from_text(rt.alloc(), text);
+        assert!(rt; matches!(read, Err(ReadError::Invalid)));
+    }
+    Ok(())
+}
+
+#[test]
+fn extended_values_are_cut_at_two_quotes(rt: HostRuntime) -> Result<(), Fail> {
+    let rows: [(&str, &str, &[u8], &str); 4] = [
+        ("UTF-8'en'%C2%A3%20rates", "UTF-8", b"\xc2\xa3 rates", "UTF-8'en'%C2%A3%20rates"),
+        ("iso-8859-1'en'%A3%20rates", "ISO-8859-1", b"\xa3 rates", "ISO-8859-1'en'%A3%20rates"),
+        ("utf-8''it's", "UTF-8", b"it's", "UTF-8''it%27s"),
+        ("''", "", b"", "''"),
+    ];
+    for (text, charset, bytes, printed) in rows {
+        let value = parse_extended_value(rt.alloc(), text)?;
+        let label = value.charset.to_string(rt.alloc())?;
+        assert_eq!(rt; label.as_str(), charset);
+        assert_eq!(rt; value.value.as_slice(), bytes);
+        let again = value.to_string(rt.alloc())?;
+        assert_eq!(rt; again.as_str(), printed);
+    }
+    for text in ["", "UTF-8", "UTF-8'en", "UTF-8'a'b", "UTF-8'en-'b"] {
+        let read = parse_extended_value(rt.alloc(), text);
+        assert!(rt; matches!(read, Err(ParseError::Header)));
+    }
+    Ok(())
+}
+
+#[test]
+fn media_types_have_parameters(rt: HostRuntime) -> Result<(), Fail> {
+    let rows: [(&str, &str, &str, &str); 5] = [
+        ("text/plain; charset=utf-8", "text", "plain", "utf-8"),
+        ("text/plain;Charset=\"utf-8\"", "text", "plain", "utf-8"),
+        ("a/b ; x=1 ;charset=\" \";charset=c", "a", "b", " "),
+        ("image/svg+xml;charset=\"\"", "image", "svg+xml", ""),
+        ("application/vnd.a-b; q=1;  CHARSET=x", "application", "vnd.a-b", "x"),
+    ];
+    for (text, kind, subtype, charset) in rows {
+        let mime = Mime::from_text(rt.alloc(), text)?;
+        assert_eq!(rt; mime.type_(), kind);
+        assert_eq!(rt; mime.subtype(), subtype);
+        assert_eq!(rt; mime.get_param("charset"), Some(charset));
+        assert!(rt; mime.get_param("other").is_none());
+        let printed = mime.to_string(rt.alloc())?;
+        assert_eq!(rt; printed.as_str(), text);
+    }
+    for text in [
+        "", "text", "text/", "/plain", "text/plain;", "text/plain; charset", "text/plain; charset=",
+        "text/plain; =utf-8", "text/plain; a=\"b", "text/plain; a=\"\\\"", "text/plain ", "text /plain",
+        "a/b; c=d e=f", "a/b; c=d,",
+    ] {
+        let read = Mime::from_text(rt.alloc(), text);
+        assert!(rt; matches!(read, Err(ReadError::Invalid)));
+    }
     Ok(())
 }

@@ -1,0 +1,13 @@
+-- What a media type keeps, and the text that it was read from.
+use Rattle.std.specs.Prelude.{◌≡◌, ℕ, List, string_bytes}
+use Rattle.http_values.specs.declared.shared.mime.Mime.{Mime}
+use Rattle.http_values.specs.Mime.{IsMimeText, pairs_of}
+
+-- the text, which the media type prints
+abbrev pub mime_text : Mime → List ℕ
+mime_text m = string_bytes m.text
+
+-- the text is that of the media type, by its type, its subtype and its parameters, and is kept
+pub record SaysMime (text : List ℕ) (m : Mime) : Type 0 where
+  pub kept : mime_text m ≡ text
+  pub says : IsMimeText text (string_bytes m.kind) (string_bytes m.subtype) (pairs_of m.params.items)
