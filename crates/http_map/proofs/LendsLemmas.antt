@@ -5,29 +5,20 @@ use Rattle.indexmap.specs.Layout.{set_value_at}
 use Rattle.http_header.specs.FieldValue.{FieldValue}
 use Rattle.http_map.specs.HeaderMap.{Entry, Entries, IsEntry, keys, value_count, get_all, set_first}
 use Rattle.http_map.specs.Counted.{IsCounted}
+use Rattle.http_map.specs.Lines.{StandsFirstAt}
 use Rattle.http_map.specs.Lends.{set_first_at, values_at}
 use Rattle.http_map.proofs.MapLemmas.{entries_cons, first_entry, later_entries, with_values}
 
--- the name stands at the index, and not before it
-pub record StandsAt (m : Entries) (name : List ℕ) (i : ℕ) : Type 0 where
-  pub here : bytes_eq name (get_or (keys m) i []) ≡ true
-  pub before : (k : ℕ) → k < i → bytes_eq name (get_or (keys m) k []) ≡ false
-
-stands_later : (e : Entry) (m : Entries) (name : List ℕ) (i : ℕ) → StandsAt (e ∷ m) name (suc i) → StandsAt m name i
-stands_later e m name i at = record { here = at.here; before = λ k h. at.before (suc k) (omega (arith, h)) }
-
 module _ (name : List ℕ) where
-  pub set_first-at : (m : Entries) (i : ℕ) (w : FieldValue) → i < length m → StandsAt m name i → set_first_at m i w ≡ set_first m name w
-  set_first-at [] i w within at = absurd (omega (arith, within))
-  set_first-at (e ∷ m) zero w within at = rw at.here
-  set_first-at (e ∷ m) (suc i) w within at =
-      rw (at.before 0 (omega arith)) (ap (λ n. e ∷ n) (set_first-at m i w (omega (arith, within)) (stands_later e m name i at)))
+  pub set_first-at : (m : Entries) (i : ℕ) (w : FieldValue) → StandsFirstAt m name i → set_first_at m i w ≡ set_first m name w
+  set_first-at [] i w at = absurd at
+  set_first-at (e ∷ m) zero w at = rw at
+  set_first-at (e ∷ m) (suc i) w at = rw at.0 (ap (λ n. e ∷ n) (set_first-at m i w at.1))
 
-  pub get_all-at : (m : Entries) (i : ℕ) → i < length m → StandsAt m name i → get_all m name ≡ values_at m i
-  get_all-at [] i within at = absurd (omega (arith, within))
-  get_all-at (e ∷ m) zero within at = rw at.here
-  get_all-at (e ∷ m) (suc i) within at =
-      rw (at.before 0 (omega arith)) (get_all-at m i (omega (arith, within)) (stands_later e m name i at))
+  pub get_all-at : (m : Entries) (i : ℕ) → StandsFirstAt m name i → get_all m name ≡ values_at m i
+  get_all-at [] i at = absurd at
+  get_all-at (e ∷ m) zero at = rw at
+  get_all-at (e ∷ m) (suc i) at = rw at.0 (get_all-at m i at.1)
 
 -- a first value in place of another leaves the count
 value_count-set_first_at : (m : Entries) (i : ℕ) (w : FieldValue) → All IsEntry m → value_count (set_first_at m i w) ≡ value_count m

@@ -1,8 +1,11 @@
 pub mod CallerLemmas
+pub mod DistinctLemmas
 pub mod EntryLemmas
 pub mod HashLemmas
 pub mod LendsLemmas
+pub mod LineLemmas
 pub mod MapLemmas
 pub mod NumberLemmas
 pub mod OwnedLemmas
 pub mod RetainLemmas
+pub mod TableLemmas

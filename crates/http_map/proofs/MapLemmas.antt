@@ -1,5 +1,5 @@
 -- Facts on a map's list of names with their values.
-use Rattle.std.proofs.Common.{◌≡◌, ℕ, ◌+◌, ◌-◌, ◌<◌, ap, ◌∙◌, Bool, true, false, if◌then◌else◌, List, [], ◌∷◌, ◌++◌, ◌||◌, length, bytes_eq, All, refl, arith, length-append}
+use Rattle.std.proofs.Common.{◌≡◌, ℕ, ◌+◌, ◌-◌, ◌<◌, ◌≤◌, ap, ◌∙◌, Bool, true, false, if◌then◌else◌, List, [], ◌∷◌, ◌++◌, ◌||◌, length, bytes_eq, All, refl, arith, length-append}
 use Rattle.std.proofs.lemmas.List.Elements.{All-cons, All-head, All-tail}
 use Rattle.std.proofs.lemmas.List.{length-map}
 use Rattle.http_header.specs.FieldName.{IsHeaderName}
@@ -71,6 +71,11 @@ module _ (name : List ℕ) where
   entries-remove (e ∷ m) all =
       both (bytes_eq name e.0) (All IsEntry) (later_entries e m all)
       (entries_cons e (remove m name) (first_entry e m all) (entries-remove m (later_entries e m all)))
+
+-- each name has a value
+pub length-counted : (m : Entries) → All IsEntry m → length m ≤ value_count m
+length-counted [] all = omega arith
+length-counted (e ∷ m) all = omega (arith, (first_entry e m all).filled, length-counted m (later_entries e m all))
 
 -- there are as many pairs as values
 pub length-pairs : (m : Entries) → length (pairs m) ≡ value_count m

@@ -1,7 +1,7 @@
 -- What `retain` leaves of a map, by the answers of its closure.
 use Rattle.std.proofs.Common.{◌≡◌, ℕ, ◌+◌, ◌<◌, ◌≤◌, Bool, true, false, cond, if◌then◌else◌, filter, List, [], ◌∷◌, length, All, IsTrue, Bor, refl, ap, ◌∙◌, subst, arith}
 use Rattle.std.specs.List.{items_where_true}
-use Rattle.std.specs.List.Retain.{ReturnsInTurn, IsFiltered}
+use Rattle.std.specs.List.Retain.{ReturnsInTurn, RetainsInTurn, IsFiltered}
 use Rattle.std.specs.Map.Calls.{RetainsPairs}
 use Rattle.http_header.specs.FieldValue.{FieldValue}
 use Rattle.http_map.specs.HeaderMap.{Entry, Entries, IsEntry, value_count, filled_first, retain}
@@ -50,6 +50,21 @@ module _ {F : Type 0} (T : F → List ℕ → List FieldValue → Bool → List 
       let s = says e.0 e.1 h.0 h.1 h.2 h.4 in
       let rest = Retains-RetainsPairs m h.3 (subst (λ g. RetainsPairs T g m h.3) s.2 h.5) in
       ((if h.0 then h.1 else []), h.3, s.1, rest, h.6 ∙ kept_name h.0 e.0 h.1 h.3 s.0)
+
+-- the same of a list of names with their values
+module _ {F : Type 0} (T : F → Entry → Bool → F → Entry → Type 0) (answers : List ℕ → FieldValue → Bool → Type 0) (f : F)
+    (says : (e : Entry) (b : Bool) (g : F) (w : Entry) → T f e b g w → (w.0 ≡ e.0) × (IsTrue b → 0 < length w.1) × KeepsValues (answers e.0) e.1 (if b then w.1 else []) × (g ≡ f)) where
+  kept_entry : (kept : Bool) (name : List ℕ) (e : Entry) (m : Entries) → e.0 ≡ name → (IsTrue kept → 0 < length e.1) → cond kept (e ∷ m) m ≡ filled_first name (if kept then e.1 else []) m
+  kept_entry true name (key, []) m same filled = absurd (omega (arith, filled refl))
+  kept_entry true name (key, v ∷ vs) m same filled = ap (λ n. (n, v ∷ vs) ∷ m) same
+  kept_entry false name e m same filled = refl
+
+  pub Retains-RetainsInTurn : (m kept : Entries) → RetainsInTurn T f m kept → Retains answers m kept
+  Retains-RetainsInTurn [] kept h = h
+  Retains-RetainsInTurn (e ∷ m) kept h =
+      let s = says e h.0 h.1 h.2 h.3 in
+      let rest = Retains-RetainsInTurn m h.4 (subst (λ g. RetainsInTurn T g m h.4) s.3 h.5) in
+      ((if h.0 then h.2.1 else []), h.4, s.2, rest, h.6 ∙ kept_entry h.0 e.0 h.2 h.4 s.0 s.1)
 
 module _ (answers : List ℕ → FieldValue → Bool → Type 0) where
   value_count-filled_first : (name : List ℕ) (vs : List FieldValue) (m : Entries) → value_count (filled_first name vs m) ≡ length vs + value_count m

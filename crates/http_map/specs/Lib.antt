@@ -3,6 +3,10 @@ pub mod HeaderMap
 pub mod Iter
 pub mod Kept
 pub mod Lends
+pub mod Lines
+pub mod Names
+pub mod NamesIter
+pub mod NamesLends
 pub mod Owned
 pub mod Rest
 pub mod Retain

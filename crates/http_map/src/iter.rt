@@ -3,9 +3,8 @@ ghost use Rattle.std.specs.Prelude.{◌≡◌, ℕ, List, length, Some, IfSome};
 ghost use Rattle.std.specs.Iterator.SizeHint.{IsWithinCount};
 ghost use Rattle.std.specs.Iterator.{UpTo, at_most, YieldsFirstBy, YieldsFirstRef, item_count};
 
-use crate::values::Values;
+use crate::names::NamesIter;
 use http_header::{HeaderName, HeaderValue};
-use indexmap::map;
 use std::iter::FusedIterator;
 use std::marker::Model;
 
@@ -14,7 +13,7 @@ use std::marker::Model;
 pub struct Iter<'a> {
     // The name in hand, and those of its values that are left.
     current: Option<(&'a HeaderName, &'a [HeaderValue])>,
-    later: map::Iter<'a, HeaderName, Values>,
+    later: NamesIter<'a>,
     // How many pairs are left.
     left: usize,
 }
@@ -35,7 +34,7 @@ impl<'a> Iter<'a> {
     ghost use Rattle.std.specs.Prelude.{◌≡◌, ◌<◌, length, All};
     ghost use Rattle.http_map.specs.HeaderMap.{IsEntry, pairs, value_count};
 
-    pub(crate) fn new(later: map::Iter<'a, HeaderName, Values>, left: usize) -> Iter<'a>
+    pub(crate) fn new(later: NamesIter<'a>, left: usize) -> Iter<'a>
         requires counted { left ≡ value_count later }
         requires entries { All IsEntry later }
         ensures { result ≡ pairs later.entry }
@@ -90,20 +89,24 @@ impl<'a> FusedIterator for Iter<'a> {}
 /// Every name of a map once.
 #[derive(Debug, Drop)]
 pub struct Keys<'a> {
-    names: map::Keys<'a, HeaderName, Values>,
+    names: NamesIter<'a>,
 }
 
 impl<'a> Model for Keys<'a> {
+    ghost use Rattle.std.specs.Prelude.{ℕ, List};
+    ghost use Rattle.http_map.specs.HeaderMap.{keys};
+
     ghost Value = { List (List ℕ) };
 
-    ghost view = { λ it. it.names };
+    ghost view = { λ it. keys it.names };
 }
 
 impl<'a> Keys<'a> {
     ghost use Rattle.std.specs.Prelude.{◌≡◌};
+    ghost use Rattle.http_map.specs.HeaderMap.{keys};
 
-    pub(crate) fn new(names: map::Keys<'a, HeaderName, Values>) -> Keys<'a>
-        ensures { result ≡ names.entry }
+    pub(crate) fn new(names: NamesIter<'a>) -> Keys<'a>
+        ensures { result ≡ keys names.entry }
     {
         Keys { names }
     }
@@ -117,7 +120,8 @@ impl<'a> Iterator for Keys<'a> {
     ghost remaining = { item_count (λ it. it) };
 
     fn next(&mut self) -> Option<&'a HeaderName> {
-        self.names.next()
+        let (name, _) = self.names.next()?;
+        Some(name)
     }
 
     fn size_hint(&self) -> (usize, Option<usize>)

@@ -26,6 +26,7 @@ mod into_pair;
 mod into_value;
 mod iter;
 mod map;
+mod names;
 mod owned;
 mod removed;
 mod values;

@@ -7,20 +7,15 @@ ghost use Rattle.http_header.specs.FieldValue.{FieldValue};
 ghost use Rattle.http_map.specs.HeaderMap.{keys, value_count, contains_key, get, get_all, pairs, GivesPairs, IsHeaderMap};
 
 mod edits;
-mod names;
 
 use crate::NoMemory;
-use crate::any_case::AnyCase;
 use crate::as_name::AsHeaderName;
 use crate::iter::{Iter, Keys};
-use crate::values::Values;
+use crate::names::Names;
 use http_header::{HeaderName, HeaderValue};
-use indexmap::IndexMap;
 use std::alloc::Global;
 use std::marker::Model;
 use std::slice;
-
-type Names = IndexMap<HeaderName, Values>;
 
 /// A map from header names to one or more values each. The names stand in the order of their
 /// first insertion, and each name's values in the order in which they were added.
@@ -40,9 +35,9 @@ impl Model for HeaderMap {
 
     ghost use Rattle.http_map.specs.Counted.{IsCounted};
 
-    ghost view = { λ m. m.names.entries };
+    ghost view = { λ m. m.names };
 
-    ghost invariant = { λ m. IsCounted m.names.entries m.len };
+    ghost invariant = { λ m. IsCounted m.names m.len };
 }
 
 impl HeaderMap {
@@ -51,7 +46,7 @@ impl HeaderMap {
         ensures { result ≡ [] }
     {
         HeaderMap {
-            names: IndexMap::new(alloc),
+            names: Names::new(alloc),
             len: 0,
         }
     }
@@ -62,7 +57,7 @@ impl HeaderMap {
         ensures no_memory_needed { capacity ≡ 0 → IsOk result }
     {
         Ok(HeaderMap {
-            names: IndexMap::with_capacity(alloc, capacity)?,
+            names: Names::with_capacity(alloc, capacity)?,
             len: 0,
         })
     }
@@ -89,7 +84,7 @@ impl HeaderMap {
     pub fn is_empty(&self) -> bool
         ensures { result ≡ (length self.now == 0) }
     {
-        self.names.is_empty()
+        self.names.len() == 0
     }
 
     /// Whether the map has the name.
@@ -98,9 +93,7 @@ impl HeaderMap {
         ensures found { result ≡ is_some (get self.now (K.name key)) }
         ensures no_name { ¬ (IsFieldName (K.text key)) → result ≡ false }
     {
-        self.names.contains_key(AnyCase {
-            bytes: key.as_name_bytes(),
-        })
+        self.names.contains(key.as_name_bytes())
     }
 
     /// The first value under the name.
@@ -108,9 +101,7 @@ impl HeaderMap {
         ensures value { option_copied result ≡ get self.now (K.name key) }
         ensures no_name { ¬ (IsFieldName (K.text key)) → IsNone result }
     {
-        let values = self.names.get(AnyCase {
-            bytes: key.as_name_bytes(),
-        })?;
+        let values = self.names.get(key.as_name_bytes())?;
         values.as_slice().first()
     }
 
@@ -121,9 +112,7 @@ impl HeaderMap {
         ensures fits { length (iter_rest result) < 2 ^ 64 }
         ensures runs { IterYieldsInOrder FieldValue }
     {
-        let found = self.names.get(AnyCase {
-            bytes: key.as_name_bytes(),
-        });
+        let found = self.names.get(key.as_name_bytes());
         let values: &[HeaderValue] = match found {
             Some(values) => values.as_slice(),
             None => &[],
@@ -146,7 +135,7 @@ impl HeaderMap {
         ensures count { length result ≡ length self.now }
         ensures fits { length result < 2 ^ 64 }
     {
-        Keys::new(self.names.keys())
+        Keys::new(self.names.iter())
     }
 
     /// An equal map.

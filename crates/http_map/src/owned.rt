@@ -5,15 +5,14 @@ ghost use Rattle.std.specs.Iterator.{UpTo, at_most, YieldsFirst, item_count};
 ghost use Rattle.http_map.specs.Owned.{entries_left, GivesFirst};
 
 use crate::NoMemory;
+use crate::names::{Names, NamesIntoIter};
 use crate::removed::Removed;
-use crate::values::Values;
 use http_header::{HeaderName, HeaderValue};
-use indexmap::{IndexMap, map};
 use std::alloc::Global;
 use std::iter::FusedIterator;
 use std::marker::Model;
 
-type Later = map::IntoIter<HeaderName, Values>;
+type Later = NamesIntoIter;
 
 /// Every value that `drain` took out of a map. A name comes with its first value alone.
 #[derive(Drop)]
@@ -172,7 +171,7 @@ impl Iterator for IntoIter {
                 Some(Ok((copy, value)))
             }
             Err(e) => {
-                self.later = IndexMap::new(self.alloc).into_iter();
+                self.later = Names::new(self.alloc).into_iter();
                 self.left = 0;
                 Some(Err(e))
             }

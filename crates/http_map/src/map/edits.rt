@@ -11,14 +11,12 @@ ghost use Rattle.http_map.specs.Owned.{drained};
 ghost use Rattle.http_map.specs.Retain.{MayAnswer, Retains, Computes};
 
 use super::HeaderMap;
-use super::names::{append_value, count_values, insert_value, remove_values, retain_names};
 use crate::NoMemory;
-use crate::any_case::AnyCase;
 use crate::as_name::AsHeaderName;
+use crate::names::Names;
 use crate::owned::{Drain, IntoIter};
 use crate::removed::Removed;
 use http_header::{HeaderName, HeaderValue};
-use indexmap::IndexMap;
 use std::alloc::{AllocError, Global};
 use std::mem;
 
@@ -47,7 +45,7 @@ impl HeaderMap {
         if !self.can_count_one_in(&name) {
             return Err(AllocError);
         }
-        let removed = insert_value(&mut self.names, name, val)?;
+        let removed = self.names.insert(name, val)?;
         self.len = self.len - removed.len() + 1;
         Ok(removed)
     }
@@ -58,7 +56,7 @@ impl HeaderMap {
             → value_count self.now + 1 < 2 ^ 64 + length (get_all self.now name.now) }
         ensures replaced { contains_key self.now name.now ≡ true → result ≡ true }
     {
-        self.len < usize::MAX || self.names.contains_key(name)
+        self.len < usize::MAX || self.names.contains(name.as_bytes())
     }
 
     /// Adds the value after those under the name. A new name goes last. It grows first, so want of
@@ -72,7 +70,7 @@ impl HeaderMap {
     {
         let _valid = key.as_bytes();
         let len = self.len.checked_add(1).ok_or(AllocError)?;
-        append_value(&mut self.names, key, value)?;
+        self.names.append(key, value)?;
         self.len = len;
         Ok(())
     }
@@ -86,7 +84,7 @@ impl HeaderMap {
             → get_all self.new other ≡ get_all self.old other }
         ensures no_name { ¬ (IsFieldName (K.text key)) → (result ≡ []) × (self.new ≡ self.old) }
     {
-        let removed = remove_values(&mut self.names, key.as_name_bytes());
+        let removed = self.names.remove(key.as_name_bytes());
         self.len -= removed.len();
         removed
     }
@@ -106,7 +104,7 @@ impl HeaderMap {
         ensures computed { (test : List ℕ → FieldValue → Bool) → Computes (F.post keep) test
             → self.new ≡ retain test self.old }
     {
-        retain_names(&mut self.names, &keep);
+        self.names.retain(&keep);
         self.len = count_values(&self.names);
     }
 
@@ -117,8 +115,8 @@ impl HeaderMap {
         ensures fits { length result < 2 ^ 64 }
         ensures emptied { self.new ≡ [] }
     {
-        let alloc = *self.names.allocator();
-        let names = mem::replace(&mut self.names, IndexMap::new(alloc));
+        let alloc = self.names.allocator();
+        let names = mem::replace(&mut self.names, Names::new(alloc));
         let left = self.len;
         self.len = 0;
         Drain::new(names.into_iter(), left)
@@ -147,9 +145,7 @@ impl HeaderMap {
         ensures value { option_copied_mut result ≡ get self.old (K.name key) }
         ensures no_name { ¬ (IsFieldName (K.text key)) → IsNone result }
     {
-        let found = self.names.get_index_of(AnyCase {
-            bytes: key.as_name_bytes(),
-        });
+        let found = self.names.index_of(key.as_name_bytes());
         match found {
             Some(index) => Some(self.first_mut_at(index)),
             None => None,
@@ -161,8 +157,7 @@ impl HeaderMap {
         ensures* writes_back { sem 𝓛 (lends_first_at self.entry index result) }
         ensures value { Some result.now ≡ slice_get (values_at self.old index) 0 }
     {
-        let values = &mut self.names[index];
-        values.first_mut()
+        self.names.values_mut(index).first_mut()
     }
 }
 
@@ -175,7 +170,19 @@ impl IntoIterator for HeaderMap {
 
     fn into_iter(self) -> IntoIter {
         let HeaderMap { names, len } = self;
-        let alloc = *names.allocator();
+        let alloc = names.allocator();
         IntoIter::new(alloc, names.into_iter(), len)
     }
+}
+
+// The number of values, under all names.
+fn count_values(names: &Names) -> usize
+    requires { value_count names.now < 2 ^ 64 }
+    ensures { result ≡ value_count names.now }
+{
+    let mut count = 0;
+    for (_, values) in names.iter() {
+        count += values.as_slice().len();
+    }
+    count
 }

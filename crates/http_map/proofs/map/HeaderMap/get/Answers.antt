@@ -16,5 +16,5 @@ returns-clause-value g c =
 pub returns-clause-no_name : goal.returns-clause-no_name
 returns-clause-no_name g c none =
     let nothing : get c.args.self.now (g.K.AsHeaderName.name c.args.key) ≡ None =
-    rw (← c.self.view_is, ← c.as_name_bytes.ensures.lowered) (get-no_name c.self.inside.names.entries c.as_name_bytes.result.now c.self.invariant.entries (λ is. none (subst IsFieldName c.as_name_bytes.ensures.value is))) in
+    rw (← c.self.view_is, ← c.as_name_bytes.ensures.lowered) (get-no_name c.self.inside.names c.as_name_bytes.result.now c.self.invariant.entries (λ is. none (subst IsFieldName c.as_name_bytes.ensures.value is))) in
     IsNone-option_copied c.first.result (returns-clause-value g c ∙ nothing)

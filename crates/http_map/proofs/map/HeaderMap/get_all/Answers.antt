@@ -13,4 +13,4 @@ returns-clause-values g c =
 pub returns-clause-no_name : goal.returns-clause-no_name
 returns-clause-no_name g c none =
     returns-clause-values g c ∙ rw (← c.self.view_is, ← c.as_name_bytes.ensures.lowered)
-    (get_all-no_name c.self.inside.names.entries c.as_name_bytes.result.now c.self.invariant.entries (λ is. none (subst IsFieldName c.as_name_bytes.ensures.value is)))
+    (get_all-no_name c.self.inside.names c.as_name_bytes.result.now c.self.invariant.entries (λ is. none (subst IsFieldName c.as_name_bytes.ensures.value is)))

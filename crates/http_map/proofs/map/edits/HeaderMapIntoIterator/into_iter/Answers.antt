@@ -5,7 +5,7 @@ use Rattle.http_map.proofs.map.edits.HeaderMapIntoIterator.into_iter.Goals as go
 
 pub returns : goal.returns
 returns c =
-    let gives : c.new.result ≡ pairs c.args.self = c.new.ensures ∙ ap pairs (c.into_iter.ensures.into_iter_gives.0 ∙ c.self.view_is) in
+    let gives : c.new.result ≡ pairs c.args.self = c.new.ensures ∙ ap pairs (c.into_iter.ensures ∙ c.self.view_is) in
     let counted : length c.new.result ≡ value_count c.args.self = ap length gives ∙ length-pairs c.args.self in
     let fits : value_count c.args.self < 2 ^ 64 = rw (← c.self.view_is) (omega (arith, c.self.invariant.count, c.self.invariant.fits)) in
     record { into_iter_gives = (gives, counted, omega (arith, counted, fits)) }

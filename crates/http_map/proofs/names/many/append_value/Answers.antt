@@ -3,7 +3,7 @@ use Rattle.std.specs.Map.{lookup}
 use Rattle.indexmap.specs.Entry.{map_with_value}
 use Rattle.http_map.specs.HeaderMap.{append}
 use Rattle.http_map.proofs.EntryLemmas.{append-present, append-absent, insert_entry-same}
-use Rattle.http_map.proofs.map.names.append_value.Goals as goal
+use Rattle.http_map.proofs.names.many.append_value.Goals as goal
 
 pub returns-in_err-push-in-Occupied-clause-err : goal.returns-in_err-push-in-Occupied-clause-err
 returns-in_err-push-in-Occupied-clause-err c =

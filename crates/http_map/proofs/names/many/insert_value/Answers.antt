@@ -1,6 +1,6 @@
 use Rattle.std.proofs.Common.{◌≡◌, true, false, [], is_some, unwrap_or, sym, ap, ◌∙◌}
 use Rattle.http_map.proofs.EntryLemmas.{insert-insert_entry, get_all-lookup, contains_key-lookup}
-use Rattle.http_map.proofs.map.names.insert_value.Goals as goal
+use Rattle.http_map.proofs.names.many.insert_value.Goals as goal
 
 pub returns-clause-ok : goal.returns-clause-ok
 returns-clause-ok c =

@@ -1,8 +1,8 @@
 use Rattle.std.proofs.Common.{rules}
 use Rattle.http_map.specs.Retain.{MayAnswer}
-use Rattle.http_map.specs.contracts.map.names.retain_names.F-Fn.{words}
+use Rattle.http_map.specs.contracts.names.many.retain_names.F-Fn.{words}
 use Rattle.http_map.proofs.RetainLemmas.{Retains-RetainsPairs}
-use Rattle.http_map.proofs.map.names.retain_names.Goals as goal
+use Rattle.http_map.proofs.names.many.retain_names.Goals as goal
 
 pub returns : goal.returns
 returns g c =

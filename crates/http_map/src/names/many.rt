@@ -1,20 +1,32 @@
-//! The steps that change the `IndexMap` under a `HeaderMap`.
-ghost use Rattle.std.specs.Prelude.{◌≡◌, ◌<◌, ◌^◌, [], length, unwrap_or, true, IsTrue, IsOk, IfOk, OnOk, OnErr, if◌then◌else◌};
+//! Many names, in an `IndexMap`.
+ghost use Rattle.std.specs.Prelude.{◌≡◌, ◌<◌, ◌^◌, [], length, unwrap_or, true, IsTrue, IsOk, IfOk, OnOk, OnErr, IfSome, IfNone, if◌then◌else◌};
 ghost use Rattle.http_header.specs.Token.{lowercase};
-ghost use Rattle.http_map.specs.HeaderMap.{value_count, contains_key, get_all, insert, append, remove};
+ghost use Rattle.http_map.specs.HeaderMap.{contains_key, get_all, insert, append, remove};
+ghost use Rattle.http_map.specs.Lines.{StandsFirstAt, Lacks};
 ghost use Rattle.http_map.specs.Retain.{MayAnswer, KeepsValues, Retains};
 
-use super::Names;
 use crate::NoMemory;
 use crate::any_case::AnyCase;
 use crate::removed::Removed;
 use crate::values::Values;
 use http_header::{HeaderName, HeaderValue};
+use indexmap::IndexMap;
 use indexmap::map::Entry;
+
+pub(super) type Hashed = IndexMap<HeaderName, Values>;
+
+// Where the name stands that has these bytes in lower case.
+pub(super) fn find(names: &Hashed, bytes: &[u8]) -> Option<usize>
+    ensures found { IfSome result (StandsFirstAt names.now.entries (lowercase bytes.now)) }
+    ensures within { IfSome result (λ i. i < length names.now.entries) }
+    ensures lacks { IfNone result (Lacks names.now.entries (lowercase bytes.now)) }
+{
+    names.get_index_of(AnyCase { bytes })
+}
 
 // Adds the value after those of the name, which is looked up once.
 pub(super) fn append_value(
-    names: &mut Names,
+    names: &mut Hashed,
     key: HeaderName,
     value: HeaderValue,
 ) -> Result<(), NoMemory>
@@ -43,7 +55,7 @@ fn removed(found: Option<Values>) -> Removed
 
 // Puts the value in place of those of the name, and gives them.
 pub(super) fn insert_value(
-    names: &mut Names,
+    names: &mut Hashed,
     name: HeaderName,
     value: HeaderValue,
 ) -> Result<Removed, NoMemory>
@@ -56,7 +68,7 @@ pub(super) fn insert_value(
 }
 
 // Takes the name out, and gives the values that it had.
-pub(super) fn remove_values(names: &mut Names, bytes: &[u8]) -> Removed
+pub(super) fn remove_values(names: &mut Hashed, bytes: &[u8]) -> Removed
     ensures removed { result ≡ get_all names.old.entries (lowercase bytes.now) }
     ensures after { names.new.entries ≡ remove names.old.entries (lowercase bytes.now) }
     ensures gone { get_all names.new.entries (lowercase bytes.now) ≡ [] }
@@ -64,20 +76,8 @@ pub(super) fn remove_values(names: &mut Names, bytes: &[u8]) -> Removed
     removed(names.shift_remove(AnyCase { bytes }))
 }
 
-// The number of values, under all names.
-pub(super) fn count_values(names: &Names) -> usize
-    requires { value_count names.now.entries < 2 ^ 64 }
-    ensures { result ≡ value_count names.now.entries }
-{
-    let mut count = 0;
-    for values in names.values() {
-        count += values.as_slice().len();
-    }
-    count
-}
-
 // Keeps the values for which `keep` answers true, and the names that have such a value.
-pub(super) fn retain_names<F: Fn(&HeaderName, &HeaderValue) -> bool>(names: &mut Names, keep: &F)
+pub(super) fn retain_names<F: Fn(&HeaderName, &HeaderValue) -> bool>(names: &mut Hashed, keep: &F)
     requires { F.IsAlwaysCallable keep.now }
     ensures { Retains (MayAnswer (F.post keep.now)) names.old.entries names.new.entries }
 {

@@ -1,7 +1,7 @@
 use Rattle.std.proofs.Common.{sym, ◌∙◌, ap, [], unwrap_or}
 use Rattle.http_header.specs.Token.{lowercase}
 use Rattle.http_map.proofs.EntryLemmas.{remove-remove_entry, get_all-lookup}
-use Rattle.http_map.proofs.map.names.remove_values.Goals as goal
+use Rattle.http_map.proofs.names.many.remove_values.Goals as goal
 
 pub returns-clause-removed : goal.returns-clause-removed
 returns-clause-removed c =

@@ -1,0 +1,24 @@
+-- The mark of a name, by which a line of a short map is found, and where a name stands.
+use Rattle.std.specs.Prelude.{◌≡◌, ℕ, zero, suc, ◌+◌, ◌-◌, ◌*◌, ⊤, true, false, List, [], ◌∷◌, get_or, length, bytes_eq}
+use Rattle.http_map.specs.HeaderMap.{Entries}
+
+-- the first byte of a name and its last two
+abbrev pub name_mark : List ℕ → ℕ
+name_mark name = (get_or name 0 0 * 256 + get_or name (length name - 2) 0) * 256 + get_or name (length name - 1) 0
+
+-- the name stands at the index, and not before it
+abbrev pub StandsFirstAt : Entries → List ℕ → ℕ → Type 0
+StandsFirstAt [] name i = ⊥
+StandsFirstAt (e ∷ m) name zero = bytes_eq name e.0 ≡ true
+StandsFirstAt (e ∷ m) name (suc i) = (bytes_eq name e.0 ≡ false) × StandsFirstAt m name i
+
+-- the name isn't one of the first so many
+abbrev pub IsNotBefore : Entries → List ℕ → ℕ → Type 0
+IsNotBefore [] name i = ⊤
+IsNotBefore (e ∷ m) name zero = ⊤
+IsNotBefore (e ∷ m) name (suc i) = (bytes_eq name e.0 ≡ false) × IsNotBefore m name i
+
+-- the name isn't there
+abbrev pub Lacks : Entries → List ℕ → Type 0
+Lacks [] name = ⊤
+Lacks (e ∷ m) name = (bytes_eq name e.0 ≡ false) × Lacks m name
