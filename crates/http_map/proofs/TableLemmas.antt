@@ -24,6 +24,6 @@ listed-with_values_at (Few lines) i w = by (slice_get lines.items i) refl
 listed-with_values_at (Many names) i w = refl
 
 pub IsTable-with_values_at : (t : Table) (i : ℕ) (w : List FieldValue) → IsTable t → IsTable (with_values_at t i w)
-IsTable-with_values_at (Few lines) i w is = 
+IsTable-with_values_at (Few lines) i w is =
     subst (λ m. IsDistinct bytes_eq (keys m)) (sym (listed-with_values_at (Few lines) i w)) (subst (IsDistinct bytes_eq) (sym (keys-set_value_at lines.items i w)) is)
 IsTable-with_values_at (Many names) i w is = tt

@@ -14,4 +14,3 @@ listed (Many names) = names.entries
 abbrev pub IsTable : Table → Type 0
 IsTable (Few lines) = IsDistinct bytes_eq (keys lines.items)
 IsTable (Many names) = ⊤
-

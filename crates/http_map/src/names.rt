@@ -13,15 +13,13 @@ mod iter;
 mod line;
 mod many;
 
-pub(crate) use iter::NamesIntoIter;
-pub(crate) use iter::NamesIter;
-
 use crate::NoMemory;
 use crate::any_case::AnyCase;
 use crate::removed::Removed;
 use crate::values::Values;
 use http_header::{HeaderName, HeaderValue};
 use indexmap::IndexMap;
+pub(crate) use iter::{NamesIntoIter, NamesIter};
 use line::Line;
 use many::Hashed;
 use std::alloc::{AllocError, Global};
@@ -228,7 +226,11 @@ impl Names {
     }
 
     /// Puts the value in place of those of the name, and gives them.
-    pub(crate) fn insert(&mut self, name: HeaderName, value: HeaderValue) -> Result<Removed, NoMemory>
+    pub(crate) fn insert(
+        &mut self,
+        name: HeaderName,
+        value: HeaderValue,
+    ) -> Result<Removed, NoMemory>
         ensures ok { OnOk result (self.new ≡ insert self.old name value) }
         ensures removed { IfOk result (λ values. values ≡ get_all self.old name) }
         ensures err { OnErr result (self.new ≡ self.old) }

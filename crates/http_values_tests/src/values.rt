@@ -1,8 +1,8 @@
 //! Values and their texts.
 use http_types::{HeaderValue, ParseError};
 use http_values::{
-    Charset, ContentEncoding, FromText, HttpDate, LanguageTag, Mime, Quality, QualityItem, ReadError,
-    fmt_comma_delimited, from_comma_delimited, from_one_raw_str, http_percent_encode,
+    Charset, ContentEncoding, FromText, HttpDate, LanguageTag, Mime, Quality, QualityItem,
+    ReadError, fmt_comma_delimited, from_comma_delimited, from_one_raw_str, http_percent_encode,
     parse_extended_value, q,
 };
 use std::fmt;
@@ -64,7 +64,15 @@ fn items_are_read_with_their_qualities(rt: HostRuntime) -> Result<(), Fail> {
         let again = read.to_string(rt.alloc())?;
         assert_eq!(rt; again.as_str(), printed);
     }
-    for text in ["a;q=1.5", "a;q", "a;", "a;q=0.1234", "a;q=", "a;q=2", "\u{e9};q=1"] {
+    for text in [
+        "a;q=1.5",
+        "a;q",
+        "a;",
+        "a;q=0.1234",
+        "a;q=",
+        "a;q=2",
+        "\u{e9};q=1",
+    ] {
         let read = QualityItem::<String>::from_text(rt.alloc(), text);
         assert!(rt; matches!(read, Err(ReadError::Invalid)));
     }
@@ -73,7 +81,10 @@ fn items_are_read_with_their_qualities(rt: HostRuntime) -> Result<(), Fail> {
 
 #[test]
 fn lists_pass_over_empty_parts(rt: HostRuntime) -> Result<(), Fail> {
-    let values = [HeaderValue::from_static("a, ,b"), HeaderValue::from_static("c")];
+    let values = [
+        HeaderValue::from_static("a, ,b"),
+        HeaderValue::from_static("c"),
+    ];
     let items: Vec<String> = from_comma_delimited(rt.alloc(), values.iter())?;
     assert_eq!(rt; items.len(), 3);
     assert_eq!(rt; items[0].as_str(), "a");
@@ -81,7 +92,10 @@ fn lists_pass_over_empty_parts(rt: HostRuntime) -> Result<(), Fail> {
     assert_eq!(rt; items[2].as_str(), "c");
     let codings = [HeaderValue::from_static("gzip, fish , br")];
     let known: Vec<ContentEncoding> = from_comma_delimited(rt.alloc(), codings.iter())?;
-    assert_eq!(rt; known.as_slice(), [ContentEncoding::Gzip, ContentEncoding::Brotli].as_slice());
+    assert_eq!(rt;
+        known.as_slice(),
+        [ContentEncoding::Gzip, ContentEncoding::Brotli].as_slice()
+    );
     let parts = [Quality::MAX, Quality::MIN, Quality::ZERO];
     let text = Listed(&parts).to_string(rt.alloc())?;
     assert_eq!(rt; text.as_str(), "1, 0.001, 0");
@@ -105,7 +119,10 @@ fn single_values_are_read(rt: HostRuntime) -> Result<(), Fail> {
 fn delimiters_are_escaped(rt: HostRuntime) -> Result<(), Fail> {
     let rows: [(&[u8], &str); 3] = [
         (b"a b%-", "a%20b%25%2D"),
-        (b"\x00\x1f\x7f \"%'()*,/:;<->?[\\]{}", "%00%1F%7F%20%22%25%27%28%29%2A%2C%2F%3A%3B%3C%2D%3E%3F%5B%5C%5D%7B%7D"),
+        (
+            b"\x00\x1f\x7f \"%'()*,/:;<->?[\\]{}",
+            "%00%1F%7F%20%22%25%27%28%29%2A%2C%2F%3A%3B%3C%2D%3E%3F%5B%5C%5D%7B%7D",
+        ),
         (b"!#$&+.=@AZaz09^_`|~\xff", "!#$&+.=@AZaz09^_`|~%FF"),
     ];
     for (bytes, want) in rows {
@@ -167,7 +184,17 @@ fn language_tags_print_as_read(rt: HostRuntime) -> Result<(), Fail> {
         let printed = tag.to_string(rt.alloc())?;
         assert_eq!(rt; printed.as_str(), text);
     }
-    for text in ["", "a", "en-", "en-x", "de-419-DE-x-", "a-DE", "en--US", "i-klingon", "x-ninechars"] {
+    for text in [
+        "",
+        "a",
+        "en-",
+        "en-x",
+        "de-419-DE-x-",
+        "a-DE",
+        "en--US",
+        "i-klingon",
+        "x-ninechars",
+    ] {
         let read = LanguageTag::from_text(rt.alloc(), text);
         assert!(rt; matches!(read, Err(ReadError::Invalid)));
     }
@@ -177,8 +204,18 @@ fn language_tags_print_as_read(rt: HostRuntime) -> Result<(), Fail> {
 #[test]
 fn extended_values_are_cut_at_two_quotes(rt: HostRuntime) -> Result<(), Fail> {
     let rows: [(&str, &str, &[u8], &str); 4] = [
-        ("UTF-8'en'%C2%A3%20rates", "UTF-8", b"\xc2\xa3 rates", "UTF-8'en'%C2%A3%20rates"),
-        ("iso-8859-1'en'%A3%20rates", "ISO-8859-1", b"\xa3 rates", "ISO-8859-1'en'%A3%20rates"),
+        (
+            "UTF-8'en'%C2%A3%20rates",
+            "UTF-8",
+            b"\xc2\xa3 rates",
+            "UTF-8'en'%C2%A3%20rates",
+        ),
+        (
+            "iso-8859-1'en'%A3%20rates",
+            "ISO-8859-1",
+            b"\xa3 rates",
+            "ISO-8859-1'en'%A3%20rates",
+        ),
         ("utf-8''it's", "UTF-8", b"it's", "UTF-8''it%27s"),
         ("''", "", b"", "''"),
     ];
@@ -204,7 +241,12 @@ fn media_types_have_parameters(rt: HostRuntime) -> Result<(), Fail> {
         ("text/plain;Charset=\"utf-8\"", "text", "plain", "utf-8"),
         ("a/b ; x=1 ;charset=\" \";charset=c", "a", "b", " "),
         ("image/svg+xml;charset=\"\"", "image", "svg+xml", ""),
-        ("application/vnd.a-b; q=1;  CHARSET=x", "application", "vnd.a-b", "x"),
+        (
+            "application/vnd.a-b; q=1;  CHARSET=x",
+            "application",
+            "vnd.a-b",
+            "x",
+        ),
     ];
     for (text, kind, subtype, charset) in rows {
         let mime = Mime::from_text(rt.alloc(), text)?;
@@ -216,9 +258,20 @@ fn media_types_have_parameters(rt: HostRuntime) -> Result<(), Fail> {
         assert_eq!(rt; printed.as_str(), text);
     }
     for text in [
-        "", "text", "text/", "/plain", "text/plain;", "text/plain; charset", "text/plain; charset=",
-        "text/plain; =utf-8", "text/plain; a=\"b", "text/plain; a=\"\\\"", "text/plain ", "text /plain",
-        "a/b; c=d e=f", "a/b; c=d,",
+        "",
+        "text",
+        "text/",
+        "/plain",
+        "text/plain;",
+        "text/plain; charset",
+        "text/plain; charset=",
+        "text/plain; =utf-8",
+        "text/plain; a=\"b",
+        "text/plain; a=\"\\\"",
+        "text/plain ",
+        "text /plain",
+        "a/b; c=d e=f",
+        "a/b; c=d,",
     ] {
         let read = Mime::from_text(rt.alloc(), text);
         assert!(rt; matches!(read, Err(ReadError::Invalid)));

@@ -118,7 +118,11 @@ impl Line {
     pub(crate) fn into_pair(self) -> (HeaderName, Values)
         ensures { result ≡ self }
     {
-        let Line { mark: _, name, values } = self;
+        let Line {
+            mark: _,
+            name,
+            values,
+        } = self;
         (name, values)
     }
 }
