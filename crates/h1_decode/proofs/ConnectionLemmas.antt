@@ -26,6 +26,6 @@ pub marks_tell : (piece : List ℕ) (item : HeadItem) (h : Head) → IsReading p
     → IsTypeOf (request_flags item.head) item.head.version (type_of h.connection)
 marks_tell piece item h reading says =
     let told : IsTypeOf (flags_of h) (version_of h.minor) (type_of h.connection) =
-        ap type_of reading.1.connection_is ∙ type_of_marks (asked_type h.headers) h.expects h.minor in
+    ap type_of reading.1.connection_is ∙ type_of_marks (asked_type h.headers) h.expects h.minor in
     subst (λ (f : Flags). IsTypeOf f item.head.version (type_of h.connection)) (sym says.flags)
     (subst (λ (v : Version). IsTypeOf (flags_of h) v (type_of h.connection)) (sym says.version) told)
