@@ -7,7 +7,7 @@ ghost use Rattle.std.specs.Prelude.{◌++◌, ◌<◌};
 ghost use Rattle.percent_encoding.specs.AsciiSet.{contains};
 ghost use Rattle.http_values.specs.Escapes.{is_escaped};
 ghost use Rattle.std.specs.Borrow.{Bor};
-ghost use Rattle.std.specs.Iterator.{IsFinite, Drains};
+ghost use Rattle.std.specs.Iterator.{IsFinite, Drains, Yields};
 ghost use Rattle.std.specs.Fmt.{DisplaysOnOk};
 ghost use Rattle.http_header.specs.FieldValue.{FieldValue};
 ghost use Rattle.http_values.specs.CommaList.{comma_parts, values_parts, AreRead, AreTexts, AreOfSameTexts, later_output, list_output};
@@ -106,6 +106,7 @@ pub fn from_comma_delimited<'a, I: Iterator<Item = &'a HeaderValue>, T: FromText
     requires ends { IsFinite (I.remaining all) }
     ensures ok { IfOk result (λ items. (values : List (Bor FieldValue)) × Drains I.next_gives all values × AreTexts values
         × AreRead T.is_text T.reads (values_parts values) items.items) }
+    ensures header { IsErrOf result ParseError.Header → (values : List (Bor FieldValue)) × (rest : I) × Yields I.next_gives all values rest × ¬ (AreTexts values) }
     ensures err { IfErr result (λ e. (e ≡ ParseError.Header) ⊎ (e ≡ ParseError.NoMemory)) }
 {
     let mut items = Vec::new(alloc);
