@@ -23,8 +23,8 @@ mod utils;
 
 pub use read::{FromText, ReadError};
 pub use shared::{
-    Charset, ContentEncoding, ContentEncodingParseError, ExtendedValue, HttpDate, LanguageTag, Mime,
-    Quality, QualityItem, QualityOutOfBounds, parse_extended_value, q,
+    Charset, ContentEncoding, ContentEncodingParseError, ExtendedValue, HttpDate, LanguageTag,
+    Mime, Quality, QualityItem, QualityOutOfBounds, parse_extended_value, q,
 };
 pub use utils::{
     fmt_comma_delimited, from_comma_delimited, from_one_raw_str, http_percent_encode, itoa_fmt,

@@ -26,6 +26,6 @@ returns-in_default-clause-header g c = λ _.
       c.next.new.self,
       subst P same
           (yields_push g.I.Iterator.next_gives c.loop-value.yielded c.in-Some.value c.into_iter-value-iterator.result c.loop-value.value-iterator c.next.new.self
-              c.loop-value.yielded_by c.in-Some.ensures.steps),
+          c.loop-value.yielded_by c.in-Some.ensures.steps),
       λ texts. let bad = c.in_default.ensures.succeeds.1 (last_text c.loop-value.yielded c.in-Some.value texts) in cc (bad),
     )

@@ -26,8 +26,8 @@ loop-rest-preserved c =
       λ qs h.
           let P : List (List ℕ × List ℕ) → Type 0 = λ xs. AreParameters c.args.text.now (xs ++ qs) in
           subst P (sym pairs)
-              (parameters_more c.args.text.now c.loop-rest.rest.now c.in-Some.name.now c.in-Some.value.now c.in-Some.behind.now (pairs_of c.loop-rest.params.items)
-                  c.in-Some.ensures c.loop-rest.invariant.0 qs h),
+          (parameters_more c.args.text.now c.loop-rest.rest.now c.in-Some.name.now c.in-Some.value.now c.in-Some.behind.now (pairs_of c.loop-rest.params.items)
+          c.in-Some.ensures c.loop-rest.invariant.0 qs h),
       parameters_behind c.loop-rest.rest.now c.in-Some.name.now c.in-Some.value.now c.in-Some.behind.now left.0 c.in-Some.ensures left.1,
     )
 
