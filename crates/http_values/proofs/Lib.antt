@@ -2,7 +2,9 @@ pub mod CharsetLemmas
 pub mod CodingLemmas
 pub mod EscapeLemmas
 pub mod ExtendedLemmas
+pub mod ExtendedReadings
 pub mod ListLemmas
+pub mod ListReadings
 pub mod MimeLemmas
 pub mod MimeParameters
 pub mod PrintedQuality

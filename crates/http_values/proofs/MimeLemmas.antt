@@ -9,12 +9,12 @@ use Rattle.std.specs.Str.{IsAscii, IsUtf8}
 use Rattle.http_header.proofs.TokenLemmas.{token_byte_range}
 use Rattle.std.specs.Prelude.{◌==◌, string_bytes}
 use Rattle.http_values.specs.declared.shared.mime.Parameter.{Parameter}
-use Rattle.std.proofs.Common.{append_assoc, get_or-take, ◌≡◌, ℕ, ◌<◌, ◌≤◌, ◌+◌, ◌-◌, inl, inr, List, [], ◌∷◌, ◌++◌, length, take, drop, refl, sym, ap, subst, ◌∙◌, arith, true, false, get_or, length-drop, IsTrue}
+use Rattle.std.proofs.Common.{append_assoc, get_or-take, ◌≡◌, ℕ, ◌<◌, ◌≤◌, inl, inr, List, [], ◌∷◌, ◌++◌, length, take, drop, refl, sym, ap, subst, ◌∙◌, arith, true, false, get_or, length-drop}
 use Rattle.std.specs.List.{prefix_len}
 use Rattle.http_header.specs.Token.{is_token_byte}
 use Rattle.http_values.specs.declared.shared.mime.Class.{Class}
 use Rattle.http_values.specs.declared.shared.mime.Class.TheVariants.{Token, Blank, Quotable}
-use Rattle.http_values.specs.Mime.{in_class, IsRun, IsTokenCut, IsQuotedCut, IsValueCut, IsParameterCut, AreParameters, IsEssenceCut, IsMimeText, IsSomeMime, pair_of, pairs_of}
+use Rattle.http_values.specs.Mime.{in_class, IsRun, IsTokenCut, IsQuotedCut, IsValueCut, IsParameterCut, AreParameters, IsEssenceCut, IsMimeText, pair_of, pairs_of}
 
 -- a text has one run of a class
 pub run_unique : (class : Class) (text a b c d : List ℕ) → IsRun class text a b → IsRun class text c d → (a ≡ c) × (b ≡ d)

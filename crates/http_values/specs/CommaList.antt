@@ -39,3 +39,9 @@ later_output output (part ∷ parts) = Some (codes ", ") ++? (output part ++? la
 abbrev pub list_output : {T : Type 0} → (T → Option (List ℕ)) → List T → Option (List ℕ)
 list_output output [] = Some []
 list_output output (part ∷ parts) = output part ++? later_output output parts
+
+-- the lists are as long as each other, and at each place their items are those of one text
+abbrev pub AreOfSameTexts : {T : Type 0} → (List ℕ → T → Type 0) → List T → List T → Type 0
+AreOfSameTexts {T} reads [] [] = Unit {0}
+AreOfSameTexts {T} reads (x ∷ xs) (y ∷ ys) = ((text : List ℕ) × reads text x × reads text y) × AreOfSameTexts reads xs ys
+AreOfSameTexts {T} reads _ _ = ⊥

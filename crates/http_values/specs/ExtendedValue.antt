@@ -27,3 +27,9 @@ pub record SaysExtended (text : List ℕ) (v : ExtendedValue) : Type 0 where
 abbrev pub tag_part_text : Option LanguageTag → List ℕ
 tag_part_text None = []
 tag_part_text (Some tag) = tag_text tag
+
+-- there is no tag, or a tag of the same text
+abbrev pub SameTag : Option LanguageTag → Option LanguageTag → Type 0
+SameTag None None = Unit {0}
+SameTag (Some tag) (Some tag') = tag_text tag' ≡ tag_text tag
+SameTag _ _ = ⊥

@@ -7,10 +7,10 @@ ghost use Rattle.std.specs.Prelude.{◌++◌, ◌<◌};
 ghost use Rattle.percent_encoding.specs.AsciiSet.{contains};
 ghost use Rattle.http_values.specs.Escapes.{is_escaped};
 ghost use Rattle.std.specs.Borrow.{Bor};
-ghost use Rattle.std.specs.Iterator.{IsFinite, Drains};
+ghost use Rattle.std.specs.Iterator.{IsFinite, Drains, Yields};
 ghost use Rattle.std.specs.Fmt.{DisplaysOnOk};
 ghost use Rattle.http_header.specs.FieldValue.{FieldValue};
-ghost use Rattle.http_values.specs.CommaList.{comma_parts, values_parts, AreRead, AreTexts, later_output, list_output};
+ghost use Rattle.http_values.specs.CommaList.{comma_parts, values_parts, AreRead, AreTexts, AreOfSameTexts, later_output, list_output};
 ghost use Rattle.http_values.specs.OneValue.{HasReading};
 
 use crate::read::{FromText, ReadError};
@@ -106,6 +106,7 @@ pub fn from_comma_delimited<'a, I: Iterator<Item = &'a HeaderValue>, T: FromText
     requires ends { IsFinite (I.remaining all) }
     ensures ok { IfOk result (λ items. (values : List (Bor FieldValue)) × Drains I.next_gives all values × AreTexts values
         × AreRead T.is_text T.reads (values_parts values) items.items) }
+    ensures header { IsErrOf result ParseError.Header → (values : List (Bor FieldValue)) × (rest : I) × Yields I.next_gives all values rest × ¬ (AreTexts values) }
     ensures err { IfErr result (λ e. (e ≡ ParseError.Header) ⊎ (e ≡ ParseError.NoMemory)) }
 {
     let mut items = Vec::new(alloc);
@@ -162,4 +163,11 @@ pub fn itoa_fmt<W: fmt::Write, V: itoa::Integer>(wr: &mut W, value: V) -> fmt::R
 /// Of the ASCII bytes the controls, the blank and the delimiters are escaped, and no other.
 pub fn escaped_bytes()
     ensures { (b : ℕ) → b < 128 → contains HTTP_VALUE b ≡ is_escaped b }
+{}
+
+/// The parts of a list say one list of items: two readings are as long as each other, and their
+/// items at each place are those of one text.
+pub fn list_is_unique<T: FromText>()
+    ensures { ((text : List ℕ) (item : T) → T.reads text item → T.is_text text)
+        → (parts : List (List ℕ)) (xs ys : List T) → AreRead T.is_text T.reads parts xs → AreRead T.is_text T.reads parts ys → AreOfSameTexts T.reads xs ys }
 {}

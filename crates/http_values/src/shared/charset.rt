@@ -11,7 +11,7 @@ use std::fmt;
 
 /// A character set, by its registered label (RFC 2978).
 #[allow(non_camel_case_types)]
-#[derive(Debug, Drop)]
+#[derive(Debug, Drop, PartialEq, Eq)]
 pub enum Charset {
     /// US-ASCII
     Us_Ascii,

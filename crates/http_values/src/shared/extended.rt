@@ -1,8 +1,9 @@
 //! Values of extended parameters.
 ghost use Rattle.std.specs.Prelude.{◌≡◌, ◌↔◌, ◌⊎◌, ◌++◌, ◌∷◌, [], ℕ, List, Some, MatchOption, IfOk, IfErr, IsErrOf};
 ghost use Rattle.percent_encoding.specs.Percent as percent;
-ghost use Rattle.http_values.specs.Charset.{charset_text, SameCharset};
-ghost use Rattle.http_values.specs.ExtendedValue.{IsTagPart, SaysExtended};
+ghost use Rattle.http_values.specs.Charset.{charset_text, IsNamed, SameCharset};
+ghost use Rattle.http_values.specs.declared.shared.extended.ExtendedValue.{ExtendedValue as Value};
+ghost use Rattle.http_values.specs.ExtendedValue.{IsTagPart, SaysExtended, SameTag};
 ghost use Rattle.http_values.specs.ExtendedText.{HasNoQuote, IsFirstCut, IsCutInThree, IsTagOrNone, IsExtendedText};
 
 use crate::read::{FromText, ReadError};
@@ -15,7 +16,7 @@ use std::alloc::{AllocError, Global};
 use std::fmt;
 
 /// The value of an extended parameter (RFC 5987, section 3.2).
-#[derive(Debug, Drop)]
+#[derive(Debug, Drop, PartialEq, Eq)]
 pub struct ExtendedValue {
     /// The character set of the bytes.
     pub charset: Charset,
@@ -23,6 +24,25 @@ pub struct ExtendedValue {
     pub language_tag: Option<LanguageTag>,
     /// The bytes.
     pub value: Vec<u8>,
+}
+
+impl ExtendedValue {
+    /// An equal value.
+    pub fn copy(&self) -> Result<ExtendedValue, AllocError>
+        ensures charset { IfOk result (λ copy. SameCharset self.now.charset copy.charset) }
+        ensures tag { IfOk result (λ copy. SameTag self.now.language_tag copy.language_tag) }
+        ensures value { IfOk result (λ copy. copy.value.items ≡ self.now.value.items) }
+    {
+        let language_tag = match &self.language_tag {
+            Some(tag) => Some(tag.copy()?),
+            None => None,
+        };
+        Ok(ExtendedValue {
+            charset: self.charset.copy()?,
+            language_tag,
+            value: self.value.clone()?,
+        })
+    }
 }
 
 // What stands before the first quote and after it.
@@ -112,3 +132,11 @@ impl fmt::Display for ExtendedValue {
         }
     }
 }
+
+/// A text is that of one value at most: of one set, but for the case of its label, one language tag
+/// or none, and the same bytes.
+pub fn extended_value_is_unique()
+    ensures charset { (text : List ℕ) (a b : Value) → SaysExtended text a → SaysExtended text b → IsNamed (charset_text a.charset) (charset_text b.charset) }
+    ensures tag { (text : List ℕ) (a b : Value) → SaysExtended text a → SaysExtended text b → SameTag a.language_tag b.language_tag }
+    ensures value { (text : List ℕ) (a b : Value) → SaysExtended text a → SaysExtended text b → a.value.items ≡ b.value.items }
+{}

@@ -85,3 +85,8 @@ impl TryIntoHeaderValue for HttpDate {
 pub fn http_date_is_unique()
     ensures { (text : List ℕ) (a b : Date) → IsHttpDateText text a → IsHttpDateText text b → unix_secs a ≡ unix_secs b }
 {}
+
+/// What a date prints shows that date.
+pub fn printed_date_shows_it()
+    ensures { (d : Date) → IsDateText (http_date_text d) d.date }
+{}

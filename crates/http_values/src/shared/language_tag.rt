@@ -3,6 +3,8 @@ ghost use Rattle.std.specs.Prelude.{◌≡◌, ◌↔◌, ℕ, List, Some, IsTru
 ghost use Rattle.std.specs.List.{list_all};
 ghost use Rattle.std.specs.Char.{is_ascii_alphabetic, is_ascii_digit, is_ascii_alphanumeric};
 ghost use Rattle.http_values.specs.LanguageTag.{IsLanguageTag, has_len, is_letters, is_letters_or_digits, is_digits, is_region, is_variant, is_x, is_singleton, after_variant, after_region, after_script, after_language, after_start, next_place, may_end};
+ghost use Rattle.http_values.specs.TagText.{tag_text};
+ghost use Rattle.http_values.specs.declared.shared.language_tag.LanguageTag.{LanguageTag as Tag};
 
 use crate::read::{FromText, ReadError};
 use std::alloc::{AllocError, Global};
@@ -218,8 +220,6 @@ pub(crate) fn is_language_tag(s: &str) -> bool
 }
 
 impl LanguageTag {
-    ghost use Rattle.http_values.specs.TagText.{tag_text};
-
     /// The tag as it was read.
     pub fn as_str(&self) -> &str
         ensures { result.now ≡ tag_text self.now }
@@ -238,8 +238,6 @@ impl LanguageTag {
 }
 
 impl FromText for LanguageTag {
-    ghost use Rattle.http_values.specs.TagText.{tag_text};
-
     ghost reads = { λ text tag. IsLanguageTag text × (tag_text tag ≡ text) };
 
     ghost is_text = { IsLanguageTag };
@@ -256,11 +254,19 @@ impl FromText for LanguageTag {
 }
 
 impl fmt::Display for LanguageTag {
-    ghost use Rattle.http_values.specs.TagText.{tag_text};
-
     ghost output = { λ tag. Some (tag_text tag) };
 
     fn fmt<W: fmt::Write>(&self, f: &mut fmt::Formatter<W>) -> fmt::Result {
         f.write_str(self.text.as_str())
     }
 }
+
+/// The text of a tag that was read is read as that tag again.
+pub fn printed_tag_is_read()
+    ensures { (text : List ℕ) (tag : Tag) → IsLanguageTag text → tag_text tag ≡ text → IsLanguageTag (tag_text tag) }
+{}
+
+/// A text is that of one tag at most, by the text it keeps.
+pub fn language_tag_is_unique()
+    ensures { (text : List ℕ) (tag tag' : Tag) → tag_text tag ≡ text → tag_text tag' ≡ text → tag_text tag ≡ tag_text tag' }
+{}

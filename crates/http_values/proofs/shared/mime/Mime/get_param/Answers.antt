@@ -1,4 +1,4 @@
-use Rattle.std.proofs.Common.{◌≡◌, ◌<◌, ℕ, List, length, get_or, arith, refl, sym, ap, subst, ◌∙◌}
+use Rattle.std.proofs.Common.{◌<◌, ℕ, List, length, get_or, arith, refl, sym, ap, subst, ◌∙◌}
 use Rattle.std.specs.Prelude.{map, string_bytes}
 use Rattle.std.specs.Char.{to_ascii_lowercase}
 use Rattle.http_values.specs.declared.shared.mime.Parameter.{Parameter}
