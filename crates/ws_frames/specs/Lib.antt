@@ -1,0 +1,5 @@
+pub mod MaskLanes
+pub mod Protocol
+pub mod Refusal
+pub mod Parsed
+pub mod Judged
