@@ -1,2 +1,3 @@
 pub mod MaskLemmas
 pub mod ParsedFronts
+pub mod HeaderLemmas

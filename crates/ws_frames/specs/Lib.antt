@@ -3,3 +3,4 @@ pub mod Protocol
 pub mod Refusal
 pub mod Parsed
 pub mod Judged
+pub mod Header

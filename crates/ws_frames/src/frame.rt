@@ -1,0 +1,2 @@
+//! Frames: their headers and their texts.
+pub(crate) mod header;
