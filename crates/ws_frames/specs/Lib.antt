@@ -4,3 +4,7 @@ pub mod Refusal
 pub mod Parsed
 pub mod Judged
 pub mod Header
+pub mod Close
+pub mod Written
+pub mod Codec
+pub mod CodecState

@@ -1,5 +1,5 @@
 -- What the errors of reading say.
-use Rattle.std.specs.Prelude.{ℕ}
+use Rattle.std.specs.Prelude.{ℕ, ◌≢◌}
 use Rattle.h1_model.specs.Frame as model
 use Rattle.h1_model.specs.FrameText.{opcode_of}
 use Rattle.ws_frames.specs.declared.error.ProtocolError.{ProtocolError}
@@ -18,3 +18,7 @@ refusal model.continuation_started = errors.ContinuationStarted
 refusal (model.invalid_opcode number) = errors.InvalidOpcode number
 refusal (model.invalid_length n) = errors.InvalidLength n
 refusal (model.continuation_fragment number) = errors.ContinuationFragment (code_of (opcode_of number))
+
+-- the fact holds, unless memory ran out
+abbrev pub UnlessNoMemory : ProtocolError → Type 0 → Type 0
+UnlessNoMemory e P = e ≢ errors.NoMemory → P

@@ -1,14 +1,21 @@
 //! WebSocket frames (RFC 6455): what they say, their texts, and the mask.
 #![tactic(auto)]
 
+mod codec;
 mod error;
 mod frame;
+mod kind;
 mod mask;
+mod message;
 mod proto;
+mod take;
 
+pub use codec::Codec;
 pub use error::ProtocolError;
 pub use frame::header::declared_len;
+pub use frame::text::write_frame;
 pub use mask::{apply_mask, apply_mask_fast32, mask_from};
+pub use message::{Frame, Item, Message};
 pub use proto::{CloseCode, CloseReason, OpCode, hash_key};
 
 /// The allocator had no memory.
