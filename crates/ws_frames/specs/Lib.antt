@@ -8,3 +8,4 @@ pub mod Close
 pub mod Written
 pub mod Codec
 pub mod CodecState
+pub mod ParserState

@@ -7,15 +7,15 @@ mod frame;
 mod kind;
 mod mask;
 mod message;
+mod parser;
 mod proto;
 mod take;
 
 pub use codec::Codec;
 pub use error::ProtocolError;
-pub use frame::header::declared_len;
-pub use frame::text::write_frame;
 pub use mask::{apply_mask, apply_mask_fast32, mask_from};
 pub use message::{Frame, Item, Message};
+pub use parser::Parser;
 pub use proto::{CloseCode, CloseReason, OpCode, hash_key};
 
 /// The allocator had no memory.

@@ -5,6 +5,7 @@ ghost use Rattle.ws_frames.specs.Codec.{kind_frame, with_payload, TakenFrame};
 ghost use Rattle.ws_frames.specs.CodecState.{JudgedTaken};
 ghost use Rattle.ws_frames.specs.Header.{payload_at};
 ghost use Rattle.ws_frames.specs.Judged.{judged_taken};
+ghost use Rattle.ws_frames.specs.ParserState.{data_of};
 ghost use Rattle.ws_frames.specs.Protocol.{opcode_written};
 
 use crate::NoMemory;
@@ -154,4 +155,38 @@ pub(crate) fn take_judged(
             Err(error)
         }
     }
+}
+
+/// The payload at the front, if it isn't empty, in a buffer of its own that shares the memory of this one.
+pub(crate) fn take_data(
+    src: &mut BytesMut,
+    server: bool,
+    header_len: usize,
+    payload_len: usize,
+) -> Result<Option<BytesMut>, NoMemory>
+    requires within { header_len + payload_len ≤ length src.old.items }
+    requires masked { server ≡ true → 4 ≤ header_len }
+    ensures payload { IfOk result (λ payload. data_of payload ≡ payload_at server header_len payload_len src.old.items) }
+    ensures rest { OnOk result (src.new.items ≡ drop (header_len + payload_len) src.old.items) }
+    ensures err { OnErr result (src.new.items ≡ src.old.items) }
+{
+    let frame_len = frame_len(src, header_len, payload_len);
+    toggle_mask(src, server, header_len, payload_len);
+    match src.split_to(frame_len) {
+        Ok(mut frame) => {
+            frame.advance(header_len);
+            Ok(unless_empty(frame))
+        }
+        Err(error) => {
+            toggle_mask(src, server, header_len, payload_len);
+            Err(error)
+        }
+    }
+}
+
+/// The bytes, if there are some.
+fn unless_empty(bytes: BytesMut) -> Option<BytesMut>
+    ensures { data_of result ≡ bytes.items }
+{
+    if bytes.is_empty() { None } else { Some(bytes) }
 }

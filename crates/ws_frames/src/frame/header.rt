@@ -31,7 +31,7 @@ pub(crate) enum Found {
 }
 
 /// The length that the frame at the front declares, once it is there. The errors are those of the first two bytes.
-pub fn declared_len(src: &[u8], server: bool) -> Result<Option<u64>, ProtocolError>
+pub(crate) fn declared_len(src: &[u8], server: bool) -> Result<Option<u64>, ProtocolError>
     ensures { (max : ℕ) → result ≡ declared (head_front (late_reader server max) src.now) }
 {
     match read_header(src, server) {

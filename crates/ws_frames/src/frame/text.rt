@@ -13,7 +13,7 @@ use bytes::BytesMut;
 const MAX_HEADER: usize = 14;
 
 /// Writes a frame: its first byte, its length in the shortest form, the mask, and the payload under it.
-pub fn write_frame(
+pub(crate) fn write_frame(
     dst: &mut BytesMut,
     payload: &[u8],
     op: OpCode,
@@ -24,6 +24,15 @@ pub fn write_frame(
     ensures err { OnErr result (dst.new.items ≡ dst.old.items) }
 {
     dst.reserve(MAX_HEADER + payload.len())?;
+    put_frame(dst, payload, op, finished, mask);
+    Ok(())
+}
+
+/// Writes a frame for which there is room.
+fn put_frame(dst: &mut BytesMut, payload: &[u8], op: OpCode, finished: bool, mask: Option<[u8; 4]>)
+    requires { MAX_HEADER + length payload.now ≤ dst.old.spare }
+    ensures { dst.new.items ≡ dst.old.items ++ written mask finished (opcode_written op) payload.now }
+{
     put_byte(dst, first_byte(op, finished));
     match mask {
         None => {
@@ -36,7 +45,6 @@ pub fn write_frame(
             put_masked(dst, payload, mask);
         }
     }
-    Ok(())
 }
 
 /// The first byte of a frame.
