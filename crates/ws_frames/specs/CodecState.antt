@@ -34,6 +34,10 @@ codec_words codec = codec.words
 abbrev pub with_reading : {R : Type 0} → Bool → Codec R → Codec R
 with_reading reading codec = record codec { reading = reading }
 
+-- the codec, with another limit
+abbrev pub with_limit : {R : Type 0} → ℕ → Codec R → Codec R
+with_limit max_size codec = record codec { max_size = max_size }
+
 -- how many bytes a frame or a broken rule costs
 abbrev pub cost : Parsed → ℕ
 cost waits = 0

@@ -9,3 +9,5 @@ pub mod Written
 pub mod Codec
 pub mod CodecState
 pub mod ParserState
+pub mod Pieces
+pub mod Sent

@@ -8,14 +8,16 @@ mod kind;
 mod mask;
 mod message;
 mod parser;
+mod pieces;
 mod proto;
 mod take;
 
-pub use codec::Codec;
+pub use codec::{Codec, NoWords};
 pub use error::ProtocolError;
 pub use mask::{apply_mask, apply_mask_fast32, mask_from};
 pub use message::{Frame, Item, Message};
 pub use parser::Parser;
+pub use pieces::decoding_goes_on;
 pub use proto::{CloseCode, CloseReason, OpCode, hash_key};
 
 /// The allocator had no memory.

@@ -1,5 +1,5 @@
 //! The texts of frames (RFC 6455, sections 5.2 and 5.3).
-ghost use Rattle.std.specs.Prelude.{◌≡◌, ◌+◌, ◌^◌, ◌<◌, ◌≤◌, [], ◌∷◌, ◌++◌, length, take, drop, None, Some, OnOk, OnErr};
+ghost use Rattle.std.specs.Prelude.{◌≡◌, ◌+◌, ◌^◌, ◌<◌, ◌≤◌, [], ◌∷◌, ◌++◌, length, take, drop, None, Some, true, OnOk, OnErr};
 ghost use Rattle.h1_model.specs.FrameText.{first_byte, length_field, unmask};
 ghost use Rattle.ws_frames.specs.Protocol.{opcode_written};
 ghost use Rattle.ws_frames.specs.Written.{masked_field, written};
@@ -28,8 +28,16 @@ pub(crate) fn write_frame(
     Ok(())
 }
 
+/// Makes room for a frame with this payload, and says whether there was memory for it.
+pub(crate) fn reserve_frame(dst: &mut BytesMut, payload: &[u8]) -> bool
+    ensures items { dst.new.items ≡ dst.old.items }
+    ensures room { result ≡ true → MAX_HEADER + length payload.now ≤ dst.new.spare }
+{
+    dst.reserve(MAX_HEADER + payload.len()).is_ok()
+}
+
 /// Writes a frame for which there is room.
-fn put_frame(dst: &mut BytesMut, payload: &[u8], op: OpCode, finished: bool, mask: Option<[u8; 4]>)
+pub(crate) fn put_frame(dst: &mut BytesMut, payload: &[u8], op: OpCode, finished: bool, mask: Option<[u8; 4]>)
     requires { MAX_HEADER + length payload.now ≤ dst.old.spare }
     ensures { dst.new.items ≡ dst.old.items ++ written mask finished (opcode_written op) payload.now }
 {
