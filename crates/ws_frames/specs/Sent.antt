@@ -51,6 +51,11 @@ mask_drawn server stream = if server then None else Some (to_le_bytes w32 (next_
 abbrev pub words_left : Bool → Stream → Stream
 words_left server stream = if server then stream else (next_u32 stream).1
 
+-- the words that are left behind a message: nothing takes none
+abbrev pub words_after : Bool → model.Message → Stream → Stream
+words_after server (model.frame f) stream = words_left server stream
+words_after server model.nop stream = stream
+
 -- the codec with other words
 abbrev pub with_words : {R : Type 0} → R → Codec R → Codec R
 with_words words codec = record codec { words = words }

@@ -3,7 +3,7 @@ ghost use Rattle.std.specs.Prelude.{◌≡◌, ◌++◌, true, false, OnOk, OnEr
 
 ghost use Rattle.ws_frames.specs.CodecState.{codec_server, codec_limit, codec_reading, codec_sending, codec_words, with_limit, with_reading, Decoded};
 ghost use Rattle.ws_frames.specs.Protocol.{opcode_written};
-ghost use Rattle.ws_frames.specs.Sent.{mask_drawn, words_left, with_words};
+ghost use Rattle.ws_frames.specs.Sent.{mask_drawn, words_left, with_sending, with_words};
 ghost use Rattle.ws_frames.specs.Written.{written};
 
 use crate::error::ProtocolError;
@@ -105,8 +105,22 @@ impl<R> Codec<R> {
 }
 
 impl<R: Rng> Codec<R> {
+    /// A message that is sent is under way.
+    pub(crate) fn is_sending(&self) -> bool
+        ensures { result ≡ codec_sending self.now }
+    {
+        self.sending
+    }
+
+    /// A message that is sent is under way from now on, or none.
+    pub(crate) fn set_sending(&mut self, sending: bool)
+        ensures { self.new ≡ with_sending (codec_words self.old) sending self.old }
+    {
+        self.sending = sending;
+    }
+
     /// Writes one frame, under the next word as its mask where this is a client. Where memory ran out, nothing changes.
-    fn send(
+    pub(crate) fn send(
         &mut self,
         dst: &mut BytesMut,
         payload: &[u8],

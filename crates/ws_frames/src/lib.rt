@@ -10,6 +10,7 @@ mod message;
 mod parser;
 mod pieces;
 mod proto;
+mod send;
 mod take;
 
 pub use codec::{Codec, NoWords};
