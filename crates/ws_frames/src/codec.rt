@@ -1,6 +1,7 @@
 //! Frames from bytes, and messages into bytes.
 ghost use Rattle.std.specs.Prelude.{◌≡◌, ◌++◌, true, false, OnOk, OnErr, IfErr};
 
+ghost use Rattle.rand_core.specs.Steps.{stream_of, steps_u32};
 ghost use Rattle.ws_frames.specs.CodecState.{codec_server, codec_limit, codec_reading, codec_sending, codec_words, with_limit, with_reading, Decoded};
 ghost use Rattle.ws_frames.specs.Protocol.{opcode_written};
 ghost use Rattle.ws_frames.specs.Sent.{mask_drawn, words_left, with_sending, with_words};
@@ -13,7 +14,8 @@ use crate::message::Frame;
 use crate::proto::OpCode;
 use crate::take::take_judged;
 use bytes::BytesMut;
-use rand_core::Rng;
+use rand_core::utils::NextWord;
+use rand_core::{Rng, utils};
 use std::alloc::Global;
 
 /// The most bytes of a payload, unless another number is set.
@@ -32,6 +34,30 @@ pub struct Codec<R> {
 /// No random words: a server needs none.
 #[derive(Clone, Copy, Debug, PartialEq, Eq)]
 pub struct NoWords;
+
+impl NextWord<u32> for NoWords {
+    ghost step = { λ s. (0, s) };
+
+    fn next_word(&mut self) -> u32 {
+        0
+    }
+}
+
+impl Rng for NoWords {
+    ghost stream = { stream_of (steps_u32 (λ s. (0, s))) };
+
+    fn next_u32(&mut self) -> u32 {
+        self.next_word()
+    }
+
+    fn next_u64(&mut self) -> u64 {
+        utils::next_u64_via_u32(self)
+    }
+
+    fn fill_bytes(&mut self, dst: &mut [u8]) {
+        utils::fill_bytes_via_u32(self, dst)
+    }
+}
 
 impl Codec<NoWords> {
     /// A server's codec, which takes payloads of at most 65536 bytes.

@@ -1,5 +1,5 @@
 //! Frames read and written one by one, with no state.
-ghost use Rattle.std.specs.Prelude.{◌≡◌, ℕ, ◌++◌, IfOk, OnOk, OnErr, option_map};
+ghost use Rattle.std.specs.Prelude.{◌≡◌, ℕ, ◌++◌, true, IfOk, OnOk, OnErr, option_map};
 ghost use Rattle.h1_model.specs.FrameText.{close_frame, close_opcode, close_payload};
 ghost use Rattle.ws_frames.specs.Close.{reason_says, CloseSays, lossy_reason};
 ghost use Rattle.ws_frames.specs.Header.{declared};
@@ -14,6 +14,7 @@ use crate::frame::close::{read_any_close, read_close};
 use crate::frame::header::{Found, declared_len, find_frame};
 use crate::frame::text::write_frame;
 use crate::proto::{CloseReason, OpCode};
+use crate::send::close_bytes;
 use crate::take::take_data;
 use bytes::BytesMut;
 use std::alloc::Global;
@@ -81,5 +82,21 @@ impl Parser {
         ensures err { OnErr result (dst.new.items ≡ dst.old.items) }
     {
         write_frame(dst, payload, op, finished, mask)
+    }
+
+    /// Writes a Close with this reason, under a mask if there is one. Where memory ran out, nothing is written.
+    pub fn write_close(
+        alloc: Global,
+        dst: &mut BytesMut,
+        reason: Option<CloseReason>,
+        mask: Option<[u8; 4]>,
+    ) -> Result<(), NoMemory>
+        ensures ok { OnOk result (dst.new.items ≡ dst.old.items ++ written mask true close_opcode (close_payload (option_map reason_says reason))) }
+        ensures err { OnErr result (dst.new.items ≡ dst.old.items) }
+    {
+        match close_bytes(alloc, reason) {
+            Ok(payload) => write_frame(dst, payload.as_slice(), OpCode::Close, true, mask),
+            Err(error) => Err(error),
+        }
     }
 }
