@@ -1,12 +1,11 @@
 -- The payload of a Close.
-use Rattle.std.proofs.Common.{◌≡◌, ℕ, suc, ◌+◌, ◌*◌, ◌<◌, ◌≤◌, Bool, true, false, cond, ◌&&◌, List, [], ◌∷◌, length, take, drop, get_or, nat_eq, ◌==◌, Option, Some, None, Result, Ok, Err, refl, sym, ap, ◌∙◌, subst, arith}
+use Rattle.std.proofs.Common.{◌≡◌, ℕ, ◌+◌, ◌*◌, ◌<◌, ◌≤◌, Bool, true, false, cond, ◌&&◌, List, [], ◌∷◌, length, drop, get_or, nat_eq, Some, Ok, Err, refl, sym, ap, ◌∙◌, arith}
 use Rattle.std.proofs.lemmas.Bool.{eqb-true}
 use Rattle.std.specs.Str.{IsUtf8, is_utf8}
 use Rattle.std.proofs.lemmas.Str.{IsUtf8-from_is_utf8, is_utf8-from_IsUtf8}
 use Rattle.h1_model.specs.Frame as frames
-use Rattle.h1_model.specs.FrameText.{big_endian, is_close_code, description_of, close_frame}
+use Rattle.h1_model.specs.FrameText.{is_close_code, description_of, close_frame}
 use Rattle.ws_frames.specs.declared.proto.CloseCode.{CloseCode}
-use Rattle.ws_frames.specs.declared.proto.CloseCode.TheVariants as codes
 use Rattle.ws_frames.specs.Protocol.{close_number, close_code}
 use Rattle.ws_frames.specs.Close.{reason_frame}
 

@@ -1,10 +1,10 @@
 -- What is read of a header is what the definitions say of it.
-use Rattle.std.proofs.Common.{◌≡◌, ℕ, zero, suc, ◌+◌, ◌-◌, ◌<◌, ◌≤◌, Bool, true, false, cond, not, ◌&&◌, List, [], ◌∷◌, length, take, drop, get_or, nat_lt, nat_le, nat_eq, ◌/◌, ◌%◌, ◌≢◌, Option, Some, None, Result, Ok, Err, refl, sym, ap, ◌∙◌, subst, arith, length-drop, drop-drop, le-ltb}
+use Rattle.std.proofs.Common.{◌≡◌, ℕ, ◌+◌, ◌-◌, ◌<◌, ◌≤◌, Bool, true, false, cond, not, ◌&&◌, List, [], ◌∷◌, length, take, drop, get_or, nat_lt, nat_eq, ◌/◌, ◌%◌, ◌≢◌, Option, Some, None, Result, Ok, Err, refl, sym, ap, ◌∙◌, subst, arith, drop-drop, le-ltb}
 use Rattle.std.proofs.lemmas.Bool.{lt-ltb}
 use Rattle.std.specs.Option.{option_or}
 use Rattle.h1_model.specs.Frame as frames
 use Rattle.h1_model.specs.Frame.{unmasked_frame, masked_frame, invalid_reserved_bits, overflow, invalid_length}
-use Rattle.h1_model.specs.FrameText.{Reader, Opcode, continuation_opcode, text_opcode, binary_opcode, close_opcode, ping_opcode, pong_opcode, unknown_opcode, opcode_of, opcode_error, FrameStart, frame_start, start_error, length_bytes, mask_bytes, FrameHeader, frame_header, unmask, payload_of, is_control, is_never_whole}
+use Rattle.h1_model.specs.FrameText.{Reader, Opcode, continuation_opcode, text_opcode, binary_opcode, close_opcode, ping_opcode, pong_opcode, unknown_opcode, opcode_error, FrameStart, frame_start, start_error, length_bytes, mask_bytes, FrameHeader, frame_header, unmask, payload_of, is_control}
 use Rattle.h1_model.specs.Limits.{MAX_FRAME, MAX_CONTROL_PAYLOAD}
 use Rattle.h1_model.specs.Laws.FrameSize.{frame_length}
 use Rattle.ws_frames.specs.declared.proto.OpCode.{OpCode}
@@ -14,7 +14,7 @@ use Rattle.ws_frames.specs.declared.error.ProtocolError.TheVariants as errors
 use Rattle.ws_frames.specs.declared.frame.header.Header.{Header}
 use Rattle.ws_frames.specs.Protocol.{code_of, opcode_written}
 use Rattle.ws_frames.specs.Refusal.{refusal}
-use Rattle.ws_frames.specs.Parsed.{late_reader, HeadFront, short, broken, known, head_behind, head_front, Parsed, waits, refuses, takes, parsed_long, parsed_body, parsed_header, parsed_head, parsed}
+use Rattle.ws_frames.specs.Parsed.{late_reader, HeadFront, short, broken, known, head_behind, head_front, waits, refuses, takes, parsed_long, parsed_body, parsed_header}
 use Rattle.ws_frames.specs.Header.{start_read, length_there, header_kept, head_read, payload_at, IsReadable, LiesAt, RefusedAt}
 
 -- ---- the header
@@ -144,7 +144,7 @@ there_parsed max header bytes may there =
     let never : nat_lt MAX_FRAME (frame_length header) ≡ false = le-ltb MAX_FRAME (frame_length header) may in
     let enough : nat_lt (length bytes) (frame_length header) ≡ false = le-ltb (length bytes) (frame_length header) there in
     λ i. cond (never i) (refuses overflow 0) (cond (enough i) waits
-        (cond (nat_lt max header.payload_length) (refuses overflow (frame_length header)) (parsed_body header (drop (2 + length_bytes header.start) bytes))))
+    (cond (nat_lt max header.payload_length) (refuses overflow (frame_length header)) (parsed_body header (drop (2 + length_bytes header.start) bytes))))
 
 -- above the limit
 pub wide_parsed : (max : ℕ) (header : FrameHeader) (bytes : List ℕ) → frame_length header ≤ MAX_FRAME → frame_length header ≤ length bytes
@@ -173,7 +173,7 @@ pub long_parsed : (header : FrameHeader) (body : List ℕ) → is_control header
 long_parsed header body control long =
     let above = lt-ltb MAX_CONTROL_PAYLOAD header.payload_length long in
     λ i. cond (control i && above i) (parsed_long header.start.opcode header.payload_length (frame_length header))
-        (takes header.start.is_final header.start.opcode (payload_of header body) (frame_length header))
+    (takes header.start.is_final header.start.opcode (payload_of header body) (frame_length header))
 
 -- its opcode is one of three
 pub close_only : (op : Opcode) → code_of op ≡ codes.Close → op ≡ close_opcode
@@ -302,7 +302,7 @@ plain_lies server max header bytes readable may there small plain =
     record {
       taken = body_parsed max header bytes may there small
           ∙ ap (λ (t : Bool). cond t (parsed_long header.start.opcode header.payload_length (frame_length header))
-              (takes header.start.is_final header.start.opcode (payload_of header body) (frame_length header))) plain
+          (takes header.start.is_final header.start.opcode (payload_of header body) (frame_length header))) plain
           ∙ (λ i. takes header.start.is_final (op i) (payload i) (frame_length header));
       within = there;
       masked = λ (e : server ≡ true).

@@ -1,9 +1,9 @@
 -- The kind of a frame says what it is.
-use Rattle.std.proofs.Common.{◌≡◌, ◌≢◌, Bool, true, false, Ok, Err, refl}
+use Rattle.std.proofs.Common.{◌≢◌, Bool, true, false, refl}
 use Rattle.ws_frames.specs.declared.error.ProtocolError.TheVariants as errors
 use Rattle.ws_frames.specs.Refusal.{refusal}
 use Rattle.h1_model.specs.Frame as frames
-use Rattle.h1_model.specs.FrameText.{Opcode, continuation_opcode, text_opcode, binary_opcode, close_opcode, ping_opcode, pong_opcode, unknown_opcode, opcode_number}
+use Rattle.h1_model.specs.FrameText.{Opcode, continuation_opcode, text_opcode, binary_opcode, close_opcode, ping_opcode, pong_opcode, unknown_opcode}
 use Rattle.ws_frames.specs.Judged.{judged_taken}
 use Rattle.ws_frames.specs.Codec.{kind_judged, KindSays}
 

@@ -21,7 +21,7 @@ unmask_append mask k [] ys = ap (λ (n : ℕ). unmask mask n ys) (omega arith)
 unmask_append mask k (x ∷ xs) ys =
     let e : (k + 1) + length xs ≡ k + suc (length xs) = omega arith in
     let others : unmask mask (k + 1) (xs ++ ys) ≡ unmask mask (k + 1) xs ++ unmask mask (k + suc (length xs)) ys
-        = subst (λ (n : ℕ). unmask mask (k + 1) (xs ++ ys) ≡ unmask mask (k + 1) xs ++ unmask mask n ys) e (unmask_append mask (k + 1) xs ys) in
+    = subst (λ (n : ℕ). unmask mask (k + 1) (xs ++ ys) ≡ unmask mask (k + 1) xs ++ unmask mask n ys) e (unmask_append mask (k + 1) xs ys) in
     ap (λ (t : List ℕ). bit_xor x (get_or mask (k % 4) 0) ∷ t) others
 
 -- only the place within the mask counts
@@ -69,10 +69,10 @@ masked_further mask all at n before ys within here so_far =
     let parts : take (at + n) all ≡ take at all ++ take n (drop at all) = take-add at n all in
     let long : length (take at all) ≡ at = length-take-le at all (omega arith) in
     let there : unmask mask (0 + length (take at all)) (take n (drop at all)) ≡ ys
-        = ap (λ (k : ℕ). unmask mask k (take n (drop at all))) (omega (arith, long)) ∙ sym here in
+    = ap (λ (k : ℕ). unmask mask k (take n (drop at all))) (omega (arith, long)) ∙ sym here in
     let both : unmask mask 0 (take (at + n) all) ≡ before ++ ys
-        = ap (unmask mask 0) parts ∙ unmask_append mask 0 (take at all) (take n (drop at all))
-        ∙ ap (λ (t : List ℕ). unmask mask 0 (take at all) ++ t) there ∙ ap (λ (t : List ℕ). t ++ ys) (sym so_far) in
+    = ap (unmask mask 0) parts ∙ unmask_append mask 0 (take at all) (take n (drop at all))
+    ∙ ap (λ (t : List ℕ). unmask mask 0 (take at all) ++ t) there ∙ ap (λ (t : List ℕ). t ++ ys) (sym so_far) in
     sym (append_assoc before ys (drop (at + n) all)) ∙ ap (λ (t : List ℕ). t ++ drop (at + n) all) (sym both)
 
 -- the parts of bytes that are masked so far
@@ -100,12 +100,12 @@ chunk_masked mask all bytes at within four even so =
     let long : length (take 32 (drop at all)) ≡ 32 = omega (arith, length-take-le 32 (drop at all) (omega (arith, length-drop at all))) in
     let ys = zip2 bit_xor (chunk at 32 bytes) (lanes_of mask) in
     let here : ys ≡ unmask mask at (take 32 (drop at all))
-        = ap (λ (t : List ℕ). zip2 bit_xor t (lanes_of mask)) load ∙ lanes_unmask mask at (take 32 (drop at all)) four even long in
+    = ap (λ (t : List ℕ). zip2 bit_xor t (lanes_of mask)) load ∙ lanes_unmask mask at (take 32 (drop at all)) four even long in
     let stored_long : length ys ≡ 32 = ap length here ∙ length_unmask mask at (take 32 (drop at all)) ∙ long in
     let behind : drop (length ys) (drop at bytes) ≡ drop (at + 32) all
-        = ap (λ (n : ℕ). drop n (drop at bytes)) stored_long ∙ ap (drop 32) (rest_so_far mask all bytes at so) ∙ drop-drop 32 at all in
+    = ap (λ (n : ℕ). drop n (drop at bytes)) stored_long ∙ ap (drop 32) (rest_so_far mask all bytes at so) ∙ drop-drop 32 at all in
     let stored : put_chunk at bytes ys ≡ take at bytes ++ (ys ++ drop (at + 32) all)
-        = put_chunk_is at bytes ys (omega arith) ∙ ap (λ (t : List ℕ). take at bytes ++ (ys ++ t)) behind in
+    = put_chunk_is at bytes ys (omega arith) ∙ ap (λ (t : List ℕ). take at bytes ++ (ys ++ t)) behind in
     record {
       within = inside;
       so_far = stored ∙ masked_further mask all at 32 (take at bytes) ys inside here (front_so_far mask all bytes at so);
@@ -126,11 +126,11 @@ byte_masked mask all bytes at within so =
     let same : drop at bytes ≡ get_or all at 0 ∷ drop (at + 1) all = rest_so_far mask all bytes at so ∙ rest in
     let here_on : at ≡ at + 0 = omega arith in
     let byte : get_or bytes at 0 ≡ get_or all at 0
-        = ap (λ (n : ℕ). get_or bytes n 0) here_on ∙ sym (get_or-drop at bytes 0 0) ∙ ap (λ (t : List ℕ). get_or t 0 0) same in
+    = ap (λ (n : ℕ). get_or bytes n 0) here_on ∙ sym (get_or-drop at bytes 0 0) ∙ ap (λ (t : List ℕ). get_or t 0 0) same in
     let m = get_or mask (at % 4) 0 in
     let stored : set bytes at (bit_xor (get_or bytes at 0) m) ≡ before ++ bit_xor (get_or all at 0) m ∷ drop (at + 1) all
-        = ap (λ (b : ℕ). set bytes at (bit_xor b m)) byte ∙ ap (λ (t : List ℕ). set t at (bit_xor (get_or all at 0) m)) parts
-        ∙ set_at before (get_or all at 0) (drop (at + 1) all) (bit_xor (get_or all at 0) m) at long in
+    = ap (λ (b : ℕ). set bytes at (bit_xor b m)) byte ∙ ap (λ (t : List ℕ). set t at (bit_xor (get_or all at 0) m)) parts
+    ∙ set_at before (get_or all at 0) (drop (at + 1) all) (bit_xor (get_or all at 0) m) at long in
     let here : bit_xor (get_or all at 0) m ∷ [] ≡ unmask mask at (take 1 (drop at all)) = ap (λ (t : List ℕ). unmask mask at (take 1 t)) (sym rest) in
     record {
       within = inside;
@@ -158,7 +158,7 @@ unfolding unmask
 unmask_turned mask turned from k [] same = refl
 unmask_turned mask turned from k (x ∷ xs) same =
     let others : unmask turned (k + 1) xs ≡ unmask mask ((from + k) + 1) xs
-        = unmask_turned mask turned from (k + 1) xs same ∙ ap (λ (n : ℕ). unmask mask n xs) (omega arith) in
+    = unmask_turned mask turned from (k + 1) xs same ∙ ap (λ (n : ℕ). unmask mask n xs) (omega arith) in
     let here : bit_xor x (get_or turned (k % 4) 0) ≡ bit_xor x (get_or mask ((from + k) % 4) 0) = ap (bit_xor x) (same k) in
     λ i. here i ∷ others i
 
@@ -180,5 +180,5 @@ turned_at mask r (suc (suc (suc (suc i)))) below = absurd (omega arith)
 pub turned_unmask : (mask : List ℕ) (r from : ℕ) (xs : List ℕ) → from % 4 ≡ r → unmask (turned_by r mask) 0 xs ≡ unmask mask from xs
 turned_unmask mask r from xs e =
     let same : (j : ℕ) → get_or (turned_by r mask) (j % 4) 0 ≡ get_or mask ((from + j) % 4) 0
-        = λ (j : ℕ). turned_at mask r (j % 4) (omega arith) ∙ ap (λ (n : ℕ). get_or mask n 0) (omega (arith, e)) in
+    = λ (j : ℕ). turned_at mask r (j % 4) (omega arith) ∙ ap (λ (n : ℕ). get_or mask n 0) (omega (arith, e)) in
     unmask_turned mask (turned_by r mask) from 0 xs same ∙ ap (λ (n : ℕ). unmask mask n xs) (omega arith)

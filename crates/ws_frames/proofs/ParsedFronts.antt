@@ -1,13 +1,13 @@
 -- What is taken from the front of bytes, judged, is the front of the definitions.
-use Rattle.std.proofs.Common.{◌≡◌, ℕ, zero, suc, ◌+◌, ◌<◌, ◌≤◌, Bool, true, false, cond, ◌&&◌, List, [], ◌∷◌, length, drop, take, nat_lt, Option, Some, None, Ok, Err, refl, sym, ap, ◌∙◌, subst, arith, length-drop, ltb-false, ltb-true, le-ltb}
+use Rattle.std.proofs.Common.{◌≡◌, ℕ, suc, ◌+◌, ◌<◌, ◌≤◌, Bool, true, false, cond, ◌&&◌, List, [], ◌∷◌, length, drop, take, nat_lt, Option, Some, None, refl, sym, ap, ◌∙◌, subst, arith, length-drop, ltb-false, ltb-true, le-ltb}
 use Rattle.std.proofs.lemmas.Bool.{lt-ltb}
 use Rattle.std.proofs.lemmas.List.{length-take-le}
-use Rattle.h1_model.specs.Frame.{Frame, ProtocolError, overflow, invalid_length}
-use Rattle.h1_model.specs.FrameText.{Reader, when_whole, Opcode, continuation_opcode, text_opcode, binary_opcode, close_opcode, ping_opcode, pong_opcode, unknown_opcode, FrameStart, frame_start, start_error, length_bytes, mask_bytes, FrameHeader, frame_header, unmask, payload_of, is_control, long_control_frame, judged_frame, finished_frame, unfinished_frame, Front, partial, whole, breaks, unless_broken, front_of_judged, is_never_whole, front_of_body, front_of_header, front_of_start, front_frame}
+use Rattle.h1_model.specs.Frame.{ProtocolError, overflow}
+use Rattle.h1_model.specs.FrameText.{Opcode, continuation_opcode, text_opcode, binary_opcode, close_opcode, ping_opcode, pong_opcode, unknown_opcode, FrameStart, frame_start, start_error, length_bytes, mask_bytes, FrameHeader, frame_header, unmask, payload_of, is_control, long_control_frame, judged_frame, finished_frame, unfinished_frame, partial, breaks, unless_broken, front_of_judged, is_never_whole, front_of_body, front_of_header, front_of_start, front_frame}
 use Rattle.h1_model.specs.Limits.{MAX_CONTROL_PAYLOAD}
 use Rattle.h1_model.specs.Laws.FrameSize.{frame_length}
-use Rattle.ws_frames.specs.Parsed.{late_reader, HeadFront, short as too_few, broken, known, head_behind, head_front, Parsed, waits, refuses, takes, parsed_long, parsed_body, parsed_header, parsed_head, parsed}
-use Rattle.ws_frames.specs.Judged.{judged_taken, front_of_parsed}
+use Rattle.ws_frames.specs.Parsed.{late_reader, short as too_few, known, head_behind, waits, refuses, takes, parsed_long, parsed_body, parsed_head, parsed}
+use Rattle.ws_frames.specs.Judged.{front_of_parsed}
 use Rattle.ws_frames.proofs.MaskLemmas.{length_unmask}
 
 -- a payload that is there has its length
@@ -56,9 +56,9 @@ body_judged u header body enough =
     let payload = payload_of header body in
     let op = header.start.opcode in
     ap (λ (n : ℕ). front_of_judged (frame_length header) (cond (is_control op && nat_lt MAX_CONTROL_PAYLOAD n) (long_control_frame op n)
-        (cond header.start.is_final (finished_frame u op payload) (unfinished_frame u op payload)))) (payload_there header body enough)
+    (cond header.start.is_final (finished_frame u op payload) (unfinished_frame u op payload)))) (payload_there header body enough)
     ∙ test_judged u (is_control op && nat_lt MAX_CONTROL_PAYLOAD header.payload_length) header.start.is_final op payload header.payload_length
-        (frame_length header) (left_of_and (is_control op) (nat_lt MAX_CONTROL_PAYLOAD header.payload_length))
+    (frame_length header) (left_of_and (is_control op) (nat_lt MAX_CONTROL_PAYLOAD header.payload_length))
 
 -- a test of two numbers, and of the two with d added
 same_test : (a b d : ℕ) → nat_lt a b ≡ nat_lt (d + a) (d + b)
@@ -86,14 +86,14 @@ header_judged : (server u never : Bool) (max_size : ℕ) (header : FrameHeader) 
     → header.header_length ≡ k + mask_bytes header.start → length bytes ≡ k + length body → drop k bytes ≡ body
     → cond never (breaks overflow) (front_of_body (late_reader server max_size) u header body)
     ≡ front_of_parsed u (cond never (refuses overflow 0) (cond (nat_lt (length bytes) (frame_length header)) waits
-        (cond (nat_lt max_size header.payload_length) (refuses overflow (frame_length header)) (parsed_body header (drop k bytes)))))
+    (cond (nat_lt max_size header.payload_length) (refuses overflow (frame_length header)) (parsed_body header (drop k bytes)))))
 header_judged server u true max_size header bytes body k lens long rest = refl
 header_judged server u false max_size header bytes body k lens long rest =
     let n = header.payload_length in
     let m = mask_bytes header.start in
     let to : k + (m + n) ≡ frame_length header = omega (arith, lens) in
     let same : nat_lt (length body) (m + n) ≡ nat_lt (length bytes) (frame_length header)
-        = same_test (length body) (m + n) k ∙ ap (λ (a : ℕ). nat_lt a (k + (m + n))) (sym long) ∙ ap (nat_lt (length bytes)) to in
+    = same_test (length body) (m + n) k ∙ ap (λ (a : ℕ). nat_lt a (k + (m + n))) (sym long) ∙ ap (nat_lt (length bytes)) to in
     let wide = nat_lt max_size n in
     enough_judged server u wide max_size header body (nat_lt (length body) (m + n)) (ltb-false (length body) (m + n))
     ∙ ap (λ (b : Bool). front_of_parsed u (cond b waits (cond wide (refuses overflow (frame_length header)) (parsed_body header body)))) same

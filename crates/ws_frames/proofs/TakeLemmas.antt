@@ -1,5 +1,5 @@
 -- A payload whose mask was taken off where it lies, and put on again.
-use Rattle.std.proofs.Common.{◌≡◌, ℕ, ◌+◌, ◌-◌, ◌≤◌, Bool, true, false, cond, List, ◌++◌, length, take, drop, refl, sym, ap, ◌∙◌, subst, arith, length-append, length-drop, append_assoc, drop-drop}
+use Rattle.std.proofs.Common.{◌≡◌, ℕ, ◌+◌, ◌-◌, ◌≤◌, Bool, true, false, List, ◌++◌, length, take, drop, refl, sym, ap, ◌∙◌, arith, length-append, length-drop, drop-drop}
 use Rattle.std.proofs.lemmas.List.{length-take-le, take-append-drop, drop-take}
 use Rattle.std.proofs.Math.Seq.{take-append_seam, drop-append_seam}
 use Rattle.h1_model.specs.FrameText.{unmask}
@@ -45,14 +45,20 @@ rest_kept from n payload bytes within long =
 pub length_kept : (from n : ℕ) (payload bytes : List ℕ) → from + n ≤ length bytes → length payload ≡ n
     → length (with_payload from payload n bytes) ≡ length bytes
 length_kept from n payload bytes within long =
-    omega (arith, length-append (take from bytes) (payload ++ drop (from + n) bytes), length-append payload (drop (from + n) bytes),
-    length-take-le from bytes (omega arith), length-drop (from + n) bytes, long)
+    omega (
+      arith,
+      length-append (take from bytes) (payload ++ drop (from + n) bytes),
+      length-append payload (drop (from + n) bytes),
+      length-take-le from bytes (omega arith),
+      length-drop (from + n) bytes,
+      long,
+    )
 
 -- the bytes in their parts
 pub parts_join : (from n : ℕ) (bytes : List ℕ) → with_payload from (take n (drop from bytes)) n bytes ≡ bytes
 parts_join from n bytes =
     let rest : take n (drop from bytes) ++ drop (from + n) bytes ≡ drop from bytes
-        = ap (λ (t : List ℕ). take n (drop from bytes) ++ t) (sym (drop-drop n from bytes)) ∙ take-append-drop n (drop from bytes) in
+    = ap (λ (t : List ℕ). take n (drop from bytes) ++ t) (sym (drop-drop n from bytes)) ∙ take-append-drop n (drop from bytes) in
     ap (λ (t : List ℕ). take from bytes ++ t) rest ∙ take-append-drop from bytes
 
 -- the mask is the last four bytes of the front
@@ -70,7 +76,7 @@ payload_back true from n bytes within masked =
     let new = with_payload from payload n bytes in
     let four : 4 ≤ from = masked refl in
     let same : take 4 (drop (from - 4) new) ≡ mask
-        = mask_in_front from new four ∙ ap (drop (from - 4)) (front_kept from n payload bytes within) ∙ sym (mask_in_front from bytes four) in
+    = mask_in_front from new four ∙ ap (drop (from - 4)) (front_kept from n payload bytes within) ∙ sym (mask_in_front from bytes four) in
     ap (λ (m : List ℕ). unmask m 0 (take n (drop from new))) same
     ∙ ap (unmask mask 0) (payload_there from n payload bytes within (payload_long true from n bytes within))
     ∙ masked_twice mask 0 (take n (drop from bytes))

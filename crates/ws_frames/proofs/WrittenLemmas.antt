@@ -1,5 +1,5 @@
 -- The text of a length with the bit of the mask.
-use Rattle.std.proofs.Common.{◌≡◌, ℕ, ◌+◌, ◌<◌, ◌≤◌, Bool, false, cond, List, [], ◌∷◌, nat_lt, ap, ◌∙◌, arith, le-ltb}
+use Rattle.std.proofs.Common.{◌≡◌, ℕ, ◌+◌, ◌<◌, ◌≤◌, Bool, false, cond, [], ◌∷◌, nat_lt, ap, arith, le-ltb}
 use Rattle.std.proofs.lemmas.Bool.{lt-ltb}
 use Rattle.std.specs.Int.{w16, w64, to_be_bytes}
 use Rattle.h1_model.specs.FrameText.{length_field}

@@ -1,9 +1,8 @@
 -- What a codec reads.
-use Rattle.std.specs.Prelude.{◌≡◌, ◌≢◌, ℕ, ◌+◌, Bool, true, false, List, ◌++◌, take, drop, string_bytes, if◌then◌else◌, Option, Some, None, option_map, Result, Ok, Err}
+use Rattle.std.specs.Prelude.{◌≡◌, ℕ, ◌+◌, Bool, true, false, List, ◌++◌, take, drop, if◌then◌else◌, option_map, Result, Ok, Err}
 use Rattle.h1_model.specs.Frame as model
 use Rattle.h1_model.specs.FrameText.{close_frame, Opcode, continuation_opcode, text_opcode, binary_opcode, close_opcode, ping_opcode, pong_opcode, unknown_opcode, opcode_of, opcode_number}
 use Rattle.ws_frames.specs.Protocol.{code_of}
-use Rattle.bytes.specs.Filled.{Filled}
 use Rattle.ws_frames.specs.declared.error.ProtocolError.{ProtocolError}
 use Rattle.ws_frames.specs.declared.error.ProtocolError.TheVariants as errors
 use Rattle.ws_frames.specs.declared.message.Item.{Item}
@@ -12,9 +11,8 @@ use Rattle.ws_frames.specs.declared.message.Frame.{Frame}
 use Rattle.ws_frames.specs.declared.message.Frame.TheVariants as frames
 use Rattle.ws_frames.specs.declared.kind.Kind.{Kind}
 use Rattle.ws_frames.specs.declared.kind.Kind.TheVariants as kinds
-use Rattle.ws_frames.specs.Refusal.{refusal, UnlessNoMemory}
+use Rattle.ws_frames.specs.Refusal.{UnlessNoMemory}
 use Rattle.ws_frames.specs.Close.{reason_says, ErrorSays}
-use Rattle.ws_frames.specs.Header.{payload_at}
 
 -- a fragment
 abbrev pub item_says : Item → model.Frame

@@ -54,7 +54,7 @@ Decoded server max_size under_way bytes (Ok (Some frame)) after rest =
 Decoded server max_size under_way bytes (Err e) after rest =
     (after ≡ under_way) × (e ≡ errors.NoMemory → rest ≡ bytes)
     × UnlessNoMemory e ((rule : model.ProtocolError) × (front_frame (late_reader server max_size) under_way bytes ≡ breaks rule)
-        × (e ≡ refusal rule) × (rest ≡ drop (cost (parsed server max_size bytes)) bytes))
+    × (e ≡ refusal rule) × (rest ≡ drop (cost (parsed server max_size bytes)) bytes))
 
 -- the same of a frame that was found, which is taken or breaks a rule
 abbrev pub JudgedTaken : Bool → Result model.Frame model.ProtocolError → ℕ → List ℕ → Result (Frame × Bool) ProtocolError → List ℕ → Type 0

@@ -1,5 +1,5 @@
 -- How far a payload is masked.
-use Rattle.std.specs.Prelude.{◌≡◌, ℕ, ◌≤◌, List, [], ◌∷◌, ◌++◌, length, take, drop}
+use Rattle.std.specs.Prelude.{◌≡◌, ℕ, ◌≤◌, List, ◌++◌, length, take, drop}
 use Rattle.h1_model.specs.FrameText.{unmask}
 
 -- the mask eight times

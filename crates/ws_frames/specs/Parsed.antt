@@ -1,5 +1,5 @@
 -- A frame at the front of bytes, before its place among fragments and the payload of a Close are judged.
-use Rattle.std.specs.Prelude.{◌≡◌, ℕ, ◌+◌, Bool, true, ◌&&◌, List, [], ◌∷◌, length, drop, nat_lt, if◌then◌else◌, Option, Some, None}
+use Rattle.std.specs.Prelude.{ℕ, ◌+◌, Bool, true, ◌&&◌, List, [], ◌∷◌, length, drop, nat_lt, if◌then◌else◌, Option, Some, None}
 use Rattle.h1_model.specs.Frame as model
 use Rattle.h1_model.specs.Frame.{overflow, invalid_length}
 use Rattle.h1_model.specs.FrameText.{Reader, when_whole, Opcode, close_opcode, FrameStart, frame_start, start_error, length_bytes, FrameHeader, frame_header, payload_of, is_control, is_never_whole}

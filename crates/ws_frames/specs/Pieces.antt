@@ -1,5 +1,5 @@
 -- The frames of bytes that may come in pieces.
-use Rattle.std.specs.Prelude.{◌≡◌, ℕ, Bool, List, [], ◌∷◌, ◌++◌, drop, Option, Some, None}
+use Rattle.std.specs.Prelude.{◌≡◌, ℕ, Bool, List, [], ◌∷◌, drop, Option}
 use Rattle.h1_model.specs.Frame.{Frame, ProtocolError}
 use Rattle.h1_model.specs.FrameText.{Reader, front_frame, whole, StopsWith, is_under_way}
 

@@ -1,5 +1,5 @@
 -- What the errors of reading say.
-use Rattle.std.specs.Prelude.{ℕ, ◌≢◌}
+use Rattle.std.specs.Prelude.{◌≢◌}
 use Rattle.h1_model.specs.Frame as model
 use Rattle.h1_model.specs.FrameText.{opcode_of}
 use Rattle.ws_frames.specs.declared.error.ProtocolError.{ProtocolError}

@@ -1,6 +1,5 @@
 //! Frames from bytes, and messages into bytes.
 ghost use Rattle.std.specs.Prelude.{◌≡◌, ◌++◌, true, false, OnOk, OnErr, IfErr};
-
 ghost use Rattle.rand_core.specs.Steps.{stream_of, steps_u32};
 ghost use Rattle.ws_frames.specs.CodecState.{codec_server, codec_limit, codec_reading, codec_sending, codec_words, with_limit, with_reading, Decoded};
 ghost use Rattle.ws_frames.specs.Protocol.{opcode_written};
@@ -107,7 +106,11 @@ impl<R: Drop> Codec<R> {
 impl<R> Codec<R> {
     /// The next frame, once it is whole. A frame above the limit is refused once it is whole, and dropped. Where memory
     /// ran out, codec and buffer are as before.
-    pub fn decode(&mut self, alloc: Global, src: &mut BytesMut) -> Result<Option<Frame>, ProtocolError>
+    pub fn decode(
+        &mut self,
+        alloc: Global,
+        src: &mut BytesMut,
+    ) -> Result<Option<Frame>, ProtocolError>
         ensures frame { Decoded (codec_server self.old) (codec_limit self.old) (codec_reading self.old) src.old.items result (codec_reading self.new) src.new.items }
         ensures others { self.new ≡ with_reading (codec_reading self.new) self.old }
     {
@@ -118,7 +121,15 @@ impl<R> Codec<R> {
                 Err(error)
             }
             Found::Takes(finished, op, header_len, payload_len) => {
-                match take_judged(alloc, src, self.server, self.reading, (finished, op), header_len, payload_len) {
+                match take_judged(
+                    alloc,
+                    src,
+                    self.server,
+                    self.reading,
+                    (finished, op),
+                    header_len,
+                    payload_len,
+                ) {
                     Ok((frame, reading)) => {
                         self.reading = reading;
                         Ok(Some(frame))

@@ -57,14 +57,20 @@ impl Parser {
     }
 
     /// The reason that the payload of a Close gives, if it isn't empty: a code that may be sent, and a text of UTF-8.
-    pub fn try_parse_close_payload(alloc: Global, payload: &[u8]) -> Result<Option<CloseReason>, ProtocolError>
+    pub fn try_parse_close_payload(
+        alloc: Global,
+        payload: &[u8],
+    ) -> Result<Option<CloseReason>, ProtocolError>
         ensures { CloseSays result (close_frame payload.now) }
     {
         read_close(alloc, payload)
     }
 
     /// The reason that a payload gives, whatever its code; U+FFFD stands for what is no UTF-8. There is none below two bytes.
-    pub fn parse_close_payload(alloc: Global, payload: &[u8]) -> Result<Option<CloseReason>, NoMemory>
+    pub fn parse_close_payload(
+        alloc: Global,
+        payload: &[u8],
+    ) -> Result<Option<CloseReason>, NoMemory>
         ensures { IfOk result (λ reason. option_map reason_says reason ≡ lossy_reason payload.now) }
     {
         read_any_close(alloc, payload)

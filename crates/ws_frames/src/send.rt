@@ -22,7 +22,12 @@ use std::alloc::Global;
 impl<R: Rng> Codec<R> {
     /// Writes a message. A first fragment inside a message that is sent is refused, and any other fragment outside one;
     /// a whole message may stand between fragments. After an error codec and bytes are as before.
-    pub fn encode(&mut self, alloc: Global, item: Message, dst: &mut BytesMut) -> Result<(), ProtocolError>
+    pub fn encode(
+        &mut self,
+        alloc: Global,
+        item: Message,
+        dst: &mut BytesMut,
+    ) -> Result<(), ProtocolError>
         ensures text { OnOk result (dst.new.items
             ≡ dst.old.items ++ message_written (mask_drawn (codec_server self.old) (R.stream (codec_words self.old))) (message_says item)) }
         ensures allowed { OnOk result (send_error (codec_sending self.old) (message_says item) ≡ None) }
@@ -66,7 +71,12 @@ impl<R: Rng> Codec<R> {
     }
 
     /// Writes the first fragment of a message.
-    fn send_first(&mut self, dst: &mut BytesMut, payload: &[u8], op: OpCode) -> Result<(), ProtocolError>
+    fn send_first(
+        &mut self,
+        dst: &mut BytesMut,
+        payload: &[u8],
+        op: OpCode,
+    ) -> Result<(), ProtocolError>
         ensures text { OnOk result (dst.new.items
             ≡ dst.old.items ++ written (mask_drawn (codec_server self.old) (R.stream (codec_words self.old))) false (opcode_written op) payload.now) }
         ensures words { OnOk result (R.stream (codec_words self.new) ≡ words_left (codec_server self.old) (R.stream (codec_words self.old))) }
@@ -89,7 +99,12 @@ impl<R: Rng> Codec<R> {
     }
 
     /// Writes a fragment that goes on with a message, or ends it.
-    fn send_next(&mut self, dst: &mut BytesMut, payload: &[u8], is_last: bool) -> Result<(), ProtocolError>
+    fn send_next(
+        &mut self,
+        dst: &mut BytesMut,
+        payload: &[u8],
+        is_last: bool,
+    ) -> Result<(), ProtocolError>
         ensures text { OnOk result (dst.new.items
             ≡ dst.old.items ++ written (mask_drawn (codec_server self.old) (R.stream (codec_words self.old))) is_last (opcode_written OpCode.Continue) payload.now) }
         ensures words { OnOk result (R.stream (codec_words self.new) ≡ words_left (codec_server self.old) (R.stream (codec_words self.old))) }

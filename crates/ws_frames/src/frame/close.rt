@@ -10,7 +10,10 @@ use crate::proto::{CloseCode, CloseReason};
 use std::alloc::Global;
 
 /// The reason that a payload gives, if it isn't empty.
-pub(crate) fn read_close(alloc: Global, payload: &[u8]) -> Result<Option<CloseReason>, ProtocolError>
+pub(crate) fn read_close(
+    alloc: Global,
+    payload: &[u8],
+) -> Result<Option<CloseReason>, ProtocolError>
     ensures { CloseSays result (close_frame payload.now) }
 {
     match payload {
@@ -21,7 +24,11 @@ pub(crate) fn read_close(alloc: Global, payload: &[u8]) -> Result<Option<CloseRe
 }
 
 /// The reason of this code and this text.
-fn read_reason(alloc: Global, number: u16, text: &[u8]) -> Result<Option<CloseReason>, ProtocolError>
+fn read_reason(
+    alloc: Global,
+    number: u16,
+    text: &[u8],
+) -> Result<Option<CloseReason>, ProtocolError>
     ensures { CloseSays result (reason_frame number text.now) }
 {
     if !is_close_code(number) {

@@ -69,8 +69,14 @@ fn find_payload(src: &[u8], max_size: usize, header: Header) -> Found
     if payload_len > MAX_CONTROL_PAYLOAD {
         match header.op {
             OpCode::Close => return Found::Takes(true, OpCode::Close, frame_len, 0),
-            OpCode::Ping => return Found::Refuses(ProtocolError::InvalidLength(payload_len), frame_len),
-            OpCode::Pong => return Found::Refuses(ProtocolError::InvalidLength(payload_len), frame_len),
+            OpCode::Ping => return Found::Refuses(
+                ProtocolError::InvalidLength(payload_len),
+                frame_len,
+            ),
+            OpCode::Pong => return Found::Refuses(
+                ProtocolError::InvalidLength(payload_len),
+                frame_len,
+            ),
             _ => {}
         }
     }
@@ -154,5 +160,6 @@ fn read_u32(bytes: &[u8], at: usize) -> u64
     ensures value { result ≡ spelled_at bytes.now at }
     ensures bound { result < 2 ^ 32 }
 {
-    ((bytes[at] as u64 * 256 + bytes[at + 1] as u64) * 256 + bytes[at + 2] as u64) * 256 + bytes[at + 3] as u64
+    ((bytes[at] as u64 * 256 + bytes[at + 1] as u64) * 256 + bytes[at + 2] as u64) * 256
+        + bytes[at + 3] as u64
 }

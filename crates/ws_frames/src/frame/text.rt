@@ -37,7 +37,13 @@ pub(crate) fn reserve_frame(dst: &mut BytesMut, payload: &[u8]) -> bool
 }
 
 /// Writes a frame for which there is room.
-pub(crate) fn put_frame(dst: &mut BytesMut, payload: &[u8], op: OpCode, finished: bool, mask: Option<[u8; 4]>)
+pub(crate) fn put_frame(
+    dst: &mut BytesMut,
+    payload: &[u8],
+    op: OpCode,
+    finished: bool,
+    mask: Option<[u8; 4]>,
+)
     requires { MAX_HEADER + length payload.now ≤ dst.old.spare }
     ensures { dst.new.items ≡ dst.old.items ++ written mask finished (opcode_written op) payload.now }
 {

@@ -1,4 +1,4 @@
-use Rattle.std.proofs.Common.{◌≡◌, ℕ, ◌%◌, ◌-◌, length}
+use Rattle.std.proofs.Common.{◌≡◌, ◌%◌, ◌-◌, length}
 use Rattle.ws_frames.specs.MaskLanes.{IsMaskedUpTo}
 use Rattle.ws_frames.proofs.mask.apply_mask_fast32.Given as goal
 

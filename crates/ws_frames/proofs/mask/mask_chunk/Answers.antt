@@ -1,8 +1,8 @@
 -- A load is masked by the lanes and stored where it was.
-use Rattle.std.proofs.Common.{◌≡◌, ℕ, ◌+◌, List, ap, sym, subst}
+use Rattle.std.proofs.Common.{ℕ, ◌+◌, List, sym, subst}
 use lib.Lanes.{zip2, chunk, put_chunk}
 use Rattle.std.specs.Int.Bits.{bit_xor}
-use Rattle.ws_frames.specs.MaskLanes.{IsMaskedUpTo, lanes_of}
+use Rattle.ws_frames.specs.MaskLanes.{IsMaskedUpTo}
 use Rattle.ws_frames.proofs.MaskLemmas.{chunk_masked}
 use Rattle.ws_frames.proofs.mask.mask_chunk.Goals as goal
 

@@ -1,10 +1,10 @@
 -- With no mask nothing changes.
-use Rattle.std.proofs.Common.{◌≡◌, Bool, length, take, drop, refl, sym, ap, ◌∙◌, arith, length-drop}
+use Rattle.std.proofs.Common.{Bool, length, take, drop, sym, ap, ◌∙◌, arith, length-drop}
 use Rattle.std.proofs.lemmas.List.{length-take-le}
 use Rattle.ws_frames.proofs.MaskLemmas.{length_unmask}
 use Rattle.ws_frames.specs.Codec.{with_payload}
 use Rattle.ws_frames.specs.Header.{payload_at}
-use Rattle.ws_frames.proofs.TakeLemmas.{parts_join, payload_long, length_kept}
+use Rattle.ws_frames.proofs.TakeLemmas.{parts_join, length_kept}
 use Rattle.ws_frames.proofs.take.toggle_mask.Goals as goal
 
 pub returns-else-server-clause-items : goal.returns-else-server-clause-items

@@ -1,5 +1,5 @@
 -- One byte, or two and a text.
-use Rattle.std.proofs.Common.{◌≡◌, ℕ, ◌∙◌, ap, sym, refl, subst, arith, get_or, ◌+◌, ◌*◌}
+use Rattle.std.proofs.Common.{sym, refl, subst, arith, get_or, ◌+◌, ◌*◌}
 use Rattle.std.proofs.lemmas.List.{take_rest}
 use Rattle.h1_model.specs.Frame as frames
 use Rattle.ws_frames.specs.Close.{CloseSays, reason_frame}

@@ -1,8 +1,7 @@
 -- A code that may be sent, and a text of UTF-8.
-use Rattle.std.proofs.Common.{◌≡◌, ℕ, ◌∙◌, ap, sym, refl, subst, arith, List, Option, Some, Ok, Result, string_bytes}
+use Rattle.std.proofs.Common.{◌≡◌, ◌∙◌, ap, sym, refl, Some, Ok, string_bytes}
 use Rattle.std.specs.Option.{option_map}
 use Rattle.ws_frames.specs.Protocol.{close_number}
-use Rattle.std.specs.Str.{IsUtf8}
 use Rattle.h1_model.specs.Frame as frames
 use Rattle.h1_model.specs.FrameText.{description_of}
 use Rattle.ws_frames.proofs.CloseLemmas.{bad_code, bad_text, good_reason, number_of_code}
@@ -19,6 +18,6 @@ returns-in-Ok-describe c =
     let utf8 = c.in-Ok.ensures.cases in
     let code : c.args.number ≡ close_number c.from.result = sym (ap close_number c.from.ensures ∙ number_of_code c.args.number) in
     let text : description_of c.args.text.now ≡ option_map string_bytes c.in-Ok-describe.description
-        = sym (c.in-Ok-describe.ensures ∙ ap description_of utf8.0) in
+    = sym (c.in-Ok-describe.ensures ∙ ap description_of utf8.0) in
     good_reason c.args.number c.args.text.now (sym c.is_close_code.ensures ∙ c.if-not-is_close_code.false) utf8.1
     ∙ (λ i. Ok (frames.close (Some (record { code = code i; description = text i }))))

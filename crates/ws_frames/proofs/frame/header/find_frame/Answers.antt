@@ -1,7 +1,7 @@
 -- What was found says what is taken.
-use Rattle.std.proofs.Common.{◌≡◌, refl, sym, ap, ◌∙◌, subst, arith}
+use Rattle.std.proofs.Common.{sym, ap, subst, arith}
 use Rattle.ws_frames.specs.Header.{FoundSays}
-use Rattle.ws_frames.specs.Parsed.{late_reader, head_front, parsed, parsed_head}
+use Rattle.ws_frames.specs.Parsed.{parsed, parsed_head}
 use Rattle.ws_frames.proofs.HeaderLemmas.{known_of_read, short_of_read, broken_of_read, known_is_readable}
 use Rattle.ws_frames.proofs.frame.header.find_frame.Goals as goal
 
@@ -21,4 +21,4 @@ pub returns-in-Err : goal.returns-in-Err
 unfolding parsed
 returns-in-Err c =
     let read = broken_of_read _ _ (c.in-Err.ensures c.args.max_size) in
-    record { rule = read.0; refused = ap (λ f. parsed_head c.args.max_size f c.args.src.now) read.1; named = read.2; within = omega arith; }
+    record { rule = read.0; refused = ap (λ f. parsed_head c.args.max_size f c.args.src.now) read.1; named = read.2; within = omega arith }

@@ -1,13 +1,13 @@
 -- By the parts of the header that are kept, the frame is what the definitions say.
-use Rattle.std.proofs.Common.{◌≡◌, ℕ, ◌+◌, ◌≤◌, Bool, true, false, nat_lt, refl, sym, ap, ◌∙◌, subst, arith, ◌&&◌}
-use Rattle.h1_model.specs.FrameText.{FrameHeader, is_control}
+use Rattle.std.proofs.Common.{◌≡◌, ℕ, Bool, true, false, nat_lt, sym, ap, ◌∙◌, subst, arith, ◌&&◌}
+use Rattle.h1_model.specs.FrameText.{is_control}
 use Rattle.h1_model.specs.Limits.{MAX_CONTROL_PAYLOAD}
 use Rattle.h1_model.specs.Laws.FrameSize.{frame_length}
 use Rattle.ws_frames.specs.declared.proto.OpCode.TheVariants as codes
 use Rattle.ws_frames.specs.declared.error.ProtocolError.TheVariants as errors
 use Rattle.ws_frames.specs.declared.frame.header.Header.{Header}
 use Rattle.ws_frames.specs.Parsed.{parsed_header}
-use Rattle.ws_frames.specs.Header.{header_kept, IsReadable, LiesAt, RefusedAt}
+use Rattle.ws_frames.specs.Header.{LiesAt, RefusedAt}
 use Rattle.ws_frames.proofs.HeaderLemmas.{wide_parsed, long_close_lies, long_ping_refused, long_pong_refused, plain_lies, no_control, short_control}
 use Rattle.ws_frames.proofs.frame.header.find_payload.Goals as goal
 
@@ -37,8 +37,8 @@ returns-in-Ping c = λ server header kept readable.
     let sum = c.in-Some.ensures in
     let len : frame_length header ≡ c.in-Some.frame_len = omega (arith, hl, pl, sum.1) in
     let at_len = subst (λ (n : ℕ). RefusedAt (errors.InvalidLength header.payload_length) n c.args.src.now (parsed_header c.args.max_size header c.args.src.now)) len
-        (long_ping_refused server c.args.max_size header c.args.src.now (omega (arith, hl, pl, sum.0)) (omega arith) (omega arith) (omega arith)
-        (sym (ap (λ (h : Header). h.op) kept) ∙ c.in-Ping.is)) in
+    (long_ping_refused server c.args.max_size header c.args.src.now (omega (arith, hl, pl, sum.0)) (omega arith) (omega arith) (omega arith)
+    (sym (ap (λ (h : Header). h.op) kept) ∙ c.in-Ping.is)) in
     subst (λ (p : ℕ). RefusedAt (errors.InvalidLength p) c.in-Some.frame_len c.args.src.now (parsed_header c.args.max_size header c.args.src.now)) (sym pl) at_len
 
 pub returns-in-Pong : goal.returns-in-Pong
@@ -48,8 +48,8 @@ returns-in-Pong c = λ server header kept readable.
     let sum = c.in-Some.ensures in
     let len : frame_length header ≡ c.in-Some.frame_len = omega (arith, hl, pl, sum.1) in
     let at_len = subst (λ (n : ℕ). RefusedAt (errors.InvalidLength header.payload_length) n c.args.src.now (parsed_header c.args.max_size header c.args.src.now)) len
-        (long_pong_refused server c.args.max_size header c.args.src.now (omega (arith, hl, pl, sum.0)) (omega arith) (omega arith) (omega arith)
-        (sym (ap (λ (h : Header). h.op) kept) ∙ c.in-Pong.is)) in
+    (long_pong_refused server c.args.max_size header c.args.src.now (omega (arith, hl, pl, sum.0)) (omega arith) (omega arith) (omega arith)
+    (sym (ap (λ (h : Header). h.op) kept) ∙ c.in-Pong.is)) in
     subst (λ (p : ℕ). RefusedAt (errors.InvalidLength p) c.in-Some.frame_len c.args.src.now (parsed_header c.args.max_size header c.args.src.now)) (sym pl) at_len
 
 pub returns-in_default-op : goal.returns-in_default-op
@@ -59,7 +59,7 @@ returns-in_default-op c = λ server header kept readable.
     let op : c.args.header.op ≡ _ = ap (λ (h : Header). h.op) kept in
     let sum = c.in-Some.ensures in
     let plain : is_control header.start.opcode ≡ false
-        = no_control header.start.opcode (λ e. c.in_default-op.not-Close (op ∙ e)) (λ e. c.in_default-op.not-Ping (op ∙ e)) (λ e. c.in_default-op.not-Pong (op ∙ e)) in
+    = no_control header.start.opcode (λ e. c.in_default-op.not-Close (op ∙ e)) (λ e. c.in_default-op.not-Ping (op ∙ e)) (λ e. c.in_default-op.not-Pong (op ∙ e)) in
     subst (λ (h : Header). LiesAt server h.finished h.op h.header_len h.payload_len c.args.src.now (parsed_header c.args.max_size header c.args.src.now)) (sym kept)
     (plain_lies server c.args.max_size header c.args.src.now readable (omega (arith, hl, pl, sum.0)) (omega (arith, hl, pl, sum.1)) (omega arith)
     (ap (λ (b : Bool). b && nat_lt MAX_CONTROL_PAYLOAD header.payload_length) plain))

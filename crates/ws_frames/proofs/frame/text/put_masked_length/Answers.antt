@@ -1,6 +1,5 @@
 -- The three forms of a length.
-use Rattle.std.proofs.Common.{◌≡◌, ℕ, ◌+◌, ◌++◌, List, [], ◌∷◌, sym, ap, ◌∙◌, arith, append_assoc}
-use Rattle.ws_frames.specs.Written.{masked_field}
+use Rattle.std.proofs.Common.{ℕ, ◌++◌, List, [], ◌∷◌, sym, ap, ◌∙◌, append_assoc}
 use Rattle.ws_frames.proofs.WrittenLemmas.{short_masked, middle_masked, long_masked}
 use Rattle.ws_frames.proofs.frame.text.put_masked_length.Goals as goal
 

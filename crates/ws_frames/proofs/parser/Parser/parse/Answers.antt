@@ -1,8 +1,7 @@
 -- What was found is what is taken.
 use Rattle.std.proofs.Common.{◌≡◌, ℕ, ◌+◌, List, refl, sym, ap, ◌∙◌, subst}
-use Rattle.h1_model.specs.FrameText.{Opcode}
 use Rattle.ws_frames.specs.Header.{payload_at}
-use Rattle.ws_frames.specs.Parsed.{Parsed, waits, refuses, takes, parsed}
+use Rattle.ws_frames.specs.Parsed.{takes, parsed}
 use Rattle.ws_frames.specs.Protocol.{opcode_written}
 use Rattle.ws_frames.proofs.KindLemmas.{not_memory}
 use Rattle.ws_frames.proofs.parser.Parser.parse.Goals as goal
@@ -20,7 +19,7 @@ pub returns-in-Ok : goal.returns-in-Ok
 returns-in-Ok c =
     let len = c.in-Takes.header_len + c.in-Takes.payload_len in
     let is = subst (λ (t : List ℕ). parsed c.args.server c.args.max_size t ≡ takes c.in-Takes.finished (opcode_written c.in-Takes.op)
-        (payload_at c.args.server c.in-Takes.header_len c.in-Takes.payload_len t) len) c.as_slice.ensures c.in-Takes.ensures.taken in
+    (payload_at c.args.server c.in-Takes.header_len c.in-Takes.payload_len t) len) c.as_slice.ensures c.in-Takes.ensures.taken in
     (len, is ∙ ap (λ (p : List ℕ). takes c.in-Takes.finished (opcode_written c.in-Takes.op) p len) (sym c.in-Ok.ensures.payload), c.in-Ok.ensures.rest)
 
 pub returns-in-Err : goal.returns-in-Err
