@@ -1,0 +1,66 @@
+-- What is taken from the front of the bytes is the frame there.
+use Rattle.std.proofs.Common.{◌≡◌, ℕ, ◌+◌, List, drop, refl, sym, ap, ◌∙◌, subst}
+use Rattle.h1_model.specs.FrameText.{front_of_judged}
+use Rattle.ws_frames.specs.CodecState.{codec_server, codec_limit, codec_reading, cost}
+use Rattle.ws_frames.specs.Header.{payload_at}
+use Rattle.ws_frames.specs.Judged.{front_of_parsed}
+use Rattle.ws_frames.specs.Parsed.{Parsed, takes, parsed}
+use Rattle.ws_frames.specs.Protocol.{opcode_written}
+use Rattle.ws_frames.proofs.KindLemmas.{not_memory}
+use Rattle.ws_frames.proofs.ParsedFronts.{front_is_parsed}
+use Rattle.ws_frames.proofs.codec.Codec.decode.Goals as goal
+
+pub returns-in-Waits-clause-frame : goal.returns-in-Waits-clause-frame
+returns-in-Waits-clause-frame g c =
+    let server = codec_server c.args.self.now in
+    let max = codec_limit c.args.self.now in
+    let u = codec_reading c.args.self.now in
+    let is = ap (parsed server max) (sym c.as_slice.ensures) ∙ c.in-Waits.ensures in
+    (front_is_parsed server u max c.args.src.now.items ∙ ap (front_of_parsed u) is, refl, refl)
+
+pub returns-in-Refuses-clause-frame : goal.returns-in-Refuses-clause-frame
+returns-in-Refuses-clause-frame g c =
+    let server = codec_server c.args.self.now in
+    let max = codec_limit c.args.self.now in
+    let u = codec_reading c.args.self.now in
+    let said = c.in-Refuses.ensures in
+    let is = ap (parsed server max) (sym c.as_slice.ensures) ∙ said.refused in (
+      refl,
+      λ e. absurd (not_memory said.rule (sym said.named ∙ e)),
+      λ other. (
+        said.rule,
+        front_is_parsed server u max c.args.src.now.items ∙ ap (front_of_parsed u) is,
+        said.named,
+        c.advance.ensures.items ∙ ap (λ (p : Parsed). drop (cost p) c.args.src.now.items) (sym is),
+      ),
+    )
+
+pub returns-in-Ok-clause-frame : goal.returns-in-Ok-clause-frame
+returns-in-Ok-clause-frame g c =
+    let server = codec_server c.args.self.now in
+    let max = codec_limit c.args.self.now in
+    let u = codec_reading c.args.self.now in
+    let len = c.in-Takes.header_len + c.in-Takes.payload_len in
+    let is = subst (λ (t : List ℕ). parsed server max t ≡ takes c.in-Takes.finished (opcode_written c.in-Takes.op)
+    (payload_at server c.in-Takes.header_len c.in-Takes.payload_len t) len) c.as_slice.ensures c.in-Takes.ensures.taken in
+    let taken = c.in-Ok.ensures in
+    (len, front_is_parsed server u max c.args.src.now.items ∙ ap (front_of_parsed u) is ∙ ap (front_of_judged len) taken.0, taken.1, taken.2)
+
+pub returns-in-Err-clause-frame : goal.returns-in-Err-clause-frame
+returns-in-Err-clause-frame g c =
+    let server = codec_server c.args.self.now in
+    let max = codec_limit c.args.self.now in
+    let u = codec_reading c.args.self.now in
+    let len = c.in-Takes.header_len + c.in-Takes.payload_len in
+    let is = subst (λ (t : List ℕ). parsed server max t ≡ takes c.in-Takes.finished (opcode_written c.in-Takes.op)
+    (payload_at server c.in-Takes.header_len c.in-Takes.payload_len t) len) c.as_slice.ensures c.in-Takes.ensures.taken in
+    let taken = c.in-Err.ensures in (
+      refl,
+      taken.0,
+      λ other. let said = taken.1 other in (
+        said.0,
+        front_is_parsed server u max c.args.src.now.items ∙ ap (front_of_parsed u) is ∙ ap (front_of_judged len) said.1,
+        said.2,
+        said.3 ∙ ap (λ (p : Parsed). drop (cost p) c.args.src.now.items) (sym is),
+      ),
+    )

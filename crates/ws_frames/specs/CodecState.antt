@@ -1,0 +1,65 @@
+-- The state of a codec, and what it reads.
+use Rattle.std.specs.Prelude.{◌≡◌, ℕ, Bool, List, drop, Option, Some, None, Result, Ok, Err}
+use Rattle.h1_model.specs.Frame as model
+use Rattle.h1_model.specs.FrameText.{front_frame, partial, whole, breaks, is_under_way}
+use Rattle.ws_frames.specs.declared.error.ProtocolError.{ProtocolError}
+use Rattle.ws_frames.specs.declared.error.ProtocolError.TheVariants as errors
+use Rattle.ws_frames.specs.declared.message.Frame.{Frame}
+use Rattle.ws_frames.specs.declared.codec.Codec.{Codec}
+use Rattle.ws_frames.specs.Refusal.{refusal, UnlessNoMemory}
+use Rattle.ws_frames.specs.Parsed.{late_reader, Parsed, waits, refuses, takes, parsed}
+use Rattle.ws_frames.specs.Codec.{frame_says}
+
+-- it reads as a server
+abbrev pub codec_server : {R : Type 0} → Codec R → Bool
+codec_server codec = codec.server
+
+-- the most bytes of a payload
+abbrev pub codec_limit : {R : Type 0} → Codec R → ℕ
+codec_limit codec = codec.max_size
+
+-- a message that is received is under way
+abbrev pub codec_reading : {R : Type 0} → Codec R → Bool
+codec_reading codec = codec.reading
+
+-- a message that is sent is under way
+abbrev pub codec_sending : {R : Type 0} → Codec R → Bool
+codec_sending codec = codec.sending
+
+-- where its masks come from
+abbrev pub codec_words : {R : Type 0} → Codec R → R
+codec_words codec = codec.words
+
+-- the codec, with a message received under way or not
+abbrev pub with_reading : {R : Type 0} → Bool → Codec R → Codec R
+with_reading reading codec = record codec { reading = reading }
+
+-- the codec, with another limit
+abbrev pub with_limit : {R : Type 0} → ℕ → Codec R → Codec R
+with_limit max_size codec = record codec { max_size = max_size }
+
+-- how many bytes a frame or a broken rule costs
+abbrev pub cost : Parsed → ℕ
+cost waits = 0
+cost (refuses e dropped) = dropped
+cost (takes is_final opcode payload len) = len
+
+-- a frame at the front is given once it is whole, and a broken rule costs the frame that breaks it, if that is there
+abbrev pub Decoded : Bool → ℕ → Bool → List ℕ → Result (Option Frame) ProtocolError → Bool → List ℕ → Type 0
+Decoded server max_size under_way bytes (Ok None) after rest =
+    (front_frame (late_reader server max_size) under_way bytes ≡ partial) × (rest ≡ bytes) × (after ≡ under_way)
+Decoded server max_size under_way bytes (Ok (Some frame)) after rest =
+    (len : ℕ) × (front_frame (late_reader server max_size) under_way bytes ≡ whole (frame_says frame) len)
+    × (rest ≡ drop len bytes) × (after ≡ is_under_way under_way (frame_says frame))
+Decoded server max_size under_way bytes (Err e) after rest =
+    (after ≡ under_way) × (e ≡ errors.NoMemory → rest ≡ bytes)
+    × UnlessNoMemory e ((rule : model.ProtocolError) × (front_frame (late_reader server max_size) under_way bytes ≡ breaks rule)
+    × (e ≡ refusal rule) × (rest ≡ drop (cost (parsed server max_size bytes)) bytes))
+
+-- the same of a frame that was found, which is taken or breaks a rule
+abbrev pub JudgedTaken : Bool → Result model.Frame model.ProtocolError → ℕ → List ℕ → Result (Frame × Bool) ProtocolError → List ℕ → Type 0
+JudgedTaken under_way judged len old (Ok p) new =
+    (judged ≡ Ok (frame_says p.0)) × (new ≡ drop len old) × (p.1 ≡ is_under_way under_way (frame_says p.0))
+JudgedTaken under_way judged len old (Err e) new =
+    (e ≡ errors.NoMemory → new ≡ old)
+    × UnlessNoMemory e ((rule : model.ProtocolError) × (judged ≡ Err rule) × (e ≡ refusal rule) × (new ≡ drop len old))

@@ -1,0 +1,13 @@
+pub mod MaskLanes
+pub mod Protocol
+pub mod Refusal
+pub mod Parsed
+pub mod Judged
+pub mod Header
+pub mod Close
+pub mod Written
+pub mod Codec
+pub mod CodecState
+pub mod ParserState
+pub mod Pieces
+pub mod Sent

@@ -1,0 +1,24 @@
+-- What the errors of reading say.
+use Rattle.std.specs.Prelude.{◌≢◌}
+use Rattle.h1_model.specs.Frame as model
+use Rattle.h1_model.specs.FrameText.{opcode_of}
+use Rattle.ws_frames.specs.declared.error.ProtocolError.{ProtocolError}
+use Rattle.ws_frames.specs.declared.error.ProtocolError.TheVariants as errors
+use Rattle.ws_frames.specs.Protocol.{code_of}
+
+-- the error for a broken rule
+abbrev pub refusal : model.ProtocolError → ProtocolError
+refusal model.unmasked_frame = errors.UnmaskedFrame
+refusal model.masked_frame = errors.MaskedFrame
+refusal model.invalid_reserved_bits = errors.InvalidReservedBits
+refusal model.bad_op_code = errors.BadOpCode
+refusal model.overflow = errors.Overflow
+refusal model.continuation_not_started = errors.ContinuationNotStarted
+refusal model.continuation_started = errors.ContinuationStarted
+refusal (model.invalid_opcode number) = errors.InvalidOpcode number
+refusal (model.invalid_length n) = errors.InvalidLength n
+refusal (model.continuation_fragment number) = errors.ContinuationFragment (code_of (opcode_of number))
+
+-- the fact holds, unless memory ran out
+abbrev pub UnlessNoMemory : ProtocolError → Type 0 → Type 0
+UnlessNoMemory e P = e ≢ errors.NoMemory → P
