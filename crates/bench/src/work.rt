@@ -75,22 +75,35 @@ fn heads(alloc: Global, head: &[u8], requests: u64) -> Result<u64, BenchError> {
 /// Serves so many reads of `depth` requests each, on one connection. The events are made once.
 fn gets(alloc: Global, head: &[u8], depth: u64, reads: u64) -> Result<u64, BenchError> {
     let read = Event::Read(repeated(alloc, head, depth)?);
-    let next = Event::Next;
     let answer = Event::Answer(ResponseHead::new(alloc, StatusCode::OK), BodySize::ZERO);
-    let write = Event::Write(WRITE_LIMIT);
-
     let mut connection = Connection::new(alloc, ServiceConfigBuilder::new().build());
     let mut checksum = Checksum::new();
-    bring(&mut connection, &Event::Tick(MOMENT), &mut checksum)?;
-    for _ in 0..reads {
-        bring(&mut connection, &read, &mut checksum)?;
-        for _ in 0..depth {
-            bring(&mut connection, &next, &mut checksum)?;
-            bring(&mut connection, &answer, &mut checksum)?;
-        }
-        bring(&mut connection, &write, &mut checksum)?;
+    let served = serve(&mut connection, &read, &answer, depth, reads, &mut checksum);
+    match served {
+        Ok(()) => Ok(checksum.sum()),
+        Err(error) => Err(error),
     }
-    Ok(checksum.sum())
+}
+
+/// A tick, and then so many reads, each with its answers and one write.
+fn serve(
+    connection: &mut Connection,
+    read: &Event,
+    answer: &Event,
+    depth: u64,
+    reads: u64,
+    checksum: &mut Checksum,
+) -> Result<(), BenchError> {
+    bring(connection, &Event::Tick(MOMENT), checksum)?;
+    for _ in 0..reads {
+        bring(connection, read, checksum)?;
+        for _ in 0..depth {
+            bring(connection, &Event::Next, checksum)?;
+            bring(connection, answer, checksum)?;
+        }
+        bring(connection, &Event::Write(WRITE_LIMIT), checksum)?;
+    }
+    Ok(())
 }
 
 /// Brings an event to the connection and counts its outcome in.
