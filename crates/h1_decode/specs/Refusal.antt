@@ -3,6 +3,6 @@ use Rattle.std.specs.Prelude.{◌≢◌}
 use Rattle.http_types.specs.declared.error.ParseError.{ParseError}
 use Rattle.http_types.specs.declared.error.ParseError.TheVariants.{NoMemory}
 
--- the fact holds, unless memory ran out
+-- what is said of each error but want of memory
 abbrev pub UnlessNoMemory : ParseError → Type 0 → Type 0
 UnlessNoMemory e P = e ≢ NoMemory → P

@@ -1,15 +1,15 @@
--- What a contract sees of a `HeaderMap`: its names in the order of their first insertion, each with the list of its values.
+-- A `HeaderMap` in contracts: a list of names, first inserted first, each beside the list of its values.
 -- A name is written in lower case, as a `HeaderName` holds it.
 use Rattle.std.specs.Prelude.{◌≡◌, ℕ, ◌+◌, ◌<◌, ◌^◌, Bool, List, [], ◌∷◌, ◌++◌, map, filter, fold, drop, length, flat_map, bytes_eq, slice_get, All, Option, if◌then◌else◌}
 use Rattle.std.specs.List.{list_any, IsDistinct}
 use Rattle.http_header.specs.FieldName.{IsHeaderName}
 use Rattle.http_header.specs.FieldValue.{FieldValue}
 
--- a name with its values
+-- one name and all its values
 abbrev pub Entry : Type 0
 Entry = List ℕ × List FieldValue
 
--- the names in order, each with its values
+-- a whole map, as a list
 abbrev pub Entries : Type 0
 Entries = List Entry
 
@@ -17,39 +17,39 @@ Entries = List Entry
 abbrev pub Pair : Type 0
 Pair = List ℕ × FieldValue
 
--- the names, in order
+-- its names, as they stand
 abbrev pub keys : Entries → List (List ℕ)
 keys m = map (λ e. e.0) m
 
--- how many values there are, under all names
+-- the lengths of the lists of values, in sum
 abbrev pub value_count : Entries → ℕ
 value_count [] = 0
 value_count (e ∷ m) = length e.1 + value_count m
 
--- whether the map has the name
+-- whether the name stands in it
 abbrev pub contains_key : Entries → List ℕ → Bool
 contains_key m name = list_any (bytes_eq name) (keys m)
 
--- the values under the name, in the order in which they were added
+-- what stands under the name, the earliest first; nothing for a name that is not there
 abbrev pub get_all : Entries → List ℕ → List FieldValue
 get_all [] name = []
 get_all (e ∷ m) name = if bytes_eq name e.0 then e.1 else get_all m name
 
--- the first value under the name
+-- the earliest of them
 abbrev pub get : Entries → List ℕ → Option FieldValue
 get m name = slice_get (get_all m name) 0
 
--- the value in place of all those under the name, whose place stays. A new name goes last
+-- the name has this value alone, and keeps its place; a name that was not there comes at the end
 abbrev pub insert : Entries → List ℕ → FieldValue → Entries
 insert [] name value = (name, value ∷ []) ∷ []
 insert (e ∷ m) name value = if bytes_eq name e.0 then (e.0, value ∷ []) ∷ m else e ∷ insert m name value
 
--- the value after those under the name. A new name goes last
+-- one more value for the name; a name that was not there comes at the end
 abbrev pub append : Entries → List ℕ → FieldValue → Entries
 append [] name value = (name, value ∷ []) ∷ []
 append (e ∷ m) name value = if bytes_eq name e.0 then (e.0, e.1 ++ value ∷ []) ∷ m else e ∷ append m name value
 
--- the map without the name. Later names close up
+-- the name and its values left out, and the others as they stood
 abbrev pub remove : Entries → List ℕ → Entries
 remove [] name = []
 remove (e ∷ m) name = if bytes_eq name e.0 then m else e ∷ remove m name
@@ -90,7 +90,7 @@ pub record IsEntry (e : Entry) : Type 0 where
   pub named : IsHeaderName e.0
   pub filled : 0 < length e.1
 
--- what holds of every map
+-- every map is like this
 pub record IsHeaderMap (m : Entries) : Type 0 where
   pub distinct : IsDistinct bytes_eq (keys m)
   pub entries : All IsEntry m

@@ -1,4 +1,4 @@
--- What the iterators of a `HeaderMap` have left.
+-- What is still to come from an iterator over a map.
 use Rattle.std.specs.Prelude.{◌≡◌, ℕ, List, [], ◌++◌, length, All, Option, Some, None}
 use Rattle.std.specs.Borrow.{Bor}
 use Rattle.http_header.specs.FieldValue.{FieldValue}

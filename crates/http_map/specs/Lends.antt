@@ -1,4 +1,4 @@
--- What a `HeaderMap` ends as, where a `&mut` to one of its values is returned.
+-- A `&mut` to a value inside a map: how the map stands when it ends.
 use Rattle.std.specs.Prelude.{ℕ, zero, suc, List, [], ◌∷◌, drop, Option}
 use Rattle.std.specs.Borrow.{Lends, LendsIf, Fml, MutBor}
 use Rattle.http_header.specs.FieldValue.{FieldValue}
@@ -18,10 +18,10 @@ values_at [] i = []
 values_at (e ∷ m) zero = e.1
 values_at (e ∷ m) (suc i) = values_at m i
 
--- once the borrow r ends, the first value of the name at the index is the last one written through r
+-- when r ends, what was last written through it is the first value of the name at the index
 abbrev pub lends_first_at : MutBor Entries → ℕ → MutBor FieldValue → Fml
 lends_first_at m i r = Lends the_row value_row m r (set_first_at m.now i)
 
--- once the borrow r ends, the name's first value is the last one written through r, and at `None` the map stays as it is
+-- when r ends, what was last written through it is the first value of the name. Without an r nothing changes
 abbrev pub lends_first : MutBor Entries → List ℕ → Option (MutBor FieldValue) → Fml
 lends_first m name r = LendsIf the_row value_row m r (set_first m.now name) m.now

@@ -3,7 +3,7 @@ use Rattle.std.specs.Prelude.{◌≡◌, ℕ, ◌<◌, List, [], ◌∷◌, ◌+
 use Rattle.http_header.specs.FieldValue.{FieldValue}
 use Rattle.http_map.specs.HeaderMap.{Pair, Entry, Entries, IsEntry, pairs}
 
--- values that follow the first of their name
+-- further values of a name
 abbrev pub unnamed : List FieldValue → List (Option (List ℕ) × FieldValue)
 unnamed values = map (λ value. (None, value)) values
 

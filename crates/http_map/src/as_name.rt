@@ -1,10 +1,10 @@
-//! What a map takes as a name to look up.
+//! The types that a name may have in a look-up.
 ghost use Rattle.std.specs.Prelude.{◌≡◌, ℕ, List, string_bytes};
 ghost use Rattle.http_header.specs.Token.{lowercase};
 
 use http_header::HeaderName;
 
-/// A name to look up in a `HeaderMap`: a `HeaderName` or a text, whose letters may be in any case.
+/// A type that names a header: a `HeaderName`, or a text in upper or lower case.
 /// A text that is no header name is found in no map.
 pub trait AsHeaderName: Drop {
     // The bytes as they are written.

@@ -1,4 +1,4 @@
-//! The iterators of a map. A contract sees each as the list of what it has left.
+//! Iterators that borrow a map. In a contract each is the list of the items still to come.
 ghost use Rattle.std.specs.Prelude.{◌≡◌, ℕ, List, length, Some, IfSome};
 ghost use Rattle.std.specs.Iterator.SizeHint.{IsWithinCount};
 ghost use Rattle.std.specs.Iterator.{UpTo, at_most, YieldsFirstBy, YieldsFirstRef, item_count};

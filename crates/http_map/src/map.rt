@@ -62,7 +62,7 @@ impl HeaderMap {
         })
     }
 
-    /// The number of values, under all names.
+    /// How many values it holds, those of all names together.
     pub fn len(&self) -> usize
         ensures value { result ≡ value_count self.now }
         ensures valid { IsHeaderMap self.now }
@@ -71,7 +71,7 @@ impl HeaderMap {
         self.len
     }
 
-    /// The number of names.
+    /// How many names it holds, each counted once.
     pub fn len_keys(&self) -> usize
         ensures value { result ≡ length self.now }
         ensures valid { IsHeaderMap self.now }
@@ -87,7 +87,7 @@ impl HeaderMap {
         self.names.len() == 0
     }
 
-    /// Whether the map has the name.
+    /// Whether there is a value for this name.
     pub fn contains_key<K: AsHeaderName>(&self, key: K) -> bool
         ensures value { result ≡ contains_key self.now (K.name key) }
         ensures found { result ≡ is_some (get self.now (K.name key)) }
@@ -96,7 +96,7 @@ impl HeaderMap {
         self.names.contains(key.as_name_bytes())
     }
 
-    /// The first value under the name.
+    /// The value that was added first for this name.
     pub fn get<K: AsHeaderName>(&self, key: K) -> Option<&HeaderValue>
         ensures value { option_copied result ≡ get self.now (K.name key) }
         ensures no_name { ¬ (IsFieldName (K.text key)) → IsNone result }
@@ -105,7 +105,7 @@ impl HeaderMap {
         values.as_slice().first()
     }
 
-    /// The values under the name, in the order in which they were added.
+    /// All values of this name, the one added first before the others.
     pub fn get_all<K: AsHeaderName>(&self, key: K) -> slice::Iter<'_, HeaderValue>
         ensures values { iter_rest result ≡ get_all self.now (K.name key) }
         ensures no_name { ¬ (IsFieldName (K.text key)) → iter_rest result ≡ [] }

@@ -1,4 +1,4 @@
-//! The iterators that take a map apart. A contract sees each as the list of what it has left.
+//! Iterators that own what they give. In a contract each is the list of the items still to come.
 ghost use Rattle.std.specs.Prelude.{◌≡◌, ℕ, List, [], ◌∷◌, length, Option, Some, IfNone, IfSome};
 ghost use Rattle.std.specs.Iterator.SizeHint.{IsWithinCount};
 ghost use Rattle.std.specs.Iterator.{UpTo, at_most, YieldsFirst, item_count};

@@ -72,7 +72,7 @@ impl Values {
         }
     }
 
-    /// Adds the value after the others. It grows first, so want of memory changes nothing.
+    /// Adds a last value. It grows first, so want of memory changes nothing.
     pub(crate) fn push(&mut self, alloc: Global, value: HeaderValue) -> Result<(), NoMemory>
         ensures ok { OnOk result (self.new ≡ self.old ++ value ∷ []) }
         ensures err { OnErr result (self.new ≡ self.old) }

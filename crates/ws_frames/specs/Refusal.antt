@@ -19,6 +19,6 @@ refusal (model.invalid_opcode number) = errors.InvalidOpcode number
 refusal (model.invalid_length n) = errors.InvalidLength n
 refusal (model.continuation_fragment number) = errors.ContinuationFragment (code_of (opcode_of number))
 
--- the fact holds, unless memory ran out
+-- what is said of each error but want of memory
 abbrev pub UnlessNoMemory : ProtocolError → Type 0 → Type 0
 UnlessNoMemory e P = e ≢ errors.NoMemory → P

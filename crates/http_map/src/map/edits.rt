@@ -30,8 +30,8 @@ impl HeaderMap {
     }
 
     /// Puts the value in place of all those under the name, whose place among the names stays, and
-    /// gives the old ones. A new name goes last. Only a new name may want memory, and where there is
-    /// none the map is left as it was.
+    /// gives the old ones. A name that was not there comes last. Only such a name may want memory,
+    /// and where there is none the map is left as it was.
     pub fn insert(&mut self, name: HeaderName, val: HeaderValue) -> Result<Removed, NoMemory>
         ensures ok { OnOk result (self.new ≡ insert self.old name val) }
         ensures values { OnOk result (get_all self.new name ≡ val ∷ []) }
@@ -59,7 +59,7 @@ impl HeaderMap {
         self.len < usize::MAX || self.names.contains(name.as_bytes())
     }
 
-    /// Adds the value after those under the name. A new name goes last. It grows first, so want of
+    /// Adds a last value to those of the name, or the name at the end. It grows first, so want of
     /// memory leaves the map as it was.
     pub fn append(&mut self, key: HeaderName, value: HeaderValue) -> Result<(), NoMemory>
         ensures ok { OnOk result (self.new ≡ append self.old key value) }
@@ -139,7 +139,7 @@ impl HeaderMap {
         Ok(map)
     }
 
-    /// The first value under the name, for writing.
+    /// The value that was added first for this name, for writing.
     pub fn get_mut<K: AsHeaderName>(&mut self, key: K) -> Option<&mut HeaderValue>
         ensures* writes_back { sem 𝓛 (lends_first self.entry (K.name key) result) }
         ensures value { option_copied_mut result ≡ get self.old (K.name key) }

@@ -13,7 +13,8 @@ use indexmap::Equivalent;
 use std::alloc::{AllocError, Global};
 use std::marker::Model;
 
-/// A name with its values. The mark is made of a few bytes of the name: where marks differ, names do.
+/// One name and all its values. The mark is made of a few bytes of the name: where marks differ,
+/// names do.
 ///
 /// A contract sees it as the name and the values.
 #[derive(Debug, Drop)]
@@ -96,7 +97,7 @@ impl Line {
         &mut self.values
     }
 
-    /// Adds the value after the others.
+    /// Adds a last value.
     pub(crate) fn push(&mut self, alloc: Global, value: HeaderValue) -> Result<(), NoMemory>
         ensures ok { OnOk result (self.new ≡ (self.old.0, self.old.1 ++ value ∷ [])) }
         ensures err { OnErr result (self.new ≡ self.old) }
