@@ -183,6 +183,7 @@ impl Connection {
         if self.ticked.is_some() {
             return Err(StepError::NotYet);
         }
+        // Called for its clause alone, that the time of a keep-alive is never 0.
         let _keep_alive = self.config.keep_alive();
         self.ticked = Some(moment);
         Ok(Outcome::Done)
