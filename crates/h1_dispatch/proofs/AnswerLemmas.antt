@@ -1,8 +1,7 @@
 -- The machine's step of an answer that is its status alone.
-use Rattle.std.proofs.Common.{◌≡◌, ℕ, zero, suc, ◌+◌, Bool, true, false, not, ◌&&◌, List, [], ◌∷◌, ◌++◌, length, map, Option, Some, None, refl, sym, ap, ◌∙◌, subst, arith}
+use Rattle.std.proofs.Common.{◌≡◌, ℕ, suc, ◌+◌, Bool, true, false, not, ◌&&◌, List, [], ◌∷◌, ◌++◌, length, Option, Some, None, refl, sym, ap, ◌∙◌, arith}
 use Rattle.std.proofs.lemmas.List.{length-append}
-use Rattle.std.specs.Prelude.{option_map, is_some, unwrap_or, flat_map, IsTrue, IsSome, ◌↔◌, ◌==◌, if◌then◌else◌}
-use Rattle.std.specs.Option.{option_or}
+use Rattle.std.specs.Prelude.{is_some, unwrap_or, IsTrue, IsSome, ◌↔◌, ◌==◌, if◌then◌else◌}
 use Rattle.http_header.specs.FieldValue.{FieldValue}
 use Rattle.http_map.specs.HeaderMap.{Entries, value_count}
 use Rattle.http_config.specs.Config.{Settings}
@@ -11,7 +10,6 @@ use Rattle.http_types.specs.Flags.{type_of_flags}
 use Rattle.http_bodies.specs.declared.body.size.BodySize.{BodySize}
 use Rattle.http_types.specs.declared.message.ConnectionType.{ConnectionType}
 use Rattle.http_types.specs.declared.message.ConnectionType.TheVariants.{Close, KeepAlive, Upgrade}
-use Rattle.http_types.specs.declared.message.Flags.{Flags}
 use Rattle.h1_model.specs.Request as model
 use Rattle.h1_model.specs.Setting.{Setting, keeps}
 use Rattle.h1_model.specs.Answer as answers
@@ -19,15 +17,13 @@ use Rattle.h1_model.specs.Answer.{AnswerHead, Asked, Shape, shape_none, shape_of
 use Rattle.h1_model.specs.AnswerText.{head_text}
 use Rattle.h1_model.specs.Text.{answer_head_text}
 use Rattle.h1_model.specs.Event as on
-use Rattle.h1_machine.specs.Kept.{Kept, Exchange, answered}
-use Rattle.h1_machine.specs.Change.{IsChange, IsStep, doing_with}
-use Rattle.h1_machine.specs.Kept.{Change}
-use Rattle.h1_machine.specs.Body.{passing}
+use Rattle.h1_machine.specs.Kept.{Kept}
+use Rattle.h1_machine.specs.Change.{doing_with}
 use Rattle.h1_machine.specs.Reply.{answering, completing}
 use Rattle.h1_dispatch.specs.Meaning.{setting_of, answer_of, size_of, headers_of, lines_of}
 use Rattle.h1_dispatch.specs.BareAnswer.{bare_head}
 use Rattle.h1_dispatch.specs.Served.{IsBare}
-use Rattle.h1_dispatch.specs.State.{State, IsAllowed, Answers}
+use Rattle.h1_dispatch.specs.State.{IsAllowed, Answers}
 use Rattle.h1_dispatch.specs.Parts as parts
 use Rattle.h1_dispatch.specs.Parts.{Parts, kept_of, exchange_of, is_free, end_by, end_of_parts, takes, AreLinked}
 use Rattle.h1_dispatch.specs.declared.event.Event.TheVariants.{Answer}
