@@ -42,6 +42,7 @@
 #![tactic(auto)]
 
 pub mod closing_examples;
+pub mod deadline;
 pub mod examples;
 pub mod frame_examples;
 pub mod frame_text;
