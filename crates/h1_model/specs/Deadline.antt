@@ -1,6 +1,6 @@
--- The deadline of a connection: the least moment at which a tick may come and tells that a time has run out. Until then
--- no tick tells anything, so who drives a connection may sleep. A time that ran out while it didn't matter, such as one
--- for the next request while chunks of the last one were still to come, makes now the deadline.
+-- The deadline of a connection: the least moment at which a tick may come and tells that a time has run out. No tick
+-- before it does, so who drives a connection may sleep until then. It is never before now: where a time ran out while
+-- it didn't count, as the one for the next request while chunks of the last one are still to come, now is the deadline.
 use Rattle.std.specs.Prelude.{◌≡◌, ℕ, ◌+◌, max, Bool, true, false, not, ◌&&◌, List, length, nat_lt, nat_le, ◌==◌, if◌then◌else◌, Option, Some, None, unwrap_or}
 use Rattle.std.specs.Option.{option_or}
 use Rattle.h1_model.specs.Setting.{Setting, KeepAlive, timeout}
