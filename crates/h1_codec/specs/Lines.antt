@@ -1,13 +1,21 @@
 -- The header lines of an answer, pair by pair.
-use Rattle.std.specs.Prelude.{◌≡◌, ℕ, Bool, not, ◌&&◌, ◌||◌, List, [], ◌∷◌, ◌++◌, bytes_eq, codes, if◌then◌else◌}
+use Rattle.std.specs.Prelude.{◌≡◌, ℕ, ◌+◌, unwrap_or, Bool, not, ◌&&◌, ◌||◌, List, [], ◌∷◌, ◌++◌, bytes_eq, codes, if◌then◌else◌}
 use Rattle.std.specs.List.{list_any}
 use Rattle.http_map.specs.HeaderMap.{Pair}
+use Rattle.http.specs.StatusCode.{code_digits, reason_phrase}
 use Rattle.h1_model.specs.Request.{Header}
+use Rattle.h1_model.specs.Answer.{AnswerHead}
 use Rattle.h1_model.specs.AnswerText.{header_text}
 
 -- the text is the old one with something behind it, or as it was
 abbrev pub Grows : List ℕ → List ℕ → Type 0
 Grows old new = (more : List ℕ) × (new ≡ old ++ more)
+
+-- the status line without its line end
+abbrev pub status_words : ℕ → AnswerHead → List ℕ
+status_words minor answer =
+    codes "HTTP/1." ++ ((48 + minor) ∷ (codes " " ++ (code_digits answer.status ++ (codes " "
+    ++ unwrap_or answer.reason (unwrap_or (reason_phrase answer.status) (codes "<unknown status code>"))))))
 
 -- a pair of a map as a line
 abbrev pub line_of : Pair → Header

@@ -1,5 +1,5 @@
 //! Names in camel case.
-ghost use Rattle.std.specs.Prelude.{◌≡◌, ◌++◌, ◌+◌, ◌≤◌, length};
+ghost use Rattle.std.specs.Prelude.{◌≡◌, ◌++◌, ◌+◌, ◌≤◌, ◌==◌, ◌&&◌, not, length, if◌then◌else◌};
 ghost use Rattle.h1_model.specs.AnswerText.{camel_case, raised};
 
 use bytes::BytesMut;
@@ -13,14 +13,22 @@ pub(crate) fn put_camel_case(out: &mut BytesMut, name: &[u8])
 {
     let mut raises = true;
     for byte in name {
-        if raises {
-            out.extend_reserved(&[raised(*byte)]);
-            raises = false;
-        } else {
-            out.extend_reserved(&[*byte]);
-            raises = *byte == b'-';
-        }
+        out.extend_reserved(&[cased(raises, *byte)]);
+        raises = raises_next(raises, *byte);
     }
+}
+
+fn cased(raises: bool, byte: u8) -> u8
+    ensures { result ≡ (if raises then raised byte else byte) }
+{
+    if raises { raised(byte) } else { byte }
+}
+
+// Behind a hyphen that isn't behind one itself, a letter is raised.
+fn raises_next(raises: bool, byte: u8) -> bool
+    ensures { result ≡ (not raises && (byte == 45)) }
+{
+    !raises && byte == b'-'
 }
 
 // The letter in upper case.

@@ -20,8 +20,8 @@ pub(crate) fn put_chunk(out: &mut BytesMut, bytes: &[u8]) -> Result<(), NoMemory
     if bytes.is_empty() {
         return Ok(());
     }
-    let mut line = [0; SIZE_LINE_LEN];
-    let start = write_size_line(bytes.len() as u64, &mut line);
+    let mut line = *b"0000000000000000\r\n";
+    let start = put_digits(bytes.len() as u64, &mut line);
     out.reserve(bytes.len() + SIZE_LINE_LEN + 2)?;
     out.extend_reserved(&line[start..]);
     out.extend_reserved(bytes);
@@ -29,13 +29,12 @@ pub(crate) fn put_chunk(out: &mut BytesMut, bytes: &[u8]) -> Result<(), NoMemory
     Ok(())
 }
 
-// The size and its line end, at the end of the buffer. It tells where they begin.
-fn write_size_line(size: u64, line: &mut [u8; SIZE_LINE_LEN]) -> usize
+// The digits of a size, in front of the line end. It tells where they begin.
+fn put_digits(size: u64, line: &mut [u8; SIZE_LINE_LEN]) -> usize
+    requires { drop 16 line.old ≡ crlf_bytes }
     ensures within { result ≤ 18 }
     ensures written { drop result line.new ≡ digits 16 true size ++ crlf_bytes }
 {
-    line[16] = b'\r';
-    line[17] = b'\n';
     let mut left = size;
     let mut at = 16;
     while left >= 16 {

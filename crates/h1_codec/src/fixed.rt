@@ -22,7 +22,12 @@ pub fn put_bad_request(out: &mut BytesMut, date: &mut DateLine, now: u64) -> Res
     ensures ok { OnOk result (out.new.items ≡ out.old.items ++ bad_request_text now) }
     ensures err { OnErr result (out.new.items ≡ out.old.items) }
 {
-    put_refusal(out, b"HTTP/1.1 400 Bad Request\r\ncontent-length: 0\r\nconnection: close\r\n", date, now)
+    put_refusal(
+        out,
+        b"HTTP/1.1 400 Bad Request\r\ncontent-length: 0\r\nconnection: close\r\n",
+        date,
+        now,
+    )
 }
 
 /// Puts the answer to a head that is too large (RFC 6585, section 5); `now` is in milliseconds since the start
@@ -32,7 +37,12 @@ pub fn put_too_large(out: &mut BytesMut, date: &mut DateLine, now: u64) -> Resul
     ensures ok { OnOk result (out.new.items ≡ out.old.items ++ too_large_text now) }
     ensures err { OnErr result (out.new.items ≡ out.old.items) }
 {
-    put_refusal(out, b"HTTP/1.1 431 Request Header Fields Too Large\r\ncontent-length: 0\r\nconnection: close\r\n", date, now)
+    put_refusal(
+        out,
+        b"HTTP/1.1 431 Request Header Fields Too Large\r\ncontent-length: 0\r\nconnection: close\r\n",
+        date,
+        now,
+    )
 }
 
 /// Puts the answer to a request that is too slow (RFC 7231, section 6.5.7); `now` is in milliseconds since the
@@ -42,11 +52,21 @@ pub fn put_timeout(out: &mut BytesMut, date: &mut DateLine, now: u64) -> Result<
     ensures ok { OnOk result (out.new.items ≡ out.old.items ++ timeout_text now) }
     ensures err { OnErr result (out.new.items ≡ out.old.items) }
 {
-    put_refusal(out, b"HTTP/1.1 408 Request Timeout\r\ncontent-length: 0\r\nconnection: close\r\n", date, now)
+    put_refusal(
+        out,
+        b"HTTP/1.1 408 Request Timeout\r\ncontent-length: 0\r\nconnection: close\r\n",
+        date,
+        now,
+    )
 }
 
 // The lines, the date of the moment, and the empty line.
-fn put_refusal(out: &mut BytesMut, lines: &[u8], date: &mut DateLine, now: u64) -> Result<(), NoMemory>
+fn put_refusal(
+    out: &mut BytesMut,
+    lines: &[u8],
+    date: &mut DateLine,
+    now: u64,
+) -> Result<(), NoMemory>
     requires { now < 253402300800000 }
     ensures ok { OnOk result (out.new.items ≡ out.old.items ++ (lines.now ++ (date_line false now ++ codes "\r\n"))) }
     ensures err { OnErr result (out.new.items ≡ out.old.items) }

@@ -1,17 +1,17 @@
 //! The head of an answer.
-ghost use Rattle.std.specs.Prelude.{◌≡◌, ℕ, [], ◌++◌, ◌/◌, ◌<◌, ◌≤◌, ◌+◌, ◌∷◌, length, codes, decimal, OnOk, OnErr, if◌then◌else◌};
+ghost use Rattle.std.specs.Prelude.{◌≡◌, ℕ, [], ◌++◌, ◌/◌, ◌<◌, ◌≤◌, ◌+◌, ◌∷◌, length, codes, decimal, OnOk, OnErr, true, if◌then◌else◌};
 ghost use Rattle.http.specs.StatusCode.{code_digits};
 ghost use Rattle.httparse.specs.Ascii.{crlf_bytes};
 ghost use Rattle.h1_model.specs.Answer as answers;
 ghost use Rattle.h1_model.specs.AnswerText as texts;
-ghost use Rattle.h1_model.specs.AnswerText.{status_line, framing_line, content_length_line, date_line, head_text};
+ghost use Rattle.h1_model.specs.AnswerText.{content_length_line, date_line, head_text};
 ghost use Rattle.h1_codec.specs.Meaning.{answer_of, size_of, model_type, model_shape};
-ghost use Rattle.h1_codec.specs.Lines.{Grows};
+ghost use Rattle.h1_codec.specs.Lines.{Grows, status_words};
 
+use crate::Asked;
 use crate::date::DateLine;
 use crate::headers::put_headers;
 use crate::shape::{Shape, in_camel_case, is_bodiless, shape_of};
-use crate::Asked;
 use bytes::BytesMut;
 use http_types::{BodySize, ConnectionType, NoMemory, ResponseHead, StatusCode};
 
@@ -42,11 +42,13 @@ pub fn put_answer_head(
     let shape = shape_of(asked, head, size);
     date.set(now);
     let before = out.len();
-    let outcome = put_head(out, asked, head, shape, size, connection, date);
-    if outcome.is_err() {
-        out.truncate(before);
+    match put_head(out, asked, head, shape, size, connection, date) {
+        Ok(()) => Ok(()),
+        Err(error) => {
+            out.truncate(before);
+            Err(error)
+        }
     }
-    outcome
 }
 
 fn put_head(
@@ -74,7 +76,7 @@ fn put_head(
 
 // The status line, without its line end.
 fn put_status(out: &mut BytesMut, asked: Asked, head: &ResponseHead) -> Result<(), NoMemory>
-    ensures ok { OnOk result (out.new.items ++ crlf_bytes ≡ out.old.items ++ status_line asked.minor (answer_of head.now)) }
+    ensures ok { OnOk result (out.new.items ≡ out.old.items ++ status_words asked.minor (answer_of head.now)) }
     ensures err { OnErr result (out.new.items ≡ out.old.items) }
 {
     let start = status_start(asked.minor(), head.status);
@@ -196,10 +198,18 @@ fn put_end_of_head(
     if has_date {
         return out.extend_from_slice(b"\r\n");
     }
-    let line = date.as_bytes();
-    if !camel {
-        return out.extend_from_slice(line);
+    if camel {
+        put_camel_date(out, date)
+    } else {
+        out.extend_from_slice(date.as_bytes())
     }
+}
+
+fn put_camel_date(out: &mut BytesMut, date: &DateLine) -> Result<(), NoMemory>
+    ensures ok { OnOk result ((now : ℕ) → now / 1000 ≡ date.now → out.new.items ≡ out.old.items ++ (date_line true now ++ crlf_bytes)) }
+    ensures err { OnErr result (out.new.items ≡ out.old.items) }
+{
+    let line = date.as_bytes();
     out.reserve(line.len())?;
     out.extend_reserved(b"Date");
     out.extend_reserved(&line[4..]);
