@@ -1,11 +1,11 @@
 -- The text of a head, line by line.
-use Rattle.std.proofs.Common.{◌≡◌, ℕ, ◌/◌, Bool, true, not, ◌&&◌, ◌||◌, List, [], ◌∷◌, ◌++◌, drop, refl, sym, ap, ◌∙◌, append_assoc, codes, if◌then◌else◌}
+use Rattle.std.proofs.Common.{◌≡◌, ℕ, ◌/◌, Bool, true, not, ◌&&◌, ◌||◌, List, [], ◌++◌, drop, sym, ap, ◌∙◌, append_assoc, codes, if◌then◌else◌}
 use Rattle.std.specs.Prelude.{◌==◌, filter, flat_map}
 use Rattle.httparse.specs.Ascii.{crlf_bytes}
 use Rattle.http_map.specs.HeaderMap.{Entries, pairs, IsHeaderMap}
 use Rattle.h1_model.specs.Request.{ConnectionType}
 use Rattle.h1_model.specs.Answer.{AnswerHead, BodySize, Shape, is_bodiless, is_raw, has_header}
-use Rattle.h1_model.specs.AnswerText.{camel_rest, date_of, date_line, status_line, size_line, framing_line, connection_line, header_text, is_sent, by_name, date_line_unless, head_text}
+use Rattle.h1_model.specs.AnswerText.{camel_rest, date_of, date_line, size_line, framing_line, connection_line, header_text, is_sent, by_name, date_line_unless, head_text}
 use Rattle.h1_codec.specs.DateText.{date_and_end}
 use Rattle.h1_codec.specs.Lines.{status_words, pairs_text, has_date}
 use Rattle.h1_codec.specs.Meaning.{headers_of}

@@ -1,18 +1,18 @@
 -- The header lines of an answer, of its map's pairs.
 use Rattle.std.proofs.Common.{◌≡◌, ℕ, ◌<◌, length, arith, Bool, true, false, not, ◌&&◌, ◌||◌, cond, List, [], ◌∷◌, ◌++◌, map, refl, sym, ap, ◌∙◌, if◌then◌else◌, codes}
-use Rattle.std.specs.Prelude.{bytes_eq, filter, flat_map, ◌==◌, is_some}
+use Rattle.std.specs.Prelude.{bytes_eq, filter, flat_map, ◌==◌}
 use Rattle.std.specs.List.{list_any}
 use Rattle.std.proofs.Math.Bool.{or_assoc}
 use Rattle.std.proofs.lemmas.List.{map-append}
 use Rattle.std.proofs.lemmas.Slice.Eq.{bytes_eq-Decides}
 use Rattle.std.proofs.lemmas.Bool.Decides.{same_from_decides, Decides-like}
 use Rattle.http_header.specs.FieldValue.{FieldValue}
-use Rattle.http_map.specs.HeaderMap.{Pair, Entry, Entries, entry_pairs, pairs, contains_key, value_count, IsHeaderMap}
+use Rattle.http_map.specs.HeaderMap.{Pair, Entries, entry_pairs, pairs, contains_key, value_count, IsHeaderMap}
 use Rattle.h1_model.specs.Request.{Header}
 use Rattle.h1_model.specs.Answer.{AnswerHead, Shape, is_raw, has_header}
 use Rattle.h1_model.specs.AnswerText.{header_text, is_sent, by_name}
 use Rattle.h1_codec.specs.Meaning.{lines_of, headers_of}
-use Rattle.h1_codec.specs.Lines.{line_of, goes_out, is_framing, pair_text, pairs_text, has_date}
+use Rattle.h1_codec.specs.Lines.{line_of, goes_out, is_framing, pairs_text, has_date}
 use Rattle.h1_codec.proofs.ByName.{by_name-map, AreFilled}
 
 -- the pairs of an entry are its lines

@@ -1,5 +1,5 @@
 -- The date line of a second, as it is kept.
-use Rattle.std.specs.Prelude.{◌≡◌, ℕ, ◌<◌, List, ◌++◌, codes}
+use Rattle.std.specs.Prelude.{ℕ, List, ◌++◌, codes}
 use Rattle.httparse.specs.Ascii.{crlf_bytes}
 use Rattle.h1_model.specs.AnswerText.{date_of}
 

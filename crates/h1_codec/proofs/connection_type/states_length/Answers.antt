@@ -1,4 +1,4 @@
-use Rattle.std.proofs.Common.{◌≡◌, ℕ, not, ap, sym, ◌∙◌, codes, refl, arith}
+use Rattle.std.proofs.Common.{◌≡◌, not, ap, sym, ◌∙◌, codes}
 use Rattle.std.specs.Prelude.{nat_eq}
 use Rattle.http_map.specs.HeaderMap.{Entries, value_count}
 use Rattle.h1_model.specs.Answer.{has_header}

@@ -1,4 +1,4 @@
-use Rattle.std.proofs.Common.{◌≡◌, drop, arith}
+use Rattle.std.proofs.Common.{arith}
 use Rattle.std.proofs.lemmas.Grind.{common_steps}
 use Rattle.h1_codec.proofs.HeadText.{camel_date}
 use Rattle.h1_codec.proofs.head.put_camel_date.Goals as goal

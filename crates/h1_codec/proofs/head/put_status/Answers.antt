@@ -1,4 +1,4 @@
-use Rattle.std.proofs.Common.{◌≡◌, ℕ, List, ◌+◌, ◌++◌, ◌∷◌, codes, rules, ◌∙◌}
+use Rattle.std.proofs.Common.{◌≡◌, ◌+◌, ◌++◌, ◌∷◌, codes, rules, ◌∙◌}
 use Rattle.http.specs.StatusCode.{code_digits}
 use Rattle.http_types.specs.ResponseHead.{reason_text}
 use Rattle.h1_codec.proofs.Pieces.{two}
