@@ -6,8 +6,9 @@ ghost use Rattle.h1_codec.specs.Meaning.{answer_of, headers_of, size_of, model_t
 
 use crate::Asked;
 use crate::shape::{Shape, shape_of};
+use http_bodies::BodySize;
 use http_types::header::CONTENT_LENGTH;
-use http_types::{BodySize, ConnectionType, HeaderMap, ResponseHead, StatusCode};
+use http_types::{ConnectionType, HeaderMap, ResponseHead, StatusCode};
 
 /// What becomes of the connection behind an answer to this request: what the request asked for, unless the
 /// setting keeps no connection, the answer asks to close or to upgrade, its body ends with the connection, or

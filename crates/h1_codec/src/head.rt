@@ -13,7 +13,8 @@ use crate::date::DateLine;
 use crate::headers::put_headers;
 use crate::shape::{Shape, in_camel_case, is_bodiless, shape_of};
 use bytes::BytesMut;
-use http_types::{BodySize, ConnectionType, NoMemory, ResponseHead, StatusCode};
+use http_bodies::BodySize;
+use http_types::{ConnectionType, NoMemory, ResponseHead, StatusCode};
 
 // What a head has beside its own headers and a reason of its own, but for rare lengths of its body.
 const USUAL_LEN: usize = 160;
