@@ -4,3 +4,4 @@ pub mod SizeLine
 pub mod ByName
 pub mod HeaderLines
 pub mod HeadText
+pub mod WrittenPieces

@@ -4,7 +4,7 @@ ghost use Rattle.h1_model.specs.AnswerText.{sent_end};
 ghost use Rattle.h1_machine.specs.Reply.{piece_sent};
 ghost use Rattle.h1_codec.specs.Meaning.{model_shape};
 
-use crate::chunk::put_chunk;
+use crate::chunk::{put_chunk, put_last_chunk};
 use crate::{Asked, Shape};
 use bytes::BytesMut;
 use http_types::NoMemory;
@@ -42,14 +42,14 @@ pub fn put_end(out: &mut BytesMut, asked: Asked, shape: Shape) -> Result<(), NoM
     ensures no_memory_needed { sent_end asked (model_shape shape) ≡ [] → IsOk result }
 {
     if shape == Shape::Chunked && !asked.is_head() {
-        out.extend_from_slice(b"0\r\n\r\n")
+        put_last_chunk(out)
     } else {
         Ok(())
     }
 }
 
-// At most so many bytes, from the first on.
-fn first_bytes(bytes: &[u8], most: u64) -> &[u8]
+/// At most so many bytes, from the first on.
+pub(crate) fn first_bytes(bytes: &[u8], most: u64) -> &[u8]
     ensures { result.now ≡ take most bytes.now }
 {
     if most < bytes.len() as u64 {

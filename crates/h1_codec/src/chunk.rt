@@ -2,7 +2,7 @@
 ghost use Rattle.std.specs.Prelude.{◌≡◌, ◌++◌, ◌-◌, ◌<◌, ◌≤◌, ◌^◌, [], drop, length, IsOk, OnOk, OnErr, true};
 ghost use Rattle.std.specs.Fmt.{digits, digit_glyph};
 ghost use Rattle.httparse.specs.Ascii.{crlf_bytes};
-ghost use Rattle.h1_model.specs.AnswerText.{chunk_text};
+ghost use Rattle.h1_model.specs.AnswerText.{chunk_text, last_chunk};
 
 use bytes::BytesMut;
 use http_types::NoMemory;
@@ -27,6 +27,14 @@ pub(crate) fn put_chunk(out: &mut BytesMut, bytes: &[u8]) -> Result<(), NoMemory
     out.extend_reserved(bytes);
     out.extend_reserved(b"\r\n");
     Ok(())
+}
+
+/// Puts the chunk of size 0 that ends a body, and no trailer.
+pub(crate) fn put_last_chunk(out: &mut BytesMut) -> Result<(), NoMemory>
+    ensures ok { OnOk result (out.new.items ≡ out.old.items ++ last_chunk) }
+    ensures err { OnErr result (out.new.items ≡ out.old.items) }
+{
+    out.extend_from_slice(b"0\r\n\r\n")
 }
 
 // The digits of a size, in front of the line end. It tells where they begin.

@@ -6,4 +6,4 @@ use Rattle.h1_codec.proofs.date.line_of.Goals as goal
 pub returns : goal.returns
 returns c =
     ap (λ (d : List ℕ). codes "date: " ++ (d ++ (crlf_bytes ++ crlf_bytes)))
-    (c.copy_from_slice.ensures.after ∙ c.to_bytes.ensures ∙ sym (date_same c.args.second c.in-Ok.date c.in-Ok.ensures.value))
+    (c.copy_from_slice.ensures.after ∙ c.to_bytes.ensures ∙ sym (date_same c.args.second c.date_at-date.result c.date_at-date.ensures))
