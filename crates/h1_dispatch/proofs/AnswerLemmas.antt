@@ -66,14 +66,16 @@ nothing_there there None both is = refl
 nothing_there there (Some x) both is = absurd (cc (is, both.1 refl))
 
 pub bare_of : (head : ResponseParts) (size : BodySize) → is_at_once (size_of size) ≡ true → head.reason ≡ None → type_of_flags head.flags ≡ None
-    → value_count head.headers ≡ 0 → IsBare (answer_of head) (size_of size)
-bare_of head size once reason marks lines =
+    → head.flags.no_chunking ≡ false → head.flags.in_camel_case ≡ false → value_count head.headers ≡ 0 → IsBare (answer_of head) (size_of size)
+bare_of head size once reason marks chunks camel lines =
     let flags = unmarked head.flags.close head.flags.keep_alive head.flags.upgrade marks in
     record {
       reason = reason;
       closes = flags.0;
       keeps_alive = flags.1;
       upgrades = flags.2;
+      chunks = chunks;
+      lower_case = camel;
       headers = empty_of (headers_of head.headers) (count_lines head.headers ∙ lines);
       at_once = once;
     }
@@ -82,17 +84,16 @@ pub bare_lines : (head : ResponseParts) (size : BodySize) → IsBare (answer_of 
 bare_lines head size bare = sym (count_lines head.headers) ∙ ap (λ (l : List model.Header). length l) bare.headers
 
 -- a bare answer is its status
-pub bare_is : (head : AnswerHead) (size : answers.BodySize) → head.no_chunking ≡ false → head.in_camel_case ≡ false → IsBare head size
-    → head ≡ bare_head head.status
-bare_is head size chunks camel bare =
+pub bare_is : (head : AnswerHead) (size : answers.BodySize) → IsBare head size → head ≡ bare_head head.status
+bare_is head size bare =
     λ i. record {
       status = head.status;
       reason = bare.reason i;
       closes = bare.closes i;
       keeps_alive = bare.keeps_alive i;
       upgrades = bare.upgrades i;
-      no_chunking = chunks i;
-      in_camel_case = camel i;
+      no_chunking = bare.chunks i;
+      in_camel_case = bare.lower_case i;
       headers = bare.headers i;
     }
 
@@ -200,7 +201,7 @@ answer_answers s p r head size kind buffered text since there bare kind_is buffe
     let kept = answered_kept s p r head.status (size_of size) kind text bare.at_once type same_text in
     let named : doing_with (answering set (answer_of head) (size_of size)) (kept_of p)
     ≡ record { outcome = on.done; kept = answering set (bare_head head.status) (size_of size) (exchange_of r) (kept_of p) } =
-    (λ i. doing_with (answering set (bare_is (answer_of head) (size_of size) refl refl bare i) (size_of size)) (kept_of (record p { request = there i })))
+    (λ i. doing_with (answering set (bare_is (answer_of head) (size_of size) bare i) (size_of size)) (kept_of (record p { request = there i })))
     ∙ (λ i. record { outcome = on.done; kept = answering set (bare_head head.status) (size_of size) (exchange_of r) (kept_of (record p { request = sym there i })) }) in
     let done : record { outcome = on.done; kept = record (kept_of q) { is_coming = was; closing_since = p.closing_since } }
     ≡ record { outcome = on.done; kept = answering set (bare_head head.status) (size_of size) (exchange_of r) (kept_of p) } =

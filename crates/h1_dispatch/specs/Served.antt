@@ -14,6 +14,8 @@ pub record IsBare (head : AnswerHead) (size : BodySize) : Type 0 where
   pub closes : head.closes ≡ false
   pub keeps_alive : head.keeps_alive ≡ false
   pub upgrades : head.upgrades ≡ false
+  pub chunks : head.no_chunking ≡ false
+  pub lower_case : head.in_camel_case ≡ false
   pub headers : head.headers ≡ []
   pub at_once : is_at_once size ≡ true
 

@@ -215,6 +215,12 @@ fn is_bare(head: &ResponseHead, size: BodySize) -> bool
     if head.conn_type().is_some() {
         return false;
     }
+    if head.camel_case_headers() {
+        return false;
+    }
+    if !head.chunked() {
+        return false;
+    }
     head.headers().len() == 0
 }
 
