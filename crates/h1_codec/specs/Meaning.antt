@@ -1,5 +1,5 @@
 -- What the types of an answer mean in the model.
-use Rattle.std.specs.Prelude.{ℕ, false, List, map, flat_map, if◌then◌else◌}
+use Rattle.std.specs.Prelude.{ℕ, List, map, flat_map, if◌then◌else◌}
 use Rattle.http.specs.declared.version.Version.{Version}
 use Rattle.http_types.specs.ResponseHead.{ResponseParts}
 use Rattle.http_types.specs.Version.{is_below_http11}
@@ -37,8 +37,8 @@ answer_of head =
       closes = head.flags.close;
       keeps_alive = head.flags.keep_alive;
       upgrades = head.flags.upgrade;
-      no_chunking = false;
-      in_camel_case = false;
+      no_chunking = head.flags.no_chunking;
+      in_camel_case = head.flags.in_camel_case;
       headers = headers_of head.headers;
     }
 

@@ -24,7 +24,7 @@ fn cased(raises: bool, byte: u8) -> u8
     if raises { raised(byte) } else { byte }
 }
 
-// Behind a hyphen that isn't behind one itself, a letter is raised.
+// Behind a hyphen a letter is raised; the byte there isn't looked at again.
 fn raises_next(raises: bool, byte: u8) -> bool
     ensures { result ≡ (not raises && (byte == 45)) }
 {

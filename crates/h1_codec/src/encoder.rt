@@ -1,5 +1,5 @@
 //! Messages, encoded one after another, after the module `h1::encoder` of actix-http.
-ghost use Rattle.std.specs.Prelude.{◌≡◌, ◌<◌, ◌++◌, ◌↔◌, [], List, ℕ, OnOk, OnErr, IfOk, IsOk, IsErr, Err, if◌then◌else◌};
+ghost use Rattle.std.specs.Prelude.{◌≡◌, ◌<◌, ◌++◌, ◌↔◌, [], ℕ, false, OnOk, OnErr, IfOk, IsOk, Err};
 
 use crate::body::first_bytes;
 use crate::chunk::{put_chunk, put_last_chunk};

@@ -11,7 +11,7 @@ ghost use Rattle.h1_codec.specs.Lines.{Grows, status_words};
 use crate::Asked;
 use crate::date::DateLine;
 use crate::headers::put_headers;
-use crate::shape::{Shape, in_camel_case, is_bodiless, shape_of};
+use crate::shape::{Shape, is_bodiless, shape_of};
 use bytes::BytesMut;
 use http_bodies::BodySize;
 use http_types::{ConnectionType, NoMemory, ResponseHead, StatusCode};
@@ -65,7 +65,7 @@ fn put_head(
         (model_shape shape) (size_of size) (model_type connection) now) }
     ensures err { OnErr result (Grows out.old.items out.new.items) }
 {
-    let camel = in_camel_case(head);
+    let camel = head.camel_case_headers();
     let lines = head.headers.len().saturating_mul(USUAL_LINE_LEN);
     out.reserve(lines.saturating_add(USUAL_LEN))?;
     put_status(out, asked, head)?;

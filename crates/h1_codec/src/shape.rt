@@ -69,14 +69,5 @@ pub(crate) fn is_bodiless(status: StatusCode) -> bool
 fn no_chunking(head: &ResponseHead) -> bool
     ensures { result ≡ (answer_of head.now).no_chunking }
 {
-    let _head = head;
-    false
-}
-
-/// Whether names are to be sent in camel case.
-pub(crate) fn in_camel_case(head: &ResponseHead) -> bool
-    ensures { result ≡ (answer_of head.now).in_camel_case }
-{
-    let _head = head;
-    false
+    !head.chunked()
 }

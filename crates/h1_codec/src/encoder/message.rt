@@ -4,9 +4,8 @@ ghost use Rattle.http.specs.declared.version.Version.{Version as SomeVersion};
 ghost use Rattle.http_bodies.specs.declared.body.size.BodySize.{BodySize as Size};
 ghost use Rattle.http_types.specs.declared.message.ConnectionType.{ConnectionType as Kind};
 ghost use Rattle.h1_model.specs.Answer as answers;
-ghost use Rattle.h1_model.specs.AnswerText.{head_text};
-ghost use Rattle.h1_codec.specs.Encoding.{Encoding, of_length, first_encoding, encoded, behind, is_complete, end_of, ended, missing_of};
-ghost use Rattle.h1_codec.specs.Meaning.{answer_of, size_of, model_type, model_shape, minor_of};
+ghost use Rattle.h1_codec.specs.Encoding.{of_length, first_encoding, encoded, behind, is_complete, end_of, ended, missing_of};
+ghost use Rattle.h1_codec.specs.Meaning.{model_shape};
 ghost use Rattle.h1_codec.specs.Written.{asked_by, answer_shape, answer_text};
 
 use super::TransferEncoding;

@@ -46,11 +46,11 @@ returns-clause-ok c =
     on_ok_weaker c.put_end_of_head.result
     (λ put now is.
     head_is c.args.asked.minor (answer_of c.args.head.now) (model_shape c.args.shape) (size_of c.args.size) (model_type c.args.connection) now
-    c.args.head.now.headers c.in_camel_case-camel.result c.in_ok-has_date.has_date
+    c.args.head.now.headers c.camel_case_headers-camel.result c.in_ok-has_date.has_date
     c.args.out.now.items c.put_status.new.out.items c.put_framing.new.out.items c.extend_from_slice.new.self.items c.put_headers.new.out.items c.put_end_of_head.new.out.items
-    valid refl c.in_camel_case-camel.ensures c.in_ok-has_date.ensures.date
+    valid refl c.camel_case_headers-camel.ensures c.in_ok-has_date.ensures.date
     (c.in_ok-put_status.ensures.ok ∙ ap (λ (l : List ℕ). l ++ status_words c.args.asked.minor (answer_of c.args.head.now)) c.reserve.ensures.items)
     (c.in_ok-put_framing.ensures.ok
-    ∙ ap (λ n. c.put_status.new.out.items ++ (crlf_bytes ++ (if is_bodiless n then [] else size_line c.in_camel_case-camel.result (model_shape c.args.shape) (size_of c.args.size)))) status)
+    ∙ ap (λ n. c.put_status.new.out.items ++ (crlf_bytes ++ (if is_bodiless n then [] else size_line c.camel_case_headers-camel.result (model_shape c.args.shape) (size_of c.args.size)))) status)
     (c.in_ok-extend_from_slice.ensures.ok ∙ ap (λ (l : List ℕ). c.put_framing.new.out.items ++ l) c.connection_line.ensures) c.in_ok-has_date.ensures.text (put now is))
     c.put_end_of_head.ensures.ok
