@@ -2,8 +2,8 @@
 use bytes::BytesMut;
 use h1_codec::{
     Asked, DateLine, EncodeError, MessageEncoder, Shape, TransferEncoding, put_answer_head,
-    put_bad_request, put_end, put_interim, put_piece, put_timeout, put_too_large, shape_of, type_of,
-    write_content_length, write_date_header,
+    put_bad_request, put_end, put_interim, put_piece, put_timeout, put_too_large, shape_of,
+    type_of, write_content_length, write_date_header,
 };
 use http_bodies::BodySize;
 use http_types::header::{HeaderName, value_of_bytes};
@@ -12,6 +12,7 @@ use std::alloc::Global;
 use std::test::Fail;
 
 // A request, its answer's status and size, a piece of the body, and what is written.
+#[derive(Clone, Copy, Debug)]
 struct Row {
     version: Version,
     is_head: bool,
@@ -192,12 +193,19 @@ fn headers_are_written(rt: HostRuntime) -> Result<(), Fail> {
 
 #[test]
 fn names_are_written_in_camel_case(rt: HostRuntime) -> Result<(), Fail> {
-    let mut head = head_of(rt.alloc(), StatusCode::OK, &[("a--b", "1"), ("x-frame-options", "y")])?;
+    let mut head = head_of(
+        rt.alloc(),
+        StatusCode::OK,
+        &[("a--b", "1"), ("x-frame-options", "y")],
+    )?;
     head.set_camel_case_headers(true);
     head.set_connection_type(ConnectionType::Close);
     let asked = asked_by(Version::HTTP_11, false);
     let text = written(rt.alloc(), asked, &head, BodySize::ZERO, b"")?;
-    assert!(rt; text.as_slice() == b"HTTP/1.1 200 OK\r\nContent-Length: 0\r\nConnection: close\r\nA--b: 1\r\nX-Frame-Options: y\r\nDate: Thu, 01 Jan 1970 00:00:00 GMT\r\n\r\n".as_slice());
+    assert!(rt;
+        text.as_slice()
+            == b"HTTP/1.1 200 OK\r\nContent-Length: 0\r\nConnection: close\r\nA--b: 1\r\nX-Frame-Options: y\r\nDate: Thu, 01 Jan 1970 00:00:00 GMT\r\n\r\n".as_slice()
+    );
     Ok(())
 }
 
@@ -209,10 +217,14 @@ fn texts_without_an_answer_are_written(rt: HostRuntime) -> Result<(), Fail> {
     put_bad_request(&mut out, &mut date, 999)?;
     put_too_large(&mut out, &mut date, 0)?;
     put_timeout(&mut out, &mut date, 5000)?;
-    assert!(rt; out.as_slice() == b"HTTP/1.1 100 Continue\r\n\r\n\
+    assert!(rt;
+        out.as_slice()
+            == b"HTTP/1.1 100 Continue\r\n\r\n\
 HTTP/1.1 400 Bad Request\r\ncontent-length: 0\r\nconnection: close\r\ndate: Thu, 01 Jan 1970 00:00:00 GMT\r\n\r\n\
 HTTP/1.1 431 Request Header Fields Too Large\r\ncontent-length: 0\r\nconnection: close\r\ndate: Thu, 01 Jan 1970 00:00:00 GMT\r\n\r\n\
-HTTP/1.1 408 Request Timeout\r\ncontent-length: 0\r\nconnection: close\r\ndate: Thu, 01 Jan 1970 00:00:05 GMT\r\n\r\n".as_slice());
+HTTP/1.1 408 Request Timeout\r\ncontent-length: 0\r\nconnection: close\r\ndate: Thu, 01 Jan 1970 00:00:05 GMT\r\n\r\n"
+                .as_slice()
+    );
     Ok(())
 }
 
@@ -222,7 +234,10 @@ fn lines_are_written(rt: HostRuntime) -> Result<(), Fail> {
     write_content_length(0, &mut out, false)?;
     write_date_header(0, &mut out, false)?;
     write_date_header(784111777000, &mut out, true)?;
-    assert!(rt; out.as_slice() == b"\r\ncontent-length: 0\r\ndate: Thu, 01 Jan 1970 00:00:00 GMT\r\nDate: Sun, 06 Nov 1994 08:49:37 GMT\r\n".as_slice());
+    assert!(rt;
+        out.as_slice()
+            == b"\r\ncontent-length: 0\r\ndate: Thu, 01 Jan 1970 00:00:00 GMT\r\nDate: Sun, 06 Nov 1994 08:49:37 GMT\r\n".as_slice()
+    );
     Ok(())
 }
 
@@ -255,9 +270,22 @@ fn a_message_is_encoded(rt: HostRuntime) -> Result<(), Fail> {
     let head = ResponseHead::new(rt.alloc(), StatusCode::OK);
     let mut encoder: MessageEncoder<ResponseHead> = MessageEncoder::new();
     let (size, kind) = (BodySize::Stream, ConnectionType::KeepAlive);
-    encoder.encode(&mut out, &head, false, false, Version::HTTP_11, size, kind, 0)?;
+    encoder.encode(
+        &mut out,
+        &head,
+        false,
+        false,
+        Version::HTTP_11,
+        size,
+        kind,
+        0,
+    )?;
     let complete = encoder.encode_chunk(&[b'x'; 26], &mut out)?;
     encoder.encode_eof(&mut out)?;
-    assert!(rt; !complete && out.as_slice() == b"HTTP/1.1 200 OK\r\ntransfer-encoding: chunked\r\ndate: Thu, 01 Jan 1970 00:00:00 GMT\r\n\r\n1A\r\nxxxxxxxxxxxxxxxxxxxxxxxxxx\r\n0\r\n\r\n".as_slice());
+    assert!(rt;
+        !complete
+            && out.as_slice()
+                == b"HTTP/1.1 200 OK\r\ntransfer-encoding: chunked\r\ndate: Thu, 01 Jan 1970 00:00:00 GMT\r\n\r\n1A\r\nxxxxxxxxxxxxxxxxxxxxxxxxxx\r\n0\r\n\r\n".as_slice()
+    );
     Ok(())
 }
