@@ -1,0 +1,6 @@
+pub mod Meaning
+pub mod Lines
+pub mod DateText
+pub mod Encoding
+pub mod Written
+pub mod Pieces

@@ -1,0 +1,46 @@
+//! The texts of answers (RFC 7230, sections 3 and 4.1): heads, pieces and ends of bodies, interim lines and
+//! refusals, each put behind what a buffer holds. Beside them stand encoders of whole messages, with the names
+//! that actix-http has for them.
+//!
+//! # Example
+//!
+//! ```ignore
+//! let asked = Asked::new(Version::HTTP_11, false, false, ConnectionType::KeepAlive);
+//! let head = ResponseHead::new(alloc, StatusCode::OK);
+//! let size = BodySize::Sized(2);
+//! let (mut out, mut date) = (BytesMut::new(alloc), DateLine::new());
+//! let connection = type_of(true, false, asked, &head, size);
+//! put_answer_head(&mut out, asked, &head, size, connection, &mut date, 0)?;
+//! put_piece(&mut out, asked, shape_of(asked, &head, size), 2, b"hi")?;
+//! // out holds: HTTP/1.1 200 OK, content-length: 2, date: Thu, 01 Jan 1970 00:00:00 GMT, an empty line, and hi.
+//! ```
+//!
+//! # Contract
+//!
+//! Each text is that of the definitions, behind what the buffer held. Want of memory leaves the buffer as it was,
+//! and what writes nothing wants none. What is written of a body in chunks is read again as its bytes (`laws`).
+#![tactic(auto)]
+
+mod asked;
+mod body;
+mod camel;
+mod chunk;
+mod connection_type;
+mod date;
+mod encoder;
+mod error;
+mod fixed;
+mod head;
+mod headers;
+pub mod laws;
+mod shape;
+
+pub use asked::Asked;
+pub use body::{put_end, put_piece};
+pub use connection_type::type_of;
+pub use date::{DateLine, write_date_header};
+pub use encoder::{EncodeHead, MessageEncoder, TransferEncoding};
+pub use error::EncodeError;
+pub use fixed::{put_bad_request, put_interim, put_timeout, put_too_large};
+pub use head::{put_answer_head, write_content_length};
+pub use shape::{Shape, shape_of};
