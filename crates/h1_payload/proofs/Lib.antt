@@ -1,0 +1,6 @@
+pub mod Taking
+pub mod Places
+pub mod Rooms
+pub mod PassLemmas
+pub mod Lines
+pub mod Pulls
