@@ -4,3 +4,5 @@ pub mod Rooms
 pub mod PassLemmas
 pub mod Lines
 pub mod Pulls
+pub mod Takes
+pub mod Fitting

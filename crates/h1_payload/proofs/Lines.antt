@@ -12,13 +12,13 @@ use Rattle.http_header.specs.Token as token
 use Rattle.http_map.specs.HeaderMap.{Entries, append}
 use Rattle.httparse.specs.Ascii.{colon, crlf_bytes}
 use Rattle.httparse.specs.Grammar.{is_value_byte, is_token_byte, crlf, Field, IsField, IsToken, AllPass, print_field, print_section, ReadsSection, LineEnd, print_end}
-use Rattle.httparse.specs.Spans.{name_and_value, header_bytes, IsHeaderWithin, IsSectionAt}
+use Rattle.httparse.specs.Spans.{name_and_value, header_bytes, IsHeaderWithin, IsSectionWithin, IsSectionAt}
 use Rattle.httparse.specs.declared.spans.HeaderSpan.{HeaderSpan}
 use Rattle.httparse.proofs.TrimLemmas.{AllPass-trim_ows}
 use Rattle.h1_chunks.specs.ChunkedText.{Trailer, IsTrailer, trailer_text, section_text}
 use Rattle.h1_model.specs.Request.{Header}
 use Rattle.h1_model.specs.Parse.{trailer_header}
-use Rattle.h1_payload.specs.HeaderMaps.{header_map, IsLine, line_header}
+use Rattle.h1_payload.specs.HeaderMaps.{header_map, IsLine, line_header, IsLinesAt}
 
 -- ---- trailers as fields
 
@@ -76,7 +76,7 @@ pub lines_fit : (lines : List Trailer) (text : List ℕ) → AllByRecursion IsTr
 lines_fit lines text ok is =
     let few = few_lines lines ok in
     let len : length text ≡ length (section_text lines) + 2 = ap length is ∙ length-append (section_text lines) crlf_bytes in
-    let count = length-map field_of lines in
+    let count = length-map lines field_of in
     omega arith
 
 -- ---- fields as lines
@@ -133,3 +133,13 @@ module _ (text : List ℕ) (spans : List HeaderSpan) (i : ℕ) (d : HeaderSpan) 
       ∙ ap header_map (map_push line_header (map (header_bytes text) (take i spans)) line)
       ∙ fold_push (λ (entries : Entries) (h : Header). append entries h.name (plain_value h.value)) [] (map line_header (map (header_bytes text) (take i spans)))
       (line_header line)
+
+-- ---- what was parsed
+
+pub lines_at : (text : List ℕ) (spans : List HeaderSpan) (len count : ℕ) (fields : List Field) (last : LineEnd) → IsSectionWithin text spans len count
+    → IsSectionAt text 0 spans len count fields last → length text ≤ 8194 → IsLinesAt text spans count
+lines_at text spans len count fields last inside at short = record {
+  fits = inside.count_fits;
+  within = spans_within len (length text) (take count spans) inside.len_fits inside.headers_fit;
+  lines = spans_lines text spans len count fields last at short;
+}

@@ -14,7 +14,8 @@ use Rattle.h1_payload.specs.declared.place.Place as declared
 use Rattle.h1_payload.specs.declared.place.Place.TheVariants as place
 use Rattle.h1_payload.specs.Passing.{LeadsTo, IsAllPassed}
 use Rattle.h1_payload.specs.Places.{place_of}
-use Rattle.h1_payload.specs.Readers.{Reader, IsPassedBy, IsNotPassedBy}
+use Rattle.h1_payload.specs.Readers.{Reader, HasRoom, IsPassedBy, IsNotPassedBy}
+use Rattle.h1_payload.proofs.Rooms.{room_dropped}
 
 -- one byte
 pub one_leads : (p : Place) (bytes : List ℕ) (at : ℕ) → at < length bytes → HasNext p → LeadsTo p bytes at (at + 1) (step p (get_or bytes at 0))
@@ -165,3 +166,12 @@ pass_on is_ended old new bytes rest x =
     ∙ ap (λ q. record { rest = chunks_rest q []; unread = [] }) (sym x.place)
     ∙ ap (λ s. record { rest = chunks_rest new.place s; unread = [] }) (sym x.section)
     ∙ ap (λ (l : List ℕ). record { rest = chunks_rest new.place new.section; unread = l }) (sym x.all)
+
+-- behind what was passed the text that is dropped has room
+pub passed_room : (start : Place) (section bytes : List ℕ) (at : ℕ) (p : Place) → HasRoom start section → IsAllPassed start bytes at p → (p ≡ done → ⊥)
+    → HasRoom p []
+passed_room start section bytes at p room way other = by_way way.all
+  where
+    by_way : (p ≡ done) ⊎ ((p ≡ after start bytes) × (read p (drop at bytes) ≡ read p [])) → HasRoom p []
+    by_way (inl e) = absurd (other e)
+    by_way (inr x) = subst (λ q. HasRoom q []) (sym x.0) (room_dropped start bytes section room)

@@ -1,16 +1,19 @@
 -- Where in the bytes what comes next stands.
-use Rattle.std.proofs.Common.{◌≡◌, ℕ, suc, ◌+◌, ◌-◌, ◌<◌, ◌≤◌, ltb, eqb, true, false, List, [], ◌∷◌, ◌++◌, length, get_or, take, drop, refl, sym, ap, ◌∙◌, subst, arith, add-one, length-drop}
+use Rattle.std.proofs.Common.{◌≡◌, ℕ, suc, ◌+◌, ◌-◌, ◌<◌, ◌≤◌, ltb, eqb, true, false, List, [], ◌∷◌, ◌++◌, length, get_or, take, drop, refl, sym, ap, ◌∙◌, subst, inl, arith, add-one, append-nil, length-drop}
 use Rattle.std.specs.Prelude.{slice_range}
 use Rattle.std.proofs.Math.Nat.{sub_self}
 use Rattle.std.proofs.Math.Seq.{drop-cons, drop-length}
 use Rattle.std.proofs.lemmas.Bool.{cond-true, cond-false, lt-ltb, le-ltb, eq-eqb, ne_eqb}
-use Rattle.std.proofs.lemmas.List.{drop-drop, take_rest}
+use Rattle.std.proofs.lemmas.List.{drop-drop, drop-take, take_rest}
 use Rattle.h1_chunks.specs.Place.{Place, in_bytes, bytes_end, in_section, end_cr, done, broken, step}
 use Rattle.h1_chunks.specs.TakeNext.{Next, chunk, waits, ended, breaks, nothing_noted, of_chunk, stops_at, take_next}
+use Rattle.h1_payload.specs.declared.place.Line.{Line}
 use Rattle.h1_payload.specs.declared.place.Place as declared
 use Rattle.h1_payload.specs.declared.place.Place.TheVariants as place
 use Rattle.h1_payload.specs.Places.{place_of, is_quiet, is_section}
-use Rattle.h1_payload.specs.Scans.{EndsLines}
+use Rattle.h1_payload.specs.declared.scan.Found.{Found}
+use Rattle.h1_payload.specs.declared.scan.Scan.{Scan}
+use Rattle.h1_payload.specs.Scans.{next_of, told, noting, EndsLines, IsFoundWithin, IsWithin}
 use Rattle.h1_payload.proofs.Taking.{take-nil, take_chunk, take_quiet, take_out, take_broken, take_done, breaks_section}
 
 -- no bytes
@@ -124,3 +127,50 @@ broken_at p bytes at inside ends below other =
 pub not_end_cr : (q : declared.Place) → (q ≡ place.EndCr → ⊥) → place_of q ≡ end_cr → ⊥
 not_end_cr place.EndCr other e = other refl
 not_end_cr q other e = cc
+
+-- ---- what a scan tells
+
+-- without bytes of trailer lines
+pub plain_told : (bytes : List ℕ) (at : ℕ) (what : Found) → nothing_noted (next_of bytes what) ≡ told bytes (record { from = at; to = at; found = what })
+plain_told bytes at what = ap (λ (l : List ℕ). record { trailers = l; next = next_of bytes what }) (sym (slice_none bytes at))
+
+pub plain_within : (len at : ℕ) (what : Found) (s : Scan) → at ≤ len → IsFoundWithin len what → s ≡ record { from = at; to = at; found = what } → IsWithin len s
+plain_within len at what s below inside is =
+    subst (IsWithin len) (sym is) (record { alone = inl refl; ordered = omega arith; lines = below; found = inside })
+
+-- what comes next in the section is told behind the bytes of its lines
+pub lines_told : (start p : Place) (bytes : List ℕ) (at count to : ℕ) (what : Found) → at ≤ length bytes → count ≤ length (drop at bytes) → to ≡ at + count
+    → take_next start (drop at bytes) ≡ noting (take count (drop at bytes)) (take_next p (drop count (drop at bytes)))
+    → take_next p (drop to bytes) ≡ nothing_noted (next_of bytes what)
+    → take_next start (drop at bytes) ≡ told bytes (record { from = at; to = to; found = what })
+lines_told start p bytes at count to what below within is same behind =
+    let l = drop at bytes in
+    let size : count ≡ to - at = omega arith in
+    same
+    ∙ ap (λ r. noting (take count l) (take_next p r)) (drop-drop count at bytes ∙ ap (λ n. drop n bytes) (sym is))
+    ∙ ap (noting (take count l)) behind
+    ∙ ap (λ (r : List ℕ). record { trailers = r; next = next_of bytes what }) (append-nil (take count l) ∙ ap (λ n. take n l) size)
+
+-- the bytes up to a place, without those in front of another
+pub shared : (bytes : List ℕ) (at end : ℕ) → at ≤ end → drop at (take end bytes) ≡ slice_range bytes at end
+shared bytes at end below =
+    let sum : end ≡ at + (end - at) = omega arith in
+    ap (λ n. drop at (take n bytes)) sum ∙ drop-take at (end - at) bytes
+
+-- a quiet place stops nothing
+pub quiet_stops : (p : Place) → is_quiet p ≡ true → stops_at p ≡ waits p
+quiet_stops (in_bytes more) quiet = cc
+quiet_stops (in_section at lines room) quiet = cc
+quiet_stops done quiet = cc
+quiet_stops broken quiet = cc
+quiet_stops p quiet = refl
+
+-- each place but these is quiet
+pub rest_is_quiet : (q : declared.Place) → ((more : ℕ) → q ≡ place.Bytes more → ⊥)
+    → ((line : Line) (lines room : ℕ) → q ≡ place.Section line lines room → ⊥) → (q ≡ place.Done → ⊥) → (q ≡ place.Broken → ⊥)
+    → is_quiet (place_of q) ≡ true
+rest_is_quiet (place.Bytes more) no_bytes no_section no_done no_broken = absurd (no_bytes more refl)
+rest_is_quiet (place.Section line lines room) no_bytes no_section no_done no_broken = absurd (no_section line lines room refl)
+rest_is_quiet place.Done no_bytes no_section no_done no_broken = absurd (no_done refl)
+rest_is_quiet place.Broken no_bytes no_section no_done no_broken = absurd (no_broken refl)
+rest_is_quiet q no_bytes no_section no_done no_broken = refl

@@ -93,7 +93,7 @@ room_less place section less short room z = omega (arith, room z)
 
 -- in front of a body
 pub room_start : HasRoom start []
-room_start z = trailers_fit z start
+room_start z = omega (arith, trailers_fit z start)
 
 -- behind bytes of a chunk
 pub room_chunk : (place next : Place) (bytes given behind section : List ℕ) → HasRoom place section

@@ -1,10 +1,12 @@
 -- Header lines in a map.
-use Rattle.std.specs.Prelude.{◌≡◌, ℕ, List, [], ◌++◌, map, fold}
+use Rattle.std.specs.Prelude.{◌≡◌, ℕ, ◌≤◌, List, [], ◌++◌, length, map, take, fold, All, Option, Some, None}
 use Rattle.std.specs.List.{AllByRecursion}
 use Rattle.http_header.specs.FieldName.{IsFieldName}
 use Rattle.http_header.specs.FieldValue.{IsFieldValue, plain_value}
 use Rattle.http_header.specs.Token.{lowercase}
 use Rattle.httparse.specs.Ascii.{crlf_bytes}
+use Rattle.httparse.specs.Spans.{IsHeaderWithin, header_bytes}
+use Rattle.httparse.specs.declared.spans.HeaderSpan.{HeaderSpan}
 use Rattle.http_map.specs.HeaderMap.{Entries, append}
 use Rattle.h1_chunks.specs.ChunkedText.{Trailer, IsTrailer, section_text}
 use Rattle.h1_model.specs.Request.{Header}
@@ -27,3 +29,17 @@ abbrev pub IsMapOf : List ℕ → Entries → Type 0
 IsMapOf text entries =
     (lines : List Trailer) → AllByRecursion IsTrailer lines → text ≡ section_text lines ++ crlf_bytes
     → entries ≡ header_map (map trailer_header lines)
+
+-- the first so many spans cover lines in the text
+pub record IsLinesAt (text : List ℕ) (spans : List HeaderSpan) (count : ℕ) : Type 0 where
+  pub fits : count ≤ length spans
+  pub within : All (IsHeaderWithin (length text)) (take count spans)
+  pub lines : All IsLine (map (header_bytes text) (take count spans))
+
+-- where the text is that of trailer lines and the empty line, they were found
+abbrev pub FindsLines : List ℕ → List HeaderSpan → Option ℕ → Type 0
+FindsLines text spans (Some count) =
+    (lines : List Trailer) → AllByRecursion IsTrailer lines → text ≡ section_text lines ++ crlf_bytes
+    → map line_header (map (header_bytes text) (take count spans)) ≡ map trailer_header lines
+FindsLines text spans None =
+    (lines : List Trailer) → AllByRecursion IsTrailer lines → ¬ (text ≡ section_text lines ++ crlf_bytes)

@@ -5,3 +5,4 @@ pub mod Answers
 pub mod Readers
 pub mod Passing
 pub mod Rests
+pub mod Fitting

@@ -13,7 +13,7 @@ use crate::pulled::{BodyFault, Pulled};
 use crate::scan::{Found, Scan, find_next};
 use crate::section::{Section, whole_text};
 use crate::trailers::read_trailers;
-use bytes::BytesMut;
+use bytes::{Bytes, BytesMut};
 use http_map::NoMemory;
 use std::marker::Model;
 
@@ -62,14 +62,21 @@ impl ChunkReader {
     {
         let scan = find_next(self.place, unread.as_slice());
         match scan.found {
-            Found::Chunk(at, end, place) => self.hand_out(unread, at, end, place),
+            Found::Chunk(at, end, place) => {
+                let bytes = self.hand_out(unread, at, end, place)?;
+                Ok(Pulled::Bytes(bytes))
+            }
             Found::Waits(place) => {
                 if has_ended {
                     return Ok(Pulled::Broken(BodyFault::Incomplete));
                 }
-                self.wait(unread, scan, place)
+                self.wait(unread, scan, place)?;
+                Ok(Pulled::Pending)
             }
-            Found::Ends(at) => self.finish(unread, scan, at),
+            Found::Ends(at) => {
+                let answer = self.finish(unread, scan, at)?;
+                Ok(answer)
+            }
             Found::Breaks => Ok(Pulled::Broken(BodyFault::Corrupted)),
         }
     }
@@ -103,10 +110,10 @@ impl ChunkReader {
         at: usize,
         end: usize,
         place: Place,
-    ) -> Result<Pulled, NoMemory>
+    ) -> Result<Bytes, NoMemory>
         requires within { (at ≤ end) × (end ≤ length unread.old.items) }
         requires room { HasRoom (place_of place) self.old.section }
-        ensures bytes { IfOk result (λ answer. answer ≡ Pulled.Bytes (slice_range unread.old.items at end)) }
+        ensures bytes { IfOk result (λ bytes. bytes ≡ slice_range unread.old.items at end) }
         ensures reader { OnOk result (self.new ≡ record { place = place_of place; section = self.old.section }) }
         ensures rest { OnOk result (unread.new.items ≡ drop end unread.old.items) }
         ensures err { OnErr result ((self.new ≡ self.old) × (unread.new ≡ unread.old)) }
@@ -114,7 +121,7 @@ impl ChunkReader {
         let mut bytes = unread.freeze_to(end)?;
         bytes.advance(at);
         self.place = place;
-        Ok(Pulled::Bytes(bytes))
+        Ok(bytes)
     }
 
     /// Passes all bytes, and keeps those of trailer lines.
@@ -123,10 +130,9 @@ impl ChunkReader {
         unread: &mut BytesMut,
         scan: Scan,
         place: Place,
-    ) -> Result<Pulled, NoMemory>
+    ) -> Result<(), NoMemory>
         requires within { IsWithin (length unread.old.items) scan }
         requires room { HasRoom (place_of place) (self.old.section ++ slice_range unread.old.items scan.from scan.to) }
-        ensures pending { IfOk result (λ answer. answer ≡ Pulled.Pending) }
         ensures reader { OnOk result (self.new ≡ record { place = place_of place; section = self.old.section ++ slice_range unread.old.items scan.from scan.to }) }
         ensures rest { OnOk result (unread.new.items ≡ []) }
         ensures no_memory_needed { slice_range unread.old.items scan.from scan.to ≡ [] → IsOk result }
@@ -137,7 +143,7 @@ impl ChunkReader {
         self.section.append(alloc, lines)?;
         self.place = place;
         unread.clear();
-        Ok(Pulled::Pending)
+        Ok(())
     }
 
     /// Passes the body's end, which is at an index, and gives the trailers, if there are some.

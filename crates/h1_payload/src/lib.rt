@@ -3,6 +3,7 @@
 
 mod chunks;
 mod kind;
+pub mod laws;
 mod pass;
 mod place;
 mod pulled;

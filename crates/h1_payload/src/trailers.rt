@@ -1,11 +1,10 @@
 //! The header map of a trailer section (RFC 7230, section 4.1.2).
-ghost use Rattle.std.specs.Prelude.{◌≡◌, ◌≤◌, ◌++◌, ℕ, List, length, map, All, IfOk};
-ghost use Rattle.std.specs.List.{AllByRecursion};
+ghost use Rattle.std.specs.Prelude.{◌≡◌, ◌≤◌, ◌/◌, length, map, All, IfOk, IfSome};
 ghost use Rattle.http_header.specs.FieldName.{IsFieldName};
 ghost use Rattle.http_header.specs.FieldValue.{IsFieldValue, plain_value};
 ghost use Rattle.http_header.specs.Token.{lowercase};
 ghost use Rattle.httparse.specs.Spans.{IsHeaderWithin, IsWithin, header_bytes, span_bytes};
-ghost use Rattle.h1_payload.specs.HeaderMaps.{header_map, IsLine, line_header, IsMapOf};
+ghost use Rattle.h1_payload.specs.HeaderMaps.{header_map, IsLine, line_header, IsMapOf, IsLinesAt, FindsLines};
 
 use bytes::Bytes;
 use http_map::{HeaderMap, HeaderName, HeaderValue, NoMemory};
@@ -23,10 +22,23 @@ pub(crate) fn read_trailers(alloc: Global, text: &Bytes) -> Result<HeaderMap, No
     ensures { IfOk result (IsMapOf text.now) }
 {
     let mut fields = vec![in alloc; EMPTY_HEADER_SPAN; text.len() / MIN_LINE_BYTES]?;
-    match parse_headers(text.as_slice(), &mut fields) {
-        Ok(Status::Complete((_, count))) => read_lines(alloc, text, &fields[..count]),
-        Ok(Status::Partial) => Ok(HeaderMap::new(alloc)),
-        Err(_) => Ok(HeaderMap::new(alloc)),
+    match find_lines(text.as_slice(), &mut fields) {
+        Some(count) => read_lines(alloc, text, &fields[..count]),
+        None => Ok(HeaderMap::new(alloc)),
+    }
+}
+
+/// Where the lines are, and how many, if the text is a section. There is room for as many lines as it can have.
+fn find_lines(text: &[u8], fields: &mut [HeaderSpan]) -> Option<usize>
+    requires short { length text.now ≤ 8194 }
+    requires room { length fields.old ≡ length text.now / 4 }
+    ensures within { IfSome result (λ count. IsLinesAt text.now fields.new count) }
+    ensures found { FindsLines text.now fields.new result }
+{
+    match parse_headers(text, fields) {
+        Ok(Status::Complete((_, count))) => Some(count),
+        Ok(Status::Partial) => None,
+        Err(_) => None,
     }
 }
 
@@ -34,7 +46,7 @@ pub(crate) fn read_trailers(alloc: Global, text: &Bytes) -> Result<HeaderMap, No
 fn read_lines(alloc: Global, text: &Bytes, fields: &[HeaderSpan]) -> Result<HeaderMap, NoMemory>
     requires within { All (IsHeaderWithin (length text.now)) fields.now }
     requires lines { All IsLine (map (header_bytes text.now) fields.now) }
-    ensures { IfOk result (λ map_of. map_of ≡ header_map (map line_header (map (header_bytes text.now) fields.now))) }
+    ensures { IfOk result (λ headers. headers ≡ header_map (map line_header (map (header_bytes text.now) fields.now))) }
 {
     let mut headers = HeaderMap::new(alloc);
     for field in fields {
