@@ -124,16 +124,6 @@ module _ (text : List ℕ) (spans : List HeaderSpan) (i : ℕ) (d : HeaderSpan) 
       subst IsLine (get_or-map (header_bytes text) spans i d (header_bytes text d) below)
       (All-get_or IsLine (map (header_bytes text) spans) i (header_bytes text d) (rw length-map below) all)
 
-  pub map_with_line : let line = header_bytes text (get_or spans i d) in
-      header_map (map line_header (map (header_bytes text) (take (i + 1) spans)))
-      ≡ append (header_map (map line_header (map (header_bytes text) (take i spans)))) (line_header line).name (plain_value (line_header line).value)
-  map_with_line =
-      let line = header_bytes text (get_or spans i d) in
-      ap (λ lines. header_map (map line_header lines)) (map_more (header_bytes text) spans i d below)
-      ∙ ap header_map (map_push line_header (map (header_bytes text) (take i spans)) line)
-      ∙ fold_push (λ (entries : Entries) (h : Header). append entries h.name (plain_value h.value)) [] (map line_header (map (header_bytes text) (take i spans)))
-      (line_header line)
-
 -- ---- what was parsed
 
 pub lines_at : (text : List ℕ) (spans : List HeaderSpan) (len count : ℕ) (fields : List Field) (last : LineEnd) → IsSectionWithin text spans len count

@@ -76,14 +76,6 @@ part_leads more bytes at left past some is =
 
 -- ---- the whole way
 
--- one part of the way behind the others
-pub way_more : (start p next : Place) (bytes : List ℕ) (at next_at : ℕ)
-    → (at ≤ length bytes) × ((read start bytes).ending ≡ (read p (drop at bytes)).ending) × (after start bytes ≡ after p (drop at bytes))
-    → LeadsTo p bytes at next_at next
-    → (next_at ≤ length bytes) × ((read start bytes).ending ≡ (read next (drop next_at bytes)).ending)
-    × (after start bytes ≡ after next (drop next_at bytes))
-way_more start p next bytes at next_at way l = (l.within, way.1 ∙ l.ending, way.2 ∙ l.leads)
-
 -- up to the end of the bytes
 pub way_all : (start p : Place) (bytes : List ℕ) (at : ℕ)
     → (at ≤ length bytes) × ((read start bytes).ending ≡ (read p (drop at bytes)).ending) × (after start bytes ≡ after p (drop at bytes))
@@ -143,29 +135,6 @@ passed_on old new bytes rest at p other way at_p none all = by_way way.all
 pub not_done : (q : declared.Place) → (q ≡ place.Done → ⊥) → place_of q ≡ done → ⊥
 not_done place.Done other e = other refl
 not_done q other e = cc
-
--- ---- what is left of a body
-
--- behind its end nothing
-pub pass_ended : (is_ended : Bool) (old : Reader) (bytes rest : List ℕ) → IsPassedBy old bytes rest
-    → pass_rest is_ended (chunks_rest old.place old.section) bytes ≡ record { rest = no_rest; unread = rest }
-pass_ended is_ended old bytes rest e = ap (pass_chunks old.place bytes) e
-
--- a body that hasn't ended at this place
-chunks_go_on : (place : Place) (bytes : List ℕ) (q : Place) → (q ≡ done → ⊥)
-    → pass_chunks place bytes (at_end q) ≡ record { rest = chunks_rest (after place bytes) []; unread = [] }
-chunks_go_on place bytes done other = absurd (other refl)
-chunks_go_on place bytes broken other = refl
-chunks_go_on place bytes q other = refl
-
-pub pass_on : (is_ended : Bool) (old new : Reader) (bytes rest : List ℕ) → IsNotPassedBy old bytes new rest
-    → pass_rest is_ended (chunks_rest old.place old.section) bytes ≡ record { rest = chunks_rest new.place new.section; unread = rest }
-pass_on is_ended old new bytes rest x =
-    ap (pass_chunks old.place bytes) x.ending
-    ∙ chunks_go_on old.place bytes new.place x.goes_on
-    ∙ ap (λ q. record { rest = chunks_rest q []; unread = [] }) (sym x.place)
-    ∙ ap (λ s. record { rest = chunks_rest new.place s; unread = [] }) (sym x.section)
-    ∙ ap (λ (l : List ℕ). record { rest = chunks_rest new.place new.section; unread = l }) (sym x.all)
 
 -- behind what was passed the text that is dropped has room
 pub passed_room : (start : Place) (section bytes : List ℕ) (at : ℕ) (p : Place) → HasRoom start section → IsAllPassed start bytes at p → (p ≡ done → ⊥)

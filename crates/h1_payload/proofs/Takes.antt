@@ -43,26 +43,6 @@ module _ (old : Reader) (bytes : List ℕ) (s : Scan) (at end : ℕ) (p : declar
   pub chunk_room : HasRoom (place_of p) old.section
   chunk_room = room_chunk old.place (place_of p) bytes (slice_range bytes at end) _ old.section x.room x.next
 
-  -- no bytes of trailer lines stand in front of them
-  none_noted : slice_range bytes s.from s.to ≡ []
-  none_noted = by_alone x.within.alone
-    where
-      by_alone : IsAlone s → slice_range bytes s.from s.to ≡ []
-      by_alone (inl e) = ap (λ n. slice_range bytes s.from n) (sym e) ∙ slice_none bytes s.from
-      by_alone (inr no_chunk) = absurd (subst IsNoChunk x.found no_chunk)
-
-  pub chunk_taken : (is_ended : Bool) (new : Reader) (given rest : List ℕ) → given ≡ slice_range bytes at end
-      → new ≡ record { place = place_of p; section = old.section } → rest ≡ drop end bytes
-      → IsTaken is_ended old bytes (pulled.Bytes given) new rest
-  chunk_taken is_ended new given rest g n r = (
-    x.next ∙ ap (λ l. chunk l (place_of p) (drop end bytes)) (sym g) ∙ ap (λ (q : Reader). chunk given q.place (drop end bytes)) (sym n)
-    ∙ ap (chunk given new.place) (sym r),
-    ap (λ (q : Reader). q.section) n ∙ sym (append-nil old.section) ∙ ap (λ l. old.section ++ l) (sym (x.noted ∙ none_noted)),
-  )
-
-  pub chunk_needs_memory : (is_ended : Bool) → NeedsNoMemory is_ended old bytes → ⊥
-  chunk_needs_memory is_ended light = subst (λ n. TakesNone is_ended old.section n (take_next old.place bytes).trailers) x.next light
-
 -- ---- nothing yet
 
 module _ (old : Reader) (bytes : List ℕ) (s : Scan) (p : declared.Place) (x : IsScanned old bytes s (found.Waits p)) where
@@ -73,50 +53,8 @@ module _ (old : Reader) (bytes : List ℕ) (s : Scan) (p : declared.Place) (x : 
   pub waits_incomplete : (is_ended : Bool) → is_ended ≡ true → IsTaken is_ended old bytes (pulled.Broken Incomplete) old bytes
   waits_incomplete is_ended e = (e, (place_of p, x.next), refl, refl)
 
-  pub waits_taken : (is_ended : Bool) (new : Reader) (rest : List ℕ) → is_ended ≡ false
-      → new ≡ record { place = place_of p; section = old.section ++ slice_range bytes s.from s.to } → rest ≡ []
-      → IsTaken is_ended old bytes pulled.Pending new rest
-  waits_taken is_ended new rest e n r = (
-    e,
-    x.next ∙ ap (λ (q : Reader). waits q.place) (sym n),
-    ap (λ (q : Reader). q.section) n ∙ ap (λ l. old.section ++ l) (sym x.noted),
-    r,
-  )
-
-  pub waits_light : (is_ended : Bool) → is_ended ≡ false → NeedsNoMemory is_ended old bytes → slice_range bytes s.from s.to ≡ []
-  waits_light is_ended e light = by_case (subst (λ n. TakesNone is_ended old.section n (take_next old.place bytes).trailers) x.next light)
-    where
-      by_case : (is_ended ≡ true) ⊎ ((take_next old.place bytes).trailers ≡ []) → slice_range bytes s.from s.to ≡ []
-      by_case (inl t) = absurd (false≢true (sym e ∙ t))
-      by_case (inr none) = sym x.noted ∙ none
-
 -- ---- the end
 
 module _ (old : Reader) (bytes : List ℕ) (s : Scan) (at : ℕ) (x : IsScanned old bytes s (found.Ends at)) where
   pub end_short : length (old.section ++ slice_range bytes s.from s.to) ≤ 8192
   end_short = subst (λ l. length (old.section ++ l) ≤ 8192) x.noted (room_ended old.place bytes _ old.section x.room x.next)
-
-  pub end_taken : (is_ended : Bool) (answer : Pulled) (new : Reader) (rest : List ℕ) → IsEndTaken (old.section ++ slice_range bytes s.from s.to) answer
-      → rest ≡ drop at bytes → IsTaken is_ended old bytes answer new rest
-  end_taken is_ended answer new rest ends r =
-      by_answer answer (subst (λ l. IsEndTaken (old.section ++ l) answer) (sym x.noted) ends)
-    where
-      to : (take_next old.place bytes).next ≡ ended rest
-      to = x.next ∙ ap ended (sym r)
-
-      by_answer : (a : Pulled) → IsEndTaken (old.section ++ (take_next old.place bytes).trailers) a → IsTaken is_ended old bytes a new rest
-      by_answer (pulled.Trailers entries) is = (to, is.0, is.1)
-      by_answer pulled.End is = (to, is)
-      by_answer (pulled.Bytes given) is = absurd is
-      by_answer (pulled.Broken fault) is = absurd is
-      by_answer pulled.Pending is = absurd is
-
-  pub end_light : (is_ended : Bool) → NeedsNoMemory is_ended old bytes → old.section ++ slice_range bytes s.from s.to ≡ []
-  end_light is_ended light =
-      subst (λ l. old.section ++ l ≡ []) x.noted (subst (λ n. TakesNone is_ended old.section n (take_next old.place bytes).trailers) x.next light)
-
--- ---- a fault
-
-pub breaks_taken : (old : Reader) (bytes : List ℕ) (s : Scan) (is_ended : Bool) → IsScanned old bytes s found.Breaks
-    → IsTaken is_ended old bytes (pulled.Broken Corrupted) old bytes
-breaks_taken old bytes s is_ended x = (x.next, refl, refl)

@@ -146,9 +146,3 @@ lines_more start p next bytes at b same inside below is leads on =
     ∙ ap (λ l. noting l (take_next (step p x) (drop (suc at) bytes))) (sym (take_more bytes at 0 below))
     ∙ ap (λ q. noting (take (at + 1) bytes) (take_next q (drop (suc at) bytes))) (sym to)
     ∙ ap (λ n. noting (take (at + 1) bytes) (take_next next (drop n bytes))) (sym (add-one at))
-
--- a byte that leads out of the section stands in front of what follows
-pub ends_at : (p next : Place) (bytes : List ℕ) (at b : ℕ) → at < length bytes → b ≡ get_or bytes at 0 → next ≡ step p b → is_section next ≡ false
-    → EndsLines p (drop at bytes)
-ends_at p next bytes at b below is leads out =
-    subst (EndsLines p) (sym (drop-cons bytes at 0 below)) (ap (λ x. is_section (step p x)) (sym is) ∙ ap is_section (sym leads) ∙ out)
