@@ -20,7 +20,8 @@ use crate::request::Request;
 use crate::{End, Event, Outcome};
 use bytes::Bytes;
 use h1_decode::{HeadScan, request_head};
-use http_types::{BodySize, ConnectionType, KeepAlive, ParseError, ResponseHead};
+use http_bodies::BodySize;
+use http_types::{ConnectionType, KeepAlive, ParseError, ResponseHead};
 
 impl Connection {
     /// Takes in an event that is allowed, and answers it as the tables do. After an error the connection is as before.
@@ -51,6 +52,13 @@ impl Connection {
             Event::Answer(head, size) => self.answer(head, *size),
             Event::Write(limit) => self.write(*limit),
             Event::Tick(moment) => self.tick(*moment),
+            Event::Pull => Err(StepError::NotYet),
+            Event::DropBody => Err(StepError::NotYet),
+            Event::Continue => Err(StepError::NotYet),
+            Event::Chunk(_) => Err(StepError::NotYet),
+            Event::BodyEnd => Err(StepError::NotYet),
+            Event::BodyError => Err(StepError::NotYet),
+            Event::Drain => Err(StepError::NotYet),
         }
     }
 
@@ -212,6 +220,12 @@ fn is_bare(head: &ResponseHead, size: BodySize) -> bool
         return false;
     }
     if head.conn_type().is_some() {
+        return false;
+    }
+    if head.camel_case_headers() {
+        return false;
+    }
+    if !head.chunked() {
         return false;
     }
     head.headers().len() == 0
