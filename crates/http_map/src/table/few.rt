@@ -3,10 +3,10 @@ ghost use Rattle.std.specs.Prelude.{◌≡◌, ◌<◌, [], ◌∷◌, length, t
 ghost use Rattle.std.specs.List.{IsDistinct};
 ghost use Rattle.http_header.specs.Token.{lowercase};
 ghost use Rattle.http_map.specs.HeaderMap.{keys, contains_key, get_all, insert, append, remove};
-ghost use Rattle.http_map.specs.Lines.{StandsFirstAt, Lacks};
+ghost use Rattle.http_map.specs.Lines.{StandsFirstAt, Lacks, name_mark};
 ghost use Rattle.http_map.specs.Retain.{MayAnswer, KeepsValues, Retains};
 
-use super::line::{Line, mark_of};
+use super::line::{Line, mark_of, mark_of_name};
 use super::many::Hashed;
 use crate::NoMemory;
 use crate::removed::Removed;
@@ -22,7 +22,16 @@ pub(super) fn find(lines: &[Line], bytes: &[u8]) -> Option<usize>
     ensures within { IfSome result (λ i. i < length lines.now) }
     ensures lacks { IfNone result (Lacks lines.now (lowercase bytes.now)) }
 {
-    let mark = mark_of(bytes);
+    find_marked(lines, mark_of(bytes), bytes)
+}
+
+// The same, where the mark is made already.
+fn find_marked(lines: &[Line], mark: u32, bytes: &[u8]) -> Option<usize>
+    requires { mark ≡ name_mark (lowercase bytes.now) }
+    ensures found { IfSome result (StandsFirstAt lines.now (lowercase bytes.now)) }
+    ensures within { IfSome result (λ i. i < length lines.now) }
+    ensures lacks { IfNone result (Lacks lines.now (lowercase bytes.now)) }
+{
     let mut i = 0;
     for line in lines {
         if line.is(mark, bytes) {
@@ -43,10 +52,11 @@ pub(super) fn append_value(
     ensures err { OnErr result (lines.new.items ≡ lines.old.items) }
 {
     let alloc = *lines.allocator();
-    match find(lines.as_slice(), key.as_bytes()) {
+    let mark = mark_of_name(&key);
+    match find_marked(lines.as_slice(), mark, key.as_bytes()) {
         Some(i) => lines[i].push(alloc, value),
         None => {
-            lines.push(Line::new(key, Values::one(value)))?;
+            lines.push(Line::marked(mark, key, Values::one(value)))?;
             Ok(())
         }
     }
@@ -105,7 +115,8 @@ pub(super) fn retain_names<F: Fn(&HeaderName, &HeaderValue) -> bool>(
     );
 }
 
-// The same names in an `IndexMap`.
+// The same names in an `IndexMap`. It is out of the way of the maps that never come to it.
+#[inline(never)]
 pub(super) fn hashed(alloc: Global, lines: &[Line]) -> Result<Hashed, NoMemory>
     requires { IsDistinct bytes_eq (keys lines.now) }
     ensures { IfOk result (λ names. names.entries ≡ lines.now) }

@@ -59,13 +59,45 @@ pub(crate) fn mark_of(bytes: &[u8]) -> u32
     (first * 256 + last_but_one) * 256 + last
 }
 
+// The byte at the index, and 0 past the end.
+fn byte_at(bytes: &[u8], i: usize) -> u32
+    ensures value { result ≡ get_or bytes.now i 0 }
+    ensures small { result < 256 }
+{
+    if i < bytes.len() {
+        u32::from(bytes[i])
+    } else {
+        0
+    }
+}
+
+/// The mark of a name, which is in lower case already.
+pub(crate) fn mark_of_name(name: &HeaderName) -> u32
+    ensures { result ≡ name_mark name.now }
+{
+    let bytes = name.as_bytes();
+    let len = bytes.len();
+    let first = byte_at(bytes, 0);
+    let last_but_one = byte_at(bytes, len.saturating_sub(2));
+    let last = byte_at(bytes, len.saturating_sub(1));
+    (first * 256 + last_but_one) * 256 + last
+}
+
 impl Line {
     ghost use Rattle.http_map.specs.NamesLends.{line_lends_values};
 
     pub(crate) fn new(name: HeaderName, values: Values) -> Line
         ensures { result ≡ (name, values) }
     {
-        let mark = mark_of(name.as_bytes());
+        let mark = mark_of_name(&name);
+        Line { mark, name, values }
+    }
+
+    /// A line whose mark is made already.
+    pub(crate) fn marked(mark: u32, name: HeaderName, values: Values) -> Line
+        requires { mark ≡ name_mark name }
+        ensures { result ≡ (name, values) }
+    {
         Line { mark, name, values }
     }
 

@@ -24,7 +24,8 @@ pub(super) fn find(names: &Hashed, bytes: &[u8]) -> Option<usize>
     names.get_index_of(AnyCase { bytes })
 }
 
-// Adds the value after those of the name, which is looked up once.
+// Adds the value after those of the name, which is looked up once. It is out of the way of few names.
+#[inline(never)]
 pub(super) fn append_value(
     names: &mut Hashed,
     key: HeaderName,

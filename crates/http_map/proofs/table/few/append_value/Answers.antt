@@ -23,5 +23,5 @@ returns-in_ok-push-in-None-clause-ok c =
     let m = c.args.lines.now.items in
     let same : lowercase c.as_bytes.result.now ≡ name = ap lowercase c.as_bytes.ensures.value ∙ c.as_bytes.ensures.valid.1 in
     let lacks = subst (λ l. Lacks l name) c.as_slice.ensures.value (subst (λ n. Lacks c.as_slice.result.now n) same c.in-None.ensures.lacks) in
-    let line : c.new.result ≡ (name, c.args.value ∷ []) = c.new.ensures ∙ ap (λ vs. (name, vs)) c.one.ensures in
+    let line : c.marked.result ≡ (name, c.args.value ∷ []) = c.marked.ensures ∙ ap (λ vs. (name, vs)) c.one.ensures in
     c.in_ok-push-in-None.ensures.items ∙ ap (λ e. m ++ e ∷ []) line ∙ sym (append-lacks name c.args.value m lacks)

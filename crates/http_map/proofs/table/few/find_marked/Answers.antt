@@ -1,7 +1,7 @@
 use Rattle.std.proofs.Common.{◌≡◌, ◌+◌, true, false, bytes_eq, refl, sym, ap, ◌∙◌, arith, add-one}
 use Rattle.http_header.specs.Token.{lowercase}
 use Rattle.http_map.proofs.LineLemmas.{none_before, passed, stands, lacks_all}
-use Rattle.http_map.proofs.table.few.find.Goals as goal
+use Rattle.http_map.proofs.table.few.find_marked.Goals as goal
 
 pub loop-line-init : goal.loop-line-init
 loop-line-init c = (refl, none_before (lowercase c.args.bytes.now) c.args.lines.now)

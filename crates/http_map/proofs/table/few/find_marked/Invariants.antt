@@ -1,7 +1,7 @@
 use Rattle.std.proofs.Common.{◌≡◌}
 use Rattle.http_header.specs.Token.{lowercase}
 use Rattle.http_map.specs.Lines.{IsNotBefore}
-use Rattle.http_map.proofs.table.few.find.Given as goal
+use Rattle.http_map.proofs.table.few.find_marked.Given as goal
 
 -- the lines so far have other names
 abbrev pub invariant-loop-line : goal.invariant-loop-line
