@@ -1,14 +1,21 @@
 //! Why there is nothing to measure.
 use h1_dispatch::StepError;
+use http_header::HeaderNameError;
+use http_map::ValueError;
 use http_types::{NoMemory, ParseError};
+use std::str::Utf8Error;
 use thiserror::Error;
 
 /// Why a measurement ended early.
 #[derive(Clone, Copy, Debug, PartialEq, Eq, Error)]
 pub enum BenchError {
     /// The words name no measurement.
-    #[error("usage: bench [head|get|get16 minimal|curl|browser REQUESTS]")]
+    #[error("usage: bench [head|get|get16 minimal|curl|browser REQUESTS] or bench map WORK NAMES|minimal|curl|browser TIMES")]
     Usage,
+
+    /// A text that was to be a header line is none.
+    #[error("a text is no header line")]
+    NoLine,
 
     /// An event was not allowed.
     #[error("an event is misplaced")]
@@ -30,6 +37,30 @@ pub enum BenchError {
 impl From<NoMemory> for BenchError {
     fn from(_error: NoMemory) -> BenchError {
         BenchError::NoMemory
+    }
+}
+
+impl From<Utf8Error> for BenchError {
+    fn from(_error: Utf8Error) -> BenchError {
+        BenchError::NoLine
+    }
+}
+
+impl From<HeaderNameError> for BenchError {
+    fn from(error: HeaderNameError) -> BenchError {
+        match error {
+            HeaderNameError::Invalid => BenchError::NoLine,
+            HeaderNameError::OutOfMemory => BenchError::NoMemory,
+        }
+    }
+}
+
+impl From<ValueError> for BenchError {
+    fn from(error: ValueError) -> BenchError {
+        match error {
+            ValueError::Invalid => BenchError::NoLine,
+            ValueError::NoMemory => BenchError::NoMemory,
+        }
     }
 }
 

@@ -1,24 +1,30 @@
 //! Has the engine do the same work many times over, for a program that counts instructions: `bin/bench`.
 //!
-//! The words are what is measured, with which head, and how many requests, as in `bench get curl 1000`. It prints
-//! a checksum of all that the engine gave, so that none of the work can be left out. Without words it does a little
-//! of each.
+//! The words are what is measured, with which head, and how many requests, as in `bench get curl 1000`; or `map`, what
+//! is done with a header map, the number of its names or the head that they are of, and how many times, as in
+//! `bench map find 32 1000`. It prints a checksum of all that came, so that none of the work can be left out. Without
+//! words it does a little of each.
 #![tactic(auto)]
 
 mod checksum;
 mod error;
 mod head;
+mod map;
 mod work;
 
 use anyhow::{Context, Result};
 use error::BenchError;
 use head::{HEADS, NamedHead};
+use map::{Lines, MAP_WORKS, MapWork};
 use std::alloc::Global;
 use std::env;
 use work::{WORKS, Work};
 
 /// How many requests each measurement takes where there are no words.
 const FEW: u64 = 32;
+
+/// How many names a map has where there are no words: more than stand in a list.
+const NAMES: usize = 40;
 
 fn main(rt: HostRuntime) -> Result<()> {
     let alloc = rt.alloc();
@@ -33,6 +39,12 @@ fn main(rt: HostRuntime) -> Result<()> {
                 .context("reading how many requests")?;
             measure(&rt, alloc, work, head, requests)
         }
+        [word, work, names, times] if word.as_str() == "map" => {
+            let work = MapWork::named(work.as_str()).ok_or(BenchError::Usage)?;
+            let lines = lines_of(alloc, names.as_str())?;
+            let times = times.parse::<u64>().context("reading how many times")?;
+            measure_map(&rt, alloc, work, &lines, times)
+        }
         _ => Err(BenchError::Usage.into()),
     }
 }
@@ -43,7 +55,22 @@ fn a_little_of_each(rt: &impl Print, alloc: Global) -> Result<()> {
             measure(rt, alloc, *work, head, FEW)?;
         }
     }
+    let lines = Lines::numbered(alloc, NAMES)?;
+    for work in &MAP_WORKS {
+        measure_map(rt, alloc, *work, &lines, FEW)?;
+    }
     Ok(())
+}
+
+// The lines of the head of that name, or so many as the word says.
+fn lines_of(alloc: Global, word: &str) -> Result<Lines> {
+    match NamedHead::named(word) {
+        Some(head) => Ok(Lines::of_head(alloc, head)?),
+        None => {
+            let count = word.parse::<usize>().context("reading how many names")?;
+            Ok(Lines::numbered(alloc, count)?)
+        }
+    }
 }
 
 fn measure(
@@ -55,5 +82,17 @@ fn measure(
 ) -> Result<()> {
     let checksum = work.run(alloc, head.text, requests)?;
     println!(rt; "{} {} {checksum:016x}", work.name(), head.name)?;
+    Ok(())
+}
+
+fn measure_map(
+    rt: &impl Print,
+    alloc: Global,
+    work: MapWork,
+    lines: &Lines,
+    times: u64,
+) -> Result<()> {
+    let checksum = work.run(alloc, lines, times)?;
+    println!(rt; "map {} {checksum:016x}", work.name())?;
     Ok(())
 }

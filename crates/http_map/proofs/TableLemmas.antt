@@ -6,8 +6,8 @@ use Rattle.std.specs.List.{IsDistinct}
 use Rattle.std.specs.Vec as vec
 use Rattle.indexmap.specs.Layout.{set_value_at}
 use Rattle.http_header.specs.FieldValue.{FieldValue}
-use Rattle.http_map.specs.declared.names.Table.{Table}
-use Rattle.http_map.specs.declared.names.Table.TheVariants.{Few, Many}
+use Rattle.http_map.specs.declared.table.Table.{Table}
+use Rattle.http_map.specs.declared.table.Table.TheVariants.{Few, Many}
 use Rattle.http_map.specs.HeaderMap.{Entry, Entries, keys}
 use Rattle.http_map.specs.Names.{listed, IsTable}
 use Rattle.http_map.specs.NamesLends.{with_values_at}

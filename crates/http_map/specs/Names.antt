@@ -2,8 +2,8 @@
 use Rattle.std.specs.Prelude.{⊤, bytes_eq}
 use Rattle.std.specs.List.{IsDistinct}
 use Rattle.http_map.specs.HeaderMap.{Entries, keys}
-use Rattle.http_map.specs.declared.names.Table.{Table}
-use Rattle.http_map.specs.declared.names.Table.TheVariants.{Few, Many}
+use Rattle.http_map.specs.declared.table.Table.{Table}
+use Rattle.http_map.specs.declared.table.Table.TheVariants.{Few, Many}
 
 -- the names with their values, in order
 abbrev pub listed : Table → Entries

@@ -8,11 +8,11 @@ use Rattle.indexmap.specs.IndexMap.{with_value_at, set_value_at}
 use Rattle.http_header.specs.FieldValue.{FieldValue}
 use Rattle.http_map.specs.HeaderMap.{Entry, Entries}
 use Rattle.http_map.specs.contracts.values.Values.{the_row as values_row}
-use Rattle.http_map.specs.contracts.names.line.Line.{the_row as line_row}
-use Rattle.http_map.specs.contracts.names.Names.{the_row}
-use Rattle.http_map.specs.contracts.names.Table.{the_row as table_row}
-use Rattle.http_map.specs.declared.names.Table.{Table}
-use Rattle.http_map.specs.declared.names.Table.TheVariants.{Few, Many}
+use Rattle.http_map.specs.contracts.table.line.Line.{the_row as line_row}
+use Rattle.http_map.specs.contracts.table.Names.{the_row}
+use Rattle.http_map.specs.contracts.table.Table.{the_row as table_row}
+use Rattle.http_map.specs.declared.table.Table.{Table}
+use Rattle.http_map.specs.declared.table.Table.TheVariants.{Few, Many}
 
 -- once the borrow r ends, the values of the line are the last ones written through r
 abbrev pub line_lends_values : MutBor Entry → MutBor (List FieldValue) → Fml

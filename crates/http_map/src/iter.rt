@@ -1,10 +1,11 @@
 //! Iterators that borrow a map. In a contract each is the list of the items still to come.
-ghost use Rattle.std.specs.Prelude.{◌≡◌, ℕ, List, length, Some, IfSome};
+ghost use Rattle.std.specs.Prelude.{◌≡◌, ℕ, List, length, Some, IfSome, ⊤};
 ghost use Rattle.std.specs.Iterator.SizeHint.{IsWithinCount};
 ghost use Rattle.std.specs.Iterator.{UpTo, at_most, YieldsFirstBy, YieldsFirstRef, item_count};
 
-use crate::names::NamesIter;
+use crate::table::NamesIter;
 use http_header::{HeaderName, HeaderValue};
+use std::alloc::AllocError;
 use std::iter::FusedIterator;
 use std::marker::Model;
 
@@ -31,7 +32,7 @@ impl<'a> Model for Iter<'a> {
 }
 
 impl<'a> Iter<'a> {
-    ghost use Rattle.std.specs.Prelude.{◌≡◌, ◌<◌, length, All};
+    ghost use Rattle.std.specs.Prelude.{◌≡◌, ◌==◌, ◌<◌, length, All};
     ghost use Rattle.http_map.specs.HeaderMap.{IsEntry, pairs, value_count};
 
     pub(crate) fn new(later: NamesIter<'a>, left: usize) -> Iter<'a>
@@ -44,6 +45,28 @@ impl<'a> Iter<'a> {
             later,
             left,
         }
+    }
+
+    /// Whether no pair is left.
+    pub fn is_empty(&self) -> bool
+        ensures { result ≡ (length self.now == 0) }
+    {
+        self.len() == 0
+    }
+}
+
+/// What is left may be gone over again. It takes no memory.
+impl<'a> Clone for Iter<'a> {
+    ghost is_clone = { λ it copy. copy ≡ it };
+
+    ghost is_infallible = { λ _. ⊤ };
+
+    fn clone(&self) -> Result<Iter<'a>, AllocError> {
+        Ok(Iter {
+            current: self.current,
+            later: self.later.clone()?,
+            left: self.left,
+        })
     }
 }
 
@@ -102,13 +125,33 @@ impl<'a> Model for Keys<'a> {
 }
 
 impl<'a> Keys<'a> {
-    ghost use Rattle.std.specs.Prelude.{◌≡◌};
+    ghost use Rattle.std.specs.Prelude.{◌≡◌, ◌==◌, length};
     ghost use Rattle.http_map.specs.HeaderMap.{keys};
 
     pub(crate) fn new(names: NamesIter<'a>) -> Keys<'a>
         ensures { result ≡ keys names.entry }
     {
         Keys { names }
+    }
+
+    /// Whether no name is left.
+    pub fn is_empty(&self) -> bool
+        ensures { result ≡ (length self.now == 0) }
+    {
+        self.len() == 0
+    }
+}
+
+/// What is left may be gone over again. It takes no memory.
+impl<'a> Clone for Keys<'a> {
+    ghost is_clone = { λ it copy. copy ≡ it };
+
+    ghost is_infallible = { λ _. ⊤ };
+
+    fn clone(&self) -> Result<Keys<'a>, AllocError> {
+        Ok(Keys {
+            names: self.names.clone()?,
+        })
     }
 }
 

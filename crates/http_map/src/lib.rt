@@ -2,7 +2,10 @@
 //! values, after the module `header` of actix-http. With it come the names and values that go into a
 //! map, and what they are made of.
 //!
-//! # Example
+//! # Examples
+//!
+//! `append` adds a value to those of a name, and `insert` puts one in their place. A name is looked up as
+//! a constant or as a text in any case.
 //!
 //! ```ignore
 //! let mut map = HeaderMap::new(alloc);
@@ -11,6 +14,32 @@
 //! map.append(SET_COOKIE, value_of_str(alloc, "two=2")?)?;
 //! // The map gives set-cookie: one=1, set-cookie: two=2, accept: text/plain.
 //! assert!(rt; map.len() == 3 && map.len_keys() == 2 && map.contains_key("Set-Cookie"));
+//!
+//! let mut old = map.insert(SET_COOKIE, value_of_str(alloc, "six=6")?)?;
+//! // The old values are one=1 and two=2.
+//! assert!(rt; old.len() == 2 && map.len() == 2 && map.get("SET-COOKIE").is_some());
+//! assert!(rt; map.get(HOST).is_none() && map.get("no name at all").is_none());
+//! ```
+//!
+//! All values of a name, once more if need be, and those that pass a test:
+//!
+//! ```ignore
+//! let values = map.get_all(COOKIE);
+//! let again = values.clone()?;
+//! assert!(rt; values.len() == again.len());
+//! map.retain(|name, value| *name != COOKIE || value.as_bytes().starts_with(b"id="));
+//! ```
+//!
+//! A map of pairs, its copy, and what it gives when it is emptied, where a name stands beside its first
+//! value alone:
+//!
+//! ```ignore
+//! let mut map = HeaderMap::try_from_pairs(alloc, pairs.into_iter())?;
+//! let copy = map.clone()?;
+//! for (name, value) in map.drain() {
+//!     // Some(set-cookie) with one=1, None with two=2, Some(accept) with text/plain
+//! }
+//! assert!(rt; map.is_empty() && copy.len() == 3);
 //! ```
 //!
 //! # Contract
@@ -26,117 +55,24 @@ mod into_pair;
 mod into_value;
 mod iter;
 mod map;
-mod names;
+pub mod names;
 mod owned;
 mod removed;
+mod table;
 mod values;
 
 pub use as_name::AsHeaderName;
-pub use common::cache_status;
-pub use common::cdn_cache_control;
-pub use common::clear_site_data;
-pub use common::cross_origin_embedder_policy;
-pub use common::cross_origin_opener_policy;
-pub use common::cross_origin_resource_policy;
-pub use common::permissions_policy;
-pub use common::x_forwarded_for;
-pub use common::x_forwarded_host;
-pub use common::x_forwarded_proto;
-pub use http_header::ACCEPT;
-pub use http_header::ACCEPT_CHARSET;
-pub use http_header::ACCEPT_ENCODING;
-pub use http_header::ACCEPT_LANGUAGE;
-pub use http_header::ACCEPT_RANGES;
-pub use http_header::ACCESS_CONTROL_ALLOW_CREDENTIALS;
-pub use http_header::ACCESS_CONTROL_ALLOW_HEADERS;
-pub use http_header::ACCESS_CONTROL_ALLOW_METHODS;
-pub use http_header::ACCESS_CONTROL_ALLOW_ORIGIN;
-pub use http_header::ACCESS_CONTROL_EXPOSE_HEADERS;
-pub use http_header::ACCESS_CONTROL_MAX_AGE;
-pub use http_header::ACCESS_CONTROL_REQUEST_HEADERS;
-pub use http_header::ACCESS_CONTROL_REQUEST_METHOD;
-pub use http_header::AGE;
-pub use http_header::ALLOW;
-pub use http_header::ALT_SVC;
-pub use http_header::AUTHORIZATION;
-pub use http_header::CACHE_CONTROL;
-pub use http_header::CACHE_STATUS;
-pub use http_header::CDN_CACHE_CONTROL;
-pub use http_header::CONNECTION;
-pub use http_header::CONTENT_DISPOSITION;
-pub use http_header::CONTENT_ENCODING;
-pub use http_header::CONTENT_LANGUAGE;
-pub use http_header::CONTENT_LENGTH;
-pub use http_header::CONTENT_LOCATION;
-pub use http_header::CONTENT_RANGE;
-pub use http_header::CONTENT_SECURITY_POLICY;
-pub use http_header::CONTENT_SECURITY_POLICY_REPORT_ONLY;
-pub use http_header::CONTENT_TYPE;
-pub use http_header::COOKIE;
-pub use http_header::DATE;
-pub use http_header::DNT;
-pub use http_header::ETAG;
-pub use http_header::EXPECT;
-pub use http_header::EXPIRES;
-pub use http_header::FORWARDED;
-pub use http_header::FROM;
-pub use http_header::HOST;
-pub use http_header::HeaderName;
-pub use http_header::HeaderValue;
-pub use http_header::IF_MATCH;
-pub use http_header::IF_MODIFIED_SINCE;
-pub use http_header::IF_NONE_MATCH;
-pub use http_header::IF_RANGE;
-pub use http_header::IF_UNMODIFIED_SINCE;
-pub use http_header::LAST_MODIFIED;
-pub use http_header::LINK;
-pub use http_header::LOCATION;
-pub use http_header::MAX_FORWARDS;
-pub use http_header::ORIGIN;
-pub use http_header::PRAGMA;
-pub use http_header::PROXY_AUTHENTICATE;
-pub use http_header::PROXY_AUTHORIZATION;
-pub use http_header::PUBLIC_KEY_PINS;
-pub use http_header::PUBLIC_KEY_PINS_REPORT_ONLY;
-pub use http_header::RANGE;
-pub use http_header::REFERER;
-pub use http_header::REFERRER_POLICY;
-pub use http_header::REFRESH;
-pub use http_header::RETRY_AFTER;
-pub use http_header::SEC_WEBSOCKET_ACCEPT;
-pub use http_header::SEC_WEBSOCKET_EXTENSIONS;
-pub use http_header::SEC_WEBSOCKET_KEY;
-pub use http_header::SEC_WEBSOCKET_PROTOCOL;
-pub use http_header::SEC_WEBSOCKET_VERSION;
-pub use http_header::SERVER;
-pub use http_header::SET_COOKIE;
-pub use http_header::STRICT_TRANSPORT_SECURITY;
-pub use http_header::TE;
-pub use http_header::TRAILER;
-pub use http_header::TRANSFER_ENCODING;
-pub use http_header::UPGRADE;
-pub use http_header::UPGRADE_INSECURE_REQUESTS;
-pub use http_header::USER_AGENT;
-pub use http_header::VARY;
-pub use http_header::VIA;
-pub use http_header::WARNING;
-pub use http_header::WWW_AUTHENTICATE;
-pub use http_header::X_CONTENT_TYPE_OPTIONS;
-pub use http_header::X_DNS_PREFETCH_CONTROL;
-pub use http_header::X_FRAME_OPTIONS;
-pub use http_header::X_XSS_PROTECTION;
-pub use into_pair::InvalidHeaderPart;
-pub use into_pair::NameText;
-pub use into_pair::TryIntoHeaderPair;
-pub use into_value::TryIntoHeaderValue;
-pub use into_value::ValueError;
-pub use into_value::value_of_bytes;
-pub use into_value::value_of_str;
-pub use iter::Iter;
-pub use iter::Keys;
+pub use http_header::{HeaderName, HeaderValue};
+pub use into_pair::{InvalidHeaderPart, NameText, TryIntoHeaderPair};
+pub use into_value::{TryIntoHeaderValue, ValueError, value_of_bytes, value_of_str};
+pub use iter::{Iter, Keys};
 pub use map::HeaderMap;
-pub use owned::Drain;
-pub use owned::IntoIter;
+pub use names::{
+    ACCEPT, CONNECTION, CONTENT_LENGTH, CONTENT_TYPE, COOKIE, DATE, EXPECT, HOST,
+    SEC_WEBSOCKET_ACCEPT, SEC_WEBSOCKET_KEY, SEC_WEBSOCKET_VERSION, SET_COOKIE, TRANSFER_ENCODING,
+    UPGRADE,
+};
+pub use owned::{Drain, IntoIter};
 pub use removed::Removed;
 
 /// The allocator had no memory, or a count of values would have passed the greatest `usize`.

@@ -11,17 +11,17 @@ mod edits;
 use crate::NoMemory;
 use crate::as_name::AsHeaderName;
 use crate::iter::{Iter, Keys};
-use crate::names::Names;
+use crate::table::Names;
 use http_header::{HeaderName, HeaderValue};
-use std::alloc::Global;
+use std::alloc::{AllocError, Global};
 use std::marker::Model;
-use std::slice;
+use std::{fmt, slice};
 
 /// A map from header names to one or more values each. The names stand in the order of their
 /// first insertion, and each name's values in the order in which they were added.
 ///
 /// A contract sees it as that list of names, each with the list of its values.
-#[derive(Debug, Drop)]
+#[derive(Drop)]
 pub struct HeaderMap {
     names: Names,
     // The number of values, under all names.
@@ -138,7 +138,7 @@ impl HeaderMap {
         Keys::new(self.names.iter())
     }
 
-    /// An equal map.
+    /// An equal map, as `clone` gives it too.
     pub fn copy(&self) -> Result<HeaderMap, NoMemory>
         ensures { IfOk result (λ copy. copy ≡ self.now) }
     {
@@ -146,6 +146,23 @@ impl HeaderMap {
             names: self.names.clone()?,
             len: self.len,
         })
+    }
+}
+
+impl Clone for HeaderMap {
+    ghost is_clone = { λ map copy. copy ≡ map };
+
+    fn clone(&self) -> Result<HeaderMap, AllocError> {
+        self.copy()
+    }
+}
+
+// The text is that of actix-http, but for the order of the names.
+impl fmt::Debug for HeaderMap {
+    fn fmt<W: fmt::Write>(&self, f: &mut fmt::Formatter<W>) -> fmt::Result {
+        f.debug_struct("HeaderMap")
+            .field("inner", &self.names)
+            .finish()
     }
 }
 

@@ -5,8 +5,8 @@ ghost use Rattle.std.specs.Iterator.{UpTo, at_most, YieldsFirst, item_count};
 ghost use Rattle.http_map.specs.Owned.{entries_left, GivesFirst};
 
 use crate::NoMemory;
-use crate::names::{Names, NamesIntoIter};
 use crate::removed::Removed;
+use crate::table::{Names, NamesIntoIter};
 use http_header::{HeaderName, HeaderValue};
 use std::alloc::Global;
 use std::iter::FusedIterator;
@@ -37,7 +37,7 @@ impl Model for Drain {
 }
 
 impl Drain {
-    ghost use Rattle.std.specs.Prelude.{◌≡◌, ◌<◌, length, All};
+    ghost use Rattle.std.specs.Prelude.{◌≡◌, ◌==◌, ◌<◌, length, All};
     ghost use Rattle.http_map.specs.HeaderMap.{IsEntry, value_count};
     ghost use Rattle.http_map.specs.Owned.{drained};
 
@@ -51,6 +51,13 @@ impl Drain {
             later,
             left,
         }
+    }
+
+    /// Whether no value is left.
+    pub fn is_empty(&self) -> bool
+        ensures { result ≡ (length self.now == 0) }
+    {
+        self.len() == 0
     }
 }
 
@@ -116,7 +123,7 @@ impl Model for IntoIter {
 }
 
 impl IntoIter {
-    ghost use Rattle.std.specs.Prelude.{◌≡◌, ◌<◌, length, All};
+    ghost use Rattle.std.specs.Prelude.{◌≡◌, ◌==◌, ◌<◌, length, All};
     ghost use Rattle.http_map.specs.HeaderMap.{IsEntry, pairs, value_count};
 
     pub(crate) fn new(alloc: Global, later: Later, left: usize) -> IntoIter
@@ -130,6 +137,13 @@ impl IntoIter {
             later,
             left,
         }
+    }
+
+    /// Whether no pair is left.
+    pub fn is_empty(&self) -> bool
+        ensures { result ≡ (length self.now == 0) }
+    {
+        self.len() == 0
     }
 }
 

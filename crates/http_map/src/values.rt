@@ -8,13 +8,13 @@ use crate::removed::Removed;
 use http_header::{HeaderName, HeaderValue};
 use std::alloc::{AllocError, Global};
 use std::marker::Model;
-use std::{mem, slice};
+use std::{fmt, mem, slice};
 
 /// The values of one name, in the order in which they were added. Most names have one, which stands
 /// here itself and takes no memory of its own.
 ///
 /// A contract sees them as a list.
-#[derive(Debug, Drop)]
+#[derive(Drop)]
 pub(crate) struct Values {
     kept: Kept,
 }
@@ -30,7 +30,7 @@ impl Model for Values {
     ghost view = { λ values. listed values.kept };
 }
 
-#[derive(Debug, Drop)]
+#[derive(Drop)]
 enum Kept {
     One(HeaderValue),
     More(Vec<HeaderValue>),
@@ -136,6 +136,14 @@ impl Clone for Values {
             Kept::More(values) => Kept::More(values.clone()?),
         };
         Ok(Values { kept })
+    }
+}
+
+impl fmt::Debug for Values {
+    fn fmt<W: fmt::Write>(&self, f: &mut fmt::Formatter<W>) -> fmt::Result {
+        f.debug_struct("Value")
+            .field("inner", &self.as_slice())
+            .finish()
     }
 }
 

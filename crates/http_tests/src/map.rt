@@ -234,6 +234,36 @@ fn is_made_of_pairs_and_gives_them_back(rt: HostRuntime) -> Result<(), Fail> {
 }
 
 #[test]
+fn prints_names_with_their_values(rt: HostRuntime) -> Result<(), Fail> {
+    let map = map_of(rt.alloc(), &COOKIES)?;
+    let text = format!(in rt.alloc(); "{map:?}")?;
+    let wanted = concat!(
+        "HeaderMap { inner: {",
+        "\"set-cookie\": Value { inner: [\"one=1\", \"two=2\"] }, ",
+        "\"accept\": Value { inner: [\"text/plain\"] }",
+        "} }",
+    );
+    assert!(rt; text.as_str() == wanted);
+    Ok(())
+}
+
+#[test]
+fn clones_go_over_the_same(rt: HostRuntime) -> Result<(), Fail> {
+    let map = map_of(rt.alloc(), &COOKIES)?;
+    let copy = map.clone()?;
+    let values = copy.get_all(SET_COOKIE);
+    let again = values.clone()?;
+    assert!(rt; values.count() == 2 && again.count() == 2);
+    let mut pairs = map.iter();
+    let first = pairs.next();
+    let rest = pairs.clone()?;
+    assert!(rt; first.is_some() && pairs.count() == 2 && rest.count() == 2);
+    let names = map.keys();
+    assert!(rt; !names.is_empty() && names.clone()?.count() == 2 && names.count() == 2);
+    Ok(())
+}
+
+#[test]
 fn room_changes_nothing(rt: HostRuntime) -> Result<(), Fail> {
     let mut map = HeaderMap::with_capacity(rt.alloc(), 16)?;
     map.reserve(4)?;

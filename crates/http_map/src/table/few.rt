@@ -1,0 +1,129 @@
+//! Few names, in a list.
+ghost use Rattle.std.specs.Prelude.{◌≡◌, ◌<◌, [], ◌∷◌, length, true, false, bytes_eq, IsOk, IfOk, OnOk, OnErr, IfSome, IfNone, IsTrue, if◌then◌else◌};
+ghost use Rattle.std.specs.List.{IsDistinct};
+ghost use Rattle.http_header.specs.Token.{lowercase};
+ghost use Rattle.http_map.specs.HeaderMap.{keys, contains_key, get_all, insert, append, remove};
+ghost use Rattle.http_map.specs.Lines.{StandsFirstAt, Lacks, name_mark};
+ghost use Rattle.http_map.specs.Retain.{MayAnswer, KeepsValues, Retains};
+
+use super::line::{Line, mark_of, mark_of_name};
+use super::many::Hashed;
+use crate::NoMemory;
+use crate::removed::Removed;
+use crate::values::Values;
+use http_header::{HeaderName, HeaderValue};
+use indexmap::IndexMap;
+use std::alloc::Global;
+use std::mem;
+
+// Where the name stands that has these bytes in lower case.
+pub(super) fn find(lines: &[Line], bytes: &[u8]) -> Option<usize>
+    ensures found { IfSome result (StandsFirstAt lines.now (lowercase bytes.now)) }
+    ensures within { IfSome result (λ i. i < length lines.now) }
+    ensures lacks { IfNone result (Lacks lines.now (lowercase bytes.now)) }
+{
+    find_marked(lines, mark_of(bytes), bytes)
+}
+
+// The same, where the mark is made already.
+fn find_marked(lines: &[Line], mark: u32, bytes: &[u8]) -> Option<usize>
+    requires { mark ≡ name_mark (lowercase bytes.now) }
+    ensures found { IfSome result (StandsFirstAt lines.now (lowercase bytes.now)) }
+    ensures within { IfSome result (λ i. i < length lines.now) }
+    ensures lacks { IfNone result (Lacks lines.now (lowercase bytes.now)) }
+{
+    let mut i = 0;
+    for line in lines {
+        if line.is(mark, bytes) {
+            return Some(i);
+        }
+        i += 1;
+    }
+    None
+}
+
+// Adds the value after those of the name.
+pub(super) fn append_value(
+    lines: &mut Vec<Line>,
+    key: HeaderName,
+    value: HeaderValue,
+) -> Result<(), NoMemory>
+    ensures ok { OnOk result (lines.new.items ≡ append lines.old.items key value) }
+    ensures err { OnErr result (lines.new.items ≡ lines.old.items) }
+{
+    let alloc = *lines.allocator();
+    let mark = mark_of_name(&key);
+    match find_marked(lines.as_slice(), mark, key.as_bytes()) {
+        Some(i) => lines[i].push(alloc, value),
+        None => {
+            lines.push(Line::marked(mark, key, Values::one(value)))?;
+            Ok(())
+        }
+    }
+}
+
+// Puts the value in place of those of the name, and gives them.
+pub(super) fn insert_value(
+    lines: &mut Vec<Line>,
+    name: HeaderName,
+    value: HeaderValue,
+) -> Result<Removed, NoMemory>
+    ensures ok { OnOk result (lines.new.items ≡ insert lines.old.items name value) }
+    ensures removed { IfOk result (λ values. values ≡ get_all lines.old.items name) }
+    ensures err { OnErr result (lines.new.items ≡ lines.old.items) }
+    ensures no_memory_needed { contains_key lines.old.items name ≡ true → IsOk result }
+{
+    match find(lines.as_slice(), name.as_bytes()) {
+        Some(i) => {
+            let old = mem::replace(&mut lines[i], Line::new(name, Values::one(value)));
+            Ok(old.into_pair().1.into_iter())
+        }
+        None => {
+            lines.push(Line::new(name, Values::one(value)))?;
+            Ok(Removed::none())
+        }
+    }
+}
+
+// Takes the name out, and gives the values that it had.
+pub(super) fn remove_values(lines: &mut Vec<Line>, bytes: &[u8]) -> Removed
+    ensures removed { result ≡ get_all lines.old.items (lowercase bytes.now) }
+    ensures after { lines.new.items ≡ remove lines.old.items (lowercase bytes.now) }
+{
+    match find(lines.as_slice(), bytes) {
+        Some(i) => lines.remove(i).into_pair().1.into_iter(),
+        None => Removed::none(),
+    }
+}
+
+// Keeps the values for which `keep` answers true, and the names that have such a value.
+pub(super) fn retain_names<F: Fn(&HeaderName, &HeaderValue) -> bool>(
+    lines: &mut Vec<Line>,
+    keep: &F,
+)
+    requires { F.IsAlwaysCallable keep.now }
+    ensures { Retains (MayAnswer (F.post keep.now)) lines.old.items lines.new.items }
+{
+    lines.retain_mut(
+        |line: &mut Line| -> bool
+            requires { F.IsAlwaysCallable keep.now }
+            ensures name { line.new.0 ≡ line.old.0 }
+            ensures filled { IsTrue result → 0 < length line.new.1 }
+            ensures kept { KeepsValues (MayAnswer (F.post keep.entry.now) line.old.0) line.old.1
+                (if result then line.new.1 else []) }
+        { line.retain(keep) },
+    );
+}
+
+// The same names in an `IndexMap`. It is out of the way of the maps that never come to it.
+#[inline(never)]
+pub(super) fn hashed(alloc: Global, lines: &[Line]) -> Result<Hashed, NoMemory>
+    requires { IsDistinct bytes_eq (keys lines.now) }
+    ensures { IfOk result (λ names. names.entries ≡ lines.now) }
+{
+    let mut names = IndexMap::with_capacity(alloc, lines.len() + 1)?;
+    for line in lines {
+        names.insert(line.name().clone()?, line.values().clone()?)?;
+    }
+    Ok(names)
+}

@@ -1,0 +1,173 @@
+//! A name with its values, and the mark by which it is found among few.
+ghost use Rattle.std.specs.Prelude.{◌≡◌, ◌<◌, ◌^◌, ◌∷◌, ◌++◌, [], get_or, bytes_eq, OnOk, OnErr, IsTrue, length, if◌then◌else◌};
+ghost use Rattle.std.specs.Borrow.{sem};
+ghost use Rattle.http_header.specs.Token.{lowercase};
+ghost use Rattle.http_map.specs.Lines.{name_mark};
+ghost use Rattle.http_map.specs.Retain.{MayAnswer, KeepsValues};
+
+use crate::NoMemory;
+use crate::any_case::AnyCase;
+use crate::values::Values;
+use http_header::{HeaderName, HeaderValue};
+use indexmap::Equivalent;
+use std::alloc::{AllocError, Global};
+use std::marker::Model;
+
+/// One name and all its values. The mark is made of a few bytes of the name: where marks differ,
+/// names do.
+///
+/// A contract sees it as the name and the values.
+#[derive(Debug, Drop)]
+pub(crate) struct Line {
+    mark: u32,
+    name: HeaderName,
+    values: Values,
+}
+
+impl Model for Line {
+    ghost use Rattle.std.specs.Prelude.{◌≡◌};
+    ghost use Rattle.http_map.specs.HeaderMap.{Entry};
+    ghost use Rattle.http_map.specs.Lines.{name_mark};
+
+    ghost Value = { Entry };
+
+    ghost view = { λ line. (line.name, line.values) };
+
+    ghost invariant = { λ line. line.mark ≡ name_mark line.name };
+}
+
+// The byte at the index in lower case, and 0 past the end.
+fn low_byte(bytes: &[u8], i: usize) -> u32
+    ensures value { result ≡ get_or (lowercase bytes.now) i 0 }
+    ensures small { result < 256 }
+{
+    if i < bytes.len() {
+        u32::from(bytes[i].to_ascii_lowercase())
+    } else {
+        0
+    }
+}
+
+/// The mark of the name that has these bytes in lower case: its first byte and its last two.
+pub(crate) fn mark_of(bytes: &[u8]) -> u32
+    ensures { result ≡ name_mark (lowercase bytes.now) }
+{
+    let len = bytes.len();
+    let first = low_byte(bytes, 0);
+    let last_but_one = low_byte(bytes, len.saturating_sub(2));
+    let last = low_byte(bytes, len.saturating_sub(1));
+    (first * 256 + last_but_one) * 256 + last
+}
+
+// The byte at the index, and 0 past the end.
+fn byte_at(bytes: &[u8], i: usize) -> u32
+    ensures value { result ≡ get_or bytes.now i 0 }
+    ensures small { result < 256 }
+{
+    if i < bytes.len() {
+        u32::from(bytes[i])
+    } else {
+        0
+    }
+}
+
+/// The mark of a name, which is in lower case already.
+pub(crate) fn mark_of_name(name: &HeaderName) -> u32
+    ensures { result ≡ name_mark name.now }
+{
+    let bytes = name.as_bytes();
+    let len = bytes.len();
+    let first = byte_at(bytes, 0);
+    let last_but_one = byte_at(bytes, len.saturating_sub(2));
+    let last = byte_at(bytes, len.saturating_sub(1));
+    (first * 256 + last_but_one) * 256 + last
+}
+
+impl Line {
+    ghost use Rattle.http_map.specs.NamesLends.{line_lends_values};
+
+    pub(crate) fn new(name: HeaderName, values: Values) -> Line
+        ensures { result ≡ (name, values) }
+    {
+        let mark = mark_of_name(&name);
+        Line { mark, name, values }
+    }
+
+    /// A line whose mark is made already.
+    pub(crate) fn marked(mark: u32, name: HeaderName, values: Values) -> Line
+        requires { mark ≡ name_mark name }
+        ensures { result ≡ (name, values) }
+    {
+        Line { mark, name, values }
+    }
+
+    /// Whether these bytes are the name, in any case.
+    pub(crate) fn is(&self, mark: u32, bytes: &[u8]) -> bool
+        requires { mark ≡ name_mark (lowercase bytes.now) }
+        ensures { result ≡ bytes_eq (lowercase bytes.now) self.now.0 }
+    {
+        self.mark == mark && AnyCase { bytes }.equivalent(&self.name)
+    }
+
+    pub(crate) fn name(&self) -> &HeaderName
+        ensures { result.now ≡ self.now.0 }
+    {
+        &self.name
+    }
+
+    pub(crate) fn values(&self) -> &Values
+        ensures { result.now ≡ self.now.1 }
+    {
+        &self.values
+    }
+
+    /// The values, for writing.
+    pub(crate) fn values_mut(&mut self) -> &mut Values
+        ensures* writes_back { sem 𝓛 (line_lends_values self.entry result) }
+        ensures value { result.now ≡ self.old.1 }
+    {
+        &mut self.values
+    }
+
+    /// Adds a last value.
+    pub(crate) fn push(&mut self, alloc: Global, value: HeaderValue) -> Result<(), NoMemory>
+        ensures ok { OnOk result (self.new ≡ (self.old.0, self.old.1 ++ value ∷ [])) }
+        ensures err { OnErr result (self.new ≡ self.old) }
+    {
+        self.values.push(alloc, value)
+    }
+
+    /// Keeps the values for which `keep` answers true, and says whether there is one.
+    pub(crate) fn retain<F: Fn(&HeaderName, &HeaderValue) -> bool>(&mut self, keep: &F) -> bool
+        requires { F.IsAlwaysCallable keep.now }
+        ensures name { self.new.0 ≡ self.old.0 }
+        ensures filled { IsTrue result → 0 < length self.new.1 }
+        ensures kept { KeepsValues (MayAnswer (F.post keep.now) self.old.0) self.old.1
+            (if result then self.new.1 else []) }
+    {
+        self.values.retain(&self.name, keep)
+    }
+
+    pub(crate) fn into_pair(self) -> (HeaderName, Values)
+        ensures { result ≡ self }
+    {
+        let Line {
+            mark: _,
+            name,
+            values,
+        } = self;
+        (name, values)
+    }
+}
+
+impl Clone for Line {
+    ghost is_clone = { λ line copy. copy ≡ line };
+
+    fn clone(&self) -> Result<Line, AllocError> {
+        Ok(Line {
+            mark: self.mark,
+            name: self.name.clone()?,
+            values: self.values.clone()?,
+        })
+    }
+}
