@@ -1,5 +1,5 @@
 -- Events that come one after another have one trace, up to the first that isn't allowed.
-use Rattle.std.proofs.Common.{◌≡◌, ℕ, zero, suc, ◌<◌, List, [], ◌∷◌, ◌++◌, ◌⊎◌, length, take, drop, map, Some, refl, sym, ap, ◌∙◌, subst, inl, inr, arith, append_assoc}
+use Rattle.std.proofs.Common.{◌≡◌, ℕ, zero, suc, ◌<◌, List, [], ◌∷◌, ◌++◌, ◌⊎◌, take, drop, map, Some, refl, sym, ap, ◌∙◌, subst, inl, inr, arith, append_assoc}
 use Rattle.std.specs.Prelude.{reverse, slice_get}
 use Rattle.std.proofs.lemmas.Bool.{cases_order}
 use Rattle.std.proofs.lemmas.Grind.{reverse_onto}
@@ -176,10 +176,14 @@ pub run_there : (setting : Setting) (events : List Event)
 run_there setting events = elim (behind setting events [] tt) [
   | inl whole ↦ inl (whole.all, whole_of setting events whole)
   | inr stops ↦
-      inr (stops.index, stops.before.all, record {
-        before = whole_of setting (take stops.index events) stops.before;
-        event = stops.event;
-        event_is = stops.event_is;
-        refused = stops.refused;
-      })
+      inr (
+        stops.index,
+        stops.before.all,
+        record {
+          before = whole_of setting (take stops.index events) stops.before;
+          event = stops.event;
+          event_is = stops.event_is;
+          refused = stops.refused;
+        },
+      )
 ]
