@@ -36,6 +36,7 @@ pub mod HeldSteps
 pub mod HeldLemmas
 pub mod WrittenLemmas
 pub mod EventLemmas
+pub mod EventRuns
 pub mod ExchangeTexts
 pub mod ExchangeReplies
 pub mod ExchangeSteps

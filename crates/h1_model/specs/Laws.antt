@@ -6,3 +6,4 @@ pub mod WrittenFrame
 pub mod FrameSize
 pub mod Exchanges
 pub mod ExampleTraces
+pub mod Runs

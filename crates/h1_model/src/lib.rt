@@ -27,6 +27,7 @@
 //! - [`frame_text`]: frames are read in one way, and what is written as a frame is read as it was.
 //! - [`trace`]: a trace has one past, an event one outcome; a connection that closes keeps its reason; what is held is
 //!   bounded; what was handed out for writing and what is still to be are the whole text.
+//! - [`runs`]: a list of events has one trace, up to the first that isn't allowed.
 //! - [`deadline`]: up to the deadline no tick tells that a time has run out, and from then on each does.
 //! - [`text`]: answers stand in the order of their requests.
 //! - [`handed`]: what was handed out is what the bytes say, however they were cut.
@@ -54,6 +55,7 @@ pub mod head_piece;
 pub mod parse;
 pub mod parse_examples;
 pub mod request_head;
+pub mod runs;
 pub mod text;
 pub mod tick_examples;
 pub mod trace;
