@@ -7,6 +7,10 @@ use Rattle.h1_model.specs.AnswerText.{chunk_text, last_chunk}
 abbrev pub AreShort : List (List ℕ) → Type 0
 AreShort pieces = AllByRecursion (λ (piece : List ℕ). length piece < 2 ^ 64) pieces
 
+-- each piece has a byte
+abbrev pub AreFilled : List (List ℕ) → Type 0
+AreFilled pieces = AllByRecursion (λ (piece : List ℕ). 0 < length piece) pieces
+
 -- the chunks of the pieces, and the last one
 abbrev pub written : List (List ℕ) → List ℕ
 written pieces = flat_map chunk_text pieces ++ last_chunk
