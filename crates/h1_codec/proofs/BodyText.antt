@@ -1,12 +1,12 @@
 -- The text of a body that is encoded piece by piece.
-use Rattle.std.proofs.Common.{◌≡◌, ℕ, zero, suc, ◌+◌, ◌-◌, ◌<◌, ◌≤◌, Bool, true, false, ◌||◌, List, [], ◌∷◌, ◌++◌, length, take, inl, inr, refl, sym, ap, ◌∙◌, arith, append_assoc}
-use Rattle.std.specs.Prelude.{◌==◌, flat_map, nat_le}
+use Rattle.std.proofs.Common.{◌≡◌, ℕ, zero, suc, ◌+◌, ◌-◌, ◌<◌, ◌≤◌, true, false, List, [], ◌∷◌, ◌++◌, length, take, inl, inr, refl, sym, ap, ◌∙◌, arith, append_assoc}
+use Rattle.std.specs.Prelude.{flat_map}
 use Rattle.std.proofs.Math.Seq.{take-append-add}
 use Rattle.std.proofs.lemmas.Bool.{ne_eqb}
 use Rattle.std.proofs.lemmas.Bool.Decides.{leb_tells}
 use Rattle.std.proofs.lemmas.List.{take_all, take-append-le, append-nil}
 use Rattle.h1_model.specs.AnswerText.{chunk_text, last_chunk}
-use Rattle.h1_codec.specs.Encoding.{Encoding, as_it_is, in_chunks, of_length, encoded, behind, encoded_all}
+use Rattle.h1_codec.specs.Encoding.{Encoding, as_it_is, in_chunks, of_length, behind, encoded_all}
 use Rattle.h1_codec.specs.Pieces.{AreFilled, written, joined}
 
 take_none : (ys : List ℕ) → take 0 ys ≡ []

@@ -1,5 +1,5 @@
 -- A body that is encoded piece by piece, as `TransferEncoding` has it: an empty piece ends one in chunks.
-use Rattle.std.specs.Prelude.{◌≡◌, ℕ, ◌-◌, Bool, true, false, ◌||◌, List, [], ◌∷◌, ◌++◌, length, take, ◌==◌}
+use Rattle.std.specs.Prelude.{ℕ, ◌-◌, Bool, true, false, ◌||◌, List, [], ◌∷◌, ◌++◌, length, take, ◌==◌}
 use Rattle.h1_model.specs.Answer.{Shape, shape_none, shape_length, shape_chunked, shape_raw}
 use Rattle.h1_model.specs.AnswerText.{chunk_text, last_chunk}
 use Rattle.h1_codec.specs.declared.encoder.Kind.{Kind}

@@ -1,5 +1,5 @@
 -- A body in chunks, written piece by piece.
-use Rattle.std.specs.Prelude.{◌≡◌, ℕ, ◌^◌, ◌<◌, List, ◌++◌, length, flat_map}
+use Rattle.std.specs.Prelude.{ℕ, ◌^◌, ◌<◌, List, ◌++◌, length, flat_map}
 use Rattle.std.specs.List.{AllByRecursion}
 use Rattle.h1_model.specs.AnswerText.{chunk_text, last_chunk}
 
