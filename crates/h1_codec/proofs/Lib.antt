@@ -5,3 +5,4 @@ pub mod ByName
 pub mod HeaderLines
 pub mod HeadText
 pub mod WrittenPieces
+pub mod BodyText

@@ -1,6 +1,6 @@
 -- Pieces that are written as chunks are the segments of a body in chunks.
 use Rattle.std.proofs.Common.{◌≡◌, ℕ, ◌^◌, ◌<◌, List, [], ◌∷◌, ◌++◌, length, true, refl, sym, ap, ◌∙◌, arith, append_assoc, codes, inl, lit<, lit≤}
-use Rattle.std.specs.Prelude.{flat_map, IsTrue}
+use Rattle.std.specs.Prelude.{flat_map}
 use Rattle.std.specs.List.{AllByRecursion}
 use Rattle.std.specs.Fmt.{digits}
 use Rattle.std.proofs.lemmas.Fmt.{digits_is_IsNumeral}

@@ -1,5 +1,5 @@
 -- A body that is encoded piece by piece, as `TransferEncoding` has it: an empty piece ends one in chunks.
-use Rattle.std.specs.Prelude.{◌≡◌, ℕ, ◌-◌, Bool, true, false, ◌||◌, List, [], ◌∷◌, length, take, ◌==◌}
+use Rattle.std.specs.Prelude.{ℕ, ◌-◌, Bool, true, false, ◌||◌, List, [], ◌∷◌, ◌++◌, length, take, ◌==◌}
 use Rattle.h1_model.specs.Answer.{Shape, shape_none, shape_length, shape_chunked, shape_raw}
 use Rattle.h1_model.specs.AnswerText.{chunk_text, last_chunk}
 use Rattle.h1_codec.specs.declared.encoder.Kind.{Kind}
@@ -61,3 +61,8 @@ ended encoding = encoding
 abbrev pub missing_of : Encoding → ℕ
 missing_of (of_length missing) = missing
 missing_of _ = 0
+
+-- the text of all pieces, and of what then ends the body
+abbrev pub encoded_all : Encoding → List (List ℕ) → List ℕ
+encoded_all encoding [] = end_of encoding
+encoded_all encoding (piece ∷ pieces) = encoded encoding piece ++ encoded_all (behind encoding piece) pieces

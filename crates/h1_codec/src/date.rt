@@ -39,7 +39,7 @@ impl DateLine {
     {
         DateLine {
             second: 0,
-            line: line_of(0),
+            line: first_line(),
         }
     }
 
@@ -62,6 +62,12 @@ impl DateLine {
     {
         &self.line
     }
+}
+
+fn first_line() -> [u8; LINE_LEN]
+    ensures { result ≡ date_and_end 0 }
+{
+    *b"date: Thu, 01 Jan 1970 00:00:00 GMT\r\n\r\n"
 }
 
 fn line_of(second: u64) -> [u8; LINE_LEN]
