@@ -32,7 +32,7 @@ chunk_unbroken more bytes =
     let some = chunk bytes (in_bytes (more - length bytes)) [] in
     cond_both (ltb more (length bytes)) all some IsUnbroken (λ _ e. cc) (λ _ e. cc)
 
-next-noted : (at : InLine) (lines room : ℕ) (q : Place) (b : ℕ) (t : Taken) → (noted_line (in_section at lines room) q b t).next ≡ t.next
+pub next-noted : (at : InLine) (lines room : ℕ) (q : Place) (b : ℕ) (t : Taken) → (noted_line (in_section at lines room) q b t).next ≡ t.next
 next-noted at lines room (in_section at' lines' room') b t = refl
 next-noted at lines room q b t = refl
 

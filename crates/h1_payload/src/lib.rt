@@ -2,6 +2,8 @@
 #![tactic(auto)]
 
 mod chunks;
+mod decoder;
+mod item;
 mod kind;
 pub mod laws;
 mod pass;
@@ -12,6 +14,8 @@ mod scan;
 mod section;
 mod trailers;
 
+pub use decoder::PayloadDecoder;
+pub use item::{DecodeError, PayloadItem};
 pub use kind::BodyKind;
 pub use pulled::{BodyFault, Pulled};
 pub use rest::Rest;
