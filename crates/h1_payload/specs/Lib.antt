@@ -7,3 +7,4 @@ pub mod Passing
 pub mod Rests
 pub mod Fitting
 pub mod Decoding
+pub mod States

@@ -1,6 +1,7 @@
 //! Bodies of requests, read in whatever pieces they come.
 #![tactic(auto)]
 
+mod chunked_state;
 mod chunks;
 mod decoder;
 mod item;
@@ -14,6 +15,7 @@ mod scan;
 mod section;
 mod trailers;
 
+pub use chunked_state::ChunkedState;
 pub use decoder::PayloadDecoder;
 pub use item::{DecodeError, PayloadItem};
 pub use kind::BodyKind;
