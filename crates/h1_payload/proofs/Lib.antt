@@ -9,3 +9,4 @@ pub mod Fitting
 pub mod GoingOn
 pub mod Stopping
 pub mod Decodes
+pub mod Whole

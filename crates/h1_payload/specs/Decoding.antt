@@ -1,7 +1,7 @@
 -- What a payload decoder reads and answers.
 use Rattle.std.specs.Prelude.{◌≡◌, ℕ, Bool, true, false, List, [], ◌++◌, length, take, drop, map, nat_le, if◌then◌else◌, Option, Some, None, Result, Ok, Err}
 use Rattle.std.specs.List.{AllByRecursion}
-use Rattle.h1_chunks.specs.ChunkedText.{Trailer, IsTrailer, section_text}
+use Rattle.h1_chunks.specs.ChunkedText.{Trailer, IsTrailer, ChunkedText, content, section_text}
 use Rattle.h1_chunks.specs.Reading.{Ending, Reading, goes_on, is_broken, ends_before, only, with_trailers, read}
 use Rattle.http_map.specs.HeaderMap.{Entries}
 use Rattle.h1_model.specs.Parse.{trailer_header}
@@ -106,3 +106,17 @@ IsWaiting d bytes = (p : Payload) → Reads d bytes p → p ≡ no_payload goes_
 -- whatever follows, they have no byte of the body, and it is broken
 abbrev pub IsRefused : Decoding → List ℕ → Type 0
 IsRefused d bytes = (z : List ℕ) (p : Payload) → Reads d (bytes ++ z) p → p ≡ no_payload is_broken
+
+-- what the text of a body in chunks says, in front of these bytes
+abbrev pub chunked_payload : ChunkedText → List ℕ → Payload
+chunked_payload t rest =
+    record { body = content t; trailers = header_map (map trailer_header t.trailers); ending = ends_before rest }
+
+-- what bytes say of a body of so many: the first ones, and the end once these are there
+abbrev pub length_payload : ℕ → List ℕ → Payload
+length_payload n bytes =
+    record {
+      body = take n bytes;
+      trailers = [];
+      ending = if nat_le n (length bytes) then ends_before (drop n bytes) else goes_on;
+    }

@@ -49,6 +49,16 @@ impl ChunkReader {
         }
     }
 
+    /// A reader at the same place.
+    pub(crate) fn copy(&self) -> Result<ChunkReader, NoMemory>
+        ensures { IfOk result (λ copy. copy ≡ self.now) }
+    {
+        Ok(ChunkReader {
+            place: self.place,
+            section: self.section.copy()?,
+        })
+    }
+
     /// Takes what comes next: all bytes of the current chunk that are there, and else the trailers, the end or a fault.
     /// It passes what it read, but for a fault, which leaves all as it was. So does want of memory.
     pub(crate) fn take(

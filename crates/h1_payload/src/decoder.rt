@@ -12,6 +12,7 @@ use crate::pulled::Pulled;
 use crate::rest::Rest;
 use bytes::BytesMut;
 use http_bodies::Decoder;
+use http_map::NoMemory;
 use std::marker::Model;
 
 /// Reads the body of a message from bytes that come in pieces.
@@ -67,6 +68,16 @@ impl PayloadDecoder {
             rest: Rest::whole(kind),
             is_broken: false,
         }
+    }
+
+    /// A decoder of the same body, at the same place.
+    pub fn copy(&self) -> Result<PayloadDecoder, NoMemory>
+        ensures { IfOk result (λ copy. copy ≡ self.now) }
+    {
+        Ok(PayloadDecoder {
+            rest: self.rest.copy()?,
+            is_broken: self.is_broken,
+        })
     }
 
     /// The next piece of the body, once it is there: all bytes of the current chunk that are there, or of another body;

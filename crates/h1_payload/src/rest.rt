@@ -62,6 +62,19 @@ impl Rest {
         Rest { left }
     }
 
+    /// An equal rest.
+    pub fn copy(&self) -> Result<Rest, NoMemory>
+        ensures { IfOk result (λ copy. copy ≡ self.now) }
+    {
+        let left = match &self.left {
+            Left::Nothing => Left::Nothing,
+            Left::Raw => Left::Raw,
+            Left::Fixed(len) => Left::Fixed(*len),
+            Left::Chunks(reader) => Left::Chunks(reader.copy()?),
+        };
+        Ok(Rest { left })
+    }
+
     /// Whether nothing is left.
     pub fn is_nothing(&self) -> bool
         ensures { result ≡ is_nothing self.now }
