@@ -1,10 +1,9 @@
 -- A decoder's answer, by what was pulled.
-use Rattle.std.proofs.Common.{◌≡◌, ℕ, Bool, true, false, List, [], ◌++◌, refl, sym, ap, ◌∙◌, subst, subst₂}
-use Rattle.std.specs.Prelude.{⊤, Option, Some, None, Result, Ok, Err, IfOk}
+use Rattle.std.proofs.Common.{◌≡◌, ℕ, Bool, true, false, List, ◌++◌, refl, sym, ap, ◌∙◌, subst, subst₂}
+use Rattle.std.specs.Prelude.{Option, Some, None, Result, Ok, Err, IfOk}
 use Rattle.http_map.specs.HeaderMap.{Entries}
 use Rattle.h1_model.specs.Request.{fixed_body}
 use Rattle.h1_model.specs.Event.{Outcome}
-use Rattle.h1_model.specs.Event as on
 use Rattle.h1_machine.specs.Kept.{Rest}
 use Rattle.h1_machine.specs.Pull as pulls
 use Rattle.h1_machine.specs.Pull.{IsPull}
@@ -14,7 +13,7 @@ use Rattle.h1_payload.specs.Fitting.{Fits}
 use Rattle.h1_payload.specs.Rests.{kind_of, IsPulled}
 use Rattle.h1_payload.specs.Decoding.{Decoding, Payload, reading_of, IsReadAs, Reads, ReadsBy, given, item_of, IsDecodedBy, IsDecoded, IsWaiting, IsRefused}
 use Rattle.h1_payload.specs.declared.item.DecodeError.{DecodeError}
-use Rattle.h1_payload.specs.declared.item.DecodeError.TheVariants.{Invalid, NoMemory}
+use Rattle.h1_payload.specs.declared.item.DecodeError.TheVariants.{Invalid}
 use Rattle.h1_payload.specs.declared.item.PayloadItem.{PayloadItem}
 use Rattle.h1_payload.specs.declared.item.PayloadItem.TheVariants as items
 use Rattle.h1_payload.specs.declared.pulled.Pulled.{Pulled}
@@ -52,7 +51,7 @@ module _ (old : Decoding) (bytes rest : List ℕ) (left : Rest) (p : pulls.Pulle
   in_old answer x sound front same z q y =
       let open_now : IsReadAs (reading_of left (rest ++ z)) q = subst (λ b. ReadsBy b left (rest ++ z) q) sound y in
       let there : IsReadAs (reading_of p.rest (p.unread ++ z)) q =
-          subst₂ (λ r (u : List ℕ). IsReadAs (reading_of r (u ++ z)) q) x.rest_is x.unread_is open_now in
+      subst₂ (λ r (u : List ℕ). IsReadAs (reading_of r (u ++ z)) q) x.rest_is x.unread_is open_now in
       subst₂ (λ b t. ReadsBy b old.rest (bytes ++ z) t) (sym whole) (same q) (pull_goes_on old.rest bytes p fits pull z q there)
 
   pub goes_on : (answer : Pulled) → IsPulled p answer left rest
@@ -115,7 +114,7 @@ answered old inside bytes rest left answer result fault view fits whole pulled i
       refusing = refused inside bytes rest left found.0 whole fits found.1 answer x;
     } in
     let named : Answered inside bytes result (record { rest = left; is_broken = fault }) rest =
-        subst₂ (λ r b. Answered inside bytes r (record { rest = left; is_broken = b }) rest) (sym is) (sym wrong) here in
+    subst₂ (λ r b. Answered inside bytes r (record { rest = left; is_broken = b }) rest) (sym is) (sym wrong) here in
     subst (λ d. Answered d bytes result (record { rest = left; is_broken = fault }) rest) view named
 
 -- no kind but a length of 0 is a body of no bytes

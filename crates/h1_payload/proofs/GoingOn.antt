@@ -1,13 +1,12 @@
 -- A pull changes nothing of what the bytes say, whatever follows.
-use Rattle.std.proofs.Common.{◌≡◌, ℕ, ◌+◌, ◌-◌, ◌<◌, ◌≤◌, leb, cond, Bool, true, false, List, [], ◌∷◌, ◌++◌, length, take, drop, map, refl, sym, ap, ◌∙◌, subst, inl, inr, arith, append-nil, length-append}
-use Rattle.std.specs.Prelude.{◌⊎◌}
+use Rattle.std.proofs.Common.{◌≡◌, ℕ, ◌+◌, ◌-◌, ◌<◌, ◌≤◌, leb, cond, false, List, [], ◌∷◌, ◌++◌, length, take, drop, map, refl, sym, ap, ◌∙◌, subst, inl, inr, arith, append-nil, length-append}
 use Rattle.std.specs.List.{AllByRecursion}
 use Rattle.std.proofs.Math.Seq.{take-append-add, drop-append-add}
 use Rattle.std.proofs.lemmas.Bool.{cond_both, cond-true, cond-false, le-leb, lt-leb, leb-true, leb-false, cases_lt}
 use Rattle.std.proofs.lemmas.List.{take_all, drop_all, take-append-le, drop-append-le}
 use Rattle.h1_chunks.specs.ChunkedText.{Trailer, IsTrailer, trailer_text, section_text}
 use Rattle.h1_chunks.specs.Place.{Place}
-use Rattle.h1_chunks.specs.Reading.{Ending, Reading, goes_on, ends_before, only, with_bytes, with_trailers, read}
+use Rattle.h1_chunks.specs.Reading.{Ending, Reading, goes_on, ends_before, only, with_trailers}
 use Rattle.h1_chunks.specs.TakeNext.{Next, chunk, waits, ended, breaks, take_next, says}
 use Rattle.h1_chunks.proofs.ReadSteps.{with_trailers-append}
 use Rattle.h1_chunks.proofs.TakenReads.{taken_is_read}
@@ -103,20 +102,20 @@ fixed_goes_on n (b ∷ bytes) =
     let count = length l in
     cond_both (leb n count) no_rest (fixed_rest (n - count))
     (λ (r : Rest).
-        (z : List ℕ) (q : Payload) → IsReadAs (reading_of r (drop n l ++ z)) q
-        → IsReadAs (reading_of (fixed_rest n) (l ++ z)) (record q { body = take n l ++ q.body }))
+    (z : List ℕ) (q : Payload) → IsReadAs (reading_of r (drop n l ++ z)) q
+    → IsReadAs (reading_of (fixed_rest n) (l ++ z)) (record q { body = take n l ++ q.body }))
     (λ e z q x.
-        let fits : n ≤ count = leb-true n count e in
-        with_ending (reading_of (fixed_rest n) (l ++ z)) (ends_before (drop n l ++ z)) (record q { body = take n l ++ q.body }) (ends_there n l z fits)
-        (ap (λ k. take n l ++ k) x.body ∙ append-nil (take n l) ∙ sym (take-append-le n l z fits)) x.ending x.trailers)
+    let fits : n ≤ count = leb-true n count e in
+    with_ending (reading_of (fixed_rest n) (l ++ z)) (ends_before (drop n l ++ z)) (record q { body = take n l ++ q.body }) (ends_there n l z fits)
+    (ap (λ k. take n l ++ k) x.body ∙ append-nil (take n l) ∙ sym (take-append-le n l z fits)) x.ending x.trailers)
     (λ e z q x.
-        let past : count < n = leb-false n count e in
-        let none : drop n l ≡ [] = drop_all n l (omega arith) in
-        let y = subst (λ k. IsReadAs (reading_of (fixed_rest (n - count)) (k ++ z)) q) none x in
-        with_ending (reading_of (fixed_rest n) (l ++ z)) (fixed_ending (n - count) z) (record q { body = take n l ++ q.body })
-        (ends_later n l z (omega arith))
-        (ap (λ k. take n l ++ k) y.body ∙ ap (λ k. k ++ take (n - count) z) (take_all n l (omega arith)) ∙ sym (take_past n l z (omega arith))) y.ending
-        y.trailers)
+    let past : count < n = leb-false n count e in
+    let none : drop n l ≡ [] = drop_all n l (omega arith) in
+    let y = subst (λ k. IsReadAs (reading_of (fixed_rest (n - count)) (k ++ z)) q) none x in
+    with_ending (reading_of (fixed_rest n) (l ++ z)) (fixed_ending (n - count) z) (record q { body = take n l ++ q.body })
+    (ends_later n l z (omega arith))
+    (ap (λ k. take n l ++ k) y.body ∙ ap (λ k. k ++ take (n - count) z) (take_all n l (omega arith)) ∙ sym (take_past n l z (omega arith))) y.ending
+    y.trailers)
 
 -- ---- chunks
 
@@ -158,8 +157,8 @@ chunks_go_on : (place : Place) (section bytes : List ℕ) (next : Next) (p : pul
 chunks_go_on place section bytes (chunk given next behind) p e x =
     subst (GoesOnBy (chunks_rest place section) bytes) (sym x)
     (λ z q y.
-        subst (λ t. IsReadAs t (record q { body = given ++ q.body })) (sym (taken_reading place section bytes (chunk given next behind) z e))
-        (record { body = ap (λ l. given ++ l) y.body; ending = y.ending; trailers = y.trailers }))
+    subst (λ t. IsReadAs t (record q { body = given ++ q.body })) (sym (taken_reading place section bytes (chunk given next behind) z e))
+    (record { body = ap (λ l. given ++ l) y.body; ending = y.ending; trailers = y.trailers }))
 chunks_go_on place section bytes (waits next) p e x =
     subst (GoesOnBy (chunks_rest place section) bytes) (sym x)
     (λ z q y. subst (λ t. IsReadAs t q) (sym (taken_reading place section bytes (waits next) z e)) y)

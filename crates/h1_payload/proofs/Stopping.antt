@@ -1,11 +1,11 @@
 -- What a pull that gives nothing, or a fault, says of the bytes.
-use Rattle.std.proofs.Common.{◌≡◌, ℕ, ◌+◌, ◌-◌, ◌<◌, ◌≤◌, ltb, leb, cond, Bool, true, false, List, [], ◌∷◌, ◌++◌, length, take, drop, refl, sym, ap, ◌∙◌, subst, arith, append-nil}
+use Rattle.std.proofs.Common.{◌≡◌, ℕ, ◌+◌, ◌-◌, ◌<◌, ltb, leb, false, List, [], ◌∷◌, ◌++◌, length, take, drop, refl, sym, ap, ◌∙◌, subst, arith, append-nil}
 use Rattle.std.specs.Prelude.{⊤}
 use Rattle.std.proofs.lemmas.Bool.{cond_both, cond-false, lt-leb}
 use Rattle.std.proofs.lemmas.List.{take_all}
-use Rattle.h1_chunks.specs.Place.{InLine, Place, in_bytes, bytes_end, in_section, done, broken, step}
-use Rattle.h1_chunks.specs.Reading.{Ending, Reading, goes_on, is_broken, ends_before, only, at_end, with_trailers}
-use Rattle.h1_chunks.specs.TakeNext.{Next, chunk, waits, ended, breaks, of_chunk, stops_at, take_next, says}
+use Rattle.h1_chunks.specs.Place.{Place, in_bytes, bytes_end, in_section, done, broken, step}
+use Rattle.h1_chunks.specs.Reading.{Ending, goes_on, is_broken, ends_before, only, at_end, with_trailers}
+use Rattle.h1_chunks.specs.TakeNext.{Next, chunk, waits, ended, breaks, of_chunk, stops_at, take_next}
 use Rattle.h1_chunks.proofs.ReadSteps.{read-nil}
 use Rattle.h1_model.specs.Event.{Outcome}
 use Rattle.h1_model.specs.Event as on
@@ -114,9 +114,9 @@ chunks_wait place section bytes (waits next) p e x pending q y =
     let open_at : at_end next ≡ goes_on = subst IsOpen e (next_open bytes place) in
     let text = section ++ (take_next place bytes).trailers in
     let is : reading_of (chunks_rest place section) bytes ≡ with_trailers text (only goes_on) =
-        ap (reading_of (chunks_rest place section)) (sym (append-nil bytes))
-        ∙ taken_reading place section bytes (waits next) [] e
-        ∙ ap (with_trailers text) (read-nil next ∙ ap only open_at) in
+    ap (reading_of (chunks_rest place section)) (sym (append-nil bytes))
+    ∙ taken_reading place section bytes (waits next) [] e
+    ∙ ap (with_trailers text) (read-nil next ∙ ap only open_at) in
     let k = subst (λ t. IsReadAs t q) is y in
     same_payload q goes_on k.body k.trailers k.ending
 chunks_wait place section bytes (ended behind) p e x pending q y =

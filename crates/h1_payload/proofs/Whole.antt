@@ -1,9 +1,9 @@
 -- What a decoder is told by all bytes.
-use Rattle.std.proofs.Common.{◌≡◌, ℕ, ◌<◌, ◌≤◌, leb, cond, Bool, true, false, List, [], ◌∷◌, ◌++◌, length, take, drop, map, refl, sym, ap, ◌∙◌, subst, arith, append-nil}
+use Rattle.std.proofs.Common.{◌≡◌, ℕ, leb, cond, Bool, true, false, List, [], ◌++◌, length, drop, map, refl, sym, ap, ◌∙◌, subst}
 use Rattle.std.specs.List.{AllByRecursion}
-use Rattle.h1_chunks.specs.ChunkedText.{Trailer, IsTrailer, ChunkedText, IsChunkedText, chunked_text, content, section_text}
+use Rattle.h1_chunks.specs.ChunkedText.{Trailer, IsTrailer, ChunkedText, IsChunkedText, chunked_text, section_text}
 use Rattle.h1_chunks.specs.Place.{start}
-use Rattle.h1_chunks.specs.Reading.{Ending, Reading, goes_on, is_broken, ends_before, read}
+use Rattle.h1_chunks.specs.Reading.{Ending, Reading, goes_on, is_broken, ends_before}
 use Rattle.h1_chunks.proofs.Complete.{text_read}
 use Rattle.h1_chunks.proofs.Trailers.{section_tells}
 use Rattle.http_map.specs.HeaderMap.{Entries}
@@ -12,7 +12,7 @@ use Rattle.h1_machine.specs.Kept.{Rest, no_rest, raw_rest, fixed_rest, chunks_re
 use Rattle.http_bodies.specs.AnyPieces.{Fed, AreFed, LastReads, all_told, all_came}
 use Rattle.http_bodies.proofs.AnyPieces.{pieces_are_whole}
 use Rattle.h1_payload.specs.HeaderMaps.{header_map}
-use Rattle.h1_payload.specs.Fitting.{HasLines, Fits}
+use Rattle.h1_payload.specs.Fitting.{Fits}
 use Rattle.h1_payload.specs.Decoding.{Decoding, Payload, no_payload, reading_of, AreTrailers, HasTrailers, IsReadAs, Reads, ReadsBy, given, chunked_payload, length_payload}
 use Rattle.h1_payload.specs.declared.item.PayloadItem.{PayloadItem}
 
