@@ -6,3 +6,7 @@ pub mod Lines
 pub mod Pulls
 pub mod Takes
 pub mod Fitting
+pub mod GoingOn
+pub mod Stopping
+pub mod Decodes
+pub mod Whole

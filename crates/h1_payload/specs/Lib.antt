@@ -6,3 +6,5 @@ pub mod Readers
 pub mod Passing
 pub mod Rests
 pub mod Fitting
+pub mod Decoding
+pub mod States
