@@ -87,7 +87,9 @@ fn failed(alloc: Global, which: HttpError) -> Result<ResponseBuilder, Fail> {
     let bad = text(alloc, "a\r")?;
     match which {
         HttpError::Reason => builder.reason(bad).keep_alive(),
-        HttpError::Name => builder.append_header((NameText::new(b"a b"), 1u64)).keep_alive(),
+        HttpError::Name => builder
+            .append_header((NameText::new(b"a b"), 1u64))
+            .keep_alive(),
         HttpError::Value => builder.content_type(bad).keep_alive(),
     };
     Ok(builder)

@@ -1,8 +1,8 @@
 //! Requests, and what a message tells of its body.
 use http_types::header::{CONNECTION, CONTENT_TYPE, TRANSFER_ENCODING};
 use http_types::{
-    Cause, ContentTypeError, DispatchError, Error, Head, HeaderName, HttpError, HttpMessage, Kind, Message,
-    Method, ParseError, PayloadError, Request, RequestHead, RequestHeadType,
+    Cause, ContentTypeError, DispatchError, Error, Head, HeaderName, HttpError, HttpMessage, Kind,
+    Message, Method, ParseError, PayloadError, Request, RequestHead, RequestHeadType,
 };
 use std::alloc::Global;
 use std::rc::Rc;
