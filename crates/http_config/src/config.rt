@@ -5,8 +5,8 @@ ghost use Rattle.http_config.specs.Deadline.{deadline_of};
 ghost use Rattle.http_config.specs.KeepAlive.{normalized, timeout_of};
 ghost use Rattle.http_config.specs.declared.hold_size.TheConstants.{MIN_HOLD_SIZE, MAX_HOLD_SIZE};
 
-use crate::hold_size::{DEFAULT_HOLD_SIZE, HoldSize, MAX_HOLD_SIZE, MIN_HOLD_SIZE};
 use crate::KeepAlive;
+use crate::hold_size::{DEFAULT_HOLD_SIZE, HoldSize, MAX_HOLD_SIZE, MIN_HOLD_SIZE};
 use std::marker::Model;
 use std::net::SocketAddr;
 use thiserror::Error;

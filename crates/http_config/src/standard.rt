@@ -36,7 +36,9 @@ impl StdSource {
 
 impl fmt::Debug for StdSource {
     fn fmt<W: fmt::Write>(&self, f: &mut fmt::Formatter<W>) -> fmt::Result {
-        f.debug_struct("StdSource").field("faults", &self.faults).finish()
+        f.debug_struct("StdSource")
+            .field("faults", &self.faults)
+            .finish()
     }
 }
 
@@ -85,7 +87,9 @@ impl StdSink {
 
 impl fmt::Debug for StdSink {
     fn fmt<W: fmt::Write>(&self, f: &mut fmt::Formatter<W>) -> fmt::Result {
-        f.debug_struct("StdSink").field("faults", &self.faults).finish()
+        f.debug_struct("StdSink")
+            .field("faults", &self.faults)
+            .finish()
     }
 }
 

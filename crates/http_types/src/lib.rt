@@ -34,15 +34,15 @@ mod text;
 pub use error::{
     Cause, ContentTypeError, DispatchError, Error, HttpError, Kind, ParseError, PayloadError,
 };
-pub use http_message::HttpMessage;
 pub use http::{Method, StatusCode, Version};
 pub use http_config::{
-    DEFAULT_HOLD_SIZE, Failed, HoldSize, KeepAlive, MAX_HOLD_SIZE, MIN_HOLD_SIZE, MemSink, MemSource,
-    ServiceConfig, ServiceConfigBuilder, Sink, Source, StdSink, StdSource, SureSink, SureSource,
-    ZeroBuffer,
+    DEFAULT_HOLD_SIZE, Failed, HoldSize, KeepAlive, MAX_HOLD_SIZE, MIN_HOLD_SIZE, MemSink,
+    MemSource, ServiceConfig, ServiceConfigBuilder, Sink, Source, StdSink, StdSource, SureSink,
+    SureSource, ZeroBuffer,
 };
 pub use http_map as header;
 pub use http_map::{AsHeaderName, HeaderMap, HeaderName, HeaderValue, NoMemory};
+pub use http_message::HttpMessage;
 pub use http_uri::Uri;
 pub use message::{ConnectionType, Head, Message};
 pub use requests::{Request, RequestHead, RequestHeadType};

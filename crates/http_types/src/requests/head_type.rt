@@ -1,8 +1,8 @@
 //! A request's head that is owned or shared.
 ghost use Rattle.std.specs.Prelude.{◌≡◌, option_copied};
 
-use crate::requests::RequestHead;
 use crate::HeaderMap;
+use crate::requests::RequestHead;
 use std::rc::Rc;
 
 /// A request's head to be sent: its own, or one that other requests share, with headers beside it.

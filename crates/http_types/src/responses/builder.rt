@@ -13,8 +13,8 @@ use crate::message::ConnectionType;
 use crate::responses::{Response, ResponseHead};
 use crate::{HeaderName, HeaderValue, NoMemory, StatusCode};
 use http_map::{
-    CONTENT_LENGTH, CONTENT_TYPE, InvalidHeaderPart, TryIntoHeaderPair, TryIntoHeaderValue, UPGRADE,
-    ValueError,
+    CONTENT_LENGTH, CONTENT_TYPE, InvalidHeaderPart, TryIntoHeaderPair, TryIntoHeaderValue,
+    UPGRADE, ValueError,
 };
 use std::alloc::Global;
 use std::marker::Model;
