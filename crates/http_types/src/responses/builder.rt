@@ -113,7 +113,8 @@ impl ResponseBuilder {
         }
     }
 
-    /// Puts a header in place of those of its name.
+    /// Puts a header in place of those of its name. `Name` where the name is no token (RFC 7230,
+    /// section 3.2.6), else `Value` where a byte of the value may stand in none.
     pub fn insert_header<H: TryIntoHeaderPair>(&mut self, header: H) -> &mut Self
         ensures same { result.ghost_name ≡ self.entry.ghost_name }
         ensures step { PutsPair insert (H.name_text header) (H.field_value header) self.old result.now }
@@ -130,7 +131,7 @@ impl ResponseBuilder {
         }
     }
 
-    /// Adds a header to those of its name.
+    /// Adds a header to those of its name. `Name` and `Value` as in `insert_header`.
     pub fn append_header<H: TryIntoHeaderPair>(&mut self, header: H) -> &mut Self
         ensures same { result.ghost_name ≡ self.entry.ghost_name }
         ensures step { PutsPair append (H.name_text header) (H.field_value header) self.old result.now }
@@ -147,7 +148,8 @@ impl ResponseBuilder {
         }
     }
 
-    /// Gives the response a reason of its own. One with a CR or an LF is refused.
+    /// Gives the response a reason of its own. `Reason` where it has a CR or an LF (RFC 7230,
+    /// section 3.1.2).
     pub fn reason(&mut self, reason: String) -> &mut Self
         ensures same { result.ghost_name ≡ self.entry.ghost_name }
         ensures step { ¬ (Any IsLineByte (string_bytes reason))
@@ -243,7 +245,8 @@ impl ResponseBuilder {
         }
     }
 
-    /// States the media type of the body (RFC 7231, section 3.1.1.5).
+    /// States the media type of the body (RFC 7231, section 3.1.1.5). `Value` where a byte of it may
+    /// stand in no header.
     pub fn content_type<V: TryIntoHeaderValue>(&mut self, value: V) -> &mut Self
         ensures same { result.ghost_name ≡ self.entry.ghost_name }
         ensures step { PutsValue (codes "content-type") (V.field_value value) self.old result.now }

@@ -1,4 +1,4 @@
-use Rattle.std.proofs.Common.{◌≡◌, ℕ, List, Some, None, take, ap, ◌∙◌, sym, lit<}
+use Rattle.std.proofs.Common.{ℕ, Some, None, take, ap, ◌∙◌, sym, lit<}
 use Rattle.std.specs.Str.{trim}
 use Rattle.std.proofs.Math.Seq.{take-length}
 use Rattle.std.proofs.lemmas.Str.Pattern.{split_once_first}
