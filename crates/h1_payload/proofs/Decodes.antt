@@ -1,5 +1,5 @@
 -- A decoder's answer, by what was pulled.
-use Rattle.std.proofs.Common.{◌≡◌, ℕ, Bool, true, false, List, ◌++◌, refl, sym, ap, ◌∙◌, subst, subst₂}
+use Rattle.std.proofs.Common.{◌≡◌, ℕ, Bool, true, false, List, ◌++◌, refl, sym, ap, ◌∙◌, subst, subst₂, ◌<◌, length}
 use Rattle.std.specs.Prelude.{Option, Some, None, Result, Ok, Err, IfOk}
 use Rattle.http_map.specs.HeaderMap.{Entries}
 use Rattle.h1_model.specs.Request.{fixed_body}
@@ -9,9 +9,9 @@ use Rattle.h1_machine.specs.Pull as pulls
 use Rattle.h1_machine.specs.Pull.{IsPull}
 use Rattle.http_bodies.specs.AnyPieces.{GoesOn, in_front}
 use Rattle.h1_payload.specs.Answers.{is_fault}
-use Rattle.h1_payload.specs.Fitting.{Fits}
+use Rattle.h1_payload.specs.Fitting.{Fits, GivesSome}
 use Rattle.h1_payload.specs.Rests.{kind_of, IsPulled}
-use Rattle.h1_payload.specs.Decoding.{Decoding, Payload, reading_of, IsReadAs, Reads, ReadsBy, given, item_of, IsDecodedBy, IsDecoded, IsWaiting, IsRefused}
+use Rattle.h1_payload.specs.Decoding.{Decoding, Payload, reading_of, IsReadAs, Reads, ReadsBy, given, item_of, HasSome, IsDecodedBy, IsDecoded, IsWaiting, IsRefused}
 use Rattle.h1_payload.specs.declared.item.DecodeError.{DecodeError}
 use Rattle.h1_payload.specs.declared.item.DecodeError.TheVariants.{Invalid}
 use Rattle.h1_payload.specs.declared.item.PayloadItem.{PayloadItem}
@@ -21,6 +21,7 @@ use Rattle.h1_payload.specs.declared.pulled.Pulled.TheVariants as pulled
 use Rattle.h1_payload.specs.declared.kind.BodyKind.{BodyKind}
 use Rattle.h1_payload.specs.declared.kind.BodyKind.TheVariants as kind
 use Rattle.h1_payload.proofs.Fitting.{a_pull, still_fits}
+use Rattle.h1_payload.proofs.Gives.{pull_gives_some, map_some}
 use Rattle.h1_payload.proofs.GoingOn.{front_of, pull_goes_on}
 use Rattle.h1_payload.proofs.Stopping.{IsFault, IsPending, fault_is_broken, fault_leaves, pending_waits}
 
@@ -66,6 +67,16 @@ module _ (old : Decoding) (bytes rest : List ℕ) (left : Rest) (p : pulls.Pulle
   goes_on (pulled.Broken fault) x = tt
   goes_on pulled.Pending x = in_old pulled.Pending x refl (in_front Reads given None) (λ q. ap (λ (o : Outcome). front_of o q) x.outcome)
 
+  -- it is some
+  pub gives : (answer : Pulled) → IsPulled p answer left rest → IfOk (item_of answer) HasSome
+  gives (pulled.Bytes b) x = subst GivesSome x.outcome (pull_gives_some false old.rest bytes p fits pull)
+  gives (pulled.Trailers entries) x =
+      let some : 0 < length x.outcome.0 = subst GivesSome x.outcome.1 (pull_gives_some false old.rest bytes p fits pull) in
+      subst (λ (l : Entries). 0 < length l) (sym x.outcome.2) (map_some x.outcome.0 some)
+  gives pulled.End x = tt
+  gives (pulled.Broken fault) x = tt
+  gives pulled.Pending x = tt
+
   -- nothing yet
   pub waits : (answer : Pulled) → IsPulled p answer left rest → item_of answer ≡ Ok None → IsWaiting old bytes
   waits (pulled.Bytes b) x e = cc
@@ -87,15 +98,12 @@ module _ (old : Decoding) (bytes rest : List ℕ) (left : Rest) (p : pulls.Pulle
       )
   refused pulled.Pending x e = cc
 
--- a broken decoder refuses all bytes
-pub stays_broken : (old : Decoding) (bytes : List ℕ) → old.is_broken ≡ true → IsRefused old bytes
-stays_broken old bytes broken z q y = subst (λ b. ReadsBy b old.rest (bytes ++ z) q) broken y
-
 -- all that is promised of an answer
 pub record Answered (old : Decoding) (bytes : List ℕ) (result : Result (Option PayloadItem) DecodeError) (new : Decoding) (rest : List ℕ) : Type 0 where
   pub still_fit : Fits new.rest
   pub decoded : IsDecoded old bytes result new rest
   pub on : IfOk result (λ a. GoesOn Reads given old bytes (in_front Reads given a) new rest)
+  pub some : IfOk result HasSome
   pub waiting : result ≡ Ok None → IsWaiting old bytes
   pub refusing : result ≡ Err Invalid → IsRefused old bytes × (rest ≡ bytes)
 
@@ -110,6 +118,7 @@ answered old inside bytes rest left answer result fault view fits whole pulled i
       still_fit = left_fits inside bytes rest left found.0 whole fits found.1 x.rest_is;
       decoded = is_decoded inside bytes rest left found.0 whole fits found.1 answer x;
       on = goes_on inside bytes rest left found.0 whole fits found.1 answer x;
+      some = gives inside bytes rest left found.0 whole fits found.1 answer x;
       waiting = waits inside bytes rest left found.0 whole fits found.1 answer x;
       refusing = refused inside bytes rest left found.0 whole fits found.1 answer x;
     } in

@@ -10,3 +10,4 @@ pub mod GoingOn
 pub mod Stopping
 pub mod Decodes
 pub mod Whole
+pub mod Gives

@@ -1,5 +1,5 @@
 -- What a payload decoder reads and answers.
-use Rattle.std.specs.Prelude.{◌≡◌, ℕ, Bool, true, false, List, [], ◌++◌, length, take, drop, map, nat_le, if◌then◌else◌, Option, Some, None, Result, Ok, Err}
+use Rattle.std.specs.Prelude.{◌≡◌, ℕ, ◌<◌, ⊤, Bool, true, false, List, [], ◌++◌, length, take, drop, map, nat_le, if◌then◌else◌, Option, Some, None, Result, Ok, Err}
 use Rattle.std.specs.List.{AllByRecursion}
 use Rattle.h1_chunks.specs.ChunkedText.{Trailer, IsTrailer, ChunkedText, content, section_text}
 use Rattle.h1_chunks.specs.Reading.{Ending, Reading, goes_on, is_broken, ends_before, only, with_trailers, read}
@@ -98,6 +98,12 @@ IsDecodedBy false old bytes result new rest =
 
 abbrev pub IsDecoded : Decoding → List ℕ → Result (Option PayloadItem) DecodeError → Decoding → List ℕ → Type 0
 IsDecoded old bytes result new rest = IsDecodedBy old.is_broken old bytes result new rest
+
+-- an answer that is a chunk, or trailers, has some
+abbrev pub HasSome : Option PayloadItem → Type 0
+HasSome (Some (items.Chunk bytes)) = 0 < length bytes
+HasSome (Some (items.Trailers entries)) = 0 < length entries
+HasSome answer = ⊤
 
 -- the bytes have no byte of the body, and neither its end nor a fault
 abbrev pub IsWaiting : Decoding → List ℕ → Type 0

@@ -1,10 +1,12 @@
 //! The decoder of a message's body.
-ghost use Rattle.std.specs.Prelude.{◌≡◌, ◌==◌, true, false, [], Ok, Err, None, IfOk, if◌then◌else◌};
+ghost use Rattle.std.specs.Prelude.{◌≡◌, ◌≢◌, ◌==◌, true, false, [], Ok, Err, None, IfOk, if◌then◌else◌};
 ghost use Rattle.h1_chunks.specs.Place.{start};
+ghost use Rattle.h1_machine.specs.Pull.{IsPull};
+ghost use Rattle.h1_machine.specs.Pull as pulls;
 ghost use Rattle.h1_machine.specs.Kept.{no_rest, raw_rest, fixed_rest, chunks_rest, whole_rest};
 ghost use Rattle.http_bodies.specs.AnyPieces.{GoesOn, in_front};
-ghost use Rattle.h1_payload.specs.Decoding.{Payload, Reads, given, item_of, IsDecoded, IsWaiting, IsRefused};
-ghost use Rattle.h1_payload.specs.Rests.{kind_of};
+ghost use Rattle.h1_payload.specs.Decoding.{Payload, Reads, given, item_of, HasSome, IsDecoded, IsWaiting, IsRefused};
+ghost use Rattle.h1_payload.specs.Rests.{kind_of, IsLight};
 
 use crate::item::{DecodeError, PayloadItem};
 use crate::kind::BodyKind;
@@ -85,13 +87,17 @@ impl PayloadDecoder {
     ///
     /// `None` comes where the bytes have no further byte of the body, nor its end: these bytes are passed. `Invalid`
     /// comes where the bytes break the grammar of chunks; from then on it comes for good, and the bytes stay. Want of
-    /// memory leaves all as it was.
+    /// memory leaves all as it was. The end and a fault need no memory, and neither does a `None`, but for the text of a
+    /// trailer section that is kept.
     pub fn decode(&mut self, src: &mut BytesMut) -> Result<Option<PayloadItem>, DecodeError>
         ensures decoded { IsDecoded self.old src.old.items result self.new src.new.items }
         ensures goes_on { IfOk result (λ answer. GoesOn Reads given self.old src.old.items (in_front Reads given answer) self.new src.new.items) }
+        ensures some { IfOk result HasSome }
         ensures waits { result ≡ Ok None → IsWaiting self.old src.old.items }
         ensures refused { result ≡ Err DecodeError.Invalid → IsRefused self.old src.old.items × (src.new.items ≡ src.old.items) }
         ensures refuses { result ≡ Err DecodeError.Invalid → (self.new.is_broken ≡ true) }
+        ensures no_memory_needed { (p : pulls.Pulled) → IsPull false self.old.rest src.old.items p
+            → IsLight self.old.rest p.outcome p.rest → result ≢ Err DecodeError.NoMemory }
         ensures no_memory { result ≡ Err DecodeError.NoMemory → (self.new ≡ self.old) × (src.new ≡ src.old) }
     {
         if self.is_broken {

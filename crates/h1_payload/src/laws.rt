@@ -10,7 +10,7 @@ ghost use Rattle.h1_machine.specs.Kept.{fixed_rest, chunks_rest};
 ghost use Rattle.http_bodies.specs.AnyPieces.{Fed, AreFed, LastReads, all_told, all_came};
 ghost use Rattle.h1_payload.specs.Decoding.{Decoding, Payload, Reads, given, chunked_payload, length_payload};
 ghost use Rattle.h1_payload.specs.declared.item.PayloadItem.{PayloadItem};
-ghost use Rattle.h1_payload.specs.Fitting.{Fits};
+ghost use Rattle.h1_payload.specs.Fitting.{Fits, GivesSome};
 
 /// A whole body fits, unless it is one of no bytes; and behind a pull what is left fits as well.
 pub fn rests_fit()
@@ -21,6 +21,11 @@ pub fn rests_fit()
 /// Of a rest that fits there is a pull.
 pub fn a_pull_is_there()
     ensures { (is_ended : Bool) (rest : Rest) (bytes : List ℕ) → Fits rest → (p : pulls.Pulled) × IsPull is_ended rest bytes p }
+{}
+
+/// A pull of a rest that fits gives no empty piece of a body, and no empty list of trailers.
+pub fn pulls_give_some()
+    ensures { (is_ended : Bool) (rest : Rest) (bytes : List ℕ) (p : pulls.Pulled) → Fits rest → IsPull is_ended rest bytes p → GivesSome p.outcome }
 {}
 
 /// Bytes say one thing to a decoder, and to one whose rest fits they say something.

@@ -213,3 +213,48 @@ fn a_state_steps_by_a_byte(rt: HostRuntime) -> Result<(), Fail> {
     assert!(rt; answer == Poll::Pending && size == 4);
     Ok(())
 }
+
+#[test]
+fn a_state_gives_the_bytes_of_a_chunk(rt: HostRuntime) -> Result<(), Fail> {
+    let rows: [(u64, &[u8], ChunkedState, u64, &[u8]); 2] = [
+        (2, b"ab", ChunkedState::BodyCr, 0, b"c"),
+        (4, b"abc", ChunkedState::Body, 1, b""),
+    ];
+    for (missing, bytes, next, left, rest) in rows {
+        let mut body = BytesMut::copy_from_slice(rt.alloc(), b"abc")?;
+        let mut size = missing;
+        let mut buf: Option<Bytes> = None;
+        let answer = ChunkedState::Body.step(&mut body, &mut size, &mut buf);
+        assert!(rt; answer == Poll::Ready(Ok(next)) && size == left && body.as_slice() == rest);
+        match buf {
+            Some(given) => assert!(rt; given.as_slice() == bytes),
+            None => assert!(rt; false),
+        }
+    }
+    Ok(())
+}
+
+#[test]
+fn a_copy_reads_on_by_itself(rt: HostRuntime) -> Result<(), Fail> {
+    let alloc = rt.alloc();
+    let mut decoder = PayloadDecoder::chunked();
+    let mut src = BytesMut::copy_from_slice(alloc, b"0\r\nx-su")?;
+    match decoder.decode(&mut src) {
+        Ok(None) => {}
+        _ => assert!(rt; false),
+    }
+    let copy = decoder.copy()?;
+    let log = told(alloc, copy, &[b"m: 9\r\n\r\n"])?;
+    assert!(rt; log.as_slice() == b"x-sum=9;.".as_slice());
+    let log = told(alloc, decoder, &[b"i:\r\n\r\n"])?;
+    assert!(rt; log.as_slice() == b"x-sui=;.".as_slice());
+
+    let rest = Rest::whole(BodyKind::Length(2));
+    let mut unread = BytesMut::copy_from_slice(alloc, b"ab")?;
+    match rest.copy()?.pull(&mut unread, false)? {
+        Pulled::Bytes(bytes) => assert!(rt; bytes.as_slice() == b"ab".as_slice()),
+        _ => assert!(rt; false),
+    }
+    assert!(rt; !rest.is_nothing());
+    Ok(())
+}
