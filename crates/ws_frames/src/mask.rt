@@ -8,16 +8,18 @@ use std::simd::prelude::*;
 /// How many bytes are masked at once.
 const LANES: usize = 32;
 
-/// Puts the mask on a payload, or takes it off: byte k is combined with mask byte k mod 4.
+/// Puts the mask on a payload, or takes it off: byte k is combined with mask byte k mod 4. Twice is not at all.
 pub fn apply_mask(buf: &mut [u8], mask: [u8; 4])
-    ensures { buf.new ≡ unmask mask 0 buf.old }
+    ensures masked { buf.new ≡ unmask mask 0 buf.old }
+    ensures twice { unmask mask 0 buf.new ≡ buf.old }
 {
     apply_mask_fast32(buf, mask);
 }
 
 /// As [`apply_mask`], 32 bytes at a time.
 pub fn apply_mask_fast32(buf: &mut [u8], mask: [u8; 4])
-    ensures { buf.new ≡ unmask mask 0 buf.old }
+    ensures masked { buf.new ≡ unmask mask 0 buf.old }
+    ensures twice { unmask mask 0 buf.new ≡ buf.old }
 {
     let lanes = mask_lanes(mask);
     let mut at = 0;
@@ -30,7 +32,8 @@ pub fn apply_mask_fast32(buf: &mut [u8], mask: [u8; 4])
 
 /// As [`apply_mask`], for a part of a payload that begins with the byte of the number `from`.
 pub fn mask_from(buf: &mut [u8], mask: [u8; 4], from: usize)
-    ensures { buf.new ≡ unmask mask from buf.old }
+    ensures masked { buf.new ≡ unmask mask from buf.old }
+    ensures twice { unmask mask from buf.new ≡ buf.old }
 {
     let [first, second, third, fourth] = mask;
     let turned = match from % 4 {
