@@ -7,7 +7,7 @@ use thiserror::Error;
 #[derive(Clone, Copy, Debug, PartialEq, Eq, Error)]
 pub enum BenchError {
     /// The words name no measurement.
-    #[error("usage: bench [head|get|get16 minimal|curl|browser REQUESTS]")]
+    #[error("usage: bench [head|get|get16 minimal|curl|browser REQUESTS] or bench frames BYTES FRAMES")]
     Usage,
 
     /// An event was not allowed.
@@ -17,6 +17,10 @@ pub enum BenchError {
     /// No head came where one was due.
     #[error("there is no head")]
     NoHead,
+
+    /// No frame came where one was due.
+    #[error("there is no frame")]
+    NoFrame,
 
     /// The engine doesn't do this yet.
     #[error("an event of this kind is not served yet")]
