@@ -9,4 +9,4 @@ pub loop-buf-init : goal.loop-buf-init
 loop-buf-init c = (refl, none_masked _ _)
 
 pub returns-clause-twice : goal.returns-clause-twice
-returns-clause-twice c = ap (unmask c.args.mask 0) (c.mask_rest.ensures c.args.buf.now c.loop-buf.invariant.1) ∙ masked_twice c.args.mask 0 c.args.buf.now
+returns-clause-twice c = ap (unmask c.args.mask 0) (c.mask_rest.ensures c.args.buf.now c.loop-buf-2.invariant.1) ∙ masked_twice c.args.mask 0 c.args.buf.now
