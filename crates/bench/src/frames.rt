@@ -59,6 +59,12 @@ pub fn echo_frames(alloc: Global, size: usize, frames: u64) -> Result<u64, Bench
 fn masked_frame(alloc: Global, size: usize) -> Result<BytesMut, BenchError> {
     let payload = Vec::from_elem(alloc, b'a', size)?;
     let mut text = BytesMut::new(alloc);
-    Parser::write_message(&mut text, payload.as_slice(), OpCode::Binary, true, Some(MASK))?;
+    Parser::write_message(
+        &mut text,
+        payload.as_slice(),
+        OpCode::Binary,
+        true,
+        Some(MASK),
+    )?;
     Ok(text)
 }

@@ -33,9 +33,7 @@ fn main(rt: HostRuntime) -> Result<()> {
         [] => a_little_of_each(&rt, alloc),
         [word, size, frames] if word.as_str() == "frames" => {
             let size = size.parse::<usize>().context("reading how many bytes")?;
-            let frames = frames
-                .parse::<u64>()
-                .context("reading how many frames")?;
+            let frames = frames.parse::<u64>().context("reading how many frames")?;
             measure_frames(&rt, alloc, size, frames)
         }
         [work, head, requests] => {

@@ -102,7 +102,10 @@ fn codes_that_are_not_sent_are_refused(rt: HostRuntime) {
     ];
     for (payload, error) in rows {
         let read = Parser::try_parse_close_payload(rt.alloc(), payload);
-        assert!(rt; matches!(&read, Err(given) if *given == error), "of {payload:?}");
+        assert!(rt;
+            matches!(&read, Err(given) if *given == error),
+            "of {payload:?}"
+        );
     }
 }
 
@@ -129,14 +132,8 @@ fn any_code_is_read_where_one_asks_for_it(rt: HostRuntime) -> Result<(), Fail> {
 #[test]
 fn keys_are_answered(rt: HostRuntime) {
     let rows: [(&[u8], &[u8]); 3] = [
-        (
-            b"dGhlIHNhbXBsZSBub25jZQ==",
-            b"s3pPLMBiTxaQ9kYGzzhZRbK+xOo=",
-        ),
-        (
-            b"x3JJHMbDL1EzLkh9GBhXDw==",
-            b"HSmrc0sMlYUkAGmm5OPpG2HaGWk=",
-        ),
+        (b"dGhlIHNhbXBsZSBub25jZQ==", b"s3pPLMBiTxaQ9kYGzzhZRbK+xOo="),
+        (b"x3JJHMbDL1EzLkh9GBhXDw==", b"HSmrc0sMlYUkAGmm5OPpG2HaGWk="),
         (b"", b"Kfh9QIsMVZcl6xEPYxPHzW8SZ8w="),
     ];
     for (key, answer) in rows {

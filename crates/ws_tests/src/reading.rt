@@ -102,7 +102,10 @@ fn examples_are_read(rt: HostRuntime) -> Result<(), Fail> {
         (b"\x82\x7f\0\0\0\0\0\0\0\x01x", &[("binary", b"x")]),
     ];
     for (bytes, frames) in rows {
-        assert!(rt; read_in_two(client(), rt.alloc(), b"", bytes, frames)?, "of {bytes:?}");
+        assert!(rt;
+            read_in_two(client(), rt.alloc(), b"", bytes, frames)?,
+            "of {bytes:?}"
+        );
     }
     let masked: [(&[u8], &[Shown]); 3] = [
         (
@@ -119,7 +122,10 @@ fn examples_are_read(rt: HostRuntime) -> Result<(), Fail> {
         ),
     ];
     for (bytes, frames) in masked {
-        assert!(rt; read_in_two(server(), rt.alloc(), b"", bytes, frames)?, "of {bytes:?}");
+        assert!(rt;
+            read_in_two(server(), rt.alloc(), b"", bytes, frames)?,
+            "of {bytes:?}"
+        );
     }
     Ok(())
 }
@@ -145,7 +151,10 @@ const FRAMES: [Shown; 6] = [
 fn frames_are_read_wherever_they_are_cut(rt: HostRuntime) -> Result<(), Fail> {
     for cut in 0..=STREAM.len() {
         let (first, second) = (&STREAM[..cut], &STREAM[cut..]);
-        assert!(rt; read_in_two(server(), rt.alloc(), first, second, &FRAMES)?, "at {cut}");
+        assert!(rt;
+            read_in_two(server(), rt.alloc(), first, second, &FRAMES)?,
+            "at {cut}"
+        );
     }
     Ok(())
 }
@@ -255,7 +264,10 @@ fn control_frames_have_at_most_125_bytes(rt: HostRuntime) -> Result<(), Fail> {
         let read = read_zeros(rt.alloc(), op, true, 125)?;
         assert!(rt; matches!(read, Ok(Some(_))), "of 125 bytes");
         let read = read_zeros(rt.alloc(), op, true, 126)?;
-        assert!(rt; matches!(read, Err(ProtocolError::InvalidLength(126))), "of 126 bytes");
+        assert!(rt;
+            matches!(read, Err(ProtocolError::InvalidLength(126))),
+            "of 126 bytes"
+        );
     }
     // a longer Close is one without payload
     for finished in [true, false] {

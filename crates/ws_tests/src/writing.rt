@@ -47,6 +47,11 @@ fn examples_are_written(rt: HostRuntime) -> Result<(), Fail> {
     Ok(())
 }
 
+// Whether the text has this header, and then so many bytes.
+fn has_header(text: &BytesMut, header: &[u8], len: usize) -> bool {
+    text.as_slice().starts_with(header) && text.len().checked_sub(len) == Some(header.len())
+}
+
 #[test]
 fn lengths_have_their_shortest_form(rt: HostRuntime) -> Result<(), Fail> {
     let rows: [(usize, &[u8], &[u8]); 5] = [
@@ -67,9 +72,15 @@ fn lengths_have_their_shortest_form(rt: HostRuntime) -> Result<(), Fail> {
     for (len, plain, masked) in rows {
         let payload = Vec::from_elem(rt.alloc(), 0, len)?;
         let text = written(rt.alloc(), payload.as_slice(), OpCode::Binary, true, None)?;
-        assert!(rt; text.as_slice().starts_with(plain) && text.len() - len == plain.len());
-        let text = written(rt.alloc(), payload.as_slice(), OpCode::Binary, true, Some(MASK))?;
-        assert!(rt; text.as_slice().starts_with(masked) && text.len() - len == masked.len());
+        assert!(rt; has_header(&text, plain, len), "of {len}");
+        let text = written(
+            rt.alloc(),
+            payload.as_slice(),
+            OpCode::Binary,
+            true,
+            Some(MASK),
+        )?;
+        assert!(rt; has_header(&text, masked, len), "of {len}");
     }
     Ok(())
 }
@@ -153,11 +164,7 @@ fn fragments_are_written_in_order(rt: HostRuntime) -> Result<(), Fail> {
             Ok(()),
             b"\x00\x01l",
         ),
-        (
-            Item::Last(Bytes::from_static(b"o")),
-            Ok(()),
-            b"\x80\x01o",
-        ),
+        (Item::Last(Bytes::from_static(b"o")), Ok(()), b"\x80\x01o"),
         (
             Item::Last(Bytes::new()),
             Err(ProtocolError::ContinuationNotStarted),
@@ -172,8 +179,16 @@ fn fragments_are_written_in_order(rt: HostRuntime) -> Result<(), Fail> {
     let mut codec = Codec::new();
     let mut text = BytesMut::new(rt.alloc());
     for (item, want, bytes) in rows {
-        let given = sent(&mut codec, rt.alloc(), &mut text, Message::Continuation(item));
-        assert!(rt; given == want && text.as_slice() == bytes, "it is {bytes:?}");
+        let given = sent(
+            &mut codec,
+            rt.alloc(),
+            &mut text,
+            Message::Continuation(item),
+        );
+        assert!(rt;
+            given == want && text.as_slice() == bytes,
+            "it is {bytes:?}"
+        );
     }
     Ok(())
 }
@@ -183,11 +198,17 @@ fn fragments_are_written_in_order(rt: HostRuntime) -> Result<(), Fail> {
 fn a_client_masks_by_its_words(rt: HostRuntime) -> Result<(), Fail> {
     let mut codec = Codec::new().client_mode(Lcg64Xsh32::new(42, 54));
     let mut text = BytesMut::new(rt.alloc());
-    codec.encode(rt.alloc(), Message::Binary(Bytes::from_static(&[0; 5])), &mut text)?;
+    codec.encode(
+        rt.alloc(),
+        Message::Binary(Bytes::from_static(&[0; 5])),
+        &mut text,
+    )?;
     codec.encode(rt.alloc(), Message::Nop, &mut text)?;
     codec.encode(rt.alloc(), Message::Ping(Bytes::new()), &mut text)?;
-    assert!(rt; text.as_slice()
-        == b"\x82\x85\xb7\x02\x5c\xa1\xb7\x02\x5c\xa1\xb7\x89\x80\x09\xf4\x47\x7b".as_slice());
+    assert!(rt;
+        text.as_slice()
+            == b"\x82\x85\xb7\x02\x5c\xa1\xb7\x02\x5c\xa1\xb7\x89\x80\x09\xf4\x47\x7b".as_slice()
+    );
     Ok(())
 }
 
