@@ -10,7 +10,7 @@ use thiserror::Error;
 #[derive(Clone, Copy, Debug, PartialEq, Eq, Error)]
 pub enum BenchError {
     /// The words name no measurement.
-    #[error("usage: bench [head|get|get16 minimal|curl|browser REQUESTS] or bench map WORK NAMES|minimal|curl|browser TIMES")]
+    #[error("usage: bench [head|get|get16 minimal|curl|browser REQUESTS] or bench map WORK NAMES|minimal|curl|browser TIMES or bench frames BYTES FRAMES")]
     Usage,
 
     /// A text that was to be a header line is none.
@@ -24,6 +24,10 @@ pub enum BenchError {
     /// No head came where one was due.
     #[error("there is no head")]
     NoHead,
+
+    /// No frame came where one was due.
+    #[error("there is no frame")]
+    NoFrame,
 
     /// The engine doesn't do this yet.
     #[error("an event of this kind is not served yet")]

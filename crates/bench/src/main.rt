@@ -2,18 +2,21 @@
 //!
 //! The words are what is measured, with which head, and how many requests, as in `bench get curl 1000`; or `map`, what
 //! is done with a header map, the number of its names or the head that they are of, and how many times, as in
-//! `bench map find 32 1000`. It prints a checksum of all that came, so that none of the work can be left out. Without
+//! `bench map find 32 1000`; or `frames`, how many bytes a frame's payload has, and how many frames are echoed, as in
+//! `bench frames 1024 1000`. It prints a checksum of all that came, so that none of the work can be left out. Without
 //! words it does a little of each.
 #![tactic(auto)]
 
 mod checksum;
 mod error;
+mod frames;
 mod head;
 mod map;
 mod work;
 
 use anyhow::{Context, Result};
 use error::BenchError;
+use frames::echo_frames;
 use head::{HEADS, NamedHead};
 use map::{Lines, MAP_WORKS, MapWork};
 use std::alloc::Global;
@@ -26,11 +29,19 @@ const FEW: u64 = 32;
 /// How many names a map has where there are no words: more than stand in a list.
 const NAMES: usize = 40;
 
+/// How many bytes the payloads of frames have where there are no words.
+const SIZES: [usize; 3] = [16, 1024, 65536];
+
 fn main(rt: HostRuntime) -> Result<()> {
     let alloc = rt.alloc();
     let words: Vec<String> = env::args(&rt)?.skip(1).collect(alloc)?;
     match words.as_slice() {
         [] => a_little_of_each(&rt, alloc),
+        [word, size, frames] if word.as_str() == "frames" => {
+            let size = size.parse::<usize>().context("reading how many bytes")?;
+            let frames = frames.parse::<u64>().context("reading how many frames")?;
+            measure_frames(&rt, alloc, size, frames)
+        }
         [work, head, requests] => {
             let work = Work::named(work.as_str()).ok_or(BenchError::Usage)?;
             let head = NamedHead::named(head.as_str()).ok_or(BenchError::Usage)?;
@@ -58,6 +69,9 @@ fn a_little_of_each(rt: &impl Print, alloc: Global) -> Result<()> {
     let lines = Lines::numbered(alloc, NAMES)?;
     for work in &MAP_WORKS {
         measure_map(rt, alloc, *work, &lines, FEW)?;
+    }
+    for size in SIZES {
+        measure_frames(rt, alloc, size, FEW)?;
     }
     Ok(())
 }
@@ -94,5 +108,11 @@ fn measure_map(
 ) -> Result<()> {
     let checksum = work.run(alloc, lines, times)?;
     println!(rt; "map {} {checksum:016x}", work.name())?;
+    Ok(())
+}
+
+fn measure_frames(rt: &impl Print, alloc: Global, size: usize, frames: u64) -> Result<()> {
+    let checksum = echo_frames(alloc, size, frames)?;
+    println!(rt; "frames {size} {checksum:016x}")?;
     Ok(())
 }

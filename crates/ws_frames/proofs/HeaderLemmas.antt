@@ -1,23 +1,16 @@
 -- What is read of a header is what the definitions say of it.
-use Rattle.std.proofs.Common.{◌≡◌, ℕ, ◌+◌, ◌-◌, ◌<◌, ◌≤◌, Bool, true, false, cond, not, ◌&&◌, List, [], ◌∷◌, length, take, drop, get_or, nat_lt, nat_eq, ◌/◌, ◌%◌, ◌≢◌, Option, Some, None, Result, Ok, Err, refl, sym, ap, ◌∙◌, subst, arith, drop-drop, le-ltb}
-use Rattle.std.proofs.lemmas.Bool.{lt-ltb}
+use Rattle.std.proofs.Common.{◌≡◌, ℕ, ◌+◌, ◌≤◌, Bool, true, false, cond, not, List, [], ◌∷◌, length, drop, get_or, nat_lt, nat_eq, ◌/◌, ◌%◌, Option, Some, None, Result, Ok, Err, refl, ap, subst, arith}
 use Rattle.std.specs.Option.{option_or}
 use Rattle.h1_model.specs.Frame as frames
 use Rattle.h1_model.specs.Frame.{unmasked_frame, masked_frame, invalid_reserved_bits, overflow, invalid_length}
-use Rattle.h1_model.specs.FrameText.{Reader, Opcode, continuation_opcode, text_opcode, binary_opcode, close_opcode, ping_opcode, pong_opcode, unknown_opcode, opcode_error, FrameStart, frame_start, start_error, length_bytes, mask_bytes, FrameHeader, frame_header, unmask, payload_of, is_control}
-use Rattle.h1_model.specs.Limits.{MAX_FRAME, MAX_CONTROL_PAYLOAD}
-use Rattle.h1_model.specs.Laws.FrameSize.{frame_length}
+use Rattle.h1_model.specs.FrameText.{Reader, Opcode, opcode_error, FrameStart, frame_start, start_error, length_bytes, mask_bytes, FrameHeader, frame_header}
 use Rattle.ws_frames.specs.declared.proto.OpCode.{OpCode}
-use Rattle.ws_frames.specs.declared.proto.OpCode.TheVariants as codes
 use Rattle.ws_frames.specs.declared.error.ProtocolError.{ProtocolError}
-use Rattle.ws_frames.specs.declared.error.ProtocolError.TheVariants as errors
 use Rattle.ws_frames.specs.declared.frame.header.Header.{Header}
-use Rattle.ws_frames.specs.Protocol.{code_of, opcode_written}
+use Rattle.ws_frames.specs.Protocol.{code_of}
 use Rattle.ws_frames.specs.Refusal.{refusal}
-use Rattle.ws_frames.specs.Parsed.{late_reader, HeadFront, short, broken, known, head_behind, head_front, waits, refuses, takes, parsed_long, parsed_body, parsed_header}
-use Rattle.ws_frames.specs.Header.{start_read, length_there, header_kept, head_read, payload_at, IsReadable, LiesAt, RefusedAt}
-
--- ---- the header
+use Rattle.ws_frames.specs.Parsed.{late_reader, HeadFront, short, broken, known, head_behind, head_front}
+use Rattle.ws_frames.specs.Header.{start_read, length_there, header_kept, head_read, IsReadable}
 
 -- one pair
 same_pair : (p q : ℕ × ℕ) → Some p ≡ Some q → p ≡ q
@@ -44,6 +37,10 @@ pub error_read : (e : Option frames.ProtocolError) (start : FrameStart) (more : 
     → Err x ≡ start_read e op → Err x ≡ head_read (head_behind e start more)
 error_read (Some y) start more op x is = cc
 error_read None start more op x is = cc
+
+-- how many bytes the mask takes
+abbrev pub mask_len : Bool → ℕ
+mask_len m = cond m 4 0
 
 -- where the length isn't there, there is no header yet
 pub none_read : (e : Option frames.ProtocolError) (start : FrameStart) (more : List ℕ) (op : Opcode) (x : OpCode)
@@ -124,206 +121,3 @@ known_is_readable server max (a ∷ b ∷ more) m is = go (start_error (late_rea
     go : (e : Option frames.ProtocolError) → start_error (late_reader server max) start ≡ e → head_behind e start more ≡ known m → IsReadable server m
     go (Some x) is e = cc
     go None is e = test is (nat_lt (length more) (length_bytes start)) e
-
--- ---- the frame
-
--- an opcode with a meaning is written as it was read
-pub opcode_back : (op : Opcode) → opcode_error op ≡ None → opcode_written (code_of op) ≡ op
-opcode_back continuation_opcode e = refl
-opcode_back text_opcode e = refl
-opcode_back binary_opcode e = refl
-opcode_back close_opcode e = refl
-opcode_back ping_opcode e = refl
-opcode_back pong_opcode e = refl
-opcode_back (unknown_opcode n) e = cc
-
--- a frame that is there, and may be whole
-pub there_parsed : (max : ℕ) (header : FrameHeader) (bytes : List ℕ) → frame_length header ≤ MAX_FRAME → frame_length header ≤ length bytes
-    → parsed_header max header bytes ≡ cond (nat_lt max header.payload_length) (refuses overflow (frame_length header)) (parsed_body header (drop (2 + length_bytes header.start) bytes))
-there_parsed max header bytes may there =
-    let never : nat_lt MAX_FRAME (frame_length header) ≡ false = le-ltb MAX_FRAME (frame_length header) may in
-    let enough : nat_lt (length bytes) (frame_length header) ≡ false = le-ltb (length bytes) (frame_length header) there in
-    λ i. cond (never i) (refuses overflow 0) (cond (enough i) waits
-    (cond (nat_lt max header.payload_length) (refuses overflow (frame_length header)) (parsed_body header (drop (2 + length_bytes header.start) bytes))))
-
--- above the limit
-pub wide_parsed : (max : ℕ) (header : FrameHeader) (bytes : List ℕ) → frame_length header ≤ MAX_FRAME → frame_length header ≤ length bytes
-    → max < header.payload_length → RefusedAt errors.Overflow (frame_length header) bytes (parsed_header max header bytes)
-wide_parsed max header bytes may there wide =
-    let above = lt-ltb max header.payload_length wide in
-    record {
-      rule = overflow;
-      refused = there_parsed max header bytes may there
-          ∙ ap (λ (t : Bool). cond t (refuses overflow (frame_length header)) (parsed_body header (drop (2 + length_bytes header.start) bytes))) above;
-      named = refl;
-      within = there;
-    }
-
--- within the limit
-pub body_parsed : (max : ℕ) (header : FrameHeader) (bytes : List ℕ) → frame_length header ≤ MAX_FRAME → frame_length header ≤ length bytes
-    → header.payload_length ≤ max → parsed_header max header bytes ≡ parsed_body header (drop (2 + length_bytes header.start) bytes)
-body_parsed max header bytes may there small =
-    let below = le-ltb max header.payload_length small in
-    there_parsed max header bytes may there
-    ∙ ap (λ (t : Bool). cond t (refuses overflow (frame_length header)) (parsed_body header (drop (2 + length_bytes header.start) bytes))) below
-
--- a control frame with too much payload
-pub long_parsed : (header : FrameHeader) (body : List ℕ) → is_control header.start.opcode ≡ true → MAX_CONTROL_PAYLOAD < header.payload_length
-    → parsed_body header body ≡ parsed_long header.start.opcode header.payload_length (frame_length header)
-long_parsed header body control long =
-    let above = lt-ltb MAX_CONTROL_PAYLOAD header.payload_length long in
-    λ i. cond (control i && above i) (parsed_long header.start.opcode header.payload_length (frame_length header))
-    (takes header.start.is_final header.start.opcode (payload_of header body) (frame_length header))
-
--- its opcode is one of three
-pub close_only : (op : Opcode) → code_of op ≡ codes.Close → op ≡ close_opcode
-close_only continuation_opcode e = cc
-close_only text_opcode e = cc
-close_only binary_opcode e = cc
-close_only close_opcode e = refl
-close_only ping_opcode e = cc
-close_only pong_opcode e = cc
-close_only (unknown_opcode n) e = cc
-
-pub ping_only : (op : Opcode) → code_of op ≡ codes.Ping → op ≡ ping_opcode
-ping_only continuation_opcode e = cc
-ping_only text_opcode e = cc
-ping_only binary_opcode e = cc
-ping_only close_opcode e = cc
-ping_only ping_opcode e = refl
-ping_only pong_opcode e = cc
-ping_only (unknown_opcode n) e = cc
-
-pub pong_only : (op : Opcode) → code_of op ≡ codes.Pong → op ≡ pong_opcode
-pong_only continuation_opcode e = cc
-pong_only text_opcode e = cc
-pong_only binary_opcode e = cc
-pong_only close_opcode e = cc
-pong_only ping_opcode e = cc
-pong_only pong_opcode e = refl
-pong_only (unknown_opcode n) e = cc
-
--- no payload is taken
-no_payload : (server : Bool) (k : ℕ) (bytes : List ℕ) → payload_at server k 0 bytes ≡ []
-unfolding unmask
-no_payload true k bytes = refl
-no_payload false k bytes = refl
-
--- a long Close is taken without payload
-pub long_close_lies : (server : Bool) (max : ℕ) (header : FrameHeader) (bytes : List ℕ) → IsReadable server header
-    → frame_length header ≤ MAX_FRAME → frame_length header ≤ length bytes
-    → header.payload_length ≤ max → MAX_CONTROL_PAYLOAD < header.payload_length → code_of header.start.opcode ≡ codes.Close
-    → LiesAt server true codes.Close (frame_length header) 0 bytes (parsed_header max header bytes)
-long_close_lies server max header bytes readable may there small long code =
-    let op = close_only header.start.opcode code in
-    let n = header.payload_length in
-    let len = frame_length header in
-    let as_long : len ≡ len + 0 = omega arith in
-    let none = sym (no_payload server len bytes) in
-    record {
-      taken = body_parsed max header bytes may there small
-          ∙ long_parsed header (drop (2 + length_bytes header.start) bytes) (ap is_control op) long
-          ∙ ap (λ (o : Opcode). parsed_long o n len) op
-          ∙ (λ i. takes true close_opcode (none i) (as_long i));
-      within = omega (arith, there);
-      masked = λ _. omega (arith, long);
-    }
-
--- a long Ping or Pong is refused
-pub long_ping_refused : (server : Bool) (max : ℕ) (header : FrameHeader) (bytes : List ℕ)
-    → frame_length header ≤ MAX_FRAME → frame_length header ≤ length bytes
-    → header.payload_length ≤ max → MAX_CONTROL_PAYLOAD < header.payload_length → code_of header.start.opcode ≡ codes.Ping
-    → RefusedAt (errors.InvalidLength header.payload_length) (frame_length header) bytes (parsed_header max header bytes)
-long_ping_refused server max header bytes may there small long code =
-    let op = ping_only header.start.opcode code in
-    record {
-      rule = invalid_length header.payload_length;
-      refused = body_parsed max header bytes may there small
-          ∙ long_parsed header (drop (2 + length_bytes header.start) bytes) (ap is_control op) long
-          ∙ ap (λ (o : Opcode). parsed_long o header.payload_length (frame_length header)) op;
-      named = refl;
-      within = there;
-    }
-
-pub long_pong_refused : (server : Bool) (max : ℕ) (header : FrameHeader) (bytes : List ℕ)
-    → frame_length header ≤ MAX_FRAME → frame_length header ≤ length bytes
-    → header.payload_length ≤ max → MAX_CONTROL_PAYLOAD < header.payload_length → code_of header.start.opcode ≡ codes.Pong
-    → RefusedAt (errors.InvalidLength header.payload_length) (frame_length header) bytes (parsed_header max header bytes)
-long_pong_refused server max header bytes may there small long code =
-    let op = pong_only header.start.opcode code in
-    record {
-      rule = invalid_length header.payload_length;
-      refused = body_parsed max header bytes may there small
-          ∙ long_parsed header (drop (2 + length_bytes header.start) bytes) (ap is_control op) long
-          ∙ ap (λ (o : Opcode). parsed_long o header.payload_length (frame_length header)) op;
-      named = refl;
-      within = there;
-    }
-
--- the payload is where it is looked for
-payload_found : (server : Bool) (header : FrameHeader) (bytes : List ℕ) → IsReadable server header
-    → payload_of header (drop (2 + length_bytes header.start) bytes) ≡ payload_at server header.header_length header.payload_length bytes
-payload_found server header bytes readable = go server header.start.is_masked readable.masked readable.lens
-  where
-    k : ℕ
-    k = 2 + length_bytes header.start
-
-    n : ℕ
-    n = header.payload_length
-
-    go : (server masked : Bool) → masked ≡ server → header.header_length ≡ k + cond masked 4 0
-        → cond masked (unmask (take 4 (drop k bytes)) 0 (take n (drop 4 (drop k bytes)))) (take n (drop k bytes)) ≡ payload_at server header.header_length n bytes
-    go true true e lens =
-        let at : k ≡ header.header_length - 4 = omega (arith, lens) in
-        let behind : k + 4 ≡ header.header_length = omega (arith, lens) in
-        let past : drop 4 (drop k bytes) ≡ drop header.header_length bytes = drop-drop 4 k bytes ∙ ap (λ (j : ℕ). drop j bytes) behind in
-        λ i. unmask (take 4 (drop (at i) bytes)) 0 (take n (past i))
-    go false false e lens =
-        let behind : k ≡ header.header_length = omega (arith, lens) in
-        ap (λ (j : ℕ). take n (drop j bytes)) behind
-    go true false e lens = cc
-    go false true e lens = cc
-
--- how many bytes the mask takes
-abbrev pub mask_len : Bool → ℕ
-mask_len m = cond m 4 0
-
--- a frame that is taken as it stands
-pub plain_lies : (server : Bool) (max : ℕ) (header : FrameHeader) (bytes : List ℕ) → IsReadable server header
-    → frame_length header ≤ MAX_FRAME → frame_length header ≤ length bytes → header.payload_length ≤ max
-    → (is_control header.start.opcode && nat_lt MAX_CONTROL_PAYLOAD header.payload_length) ≡ false
-    → LiesAt server header.start.is_final (code_of header.start.opcode) header.header_length header.payload_length bytes (parsed_header max header bytes)
-plain_lies server max header bytes readable may there small plain =
-    let body = drop (2 + length_bytes header.start) bytes in
-    let op = sym (opcode_back header.start.opcode readable.opcode) in
-    let payload = payload_found server header bytes readable in
-    let mask : mask_bytes header.start ≡ cond server 4 0 = ap mask_len readable.masked in
-    let lens = readable.lens in
-    record {
-      taken = body_parsed max header bytes may there small
-          ∙ ap (λ (t : Bool). cond t (parsed_long header.start.opcode header.payload_length (frame_length header))
-          (takes header.start.is_final header.start.opcode (payload_of header body) (frame_length header))) plain
-          ∙ (λ i. takes header.start.is_final (op i) (payload i) (frame_length header));
-      within = there;
-      masked = λ (e : server ≡ true).
-          let four : cond server 4 0 ≡ 4 = ap (λ (m : Bool). mask_len m) e in
-          omega (arith, lens, mask, four);
-    }
-
--- an opcode of no control frame
-pub no_control : (op : Opcode) → code_of op ≢ codes.Close → code_of op ≢ codes.Ping → code_of op ≢ codes.Pong → is_control op ≡ false
-no_control continuation_opcode a b c = refl
-no_control text_opcode a b c = refl
-no_control binary_opcode a b c = refl
-no_control close_opcode a b c = absurd (a refl)
-no_control ping_opcode a b c = absurd (b refl)
-no_control pong_opcode a b c = absurd (c refl)
-no_control (unknown_opcode n) a b c = refl
-
--- a payload that any frame may have is not too long for a control frame
-pub short_control : (op : Opcode) (n : ℕ) → n ≤ MAX_CONTROL_PAYLOAD → (is_control op && nat_lt MAX_CONTROL_PAYLOAD n) ≡ false
-short_control op n small = go (is_control op)
-  where
-    go : (b : Bool) → (b && nat_lt MAX_CONTROL_PAYLOAD n) ≡ false
-    go true = le-ltb MAX_CONTROL_PAYLOAD n small
-    go false = refl

@@ -1,6 +1,8 @@
 pub mod MaskLemmas
 pub mod ParsedFronts
 pub mod HeaderLemmas
+pub mod OpcodeLemmas
+pub mod FoundLemmas
 pub mod WrittenLemmas
 pub mod CloseLemmas
 pub mod KindLemmas

@@ -54,12 +54,21 @@ lanes_run (a ∷ b ∷ c ∷ []) e = absurd (omega (arith, e))
 lanes_run (a ∷ b ∷ c ∷ d ∷ []) e = refl
 lanes_run (a ∷ b ∷ c ∷ d ∷ x ∷ xs) e = absurd (omega (arith, e))
 
--- 32 bytes from a place that the mask divides are masked by the lanes
-pub lanes_unmask : (mask : List ℕ) (at : ℕ) (xs : List ℕ) → length mask ≡ 4 → at % 4 ≡ 0 → length xs ≡ 32
-    → zip2 bit_xor xs (lanes_of mask) ≡ unmask mask at xs
-lanes_unmask mask at xs four even long =
-    let run : mask_run mask 0 (length xs) ≡ lanes_of mask = ap (mask_run mask 0) long ∙ lanes_run mask four in
-    ap (zip2 bit_xor xs) (sym run) ∙ sym (unmask_by_lanes mask 0 xs) ∙ unmask_congruent mask 0 at xs (sym even)
+-- the mask once is a run of four
+pub word_run : (mask : List ℕ) → length mask ≡ 4 → mask_run mask 0 4 ≡ mask
+word_run [] e = absurd (omega (arith, e))
+word_run (a ∷ []) e = absurd (omega (arith, e))
+word_run (a ∷ b ∷ []) e = absurd (omega (arith, e))
+word_run (a ∷ b ∷ c ∷ []) e = absurd (omega (arith, e))
+word_run (a ∷ b ∷ c ∷ d ∷ []) e = refl
+word_run (a ∷ b ∷ c ∷ d ∷ x ∷ xs) e = absurd (omega (arith, e))
+
+-- bytes from a place that the mask divides are masked by as long a run of it
+run_unmask : (mask run : List ℕ) (n at : ℕ) (xs : List ℕ) → mask_run mask 0 n ≡ run → at % 4 ≡ 0 → length xs ≡ n
+    → zip2 bit_xor xs run ≡ unmask mask at xs
+run_unmask mask run n at xs is even long =
+    let as_long : mask_run mask 0 (length xs) ≡ run = ap (mask_run mask 0) long ∙ is in
+    ap (zip2 bit_xor xs) (sym as_long) ∙ sym (unmask_by_lanes mask 0 xs) ∙ unmask_congruent mask 0 at xs (sym even)
 
 -- n more bytes are masked behind those that are
 pub masked_further : (mask all : List ℕ) (at n : ℕ) (before ys : List ℕ) → at + n ≤ length all
@@ -90,25 +99,25 @@ pub length_so_far : (mask all bytes : List ℕ) (at : ℕ) → IsMaskedUpTo mask
 length_so_far mask all bytes at so =
     ap length so.so_far ∙ omega (arith, length-append (unmask mask 0 (take at all)) (drop at all), length_unmask mask 0 (take at all), length-take-le at all so.within, length-drop at all, so.within)
 
--- a load is masked and stored
-pub chunk_masked : (mask all bytes : List ℕ) (at : ℕ) → at + 32 ≤ length bytes → length mask ≡ 4 → at % 4 ≡ 0 → IsMaskedUpTo mask all at bytes
-    → IsMaskedUpTo mask all (at + 32) (put_chunk at bytes (zip2 bit_xor (chunk at 32 bytes) (lanes_of mask)))
-chunk_masked mask all bytes at within four even so =
+-- a load of n bytes is masked and stored
+pub chunk_masked : (mask run all bytes : List ℕ) (n at : ℕ) → at + n ≤ length bytes → mask_run mask 0 n ≡ run → at % 4 ≡ 0 → IsMaskedUpTo mask all at bytes
+    → IsMaskedUpTo mask all (at + n) (put_chunk at bytes (zip2 bit_xor (chunk at n bytes) run))
+chunk_masked mask run all bytes n at within is even so =
     let as_long = length_so_far mask all bytes at so in
-    let inside : at + 32 ≤ length all = omega arith in
-    let load : chunk at 32 bytes ≡ take 32 (drop at all) = ap (take 32) (rest_so_far mask all bytes at so) in
-    let long : length (take 32 (drop at all)) ≡ 32 = omega (arith, length-take-le 32 (drop at all) (omega (arith, length-drop at all))) in
-    let ys = zip2 bit_xor (chunk at 32 bytes) (lanes_of mask) in
-    let here : ys ≡ unmask mask at (take 32 (drop at all))
-    = ap (λ (t : List ℕ). zip2 bit_xor t (lanes_of mask)) load ∙ lanes_unmask mask at (take 32 (drop at all)) four even long in
-    let stored_long : length ys ≡ 32 = ap length here ∙ length_unmask mask at (take 32 (drop at all)) ∙ long in
-    let behind : drop (length ys) (drop at bytes) ≡ drop (at + 32) all
-    = ap (λ (n : ℕ). drop n (drop at bytes)) stored_long ∙ ap (drop 32) (rest_so_far mask all bytes at so) ∙ drop-drop 32 at all in
-    let stored : put_chunk at bytes ys ≡ take at bytes ++ (ys ++ drop (at + 32) all)
+    let inside : at + n ≤ length all = omega arith in
+    let load : chunk at n bytes ≡ take n (drop at all) = ap (take n) (rest_so_far mask all bytes at so) in
+    let long : length (take n (drop at all)) ≡ n = omega (arith, length-take-le n (drop at all) (omega (arith, length-drop at all))) in
+    let ys = zip2 bit_xor (chunk at n bytes) run in
+    let here : ys ≡ unmask mask at (take n (drop at all))
+    = ap (λ (t : List ℕ). zip2 bit_xor t run) load ∙ run_unmask mask run n at (take n (drop at all)) is even long in
+    let stored_long : length ys ≡ n = ap length here ∙ length_unmask mask at (take n (drop at all)) ∙ long in
+    let behind : drop (length ys) (drop at bytes) ≡ drop (at + n) all
+    = ap (λ (k : ℕ). drop k (drop at bytes)) stored_long ∙ ap (drop n) (rest_so_far mask all bytes at so) ∙ drop-drop n at all in
+    let stored : put_chunk at bytes ys ≡ take at bytes ++ (ys ++ drop (at + n) all)
     = put_chunk_is at bytes ys (omega arith) ∙ ap (λ (t : List ℕ). take at bytes ++ (ys ++ t)) behind in
     record {
       within = inside;
-      so_far = stored ∙ masked_further mask all at 32 (take at bytes) ys inside here (front_so_far mask all bytes at so);
+      so_far = stored ∙ masked_further mask all at n (take at bytes) ys inside here (front_so_far mask all bytes at so);
     }
 
 -- one more byte is masked

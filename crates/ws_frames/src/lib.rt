@@ -23,6 +23,7 @@ mod codec;
 mod error;
 mod frame;
 mod kind;
+mod laws;
 mod mask;
 mod message;
 mod parser;
@@ -33,6 +34,7 @@ mod take;
 
 pub use codec::{Codec, NoWords};
 pub use error::ProtocolError;
+pub use laws::{close_codes_keep_their_numbers, masking_goes_on, opcodes_keep_their_numbers};
 pub use mask::{apply_mask, apply_mask_fast32, mask_from};
 pub use message::{Frame, Item, Message};
 pub use parser::Parser;

@@ -8,16 +8,21 @@ use std::simd::prelude::*;
 /// How many bytes are masked at once.
 const LANES: usize = 32;
 
-/// Puts the mask on a payload, or takes it off: byte k is combined with mask byte k mod 4.
+/// How many are while that many are left.
+const WORD: usize = 4;
+
+/// Puts the mask on a payload, or takes it off: byte k is combined with mask byte k mod 4. Twice is not at all.
 pub fn apply_mask(buf: &mut [u8], mask: [u8; 4])
-    ensures { buf.new ≡ unmask mask 0 buf.old }
+    ensures masked { buf.new ≡ unmask mask 0 buf.old }
+    ensures twice { unmask mask 0 buf.new ≡ buf.old }
 {
     apply_mask_fast32(buf, mask);
 }
 
-/// As [`apply_mask`], 32 bytes at a time.
+/// As [`apply_mask`], 32 bytes at a time, then four, then one.
 pub fn apply_mask_fast32(buf: &mut [u8], mask: [u8; 4])
-    ensures { buf.new ≡ unmask mask 0 buf.old }
+    ensures masked { buf.new ≡ unmask mask 0 buf.old }
+    ensures twice { unmask mask 0 buf.new ≡ buf.old }
 {
     let lanes = mask_lanes(mask);
     let mut at = 0;
@@ -25,12 +30,18 @@ pub fn apply_mask_fast32(buf: &mut [u8], mask: [u8; 4])
         mask_chunk(buf, at, lanes);
         at += LANES;
     }
+    let word = u8x4::from_array(mask);
+    while buf.len() - at >= WORD {
+        mask_word(buf, at, word);
+        at += WORD;
+    }
     mask_rest(buf, at, mask);
 }
 
 /// As [`apply_mask`], for a part of a payload that begins with the byte of the number `from`.
 pub fn mask_from(buf: &mut [u8], mask: [u8; 4], from: usize)
-    ensures { buf.new ≡ unmask mask from buf.old }
+    ensures masked { buf.new ≡ unmask mask from buf.old }
+    ensures twice { unmask mask from buf.new ≡ buf.old }
 {
     let [first, second, third, fourth] = mask;
     let turned = match from % 4 {
@@ -62,6 +73,17 @@ fn mask_chunk(buf: &mut [u8], at: usize, lanes: u8x32)
         → IsMaskedUpTo mask all at buf.old → IsMaskedUpTo mask all (at + LANES) buf.new }
 {
     let masked = u8x32::from_slice(&buf[at..]) ^ lanes;
+    masked.copy_to_slice(&mut buf[at..]);
+}
+
+/// Masks four bytes.
+#[inline(always)]
+fn mask_word(buf: &mut [u8], at: usize, word: u8x4)
+    requires { at + WORD ≤ length buf.old }
+    ensures { (mask all : List ℕ) → word ≡ mask → length mask ≡ 4 → at % 4 ≡ 0
+        → IsMaskedUpTo mask all at buf.old → IsMaskedUpTo mask all (at + WORD) buf.new }
+{
+    let masked = u8x4::from_slice(&buf[at..]) ^ word;
     masked.copy_to_slice(&mut buf[at..]);
 }
 

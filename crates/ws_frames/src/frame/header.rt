@@ -69,14 +69,9 @@ fn find_payload(src: &[u8], max_size: usize, header: Header) -> Found
     if payload_len > MAX_CONTROL_PAYLOAD {
         match header.op {
             OpCode::Close => return Found::Takes(true, OpCode::Close, frame_len, 0),
-            OpCode::Ping => return Found::Refuses(
-                ProtocolError::InvalidLength(payload_len),
-                frame_len,
-            ),
-            OpCode::Pong => return Found::Refuses(
-                ProtocolError::InvalidLength(payload_len),
-                frame_len,
-            ),
+            OpCode::Ping | OpCode::Pong => {
+                return Found::Refuses(ProtocolError::InvalidLength(payload_len), frame_len);
+            }
             _ => {}
         }
     }

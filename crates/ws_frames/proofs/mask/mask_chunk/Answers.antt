@@ -3,10 +3,10 @@ use Rattle.std.proofs.Common.{ℕ, ◌+◌, List, sym, subst}
 use lib.Lanes.{zip2, chunk, put_chunk}
 use Rattle.std.specs.Int.Bits.{bit_xor}
 use Rattle.ws_frames.specs.MaskLanes.{IsMaskedUpTo}
-use Rattle.ws_frames.proofs.MaskLemmas.{chunk_masked}
+use Rattle.ws_frames.proofs.MaskLemmas.{lanes_run, chunk_masked}
 use Rattle.ws_frames.proofs.mask.mask_chunk.Goals as goal
 
 pub returns : goal.returns
 returns c = λ mask all lanes four even so.
     subst (λ (l : List ℕ). IsMaskedUpTo mask all (c.args.at + 32) (put_chunk c.args.at c.args.buf.now (zip2 bit_xor (chunk c.args.at 32 c.args.buf.now) l)))
-    (sym lanes) (chunk_masked mask all c.args.buf.now c.args.at c.requires four even so)
+    (sym lanes) (chunk_masked mask _ all c.args.buf.now 32 c.args.at c.requires (lanes_run mask four) even so)
