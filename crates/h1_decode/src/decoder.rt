@@ -1,12 +1,12 @@
 //! What the head of a request says (RFC 7230, section 3).
-ghost use Rattle.std.specs.Prelude.{◌≡◌, ◌↔◌, ◌<◌, ◌≤◌, [], IsTrue, length, map, nat_lt, if◌then◌else◌, OnOk, IfOk, IfErr, All};
+ghost use Rattle.std.specs.Prelude.{◌≡◌, ◌↔◌, ◌<◌, ◌≤◌, [], IsTrue, length, map, nat_lt, if◌then◌else◌, OnOk, OnErr, IfOk, IfErr, All};
 ghost use Rattle.http_header.specs.Token.{IsToken};
 ghost use Rattle.http_uri.specs.Uri.{Spells, SpellsNone};
 ghost use Rattle.httparse.specs.Spans.{IsHeaderWithin, IsRequestWithin, IsWithin, header_bytes};
 ghost use Rattle.h1_model.specs.HeadPiece.{header_lines};
 ghost use Rattle.h1_model.specs.Request.{Head, head_is, faulty};
 ghost use Rattle.h1_model.specs.RequestHead.{IsReading};
-ghost use Rattle.h1_decode.specs.HeadItem.{SaysHead, kind_of, version_of};
+ghost use Rattle.h1_decode.specs.HeadItem.{SaysHead, kind_of, version_of, without_headers};
 ghost use Rattle.h1_decode.specs.Lines.{HasValue};
 ghost use Rattle.h1_decode.specs.ReadParts.{parts_at, head_of, AreParts, RefusesParts};
 ghost use Rattle.h1_decode.specs.Refusal.{UnlessNoMemory, fault_of, Refuses};
@@ -22,6 +22,7 @@ use httparse::spans::{EMPTY_HEADER_SPAN, HeaderSpan, RequestSpans, parse_request
 use httparse::{Error, Status};
 use memchr::memchr_iter;
 use std::alloc::Global;
+use std::mem;
 
 /// The most header lines that a head may have.
 const MAX_HEADERS: usize = 96;
@@ -111,6 +112,30 @@ pub fn request_head_in(
     ensures cause { IfErr result (λ e. UnlessNoMemory e (Refuses e piece)) }
 {
     read_head(alloc, &piece, room, HeaderMap::new(alloc))
+}
+
+/// Reads a head over another one, whose map keeps its memory. It reads and refuses as `request_head`
+/// does. After an error `item` is what it was, but without headers.
+pub fn read_head_into(
+    alloc: Global,
+    item: &mut HeadItem,
+    room: &mut HeadRoom,
+    piece: Bytes,
+) -> Result<(), ParseError>
+    ensures head { OnOk result ((h : Head) × IsReading piece (head_is h) × SaysHead item.new h) }
+    ensures fault { IfErr result (λ e. UnlessNoMemory e (IsReading piece (faulty (fault_of e)))) }
+    ensures cause { IfErr result (λ e. UnlessNoMemory e (Refuses e piece)) }
+    ensures err { OnErr result (item.new ≡ without_headers item.old) }
+{
+    let mut headers = mem::replace(&mut item.head.headers, HeaderMap::new(alloc));
+    headers.clear();
+    match read_head(alloc, &piece, room, headers) {
+        Ok(read) => {
+            *item = read;
+            Ok(())
+        }
+        Err(error) => Err(error),
+    }
 }
 
 /// The head that the piece is, with its headers in an empty map.

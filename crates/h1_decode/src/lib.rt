@@ -26,5 +26,5 @@ mod lines;
 mod scan;
 mod value;
 
-pub use decoder::{BodyKind, HeadItem, HeadRoom, request_head, request_head_in};
+pub use decoder::{BodyKind, HeadItem, HeadRoom, read_head_into, request_head, request_head_in};
 pub use scan::{HeadScan, HeadScanner, scan_head};
