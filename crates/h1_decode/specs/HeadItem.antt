@@ -1,5 +1,5 @@
 -- What a head that was read says.
-use Rattle.std.specs.Prelude.{◌≡◌, ℕ, zero, suc, Option, Some, None}
+use Rattle.std.specs.Prelude.{◌≡◌, ℕ, zero, suc, [], Option, Some, None}
 use Rattle.http.specs.declared.version.Version.{Version}
 use Rattle.http.specs.declared.version.TheConstants.Version.{HTTP_10, HTTP_11}
 use Rattle.http_types.specs.declared.message.ConnectionType.{ConnectionType}
@@ -52,3 +52,7 @@ pub record SaysHead (item : HeadItem) (h : model.Head) : Type 0 where
   pub body : kind_of item.body ≡ h.body
   pub flags : request_flags item.head ≡ flags_of h
   pub peer : item.head.peer_addr ≡ None
+
+-- the item with no headers, and all else as it is
+abbrev pub without_headers : HeadItem → HeadItem
+without_headers item = record item { head = record item.head { headers = [] } }
