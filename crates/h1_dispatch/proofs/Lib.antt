@@ -1,7 +1,2 @@
-pub mod InputLemmas
-pub mod PartsLemmas
+pub mod PassingLemmas
 pub mod StepLemmas
-pub mod NextLemmas
-pub mod AnswerLemmas
-pub mod EncodedLemmas
-pub mod RunLemmas

@@ -1,7 +1,4 @@
-pub mod Held
+pub mod Requested
 pub mod Meaning
-pub mod Served
-pub mod State
+pub mod Incoming
 pub mod Parts
-pub mod BareAnswer
-pub mod Run

@@ -1,0 +1,92 @@
+// The last request that was handed out, without its head, and what happened since.
+ghost use Rattle.std.specs.Prelude.{◌≡◌, false, None, option_map};
+ghost use Rattle.h1_machine.specs.Kept.{is_answered, is_unanswered, is_sending_body};
+ghost use Rattle.h1_machine.specs.Local.{answered_end_of};
+ghost use Rattle.h1_dispatch.specs.Meaning.{end_of};
+ghost use Rattle.h1_dispatch.specs.Parts.{reply_of, exchange_of, is_done, passed_by};
+
+use crate::End;
+use crate::connection::input::Input;
+use crate::connection::request::Request;
+use crate::stand_in::{Rest, Shape};
+use http_types::ConnectionType;
+
+/// How far the answer to a request is.
+#[derive(Clone, Copy, Drop)]
+pub enum Reply {
+    Unanswered,
+
+    /// Its body is going out in a shape. What becomes of the connection behind it, and how many bytes of a stated
+    /// length are missing.
+    Sending(Shape, ConnectionType, u64),
+
+    /// It is complete, and this becomes of the connection.
+    Answered(ConnectionType),
+}
+
+/// The last request, with what is left of its body and how far its answer is.
+#[derive(Drop)]
+pub struct Exchange {
+    pub request: Request,
+    pub rest: Rest,
+    pub reply: Reply,
+    pub was_pulled: bool,
+    pub was_dropped: bool,
+    pub was_told_to_go_on: bool,
+    pub body_is_done: bool,
+}
+
+impl Reply {
+    /// Whether the answer is complete.
+    pub fn is_answered(&self) -> bool
+        ensures { result ≡ is_answered (reply_of self.now) }
+    {
+        matches!(self, Reply::Answered(_))
+    }
+
+    /// Whether no answer was handed in.
+    pub fn is_unanswered(&self) -> bool
+        ensures { result ≡ is_unanswered (reply_of self.now) }
+    {
+        matches!(self, Reply::Unanswered)
+    }
+
+    /// Whether an answer was handed in and isn't complete.
+    pub fn is_sending(&self) -> bool
+        ensures { result ≡ is_sending_body (reply_of self.now) }
+    {
+        matches!(self, Reply::Sending(_, _, _))
+    }
+}
+
+impl Exchange {
+    /// Whether nothing is left to do.
+    pub fn is_done(&self) -> bool
+        ensures { result ≡ is_done self.now }
+    {
+        self.reply.is_answered() && self.rest.is_nothing()
+    }
+
+    /// Passes the rest of the body where the answer is complete.
+    pub fn pass(&mut self, input: &mut Input, has_ended: bool)
+        requires { is_done self.old ≡ false → input.old.piece ≡ None }
+        ensures exchange { self.new ≡ record self.old { rest = (passed_by has_ended self.old input.old.unread).rest } }
+        ensures input { input.new ≡ record input.old { unread = (passed_by has_ended self.old input.old.unread).unread } }
+    {
+        if !self.reply.is_answered() || self.rest.is_nothing() {
+            return;
+        }
+        input.pass(&mut self.rest, has_ended);
+    }
+
+    /// Why the connection closes behind the answer, where that is complete.
+    pub fn end(&self) -> Option<End>
+        ensures { option_map end_of result ≡ answered_end_of (exchange_of self.now) (reply_of self.now.reply) }
+    {
+        match self.reply {
+            Reply::Answered(ConnectionType::KeepAlive) => self.rest.end(self.was_dropped),
+            Reply::Answered(_) => Some(End::Asked),
+            _ => None,
+        }
+    }
+}

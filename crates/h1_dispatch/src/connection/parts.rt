@@ -1,0 +1,102 @@
+// What a connection keeps between two events, part by part.
+ghost use Rattle.std.specs.Prelude.{◌≡◌, true, false, option_map, is_some};
+ghost use Rattle.h1_machine.specs.Kept.{is_free, is_open, is_upgraded, now};
+ghost use Rattle.h1_machine.specs.Body.{passing};
+ghost use Rattle.h1_machine.specs.Local.{closing_by};
+ghost use Rattle.h1_machine.specs.Change.{noting_since};
+ghost use Rattle.h1_dispatch.specs.Meaning.{setting_of, end_of};
+ghost use Rattle.h1_dispatch.specs.Parts.{kept_of, MayBeSearched, IsSearchedIn, IsSound, IsSettled};
+
+use crate::End;
+use crate::connection::clock::Clock;
+use crate::connection::exchange::{Exchange, Reply};
+use crate::connection::input::Input;
+use crate::connection::output::Output;
+use http_types::ServiceConfig;
+
+/// The parts that the machine keeps, under its names.
+#[derive(Drop)]
+pub struct Parts {
+    /// The bytes taken and not passed.
+    pub input: Input,
+    pub has_ended: bool,
+    pub is_draining: bool,
+    pub is_over: bool,
+
+    /// The last request, if one was handed out.
+    pub exchange: Option<Exchange>,
+
+    /// What is to be written.
+    pub output: Output,
+    pub clock: Clock,
+
+    /// The end that a fault, an expiry or an answer's body has brought.
+    pub failed: Option<End>,
+
+    /// The last tick before the connection began to close.
+    pub closing_since: Option<Option<u64>>,
+}
+
+impl Parts {
+    /// Whether nothing of the last request is left to do.
+    pub fn is_free(&self) -> bool
+        ensures { result ≡ is_free (kept_of self.now) }
+    {
+        match &self.exchange {
+            Some(exchange) => exchange.is_done(),
+            None => true,
+        }
+    }
+
+    /// Whether a request was handed out and its answer isn't complete.
+    pub fn is_open(&self) -> bool
+        requires { is_upgraded (kept_of self.now) ≡ false }
+        ensures { result ≡ is_open (kept_of self.now) }
+    {
+        match &self.exchange {
+            Some(exchange) => !exchange.reply.is_answered(),
+            None => false,
+        }
+    }
+
+    /// Passes the rest of a body whose request is answered.
+    pub fn pass_body(&mut self)
+        requires { MayBeSearched self.old }
+        ensures kept { kept_of self.new ≡ passing (kept_of self.old) }
+        ensures input { self.new.input.piece ≡ self.old.input.piece }
+    {
+        if let Some(exchange) = &mut self.exchange {
+            exchange.pass(&mut self.input, self.has_ended);
+        }
+    }
+
+    /// Searches for the next head where one may come, and notes since when the connection closes.
+    pub fn settle(&mut self, config: &ServiceConfig)
+        requires framed { is_upgraded (kept_of self.old) ≡ false }
+        requires searched { MayBeSearched self.old }
+        ensures { IsSettled (setting_of config.now) self.old self.new }
+    {
+        self.search();
+        self.note(config);
+    }
+
+    fn search(&mut self)
+        requires { MayBeSearched self.old }
+        ensures { IsSearchedIn self.old self.new }
+    {
+        if self.is_free() {
+            self.input.search();
+        }
+    }
+
+    /// Notes since when the connection closes, where it does and that isn't noted yet.
+    pub fn note(&mut self, config: &ServiceConfig)
+        requires { is_upgraded (kept_of self.old) ≡ false }
+        ensures kept { kept_of self.new ≡ noting_since (setting_of config.now) (kept_of self.old) }
+        ensures parts { self.new ≡ record self.old { closing_since = self.new.closing_since } }
+    {
+        if self.closing_since.is_none() && self.closing(config).is_some() {
+            self.closing_since = Some(self.clock.last);
+        }
+    }
+}
