@@ -3,9 +3,10 @@ use Rattle.std.specs.Prelude.{ℕ, ◌+◌, ◌-◌, ◌==◌, List, [], ◌∷�
 use Rattle.std.specs.List.{slice_split}
 use Rattle.std.specs.Str.{bytes_eq}
 use Rattle.http.specs.declared.version.TheConstants.Version.{HTTP_11}
-use Rattle.http_types.specs.Config.{Settings}
+use Rattle.http_config.specs.Config.{Settings}
+use Rattle.http_config.specs.declared.hold_size.TheConstants.{DEFAULT_HOLD_SIZE}
 use Rattle.http_types.specs.Flags.{no_flags}
-use Rattle.http_types.specs.KeepAlive.{normalized}
+use Rattle.http_config.specs.KeepAlive.{normalized}
 use Rattle.http_types.specs.ResponseHead.{ResponseParts}
 use Rattle.h1_dispatch.specs.declared.event.Event.{Event}
 use Rattle.h1_dispatch.specs.declared.event.Event.TheVariants.{Read, Eof, Next, Answer, Write, Tick}
@@ -33,6 +34,7 @@ settings_by keep_alive request disconnect half_closed write_buffer = do
     client_disconnect_timeout = disconnect;
     h1_allow_half_closed = half_closed;
     h1_write_buffer_size = write_buffer;
+    h1_hold_size = DEFAULT_HOLD_SIZE;
   })
 
 -- five words, no fewer and no more

@@ -4,10 +4,10 @@ use Rattle.std.specs.Result.{result_ok}
 use Rattle.std.specs.Str.{bytes_eq, all_ascii_digits}
 use Rattle.std.specs.Str.Parse.{digits_value}
 use Rattle.hex.specs.Hex.{decode_of}
-use Rattle.http_types.specs.declared.keep_alive.KeepAlive.{KeepAlive}
-use Rattle.http_types.specs.declared.keep_alive.KeepAlive.TheVariants.{Timeout, Os, Disabled}
-use Rattle.http_types.specs.declared.body.size.BodySize.{BodySize}
-use Rattle.http_types.specs.declared.body.size.BodySize.TheVariants as size
+use Rattle.http_config.specs.declared.keep_alive.KeepAlive.{KeepAlive}
+use Rattle.http_config.specs.declared.keep_alive.KeepAlive.TheVariants.{Timeout, Os, Disabled}
+use Rattle.http_bodies.specs.declared.body.size.BodySize.{BodySize}
+use Rattle.http_bodies.specs.declared.body.size.BodySize.TheVariants as size
 
 -- whether a word is a number: 1 to 20 decimal digits, of a value that fits 64 bits
 abbrev pub is_number : List ℕ → Bool
