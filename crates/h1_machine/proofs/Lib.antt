@@ -53,3 +53,4 @@ pub mod ReadChanges
 pub mod TickChanges
 pub mod TableSteps
 pub mod Stands
+pub mod DeadlineLemmas

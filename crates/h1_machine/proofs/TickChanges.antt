@@ -51,7 +51,7 @@ some_parsed past m [] e parse =
 some_parsed past m (n ∷ ms) e parse = ne_eqb (length (n ∷ ms)) 0 (omega arith)
 
 -- no head was handed out and none is coming: none is parsed
-unparsed_same : (setting : Setting) (past : List ParsedStep) → Legal setting past
+pub unparsed_same : (setting : Setting) (past : List ParsedStep) → Legal setting past
     → (is_none (kept_of setting past).exchange && not (kept_of setting past).is_coming) ≡ (length (parse_of past) == 0)
 unparsed_same setting past l = elim (current_of setting past l) [
   | inl n ↦
@@ -75,7 +75,7 @@ and_false true = refl
 and_false false = refl
 
 -- nothing is left of an answered request in both
-done_same : (setting : Setting) (past : List ParsedStep) → Legal setting past
+pub done_same : (setting : Setting) (past : List ParsedStep) → Legal setting past
     → of_exchange (λ x. is_answered x.reply && is_nothing x.rest) (kept_of setting past)
     ≡ (is_complete (steps past) && not (is_open (steps past)) && has_ended_body (current past))
 done_same setting past l = elim (current_of setting past l) [

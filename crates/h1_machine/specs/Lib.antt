@@ -5,5 +5,6 @@ pub mod Pull
 pub mod Reply
 pub mod Clock
 pub mod Change
+pub mod Deadline
 pub mod KeptOf
 pub mod StandsFor

@@ -18,15 +18,16 @@
 //! `closing_by` and `allowed_by`, in `specs/Local.antt`, say by what is kept why the connection closes and what is
 //! allowed. `IsChange`, in `specs/Change.antt`, has the case of each event, with `specs/Body.antt` for bodies that are
 //! passed over, `specs/Pull.antt` for pulls, `specs/Reply.antt` for answers and `specs/Clock.antt` for ticks. `IsStep`
-//! adds whether a head is coming, and since when the connection closes.
+//! adds whether a head is coming, and since when the connection closes. `deadline_by`, in `specs/Deadline.antt`, is the
+//! moment up to which ticks tell nothing.
 //!
 //! # The laws
 //!
-//! All are contracts in [`machine`]:
+//! All are contracts in [`machine`], and those of the deadline in [`deadline`]:
 //!
 //! - A fresh state stands for the empty trace, and a step from a state that stands for a trace leads to one that stands
 //!   for the longer trace, with the outcome of the tables.
-//! - What is kept tells the same end, and allows the same events, as the whole trace.
+//! - What is kept tells the same end and the same deadline, and allows the same events, as the whole trace.
 //! - Each allowed event has a step, and just one outcome and one state behind it.
 //! - No more bytes are kept than the hold size, and no more trailer bytes than may come. Only what is to be written has
 //!   no bound.
@@ -41,4 +42,5 @@
 //! keeps the connection alive. For each of these four events the tables give the same outcome, by the whole trace.
 #![tactic(auto)]
 
+pub mod deadline;
 pub mod machine;

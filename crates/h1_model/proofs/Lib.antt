@@ -42,6 +42,7 @@ pub mod ExchangeSteps
 pub mod ExchangeEvents
 pub mod ExchangeTraces
 pub mod ClosingLemmas
+pub mod DeadlineLemmas
 pub mod DateLemmas
 pub mod HandedPrefix
 pub mod HandedRuns

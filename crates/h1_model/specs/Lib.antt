@@ -20,4 +20,5 @@ pub mod Closing
 pub mod Allowed
 pub mod OutcomeTable
 pub mod Trace
+pub mod Deadline
 pub mod Laws

@@ -17,8 +17,8 @@
 //! A trace is a list of steps, each an event and its outcome (`specs/Event.antt`). `specs/Sums.antt` and
 //! `specs/Past.antt` have what a trace adds up to, `specs/Closing.antt` why a connection closes, `specs/Allowed.antt`
 //! which events may come, and `specs/OutcomeTable.antt` the outcome of each. `specs/Text.antt` is all that is to be
-//! written, in the words of `specs/AnswerText.antt`. `IsTrace`, in `specs/Trace.antt`, puts these together, and
-//! `specs/Handed.antt` says what a program gets.
+//! written, in the words of `specs/AnswerText.antt`. `IsTrace`, in `specs/Trace.antt`, puts these together.
+//! `specs/Handed.antt` says what a program gets, and `specs/Deadline.antt` until when it may sleep.
 //!
 //! # The laws
 //!
@@ -27,6 +27,7 @@
 //! - [`frame_text`]: frames are read in one way, and what is written as a frame is read as it was.
 //! - [`trace`]: a trace has one past, an event one outcome; a connection that closes keeps its reason; what is held is
 //!   bounded; what was handed out for writing and what is still to be are the whole text.
+//! - [`deadline`]: up to the deadline no tick tells that a time has run out, and from then on each does.
 //! - [`text`]: answers stand in the order of their requests.
 //! - [`handed`]: what was handed out is what the bytes say, however they were cut.
 //! - [`examples`] and the other modules of examples: small heads, bodies, frames and traces with all their values.
@@ -42,6 +43,8 @@
 #![tactic(auto)]
 
 pub mod closing_examples;
+pub mod deadline;
+pub mod deadline_examples;
 pub mod examples;
 pub mod frame_examples;
 pub mod frame_text;

@@ -1,0 +1,22 @@
+use Rattle.std.proofs.Common.{false, refl}
+use Rattle.h1_model.specs.Sums.{taken, accepted, last_tick, first_tick, request, since_head, answered, answer_len}
+use Rattle.h1_model.specs.Past.{place_behind, pulled_to}
+use Rattle.h1_model.specs.Closing.{told, closing}
+use Rattle.h1_model.specs.Allowed.{is_allowed}
+use Rattle.h1_model.specs.OutcomeTable.{outcome_of}
+use Rattle.h1_model.specs.Deadline.{deadline}
+use Rattle.h1_model.proofs.ExampleLemmas.{nothing_behind}
+use Rattle.h1_model.proofs.ExampleParses.{get_parsed}
+use Rattle.h1_model.proofs.ExampleSteps.{happens}
+use Rattle.h1_model.proofs.deadline_examples.waits_for_a_head.Goals as goal
+
+pub returns : goal.returns
+unfolding taken accepted request since_head answered answer_len told closing is_allowed outcome_of last_tick first_tick deadline pulled_to place_behind
+returns c = (
+  happens _ _ (get_parsed false, refl, refl, (nothing_behind, refl, refl, tt)),
+  refl,
+  refl,
+  refl,
+  happens _ _ (nothing_behind, refl, refl, tt),
+  refl,
+)
