@@ -1,2 +1,3 @@
 pub mod PassingLemmas
 pub mod StepLemmas
+pub mod EventLemmas

@@ -2,7 +2,7 @@
 use Rattle.std.proofs.Common.{◌≡◌, ℕ, ◌<◌, Bool, true, false, List, length, take, drop, Option, Some, None, refl, sym, ap, ◌∙◌, subst}
 use Rattle.std.specs.Prelude.{option_map, is_some, min, unwrap_or, if◌then◌else◌}
 use Rattle.std.specs.Option.{option_or}
-use Rattle.http_types.specs.Config.{Settings}
+use Rattle.http_config.specs.Config.{Settings}
 use Rattle.h1_model.specs.Limits.{MAX_MOMENT}
 use Rattle.h1_model.specs.Setting.{Setting}
 use Rattle.h1_model.specs.Event as on
@@ -16,7 +16,7 @@ use Rattle.h1_decode.specs.declared.scan.HeadScan.{HeadScan}
 use Rattle.h1_decode.specs.declared.scan.HeadScan.TheVariants.{Open, Piece}
 use Rattle.h1_dispatch.specs.Incoming.{Incoming, is_coming_in, IsFoundIn, IsFound}
 use Rattle.h1_dispatch.specs.Meaning.{setting_of, end_of}
-use Rattle.h1_dispatch.specs.Parts.{kept_of, exchange_of, reply_of, is_done, passed_by, MayBeSearched, IsNoted, IsSound, IsSearchedIn, IsSettled, Steps}
+use Rattle.h1_dispatch.specs.Parts.{kept_of, exchange_of, reply_of, is_done, passed_by, MayBeSearched, IsNoted, IsSound, IsSearchedFor, IsSettled, Steps}
 use Rattle.h1_dispatch.specs.declared.connection.exchange.Exchange.{Exchange}
 use Rattle.h1_dispatch.specs.declared.connection.exchange.Reply.{Reply}
 use Rattle.h1_dispatch.specs.declared.connection.exchange.Reply.TheVariants.{Unanswered, Sending, Answered}
@@ -71,11 +71,11 @@ quiet_step s p q event out changes sound =
     }
 
 -- that is brought up to date
-pub settled_step : (s : Settings) (p m q : Parts) (event : on.Event) (out : on.Outcome) (c : Kept)
+pub settled_step : (s : Settings) (p q : Parts) (event : on.Event) (out : on.Outcome) (c k : Kept) (b : Bool)
     → IsChange (setting_of s) (kept_of p) event (record { outcome = out; kept = c })
-    → kept_of m ≡ record c { is_coming = is_coming_in m.input.piece }
-    → IsSettled (setting_of s) m q → Steps s p event out q
-settled_step s p m q event out c changes like settled =
+    → k ≡ record c { is_coming = b }
+    → IsSettled (setting_of s) k q → Steps s p event out q
+settled_step s p q event out c k b changes like settled =
     let coming = is_coming_in q.input.piece in
     let unread : q.input.unread ≡ c.unread = ap (λ (k : Kept). k.unread) settled.kept ∙ ap (λ (k : Kept). k.unread) like in
     let free : is_some q.input.piece ≡ is_free c = settled.searched ∙ ap (λ (k : Kept). is_free k) like in
@@ -88,37 +88,49 @@ settled_step s p m q event out c changes like settled =
       keeps = settled.kept ∙ ap (λ (k : Kept). noting_since (setting_of s) (record k { is_coming = coming })) like;
     }
 
-pub settled_sound : (s : Settings) (m q : Parts) → now (kept_of m) < MAX_MOMENT → is_upgraded (kept_of m) ≡ false → IsSettled (setting_of s) m q → IsSound s q
-settled_sound s m q moment framed settled =
+-- the parts are sound then
+pub settled_sound : (s : Settings) (k : Kept) (q : Parts) → now k < MAX_MOMENT → IsSettled (setting_of s) k q → IsSound s q
+settled_sound s k q moment settled =
     let coming = is_coming_in q.input.piece in
-    let brought : Kept = noting_since (setting_of s) (record (kept_of m) { is_coming = coming }) in
     record {
       moment = subst (λ (k : Kept). now k < MAX_MOMENT) (sym settled.kept) moment;
-      framed = ap (λ (k : Kept). is_upgraded k) settled.kept ∙ framed;
       searched = settled.searched ∙ sym (ap (λ (k : Kept). is_free k) settled.kept);
       scanned = settled.scanned;
-      noted = subst (λ (k : Kept). IsNoted (setting_of s) k) (sym settled.kept) (noting_notes (setting_of s) (record (kept_of m) { is_coming = coming }));
+      noted = subst (λ (k : Kept). IsNoted (setting_of s) k) (sym settled.kept) (noting_notes (setting_of s) (record k { is_coming = coming }));
     }
 
--- where heads are searched for already
-pub sound_searched : (s : Settings) (p : Parts) → IsSound s p → MayBeSearched p
-sound_searched s p sound = λ busy. nothing p.input.piece (sound.searched ∙ busy)
-  where
-    nothing : (piece : Option HeadScan) → is_some piece ≡ false → piece ≡ None
-    nothing None is = refl
-    nothing (Some x) is = absurd (cc is)
+-- ---- bringing up to date
 
--- noting alone brings up to date where it is so
-pub noted_settled : (s : Settings) (m q : Parts) → kept_of q ≡ noting_since (setting_of s) (kept_of m) → q ≡ record m { closing_since = q.closing_since }
-    → is_some m.input.piece ≡ is_free (kept_of m) → IsFound m.input → IsSettled (setting_of s) m q
-noted_settled s m q kept parts searched scanned =
-    let input : q.input ≡ m.input = ap (λ (r : Parts). r.input) parts in
+-- a search, and then a note
+pub settled_of : (set : Setting) (p m q : Parts) → IsSearchedFor p m → kept_of q ≡ noting_since set (kept_of m) → q.input ≡ m.input → IsSettled set (kept_of p) q
+settled_of set p m q searched kept input =
+    let coming = is_coming_in m.input.piece in
+    let parts : kept_of m ≡ record (kept_of p) { is_coming = coming } =
+    ap (λ (r : Parts). kept_of r) searched.parts ∙ (λ i. record (kept_of p) { unread = searched.unread i; is_coming = coming }) in
     record {
-      parts = parts ∙ (λ i. record m { input = sym input i; closing_since = q.closing_since });
-      kept = kept ∙ (λ i. noting_since (setting_of s) (record (kept_of m) { is_coming = is_coming_in (sym input i).piece }));
+      kept = kept ∙ ap (λ (k : Kept). noting_since set k) parts
+          ∙ (λ i. noting_since set (record (kept_of p) { is_coming = is_coming_in (sym input i).piece }));
+      searched = ap (λ (i : Incoming). is_some i.piece) input ∙ searched.searched;
+      scanned = subst (λ (i : Incoming). IsFound i) (sym input) searched.scanned;
+    }
+
+-- a note alone, where it was searched already
+pub settled_noted : (set : Setting) (m q : Parts) → kept_of q ≡ noting_since set (kept_of m) → q.input ≡ m.input
+    → is_some m.input.piece ≡ is_free (kept_of m) → IsFound m.input → IsSettled set (kept_of m) q
+settled_noted set m q kept input searched scanned =
+    record {
+      kept = kept ∙ (λ i. noting_since set (record (kept_of m) { is_coming = is_coming_in (sym input i).piece }));
       searched = ap (λ (i : Incoming). is_some i.piece) input ∙ searched;
       scanned = subst (λ (i : Incoming). IsFound i) (sym input) scanned;
     }
+
+-- where nothing is found it may be searched
+pub may_of : (m : Parts) → (is_some m.input.piece ≡ true → is_free (kept_of m) ≡ true) → MayBeSearched m
+may_of m free = λ busy. nothing m.input.piece free busy
+  where
+    nothing : (piece : Option HeadScan) → (is_some piece ≡ true → is_free (kept_of m) ≡ true) → is_free (kept_of m) ≡ false → piece ≡ None
+    nothing None free busy = refl
+    nothing (Some x) free busy = absurd (cc (free refl, busy))
 
 -- ---- passing
 
@@ -147,8 +159,8 @@ unfolding passing
 passed_none p = refl
 
 -- a search that may be done may be done behind it
-pub passed_searched : (p m : Parts) → kept_of m ≡ passing (kept_of p) → m.input.piece ≡ p.input.piece → MayBeSearched p → MayBeSearched m
-passed_searched p m same piece may = λ busy. piece ∙ may (still (is_free (kept_of p)) refl busy)
+pub passed_may : (p m : Parts) → kept_of m ≡ passing (kept_of p) → m.input.piece ≡ p.input.piece → MayBeSearched p → MayBeSearched m
+passed_may p m same piece may = λ busy. piece ∙ may (still (is_free (kept_of p)) refl busy)
   where
     still : (free : Bool) → is_free (kept_of p) ≡ free → is_free (kept_of m) ≡ false → is_free (kept_of p) ≡ false
     still false is busy = is

@@ -1,4 +1,3 @@
-pub mod Requested
 pub mod Meaning
 pub mod Incoming
 pub mod Parts

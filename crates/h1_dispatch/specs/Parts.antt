@@ -1,14 +1,12 @@
 -- What a connection's fields mean: what the machine keeps.
-use Rattle.std.specs.Prelude.{◌≡◌, ℕ, ◌<◌, Bool, true, false, ◌&&◌, List, Option, Some, None, option_map, is_some, if◌then◌else◌}
-use Rattle.http_types.specs.Config.{Settings}
-use Rattle.http_types.specs.declared.message.ConnectionType.{ConnectionType}
-use Rattle.http_types.specs.declared.message.ConnectionType.TheVariants.{Close, KeepAlive, Upgrade}
+use Rattle.std.specs.Prelude.{◌≡◌, ℕ, ◌<◌, Bool, true, false, ◌&&◌, List, [], Option, Some, None, option_map, is_some, if◌then◌else◌}
+use Rattle.http_config.specs.Config.{Settings}
 use Rattle.h1_model.specs.Limits.{MAX_MOMENT}
-use Rattle.h1_model.specs.Request as model
 use Rattle.h1_model.specs.Setting.{Setting}
 use Rattle.h1_model.specs.Event as on
+use Rattle.h1_codec.specs.Meaning.{model_type, model_shape}
 use Rattle.h1_machine.specs.Kept as machine
-use Rattle.h1_machine.specs.Kept.{Kept, is_free, is_nothing, is_answered, is_upgraded, now, rest_in, unanswered, sending, answered}
+use Rattle.h1_machine.specs.Kept.{Kept, is_free, is_nothing, is_answered, now, rest_in, unanswered, sending, answered}
 use Rattle.h1_machine.specs.Local.{closing_by}
 use Rattle.h1_machine.specs.Body.{Passed, pass_rest}
 use Rattle.h1_machine.specs.Change.{IsComing, noting_since, IsStep}
@@ -19,36 +17,23 @@ use Rattle.h1_dispatch.specs.declared.connection.exchange.Exchange.{Exchange}
 use Rattle.h1_dispatch.specs.declared.connection.exchange.Reply.{Reply}
 use Rattle.h1_dispatch.specs.declared.connection.exchange.Reply.TheVariants.{Unanswered, Sending, Answered}
 use Rattle.h1_dispatch.specs.declared.connection.parts.Parts.{Parts}
-use Rattle.h1_dispatch.specs.declared.stand_in.Shape.{Shape}
-use Rattle.h1_dispatch.specs.declared.stand_in.Shape.TheVariants.{None as NoBody, Length, Chunked, Raw}
-use Rattle.h1_model.specs.Answer as answers
 
 -- ---- the last request
 
-abbrev pub type_of : ConnectionType → model.ConnectionType
-type_of Close = model.close
-type_of KeepAlive = model.keep_alive
-type_of Upgrade = model.upgrade
-
-abbrev pub shape_as : Shape → answers.Shape
-shape_as NoBody = answers.shape_none
-shape_as (Length n) = answers.shape_length n
-shape_as Chunked = answers.shape_chunked
-shape_as Raw = answers.shape_raw
-
 abbrev pub reply_of : Reply → machine.Reply
 reply_of Unanswered = unanswered
-reply_of (Sending shape connection missing) = sending (shape_as shape) (type_of connection) missing
-reply_of (Answered connection) = answered (type_of connection)
+reply_of (Sending s) = sending (model_shape s.shape) (model_type s.connection) s.missing
+reply_of (Answered connection) = answered (model_type connection)
 
+-- why an upgrade of the request would be refused, and the answer to its key, aren't kept yet
 abbrev pub exchange_of : Exchange → machine.Exchange
 exchange_of x =
     record {
       asked = x.request.asked;
       has_body = x.request.has_body;
       expects = x.request.expects;
-      refusal = x.request.refusal;
-      accept_key = x.request.accept_key;
+      refusal = None;
+      accept_key = [];
       rest = x.rest;
       reply = reply_of x.reply;
       was_pulled = x.was_pulled;
@@ -69,6 +54,15 @@ passed_by ended x bytes = if is_answered (reply_of x.reply) then pass_rest ended
 abbrev pub ended_exchange : List ℕ → Option Exchange → Option Exchange
 ended_exchange bytes None = None
 ended_exchange bytes (Some x) = Some (record x { rest = rest_in true bytes x.rest })
+
+-- the rest of its body isn't wanted; its client was told to go on
+abbrev pub dropped : Option Exchange → Option Exchange
+dropped None = None
+dropped (Some x) = Some (record x { was_dropped = true })
+
+abbrev pub told_to_go_on : Option Exchange → Option Exchange
+told_to_go_on None = None
+told_to_go_on (Some x) = Some (record x { was_told_to_go_on = true })
 
 -- ---- all of them
 
@@ -101,12 +95,10 @@ MayBeSearched p = is_free (kept_of p) ≡ false → p.input.piece ≡ None
 abbrev pub IsNoted : Setting → Kept → Type 0
 IsNoted setting k = is_some (closing_by setting k) ≡ true → is_some k.closing_since ≡ true
 
--- What holds of every connection between two events: the last tick is before the year 10000, it is no WebSocket, a
--- head is searched for where the last request is done with, and what was found is there; and since when it closes
--- is noted.
+-- What holds of every connection between two events: the last tick is before the year 10000; a head is searched for
+-- where the last request is done with, and what was found is there; and since when it closes is noted.
 pub record IsSound (settings : Settings) (p : Parts) : Type 0 where
   pub moment : now (kept_of p) < MAX_MOMENT
-  pub framed : is_upgraded (kept_of p) ≡ false
   pub searched : is_some p.input.piece ≡ is_free (kept_of p)
   pub scanned : IsFound p.input
   pub noted : IsNoted (setting_of settings) (kept_of p)
@@ -114,17 +106,17 @@ pub record IsSound (settings : Settings) (p : Parts) : Type 0 where
 -- ---- what is brought up to date behind an event
 
 -- a head was searched for where one may come
-pub record IsSearchedIn (p q : Parts) : Type 0 where
+pub record IsSearchedFor (p q : Parts) : Type 0 where
   pub parts : q ≡ record p { input = q.input }
   pub unread : q.input.unread ≡ p.input.unread
   pub searched : is_some q.input.piece ≡ is_free (kept_of p)
   pub scanned : IsFound q.input
 
--- and since when the connection closes is noted
-pub record IsSettled (setting : Setting) (p q : Parts) : Type 0 where
-  pub parts : q ≡ record p { input = q.input; closing_since = q.closing_since }
-  pub kept : kept_of q ≡ noting_since setting (record (kept_of p) { is_coming = is_coming_in q.input.piece })
-  pub searched : is_some q.input.piece ≡ is_free (kept_of p)
+-- Of what the machine keeps behind an event, it was searched for a head where one may come, and since when the
+-- connection closes is noted.
+pub record IsSettled (setting : Setting) (k : Kept) (q : Parts) : Type 0 where
+  pub kept : kept_of q ≡ noting_since setting (record k { is_coming = is_coming_in q.input.piece })
+  pub searched : is_some q.input.piece ≡ is_free k
   pub scanned : IsFound q.input
 
 -- ---- a step

@@ -1,7 +1,6 @@
 // Why a connection closes.
-ghost use Rattle.std.specs.Prelude.{◌≡◌, false, option_map};
-ghost use Rattle.h1_machine.specs.Kept.{is_upgraded};
-ghost use Rattle.h1_machine.specs.Local.{closing_by, answered_end, input_end};
+ghost use Rattle.std.specs.Prelude.{◌≡◌, option_map};
+ghost use Rattle.h1_machine.specs.Local.{closing_by, answered_end};
 ghost use Rattle.h1_dispatch.specs.Meaning.{setting_of, end_of};
 ghost use Rattle.h1_dispatch.specs.Parts.{kept_of};
 
@@ -12,7 +11,6 @@ use http_types::ServiceConfig;
 impl Parts {
     /// Why the connection closes, if it does: the first reason that holds.
     pub fn closing(&self, config: &ServiceConfig) -> Option<End>
-        requires { is_upgraded (kept_of self.now) ≡ false }
         ensures { option_map end_of result ≡ closing_by (setting_of config.now) (kept_of self.now) }
     {
         if self.failed.is_some() {

@@ -1,6 +1,6 @@
 // The last request that was handed out, without its head, and what happened since.
-ghost use Rattle.std.specs.Prelude.{◌≡◌, false, None, option_map};
-ghost use Rattle.h1_machine.specs.Kept.{is_answered, is_unanswered, is_sending_body};
+ghost use Rattle.std.specs.Prelude.{◌≡◌, false, not, ◌||◌, None, option_map};
+ghost use Rattle.h1_machine.specs.Kept.{is_frames, is_answered, is_unanswered, is_sending_body};
 ghost use Rattle.h1_machine.specs.Local.{answered_end_of};
 ghost use Rattle.h1_dispatch.specs.Meaning.{end_of};
 ghost use Rattle.h1_dispatch.specs.Parts.{reply_of, exchange_of, is_done, passed_by};
@@ -8,17 +8,29 @@ ghost use Rattle.h1_dispatch.specs.Parts.{reply_of, exchange_of, is_done, passed
 use crate::End;
 use crate::connection::input::Input;
 use crate::connection::request::Request;
-use crate::stand_in::{Rest, Shape};
+use crate::stand_in::Rest;
+use h1_codec::Shape;
 use http_types::ConnectionType;
 
+/// The body of an answer that is going out.
+#[derive(Clone, Copy)]
+pub struct Sending {
+    pub shape: Shape,
+
+    /// What becomes of the connection behind it.
+    pub connection: ConnectionType,
+
+    /// How many bytes of a stated length are missing.
+    pub missing: u64,
+}
+
 /// How far the answer to a request is.
-#[derive(Clone, Copy, Drop)]
+#[derive(Clone, Copy)]
 pub enum Reply {
     Unanswered,
 
-    /// Its body is going out in a shape. What becomes of the connection behind it, and how many bytes of a stated
-    /// length are missing.
-    Sending(Shape, ConnectionType, u64),
+    /// Its body is going out.
+    Sending(Sending),
 
     /// It is complete, and this becomes of the connection.
     Answered(ConnectionType),
@@ -55,7 +67,7 @@ impl Reply {
     pub fn is_sending(&self) -> bool
         ensures { result ≡ is_sending_body (reply_of self.now) }
     {
-        matches!(self, Reply::Sending(_, _, _))
+        matches!(self, Reply::Sending(_))
     }
 }
 
@@ -65,6 +77,15 @@ impl Exchange {
         ensures { result ≡ is_done self.now }
     {
         self.reply.is_answered() && self.rest.is_nothing()
+    }
+
+    /// Whether the answer isn't complete.
+    pub fn is_open(&self) -> bool
+        ensures { result ≡ (is_frames self.now.rest || not (is_answered (reply_of self.now.reply))) }
+    {
+        // Called for its clause alone, that a request's body is never read as frames.
+        let _ = self.rest.is_nothing();
+        !self.reply.is_answered()
     }
 
     /// Passes the rest of the body where the answer is complete.

@@ -120,8 +120,8 @@ impl Input {
     pub fn end(&self, rest: &mut Rest)
         ensures { rest.new ≡ rest_in true self.now.unread rest.old }
     {
-        if self.len() == 0 {
-            rest.end_input();
+        if self.front.is_empty() {
+            rest.end_input(&self.bytes);
         }
     }
 }

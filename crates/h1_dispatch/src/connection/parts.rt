@@ -1,15 +1,14 @@
 // What a connection keeps between two events, part by part.
 ghost use Rattle.std.specs.Prelude.{◌≡◌, true, false, option_map, is_some};
-ghost use Rattle.h1_machine.specs.Kept.{is_free, is_open, is_upgraded, now};
+ghost use Rattle.h1_machine.specs.Kept.{is_free, is_open};
 ghost use Rattle.h1_machine.specs.Body.{passing};
-ghost use Rattle.h1_machine.specs.Local.{closing_by};
 ghost use Rattle.h1_machine.specs.Change.{noting_since};
 ghost use Rattle.h1_dispatch.specs.Meaning.{setting_of, end_of};
-ghost use Rattle.h1_dispatch.specs.Parts.{kept_of, MayBeSearched, IsSearchedIn, IsSound, IsSettled};
+ghost use Rattle.h1_dispatch.specs.Parts.{kept_of, MayBeSearched, IsSearchedFor, IsSettled};
 
 use crate::End;
 use crate::connection::clock::Clock;
-use crate::connection::exchange::{Exchange, Reply};
+use crate::connection::exchange::Exchange;
 use crate::connection::input::Input;
 use crate::connection::output::Output;
 use http_types::ServiceConfig;
@@ -50,11 +49,10 @@ impl Parts {
 
     /// Whether a request was handed out and its answer isn't complete.
     pub fn is_open(&self) -> bool
-        requires { is_upgraded (kept_of self.now) ≡ false }
         ensures { result ≡ is_open (kept_of self.now) }
     {
         match &self.exchange {
-            Some(exchange) => !exchange.reply.is_answered(),
+            Some(exchange) => exchange.is_open(),
             None => false,
         }
     }
@@ -72,9 +70,8 @@ impl Parts {
 
     /// Searches for the next head where one may come, and notes since when the connection closes.
     pub fn settle(&mut self, config: &ServiceConfig)
-        requires framed { is_upgraded (kept_of self.old) ≡ false }
-        requires searched { MayBeSearched self.old }
-        ensures { IsSettled (setting_of config.now) self.old self.new }
+        requires { MayBeSearched self.old }
+        ensures { IsSettled (setting_of config.now) (kept_of self.old) self.new }
     {
         self.search();
         self.note(config);
@@ -82,7 +79,7 @@ impl Parts {
 
     fn search(&mut self)
         requires { MayBeSearched self.old }
-        ensures { IsSearchedIn self.old self.new }
+        ensures { IsSearchedFor self.old self.new }
     {
         if self.is_free() {
             self.input.search();
@@ -91,9 +88,8 @@ impl Parts {
 
     /// Notes since when the connection closes, where it does and that isn't noted yet.
     pub fn note(&mut self, config: &ServiceConfig)
-        requires { is_upgraded (kept_of self.old) ≡ false }
         ensures kept { kept_of self.new ≡ noting_since (setting_of config.now) (kept_of self.old) }
-        ensures parts { self.new ≡ record self.old { closing_since = self.new.closing_since } }
+        ensures input { self.new.input ≡ self.old.input }
     {
         if self.closing_since.is_none() && self.closing(config).is_some() {
             self.closing_since = Some(self.clock.last);

@@ -2,14 +2,14 @@
 ghost use Rattle.std.specs.Prelude.{◌≡◌, ◌≤◌, ◌<◌, false, length, IfOk, OnOk, OnErr, IsOk, take};
 ghost use Rattle.h1_model.specs.Event as on;
 ghost use Rattle.h1_machine.specs.Kept.{is_free};
-ghost use Rattle.h1_dispatch.specs.Parts.{kept_of, ended_exchange, IsSound, Steps};
+ghost use Rattle.h1_dispatch.specs.Parts.{kept_of, ended_exchange, dropped, told_to_go_on, IsSound, Steps};
 
 use crate::End;
 use crate::connection::parts::Parts;
 use bytes::Bytes;
 use http_types::{NoMemory, ServiceConfig};
 
-const HOLD_SIZE: usize = 131_072;
+
 
 impl Parts {
     /// Takes the bytes that there is room for, and says how many.
@@ -19,7 +19,7 @@ impl Parts {
         ensures sound { OnOk result (IsSound config.now self.new) }
         ensures err { OnErr result (self.new ≡ self.old) }
     {
-        let count = self.input.take(bytes, HOLD_SIZE)?;
+        let count = self.input.take(bytes, config.h1_hold_size())?;
         self.pass_body();
         self.settle(config);
         Ok(count)
@@ -72,10 +72,16 @@ impl Parts {
         ensures ok { Steps config.now self.old on.drop_body on.done self.new }
         ensures sound { IsSound config.now self.new }
     {
+        self.set_dropped();
+        self.note(config);
+    }
+
+    fn set_dropped(&mut self)
+        ensures { self.new ≡ record self.old { exchange = dropped self.old.exchange } }
+    {
         if let Some(exchange) = &mut self.exchange {
             exchange.was_dropped = true;
         }
-        self.note(config);
     }
 
     /// Tells the client of the open request to go on.
@@ -85,12 +91,20 @@ impl Parts {
         ensures sound { OnOk result (IsSound config.now self.new) }
         ensures err { OnErr result (self.new ≡ self.old) }
     {
-        let Some(exchange) = &mut self.exchange else {
+        if self.exchange.is_none() {
             return Ok(());
-        };
+        }
         self.output.put_interim()?;
-        exchange.was_told_to_go_on = true;
+        self.set_told_to_go_on();
         Ok(())
+    }
+
+    fn set_told_to_go_on(&mut self)
+        ensures { self.new ≡ record self.old { exchange = told_to_go_on self.old.exchange } }
+    {
+        if let Some(exchange) = &mut self.exchange {
+            exchange.was_told_to_go_on = true;
+        }
     }
 
     /// Gives the first bytes that are to be written, at most so many.
