@@ -1,4 +1,4 @@
-//! Bodies of messages. So far: how large one is.
+//! Bodies of messages: how large one is, and the traits of what reads and writes items.
 //!
 //! # Example
 //!
@@ -8,9 +8,12 @@
 //!
 //! # Contract
 //!
-//! A size is a plain value; `is_eof` tells whether any byte comes.
+//! A size is a plain value; `is_eof` tells whether any byte comes. Each answer of a [`Decoder`] goes on from what the
+//! bytes say, so that pieces make no difference: the law is the contract of [`pieces_make_a_whole`].
 #![tactic(auto)]
 
 mod body;
+mod framing;
 
 pub use body::BodySize;
+pub use framing::{Decoder, Encoder, pieces_make_a_whole};

@@ -1,0 +1,63 @@
+-- What is left of a body, and what a pull answers.
+use Rattle.std.specs.Prelude.{◌≡◌, ℕ, List, [], ⊤}
+use Rattle.h1_model.specs.Request.{Header, no_body, fixed_body, chunked_body, raw_body}
+use Rattle.h1_model.specs.Request as model
+use Rattle.h1_model.specs.Event.{Outcome, corrupted, incomplete}
+use Rattle.h1_model.specs.Event as on
+use Rattle.h1_machine.specs.Kept as machine
+use Rattle.h1_machine.specs.Pull as pulls
+use Rattle.h1_payload.specs.HeaderMaps.{header_map}
+use Rattle.h1_payload.specs.declared.kind.BodyKind.{BodyKind}
+use Rattle.h1_payload.specs.declared.kind.BodyKind.TheVariants as kind
+use Rattle.h1_payload.specs.declared.pulled.BodyFault.{BodyFault}
+use Rattle.h1_payload.specs.declared.pulled.BodyFault.TheVariants.{Corrupted, Incomplete}
+use Rattle.h1_payload.specs.declared.pulled.Pulled.{Pulled}
+use Rattle.h1_payload.specs.declared.pulled.Pulled.TheVariants as pulled
+use Rattle.h1_payload.specs.declared.rest.Left.{Left}
+use Rattle.h1_payload.specs.declared.rest.Left.TheVariants as left
+
+-- a body's kind
+abbrev pub kind_of : BodyKind → model.BodyKind
+kind_of kind.None = no_body
+kind_of (kind.Length n) = fixed_body n
+kind_of kind.Chunked = chunked_body
+kind_of kind.Raw = raw_body
+
+-- what is left of a body
+abbrev pub rest_of : Left → machine.Rest
+rest_of left.Nothing = machine.no_rest
+rest_of left.Raw = machine.raw_rest
+rest_of (left.Fixed n) = machine.fixed_rest n
+rest_of (left.Chunks reader) = machine.chunks_rest reader.place reader.section
+
+-- what is wrong with a body
+abbrev pub fault_of : BodyFault → on.BodyFault
+fault_of Corrupted = corrupted
+fault_of Incomplete = incomplete
+
+-- the answer of a pull is this outcome
+abbrev pub SaysPulled : Pulled → Outcome → Type 0
+SaysPulled (pulled.Bytes bytes) o = o ≡ on.bytes bytes
+SaysPulled (pulled.Trailers entries) o = (headers : List Header) × (o ≡ on.trailers headers) × (entries ≡ header_map headers)
+SaysPulled pulled.End o = o ≡ on.body_ended
+SaysPulled (pulled.Broken fault) o = o ≡ on.broken_by (fault_of fault)
+SaysPulled pulled.Pending o = o ≡ on.pending
+
+-- the answer, and what is then left of the body and of the bytes, are those of a pull
+pub record IsPulled (p : pulls.Pulled) (answer : Pulled) (rest : machine.Rest) (unread : List ℕ) : Type 0 where
+  pub outcome : SaysPulled answer p.outcome
+  pub rest_is : rest ≡ p.rest
+  pub unread_is : unread ≡ p.unread
+
+-- the text of a trailer section that is kept
+abbrev pub section_of : machine.Rest → List ℕ
+section_of (machine.chunks_rest place section) = section
+section_of rest = []
+
+-- a pull that tells the end or a fault needs no memory, and one that gives nothing none, where it has no text of a
+-- trailer section to keep
+abbrev pub IsLight : machine.Rest → Outcome → machine.Rest → Type 0
+IsLight old on.body_ended rest = ⊤
+IsLight old (on.broken_by fault) rest = ⊤
+IsLight old on.pending rest = section_of rest ≡ section_of old
+IsLight old o rest = ⊥

@@ -1,0 +1,48 @@
+//! What a pull answers.
+ghost use Rattle.std.specs.Prelude.{◌≡◌};
+ghost use Rattle.h1_payload.specs.Answers.{is_last};
+
+use bytes::Bytes;
+use http_map::HeaderMap;
+
+/// What is wrong with a body.
+#[derive(Clone, Copy, Debug, PartialEq, Eq)]
+pub enum BodyFault {
+    /// It breaks the grammar of chunks (RFC 7230, section 4.1).
+    Corrupted,
+
+    /// The input ended inside it.
+    Incomplete,
+}
+
+/// What comes next of a body.
+#[derive(Debug, Drop)]
+pub enum Pulled {
+    /// These bytes, of which there is one at least. They share the memory of the buffer.
+    Bytes(Bytes),
+
+    /// The trailers, of which there is one at least: behind them the body has ended (RFC 7230, section 4.1.2).
+    Trailers(HeaderMap),
+
+    /// The body has ended.
+    End,
+
+    /// The body is none.
+    Broken(BodyFault),
+
+    /// Nothing before more bytes are read.
+    Pending,
+}
+
+impl Pulled {
+    /// Whether nothing of the body follows.
+    pub(crate) fn is_last(&self) -> bool
+        ensures { result ≡ is_last self.now }
+    {
+        match self {
+            Pulled::Trailers(_) => true,
+            Pulled::End => true,
+            _ => false,
+        }
+    }
+}

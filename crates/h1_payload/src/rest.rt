@@ -1,0 +1,233 @@
+//! What is left of a request's body.
+ghost use Rattle.std.specs.Prelude.{◌≡◌, true, false, [], IfOk, IsOk, OnErr, if◌then◌else◌};
+ghost use Rattle.h1_machine.specs.Body.{pass_rest};
+ghost use Rattle.h1_machine.specs.Kept.{no_rest, raw_rest, fixed_rest, whole_rest, rest_in, is_nothing};
+ghost use Rattle.h1_machine.specs.Pull.{pull_fixed, pull_raw, IsPull};
+ghost use Rattle.h1_machine.specs.Pull as pulls;
+ghost use Rattle.h1_payload.specs.Rests.{kind_of, rest_of, IsPulled, IsLight};
+
+use crate::chunks::ChunkReader;
+use crate::kind::BodyKind;
+use crate::pulled::{BodyFault, Pulled};
+use bytes::BytesMut;
+use http_map::NoMemory;
+use std::marker::Model;
+
+/// What is left, by the body's kind.
+#[derive(Debug, Drop)]
+enum Left {
+    /// Nothing.
+    Nothing,
+
+    /// All up to the end of the input.
+    Raw,
+
+    /// So many bytes.
+    Fixed(u64),
+
+    /// Chunks, from where the reader is.
+    Chunks(ChunkReader),
+}
+
+/// What is left of a request's body. It keeps no byte of the body; of a trailer section that hasn't ended it keeps
+/// the text, of at most 8192 bytes.
+///
+/// A clause sees it as the rest that the connection's machine keeps.
+#[derive(Debug, Drop)]
+pub struct Rest {
+    left: Left,
+}
+
+impl Model for Rest {
+    ghost use Rattle.h1_machine.specs.Kept as machine;
+
+    ghost Value = { machine.Rest };
+
+    ghost use Rattle.h1_payload.specs.Rests.{rest_of};
+
+    ghost view = { λ r. rest_of r.left };
+}
+
+impl Rest {
+    /// All of a body of this kind. It takes no memory.
+    pub fn whole(kind: BodyKind) -> Rest
+        ensures { result ≡ whole_rest (kind_of kind) }
+    {
+        let left = match kind {
+            BodyKind::None => Left::Nothing,
+            BodyKind::Length(len) => Left::Fixed(len),
+            BodyKind::Chunked => Left::Chunks(ChunkReader::new()),
+            BodyKind::Raw => Left::Raw,
+        };
+        Rest { left }
+    }
+
+    /// Whether nothing is left.
+    pub fn is_nothing(&self) -> bool
+        ensures { result ≡ is_nothing self.now }
+    {
+        match &self.left {
+            Left::Nothing => true,
+            _ => false,
+        }
+    }
+
+    /// Takes what comes next of the body from the bytes that aren't passed yet: all of the length or raw body, or of
+    /// the current chunk, that is there, as a shared piece; and else trailers, the end or a fault. What it gives is
+    /// passed, and so is what it read of chunks, but for a fault.
+    ///
+    /// `has_ended` says that no bytes will follow. Want of memory leaves all as it was. The end and a fault need no
+    /// memory, and neither does a pull that gives nothing, but for the text of a trailer section that it keeps.
+    ///
+    /// Once a body in chunks was passed over, a trailer section that it is in has no text any more, and its trailers
+    /// can't be had.
+    pub fn pull(&mut self, unread: &mut BytesMut, has_ended: bool) -> Result<Pulled, NoMemory>
+        ensures pulled { IfOk result (λ answer. (p : pulls.Pulled) → IsPull has_ended self.old unread.old.items p
+            → IsPulled p answer self.new unread.new.items) }
+        ensures no_memory_needed { (p : pulls.Pulled) → IsPull has_ended self.old unread.old.items p
+            → IsLight self.old p.outcome p.rest → IsOk result }
+        ensures err { OnErr result ((self.new ≡ self.old) × (unread.new ≡ unread.old)) }
+    {
+        pull_left(&mut self.left, unread, has_ended)
+    }
+
+    /// Passes as much of the body as is there, without its bytes. It takes no memory.
+    pub fn pass(&mut self, unread: &mut BytesMut, has_ended: bool)
+        ensures rest { self.new ≡ (pass_rest has_ended self.old unread.old.items).rest }
+        ensures unread { unread.new.items ≡ (pass_rest has_ended self.old unread.old.items).unread }
+    {
+        pass_left(&mut self.left, unread, has_ended)
+    }
+
+    /// Takes note that no bytes will follow those that are unread: a raw body of which none is left has ended.
+    pub fn end_input(&mut self, unread: &BytesMut)
+        ensures { self.new ≡ rest_in true unread.now.items self.old }
+    {
+        if !unread.is_empty() {
+            return;
+        }
+        if let Left::Raw = self.left {
+            self.left = Left::Nothing;
+        }
+    }
+}
+
+fn pull_left(
+    left: &mut Left,
+    unread: &mut BytesMut,
+    has_ended: bool,
+) -> Result<Pulled, NoMemory>
+    ensures pulled { IfOk result (λ answer. (p : pulls.Pulled) → IsPull has_ended (rest_of left.old) unread.old.items p
+        → IsPulled p answer (rest_of left.new) unread.new.items) }
+    ensures no_memory_needed { (p : pulls.Pulled) → IsPull has_ended (rest_of left.old) unread.old.items p
+        → IsLight (rest_of left.old) p.outcome p.rest → IsOk result }
+    ensures err { OnErr result ((left.new ≡ left.old) × (unread.new ≡ unread.old)) }
+{
+    match left {
+        Left::Nothing => Ok(Pulled::End),
+        Left::Raw => {
+            let answer = pull_raw(unread, has_ended)?;
+            if has_ended {
+                *left = Left::Nothing;
+            }
+            Ok(answer)
+        }
+        Left::Fixed(len) => {
+            let len = *len;
+            let (answer, more) = pull_fixed(len, unread, has_ended)?;
+            *left = more;
+            Ok(answer)
+        }
+        Left::Chunks(reader) => {
+            let answer = reader.take(unread, has_ended)?;
+            if answer.is_last() {
+                *left = Left::Nothing;
+            }
+            Ok(answer)
+        }
+    }
+}
+
+/// All bytes that are there.
+fn pull_raw(unread: &mut BytesMut, has_ended: bool) -> Result<Pulled, NoMemory>
+    ensures pulled { IfOk result (λ answer. IsPulled (pull_raw has_ended unread.old.items) answer
+        (if has_ended then no_rest else raw_rest) unread.new.items) }
+    ensures no_memory_needed { unread.old.items ≡ [] → IsOk result }
+    ensures err { OnErr result (unread.new ≡ unread.old) }
+{
+    let len = unread.len();
+    if len > 0 {
+        return Ok(Pulled::Bytes(unread.freeze_to(len)?));
+    }
+    if has_ended {
+        Ok(Pulled::End)
+    } else {
+        Ok(Pulled::Pending)
+    }
+}
+
+/// Of a body of so many bytes, those that are there, and what is left of it.
+fn pull_fixed(
+    len: u64,
+    unread: &mut BytesMut,
+    has_ended: bool,
+) -> Result<(Pulled, Left), NoMemory>
+    ensures pulled { IfOk result (λ answer. IsPulled (pull_fixed has_ended len unread.old.items) answer.0
+        (rest_of answer.1) unread.new.items) }
+    ensures no_memory_needed { unread.old.items ≡ [] → IsOk result }
+    ensures err { OnErr result (unread.new ≡ unread.old) }
+{
+    let there = unread.len();
+    if there == 0 {
+        let answer = if has_ended {
+            Pulled::Broken(BodyFault::Incomplete)
+        } else {
+            Pulled::Pending
+        };
+        return Ok((answer, Left::Fixed(len)));
+    }
+    if len <= there as u64 {
+        let bytes = unread.freeze_to(len as usize)?;
+        return Ok((Pulled::Bytes(bytes), Left::Nothing));
+    }
+    let bytes = unread.freeze_to(there)?;
+    Ok((Pulled::Bytes(bytes), Left::Fixed(len - there as u64)))
+}
+
+fn pass_left(left: &mut Left, unread: &mut BytesMut, has_ended: bool)
+    ensures rest { rest_of left.new ≡ (pass_rest has_ended (rest_of left.old) unread.old.items).rest }
+    ensures unread { unread.new.items ≡ (pass_rest has_ended (rest_of left.old) unread.old.items).unread }
+{
+    match left {
+        Left::Nothing => {}
+        Left::Raw => {
+            unread.clear();
+            if has_ended {
+                *left = Left::Nothing;
+            }
+        }
+        Left::Fixed(len) => {
+            let len = *len;
+            *left = pass_fixed(len, unread);
+        }
+        Left::Chunks(reader) => {
+            if reader.pass(unread) {
+                *left = Left::Nothing;
+            }
+        }
+    }
+}
+
+/// What is left of a body of so many bytes, once those that are there are passed.
+fn pass_fixed(len: u64, unread: &mut BytesMut) -> Left
+    ensures rest { rest_of result ≡ (pass_rest false (fixed_rest len) unread.old.items).rest }
+    ensures unread { unread.new.items ≡ (pass_rest false (fixed_rest len) unread.old.items).unread }
+{
+    let there = unread.len() as u64;
+    if len <= there {
+        unread.advance(len as usize);
+        return Left::Nothing;
+    }
+    unread.clear();
+    Left::Fixed(len - there)
+}
