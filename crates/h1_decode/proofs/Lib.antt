@@ -1,8 +1,11 @@
+pub mod BodyKindLemmas
+pub mod ConnectionLemmas
 pub mod FeedLemmas
+pub mod FramingLemmas
+pub mod GrammarErrors
 pub mod HeadPieceLemmas
+pub mod LengthLemmas
 pub mod LineEndLemmas
 pub mod LinesLemmas
-pub mod PlainHeadLemmas
 pub mod ReadingLemmas
-pub mod SaysHeadLemmas
-pub mod ConnectionLemmas
+pub mod TrimLemmas

@@ -1,46 +1,66 @@
 -- The header lines that the spans cover, one after another.
-use Rattle.std.proofs.Common.{◌≡◌, ℕ, ◌+◌, ◌<◌, List, [], length, take, map, get_or, All, sym, ap, ◌∙◌, subst, true, Result, Ok, Err}
+use Rattle.std.proofs.Common.{◌≡◌, ℕ, ◌+◌, ◌<◌, List, [], ◌∷◌, ◌++◌, length, take, map, get_or, All, sym, ap, ◌∙◌, subst, true, Result, Ok, Err}
 use Rattle.std.specs.Result.{OnOk, is_ok}
 use Rattle.std.proofs.lemmas.Bool.{false≢true}
 use Rattle.std.proofs.lemmas.List.{length-map, get_or-map, map_more, map_push}
 use Rattle.std.proofs.lemmas.List.Elements.{All-push, All-get_or}
 use Rattle.std.proofs.lemmas.List.Sums.{fold_push}
 use Rattle.http_header.specs.FieldValue.{plain_value}
+use Rattle.http_header.specs.Token.{lowercase}
 use Rattle.http_map.specs.HeaderMap.{append}
-use Rattle.httparse.specs.Spans.{header_bytes}
+use Rattle.httparse.specs.Spans.{header_bytes, span_bytes}
 use Rattle.httparse.specs.declared.spans.HeaderSpan.{HeaderSpan}
 use Rattle.h1_model.specs.Request.{Header}
+use Rattle.h1_decode.specs.declared.framing.Framing.{Framing}
+use Rattle.h1_decode.specs.Framing.{TellsLines}
 use Rattle.h1_decode.specs.HeadMap.{header_map}
-use Rattle.h1_decode.specs.SimpleHead.{HasFieldValue, line_header, IsSimpleLine}
+use Rattle.h1_decode.specs.Lines.{HasName, HasValue, line_header}
 
 module _ (piece : List ℕ) (fields : List HeaderSpan) (i : ℕ) (d : HeaderSpan) (below : i < length fields) where
-  -- among simple lines is each one simple
-  pub simple_at : All IsSimpleLine (map (header_bytes piece) fields) → IsSimpleLine (header_bytes piece (get_or fields i d))
-  simple_at all =
-      subst IsSimpleLine (get_or-map (header_bytes piece) fields i d (header_bytes piece d) below)
-      (All-get_or IsSimpleLine (map (header_bytes piece) fields) i (header_bytes piece d) (rw length-map below) all)
+  -- of all lines with a name, each has one
+  pub name_at : All HasName (map (header_bytes piece) fields) → HasName (header_bytes piece (get_or fields i d))
+  name_at all =
+      subst HasName (get_or-map (header_bytes piece) fields i d (header_bytes piece d) below)
+      (All-get_or HasName (map (header_bytes piece) fields) i (header_bytes piece d) (rw length-map below) all)
 
-  -- among known values is each one known
-  pub value_at : All HasFieldValue (map (header_bytes piece) fields) → HasFieldValue (header_bytes piece (get_or fields i d))
+  -- so it is with values
+  pub value_at : All HasValue (map (header_bytes piece) fields) → HasValue (header_bytes piece (get_or fields i d))
   value_at all =
-      subst HasFieldValue (get_or-map (header_bytes piece) fields i d (header_bytes piece d) below)
-      (All-get_or HasFieldValue (map (header_bytes piece) fields) i (header_bytes piece d) (rw length-map below) all)
+      subst HasValue (get_or-map (header_bytes piece) fields i d (header_bytes piece d) below)
+      (All-get_or HasValue (map (header_bytes piece) fields) i (header_bytes piece d) (rw length-map below) all)
 
-  -- one more simple line
-  pub simple_more : All IsSimpleLine (map (header_bytes piece) (take i fields)) → IsSimpleLine (header_bytes piece (get_or fields i d))
-      → All IsSimpleLine (map (header_bytes piece) (take (i + 1) fields))
-  simple_more all here =
-      subst (All IsSimpleLine) (sym (map_more (header_bytes piece) fields i d below)) (All-push IsSimpleLine _ _ all here)
+  -- one more line with a name
+  pub names_more : All HasName (map (header_bytes piece) (take i fields)) → HasName (header_bytes piece (get_or fields i d))
+      → All HasName (map (header_bytes piece) (take (i + 1) fields))
+  names_more all here =
+      subst (All HasName) (sym (map_more (header_bytes piece) fields i d below)) (All-push HasName _ _ all here)
 
   -- one more header
+  headers_more : map line_header (map (header_bytes piece) (take (i + 1) fields))
+      ≡ map line_header (map (header_bytes piece) (take i fields)) ++ line_header (header_bytes piece (get_or fields i d)) ∷ []
+  headers_more =
+      ap (map line_header) (map_more (header_bytes piece) fields i d below)
+      ∙ map_push line_header (map (header_bytes piece) (take i fields)) (header_bytes piece (get_or fields i d))
+
   pub header_map-more : let line = header_bytes piece (get_or fields i d) in
       header_map (map line_header (map (header_bytes piece) (take (i + 1) fields)))
       ≡ append (header_map (map line_header (map (header_bytes piece) (take i fields)))) (line_header line).name (plain_value (line_header line).value)
   header_map-more =
       let line = header_bytes piece (get_or fields i d) in
-      ap (λ lines. header_map (map line_header lines)) (map_more (header_bytes piece) fields i d below)
-      ∙ ap header_map (map_push line_header (map (header_bytes piece) (take i fields)) line)
+      ap header_map headers_more
       ∙ fold_push (λ entries (h : Header). append entries h.name (plain_value h.value)) [] (map line_header (map (header_bytes piece) (take i fields))) (line_header line)
+
+  pub framing_more : (framing : Framing) (name value : List ℕ)
+      → TellsLines framing (map line_header (map (header_bytes piece) (take i fields)) ++ (record { name = name; value = value }) ∷ [])
+      → name ≡ lowercase (span_bytes piece (get_or fields i d).name) → value ≡ span_bytes piece (get_or fields i d).value
+      → TellsLines framing (map line_header (map (header_bytes piece) (take (i + 1) fields)))
+  framing_more framing name value tells name_is value_is =
+      let before = map line_header (map (header_bytes piece) (take i fields)) in
+      let line : Header = record { name = name; value = value } in
+      let same : line ≡ line_header (header_bytes piece (get_or fields i d)) =
+      ap (λ (n : List ℕ). record { name = n; value = value }) name_is
+      ∙ ap (λ (v : List ℕ). record { name = lowercase (span_bytes piece (get_or fields i d).name); value = v }) value_is in
+      subst (TellsLines framing) (ap (λ (l : Header). before ++ l ∷ []) same ∙ sym headers_more) tells
 
 -- what an Ok says, once the result is known to be one
 pub known_ok : {T E P : Type 0} (r : Result T E) → true ≡ is_ok r → OnOk r P → P

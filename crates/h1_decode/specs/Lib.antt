@@ -1,9 +1,10 @@
+pub mod Framing
 pub mod HeadItem
 pub mod HeadMap
 pub mod HeadPosition
 pub mod HeadScan
 pub mod LineEnds
+pub mod Lines
 pub mod ReadParts
 pub mod Refusal
-pub mod SimpleHead
 pub mod WholeHead

@@ -1,29 +1,59 @@
 -- What the steps of the reading of a head say of the parts that they read.
-use Rattle.std.specs.Prelude.{◌≡◌, ℕ, List, map, None}
-use Rattle.http.specs.declared.version.TheConstants.Version.{HTTP_11}
-use Rattle.http_types.specs.Flags.{no_flags}
-use Rattle.http_types.specs.RequestHead.{request_flags}
-use Rattle.http_uri.specs.Uri.{Spells}
+use Rattle.std.specs.Prelude.{◌≡◌, ℕ, List, map, All, Some}
+use Rattle.http_header.specs.Token.{IsToken}
+use Rattle.http_types.specs.declared.error.ParseError.{ParseError}
+use Rattle.http_types.specs.declared.error.ParseError.TheVariants.{Method, Uri, Header as HeaderError}
 use Rattle.httparse.specs.Spans.{span_bytes, header_bytes}
 use Rattle.httparse.specs.declared.spans.HeaderSpan.{HeaderSpan}
 use Rattle.httparse.specs.declared.spans.RequestSpans.{RequestSpans}
-use Rattle.h1_decode.specs.declared.decoder.BodyKind.TheVariants.{None as NoBody}
-use Rattle.h1_decode.specs.declared.decoder.HeadItem.{HeadItem}
-use Rattle.h1_decode.specs.HeadMap.{header_map}
-use Rattle.h1_decode.specs.SimpleHead.{Line, line_header}
+use Rattle.h1_model.specs.LengthTable.{body_kind, connection_of, expects_continue}
+use Rattle.h1_model.specs.Request.{Header, BodyKind, Head}
+use Rattle.h1_model.specs.RequestHead.{IsTarget}
+use Rattle.h1_decode.specs.Lines.{Line, line_header, HasName, RefusesLinesOf}
 
--- the item says what these parts of a simple head say
-pub record SaysParts (item : HeadItem) (method target : List ℕ) (lines : List Line) : Type 0 where
-  pub method_is : item.head.method ≡ method
-  pub target_is : item.target ≡ target
-  pub uri_is : Spells target item.head.uri
-  pub version_is : item.head.version ≡ HTTP_11
-  pub headers_are : item.head.headers ≡ header_map (map line_header lines)
-  pub flags_are : request_flags item.head ≡ no_flags
-  pub peer_is : item.head.peer_addr ≡ None
-  pub body_is : item.body ≡ NoBody
+-- the parts of a head as its text has them
+pub record Parts : Type 0 where
+  pub method : List ℕ
+  pub target : List ℕ
+  pub minor : ℕ
+  pub lines : List Line
 
--- the item says what the parts say that the spans cover
-abbrev pub SaysPartsAt : List ℕ → RequestSpans → List HeaderSpan → HeadItem → Type 0
-SaysPartsAt piece spans fields item =
-    SaysParts item (span_bytes piece spans.method) (span_bytes piece spans.path) (map (header_bytes piece) fields)
+-- the parts that the spans cover
+abbrev pub parts_at : List ℕ → RequestSpans → List HeaderSpan → Parts
+parts_at piece spans fields = record {
+  method = span_bytes piece spans.method;
+  target = span_bytes piece spans.path;
+  minor = spans.version;
+  lines = map (header_bytes piece) fields;
+}
+
+-- the lines as headers
+abbrev pub headers_of : Parts → List Header
+headers_of parts = map line_header parts.lines
+
+-- the head with these parts and this body
+abbrev pub head_of : Parts → BodyKind → Head
+head_of parts body = record {
+  method = parts.method;
+  target = parts.target;
+  minor = parts.minor;
+  headers = headers_of parts;
+  body = body;
+  connection = connection_of parts.minor (headers_of parts);
+  expects = expects_continue (headers_of parts);
+}
+
+-- the parts are those of a head with this body
+pub record AreParts (parts : Parts) (body : BodyKind) : Type 0 where
+  pub method_is : IsToken parts.method
+  pub target_is : IsTarget parts.target
+  pub names_are : All HasName parts.lines
+  pub body_is : body_kind parts.minor parts.method (headers_of parts) ≡ Some body
+
+-- which part is refused, by the name of the error: the method before the target before the lines
+abbrev pub RefusesParts : ParseError → Parts → Type 0
+RefusesParts Method parts = ¬ (IsToken parts.method)
+RefusesParts Uri parts = IsToken parts.method × ¬ (IsTarget parts.target)
+RefusesParts HeaderError parts =
+    IsToken parts.method × IsTarget parts.target × RefusesLinesOf parts.minor parts.method parts.lines
+RefusesParts _ parts = ⊥

@@ -1,32 +1,30 @@
 //! What the head of a request says (RFC 7230, section 3).
-ghost use Rattle.std.specs.Prelude.{◌≡◌, ◌⊎◌, ◌↔◌, ◌≤◌, IsTrue, false, length, map, codes, bytes_eq, Err, IfOk, IfErr, IfSome, IfNone, All};
+ghost use Rattle.std.specs.Prelude.{◌≡◌, ◌↔◌, ◌<◌, ◌≤◌, [], IsTrue, length, map, nat_lt, if◌then◌else◌, OnOk, IfOk, IfErr, All};
 ghost use Rattle.http_header.specs.Token.{IsToken};
 ghost use Rattle.http_uri.specs.Uri.{Spells, SpellsNone};
 ghost use Rattle.httparse.specs.Spans.{IsHeaderWithin, IsRequestWithin, IsWithin, header_bytes};
 ghost use Rattle.h1_model.specs.HeadPiece.{header_lines};
-ghost use Rattle.h1_model.specs.Request.{Head};
-ghost use Rattle.h1_decode.specs.HeadItem.{SaysHead};
-ghost use Rattle.h1_decode.specs.ReadParts.{SaysPartsAt};
-ghost use Rattle.h1_decode.specs.Refusal.{UnlessNoMemory};
-ghost use Rattle.h1_decode.specs.SimpleHead.{HasFieldValue, IsSimpleReading, IsNotSimple};
-ghost use Rattle.h1_decode.specs.WholeHead.{AreSimpleAt, HasFewFields, IsWholeHeadAt, HasNoWholeHead};
+ghost use Rattle.h1_model.specs.Request.{Head, head_is, faulty};
+ghost use Rattle.h1_model.specs.RequestHead.{IsReading};
+ghost use Rattle.h1_decode.specs.HeadItem.{SaysHead, kind_of, version_of};
+ghost use Rattle.h1_decode.specs.Lines.{HasValue};
+ghost use Rattle.h1_decode.specs.ReadParts.{parts_at, head_of, AreParts, RefusesParts};
+ghost use Rattle.h1_decode.specs.Refusal.{UnlessNoMemory, fault_of, Refuses};
+ghost use Rattle.h1_decode.specs.WholeHead.{HasFewFields, IsOfGrammar, IsWholeHeadAt, RefusesText};
 
-use crate::lines::{read_headers, share};
+use crate::lines::{read_lines, share};
 use crate::scan::line_end_len;
 use bytes::Bytes;
 use http::method::MethodError;
-use http_types::{Method, NoMemory, ParseError, RequestHead, Uri, Version};
+use http_types::{HeaderMap, Method, NoMemory, ParseError, RequestHead, Uri, Version};
 use http_uri::UriError;
-use httparse::Status;
 use httparse::spans::{EMPTY_HEADER_SPAN, HeaderSpan, RequestSpans, parse_request};
+use httparse::{Error, Status};
 use memchr::memchr_iter;
 use std::alloc::Global;
 
 /// The most header lines that a head may have.
 const MAX_HEADERS: usize = 96;
-
-/// The minor version of the heads that are read: HTTP/1.1.
-const MINOR_VERSION: u8 = 1;
 
 /// Where the body of a message ends (RFC 7230, section 3.3.3).
 #[derive(Clone, Copy, Debug, PartialEq, Eq)]
@@ -86,15 +84,17 @@ impl HeadRoom {
     }
 }
 
-/// What the head says that `piece` is, from its first line to its empty line. Heads of other
-/// versions than HTTP/1.1, tunnels, and heads with a line on the body or the connection are not
-/// read yet: these, malformed heads and those of more than 96 header lines are all
-/// `ParseError::NotYet`. The only other error is `ParseError::NoMemory`.
+/// What the head says that `piece` is, from its first line to its empty line: a head of HTTP/1.0 or
+/// HTTP/1.1 (RFC 7230, section 3). A piece that is none is refused by the first of these that holds:
+/// `ParseError::TooLarge`, it has more than 96 header lines; `Header`, `Version` or `Status`, it isn't
+/// of the grammar; `Method`, its method is no token; `Uri`, its target has none of the forms of one;
+/// `Header`, a name is longer than 65535 bytes, or the lines frame no body (section 3.3.3). The only
+/// other error is `NoMemory`.
 #[inline(always)]
 pub fn request_head(alloc: Global, piece: Bytes) -> Result<HeadItem, ParseError>
-    ensures head { IfOk result (λ item. (h : Head) × IsSimpleReading piece h × SaysHead item h) }
-    ensures not_yet { result ≡ Err ParseError.NotYet → IsNotSimple piece }
-    ensures errors { IfErr result (λ e. (e ≡ ParseError.NotYet) ⊎ (e ≡ ParseError.NoMemory)) }
+    ensures head { IfOk result (λ item. (h : Head) × IsReading piece (head_is h) × SaysHead item h) }
+    ensures fault { IfErr result (λ e. UnlessNoMemory e (IsReading piece (faulty (fault_of e)))) }
+    ensures cause { IfErr result (λ e. UnlessNoMemory e (Refuses e piece)) }
 {
     request_head_in(alloc, piece, &mut HeadRoom::new())
 }
@@ -106,45 +106,52 @@ pub fn request_head_in(
     piece: Bytes,
     room: &mut HeadRoom,
 ) -> Result<HeadItem, ParseError>
-    ensures head { IfOk result (λ item. (h : Head) × IsSimpleReading piece h × SaysHead item h) }
-    ensures not_yet { result ≡ Err ParseError.NotYet → IsNotSimple piece }
-    ensures errors { IfErr result (λ e. (e ≡ ParseError.NotYet) ⊎ (e ≡ ParseError.NoMemory)) }
+    ensures head { IfOk result (λ item. (h : Head) × IsReading piece (head_is h) × SaysHead item h) }
+    ensures fault { IfErr result (λ e. UnlessNoMemory e (IsReading piece (faulty (fault_of e)))) }
+    ensures cause { IfErr result (λ e. UnlessNoMemory e (Refuses e piece)) }
 {
-    match read_head(alloc, &piece, room) {
-        Ok(item) => Ok(item),
-        Err(ParseError::NoMemory) => Err(ParseError::NoMemory),
-        Err(_) => Err(ParseError::NotYet),
-    }
+    read_head(alloc, &piece, room, HeaderMap::new(alloc))
 }
 
-/// The head that the piece is.
+/// The head that the piece is, with its headers in an empty map.
 #[inline(always)]
-fn read_head(alloc: Global, piece: &Bytes, room: &mut HeadRoom) -> Result<HeadItem, ParseError>
-    ensures head { IfOk result (λ item. (h : Head) × IsSimpleReading piece.now h × SaysHead item h) }
-    ensures refused { IfErr result (λ e. UnlessNoMemory e (IsNotSimple piece.now)) }
+fn read_head(
+    alloc: Global,
+    piece: &Bytes,
+    room: &mut HeadRoom,
+    headers: HeaderMap,
+) -> Result<HeadItem, ParseError>
+    requires { headers ≡ [] }
+    ensures head { IfOk result (λ item. (h : Head) × IsReading piece.now (head_is h) × SaysHead item h) }
+    ensures fault { IfErr result (λ e. UnlessNoMemory e (IsReading piece.now (faulty (fault_of e)))) }
+    ensures cause { IfErr result (λ e. UnlessNoMemory e (Refuses e piece.now)) }
 {
     match parse_whole(piece.as_slice(), &mut room.fields) {
-        Some(spans) => read_parts(alloc, piece, spans, &room.fields[..spans.headers]),
-        None => Err(ParseError::Header),
+        Ok(spans) => read_parts(alloc, piece, spans, &room.fields[..spans.headers], headers),
+        Err(error) => Err(error),
     }
 }
 
 /// Where the parts of the head are that is the whole piece.
 #[inline(always)]
-fn parse_whole(piece: &[u8], fields: &mut [HeaderSpan]) -> Option<RequestSpans>
+fn parse_whole(piece: &[u8], fields: &mut [HeaderSpan]) -> Result<RequestSpans, ParseError>
     requires { length fields.old ≡ MAX_HEADERS }
-    ensures within { IfSome result (IsRequestWithin piece.now fields.new) }
-    ensures found { IfSome result (IsWholeHeadAt piece.now fields.new) }
-    ensures none { IfNone result (HasNoWholeHead piece.now) }
+    ensures within { IfOk result (IsRequestWithin piece.now fields.new) }
+    ensures found { IfOk result (IsWholeHeadAt piece.now fields.new) }
+    ensures refused { IfErr result (λ e. RefusesText e piece.now) }
 {
-    let spans = match parse_request(piece, fields) {
-        Ok(Status::Complete(spans)) if spans.len == piece.len() => spans,
-        _ => return None,
-    };
-    if has_few_lines(piece) {
-        Some(spans)
-    } else {
-        None
+    match parse_request(piece, fields) {
+        Ok(Status::Complete(spans)) => {
+            if spans.len != piece.len() {
+                Err(text_error(piece, ParseError::Header))
+            } else if has_few_lines(piece) {
+                Ok(spans)
+            } else {
+                Err(ParseError::TooLarge)
+            }
+        }
+        Ok(Status::Partial) => Err(text_error(piece, ParseError::Header)),
+        Err(error) => Err(text_error(piece, grammar_error(error))),
     }
 }
 
@@ -167,59 +174,92 @@ fn count_header_lines(piece: &[u8]) -> usize
     memchr_iter(b'\n', piece).count().saturating_sub(2)
 }
 
-/// The head whose parts the spans cover.
+/// The name of what `httparse` refuses. It has no room only for a head of too many lines, which are
+/// counted apart.
+fn grammar_error(error: Error) -> ParseError
+    ensures { IsOfGrammar result }
+{
+    match error {
+        Error::Version => ParseError::Version,
+        Error::Status => ParseError::Status,
+        _ => ParseError::Header,
+    }
+}
+
+/// Too many lines are told before what else is wrong with a piece.
+#[cold]
+fn text_error(piece: &[u8], error: ParseError) -> ParseError
+    ensures { result ≡ (if nat_lt MAX_HEADERS (header_lines piece.now) then ParseError.TooLarge else error) }
+{
+    if count_header_lines(piece) > MAX_HEADERS {
+        ParseError::TooLarge
+    } else {
+        error
+    }
+}
+
+/// The head whose parts the spans cover, with its headers in an empty map.
 #[inline(always)]
 fn read_parts(
     alloc: Global,
     piece: &Bytes,
     spans: RequestSpans,
     fields: &[HeaderSpan],
+    mut headers: HeaderMap,
 ) -> Result<HeadItem, ParseError>
     requires method { IsWithin (length piece.now) spans.method }
     requires path { IsWithin (length piece.now) spans.path }
     requires fields { All (IsHeaderWithin (length piece.now)) fields.now }
-    requires values { All HasFieldValue (map (header_bytes piece.now) fields.now) }
-    ensures simple { IfOk result (λ _. AreSimpleAt piece.now spans fields.now) }
-    ensures says { IfOk result (SaysPartsAt piece.now spans fields.now) }
-    ensures refused { IfErr result (λ e. UnlessNoMemory e (¬ (AreSimpleAt piece.now spans fields.now))) }
+    requires values { All HasValue (map (header_bytes piece.now) fields.now) }
+    requires empty { headers ≡ [] }
+    ensures parts { IfOk result (λ item. AreParts (parts_at piece.now spans fields.now) (kind_of item.body)) }
+    ensures says { IfOk result (λ item. SaysHead item (head_of (parts_at piece.now spans fields.now) (kind_of item.body))) }
+    ensures refused { IfErr result (λ e. UnlessNoMemory e (RefusesParts e (parts_at piece.now spans fields.now))) }
 {
-    if spans.version != MINOR_VERSION {
-        return Err(ParseError::NotYet);
-    }
-    let target = share(piece, spans.path)?;
     let method = read_method(alloc, spans.method.of(piece.as_slice()))?;
+    let target = share(piece, spans.path)?;
     let uri = read_uri(share(piece, spans.path)?)?;
-    let headers = read_headers(alloc, piece, fields)?;
-    Ok(HeadItem {
-        head: RequestHead::from_parts(method, uri, Version::HTTP_11, headers),
-        target,
-        body: BodyKind::None,
-    })
+    let (framing, body) = read_lines(
+        alloc,
+        piece,
+        fields,
+        spans.version,
+        method.as_str(),
+        &mut headers,
+    )?;
+    let mut head = RequestHead::from_parts(method, uri, read_version(spans.version), headers);
+    framing.mark(&mut head);
+    Ok(HeadItem { head, target, body })
 }
 
-/// The method of a request that opens no tunnel (RFC 7231, section 4).
+/// The version HTTP/1.0 or HTTP/1.1 (RFC 7230, section 2.6).
+fn read_version(minor: u8) -> Version
+    ensures { result ≡ version_of minor }
+{
+    if minor == 0 {
+        Version::HTTP_10
+    } else {
+        Version::HTTP_11
+    }
+}
+
+/// The method of a request (RFC 7231, section 4).
 fn read_method(alloc: Global, src: &[u8]) -> Result<Method, ParseError>
     ensures method { IfOk result (λ method. method ≡ src.now) }
-    ensures token { IfOk result (λ _. IsToken src.now) }
-    ensures no_tunnel { IfOk result (λ _. bytes_eq src.now (codes "CONNECT") ≡ false) }
-    ensures refused { IfErr result (λ e. UnlessNoMemory e
-        (IsToken src.now → ¬ (bytes_eq src.now (codes "CONNECT") ≡ false))) }
+    ensures token { OnOk result (IsToken src.now) }
+    ensures refused { IfErr result (λ e. UnlessNoMemory e ((e ≡ ParseError.Method) × ¬ (IsToken src.now))) }
 {
-    let method = match Method::from_bytes(alloc, src) {
-        Ok(method) => method,
-        Err(MethodError::Invalid) => return Err(ParseError::Method),
-        Err(MethodError::OutOfMemory) => return Err(ParseError::NoMemory),
-    };
-    if method.as_str() == "CONNECT" {
-        return Err(ParseError::NotYet);
+    match Method::from_bytes(alloc, src) {
+        Ok(method) => Ok(method),
+        Err(MethodError::Invalid) => Err(ParseError::Method),
+        Err(MethodError::OutOfMemory) => Err(ParseError::NoMemory),
     }
-    Ok(method)
 }
 
 /// The request target (RFC 7230, section 5.3), which shares the memory of the bytes.
 fn read_uri(src: Bytes) -> Result<Uri, ParseError>
     ensures spelled { IfOk result (Spells src) }
-    ensures refused { IfErr result (λ e. UnlessNoMemory e (SpellsNone src)) }
+    ensures refused { IfErr result (λ e. UnlessNoMemory e ((e ≡ ParseError.Uri) × SpellsNone src)) }
 {
     match Uri::from_shared(src) {
         Ok(uri) => Ok(uri),

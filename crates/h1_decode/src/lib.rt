@@ -14,14 +14,17 @@
 //! # Contract
 //!
 //! A scan answers the head piece of the bytes, and `Open` exactly where they have none; a head that
-//! is read is what the definitions read in its piece, and no other is: `NotYet` comes only for a
-//! piece that isn't a simple head.
+//! is read is what the definitions read in its piece, and a piece is refused exactly where they
+//! refuse it, by an error that names the cause.
 #![tactic(auto)]
 
+mod asked;
 mod decoder;
+mod framing;
 pub mod laws;
 mod lines;
 mod scan;
+mod value;
 
 pub use decoder::{BodyKind, HeadItem, HeadRoom, request_head, request_head_in};
 pub use scan::{HeadScan, HeadScanner, scan_head};

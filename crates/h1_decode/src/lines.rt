@@ -1,89 +1,98 @@
 //! The header lines of a head (RFC 7230, section 3.2).
-ghost use Rattle.std.specs.Prelude.{◌≡◌, false, length, map, IfOk, IfErr, All};
+ghost use Rattle.std.specs.Prelude.{◌≡◌, ℕ, List, [], length, map, Some, IfOk, IfErr, OnOk, All};
 ghost use Rattle.http_header.specs.FieldName.{IsFieldName};
 ghost use Rattle.http_header.specs.FieldValue.{IsFieldValue, plain_value};
 ghost use Rattle.http_header.specs.Token.{lowercase};
 ghost use Rattle.httparse.specs.Spans.{IsHeaderWithin, IsWithin, header_bytes, span_bytes};
-ghost use Rattle.h1_decode.specs.Refusal.{UnlessNoMemory};
-ghost use Rattle.h1_decode.specs.SimpleHead.{HasFieldValue, IsSimpleLine, is_special, line_header};
+ghost use Rattle.h1_decode.specs.Framing.{TellsLines};
+ghost use Rattle.h1_model.specs.LengthTable.{body_kind};
+ghost use Rattle.h1_decode.specs.HeadItem.{kind_of};
 ghost use Rattle.h1_decode.specs.HeadMap.{header_map};
+ghost use Rattle.h1_decode.specs.Lines.{HasName, HasValue, line_header, RefusesLinesOf};
+ghost use Rattle.h1_decode.specs.Refusal.{IsHeaderUnlessNoMemory};
 
+use crate::decoder::BodyKind;
+use crate::framing::Framing;
 use bytes::Bytes;
 use http_header::HeaderNameError;
 use http_types::{HeaderMap, HeaderName, HeaderValue, ParseError};
 use httparse::spans::{HeaderSpan, Span};
 use std::alloc::Global;
 
-/// The headers that the spans cover, in line order, where the values are known to be such.
-pub(crate) fn read_headers(
+/// Puts the headers that the spans cover into an empty map, in line order. The lines say where the
+/// body of a request of this version and method ends (RFC 7230, section 3.3.3), and what is kept of
+/// them.
+pub(crate) fn read_lines(
     alloc: Global,
     piece: &Bytes,
     fields: &[HeaderSpan],
-) -> Result<HeaderMap, ParseError>
+    version: u8,
+    method: &str,
+    headers: &mut HeaderMap,
+) -> Result<(Framing, BodyKind), ParseError>
     requires within { All (IsHeaderWithin (length piece.now)) fields.now }
-    requires values { All HasFieldValue (map (header_bytes piece.now) fields.now) }
-    ensures simple { IfOk result (λ _. All IsSimpleLine (map (header_bytes piece.now) fields.now)) }
-    ensures headers { IfOk result (λ headers. headers
+    requires values { All HasValue (map (header_bytes piece.now) fields.now) }
+    requires empty { headers.old ≡ [] }
+    ensures names { OnOk result (All HasName (map (header_bytes piece.now) fields.now)) }
+    ensures headers { OnOk result (headers.new
         ≡ header_map (map line_header (map (header_bytes piece.now) fields.now))) }
-    ensures refused { IfErr result (λ e. UnlessNoMemory e
-        (¬ (All IsSimpleLine (map (header_bytes piece.now) fields.now)))) }
+    ensures framing { IfOk result (λ read. TellsLines read.0 (map line_header (map (header_bytes piece.now) fields.now))) }
+    ensures body { IfOk result (λ read. body_kind version method.now (map line_header (map (header_bytes piece.now) fields.now))
+        ≡ Some (kind_of read.1)) }
+    ensures refused { IfErr result (λ e. IsHeaderUnlessNoMemory e
+        (RefusesLinesOf version method.now (map (header_bytes piece.now) fields.now))) }
 {
-    let mut headers = HeaderMap::new(alloc);
+    let framing = read_headers(alloc, piece, fields, headers)?;
+    match framing.body_kind(version, method) {
+        Some(body) => Ok((framing, body)),
+        None => Err(ParseError::Header),
+    }
+}
+
+/// Puts the headers that the spans cover into an empty map, in line order, and says what the lines
+/// say together. The values are known to be such.
+fn read_headers(
+    alloc: Global,
+    piece: &Bytes,
+    fields: &[HeaderSpan],
+    headers: &mut HeaderMap,
+) -> Result<Framing, ParseError>
+    requires within { All (IsHeaderWithin (length piece.now)) fields.now }
+    requires values { All HasValue (map (header_bytes piece.now) fields.now) }
+    requires empty { headers.old ≡ [] }
+    ensures names { OnOk result (All HasName (map (header_bytes piece.now) fields.now)) }
+    ensures headers { OnOk result (headers.new
+        ≡ header_map (map line_header (map (header_bytes piece.now) fields.now))) }
+    ensures framing { IfOk result (λ framing. TellsLines framing (map line_header (map (header_bytes piece.now) fields.now))) }
+    ensures refused { IfErr result (λ e. IsHeaderUnlessNoMemory e
+        (¬ (All HasName (map (header_bytes piece.now) fields.now)))) }
+{
+    headers
+        .reserve(fields.len())
+        .map_err(|_| ParseError::NoMemory)?;
+    let mut framing = Framing::new();
     for field in fields {
-        let (name, value) = read_line(alloc, piece, *field)?;
+        let name = read_name(alloc, field.name.of(piece.as_slice()))?;
+        let value = read_value(piece, field.value)?;
+        framing.note(name.as_str(), value.as_bytes());
         headers
             .append(name, value)
             .map_err(|_| ParseError::NoMemory)?;
     }
-    Ok(headers)
+    Ok(framing)
 }
 
-/// The name and the value that the spans cover, where the value is known to be one.
-fn read_line(
-    alloc: Global,
-    piece: &Bytes,
-    field: HeaderSpan,
-) -> Result<(HeaderName, HeaderValue), ParseError>
-    requires within { IsHeaderWithin (length piece.now) field }
-    requires value { HasFieldValue (header_bytes piece.now field) }
-    ensures simple { IfOk result (λ _. IsSimpleLine (header_bytes piece.now field)) }
-    ensures name { IfOk result (λ line. line.0 ≡ lowercase (span_bytes piece.now field.name)) }
-    ensures value { IfOk result (λ line. line.1 ≡ plain_value (span_bytes piece.now field.value)) }
-    ensures refused { IfErr result (λ e. UnlessNoMemory e (¬ (IsSimpleLine (header_bytes piece.now field)))) }
-{
-    let name = read_name(alloc, field.name.of(piece.as_slice()))?;
-    let value = read_value(piece, field.value)?;
-    Ok((name, value))
-}
-
-/// The name of a line that is not on the body or the connection.
+/// The name of a line.
 fn read_name(alloc: Global, src: &[u8]) -> Result<HeaderName, ParseError>
     ensures name { IfOk result (λ name. name ≡ lowercase src.now) }
-    ensures valid { IfOk result (λ _. IsFieldName src.now) }
-    ensures plain { IfOk result (λ _. is_special (lowercase src.now) ≡ false) }
-    ensures refused { IfErr result (λ e. UnlessNoMemory e
-        (IsFieldName src.now → ¬ (is_special (lowercase src.now) ≡ false))) }
+    ensures valid { OnOk result (IsFieldName src.now) }
+    ensures refused { IfErr result (λ e. IsHeaderUnlessNoMemory e (¬ (IsFieldName src.now))) }
 {
-    let name = match HeaderName::from_bytes(alloc, src) {
-        Ok(name) => name,
-        Err(HeaderNameError::Invalid) => return Err(ParseError::Header),
-        Err(HeaderNameError::OutOfMemory) => return Err(ParseError::NoMemory),
-    };
-    if is_special(name.as_str()) {
-        return Err(ParseError::NotYet);
+    match HeaderName::from_bytes(alloc, src) {
+        Ok(name) => Ok(name),
+        Err(HeaderNameError::Invalid) => Err(ParseError::Header),
+        Err(HeaderNameError::OutOfMemory) => Err(ParseError::NoMemory),
     }
-    Ok(name)
-}
-
-/// Whether a line with this name, in lower case, is on the body or the connection.
-#[tactic(auto, unfolding(crate::specs::SimpleHead::is_special))]
-fn is_special(name: &str) -> bool
-    ensures { result ≡ is_special name.now }
-{
-    matches!(
-        name,
-        "content-length" | "transfer-encoding" | "connection" | "upgrade" | "expect"
-    )
 }
 
 /// The value that the span covers, which shares the memory of the piece and is not checked again.

@@ -70,28 +70,6 @@ fn simple_heads_are_read(rt: HostRuntime) -> Result<(), Fail> {
     Ok(())
 }
 
-// Whether the head is one of those that are not read yet.
-fn is_not_read(alloc: Global, text: &'static [u8]) -> bool {
-    match read(alloc, text) {
-        Ok(_) => false,
-        Err(error) => error == ParseError::NotYet,
-    }
-}
-
-#[test]
-fn other_heads_are_not_read_yet(rt: HostRuntime) {
-    let rows: [&'static [u8]; 5] = [
-        b"BAD\r\n\r\n",
-        b"GET / HTTP/1.0\r\n\r\n",
-        b"POST / HTTP/1.1\r\nContent-Length: 0\r\n\r\n",
-        b"GET / HTTP/1.1\r\nHost : a\r\n\r\n",
-        b"GET / HTTP/1.1\r\n\r\nbody",
-    ];
-    for text in rows {
-        assert!(rt; is_not_read(rt.alloc(), text), "of {text:?}");
-    }
-}
-
 // A head with so many header lines, each with a name of so many bytes.
 fn head_of(alloc: Global, count: usize, name: usize) -> Result<Vec<u8>, AllocError> {
     let mut text = b"GET / HTTP/1.1\n".to_vec(alloc)?;
@@ -105,22 +83,26 @@ fn head_of(alloc: Global, count: usize, name: usize) -> Result<Vec<u8>, AllocErr
     Ok(text)
 }
 
-// Whether such a head is read.
-fn reads_lines(alloc: Global, count: usize, name: usize) -> Result<bool, AllocError> {
+// Which error such a head is refused by, if it is.
+fn refused_lines(
+    alloc: Global,
+    count: usize,
+    name: usize,
+) -> Result<Option<ParseError>, AllocError> {
     let piece = Bytes::from_vec(head_of(alloc, count, name)?)?;
-    Ok(request_head(alloc, piece).is_ok())
+    Ok(request_head(alloc, piece).err())
 }
 
 #[test]
 fn a_head_has_96_lines_and_names_of_65535_bytes_at_most(rt: HostRuntime) -> Result<(), Fail> {
     for (count, name, want) in [
-        (96usize, 1usize, true),
-        (97, 1, false),
-        (1, 65_535, true),
-        (1, 65_536, false),
+        (96usize, 1usize, None),
+        (97, 1, Some(ParseError::TooLarge)),
+        (1, 65_535, None),
+        (1, 65_536, Some(ParseError::Header)),
     ] {
         assert_eq!(rt;
-            reads_lines(rt.alloc(), count, name)?,
+            refused_lines(rt.alloc(), count, name)?,
             want,
             "of {count} and {name}"
         );

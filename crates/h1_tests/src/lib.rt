@@ -8,6 +8,8 @@
 #[cfg(test)]
 mod connection;
 #[cfg(test)]
+mod head_bodies;
+#[cfg(test)]
 mod heads;
 #[cfg(test)]
 mod replay;

@@ -1,17 +1,33 @@
-use Rattle.h1_decode.proofs.ReadingLemmas.{values_whole}
-use Rattle.h1_decode.proofs.SaysHeadLemmas.{says_whole, refuses_whole}
+use Rattle.std.proofs.Common.{subst}
+use Rattle.h1_decode.proofs.ReadingLemmas.{values_whole, says_whole, causes_whole, faults, refuses_text, reads_fault}
+use Rattle.h1_decode.specs.WholeHead.{RefusesText}
 use Rattle.h1_decode.proofs.decoder.read_head.Goals as goal
 
 pub read_parts-requires-clause-values : goal.read_parts-requires-clause-values
 read_parts-requires-clause-values c =
-    values_whole c.args.piece.now c.as_slice.result.now c.parse_whole.new.fields c.in-Some.spans c.as_slice.ensures c.in-Some.ensures.found
+    values_whole c.args.piece.now c.as_slice.result.now c.parse_whole.new.fields c.in-Ok.spans c.as_slice.ensures c.in-Ok.ensures.found
 
-pub returns-in-Some-clause-head : goal.returns-in-Some-clause-head
-returns-in-Some-clause-head c =
-    says_whole c.args.piece.now c.as_slice.result.now c.parse_whole.new.fields c.in-Some.spans c.read_parts.result
-    c.as_slice.ensures c.in-Some.ensures.found c.read_parts.ensures.simple c.read_parts.ensures.says
+pub returns-in-Ok-clause-head : goal.returns-in-Ok-clause-head
+returns-in-Ok-clause-head c =
+    says_whole c.args.piece.now c.as_slice.result.now c.parse_whole.new.fields c.in-Ok.spans c.read_parts.result
+    c.as_slice.ensures c.in-Ok.ensures.found c.read_parts.ensures.parts c.read_parts.ensures.says
 
-pub returns-in-Some-clause-refused : goal.returns-in-Some-clause-refused
-returns-in-Some-clause-refused c =
-    refuses_whole c.args.piece.now c.as_slice.result.now c.parse_whole.new.fields c.in-Some.spans c.read_parts.result
-    c.as_slice.ensures c.in-Some.ensures.found c.read_parts.ensures.refused
+pub returns-in-Ok-clause-cause : goal.returns-in-Ok-clause-cause
+returns-in-Ok-clause-cause c =
+    causes_whole c.args.piece.now c.as_slice.result.now c.parse_whole.new.fields c.in-Ok.spans c.read_parts.result
+    c.as_slice.ensures c.in-Ok.ensures.found c.read_parts.ensures.refused
+
+pub returns-in-Ok-clause-fault : goal.returns-in-Ok-clause-fault
+returns-in-Ok-clause-fault c =
+    faults c.args.piece.now c.read_parts.result
+    (causes_whole c.args.piece.now c.as_slice.result.now c.parse_whole.new.fields c.in-Ok.spans c.read_parts.result
+    c.as_slice.ensures c.in-Ok.ensures.found c.read_parts.ensures.refused)
+
+pub returns-in-Err-clause-cause : goal.returns-in-Err-clause-cause
+returns-in-Err-clause-cause c =
+    λ ne. refuses_text c.args.piece.now c.in-Err.error (subst (RefusesText c.in-Err.error) c.as_slice.ensures c.in-Err.ensures.refused)
+
+pub returns-in-Err-clause-fault : goal.returns-in-Err-clause-fault
+returns-in-Err-clause-fault c =
+    λ ne. reads_fault c.args.piece.now c.in-Err.error
+    (refuses_text c.args.piece.now c.in-Err.error (subst (RefusesText c.in-Err.error) c.as_slice.ensures c.in-Err.ensures.refused))

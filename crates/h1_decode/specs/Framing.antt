@@ -1,0 +1,81 @@
+-- What is kept of a head's lines while they are read, against the lines themselves.
+use Rattle.std.specs.Prelude.{◌≡◌, ℕ, Bool, ◌&&◌, ◌==◌, List, [], ◌∷◌, codes, bytes_eq, Option, Some, None, option_map, is_none, if◌then◌else◌}
+use Rattle.httparse.specs.Grammar.{trim_ows}
+use Rattle.http_types.specs.declared.message.ConnectionType.{ConnectionType}
+use Rattle.http_types.specs.declared.message.Flags.{Flags}
+use Rattle.http_types.specs.Flags.{no_flags, with_type}
+use Rattle.h1_decode.specs.HeadItem.{type_of}
+use Rattle.h1_decode.specs.declared.framing.Framing.{Framing}
+use Rattle.h1_decode.specs.declared.framing.Lengths.{Lengths}
+use Rattle.h1_decode.specs.declared.framing.Lengths.TheVariants as lengths
+use Rattle.h1_decode.specs.declared.framing.Codings.{Codings}
+use Rattle.h1_decode.specs.declared.framing.Codings.TheVariants as codings
+use Rattle.h1_decode.specs.declared.framing.Subject.{Subject}
+use Rattle.h1_decode.specs.declared.framing.Subject.TheVariants.{Length, Coding, Connection, Upgrade, Expect}
+use Rattle.h1_model.specs.LengthTable.{values_of, length_value, says, asks_websocket, asked_type, expects_continue, plain_body}
+use Rattle.h1_model.specs.Request.{Header, BodyKind, chunked_body, raw_body}
+
+-- what one Content-Length line states
+abbrev pub stated_by : Option ℕ → Lengths
+stated_by None = lengths.Refused
+stated_by (Some n) = lengths.Length n
+
+-- what the Content-Length lines with these values state
+abbrev pub stated : List (List ℕ) → Lengths
+stated [] = lengths.Absent
+stated (value ∷ []) = stated_by (length_value (trim_ows value))
+stated (value ∷ second ∷ more) = lengths.Refused
+
+-- what the Transfer-Encoding lines with these values say
+abbrev pub coded : List (List ℕ) → Codings
+coded [] = codings.Absent
+coded (value ∷ []) = if says value (codes "chunked") then codings.Chunked else codings.Refused
+coded (value ∷ second ∷ more) = codings.Refused
+
+-- what is kept is what the lines say
+pub record TellsLines (kept : Framing) (headers : List Header) : Type 0 where
+  pub length_lines : kept.lengths ≡ stated (values_of (codes "content-length") headers)
+  pub coding_lines : kept.codings ≡ coded (values_of (codes "transfer-encoding") headers)
+  pub connection_lines : kept.connection ≡ option_map type_of (asked_type headers)
+  pub upgrade_lines : kept.websocket ≡ asks_websocket headers
+  pub expect_lines : kept.expects ≡ expects_continue headers
+
+-- what a line with this name, in lower case, is on
+unfoldable pub subject_of : List ℕ → Option Subject
+subject_of name =
+    if bytes_eq name (codes "content-length") then Some Length
+    else if bytes_eq name (codes "transfer-encoding") then Some Coding
+    else if bytes_eq name (codes "connection") then Some Connection
+    else if bytes_eq name (codes "upgrade") then Some Upgrade
+    else if bytes_eq name (codes "expect") then Some Expect
+    else None
+
+-- the number that is stated, if there is one
+abbrev pub length_of : Lengths → Option ℕ
+length_of lengths.Absent = None
+length_of (lengths.Length n) = Some n
+length_of lengths.Refused = None
+
+-- the body of a request without chunks that asks for no WebSocket: an HTTP/1.0 POST needs a length
+abbrev pub kind_of_length : Option ℕ → ℕ → List ℕ → Option BodyKind
+kind_of_length None minor method = if (minor == 0) && bytes_eq method (codes "POST") then None else Some (plain_body method 0)
+kind_of_length (Some n) minor method = Some (plain_body method n)
+
+-- the body of a request whose lengths aren't refused, by its codings
+abbrev pub kind_of_coding : Codings → Bool → Option ℕ → ℕ → List ℕ → Option BodyKind
+kind_of_coding codings.Refused websocket length minor method = None
+kind_of_coding codings.Chunked websocket length minor method = if (minor == 1) && is_none length then Some chunked_body else None
+kind_of_coding codings.Absent websocket length minor method = if websocket then Some raw_body else kind_of_length length minor method
+
+-- the body of a request, by what is kept of its lines
+abbrev pub kind_by : Lengths → Codings → Bool → ℕ → List ℕ → Option BodyKind
+kind_by lengths.Refused codings websocket minor method = None
+kind_by lengths codings websocket minor method = kind_of_coding codings websocket (length_of lengths) minor method
+
+abbrev pub kind_of_lines : Framing → ℕ → List ℕ → Option BodyKind
+kind_of_lines kept minor method = kind_by kept.lengths kept.codings kept.websocket minor method
+
+-- the marks that ask for a type, if one is named, and for leave to send the body
+abbrev pub flags_by : Option ConnectionType → Bool → Flags
+flags_by None expects = record no_flags { expect = expects }
+flags_by (Some type) expects = record (with_type no_flags type) { expect = expects }
