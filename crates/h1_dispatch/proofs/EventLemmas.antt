@@ -1,6 +1,6 @@
 -- The machine's steps of reads, the input's end, drains, writes, and what concerns the open request alone.
 use Rattle.std.proofs.Common.{◌≡◌, ℕ, ◌-◌, ◌<◌, Bool, true, false, not, ◌&&◌, List, [], ◌∷◌, ◌++◌, length, take, drop, Option, Some, None, refl, sym, ap, ◌∙◌, subst}
-use Rattle.std.specs.Prelude.{option_map, is_some, min, if◌then◌else◌}
+use Rattle.std.specs.Prelude.{option_map, is_some, is_none, min, if◌then◌else◌}
 use Rattle.http_config.specs.Config.{Settings}
 use Rattle.h1_model.specs.Limits.{MAX_MOMENT}
 use Rattle.h1_model.specs.AnswerText.{interim_text}
@@ -181,3 +181,43 @@ no_go_on s p sound none =
     quiet_step s p p on.go_on on.done
     (subst (λ (e : Option Exchange). IsChange (setting_of s) (kept_of (record p { exchange = e })) on.go_on
     (record { outcome = on.done; kept = kept_of (record p { exchange = e }) })) (sym none) refl) sound
+
+-- ---- the same of parts that are these
+
+pub dropped_steps : (s : Settings) (p m q : Parts) → IsSound s p → m ≡ record p { exchange = dropped p.exchange } → kept_of q ≡ noting_since (setting_of s) (kept_of m)
+    → q.input ≡ m.input → Steps s p on.drop_body on.done q
+dropped_steps s p m q sound is kept input =
+    drop_steps s p q sound (kept ∙ ap (λ (r : Parts). noting_since (setting_of s) (kept_of r)) is) (input ∙ ap (λ (r : Parts). r.input) is)
+
+pub dropped_sound : (s : Settings) (p m q : Parts) → IsSound s p → m ≡ record p { exchange = dropped p.exchange } → kept_of q ≡ noting_since (setting_of s) (kept_of m)
+    → q.input ≡ m.input → IsSound s q
+dropped_sound s p m q sound is kept input =
+    drop_sound s p q sound (kept ∙ ap (λ (r : Parts). noting_since (setting_of s) (kept_of r)) is) (input ∙ ap (λ (r : Parts). r.input) is)
+
+pub none_told : (s : Settings) (p : Parts) → IsSound s p → is_none p.exchange ≡ true → Steps s p on.go_on on.done p
+none_told s p sound none = no_go_on s p sound (of_none p.exchange none)
+  where
+    of_none : (e : Option Exchange) → is_none e ≡ true → e ≡ None
+    of_none None is = refl
+    of_none (Some x) is = absurd (cc is)
+
+pub told_steps : (s : Settings) (p q : Parts) (bytes : List ℕ) → IsSound s p → is_none p.exchange ≡ false → bytes ≡ p.output ++ interim_text
+    → q ≡ record p { exchange = told_to_go_on p.exchange; output = bytes } → Steps s p on.go_on on.done q
+told_steps s p q bytes sound some bytes_are is = subst (λ (r : Parts). Steps s p on.go_on on.done r) (sym is) (of_some p.exchange refl some)
+  where
+    of_some : (e : Option Exchange) → p.exchange ≡ e → is_none e ≡ false → Steps s p on.go_on on.done (record p { exchange = told_to_go_on p.exchange; output = bytes })
+    of_some None there is = absurd (cc is)
+    of_some (Some x) there is = go_on_steps s p x bytes sound there bytes_are
+
+pub told_sound_by : (s : Settings) (p q : Parts) (bytes : List ℕ) → IsSound s p → q ≡ record p { exchange = told_to_go_on p.exchange; output = bytes } → IsSound s q
+told_sound_by s p q bytes sound is = subst (λ (r : Parts). IsSound s r) (sym is) (go_on_sound s p bytes sound)
+
+pub eof_may_by : (s : Settings) (p m : Parts) → IsSound s p → m ≡ ended_parts p → MayBeSearched m
+eof_may_by s p m sound is = subst (λ (r : Parts). MayBeSearched r) (sym is) (eof_may s p sound)
+
+pub eof_steps_by : (s : Settings) (p m n q : Parts) → m ≡ ended_parts p → kept_of n ≡ passing (kept_of m) → IsSettled (setting_of s) (kept_of n) q
+    → Steps s p on.eof on.done q
+eof_steps_by s p m n q is passed settled = eof_steps s p n q (passed ∙ ap (λ (r : Parts). passing (kept_of r)) is) settled
+
+pub eof_sound_by : (s : Settings) (p m n q : Parts) → IsSound s p → m ≡ ended_parts p → kept_of n ≡ passing (kept_of m) → IsSettled (setting_of s) (kept_of n) q → IsSound s q
+eof_sound_by s p m n q sound is passed settled = eof_sound s p n q sound (passed ∙ ap (λ (r : Parts). passing (kept_of r)) is) settled

@@ -1,3 +1,14 @@
 pub mod PassingLemmas
 pub mod StepLemmas
 pub mod EventLemmas
+pub mod UpgradeLemmas
+pub mod TickLemmas
+pub mod AnswerLemmas
+pub mod PullLemmas
+pub mod HeadLemmas
+pub mod ResultLemmas
+pub mod GoesOnLemmas
+pub mod AllowedLemmas
+pub mod RunLemmas
+pub mod InputLemmas
+pub mod ClosingLemmas

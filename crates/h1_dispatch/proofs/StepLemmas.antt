@@ -143,7 +143,7 @@ passed_reply : (p : Parts) (x : Exchange) (r : Reply)
     ≡ passing (kept_of (record p { exchange = Some (record x { reply = r }) }))
 unfolding passing
 passed_reply p x Unanswered = refl
-passed_reply p x (Sending shape connection missing) = refl
+passed_reply p x (Sending s) = refl
 passed_reply p x (Answered connection) = refl
 
 pub passed_some : (p : Parts) (x : Exchange)
@@ -165,3 +165,17 @@ passed_may p m same piece may = λ busy. piece ∙ may (still (is_free (kept_of 
     still : (free : Bool) → is_free (kept_of p) ≡ free → is_free (kept_of m) ≡ false → is_free (kept_of p) ≡ false
     still false is busy = is
     still true is busy = absurd (cc (sym busy ∙ ap (λ (k : Kept). is_free k) same ∙ ap (λ (k : Kept). is_free k) (passing_free (kept_of p) is) ∙ is))
+
+-- the body of an exchange that is there
+pub pass_some : (p : Parts) (x y : Exchange) (after : Incoming) → p.exchange ≡ Some x
+    → y ≡ record x { rest = (passed_by p.has_ended x p.input.unread).rest }
+    → after ≡ record p.input { unread = (passed_by p.has_ended x p.input.unread).unread }
+    → kept_of (record p { exchange = Some y; input = after }) ≡ passing (kept_of p)
+pass_some p x y after there y_is after_is =
+    (λ i. kept_of (record p { exchange = Some (y_is i); input = after_is i })) ∙ passed_some p x
+    ∙ ap (λ (e : Option Exchange). passing (kept_of (record p { exchange = e }))) (sym there)
+
+pub pass_none : (p : Parts) → p.exchange ≡ None → kept_of p ≡ passing (kept_of p)
+pass_none p none =
+    ap (λ (e : Option Exchange). kept_of (record p { exchange = e })) none ∙ passed_none p
+    ∙ ap (λ (e : Option Exchange). passing (kept_of (record p { exchange = e }))) (sym none)

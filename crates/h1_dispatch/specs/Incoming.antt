@@ -1,5 +1,5 @@
 -- What a connection holds of its input: the bytes that were taken and not passed, and what was found of a head.
-use Rattle.std.specs.Prelude.{◌≡◌, ℕ, Bool, true, false, ◌⊎◌, List, [], ◌++◌, length, Option, Some, None}
+use Rattle.std.specs.Prelude.{◌≡◌, ℕ, Bool, true, false, ◌⊎◌, List, [], ◌++◌, length, drop, slice_range, IsTrue, Option, Some, None}
 use Rattle.h1_model.specs.HeadPiece.{IsHeadPiece, HasNoHeadPiece}
 use Rattle.h1_decode.specs.declared.scan.HeadScan.{HeadScan}
 use Rattle.h1_decode.specs.declared.scan.HeadScan.TheVariants.{Open, Piece}
@@ -28,6 +28,28 @@ IsFoundIn bytes (Some piece) = AnswersScan bytes piece
 
 abbrev pub IsFound : Incoming → Type 0
 IsFound i = IsFoundIn i.unread i.piece
+
+-- a whole head is there
+abbrev pub IsWhole : Incoming → Type 0
+IsWhole i = IsTrue (is_coming_in i.piece)
+
+-- the head that was found, where one was
+abbrev pub IsHeadIn : Incoming → Option HeadScan → Option (List ℕ) → Type 0
+IsHeadIn i (Some (Piece start end)) head = IsHeadPiece i.unread start end × (head ≡ Some (slice_range i.unread start end))
+IsHeadIn i (Some Open) head = head ≡ None
+IsHeadIn i None head = head ≡ None
+
+abbrev pub IsHeadOf : Incoming → Option (List ℕ) → Type 0
+IsHeadOf i head = IsHeadIn i i.piece head
+
+-- the head that was found is passed, and none is searched for
+abbrev pub IsPassedIn : Incoming → Option HeadScan → Incoming → Type 0
+IsPassedIn i (Some (Piece start end)) after = after ≡ record { unread = drop end i.unread; piece = None }
+IsPassedIn i (Some Open) after = ⊥
+IsPassedIn i None after = ⊥
+
+abbrev pub IsPassedHead : Incoming → Incoming → Type 0
+IsPassedHead i after = IsPassedIn i i.piece after
 
 -- ---- the fields
 

@@ -1,3 +1,9 @@
 pub mod Meaning
 pub mod Incoming
 pub mod Parts
+pub mod Ticks
+pub mod Pulls
+pub mod Upgrade
+pub mod Heads
+pub mod State
+pub mod Run

@@ -1,9 +1,11 @@
 -- What a connection's fields mean: what the machine keeps.
 use Rattle.std.specs.Prelude.{◌≡◌, ℕ, ◌<◌, Bool, true, false, ◌&&◌, List, [], Option, Some, None, option_map, is_some, if◌then◌else◌}
+use Rattle.http_types.specs.declared.message.ConnectionType.{ConnectionType}
 use Rattle.http_config.specs.Config.{Settings}
 use Rattle.h1_model.specs.Limits.{MAX_MOMENT}
 use Rattle.h1_model.specs.Setting.{Setting}
 use Rattle.h1_model.specs.Event as on
+use Rattle.h1_model.specs.Answer.{Asked}
 use Rattle.h1_codec.specs.Meaning.{model_type, model_shape}
 use Rattle.h1_machine.specs.Kept as machine
 use Rattle.h1_machine.specs.Kept.{Kept, is_free, is_nothing, is_answered, now, rest_in, unanswered, sending, answered}
@@ -12,17 +14,20 @@ use Rattle.h1_machine.specs.Body.{Passed, pass_rest}
 use Rattle.h1_machine.specs.Change.{IsComing, noting_since, IsStep}
 use Rattle.h1_dispatch.specs.Incoming.{Incoming, is_coming_in, IsFound}
 use Rattle.h1_dispatch.specs.Meaning.{setting_of, end_of}
+use Rattle.h1_dispatch.specs.declared.event.End.{End}
+use Rattle.h1_dispatch.specs.declared.event.End.TheVariants.{HalfClosed, InputEnded}
 use Rattle.h1_dispatch.specs.declared.connection.clock.Clock.{Clock}
 use Rattle.h1_dispatch.specs.declared.connection.exchange.Exchange.{Exchange}
 use Rattle.h1_dispatch.specs.declared.connection.exchange.Reply.{Reply}
-use Rattle.h1_dispatch.specs.declared.connection.exchange.Reply.TheVariants.{Unanswered, Sending, Answered}
+use Rattle.h1_dispatch.specs.declared.connection.exchange.Reply.TheVariants.{Unanswered, Sending as GoesOut, Answered}
+use Rattle.h1_dispatch.specs.declared.connection.exchange.Sending.{Sending}
 use Rattle.h1_dispatch.specs.declared.connection.parts.Parts.{Parts}
 
 -- ---- the last request
 
 abbrev pub reply_of : Reply → machine.Reply
 reply_of Unanswered = unanswered
-reply_of (Sending s) = sending (model_shape s.shape) (model_type s.connection) s.missing
+reply_of (GoesOut s) = sending (model_shape s.shape) (model_type s.connection) s.missing
 reply_of (Answered connection) = answered (model_type connection)
 
 -- why an upgrade of the request would be refused, and the answer to its key, aren't kept yet
@@ -41,6 +46,11 @@ exchange_of x =
       was_told_to_go_on = x.was_told_to_go_on;
       body_is_done = x.body_is_done;
     }
+
+-- the body of the answer that is going out
+abbrev pub sending_by : Reply → Option Sending
+sending_by (GoesOut s) = Some s
+sending_by reply = None
 
 -- nothing of it is left to do
 abbrev pub is_done : Exchange → Bool
@@ -64,6 +74,19 @@ abbrev pub told_to_go_on : Option Exchange → Option Exchange
 told_to_go_on None = None
 told_to_go_on (Some x) = Some (record x { was_told_to_go_on = true })
 
+-- what an answer needs of it, the body of its answer that is going out, and a further state of its answer
+abbrev pub asked_in : Option Exchange → Option Asked
+asked_in None = None
+asked_in (Some x) = Some x.request.asked
+
+abbrev pub sending_in : Option Exchange → Option Sending
+sending_in None = None
+sending_in (Some x) = sending_by x.reply
+
+abbrev pub replied : Reply → Option Exchange → Option Exchange
+replied reply None = None
+replied reply (Some x) = Some (record x { reply = reply })
+
 -- ---- all of them
 
 abbrev pub clock_of : Clock → machine.Clock
@@ -84,6 +107,15 @@ kept_of p =
       failed = option_map end_of p.failed;
       closing_since = p.closing_since;
     }
+
+-- the answer is complete
+abbrev pub completed : ConnectionType → Parts → Parts
+completed connection p = record p { exchange = replied (Answered connection) p.exchange; clock = record p.clock { completed = p.clock.last } }
+
+-- why it closes where the input has ended, by whether half-closed connections are kept, a request is open, and a head
+-- is coming
+abbrev pub ended_end : Bool → Bool → Bool → Option End
+ended_end half opened coming = if half then (if opened then None else (if coming then None else Some InputEnded)) else Some HalfClosed
 
 -- ---- what holds of them
 

@@ -6,3 +6,4 @@ pub mod Readers
 pub mod Passing
 pub mod Rests
 pub mod Fitting
+pub mod Kinds

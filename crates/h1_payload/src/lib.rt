@@ -14,4 +14,4 @@ mod trailers;
 
 pub use kind::BodyKind;
 pub use pulled::{BodyFault, Pulled};
-pub use rest::Rest;
+pub use rest::{Rest, RestKind};

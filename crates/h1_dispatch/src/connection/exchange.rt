@@ -1,15 +1,15 @@
 // The last request that was handed out, without its head, and what happened since.
-ghost use Rattle.std.specs.Prelude.{◌≡◌, false, not, ◌||◌, None, option_map};
+ghost use Rattle.std.specs.Prelude.{◌≡◌, false, not, None, option_map};
 ghost use Rattle.h1_machine.specs.Kept.{is_frames, is_answered, is_unanswered, is_sending_body};
-ghost use Rattle.h1_machine.specs.Local.{answered_end_of};
+ghost use Rattle.h1_machine.specs.Local.{answered_end_of, rest_end};
 ghost use Rattle.h1_dispatch.specs.Meaning.{end_of};
-ghost use Rattle.h1_dispatch.specs.Parts.{reply_of, exchange_of, is_done, passed_by};
+ghost use Rattle.h1_dispatch.specs.Parts.{reply_of, exchange_of, is_done, passed_by, sending_by};
 
 use crate::End;
 use crate::connection::input::Input;
 use crate::connection::request::Request;
-use crate::stand_in::Rest;
 use h1_codec::Shape;
+use h1_payload::{Rest, RestKind};
 use http_types::ConnectionType;
 
 /// The body of an answer that is going out.
@@ -81,10 +81,11 @@ impl Exchange {
 
     /// Whether the answer isn't complete.
     pub fn is_open(&self) -> bool
-        ensures { result ≡ (is_frames self.now.rest || not (is_answered (reply_of self.now.reply))) }
+        ensures value { result ≡ not (is_answered (reply_of self.now.reply)) }
+        ensures plain { is_frames self.now.rest ≡ false }
     {
-        // Called for its clause alone, that a request's body is never read as frames.
-        let _ = self.rest.is_nothing();
+        // Called for its clause alone: a request's body is never read as frames.
+        let _kind = self.rest.kind();
         !self.reply.is_answered()
     }
 
@@ -105,9 +106,33 @@ impl Exchange {
         ensures { option_map end_of result ≡ answered_end_of (exchange_of self.now) (reply_of self.now.reply) }
     {
         match self.reply {
-            Reply::Answered(ConnectionType::KeepAlive) => self.rest.end(self.was_dropped),
+            Reply::Answered(ConnectionType::KeepAlive) => unread_end(&self.rest, self.was_dropped),
             Reply::Answered(_) => Some(End::Asked),
             _ => None,
         }
+    }
+
+    /// The body of the answer that is going out.
+    pub fn sending(&self) -> Option<Sending>
+        ensures { result ≡ sending_by self.now.reply }
+    {
+        match self.reply {
+            Reply::Sending(sending) => Some(sending),
+            _ => None,
+        }
+    }
+}
+
+// Why a body that isn't read to its end closes the connection. One in chunks that was dropped doesn't.
+fn unread_end(rest: &Rest, was_dropped: bool) -> Option<End>
+    ensures { option_map end_of result ≡ rest_end was_dropped rest.now }
+{
+    match rest.kind() {
+        RestKind::Nothing => None,
+        RestKind::Raw => Some(End::UnreadBody),
+        RestKind::Fixed => Some(End::UnreadBody),
+        RestKind::Chunks if was_dropped => None,
+        RestKind::Chunks => Some(End::UnreadBody),
+        RestKind::Broken => Some(End::BrokenBody),
     }
 }

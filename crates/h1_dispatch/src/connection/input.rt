@@ -1,12 +1,15 @@
 // What a connection holds of its input: the bytes that were read and not passed, and the search for a head among them.
-ghost use Rattle.std.specs.Prelude.{◌≡◌, ◌≤◌, ◌-◌, ◌++◌, ◌==◌, ℕ, [], length, take, drop, min, slice_range, true, is_some, IfOk, OnOk, OnErr};
+ghost use Rattle.std.specs.Prelude.{◌≡◌, ◌≤◌, ◌-◌, ◌++◌, ◌⊎◌, [], length, take, drop, min, true, false, is_some, IfOk, IsOk, OnOk, OnErr};
 ghost use Rattle.h1_machine.specs.Kept.{rest_in};
 ghost use Rattle.h1_machine.specs.Body.{pass_rest};
-ghost use Rattle.h1_dispatch.specs.Incoming.{is_coming_in, IsFound, CanGoOn, GoesOnIn};
+ghost use Rattle.h1_machine.specs.Pull.{IsPull};
+ghost use Rattle.h1_machine.specs.Pull as pulls;
+ghost use Rattle.h1_payload.specs.Rests.{IsPulled, IsLight};
+ghost use Rattle.h1_dispatch.specs.Incoming.{is_coming_in, IsFound, IsWhole, IsHeadOf, IsPassedHead, CanGoOn, GoesOnIn};
 
-use crate::stand_in::Rest;
 use bytes::{Bytes, BytesMut};
 use h1_decode::{HeadScan, HeadScanner};
+use h1_payload::{Pulled, Rest};
 use http_types::NoMemory;
 use std::alloc::Global;
 use std::marker::Model;
@@ -103,6 +106,57 @@ impl Input {
         }
     }
 
+    /// The head that was found, if one was. It shares the memory of its bytes, which stay.
+    pub fn head(&mut self) -> Result<Option<Bytes>, NoMemory>
+        ensures same { self.new ≡ self.old }
+        ensures head { IfOk result (λ head. IsHeadOf self.old head) }
+        ensures no_memory_needed { is_coming_in self.old.piece ≡ false → IsOk result }
+    {
+        let Some(search) = self.search else {
+            return Ok(None);
+        };
+        let HeadScan::Piece(start, end) = search.piece else {
+            return Ok(None);
+        };
+        cut(&mut self.front, &mut self.bytes, end)?;
+        let head = self.front.slice(start..end)?;
+        Ok(Some(head))
+    }
+
+    /// Passes the head that was found. No other is searched for.
+    pub fn pass_head(&mut self)
+        requires { IsWhole self.old }
+        ensures { IsPassedHead self.old self.new }
+    {
+        let Some(search) = self.search else {
+            return;
+        };
+        let HeadScan::Piece(_, end) = search.piece else {
+            return;
+        };
+        self.search = None;
+        if self.front.is_empty() {
+            self.bytes.advance(end);
+        }
+        self.front = Bytes::new();
+        if self.bytes.is_empty() {
+            self.bytes.clear();
+        }
+    }
+
+    /// Takes what comes next of a body.
+    pub fn pull(&mut self, rest: &mut Rest, has_ended: bool) -> Result<Pulled, NoMemory>
+        requires { self.old.piece ≡ None }
+        ensures pulled { IfOk result (λ answer. (p : pulls.Pulled) → IsPull has_ended rest.old self.old.unread p
+            → IsPulled p answer rest.new self.new.unread) }
+        ensures piece { self.new.piece ≡ None }
+        ensures no_memory_needed { (p : pulls.Pulled) → IsPull has_ended rest.old self.old.unread p → IsLight rest.old p.outcome p.rest → IsOk result }
+        ensures err { OnErr result ((self.new ≡ self.old) × (rest.new ≡ rest.old)) }
+    {
+        let _ = &self.search;
+        rest.pull(&mut self.bytes, has_ended)
+    }
+
     /// Passes over what is left of a body.
     pub fn pass(&mut self, rest: &mut Rest, has_ended: bool)
         requires { self.old.piece ≡ None }
@@ -111,9 +165,6 @@ impl Input {
     {
         let _ = &self.search;
         rest.pass(&mut self.bytes, has_ended);
-        if self.bytes.is_empty() {
-            self.bytes.clear();
-        }
     }
 
     /// With the input a raw body ends of which no byte is left.
@@ -124,6 +175,20 @@ impl Input {
             rest.end_input(&self.bytes);
         }
     }
+}
+
+// Cuts the first bytes off up to the head's end, where that isn't done yet. They stay in their memory.
+fn cut(front: &mut Bytes, bytes: &mut BytesMut, end: usize) -> Result<(), NoMemory>
+    requires fits { end ≤ length (front.old ++ bytes.old.items) }
+    requires whole { (front.old ≡ []) ⊎ (length front.old ≡ end) }
+    ensures front { OnOk result (front.new ≡ take end (front.old ++ bytes.old.items)) }
+    ensures all { front.new ++ bytes.new.items ≡ front.old ++ bytes.old.items }
+    ensures err { OnErr result ((front.new ≡ front.old) × (bytes.new.items ≡ bytes.old.items)) }
+{
+    if front.is_empty() {
+        *front = bytes.freeze_to(end)?;
+    }
+    Ok(())
 }
 
 // The search behind more bytes. A head that was found stays the next.

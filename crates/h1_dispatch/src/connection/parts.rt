@@ -1,10 +1,11 @@
 // What a connection keeps between two events, part by part.
-ghost use Rattle.std.specs.Prelude.{◌≡◌, true, false, option_map, is_some};
-ghost use Rattle.h1_machine.specs.Kept.{is_free, is_open};
+ghost use Rattle.std.specs.Prelude.{◌≡◌, false};
+ghost use Rattle.http_config.specs.Config.{Settings};
+ghost use Rattle.h1_machine.specs.Kept.{fresh, is_free, is_open, is_upgraded};
 ghost use Rattle.h1_machine.specs.Body.{passing};
 ghost use Rattle.h1_machine.specs.Change.{noting_since};
-ghost use Rattle.h1_dispatch.specs.Meaning.{setting_of, end_of};
-ghost use Rattle.h1_dispatch.specs.Parts.{kept_of, MayBeSearched, IsSearchedFor, IsSettled};
+ghost use Rattle.h1_dispatch.specs.Meaning.{setting_of};
+ghost use Rattle.h1_dispatch.specs.Parts.{kept_of, MayBeSearched, IsSearchedFor, IsSettled, IsSound};
 
 use crate::End;
 use crate::connection::clock::Clock;
@@ -12,6 +13,7 @@ use crate::connection::exchange::Exchange;
 use crate::connection::input::Input;
 use crate::connection::output::Output;
 use http_types::ServiceConfig;
+use std::alloc::Global;
 
 /// The parts that the machine keeps, under its names.
 #[derive(Drop)]
@@ -37,6 +39,24 @@ pub struct Parts {
 }
 
 impl Parts {
+    /// Those of a connection to which nothing has come. They take no memory.
+    pub fn new(alloc: Global) -> Parts
+        ensures kept { kept_of result ≡ fresh }
+        ensures sound { (settings : Settings) → IsSound settings result }
+    {
+        Parts {
+            input: Input::new(alloc),
+            has_ended: false,
+            is_draining: false,
+            is_over: false,
+            exchange: None,
+            output: Output::new(alloc),
+            clock: Clock::new(),
+            failed: None,
+            closing_since: None,
+        }
+    }
+
     /// Whether nothing of the last request is left to do.
     pub fn is_free(&self) -> bool
         ensures { result ≡ is_free (kept_of self.now) }
@@ -49,7 +69,8 @@ impl Parts {
 
     /// Whether a request was handed out and its answer isn't complete.
     pub fn is_open(&self) -> bool
-        ensures { result ≡ is_open (kept_of self.now) }
+        ensures value { result ≡ is_open (kept_of self.now) }
+        ensures plain { is_upgraded (kept_of self.now) ≡ false }
     {
         match &self.exchange {
             Some(exchange) => exchange.is_open(),
