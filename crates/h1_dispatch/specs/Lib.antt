@@ -1,7 +1,9 @@
-pub mod Held
 pub mod Meaning
-pub mod Served
-pub mod State
+pub mod Incoming
 pub mod Parts
-pub mod BareAnswer
+pub mod Ticks
+pub mod Pulls
+pub mod Upgrade
+pub mod Heads
+pub mod State
 pub mod Run

@@ -1,19 +1,13 @@
 -- What a connection's types mean in the model.
-use Rattle.std.specs.Prelude.{◌≡◌, ℕ, List, map, flat_map}
+use Rattle.std.specs.Prelude.{◌≡◌, List}
 use Rattle.http_config.specs.Config.{Settings}
-use Rattle.http_types.specs.ResponseHead.{ResponseParts}
-use Rattle.http_bodies.specs.declared.body.size.BodySize.{BodySize}
-use Rattle.http_bodies.specs.declared.body.size.BodySize.TheVariants.{None as NoBody, Sized, Stream}
 use Rattle.http_config.specs.declared.keep_alive.KeepAlive.{KeepAlive as Policy}
 use Rattle.http_config.specs.declared.keep_alive.KeepAlive.TheVariants.{Timeout, Os, Disabled}
-use Rattle.http_map.specs.HeaderMap.{Entry, Entries}
 use Rattle.h1_model.specs.Request as model
 use Rattle.h1_model.specs.Setting.{Setting, KeepAlive, timeout, by_system, disabled}
-use Rattle.h1_model.specs.Answer as answers
-use Rattle.h1_model.specs.Answer.{AnswerHead}
 use Rattle.h1_model.specs.End as ends
 use Rattle.h1_model.specs.Event as on
-use Rattle.h1_model.specs.Sums as sums
+use Rattle.h1_codec.specs.Meaning.{size_of, answer_of}
 use Rattle.h1_decode.specs.HeadItem.{SaysHead}
 use Rattle.h1_decode.specs.HeadMap.{header_map}
 use Rattle.h1_dispatch.specs.declared.event.End.{End}
@@ -26,13 +20,8 @@ use Rattle.h1_dispatch.specs.declared.event.Event.{Event}
 use Rattle.h1_dispatch.specs.declared.event.Event.TheVariants.{Read, Eof, Next, Pull, DropBody, Continue, Answer, Chunk, BodyEnd, BodyError, Write, Tick, Drain}
 use Rattle.h1_dispatch.specs.declared.event.Outcome.{Outcome}
 use Rattle.h1_dispatch.specs.declared.event.Outcome.TheVariants as out
-use Rattle.h1_dispatch.specs.declared.trace.Step.{Step}
 
 -- ---- the setting
-
--- how many bytes a connection holds at most
-abbrev pub HELD_BYTES : ℕ
-HELD_BYTES = 131072
 
 abbrev pub keep_alive_of : Policy → KeepAlive
 keep_alive_of (Timeout milliseconds) = timeout milliseconds
@@ -47,35 +36,7 @@ setting_of settings =
       disconnect_timeout = settings.client_disconnect_timeout;
       allows_half_closed = settings.h1_allow_half_closed;
       write_buffer = settings.h1_write_buffer_size;
-      hold_size = HELD_BYTES;
-    }
-
--- ---- answers
-
-abbrev pub size_of : BodySize → answers.BodySize
-size_of NoBody = answers.size_none
-size_of (Sized length) = answers.size_of length
-size_of Stream = answers.size_stream
-
--- the lines under a name
-abbrev pub lines_of : Entry → List model.Header
-lines_of entry = map (λ value. record { name = entry.0; value = value.bytes }) entry.1
-
--- the lines of a map, name by name
-abbrev pub headers_of : Entries → List model.Header
-headers_of entries = flat_map lines_of entries
-
-abbrev pub answer_of : ResponseParts → AnswerHead
-answer_of head =
-    record {
-      status = head.status;
-      reason = head.reason;
-      closes = head.flags.close;
-      keeps_alive = head.flags.keep_alive;
-      upgrades = head.flags.upgrade;
-      no_chunking = head.flags.no_chunking;
-      in_camel_case = head.flags.in_camel_case;
-      headers = headers_of head.headers;
+      hold_size = settings.h1_hold_size;
     }
 
 -- ---- events and outcomes
@@ -133,8 +94,3 @@ SaysOutcome (out.Gave bytes) outcome = outcome ≡ on.gave bytes
 SaysOutcome (out.Expired end) outcome = outcome ≡ on.expired (end_of end)
 SaysOutcome out.Abandoned outcome = outcome ≡ on.abandoned
 SaysOutcome out.Done outcome = outcome ≡ on.done
-
--- the step is that of the model
-pub record SaysStep (step : Step) (of_model : sums.Step) : Type 0 where
-  pub event : of_model.event ≡ event_of step.event
-  pub outcome : SaysOutcome step.outcome of_model.outcome

@@ -1,147 +1,158 @@
--- What a connection holds of the machine's parts, as long as every request is simple and every answer bare.
-use Rattle.std.specs.Prelude.{◌≡◌, ℕ, ◌<◌, ◌≤◌, Bool, true, false, not, ◌&&◌, List, [], length, if◌then◌else◌, Option, Some, None, option_map, is_some, unwrap_or, nat_lt, nat_le}
-use Rattle.http_config.specs.Config.{Settings}
+-- What a connection's fields mean: what the machine keeps.
+use Rattle.std.specs.Prelude.{◌≡◌, ℕ, ◌<◌, Bool, true, false, ◌&&◌, List, [], Option, Some, None, option_map, is_some, if◌then◌else◌}
 use Rattle.http_types.specs.declared.message.ConnectionType.{ConnectionType}
-use Rattle.http_types.specs.declared.message.ConnectionType.TheVariants.{Close, KeepAlive, Upgrade}
-use Rattle.h1_model.specs.Request as model
-use Rattle.h1_machine.specs.Kept.{no_rest, Reply, unanswered, answered, Exchange, Kept}
-use Rattle.h1_decode.specs.declared.scan.HeadScan.{HeadScan}
-use Rattle.h1_decode.specs.declared.scan.HeadScan.TheVariants.{Open, Piece}
-use Rattle.h1_decode.specs.HeadScan.{AnswersScan}
-use Rattle.h1_dispatch.specs.Meaning.{HELD_BYTES}
+use Rattle.http_config.specs.Config.{Settings}
+use Rattle.h1_model.specs.Limits.{MAX_MOMENT}
+use Rattle.h1_model.specs.Setting.{Setting}
+use Rattle.h1_model.specs.Event as on
+use Rattle.h1_model.specs.Answer.{Asked}
+use Rattle.h1_codec.specs.Meaning.{model_type, model_shape}
+use Rattle.h1_machine.specs.Kept as machine
+use Rattle.h1_machine.specs.Kept.{Kept, is_free, is_nothing, is_answered, now, rest_in, unanswered, sending, answered}
+use Rattle.h1_machine.specs.Local.{closing_by}
+use Rattle.h1_machine.specs.Body.{Passed, pass_rest}
+use Rattle.h1_machine.specs.Change.{IsComing, noting_since, IsStep}
+use Rattle.h1_dispatch.specs.Incoming.{Incoming, is_coming_in, IsFound}
+use Rattle.h1_dispatch.specs.Meaning.{setting_of, end_of}
 use Rattle.h1_dispatch.specs.declared.event.End.{End}
-use Rattle.h1_dispatch.specs.declared.event.End.TheVariants.{Asked, HalfClosed, InputEnded}
-use Rattle.h1_dispatch.specs.declared.event.Event.{Event}
-use Rattle.h1_dispatch.specs.declared.event.Event.TheVariants.{Read, Eof, Next, Answer, Write, Tick, Drain}
-use Rattle.h1_dispatch.specs.declared.request.Request.{Request}
-
--- the fields of a connection
-pub record Parts : Type 0 where
-  pub unread : List ℕ
-  pub piece : HeadScan
-  pub has_ended : Bool
-  pub is_over : Bool
-  pub request : Option Request
-  pub buffered : List ℕ
-  pub ticked : Option ℕ
-  pub completed : Option ℕ
-  pub closing_since : Option (Option ℕ)
+use Rattle.h1_dispatch.specs.declared.event.End.TheVariants.{HalfClosed, InputEnded}
+use Rattle.h1_dispatch.specs.declared.connection.clock.Clock.{Clock}
+use Rattle.h1_dispatch.specs.declared.connection.exchange.Exchange.{Exchange}
+use Rattle.h1_dispatch.specs.declared.connection.exchange.Reply.{Reply}
+use Rattle.h1_dispatch.specs.declared.connection.exchange.Reply.TheVariants.{Unanswered, Sending as GoesOut, Answered}
+use Rattle.h1_dispatch.specs.declared.connection.exchange.Sending.{Sending}
+use Rattle.h1_dispatch.specs.declared.connection.parts.Parts.{Parts}
 
 -- ---- the last request
 
-abbrev pub type_of : ConnectionType → model.ConnectionType
-type_of Close = model.close
-type_of KeepAlive = model.keep_alive
-type_of Upgrade = model.upgrade
+abbrev pub reply_of : Reply → machine.Reply
+reply_of Unanswered = unanswered
+reply_of (GoesOut s) = sending (model_shape s.shape) (model_type s.connection) s.missing
+reply_of (Answered connection) = answered (model_type connection)
 
-abbrev pub reply_of : Option ConnectionType → Reply
-reply_of None = unanswered
-reply_of (Some kind) = answered (type_of kind)
-
--- a simple request has no body, waits for nothing, and asks to keep the connection
-abbrev pub exchange_of : Request → Exchange
-exchange_of r =
+-- why an upgrade of the request would be refused, and the answer to its key, aren't kept yet
+abbrev pub exchange_of : Exchange → machine.Exchange
+exchange_of x =
     record {
-      asked = record { minor = 1; is_head = r.is_head; is_raw = false; connection = model.keep_alive };
-      has_body = false;
-      expects = false;
+      asked = x.request.asked;
+      has_body = x.request.has_body;
+      expects = x.request.expects;
       refusal = None;
       accept_key = [];
-      rest = no_rest;
-      reply = reply_of r.answered;
-      was_pulled = false;
-      was_dropped = false;
-      was_told_to_go_on = false;
-      body_is_done = false;
+      rest = x.rest;
+      reply = reply_of x.reply;
+      was_pulled = x.was_pulled;
+      was_dropped = x.was_dropped;
+      was_told_to_go_on = x.was_told_to_go_on;
+      body_is_done = x.body_is_done;
     }
 
--- no request is open
-abbrev pub is_free : Option Request → Bool
-is_free None = true
-is_free (Some r) = is_some r.answered
+-- the body of the answer that is going out
+abbrev pub sending_by : Reply → Option Sending
+sending_by (GoesOut s) = Some s
+sending_by reply = None
 
--- a head is whole
-abbrev pub is_whole : HeadScan → Bool
-is_whole Open = false
-is_whole (Piece start end) = true
+-- nothing of it is left to do
+abbrev pub is_done : Exchange → Bool
+is_done x = is_answered (reply_of x.reply) && is_nothing x.rest
 
--- ---- what is kept
+-- what is left of its body, and the bytes behind it, where the body is passed once the answer is complete
+abbrev pub passed_by : Bool → Exchange → List ℕ → Passed
+passed_by ended x bytes = if is_answered (reply_of x.reply) then pass_rest ended x.rest bytes else record { rest = x.rest; unread = bytes }
+
+-- with the input a raw body ends of which no byte is left
+abbrev pub ended_exchange : List ℕ → Option Exchange → Option Exchange
+ended_exchange bytes None = None
+ended_exchange bytes (Some x) = Some (record x { rest = rest_in true bytes x.rest })
+
+-- the rest of its body isn't wanted; its client was told to go on
+abbrev pub dropped : Option Exchange → Option Exchange
+dropped None = None
+dropped (Some x) = Some (record x { was_dropped = true })
+
+abbrev pub told_to_go_on : Option Exchange → Option Exchange
+told_to_go_on None = None
+told_to_go_on (Some x) = Some (record x { was_told_to_go_on = true })
+
+-- what an answer needs of it, the body of its answer that is going out, and a further state of its answer
+abbrev pub asked_in : Option Exchange → Option Asked
+asked_in None = None
+asked_in (Some x) = Some x.request.asked
+
+abbrev pub sending_in : Option Exchange → Option Sending
+sending_in None = None
+sending_in (Some x) = sending_by x.reply
+
+abbrev pub replied : Reply → Option Exchange → Option Exchange
+replied reply None = None
+replied reply (Some x) = Some (record x { reply = reply })
+
+-- ---- all of them
+
+abbrev pub clock_of : Clock → machine.Clock
+clock_of c = record { first = c.first; last = c.last; completed = c.completed }
 
 abbrev pub kept_of : Parts → Kept
 kept_of p =
     record {
-      unread = p.unread;
-      is_coming = is_free p.request && is_whole p.piece;
+      unread = p.input.unread;
+      is_coming = is_coming_in p.input.piece;
       has_ended = p.has_ended;
-      is_draining = false;
+      is_draining = p.is_draining;
       is_over = p.is_over;
-      exchange = option_map exchange_of p.request;
-      buffered = p.buffered;
+      exchange = option_map exchange_of p.exchange;
+      buffered = p.output;
       is_sending = false;
-      clock = record { first = p.ticked; last = p.ticked; completed = p.completed };
-      failed = None;
+      clock = clock_of p.clock;
+      failed = option_map end_of p.failed;
       closing_since = p.closing_since;
     }
 
--- ---- why the connection closes
+-- the answer is complete
+abbrev pub completed : ConnectionType → Parts → Parts
+completed connection p = record p { exchange = replied (Answered connection) p.exchange; clock = record p.clock { completed = p.clock.last } }
 
--- the answer of this type is the last
-abbrev pub is_last : Option ConnectionType → Bool
-is_last None = false
-is_last (Some KeepAlive) = false
-is_last (Some Close) = true
-is_last (Some Upgrade) = true
+-- why it closes where the input has ended, by whether half-closed connections are kept, a request is open, and a head
+-- is coming
+abbrev pub ended_end : Bool → Bool → Bool → Option End
+ended_end half opened coming = if half then (if opened then None else (if coming then None else Some InputEnded)) else Some HalfClosed
 
-abbrev pub is_last_request : Option Request → Bool
-is_last_request None = false
-is_last_request (Some r) = is_last r.answered
+-- ---- what holds of them
 
--- the input has ended: half-closed connections are not kept, or nothing more comes
-abbrev pub ended_end : Bool → Option Request → HeadScan → Option End
-ended_end half request piece =
-    if half then (if is_free request && not (is_whole piece) then Some InputEnded else None) else Some HalfClosed
+-- a body isn't searched for a head
+abbrev pub MayBeSearched : Parts → Type 0
+MayBeSearched p = is_free (kept_of p) ≡ false → p.input.piece ≡ None
 
-abbrev pub end_by : Bool → Bool → Option Request → HeadScan → Option End
-end_by half ended request piece =
-    if is_last_request request then Some Asked else (if ended then ended_end half request piece else None)
+-- since when it closes is noted, where it closes
+abbrev pub IsNoted : Setting → Kept → Type 0
+IsNoted setting k = is_some (closing_by setting k) ≡ true → is_some k.closing_since ≡ true
 
-abbrev pub end_of_parts : Settings → Parts → Option End
-end_of_parts settings p = end_by settings.h1_allow_half_closed p.has_ended p.request p.piece
+-- What holds of every connection between two events: the last tick is before the year 10000; a head is searched for
+-- where the last request is done with, and what was found is there; and since when it closes is noted.
+pub record IsSound (settings : Settings) (p : Parts) : Type 0 where
+  pub moment : now (kept_of p) < MAX_MOMENT
+  pub searched : is_some p.input.piece ≡ is_free (kept_of p)
+  pub scanned : IsFound p.input
+  pub noted : IsNoted (setting_of settings) (kept_of p)
 
--- ---- what is allowed
+-- ---- what is brought up to date behind an event
 
-abbrev pub is_moment : ℕ → ℕ → Bool
-is_moment now moment = nat_le now moment && nat_lt moment 253402300800000
+-- a head was searched for where one may come
+pub record IsSearchedFor (p q : Parts) : Type 0 where
+  pub parts : q ≡ record p { input = q.input }
+  pub unread : q.input.unread ≡ p.input.unread
+  pub searched : is_some q.input.piece ≡ is_free (kept_of p)
+  pub scanned : IsFound q.input
 
--- what may come once the connection closes, and while it doesn't
-abbrev pub closing_takes : ℕ → Event → Bool
-closing_takes now Next = true
-closing_takes now (Write limit) = true
-closing_takes now (Tick moment) = is_moment now moment
-closing_takes now event = false
+-- Of what the machine keeps behind an event, it was searched for a head where one may come, and since when the
+-- connection closes is noted.
+pub record IsSettled (setting : Setting) (k : Kept) (q : Parts) : Type 0 where
+  pub kept : kept_of q ≡ noting_since setting (record k { is_coming = is_coming_in q.input.piece })
+  pub searched : is_some q.input.piece ≡ is_free k
+  pub scanned : IsFound q.input
 
-abbrev pub running_takes : Bool → Bool → ℕ → Event → Bool
-running_takes ended free now (Read bytes) = not ended
-running_takes ended free now Eof = not ended
-running_takes ended free now Next = free
-running_takes ended free now (Answer head size) = not free
-running_takes ended free now (Write limit) = true
-running_takes ended free now (Tick moment) = is_moment now moment
-running_takes ended free now Drain = true
-running_takes ended free now event = false
+-- ---- a step
 
-abbrev pub takes : Bool → Bool → Bool → Bool → ℕ → Event → Bool
-takes over closing ended free now event =
-    not over && (if closing then closing_takes now event else running_takes ended free now event)
-
--- ---- what holds of every connection
-
--- The last tick is before the year 10000. The piece is that of the bytes, which are no more than a connection holds.
--- Since when it closes is noted where it does; and where no tick came, none is noted for anything.
-pub record AreLinked (settings : Settings) (p : Parts) : Type 0 where
-  pub moment : unwrap_or p.ticked 0 < 253402300800000
-  pub scanned : AnswersScan p.unread p.piece
-  pub limit : length p.unread ≤ HELD_BYTES
-  pub noted : is_some p.closing_since ≡ is_some (end_of_parts settings p)
-  pub completed : p.ticked ≡ None → p.completed ≡ None
-  pub since : p.ticked ≡ None → unwrap_or p.closing_since None ≡ None
+-- from these parts the event leads to those, with this outcome
+abbrev pub Steps : Settings → Parts → on.Event → on.Outcome → Parts → Type 0
+Steps settings p event outcome q = IsStep (setting_of settings) (kept_of p) event outcome (kept_of q)

@@ -1,5 +1,5 @@
 -- What a list of events gives: the one trace of a connection, in the model's terms.
-use Rattle.std.specs.Prelude.{◌≡◌, ℕ, List, [], ◌∷◌, ◌++◌, map, reverse, take, slice_get, Some, option_map, ⊤}
+use Rattle.std.specs.Prelude.{◌≡◌, ℕ, List, [], ◌∷◌, ◌++◌, map, reverse, take, slice_get, Option, Some, option_map, ⊤}
 use Rattle.http_config.specs.Config.{Settings}
 use Rattle.h1_model.specs.Parse as parsed
 use Rattle.h1_model.specs.Parse.{IsParse}
@@ -10,14 +10,18 @@ use Rattle.h1_model.specs.Handed.{HandsOutPrefix}
 use Rattle.h1_model.specs.Text.{text}
 use Rattle.h1_model.specs.Closing.{closing}
 use Rattle.h1_model.specs.Trace as traces
-use Rattle.h1_model.specs.Trace.{IsTrace, IsPastOf, IsAllowed}
-use Rattle.h1_dispatch.specs.Meaning.{setting_of, event_of, end_of, SaysStep}
-use Rattle.h1_dispatch.specs.Served.{IsNotServed}
+use Rattle.h1_model.specs.Trace.{IsTrace, IsPastOf}
+use Rattle.h1_dispatch.specs.Meaning.{setting_of, event_of, end_of, SaysOutcome}
 use Rattle.h1_dispatch.specs.declared.error.DriveError.{DriveError}
-use Rattle.h1_dispatch.specs.declared.error.DriveError.TheVariants.{Misplaced, NotYet, NoMemory}
+use Rattle.h1_dispatch.specs.declared.error.DriveError.TheVariants.{Misplaced, NoMemory}
 use Rattle.h1_dispatch.specs.declared.event.Event.{Event}
 use Rattle.h1_dispatch.specs.declared.trace.Step.{Step}
 use Rattle.h1_dispatch.specs.declared.trace.Trace.{Trace}
+
+-- the step is that of the model
+pub record SaysStep (step : Step) (of_model : sums.Step) : Type 0 where
+  pub event : of_model.event ≡ event_of step.event
+  pub outcome : SaysOutcome step.outcome of_model.outcome
 
 -- step by step, the oldest first in both
 abbrev pub SaySteps : List Step → List sums.Step → Type 0
@@ -50,17 +54,7 @@ pub record IsMisplaced (settings : Settings) (events : List Event) (index : ℕ)
   pub event_is : slice_get events index ≡ Some event
   pub refused : traces.IsMisplaced (setting_of settings) model (event_of event)
 
--- the event at the index is allowed, and isn't served yet
-pub record IsPremature (settings : Settings) (events : List Event) (index : ℕ) (trace : Trace) : Type 0 where
-  pub model : List sums.Step
-  pub driven : IsDriven settings (take index events) trace model
-  pub event : Event
-  pub event_is : slice_get events index ≡ Some event
-  pub allowed : IsAllowed (setting_of settings) model (event_of event)
-  pub not_served : IsNotServed (setting_of settings) model (event_of event)
-
 -- why a run stopped
 abbrev pub IsStop : Settings → List Event → DriveError → Type 0
 IsStop settings events (Misplaced index trace) = IsMisplaced settings events index trace
-IsStop settings events (NotYet index trace) = IsPremature settings events index trace
 IsStop settings events NoMemory = ⊤

@@ -1,16 +1,17 @@
 -- A connection as its contracts see it: its settings, and what the machine keeps.
-use Rattle.std.specs.Prelude.{◌≡◌, List, ◌∷◌, IsTrue, IsSome, ⊤, None}
+use Rattle.std.specs.Prelude.{◌≡◌, List, ◌∷◌, length, take, IsTrue, ⊤}
 use Rattle.http_config.specs.Config.{Settings}
 use Rattle.h1_model.specs.Event as on
 use Rattle.h1_model.specs.Sums as sums
 use Rattle.h1_model.specs.Trace.{IsOutcome}
 use Rattle.h1_machine.specs.Kept.{Kept, fresh}
 use Rattle.h1_machine.specs.Local.{closing_by, allowed_by}
-use Rattle.h1_machine.specs.Change.{IsStep}
 use Rattle.h1_machine.specs.StandsFor.{StandsFor}
-use Rattle.h1_dispatch.specs.Meaning.{setting_of, SaysOutcome}
-use Rattle.h1_dispatch.specs.Served.{IsNotServed}
-use Rattle.h1_dispatch.specs.declared.event.Outcome.{Outcome}
+use Rattle.h1_dispatch.specs.Meaning.{setting_of}
+use Rattle.h1_dispatch.specs.Heads.{NeedsNoMemory}
+use Rattle.h1_dispatch.specs.Pulls.{IsLightPull}
+use Rattle.h1_dispatch.specs.Ticks.{IsQuietTick}
+use Rattle.h1_dispatch.specs.Upgrade.{Upgrade, with_upgrade}
 
 pub record State : Type 0 where
   pub settings : Settings
@@ -24,29 +25,32 @@ fresh_state settings = record { settings = settings; kept = fresh }
 abbrev pub IsAllowed : State → on.Event → Type 0
 IsAllowed state event = IsTrue (allowed_by (setting_of state.settings) state.kept event)
 
--- the connection stands for the trace
+-- the connection stands for the trace, with what an upgrade would need of the last request
 abbrev pub Stands : State → List sums.Step → Type 0
-Stands state trace = StandsFor (setting_of state.settings) state.kept trace
+Stands state trace = (u : Upgrade) × StandsFor (setting_of state.settings) (with_upgrade u state.kept) trace
 
--- the outcome says the machine's, which keeps what is behind it
-abbrev pub Answers : State → on.Event → Outcome → Kept → Type 0
-Answers state event outcome after =
-    (out : on.Outcome) × SaysOutcome outcome out × IsStep (setting_of state.settings) state.kept event out after
-
--- Behind each trace that the connection stands for, the outcome says the table's, and the connection stands for the longer trace.
-abbrev pub GoesOn : State → on.Event → Outcome → State → Type 0
-GoesOn state event outcome after =
+-- Behind each trace that the connection stands for, the table's outcome is such a one, and the connection stands for
+-- the longer trace.
+abbrev pub GoesOn : State → on.Event → (on.Outcome → Type 0) → State → Type 0
+GoesOn state event Says after =
     (trace : List sums.Step) → Stands state trace
-    → (out : on.Outcome) × SaysOutcome outcome out × IsOutcome (setting_of state.settings) trace event out
+    → (out : on.Outcome) × Says out × IsOutcome (setting_of state.settings) trace event out
     × Stands after (record { event = event; outcome = out } ∷ trace)
 
--- behind each trace that the connection stands for, the event isn't served yet
-abbrev pub IsServedLater : State → on.Event → Type 0
-IsServedLater state event = (trace : List sums.Step) → Stands state trace → IsNotServed (setting_of state.settings) trace event
-
--- the event takes no memory: the input's end, a next one that hands out the connection's end, and a first tick
+-- The event takes no memory: the input's end, a drop, a drain, an answer's body that fails; a next one that closes, or
+-- finds no head and room for more bytes; a pull that tells the end or a fault, or gives nothing; a write of nothing; a
+-- tick but one that answers a head that doesn't come.
 abbrev pub TakesNoMemory : State → on.Event → Type 0
 TakesNoMemory state on.eof = ⊤
-TakesNoMemory state on.next = IsSome (closing_by (setting_of state.settings) state.kept)
-TakesNoMemory state (on.tick ms) = state.kept.clock.last ≡ None
+TakesNoMemory state on.drop_body = ⊤
+TakesNoMemory state on.body_error = ⊤
+TakesNoMemory state on.drain = ⊤
+TakesNoMemory state on.next = NeedsNoMemory (setting_of state.settings) state.kept
+TakesNoMemory state on.pull = IsLightPull state.kept
+TakesNoMemory state (on.write limit) = length (take limit state.kept.buffered) ≡ 0
+TakesNoMemory state (on.tick ms) = IsQuietTick (setting_of state.settings) state.kept ms
 TakesNoMemory state event = ⊥
+
+-- the outcome is this one
+abbrev pub Is : on.Outcome → on.Outcome → Type 0
+Is outcome out = out ≡ outcome

@@ -1,74 +1,72 @@
 //! One connection: what it keeps between two events, and its answer to each.
-ghost use Rattle.std.specs.Prelude.{◌≡◌, ◌<◌, ◌≤◌, length, option_map};
-ghost use Rattle.h1_machine.specs.Kept.{now};
+ghost use Rattle.std.specs.Prelude.{◌≡◌, ◌<◌, ◌≤◌, ◌↔◌, ℕ, List, true, false, length, take, min, option_map, unwrap_or, IsTrue, IfOk, IsOk, OnOk, OnErr};
+ghost use Rattle.h1_codec.specs.Meaning.{answer_of, size_of};
+ghost use Rattle.h1_model.specs.Closing.{closing};
+ghost use Rattle.h1_model.specs.Past.{ParsedStep};
+ghost use Rattle.h1_model.specs.Sums as sums;
+ghost use Rattle.h1_model.specs.Text.{buffered};
+ghost use Rattle.h1_model.specs.Trace as traces;
+ghost use Rattle.h1_model.specs.Event as on;
 ghost use Rattle.h1_machine.specs.Local.{closing_by, allowed_by};
-ghost use Rattle.h1_dispatch.specs.Meaning.{HELD_BYTES, setting_of, event_of, end_of};
-ghost use Rattle.h1_dispatch.specs.State.{fresh_state};
-ghost use Rattle.h1_dispatch.specs.Parts.{is_free, is_last_request, end_by, takes};
+ghost use Rattle.h1_payload.specs.Rests.{SaysPulled};
+ghost use Rattle.h1_dispatch.specs.Meaning.{setting_of, event_of, end_of};
+ghost use Rattle.h1_dispatch.specs.Heads.{SaysNext, NeedsNoMemory};
+ghost use Rattle.h1_dispatch.specs.Pulls.{IsLightPull};
+ghost use Rattle.h1_dispatch.specs.Ticks.{expiry_of, IsQuietTick};
+ghost use Rattle.h1_dispatch.specs.State.{fresh_state, IsAllowed, Stands, GoesOn, Is};
 
-use crate::buffer::Buffer;
-use crate::input::Input;
-use crate::request::Request;
+use crate::connection::clock::Clock;
+use crate::connection::input::Input;
+use crate::connection::output::Output;
+use crate::connection::parts::Parts;
 use crate::{End, Event};
-use h1_decode::HeadScan;
-use http_types::{ConnectionType, ServiceConfig};
+use bytes::Bytes;
+use h1_payload::Pulled;
+use http_bodies::BodySize;
+use http_types::{NoMemory, ResponseHead, ServiceConfig};
 use std::alloc::Global;
 use std::marker::Model;
 
-mod step;
+pub use crate::connection::heads::NextHead;
+pub use crate::connection::ticks::Expiry;
 
-// The first millisecond of the year 10000.
-const MOMENTS_END: u64 = 253_402_300_800_000;
+mod allowed;
+mod answers;
+mod bodies;
+mod clock;
+mod closing;
+mod exchange;
+mod heads;
+mod input;
+mod output;
+mod parts;
+mod questions;
+mod request;
+mod steps;
+mod ticks;
 
 /// The server's side of one HTTP/1 connection (RFC 7230), which reads nothing and writes nothing itself.
+///
+/// Each event has a call of its own, which may be made where `allowed` says so. What it answers is what the tables
+/// over all that happened say. After want of memory, the one error, all is as before.
 ///
 /// A clause sees it as its settings and what the machine keeps.
 #[derive(Drop)]
 pub struct Connection {
     alloc: Global,
     config: ServiceConfig,
-    input: Input,
-    input_ended: bool,
-    request: Option<Request>,
-    ticked: Option<u64>,
-    completed: Option<u64>,
-    closing_since: Option<Option<u64>>,
-    output: Buffer,
-    closed: bool,
+    parts: Parts,
 }
 
 impl Model for Connection {
     ghost use Rattle.h1_dispatch.specs.State.{State};
-    ghost use Rattle.h1_dispatch.specs.Parts.{kept_of, AreLinked};
+    ghost use Rattle.h1_dispatch.specs.Parts.{kept_of, IsSound};
 
     ghost Value = { State };
 
-    ghost view = { λ c. record {
-      settings = c.config;
-      kept = kept_of (record {
-        unread = c.input.bytes;
-        piece = c.input.piece;
-        has_ended = c.input_ended;
-        is_over = c.closed;
-        request = c.request;
-        buffered = c.output;
-        ticked = c.ticked;
-        completed = c.completed;
-        closing_since = c.closing_since;
-      });
-    } };
+    ghost view = { λ c. record { settings = c.config; kept = kept_of c.parts } };
 
-    ghost invariant = { λ c. AreLinked c.config (record {
-      unread = c.input.bytes;
-      piece = c.input.piece;
-      has_ended = c.input_ended;
-      is_over = c.closed;
-      request = c.request;
-      buffered = c.output;
-      ticked = c.ticked;
-      completed = c.completed;
-      closing_since = c.closing_since;
-    }) };
+    ghost invariant = { λ c. IsSound c.config c.parts };
 }
 
 impl Connection {
@@ -79,140 +77,193 @@ impl Connection {
         Connection {
             alloc,
             config,
-            input: Input::new(alloc),
-            input_ended: false,
-            request: None,
-            ticked: None,
-            completed: None,
-            closing_since: None,
-            output: Buffer::new(alloc),
-            closed: false,
+            parts: Parts::new(alloc),
         }
-    }
-
-    /// How many bytes wait to be written to the peer.
-    pub fn buffered(&self) -> usize
-        ensures { result ≡ length self.now.kept.buffered }
-    {
-        self.output.len()
-    }
-
-    // The bytes that wait to be written to the peer.
-    pub(crate) fn output(&self) -> &[u8]
-        ensures { result.now ≡ self.now.kept.buffered }
-    {
-        self.output.as_slice()
-    }
-
-    /// How many bytes of the input are held: those read and taken behind the last head that was handed out.
-    pub fn held(&self) -> usize
-        ensures value { result ≡ length self.now.kept.unread }
-        ensures limit { result ≤ HELD_BYTES }
-    {
-        self.input.len()
-    }
-
-    /// Why the connection is to end, where it is: the first reason that holds.
-    pub fn closing(&self) -> Option<End>
-        ensures { option_map end_of result ≡ closing_by (setting_of self.now.settings) self.now.kept }
-    {
-        let piece = self.input.piece();
-        end_by(self.config, self.input_ended, self.request, piece)
     }
 
     /// Whether the event may come next.
     pub fn allowed(&self, event: &Event) -> bool
-        ensures { result ≡ allowed_by (setting_of self.now.settings) self.now.kept (event_of event.now) }
+        ensures value { result ≡ allowed_by (setting_of self.now.settings) self.now.kept (event_of event.now) }
+        ensures traced { (trace : List sums.Step) → Stands self.now trace
+            → IsTrue result ↔ traces.IsAllowed (setting_of self.now.settings) trace (event_of event.now) }
     {
-        let is_closing = self.closing().is_some();
-        takes(
-            self.closed,
-            is_closing,
-            self.input_ended,
-            is_free(self.request),
-            self.now(),
-            event,
-        )
+        self.parts.allowed(&self.config, event)
     }
 
-    // The moment of the last tick, 0 before the first.
-    fn now(&self) -> u64
-        ensures value { result ≡ now self.now.kept }
-        ensures limit { result < 253402300800000 }
+    /// Why the connection is to end, where it is: the first reason that holds.
+    pub fn closing(&self) -> Option<End>
+        ensures value { option_map end_of result ≡ closing_by (setting_of self.now.settings) self.now.kept }
+        ensures traced { (trace : List sums.Step) (past : List ParsedStep) → Stands self.now trace
+            → traces.IsPastOf (setting_of self.now.settings) trace past → option_map end_of result ≡ closing (setting_of self.now.settings) past }
     {
-        self.ticked.unwrap_or(0)
+        self.parts.closing(&self.config)
     }
-}
 
-// Whether an event may come next: once the connection closes, its end and what is buffered can be asked for, and time goes on.
-fn takes(
-    is_over: bool,
-    is_closing: bool,
-    input_ended: bool,
-    is_free: bool,
-    now: u64,
-    event: &Event,
-) -> bool
-    ensures { result ≡ takes is_over is_closing input_ended is_free now event.now }
-{
-    if is_over {
-        return false;
+    /// How many bytes wait to be written to the peer.
+    pub fn buffered(&self) -> usize
+        ensures value { result ≡ length self.now.kept.buffered }
+        ensures traced { (trace : List sums.Step) → Stands self.now trace → result ≡ length (buffered (setting_of self.now.settings) trace) }
+    {
+        self.parts.output.len()
     }
-    match event {
-        Event::Read(_) | Event::Eof => !is_closing && !input_ended,
-        Event::Next => is_closing || is_free,
-        Event::Answer(_, _) => !is_closing && !is_free,
-        Event::Write(_) => true,
-        Event::Tick(moment) => now <= *moment && *moment < MOMENTS_END,
-        Event::Drain => !is_closing,
-        Event::Pull | Event::DropBody | Event::Continue => false,
-        Event::Chunk(_) | Event::BodyEnd | Event::BodyError => false,
-    }
-}
 
-// Why a connection closes, by whether its input has ended, its last request, and the first head that came.
-fn end_by(
-    config: ServiceConfig,
-    input_ended: bool,
-    request: Option<Request>,
-    piece: HeadScan,
-) -> Option<End>
-    ensures { result ≡ end_by config.h1_allow_half_closed input_ended request piece }
-{
-    if is_last(request) {
-        return Some(End::Asked);
+    /// How many bytes of the input are held: those that were taken and not passed.
+    pub fn held(&self) -> usize
+        ensures value { result ≡ length self.now.kept.unread }
+        ensures limit { (trace : List sums.Step) → Stands self.now trace → result ≤ self.now.settings.h1_hold_size }
+    {
+        self.parts.input.len()
     }
-    if !input_ended {
-        return None;
-    }
-    if !config.h1_allow_half_closed() {
-        return Some(End::HalfClosed);
-    }
-    if is_free(request) && piece == HeadScan::Open {
-        return Some(End::InputEnded);
-    }
-    None
-}
 
-// Whether no request is open.
-fn is_free(request: Option<Request>) -> bool
-    ensures { result ≡ is_free request }
-{
-    match request {
-        None => true,
-        Some(request) => request.answered.is_some(),
+    /// Takes bytes that were read from the peer, from the first on, and says how many there was room for.
+    pub fn read(&mut self, bytes: &[u8]) -> Result<usize, NoMemory>
+        requires { IsAllowed self.old (on.read bytes.now) }
+        ensures stands { IfOk result (λ count. GoesOn self.old (on.read bytes.now) (Is (on.took count)) self.new) }
+        ensures settings { self.new.settings ≡ self.old.settings }
+        ensures err { OnErr result (self.new ≡ self.old) }
+    {
+        self.parts.read(&self.config, bytes)
     }
-}
 
-// Whether the answer to the request is the last of its connection.
-fn is_last(request: Option<Request>) -> bool
-    ensures { result ≡ is_last_request request }
-{
-    match request {
-        None => false,
-        Some(request) => matches!(
-            request.answered,
-            Some(ConnectionType::Close | ConnectionType::Upgrade)
-        ),
+    /// The peer sends no more bytes. It takes no memory.
+    pub fn eof(&mut self)
+        requires { IsAllowed self.old on.eof }
+        ensures stands { GoesOn self.old on.eof (Is on.done) self.new }
+        ensures settings { self.new.settings ≡ self.old.settings }
+    {
+        self.parts.eof(&self.config)
+    }
+
+    /// Hands out the next request's head, or that the connection has ended. It takes no memory where it closes, and
+    /// where no head is there and room for more bytes.
+    pub fn next(&mut self) -> Result<NextHead, NoMemory>
+        requires { IsAllowed self.old on.next }
+        ensures stands { IfOk result (λ next. GoesOn self.old on.next (SaysNext next) self.new) }
+        ensures settings { self.new.settings ≡ self.old.settings }
+        ensures no_memory_needed { NeedsNoMemory (setting_of self.old.settings) self.old.kept → IsOk result }
+        ensures err { OnErr result (self.new ≡ self.old) }
+    {
+        self.parts.next(self.alloc, &self.config)
+    }
+
+    /// Takes what comes next of the open request's body: a piece that shares the memory of what was read, or its
+    /// trailers, or its end. It takes no memory where it tells the end or a fault, or where nothing is there and no
+    /// trailer has begun.
+    pub fn pull(&mut self) -> Result<Pulled, NoMemory>
+        requires { IsAllowed self.old on.pull }
+        ensures stands { IfOk result (λ answer. GoesOn self.old on.pull (SaysPulled answer) self.new) }
+        ensures settings { self.new.settings ≡ self.old.settings }
+        ensures no_memory_needed { IsLightPull self.old.kept → IsOk result }
+        ensures err { OnErr result (self.new ≡ self.old) }
+    {
+        self.parts.pull(&self.config)
+    }
+
+    /// The rest of the open request's body isn't wanted. It takes no memory.
+    pub fn drop_body(&mut self)
+        requires { IsAllowed self.old on.drop_body }
+        ensures stands { GoesOn self.old on.drop_body (Is on.done) self.new }
+        ensures settings { self.new.settings ≡ self.old.settings }
+    {
+        self.parts.drop_body(&self.config)
+    }
+
+    /// Tells the client of the open request to go on, which waits for leave to send its body (RFC 7231, section 5.1.1).
+    pub fn go_on(&mut self) -> Result<(), NoMemory>
+        requires { IsAllowed self.old on.go_on }
+        ensures stands { OnOk result (GoesOn self.old on.go_on (Is on.done) self.new) }
+        ensures settings { self.new.settings ≡ self.old.settings }
+        ensures err { OnErr result (self.new ≡ self.old) }
+    {
+        self.parts.go_on(&self.config)
+    }
+
+    /// Answers the open request with this head, and with a body of this size.
+    pub fn answer(&mut self, head: &ResponseHead, size: BodySize) -> Result<(), NoMemory>
+        requires { IsAllowed self.old (on.answer (answer_of head.now) (size_of size)) }
+        ensures stands { OnOk result (GoesOn self.old (on.answer (answer_of head.now) (size_of size)) (Is on.done) self.new) }
+        ensures settings { self.new.settings ≡ self.old.settings }
+        ensures err { OnErr result (self.new ≡ self.old) }
+    {
+        self.parts.answer(&self.config, head, size)
+    }
+
+    /// The next bytes of the answer's body.
+    pub fn chunk(&mut self, bytes: &[u8]) -> Result<(), NoMemory>
+        requires { IsAllowed self.old (on.chunk bytes.now) }
+        ensures stands { OnOk result (GoesOn self.old (on.chunk bytes.now) (Is on.done) self.new) }
+        ensures settings { self.new.settings ≡ self.old.settings }
+        ensures err { OnErr result (self.new ≡ self.old) }
+    {
+        self.parts.chunk(&self.config, bytes)
+    }
+
+    /// The answer's body is whole.
+    pub fn end_body(&mut self) -> Result<(), NoMemory>
+        requires { IsAllowed self.old on.body_end }
+        ensures stands { OnOk result (GoesOn self.old on.body_end (Is on.done) self.new) }
+        ensures settings { self.new.settings ≡ self.old.settings }
+        ensures err { OnErr result (self.new ≡ self.old) }
+    {
+        self.parts.end_answer(&self.config)
+    }
+
+    /// The answer's body can't be completed: the connection closes. It takes no memory.
+    pub fn fail_body(&mut self)
+        requires { IsAllowed self.old on.body_error }
+        ensures stands { GoesOn self.old on.body_error (Is on.done) self.new }
+        ensures settings { self.new.settings ≡ self.old.settings }
+    {
+        self.parts.fail_body(&self.config)
+    }
+
+    /// The bytes that wait to be written to the peer, oldest first.
+    pub fn front(&self) -> &[u8]
+        ensures value { result.now ≡ self.now.kept.buffered }
+        ensures traced { (trace : List sums.Step) → Stands self.now trace → result.now ≡ buffered (setting_of self.now.settings) trace }
+    {
+        self.parts.output.as_slice()
+    }
+
+    /// The first bytes of `front` were written: the write of so many, whose bytes nobody asks for. It takes no memory.
+    pub fn advance(&mut self, count: usize)
+        requires allowed { IsAllowed self.old (on.write count) }
+        requires fits { count ≤ length self.old.kept.buffered }
+        ensures stands { GoesOn self.old (on.write count) (Is (on.gave (take count self.old.kept.buffered))) self.new }
+        ensures settings { self.new.settings ≡ self.old.settings }
+    {
+        self.parts.advance(&self.config, count)
+    }
+
+    /// Gives the first bytes that wait to be written, at most so many. Where there is none it takes no memory.
+    pub fn write(&mut self, limit: usize) -> Result<Bytes, NoMemory>
+        requires { IsAllowed self.old (on.write limit) }
+        ensures stands { IfOk result (λ bytes. GoesOn self.old (on.write limit) (Is (on.gave bytes)) self.new) }
+        ensures settings { self.new.settings ≡ self.old.settings }
+        ensures no_memory_needed { length (take limit self.old.kept.buffered) ≡ 0 → IsOk result }
+        ensures err { OnErr result (self.new ≡ self.old) }
+    {
+        self.parts.give(&self.config, limit)
+    }
+
+    /// A moment has come, in milliseconds after the start of 1970. Memory is taken only where the first head didn't
+    /// come in time, which is answered.
+    pub fn tick(&mut self, moment: u64) -> Result<Expiry, NoMemory>
+        requires { IsAllowed self.old (on.tick moment) }
+        ensures stands { IfOk result (λ expiry. GoesOn self.old (on.tick moment) (Is (expiry_of expiry)) self.new) }
+        ensures settings { self.new.settings ≡ self.old.settings }
+        ensures no_memory_needed { IsQuietTick (setting_of self.old.settings) self.old.kept moment → IsOk result }
+        ensures err { OnErr result (self.new ≡ self.old) }
+    {
+        self.parts.tick(&self.config, moment)
+    }
+
+    /// The connection is to end once no request is open. It takes no memory.
+    pub fn drain(&mut self)
+        requires { IsAllowed self.old on.drain }
+        ensures stands { GoesOn self.old on.drain (Is on.done) self.new }
+        ensures settings { self.new.settings ≡ self.old.settings }
+    {
+        self.parts.drain(&self.config)
     }
 }

@@ -4,12 +4,12 @@ ghost use Rattle.h1_machine.specs.Local.{closing_by};
 ghost use Rattle.h1_dispatch.specs.Meaning.{setting_of, end_of};
 ghost use Rattle.h1_dispatch.specs.Run.{IsWhole, IsStop};
 
-use crate::{Connection, DriveError, Event, StepError, Steps, Trace};
+use crate::{Connection, DriveError, Event, Steps, Trace};
 use bytes::Bytes;
 use http_types::{NoMemory, ServiceConfig};
 use std::alloc::Global;
 
-/// Brings the events to a new connection, one after the other, up to the first that is not allowed or not served.
+/// Brings the events to a new connection, one after the other, up to the first that isn't allowed.
 pub fn drive(alloc: Global, config: &ServiceConfig, events: &[Event]) -> Result<Trace, DriveError>
     ensures ok { IfOk result (IsWhole config.now events.now) }
     ensures stopped { IfErr result (IsStop config.now events.now) }
@@ -21,14 +21,8 @@ pub fn drive(alloc: Global, config: &ServiceConfig, events: &[Event]) -> Result<
             let trace = trace_of(alloc, &connection, steps)?;
             return Err(DriveError::Misplaced(index, trace));
         }
-        match connection.step(event) {
-            Ok(outcome) => steps.push(event.copy()?, outcome)?,
-            Err(StepError::NotYet) => {
-                let trace = trace_of(alloc, &connection, steps)?;
-                return Err(DriveError::NotYet(index, trace));
-            }
-            Err(StepError::NoMemory) => return Err(DriveError::NoMemory),
-        }
+        let outcome = connection.step(event)?;
+        steps.push(event.copy()?, outcome)?;
     }
     let trace = trace_of(alloc, &connection, steps)?;
     Ok(trace)
@@ -40,7 +34,7 @@ fn trace_of(alloc: Global, connection: &Connection, steps: Steps) -> Result<Trac
     ensures buffered { IfOk result (λ trace. trace.buffered ≡ connection.now.kept.buffered) }
     ensures closing { IfOk result (λ trace. option_map end_of trace.closing ≡ closing_by (setting_of connection.now.settings) connection.now.kept) }
 {
-    let buffered = Bytes::copy_from_slice(alloc, connection.output())?;
+    let buffered = Bytes::copy_from_slice(alloc, connection.front())?;
     Ok(Trace {
         steps,
         buffered,

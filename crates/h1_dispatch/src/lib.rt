@@ -1,37 +1,44 @@
-//! One HTTP/1 connection as a machine without input or output: events in, outcomes out. Whoever owns
-//! the socket and the clock tells it what came (`Event`), and does what it answers (`Outcome`).
+//! One HTTP/1 connection as a machine without input or output. Whoever owns the socket and the clock tells it what came,
+//! and does what it answers.
 //!
 //! # Example
 //!
 //! ```ignore
 //! let mut connection = Connection::new(alloc, ServiceConfigBuilder::new().build());
-//! let event = Event::Read(Bytes::from_static(b"GET / HTTP/1.1\r\nhost: a\r\n\r\n"));
-//! if connection.allowed(&event) {
-//!     // All 27 bytes were taken. `Event::Next` asks for the head then.
-//!     let outcome = connection.step(&event)?;
+//! if connection.can_read() {
+//!     // All 27 bytes were taken.
+//!     let count = connection.read(b"GET / HTTP/1.1\r\nhost: a\r\n\r\n")?;
+//! }
+//! if connection.can_next()
+//!     && let NextHead::Head(item) = connection.next()?
+//! {
+//!     connection.answer(&head, BodySize::ZERO)?;
+//!     // What is to be written.
+//!     let bytes = connection.front();
 //! }
 //! ```
 //!
-//! `drive` brings a whole list of events to a new connection, and gives the trace of what came of it.
+//! Each event has a call of its own, and a question that says whether it may come. `Event` and `Outcome` are the same
+//! as values, for `Connection::step`; `drive` brings a whole list of events to a new connection, and gives the trace of
+//! what came of it.
 //!
 //! # Contract
 //!
-//! Each event that is allowed has the one outcome that its state gives it, and leaves the state that
-//! follows; an event that isn't built yet is told as `NotYet`, and after an error the connection is as before.
+//! A connection stands for the traces of all that happened to it. Behind each of them, a call answers what the tables
+//! over whole traces say, and the connection then stands for the longer trace. Want of memory is the only error, and
+//! changes nothing; what takes no memory says so.
 #![tactic(auto)]
 
-mod buffer;
 mod connection;
 mod driver;
 mod error;
 mod event;
-mod h1;
-mod input;
-mod request;
+mod step;
 mod trace;
 
-pub use connection::Connection;
+pub use connection::{Connection, Expiry, NextHead};
 pub use driver::drive;
-pub use error::{DriveError, StepError};
+pub use error::DriveError;
 pub use event::{End, Event, HeadFault, Outcome, PayloadError};
+pub use h1_payload::{BodyFault, Pulled};
 pub use trace::{Step, Steps, Trace};

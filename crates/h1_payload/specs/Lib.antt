@@ -8,3 +8,4 @@ pub mod Rests
 pub mod Fitting
 pub mod Decoding
 pub mod States
+pub mod Kinds

@@ -3,6 +3,7 @@ ghost use Rattle.std.specs.Prelude.{◌≡◌, ◌≤◌, ◌++◌, [], length, 
 ghost use Rattle.std.specs.Bool.{OnTrue, OnFalse};
 ghost use Rattle.h1_chunks.specs.Place.{start};
 ghost use Rattle.h1_chunks.specs.TakeNext.{take_next};
+ghost use Rattle.h1_payload.specs.Kinds.{is_broken_place};
 ghost use Rattle.h1_payload.specs.Places.{place_of};
 ghost use Rattle.h1_payload.specs.Readers.{HasRoom, IsTaken, NeedsNoMemory, IsEndTaken, IsPassedBy, IsNotPassedBy};
 ghost use Rattle.h1_payload.specs.Scans.{IsWithin};
@@ -57,6 +58,13 @@ impl ChunkReader {
             place: self.place,
             section: self.section.copy()?,
         })
+    }
+
+    /// Whether a rule is broken.
+    pub(crate) fn is_broken(&self) -> bool
+        ensures { result ≡ is_broken_place self.now.place }
+    {
+        matches!(self.place, Place::Broken)
     }
 
     /// Takes what comes next: all bytes of the current chunk that are there, and else the trailers, the end or a fault.

@@ -48,4 +48,4 @@ pub use decoder::PayloadDecoder;
 pub use item::{DecodeError, PayloadItem};
 pub use kind::BodyKind;
 pub use pulled::{BodyFault, Pulled};
-pub use rest::Rest;
+pub use rest::{Rest, RestKind};

@@ -1,9 +1,10 @@
 //! What is left of a request's body.
 ghost use Rattle.std.specs.Prelude.{◌≡◌, true, false, [], IfOk, IsOk, OnErr, if◌then◌else◌};
 ghost use Rattle.h1_machine.specs.Body.{pass_rest};
-ghost use Rattle.h1_machine.specs.Kept.{no_rest, raw_rest, fixed_rest, whole_rest, rest_in, is_nothing};
+ghost use Rattle.h1_machine.specs.Kept.{no_rest, raw_rest, fixed_rest, chunks_rest, whole_rest, rest_in, is_nothing};
 ghost use Rattle.h1_machine.specs.Pull.{pull_fixed, pull_raw, IsPull};
 ghost use Rattle.h1_machine.specs.Pull as pulls;
+ghost use Rattle.h1_payload.specs.Kinds.{IsKind};
 ghost use Rattle.h1_payload.specs.Rests.{kind_of, rest_of, IsPulled, IsLight};
 
 use crate::chunks::ChunkReader;
@@ -27,6 +28,25 @@ enum Left {
 
     /// Chunks, from where the reader is.
     Chunks(ChunkReader),
+}
+
+/// What kind of body is left.
+#[derive(Clone, Copy, Debug, PartialEq, Eq)]
+pub enum RestKind {
+    /// Nothing.
+    Nothing,
+
+    /// All up to the end of the input.
+    Raw,
+
+    /// So many bytes.
+    Fixed,
+
+    /// Chunks, which have broken no rule yet.
+    Chunks,
+
+    /// Chunks that are none.
+    Broken,
 }
 
 /// What is left of a request's body. It keeps no byte of the body; of a trailer section that hasn't ended it keeps
@@ -85,6 +105,18 @@ impl Rest {
         }
     }
 
+    /// What kind of body is left.
+    pub fn kind(&self) -> RestKind
+        ensures { IsKind result self.now }
+    {
+        match &self.left {
+            Left::Nothing => RestKind::Nothing,
+            Left::Raw => RestKind::Raw,
+            Left::Fixed(_) => RestKind::Fixed,
+            Left::Chunks(reader) => kind_of_chunks(reader),
+        }
+    }
+
     /// Takes what comes next of the body from the bytes that aren't passed yet: all of the length or raw body, or of
     /// the current chunk, that is there, as a shared piece; and else trailers, the end or a fault. What it gives is
     /// passed, and so is what it read of chunks, but for a fault.
@@ -122,6 +154,17 @@ impl Rest {
         if let Left::Raw = self.left {
             self.left = Left::Nothing;
         }
+    }
+}
+
+// What kind of chunks are left.
+fn kind_of_chunks(reader: &ChunkReader) -> RestKind
+    ensures { IsKind result (chunks_rest reader.now.place reader.now.section) }
+{
+    if reader.is_broken() {
+        RestKind::Broken
+    } else {
+        RestKind::Chunks
     }
 }
 

@@ -1,13 +1,13 @@
-use Rattle.std.proofs.Common.{ℕ, List, take, ◌∙◌, ap}
-use Rattle.std.specs.Prelude.{min}
-use Rattle.h1_dispatch.specs.declared.event.Outcome.TheVariants.{Gave}
-use Rattle.h1_dispatch.proofs.StepLemmas.{viewed, take_bounded, drop_bounded, write_answers}
+use Rattle.h1_dispatch.proofs.ResultLemmas.{ok_map}
+use Rattle.h1_dispatch.proofs.GoesOnLemmas.{still_sound, same_state, goes_on}
 use Rattle.h1_dispatch.proofs.connection.Connection.write.Goals as goal
 
-pub returns-clause-ok : goal.returns-clause-ok
-returns-clause-ok c =
-    let count = c.min-count.ensures ∙ ap (λ (n : ℕ). min c.args.limit n) c.len.ensures in
-    viewed _ _ _ (Gave c.in_ok-bytes.bytes) _ c.self.view_is
-    (write_answers _ _ c.args.limit c.in_ok-bytes.bytes c.consume.new.self
-    (c.in_ok-bytes.ensures ∙ ap (λ (bytes : List ℕ). take c.min-count.result bytes) c.as_slice.ensures ∙ take_bounded c.args.limit c.min-count.result _ count)
-    (c.consume.ensures ∙ drop_bounded c.args.limit c.min-count.result _ count) c.self.invariant)
+pub invariant_of-self : goal.invariant_of-self
+invariant_of-self c = still_sound c.give.result _ _ _ c.self.invariant c.give.ensures.sound c.give.ensures.err
+
+pub returns-clause-stands : goal.returns-clause-stands
+returns-clause-stands c =
+    ok_map c.give.result _ _ (λ given steps. goes_on _ _ _ _ _ _ tt (λ h e. cc e) c.self.view_is c.requires steps) c.give.ensures.ok
+
+pub returns-clause-err : goal.returns-clause-err
+returns-clause-err c = same_state c.give.result _ _ _ _ c.self.view_is c.give.ensures.err

@@ -1,0 +1,48 @@
+-- Which events may come next, by tests of the parts.
+use Rattle.std.proofs.Common.{◌≡◌, ℕ, ◌<◌, ◌≤◌, Bool, true, false, not, ◌&&◌, ◌||◌, List, length, Option, Some, None, refl, sym, ap, ◌∙◌}
+use Rattle.std.specs.Prelude.{is_some, is_none, nat_lt, nat_le, option_map, if◌then◌else◌}
+use Rattle.h1_chunks.specs.Place.{Place}
+use Rattle.h1_machine.specs.Kept.{Rest, is_frames}
+use Rattle.h1_payload.specs.Kinds.{IsKind}
+use Rattle.h1_payload.specs.declared.rest.RestKind.{RestKind}
+use Rattle.h1_payload.specs.declared.rest.RestKind.TheVariants as kind
+
+-- a request's body is never read as frames
+pub plain_kind : (k : RestKind) (rest : Rest) → IsKind k rest → is_frames rest ≡ false
+plain_kind kind.Nothing rest is = ap is_frames is
+plain_kind kind.Raw rest is = ap is_frames is
+plain_kind kind.Fixed rest is = ap is_frames is.1
+plain_kind kind.Chunks rest is = ap is_frames is.3
+plain_kind kind.Broken rest is = ap is_frames is.1
+
+-- a test of a running connection
+pub running_test : (over closes : Bool) (test : Bool) → ((not over && not closes) && test) ≡ (not over && (if closes then false else test))
+running_test true closes test = refl
+running_test false true test = refl
+running_test false false test = refl
+
+-- a test that matters only while it runs
+pub closing_test : (over closes : Bool) (test : Bool) → (not over && (closes || test)) ≡ (not over && (if closes then true else test))
+closing_test true closes test = refl
+closing_test false true test = refl
+closing_test false false test = refl
+
+-- one that matters either way
+pub any_test : (over closes : Bool) (test : Bool) → (not over && test) ≡ (not over && (if closes then test else test))
+any_test true closes test = refl
+any_test false true test = refl
+any_test false false test = refl
+
+pub no_test : (over closes : Bool) → not over ≡ (not over && (if closes then true else true))
+no_test true closes = refl
+no_test false true = refl
+no_test false false = refl
+
+pub not_some : {A : Type 0} (o : Option A) → is_none o ≡ not (is_some o)
+not_some None = refl
+not_some (Some x) = refl
+
+-- the end that is told, and why it closes
+pub some_mapped : {A B : Type 0} (f : A → B) (o : Option A) → is_some (option_map f o) ≡ is_some o
+some_mapped f None = refl
+some_mapped f (Some x) = refl

@@ -1,0 +1,27 @@
+-- What is said of a result, one fact from another.
+use Rattle.std.proofs.Common.{◌≡◌, Result, Ok, Err, subst, sym}
+use Rattle.std.specs.Prelude.{IfOk, OnOk, OnErr, IsOk}
+
+pub ok_map : {A E : Type 0} (r : Result A E) (P Q : A → Type 0) → ((a : A) → P a → Q a) → IfOk r P → IfOk r Q
+ok_map (Ok a) P Q f x = f a x
+ok_map (Err e) P Q f x = tt
+
+pub ok_both : {A E : Type 0} (r : Result A E) (P : A → Type 0) (Q : Type 0) (R : A → Type 0) → ((a : A) → P a → Q → R a) → IfOk r P → OnOk r Q → IfOk r R
+ok_both (Ok a) P Q R f x y = f a x y
+ok_both (Err e) P Q R f x y = tt
+
+pub on_map : {A E : Type 0} (r : Result A E) (P Q : Type 0) → (P → Q) → OnOk r P → OnOk r Q
+on_map (Ok a) P Q f x = f x
+on_map (Err e) P Q f x = tt
+
+pub on_ok : {A E : Type 0} (r : Result A E) (P : A → Type 0) (Q : Type 0) → ((a : A) → P a → Q) → IfOk r P → OnOk r Q
+on_ok (Ok a) P Q f x = f a x
+on_ok (Err e) P Q f x = tt
+
+pub on_both : {A E : Type 0} (r : Result A E) (P Q R : Type 0) → (P → Q → R) → OnOk r P → OnOk r Q → OnOk r R
+on_both (Ok a) P Q R f x y = f x y
+on_both (Err e) P Q R f x y = tt
+
+pub err_map : {A E : Type 0} (r : Result A E) (P Q : Type 0) → (P → Q) → OnErr r P → OnErr r Q
+err_map (Ok a) P Q f x = tt
+err_map (Err e) P Q f x = f x

@@ -1,0 +1,208 @@
+// What a connection holds of its input: the bytes that were read and not passed, and the search for a head among them.
+ghost use Rattle.std.specs.Prelude.{◌≡◌, ◌≤◌, ◌-◌, ◌++◌, ◌⊎◌, [], length, take, drop, min, true, false, is_some, IfOk, IsOk, OnOk, OnErr};
+ghost use Rattle.h1_machine.specs.Kept.{rest_in};
+ghost use Rattle.h1_machine.specs.Body.{pass_rest};
+ghost use Rattle.h1_machine.specs.Pull.{IsPull};
+ghost use Rattle.h1_machine.specs.Pull as pulls;
+ghost use Rattle.h1_payload.specs.Rests.{IsPulled, IsLight};
+ghost use Rattle.h1_dispatch.specs.Incoming.{is_coming_in, IsFound, IsWhole, IsHeadOf, IsPassedHead, CanGoOn, GoesOnIn};
+
+use bytes::{Bytes, BytesMut};
+use h1_decode::{HeadScan, HeadScanner};
+use h1_payload::{Pulled, Rest};
+use http_types::NoMemory;
+use std::alloc::Global;
+use std::marker::Model;
+
+/// How far the search for the next head is.
+#[derive(Clone, Copy)]
+struct Search {
+    scanner: HeadScanner,
+    piece: HeadScan,
+}
+
+/// The bytes of the input that were taken and not passed yet.
+///
+/// A head is searched for only where one may come next, so that no byte of a body is. What was found is kept, and
+/// so is how far the search has come: a head that comes byte by byte costs what it costs in one piece.
+#[derive(Drop)]
+pub struct Input {
+    /// The head that was asked for, with the empty lines before it, where it couldn't be handed out.
+    front: Bytes,
+    bytes: BytesMut,
+    search: Option<Search>,
+}
+
+impl Model for Input {
+    ghost use Rattle.std.specs.Prelude.{◌++◌, option_map};
+    ghost use Rattle.h1_dispatch.specs.Incoming.{Incoming, piece_of, IsSearched};
+
+    ghost Value = { Incoming };
+
+    ghost view = { λ input. record { unread = input.front ++ input.bytes.items; piece = option_map piece_of input.search } };
+
+    ghost invariant = { λ input. IsSearched input.front input.bytes.items input.search };
+}
+
+impl Input {
+    /// No bytes, and no memory taken. A head is searched for.
+    pub fn new(alloc: Global) -> Input
+        ensures { result ≡ record { unread = []; piece = Some HeadScan.Open } }
+    {
+        Input {
+            front: Bytes::new(),
+            bytes: BytesMut::new(alloc),
+            search: Some(Search {
+                scanner: HeadScanner::new(),
+                piece: HeadScan::Open,
+            }),
+        }
+    }
+
+    /// How many bytes are held.
+    pub fn len(&self) -> usize
+        ensures { result ≡ length self.now.unread }
+    {
+        self.front.len() + self.bytes.len()
+    }
+
+    /// Whether a head was found.
+    pub fn is_coming(&self) -> bool
+        ensures { result ≡ is_coming_in self.now.piece }
+    {
+        match &self.search {
+            Some(search) => search.piece != HeadScan::Open,
+            None => false,
+        }
+    }
+
+    /// Takes the bytes that there is room for up to the limit, and says how many.
+    pub fn take(&mut self, bytes: &[u8], limit: usize) -> Result<usize, NoMemory>
+        ensures count { IfOk result (λ count. count ≡ min (length bytes.now) (limit - length self.old.unread)) }
+        ensures ok { IfOk result (λ count. self.new.unread ≡ self.old.unread ++ take count bytes.now) }
+        ensures scanned { OnOk result (IsFound self.new) }
+        ensures searched { OnOk result (is_some self.new.piece ≡ is_some self.old.piece) }
+        ensures err { OnErr result (self.new ≡ self.old) }
+    {
+        let held = self.front.len() + self.bytes.len();
+        let count = bytes.len().min(limit.saturating_sub(held));
+        self.bytes.extend_from_slice(&bytes[..count])?;
+        self.search = continued(self.search, self.bytes.as_slice());
+        Ok(count)
+    }
+
+    /// Searches for a head from the first byte on, if it isn't done yet.
+    pub fn search(&mut self)
+        ensures unread { self.new.unread ≡ self.old.unread }
+        ensures scanned { IsFound self.new }
+        ensures searched { is_some self.new.piece ≡ true }
+    {
+        if self.search.is_none() {
+            let begun = Some(Search {
+                scanner: HeadScanner::new(),
+                piece: HeadScan::Open,
+            });
+            self.search = continued(begun, self.bytes.as_slice());
+        }
+    }
+
+    /// The head that was found, if one was. It shares the memory of its bytes, which stay.
+    pub fn head(&mut self) -> Result<Option<Bytes>, NoMemory>
+        ensures same { self.new ≡ self.old }
+        ensures head { IfOk result (λ head. IsHeadOf self.old head) }
+        ensures no_memory_needed { is_coming_in self.old.piece ≡ false → IsOk result }
+    {
+        let Some(search) = self.search else {
+            return Ok(None);
+        };
+        let HeadScan::Piece(start, end) = search.piece else {
+            return Ok(None);
+        };
+        cut(&mut self.front, &mut self.bytes, end)?;
+        let head = self.front.slice(start..end)?;
+        Ok(Some(head))
+    }
+
+    /// Passes the head that was found. No other is searched for.
+    pub fn pass_head(&mut self)
+        requires { IsWhole self.old }
+        ensures { IsPassedHead self.old self.new }
+    {
+        let Some(search) = self.search else {
+            return;
+        };
+        let HeadScan::Piece(_, end) = search.piece else {
+            return;
+        };
+        self.search = None;
+        if self.front.is_empty() {
+            self.bytes.advance(end);
+        }
+        self.front = Bytes::new();
+        if self.bytes.is_empty() {
+            self.bytes.clear();
+        }
+    }
+
+    /// Takes what comes next of a body.
+    pub fn pull(&mut self, rest: &mut Rest, has_ended: bool) -> Result<Pulled, NoMemory>
+        requires { self.old.piece ≡ None }
+        ensures pulled { IfOk result (λ answer. (p : pulls.Pulled) → IsPull has_ended rest.old self.old.unread p
+            → IsPulled p answer rest.new self.new.unread) }
+        ensures piece { self.new.piece ≡ None }
+        ensures no_memory_needed { (p : pulls.Pulled) → IsPull has_ended rest.old self.old.unread p → IsLight rest.old p.outcome p.rest → IsOk result }
+        ensures err { OnErr result ((self.new ≡ self.old) × (rest.new ≡ rest.old)) }
+    {
+        let _ = &self.search;
+        rest.pull(&mut self.bytes, has_ended)
+    }
+
+    /// Passes over what is left of a body.
+    pub fn pass(&mut self, rest: &mut Rest, has_ended: bool)
+        requires { self.old.piece ≡ None }
+        ensures rest { rest.new ≡ (pass_rest has_ended rest.old self.old.unread).rest }
+        ensures unread { self.new ≡ record { unread = (pass_rest has_ended rest.old self.old.unread).unread; piece = None } }
+    {
+        let _ = &self.search;
+        rest.pass(&mut self.bytes, has_ended);
+    }
+
+    /// With the input a raw body ends of which no byte is left.
+    pub fn end(&self, rest: &mut Rest)
+        ensures { rest.new ≡ rest_in true self.now.unread rest.old }
+    {
+        if self.front.is_empty() {
+            rest.end_input(&self.bytes);
+        }
+    }
+}
+
+// Cuts the first bytes off up to the head's end, where that isn't done yet. They stay in their memory.
+fn cut(front: &mut Bytes, bytes: &mut BytesMut, end: usize) -> Result<(), NoMemory>
+    requires fits { end ≤ length (front.old ++ bytes.old.items) }
+    requires whole { (front.old ≡ []) ⊎ (length front.old ≡ end) }
+    ensures front { OnOk result (front.new ≡ take end (front.old ++ bytes.old.items)) }
+    ensures all { front.new ++ bytes.new.items ≡ front.old ++ bytes.old.items }
+    ensures err { OnErr result ((front.new ≡ front.old) × (bytes.new.items ≡ bytes.old.items)) }
+{
+    if front.is_empty() {
+        *front = bytes.freeze_to(end)?;
+    }
+    Ok(())
+}
+
+// The search behind more bytes. A head that was found stays the next.
+fn continued(search: Option<Search>, bytes: &[u8]) -> Option<Search>
+    requires { CanGoOn search bytes.now }
+    ensures found { GoesOnIn search bytes.now result }
+{
+    let Some(search) = search else {
+        return None;
+    };
+    if search.piece != HeadScan::Open {
+        return Some(search);
+    }
+    let mut scanner = search.scanner;
+    let piece = scanner.scan(bytes);
+    Some(Search { scanner, piece })
+}

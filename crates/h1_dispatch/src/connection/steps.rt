@@ -1,0 +1,130 @@
+// What each event does to the parts, but for heads, bodies and answers.
+ghost use Rattle.std.specs.Prelude.{◌≡◌, ◌≤◌, ◌<◌, false, length, IfOk, OnOk, OnErr, IsOk, take};
+ghost use Rattle.h1_model.specs.Event as on;
+ghost use Rattle.h1_machine.specs.Kept.{is_free};
+ghost use Rattle.h1_dispatch.specs.Parts.{kept_of, ended_exchange, dropped, told_to_go_on, IsSound, Steps};
+
+use crate::End;
+use crate::connection::parts::Parts;
+use bytes::Bytes;
+use http_types::{NoMemory, ServiceConfig};
+
+
+
+impl Parts {
+    /// Takes the bytes that there is room for, and says how many.
+    pub fn read(&mut self, config: &ServiceConfig, bytes: &[u8]) -> Result<usize, NoMemory>
+        requires { IsSound config.now self.old }
+        ensures ok { IfOk result (λ count. Steps config.now self.old (on.read bytes.now) (on.took count) self.new) }
+        ensures sound { OnOk result (IsSound config.now self.new) }
+        ensures err { OnErr result (self.new ≡ self.old) }
+    {
+        let count = self.input.take(bytes, config.h1_hold_size())?;
+        self.pass_body();
+        self.settle(config);
+        Ok(count)
+    }
+
+    /// The peer sends no more bytes.
+    pub fn eof(&mut self, config: &ServiceConfig)
+        requires { IsSound config.now self.old }
+        ensures ok { Steps config.now self.old on.eof on.done self.new }
+        ensures sound { IsSound config.now self.new }
+    {
+        self.has_ended = true;
+        self.end_body();
+        self.pass_body();
+        self.settle(config);
+    }
+
+    // With the input the open request's body ends, where it is raw and no byte is left.
+    fn end_body(&mut self)
+        ensures { self.new ≡ record self.old { exchange = ended_exchange self.old.input.unread self.old.exchange } }
+    {
+        if let Some(exchange) = &mut self.exchange {
+            self.input.end(&mut exchange.rest);
+        }
+    }
+
+    /// The connection is to end soon.
+    pub fn drain(&mut self, config: &ServiceConfig)
+        requires { IsSound config.now self.old }
+        ensures ok { Steps config.now self.old on.drain on.done self.new }
+        ensures sound { IsSound config.now self.new }
+    {
+        self.is_draining = true;
+        self.note(config);
+    }
+
+    /// The answer's body can't be completed.
+    pub fn fail_body(&mut self, config: &ServiceConfig)
+        requires { IsSound config.now self.old }
+        ensures ok { Steps config.now self.old on.body_error on.done self.new }
+        ensures sound { IsSound config.now self.new }
+    {
+        self.failed = Some(End::Body);
+        self.note(config);
+    }
+
+    /// The rest of the open request's body isn't wanted.
+    pub fn drop_body(&mut self, config: &ServiceConfig)
+        requires { IsSound config.now self.old }
+        ensures ok { Steps config.now self.old on.drop_body on.done self.new }
+        ensures sound { IsSound config.now self.new }
+    {
+        self.set_dropped();
+        self.note(config);
+    }
+
+    fn set_dropped(&mut self)
+        ensures { self.new ≡ record self.old { exchange = dropped self.old.exchange } }
+    {
+        if let Some(exchange) = &mut self.exchange {
+            exchange.was_dropped = true;
+        }
+    }
+
+    /// Tells the client of the open request to go on.
+    pub fn go_on(&mut self, config: &ServiceConfig) -> Result<(), NoMemory>
+        requires { IsSound config.now self.old }
+        ensures ok { OnOk result (Steps config.now self.old on.go_on on.done self.new) }
+        ensures sound { OnOk result (IsSound config.now self.new) }
+        ensures err { OnErr result (self.new ≡ self.old) }
+    {
+        if self.exchange.is_none() {
+            return Ok(());
+        }
+        self.output.put_interim()?;
+        self.set_told_to_go_on();
+        Ok(())
+    }
+
+    fn set_told_to_go_on(&mut self)
+        ensures { self.new ≡ record self.old { exchange = told_to_go_on self.old.exchange } }
+    {
+        if let Some(exchange) = &mut self.exchange {
+            exchange.was_told_to_go_on = true;
+        }
+    }
+
+    /// Gives the first bytes that are to be written, at most so many.
+    pub fn give(&mut self, config: &ServiceConfig, limit: usize) -> Result<Bytes, NoMemory>
+        requires { IsSound config.now self.old }
+        ensures ok { IfOk result (λ bytes. Steps config.now self.old (on.write limit) (on.gave bytes) self.new) }
+        ensures sound { OnOk result (IsSound config.now self.new) }
+        ensures none { length (take limit (kept_of self.old).buffered) ≡ 0 → IsOk result }
+        ensures err { OnErr result (self.new ≡ self.old) }
+    {
+        self.output.give(limit)
+    }
+
+    /// Lets the first bytes go that were to be written.
+    pub fn advance(&mut self, config: &ServiceConfig, count: usize)
+        requires sound { IsSound config.now self.old }
+        requires fits { count ≤ length (kept_of self.old).buffered }
+        ensures ok { Steps config.now self.old (on.write count) (on.gave (take count (kept_of self.old).buffered)) self.new }
+        ensures sound { IsSound config.now self.new }
+    {
+        self.output.advance(count);
+    }
+}
