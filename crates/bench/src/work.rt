@@ -4,7 +4,8 @@ use crate::error::BenchError;
 use bytes::Bytes;
 use h1_decode::{HeadScan, request_head, scan_head};
 use h1_dispatch::{Connection, Event, Outcome};
-use http_types::{BodySize, NoMemory, ResponseHead, ServiceConfigBuilder, StatusCode};
+use http_bodies::BodySize;
+use http_types::{NoMemory, ResponseHead, ServiceConfigBuilder, StatusCode};
 use std::alloc::Global;
 
 /// How many requests come in one read where several do.

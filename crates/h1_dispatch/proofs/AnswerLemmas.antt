@@ -5,10 +5,10 @@ use Rattle.std.specs.Prelude.{option_map, is_some, unwrap_or, flat_map, IsTrue, 
 use Rattle.std.specs.Option.{option_or}
 use Rattle.http_header.specs.FieldValue.{FieldValue}
 use Rattle.http_map.specs.HeaderMap.{Entries, value_count}
-use Rattle.http_types.specs.Config.{Settings}
+use Rattle.http_config.specs.Config.{Settings}
 use Rattle.http_types.specs.ResponseHead.{ResponseParts}
 use Rattle.http_types.specs.Flags.{type_of_flags}
-use Rattle.http_types.specs.declared.body.size.BodySize.{BodySize}
+use Rattle.http_bodies.specs.declared.body.size.BodySize.{BodySize}
 use Rattle.http_types.specs.declared.message.ConnectionType.{ConnectionType}
 use Rattle.http_types.specs.declared.message.ConnectionType.TheVariants.{Close, KeepAlive, Upgrade}
 use Rattle.http_types.specs.declared.message.Flags.{Flags}

@@ -2,7 +2,7 @@
 use Rattle.std.proofs.lemmas.List.{length-take, length-drop}
 use Rattle.std.proofs.Common.{◌≡◌, ℕ, ◌-◌, ◌<◌, ◌≤◌, Bool, true, false, not, ◌&&◌, List, [], ◌∷◌, length, drop, Option, Some, None, inl, inr, refl, sym, ap, ◌∙◌, subst, arith}
 use Rattle.std.specs.Prelude.{option_map, is_some, slice_range, codes, bytes_eq, ◌==◌, if◌then◌else◌, IsTrue}
-use Rattle.http_types.specs.Config.{Settings}
+use Rattle.http_config.specs.Config.{Settings}
 use Rattle.http_types.specs.declared.message.ConnectionType.{ConnectionType}
 use Rattle.h1_model.specs.HeadPiece.{IsHeadPiece, HasNoHeadPiece}
 use Rattle.h1_model.specs.Request as model

@@ -4,10 +4,10 @@ use Rattle.std.proofs.lemmas.Bool.{lt-leb, ltb-true}
 use Rattle.std.proofs.lemmas.Grind.{common_steps}
 use Rattle.std.specs.Prelude.{min, option_map, is_some, is_none, unwrap_or, nat_lt, nat_le, ◌==◌, if◌then◌else◌}
 use Rattle.std.specs.Option.{option_or}
-use Rattle.http_types.specs.Config.{Settings}
-use Rattle.http_types.specs.KeepAlive.{normalized}
-use Rattle.http_types.specs.declared.keep_alive.KeepAlive.{KeepAlive as Policy}
-use Rattle.http_types.specs.declared.keep_alive.KeepAlive.TheVariants.{Timeout, Os, Disabled}
+use Rattle.http_config.specs.Config.{Settings}
+use Rattle.http_config.specs.KeepAlive.{normalized}
+use Rattle.http_config.specs.declared.keep_alive.KeepAlive.{KeepAlive as Policy}
+use Rattle.http_config.specs.declared.keep_alive.KeepAlive.TheVariants.{Timeout, Os, Disabled}
 use Rattle.h1_model.specs.Setting.{Setting}
 use Rattle.h1_model.specs.OutcomeTable.{counted_from, has_run_out, is_kept_too_long}
 use Rattle.h1_model.specs.End as ends

@@ -1,11 +1,11 @@
 -- What a connection's types mean in the model.
 use Rattle.std.specs.Prelude.{◌≡◌, ℕ, false, List, map, flat_map}
-use Rattle.http_types.specs.Config.{Settings}
+use Rattle.http_config.specs.Config.{Settings}
 use Rattle.http_types.specs.ResponseHead.{ResponseParts}
-use Rattle.http_types.specs.declared.body.size.BodySize.{BodySize}
-use Rattle.http_types.specs.declared.body.size.BodySize.TheVariants.{None as NoBody, Sized, Stream}
-use Rattle.http_types.specs.declared.keep_alive.KeepAlive.{KeepAlive as Policy}
-use Rattle.http_types.specs.declared.keep_alive.KeepAlive.TheVariants.{Timeout, Os, Disabled}
+use Rattle.http_bodies.specs.declared.body.size.BodySize.{BodySize}
+use Rattle.http_bodies.specs.declared.body.size.BodySize.TheVariants.{None as NoBody, Sized, Stream}
+use Rattle.http_config.specs.declared.keep_alive.KeepAlive.{KeepAlive as Policy}
+use Rattle.http_config.specs.declared.keep_alive.KeepAlive.TheVariants.{Timeout, Os, Disabled}
 use Rattle.http_map.specs.HeaderMap.{Entry, Entries}
 use Rattle.h1_model.specs.Request as model
 use Rattle.h1_model.specs.Setting.{Setting, KeepAlive, timeout, by_system, disabled}

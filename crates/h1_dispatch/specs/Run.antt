@@ -1,6 +1,6 @@
 -- What a list of events gives: the one trace of a connection, in the model's terms.
 use Rattle.std.specs.Prelude.{◌≡◌, ℕ, List, [], ◌∷◌, ◌++◌, map, reverse, take, slice_get, Option, Some, option_map, ⊤}
-use Rattle.http_types.specs.Config.{Settings}
+use Rattle.http_config.specs.Config.{Settings}
 use Rattle.h1_model.specs.Parse as parsed
 use Rattle.h1_model.specs.Parse.{IsParse}
 use Rattle.h1_model.specs.Sums as sums

@@ -1,6 +1,6 @@
 -- A connection as its contracts see it: its settings, and what the machine keeps.
 use Rattle.std.specs.Prelude.{◌≡◌, List, ◌∷◌, IsTrue, IsSome, ⊤, None}
-use Rattle.http_types.specs.Config.{Settings}
+use Rattle.http_config.specs.Config.{Settings}
 use Rattle.h1_model.specs.Event as on
 use Rattle.h1_model.specs.Sums as sums
 use Rattle.h1_model.specs.Trace.{IsOutcome}

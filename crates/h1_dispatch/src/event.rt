@@ -3,7 +3,8 @@ ghost use Rattle.std.specs.Prelude.{◌≡◌, IfOk};
 
 use bytes::Bytes;
 use h1_decode::HeadItem;
-use http_types::{BodySize, NoMemory, ResponseHead};
+use http_bodies::BodySize;
+use http_types::{NoMemory, ResponseHead};
 
 /// What comes to a connection from outside.
 #[derive(Debug, Drop)]

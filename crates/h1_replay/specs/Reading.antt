@@ -1,7 +1,7 @@
 -- What the reading of a line or a script gives, against what stands there. Memory may run out.
 use Rattle.std.specs.Prelude.{ℕ, ◌≡◌, ⊤, Unit, List, Vec, String, string_bytes, Option, Some, None, Result, Ok, Err}
 use Rattle.std.specs.declared.alloc.Global.{Global}
-use Rattle.http_types.specs.Config.{Settings}
+use Rattle.http_config.specs.Config.{Settings}
 use Rattle.h1_dispatch.specs.declared.event.Event.{Event}
 use Rattle.h1_replay.specs.declared.word.LineError.{LineError}
 use Rattle.h1_replay.specs.declared.word.LineError.TheVariants as line

@@ -1,7 +1,7 @@
 -- What the program answers: a status, and the text that goes to its output.
 use Rattle.std.specs.Prelude.{ℕ, ◌≡◌, ◌++◌, ◌<◌, ◌≤◌, List, [], ◌∷◌, Option, IfSome, Ok, Err, length, codes, decimal}
 use Rattle.std.specs.Io.KnownBytes.{Consumes, Keeps, IsAtEnd}
-use Rattle.http_types.specs.Config.{Settings}
+use Rattle.http_config.specs.Config.{Settings}
 use Rattle.h1_dispatch.specs.Run.{IsWhole, IsMisplaced, IsPremature}
 use Rattle.h1_dispatch.specs.declared.event.Event.{Event}
 use Rattle.h1_dispatch.specs.declared.trace.Trace.{Trace}

@@ -9,10 +9,10 @@ use Rattle.http_header.specs.FieldName.{is_field_name}
 use Rattle.http_header.specs.FieldValue.{plain_value}
 use Rattle.http_header.specs.Token.{is_value_byte, lowercase}
 use Rattle.http_map.specs.HeaderMap.{Pair}
-use Rattle.http_types.specs.declared.keep_alive.KeepAlive.{KeepAlive}
-use Rattle.http_types.specs.declared.keep_alive.KeepAlive.TheVariants.{Timeout, Os, Disabled}
-use Rattle.http_types.specs.declared.body.size.BodySize.{BodySize}
-use Rattle.http_types.specs.declared.body.size.BodySize.TheVariants as size
+use Rattle.http_config.specs.declared.keep_alive.KeepAlive.{KeepAlive}
+use Rattle.http_config.specs.declared.keep_alive.KeepAlive.TheVariants.{Timeout, Os, Disabled}
+use Rattle.http_bodies.specs.declared.body.size.BodySize.{BodySize}
+use Rattle.http_bodies.specs.declared.body.size.BodySize.TheVariants as size
 use Rattle.h1_replay.specs.declared.marks.Marks.{Marks}
 
 -- the next step of a reading, where there was something to read

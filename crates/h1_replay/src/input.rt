@@ -1,7 +1,7 @@
 //! The whole input of the program, read into memory.
 ghost use Rattle.std.specs.Prelude.{◌≡◌, ◌<◌, ◌≤◌, length, vec_len, IfOk, IfSome, IsErrOf};
 ghost use Rattle.std.specs.Io.KnownBytes.{Consumes, IsAtEnd};
-ghost use Rattle.http_types.specs.Causes.{Rose};
+ghost use Rattle.http_config.specs.Causes.{Rose};
 ghost use Rattle.h1_replay.specs.Input.{ReadsInto};
 
 use http_types::Source;

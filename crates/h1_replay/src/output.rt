@@ -1,7 +1,7 @@
 //! A whole text, written once.
 ghost use Rattle.std.specs.Prelude.{◌≡◌, ◌≤◌, OnOk, IfErr, OnErr};
 ghost use Rattle.std.specs.Io.KnownBytes.{Appends};
-ghost use Rattle.http_types.specs.Causes.{HasCause};
+ghost use Rattle.http_config.specs.Causes.{HasCause};
 ghost use Rattle.h1_replay.specs.Output.{AppendsPrefix};
 
 use http_types::{Failed, Sink};

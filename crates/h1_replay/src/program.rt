@@ -1,7 +1,7 @@
 //! The program over any source and sink.
 ghost use Rattle.std.specs.Prelude.{◌≡◌, ◌≢◌, ◌≤◌, ◌↔◌, ℕ, List, IsTrue, map, string_bytes};
 ghost use Rattle.std.specs.Io.KnownBytes.{Appends};
-ghost use Rattle.http_types.specs.Causes.{Rose};
+ghost use Rattle.http_config.specs.Causes.{Rose};
 ghost use Rattle.h1_replay.specs.Output.{AppendsPrefix};
 ghost use Rattle.h1_replay.specs.Reply.{status_of_reply, text_of_reply};
 ghost use Rattle.h1_replay.specs.Run.{IsReplay, IsAnswer};

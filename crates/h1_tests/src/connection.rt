@@ -1,8 +1,8 @@
 //! Worked exchanges of a connection.
 use bytes::Bytes;
 use h1_dispatch::{Connection, DriveError, End, Event, Outcome, Step, Trace, drive};
-use http_types::{
-    BodySize, KeepAlive, NoMemory, ResponseHead, ServiceConfig, ServiceConfigBuilder, StatusCode,
+use http_bodies::BodySize;
+use http_types::{KeepAlive, NoMemory, ResponseHead, ServiceConfig, ServiceConfigBuilder, StatusCode,
 };
 use std::alloc::{AllocError, Global};
 use std::test::Fail;

@@ -1,10 +1,5 @@
-pub mod Causes
-pub mod Config
 pub mod ConnectionType
-pub mod Deadline
 pub mod Flags
-pub mod KeepAlive
-pub mod Memory
 pub mod RequestHead
 pub mod ResponseHead
 pub mod Version

@@ -1,5 +1,5 @@
-//! The values that an HTTP/1 connection speaks of: heads of requests and responses, settings, sizes
-//! and errors, and the sources and sinks between which bytes move. It re-exports `http_map` as `header`.
+//! The values that an HTTP/1 connection speaks of: heads of requests and responses, and errors. It
+//! re-exports `http_map` as `header`, and `http_config`.
 //!
 //! # Example
 //!
@@ -12,39 +12,24 @@
 //!
 //! # Contract
 //!
-//! Heads and settings are records, and each call says which field it gives or changes; a source or a
-//! sink says how many bytes moved, which, and what is left or was given, and it fails only where its
-//! count of faults rose.
+//! Heads are records, and each call says which field it gives or changes.
 #![tactic(auto)]
 
-mod body;
-mod config;
 mod error;
-mod failed;
-mod keep_alive;
-mod memory;
 mod message;
 mod requests;
 mod responses;
-mod sink;
-mod source;
-mod standard;
-mod sure;
 
-pub use body::BodySize;
-pub use config::{ServiceConfig, ServiceConfigBuilder, ZeroBuffer};
 pub use error::ParseError;
-pub use failed::Failed;
 pub use http::{Method, StatusCode, Version};
+pub use http_config::{
+    DEFAULT_HOLD_SIZE, Failed, HoldSize, KeepAlive, MAX_HOLD_SIZE, MIN_HOLD_SIZE, MemSink, MemSource,
+    ServiceConfig, ServiceConfigBuilder, Sink, Source, StdSink, StdSource, SureSink, SureSource,
+    ZeroBuffer,
+};
 pub use http_map as header;
 pub use http_map::{AsHeaderName, HeaderMap, HeaderName, HeaderValue, NoMemory};
 pub use http_uri::Uri;
-pub use keep_alive::KeepAlive;
-pub use memory::{MemSink, MemSource};
 pub use message::ConnectionType;
 pub use requests::RequestHead;
 pub use responses::{BadReason, ResponseHead};
-pub use sink::Sink;
-pub use source::Source;
-pub use standard::{StdSink, StdSource};
-pub use sure::{SureSink, SureSource};

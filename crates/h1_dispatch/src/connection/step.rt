@@ -20,7 +20,8 @@ use crate::request::Request;
 use crate::{End, Event, Outcome};
 use bytes::Bytes;
 use h1_decode::{HeadScan, request_head};
-use http_types::{BodySize, ConnectionType, KeepAlive, ParseError, ResponseHead};
+use http_bodies::BodySize;
+use http_types::{ConnectionType, KeepAlive, ParseError, ResponseHead};
 
 impl Connection {
     /// Takes in an event that is allowed, and answers it as the tables do. After an error the connection is as before.

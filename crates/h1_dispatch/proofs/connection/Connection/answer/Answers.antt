@@ -1,7 +1,7 @@
 use Rattle.std.proofs.Common.{◌≡◌, Some, ap, ◌∙◌, sym}
 use Rattle.std.specs.Prelude.{unwrap_or, if◌then◌else◌}
 use Rattle.http_types.specs.ResponseHead.{ResponseParts}
-use Rattle.http_types.specs.declared.keep_alive.KeepAlive.{KeepAlive}
+use Rattle.http_config.specs.declared.keep_alive.KeepAlive.{KeepAlive}
 use Rattle.h1_decode.specs.declared.scan.HeadScan.{HeadScan}
 use Rattle.h1_model.specs.Answer.{shape_none}
 use Rattle.h1_model.specs.AnswerText.{head_text}

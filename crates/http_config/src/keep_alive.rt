@@ -13,7 +13,7 @@ pub enum KeepAlive {
 }
 
 impl KeepAlive {
-    ghost use Rattle.http_types.specs.KeepAlive.{normalized, timeout_of};
+    ghost use Rattle.http_config.specs.KeepAlive.{normalized, timeout_of};
 
     /// Whether the connection may serve a further request.
     pub fn enabled(&self) -> bool
@@ -45,7 +45,7 @@ impl KeepAlive {
 
 impl Default for KeepAlive {
     ghost use Rattle.std.specs.Prelude.{◌≡◌};
-    ghost use Rattle.http_types.specs.declared.keep_alive.KeepAlive.TheVariants.{Timeout};
+    ghost use Rattle.http_config.specs.declared.keep_alive.KeepAlive.TheVariants.{Timeout};
 
     ghost is_default = { λ setting. setting ≡ Timeout 5000 };
 
@@ -56,8 +56,8 @@ impl Default for KeepAlive {
 
 impl From<u64> for KeepAlive {
     ghost use Rattle.std.specs.Prelude.{◌≡◌};
-    ghost use Rattle.http_types.specs.declared.keep_alive.KeepAlive.TheVariants.{Timeout};
-    ghost use Rattle.http_types.specs.KeepAlive.{normalized};
+    ghost use Rattle.http_config.specs.declared.keep_alive.KeepAlive.TheVariants.{Timeout};
+    ghost use Rattle.http_config.specs.KeepAlive.{normalized};
 
     ghost from_gives = { λ duration setting. setting ≡ normalized (Timeout duration) };
 
@@ -68,7 +68,7 @@ impl From<u64> for KeepAlive {
 
 impl From<Option<u64>> for KeepAlive {
     ghost use Rattle.std.specs.Prelude.{◌≡◌};
-    ghost use Rattle.http_types.specs.KeepAlive.{setting_of};
+    ghost use Rattle.http_config.specs.KeepAlive.{setting_of};
 
     ghost from_gives = { λ duration setting. setting ≡ setting_of duration };
 

@@ -3,7 +3,7 @@ ghost use Rattle.std.specs.Prelude.{◌≡◌, ◌<◌, ◌≤◌, ◌↔◌, �
 ghost use Rattle.std.specs.Result.{is_err};
 ghost use Rattle.std.specs.Io.{ReadsAtMost, WritesAtMost};
 ghost use Rattle.std.specs.Io.KnownBytes.{ReadConsumes, WriteAppends};
-ghost use Rattle.http_types.specs.Causes.{HasCause, counted};
+ghost use Rattle.http_config.specs.Causes.{HasCause, counted};
 
 use crate::{Failed, Sink, Source};
 use bytes::Bytes;
@@ -20,7 +20,7 @@ pub struct MemSource {
 }
 
 impl Model for MemSource {
-    ghost use Rattle.http_types.specs.Memory.{SourceState};
+    ghost use Rattle.http_config.specs.Memory.{SourceState};
 
     ghost Value = { SourceState };
 
@@ -80,7 +80,7 @@ pub struct MemSink {
 }
 
 impl Model for MemSink {
-    ghost use Rattle.http_types.specs.Memory.{SinkState};
+    ghost use Rattle.http_config.specs.Memory.{SinkState};
 
     ghost Value = { SinkState };
 

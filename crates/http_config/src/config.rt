@@ -1,9 +1,11 @@
 //! The settings of a connection. All durations and moments are milliseconds.
-ghost use Rattle.std.specs.Prelude.{◌≡◌, ◌<◌, ℕ, unwrap_or, IfOk, IsErr, ◌↔◌, IsTrue};
-ghost use Rattle.http_types.specs.Config.{Settings, default_settings};
-ghost use Rattle.http_types.specs.Deadline.{deadline_of};
-ghost use Rattle.http_types.specs.KeepAlive.{normalized, timeout_of};
+ghost use Rattle.std.specs.Prelude.{◌≡◌, ◌<◌, ◌↔◌, ◌⊎◌, ℕ, unwrap_or, IfOk, IsErr};
+ghost use Rattle.http_config.specs.Config.{Settings, IsHoldSize, default_settings};
+ghost use Rattle.http_config.specs.Deadline.{deadline_of};
+ghost use Rattle.http_config.specs.KeepAlive.{normalized, timeout_of};
+ghost use Rattle.http_config.specs.declared.hold_size.TheConstants.{MIN_HOLD_SIZE, MAX_HOLD_SIZE};
 
+use crate::hold_size::{DEFAULT_HOLD_SIZE, HoldSize, MAX_HOLD_SIZE, MIN_HOLD_SIZE};
 use crate::KeepAlive;
 use std::marker::Model;
 use thiserror::Error;
@@ -27,10 +29,11 @@ pub struct ServiceConfig {
     client_disconnect_timeout: u64,
     h1_allow_half_closed: bool,
     h1_write_buffer_size: usize,
+    h1_hold_size: usize,
 }
 
 impl Model for ServiceConfig {
-    ghost use Rattle.http_types.specs.Config.{Settings, AreUsable};
+    ghost use Rattle.http_config.specs.Config.{Settings, AreUsable};
 
     ghost Value = { Settings };
 
@@ -40,6 +43,7 @@ impl Model for ServiceConfig {
       client_disconnect_timeout = c.client_disconnect_timeout;
       h1_allow_half_closed = c.h1_allow_half_closed;
       h1_write_buffer_size = c.h1_write_buffer_size;
+      h1_hold_size = c.h1_hold_size;
     } };
 
     ghost invariant = { λ c. AreUsable (record {
@@ -48,6 +52,7 @@ impl Model for ServiceConfig {
       client_disconnect_timeout = c.client_disconnect_timeout;
       h1_allow_half_closed = c.h1_allow_half_closed;
       h1_write_buffer_size = c.h1_write_buffer_size;
+      h1_hold_size = c.h1_hold_size;
     }) };
 
     ghost inverse = { λ s. record {
@@ -56,6 +61,7 @@ impl Model for ServiceConfig {
       client_disconnect_timeout = s.client_disconnect_timeout;
       h1_allow_half_closed = s.h1_allow_half_closed;
       h1_write_buffer_size = s.h1_write_buffer_size;
+      h1_hold_size = s.h1_hold_size;
     } };
 }
 
@@ -103,6 +109,15 @@ impl ServiceConfig {
     {
         self.h1_write_buffer_size
     }
+
+    /// How many bytes a connection holds at most of those that it read and hasn't passed on, and so
+    /// the longest head: 8192 to 1048576.
+    pub fn h1_hold_size(&self) -> usize
+        ensures value { result ≡ self.now.h1_hold_size }
+        ensures range { IsHoldSize result }
+    {
+        self.h1_hold_size
+    }
 }
 
 // The moment `duration` past `now`, where the duration is on and the moment fits.
@@ -122,7 +137,7 @@ pub struct ServiceConfigBuilder {
 }
 
 impl Model for ServiceConfigBuilder {
-    ghost use Rattle.http_types.specs.Config.{Settings};
+    ghost use Rattle.http_config.specs.Config.{Settings};
 
     ghost Value = { Settings };
 
@@ -133,7 +148,8 @@ impl Model for ServiceConfigBuilder {
 
 impl ServiceConfigBuilder {
     /// All settings at their defaults: keep-alive and request timeout of 5000 milliseconds, no
-    /// disconnect timeout, half-closed connections allowed, a write buffer of 32768 bytes.
+    /// disconnect timeout, half-closed connections allowed, a write buffer of 32768 bytes, a hold
+    /// size of 131072 bytes.
     pub fn new() -> Self
         ensures { result ≡ default_settings }
     {
@@ -144,6 +160,7 @@ impl ServiceConfigBuilder {
                 client_disconnect_timeout: DEFAULT_CLIENT_DISCONNECT_TIMEOUT,
                 h1_allow_half_closed: true,
                 h1_write_buffer_size: DEFAULT_H1_WRITE_BUFFER_SIZE,
+                h1_hold_size: DEFAULT_HOLD_SIZE,
             },
         }
     }
@@ -192,6 +209,19 @@ impl ServiceConfigBuilder {
         Ok(self)
     }
 
+    /// How many bytes a connection holds at most of those that it read and hasn't passed on.
+    /// `HoldSize` below 8192 and above 1048576.
+    pub fn h1_hold_size(mut self, size: usize) -> Result<Self, HoldSize>
+        ensures ok { IfOk result (λ builder. builder ≡ record self { h1_hold_size = size }) }
+        ensures range { IsErr result ↔ ((size < MIN_HOLD_SIZE) ⊎ (MAX_HOLD_SIZE < size)) }
+    {
+        if size < MIN_HOLD_SIZE || size > MAX_HOLD_SIZE {
+            return Err(HoldSize);
+        }
+        self.config.h1_hold_size = size;
+        Ok(self)
+    }
+
     /// The configuration with these settings.
     pub fn build(self) -> ServiceConfig
         ensures { result ≡ self }
@@ -202,7 +232,7 @@ impl ServiceConfigBuilder {
 
 impl Default for ServiceConfigBuilder {
     ghost use Rattle.std.specs.Prelude.{◌≡◌};
-    ghost use Rattle.http_types.specs.Config.{default_settings};
+    ghost use Rattle.http_config.specs.Config.{default_settings};
 
     ghost is_default = { λ builder. builder ≡ default_settings };
 

@@ -3,7 +3,7 @@ ghost use Rattle.std.specs.Prelude.{◌≡◌, ◌<◌, None, length, IfOk, if�
 ghost use Rattle.std.specs.Result.{is_err};
 ghost use Rattle.std.specs.Io.{ReadsAtMost, WritesAtMost};
 ghost use Rattle.std.specs.Io.KnownBytes.{ReadConsumes, WriteAppends};
-ghost use Rattle.http_types.specs.Causes.{HasCause, counted};
+ghost use Rattle.http_config.specs.Causes.{HasCause, counted};
 
 use crate::{Failed, Sink, Source};
 use std::io::{ErrorKind, Read, Stdin, Stdout, Write};

@@ -2,7 +2,7 @@
 ghost use Rattle.std.specs.Prelude.{◌≡◌, ◌<◌, ◌⊎◌, ◌++◌, [], Some, None, IfOk, length, min};
 ghost use Rattle.std.specs.Io.{ReadsAtMost, WritesAtMost};
 ghost use Rattle.std.specs.Io.KnownBytes.{ReadConsumes, WriteAppends};
-ghost use Rattle.http_types.specs.Causes.{HasCause};
+ghost use Rattle.http_config.specs.Causes.{HasCause};
 
 use crate::memory::move_front;
 use crate::{Failed, Sink, Source};

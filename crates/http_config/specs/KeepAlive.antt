@@ -1,7 +1,7 @@
 -- The keep-alive setting as a duration.
 use Rattle.std.specs.Prelude.{ℕ, ◌==◌, if◌then◌else◌, Option, Some, None}
-use Rattle.http_types.specs.declared.keep_alive.KeepAlive.{KeepAlive}
-use Rattle.http_types.specs.declared.keep_alive.KeepAlive.TheVariants.{Timeout, Os, Disabled}
+use Rattle.http_config.specs.declared.keep_alive.KeepAlive.{KeepAlive}
+use Rattle.http_config.specs.declared.keep_alive.KeepAlive.TheVariants.{Timeout, Os, Disabled}
 
 -- a timeout of 0 is no keep-alive
 abbrev pub normalized : KeepAlive → KeepAlive

@@ -2,7 +2,7 @@
 ghost use Rattle.std.specs.Prelude.{◌≡◌, Option, List, ℕ};
 ghost use Rattle.std.specs.Io.{ReadsAtMost};
 ghost use Rattle.std.specs.Io.KnownBytes.{ReadConsumes};
-ghost use Rattle.http_types.specs.Causes.{HasCause};
+ghost use Rattle.http_config.specs.Causes.{HasCause};
 
 use crate::Failed;
 

@@ -1,0 +1,4 @@
+//! Bodies.
+mod size;
+
+pub use size::BodySize;

@@ -1,4 +1,0 @@
-//! What heads say of their bodies.
-mod size;
-
-pub use size::BodySize;
