@@ -1,8 +1,7 @@
 -- The machine's step of an answer that is its status alone.
-use Rattle.std.proofs.Common.{◌≡◌, ℕ, zero, suc, ◌+◌, Bool, true, false, not, ◌&&◌, List, [], ◌∷◌, ◌++◌, length, map, Option, Some, None, refl, sym, ap, ◌∙◌, subst, arith}
+use Rattle.std.proofs.Common.{◌≡◌, ℕ, suc, ◌+◌, Bool, true, false, not, ◌&&◌, List, [], ◌∷◌, ◌++◌, length, Option, Some, None, refl, sym, ap, ◌∙◌, arith}
 use Rattle.std.proofs.lemmas.List.{length-append}
-use Rattle.std.specs.Prelude.{option_map, is_some, unwrap_or, flat_map, IsTrue, IsSome, ◌↔◌, ◌==◌, if◌then◌else◌}
-use Rattle.std.specs.Option.{option_or}
+use Rattle.std.specs.Prelude.{is_some, unwrap_or, IsTrue, IsSome, ◌↔◌, ◌==◌, if◌then◌else◌}
 use Rattle.http_header.specs.FieldValue.{FieldValue}
 use Rattle.http_map.specs.HeaderMap.{Entries, value_count}
 use Rattle.http_config.specs.Config.{Settings}
@@ -11,7 +10,6 @@ use Rattle.http_types.specs.Flags.{type_of_flags}
 use Rattle.http_bodies.specs.declared.body.size.BodySize.{BodySize}
 use Rattle.http_types.specs.declared.message.ConnectionType.{ConnectionType}
 use Rattle.http_types.specs.declared.message.ConnectionType.TheVariants.{Close, KeepAlive, Upgrade}
-use Rattle.http_types.specs.declared.message.Flags.{Flags}
 use Rattle.h1_model.specs.Request as model
 use Rattle.h1_model.specs.Setting.{Setting, keeps}
 use Rattle.h1_model.specs.Answer as answers
@@ -19,15 +17,13 @@ use Rattle.h1_model.specs.Answer.{AnswerHead, Asked, Shape, shape_none, shape_of
 use Rattle.h1_model.specs.AnswerText.{head_text}
 use Rattle.h1_model.specs.Text.{answer_head_text}
 use Rattle.h1_model.specs.Event as on
-use Rattle.h1_machine.specs.Kept.{Kept, Exchange, answered}
-use Rattle.h1_machine.specs.Change.{IsChange, IsStep, doing_with}
-use Rattle.h1_machine.specs.Kept.{Change}
-use Rattle.h1_machine.specs.Body.{passing}
+use Rattle.h1_machine.specs.Kept.{Kept}
+use Rattle.h1_machine.specs.Change.{doing_with}
 use Rattle.h1_machine.specs.Reply.{answering, completing}
 use Rattle.h1_dispatch.specs.Meaning.{setting_of, answer_of, size_of, headers_of, lines_of}
 use Rattle.h1_dispatch.specs.BareAnswer.{bare_head}
 use Rattle.h1_dispatch.specs.Served.{IsBare}
-use Rattle.h1_dispatch.specs.State.{State, IsAllowed, Answers}
+use Rattle.h1_dispatch.specs.State.{IsAllowed, Answers}
 use Rattle.h1_dispatch.specs.Parts as parts
 use Rattle.h1_dispatch.specs.Parts.{Parts, kept_of, exchange_of, is_free, end_by, end_of_parts, takes, AreLinked}
 use Rattle.h1_dispatch.specs.declared.event.Event.TheVariants.{Answer}
@@ -66,14 +62,16 @@ nothing_there there None both is = refl
 nothing_there there (Some x) both is = absurd (cc (is, both.1 refl))
 
 pub bare_of : (head : ResponseParts) (size : BodySize) → is_at_once (size_of size) ≡ true → head.reason ≡ None → type_of_flags head.flags ≡ None
-    → value_count head.headers ≡ 0 → IsBare (answer_of head) (size_of size)
-bare_of head size once reason marks lines =
+    → head.flags.no_chunking ≡ false → head.flags.in_camel_case ≡ false → value_count head.headers ≡ 0 → IsBare (answer_of head) (size_of size)
+bare_of head size once reason marks chunks camel lines =
     let flags = unmarked head.flags.close head.flags.keep_alive head.flags.upgrade marks in
     record {
       reason = reason;
       closes = flags.0;
       keeps_alive = flags.1;
       upgrades = flags.2;
+      chunks = chunks;
+      lower_case = camel;
       headers = empty_of (headers_of head.headers) (count_lines head.headers ∙ lines);
       at_once = once;
     }
@@ -82,17 +80,16 @@ pub bare_lines : (head : ResponseParts) (size : BodySize) → IsBare (answer_of 
 bare_lines head size bare = sym (count_lines head.headers) ∙ ap (λ (l : List model.Header). length l) bare.headers
 
 -- a bare answer is its status
-pub bare_is : (head : AnswerHead) (size : answers.BodySize) → head.no_chunking ≡ false → head.in_camel_case ≡ false → IsBare head size
-    → head ≡ bare_head head.status
-bare_is head size chunks camel bare =
+pub bare_is : (head : AnswerHead) (size : answers.BodySize) → IsBare head size → head ≡ bare_head head.status
+bare_is head size bare =
     λ i. record {
       status = head.status;
       reason = bare.reason i;
       closes = bare.closes i;
       keeps_alive = bare.keeps_alive i;
       upgrades = bare.upgrades i;
-      no_chunking = chunks i;
-      in_camel_case = camel i;
+      no_chunking = bare.chunks i;
+      in_camel_case = bare.lower_case i;
       headers = bare.headers i;
     }
 
@@ -200,7 +197,7 @@ answer_answers s p r head size kind buffered text since there bare kind_is buffe
     let kept = answered_kept s p r head.status (size_of size) kind text bare.at_once type same_text in
     let named : doing_with (answering set (answer_of head) (size_of size)) (kept_of p)
     ≡ record { outcome = on.done; kept = answering set (bare_head head.status) (size_of size) (exchange_of r) (kept_of p) } =
-    (λ i. doing_with (answering set (bare_is (answer_of head) (size_of size) refl refl bare i) (size_of size)) (kept_of (record p { request = there i })))
+    (λ i. doing_with (answering set (bare_is (answer_of head) (size_of size) bare i) (size_of size)) (kept_of (record p { request = there i })))
     ∙ (λ i. record { outcome = on.done; kept = answering set (bare_head head.status) (size_of size) (exchange_of r) (kept_of (record p { request = sym there i })) }) in
     let done : record { outcome = on.done; kept = record (kept_of q) { is_coming = was; closing_since = p.closing_since } }
     ≡ record { outcome = on.done; kept = answering set (bare_head head.status) (size_of size) (exchange_of r) (kept_of p) } =

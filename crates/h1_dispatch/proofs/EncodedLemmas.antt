@@ -1,12 +1,12 @@
 -- The text of a bare answer's head, piece by piece.
-use Rattle.std.proofs.Common.{◌≡◌, ℕ, ◌/◌, List, [], ◌∷◌, ◌++◌, Option, refl, sym, ap, ◌∙◌}
+use Rattle.std.proofs.Common.{◌≡◌, ℕ, ◌/◌, List, [], ◌++◌, sym, ap, ◌∙◌}
 use Rattle.std.proofs.lemmas.List.{append_assoc}
 use Rattle.std.specs.Prelude.{codes, unwrap_or, false}
 use Rattle.http.specs.StatusCode.{code_digits, reason_phrase}
 use Rattle.httpdate.specs.Date.{date_text, unix_secs}
 use Rattle.httpdate.specs.declared.date.HttpDate.{HttpDate}
 use Rattle.h1_model.specs.Answer.{BodySize, shape_none}
-use Rattle.h1_model.specs.AnswerText.{status_line, framing_line, connection_line, line_text, head_text, date_of}
+use Rattle.h1_model.specs.AnswerText.{status_line, framing_line, connection_line, line_text, head_text}
 use Rattle.h1_model.specs.Request.{ConnectionType}
 use Rattle.h1_model.proofs.DateLemmas.{date_same}
 use Rattle.h1_dispatch.specs.BareAnswer.{bare_head}

@@ -1,16 +1,14 @@
 -- The machine's steps of a connection's fields where the next head is asked for.
 use Rattle.std.proofs.lemmas.List.{length-take, length-drop}
-use Rattle.std.proofs.Common.{◌≡◌, ℕ, ◌-◌, ◌<◌, ◌≤◌, Bool, true, false, not, ◌&&◌, List, [], ◌∷◌, length, drop, Option, Some, None, inl, inr, refl, sym, ap, ◌∙◌, subst, arith}
-use Rattle.std.specs.Prelude.{option_map, is_some, slice_range, codes, bytes_eq, ◌==◌, if◌then◌else◌, IsTrue}
+use Rattle.std.proofs.Common.{◌≡◌, ℕ, ◌-◌, ◌≤◌, Bool, true, false, not, ◌&&◌, List, [], ◌∷◌, length, drop, Option, Some, None, inl, inr, refl, sym, ap, ◌∙◌, subst, arith}
+use Rattle.std.specs.Prelude.{option_map, is_some, slice_range, codes, bytes_eq, ◌==◌, if◌then◌else◌}
 use Rattle.http_config.specs.Config.{Settings}
-use Rattle.http_types.specs.declared.message.ConnectionType.{ConnectionType}
-use Rattle.h1_model.specs.HeadPiece.{IsHeadPiece, HasNoHeadPiece}
+use Rattle.h1_model.specs.HeadPiece.{IsHeadPiece}
 use Rattle.h1_model.specs.Request as model
 use Rattle.h1_model.specs.Request.{Head, Reading, head_is, faulty, too_large}
-use Rattle.h1_model.specs.RequestHead.{IsReading, IsReadingWithin}
+use Rattle.h1_model.specs.RequestHead.{IsReadingWithin}
 use Rattle.h1_model.specs.LengthTable.{body_kind, connection_of}
 use Rattle.h1_model.specs.Setting.{Setting}
-use Rattle.h1_model.specs.Sums as sums
 use Rattle.h1_model.specs.End as ends
 use Rattle.h1_model.specs.Event as on
 use Rattle.h1_model.proofs.HeadPieceLemmas.{head_piece_decided}
@@ -19,8 +17,8 @@ use Rattle.h1_machine.specs.Kept.{Kept, Exchange, rest_in, whole_rest, new_excha
 use Rattle.h1_machine.specs.Kept as machine
 use Rattle.h1_machine.specs.Local.{closing_by}
 use Rattle.h1_machine.specs.Kept.{Change}
-use Rattle.h1_machine.specs.Change.{IsChange, IsUpcoming, IsNext, IsComing, IsStep, noting_since, behind_head, without_head}
-use Rattle.h1_decode.specs.SimpleHead.{IsSimple, IsSimpleReading, IsNotSimple}
+use Rattle.h1_machine.specs.Change.{IsChange, IsUpcoming, IsNext, IsComing, IsStep, noting_since, behind_head}
+use Rattle.h1_decode.specs.SimpleHead.{IsSimpleReading, IsNotSimple}
 use Rattle.h1_decode.proofs.PlainHeadLemmas.{body_kind-plain, connection_of-plain, expects_continue-plain}
 use Rattle.h1_decode.specs.HeadItem.{SaysHead}
 use Rattle.h1_decode.specs.HeadScan.{AnswersScan}
@@ -29,15 +27,15 @@ use Rattle.h1_decode.specs.declared.scan.HeadScan.{HeadScan}
 use Rattle.h1_decode.specs.declared.scan.HeadScan.TheVariants.{Open, Piece}
 use Rattle.h1_dispatch.specs.Meaning.{HELD_BYTES, setting_of, end_of}
 use Rattle.h1_dispatch.specs.Served.{IsLater}
-use Rattle.h1_dispatch.specs.State.{State, IsAllowed, Answers, Stands, IsServedLater}
-use Rattle.h1_dispatch.specs.Parts.{Parts, kept_of, exchange_of, is_free, is_whole, is_last_request, end_by, end_of_parts, takes, AreLinked}
+use Rattle.h1_dispatch.specs.State.{State, IsAllowed, Answers, IsServedLater}
+use Rattle.h1_dispatch.specs.Parts.{Parts, kept_of, exchange_of, is_free, is_whole, is_last_request, end_by, end_of_parts, AreLinked}
 use Rattle.h1_dispatch.specs.declared.event.End.{End}
 use Rattle.h1_dispatch.specs.declared.event.End.TheVariants.{Asked, HalfClosed}
 use Rattle.h1_dispatch.specs.declared.event.Event.TheVariants.{Next}
 use Rattle.h1_dispatch.specs.declared.event.Outcome.TheVariants.{Head as Handed, Pending, Closed}
 use Rattle.h1_dispatch.specs.declared.request.Request.{Request}
 use Rattle.h1_machine.proofs.Stands.{step_outcome}
-use Rattle.h1_dispatch.proofs.PartsLemmas.{closing_same, closes_same, allowed_same, step_of, stays_noted}
+use Rattle.h1_dispatch.proofs.PartsLemmas.{closes_same, allowed_same, step_of, stays_noted}
 use Rattle.h1_dispatch.proofs.StepLemmas.{state_of}
 
 -- a part is no longer than the whole

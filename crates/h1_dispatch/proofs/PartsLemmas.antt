@@ -1,5 +1,5 @@
 -- What the machine says of a connection's fields.
-use Rattle.std.proofs.Common.{◌≡◌, ℕ, Bool, true, false, not, ◌&&◌, List, Option, Some, None, refl, sym, ap, ◌∙◌, subst}
+use Rattle.std.proofs.Common.{◌≡◌, ℕ, Bool, true, false, not, ◌&&◌, ◌||◌, List, Option, Some, None, refl, sym, ap, ◌∙◌, subst}
 use Rattle.std.specs.Prelude.{option_map, is_some, unwrap_or, if◌then◌else◌}
 use Rattle.std.specs.Option.{option_or}
 use Rattle.http_config.specs.Config.{Settings}
@@ -9,17 +9,17 @@ use Rattle.h1_model.specs.Setting.{Setting}
 use Rattle.h1_model.specs.Event as on
 use Rattle.h1_machine.specs.Kept as machine
 use Rattle.h1_machine.specs.Kept.{Kept}
-use Rattle.h1_machine.specs.Local.{closing_by, allowed_by, waits_for_answer}
+use Rattle.h1_machine.specs.Local.{closing_by, allowed_by, waits_for_answer, is_answering, has_body_left}
 use Rattle.h1_machine.specs.Change.{IsChange, IsComing, noting_since, IsStep}
 use Rattle.h1_machine.specs.Body.{passing}
 use Rattle.h1_decode.specs.declared.scan.HeadScan.{HeadScan}
 use Rattle.h1_decode.specs.declared.scan.HeadScan.TheVariants.{Open, Piece}
 use Rattle.h1_decode.specs.HeadScan.{AnswersScan}
 use Rattle.h1_dispatch.specs.Meaning.{setting_of, event_of, end_of}
-use Rattle.h1_dispatch.specs.Parts.{Parts, kept_of, is_free, is_whole, end_by, end_of_parts, closing_takes, running_takes, takes}
+use Rattle.h1_dispatch.specs.Parts.{Parts, kept_of, is_free, is_whole, end_by, end_of_parts, takes}
 use Rattle.h1_dispatch.specs.declared.event.End.{End}
 use Rattle.h1_dispatch.specs.declared.event.Event.{Event}
-use Rattle.h1_dispatch.specs.declared.event.Event.TheVariants.{Read, Eof, Next, Answer, Write, Tick}
+use Rattle.h1_dispatch.specs.declared.event.Event.TheVariants.{Read, Eof, Next, Pull, DropBody, Continue, Answer, Chunk, BodyEnd, BodyError, Write, Tick, Drain}
 use Rattle.h1_dispatch.specs.declared.request.Request.{Request}
 
 -- ---- the last request
@@ -92,6 +92,35 @@ closes_same s p = ap is_some (closing_same s p) ∙ some_same (end_of_parts s p)
 
 -- ---- allowed
 
+-- no body is there to be pulled or dropped
+no_pull : (p : Parts) (x : Option Request) → (let k = kept_of (record p { request = x }) in machine.is_upgraded k || has_body_left k) ≡ false
+no_pull p None = refl
+no_pull p (Some r) = refl
+
+no_drop : (p : Parts) (x : Option Request) → (let k = kept_of (record p { request = x }) in not (machine.is_upgraded k) && has_body_left k) ≡ false
+no_drop p None = refl
+no_drop p (Some r) = refl
+
+-- no client waits, and no answer is under way
+no_go_on : (p : Parts) (x : Option Request)
+    → (let k = kept_of (record p { request = x }) in waits_for_answer k && machine.of_exchange (λ y. y.expects && not y.was_told_to_go_on) k) ≡ false
+no_go_on p None = refl
+no_go_on p (Some r) = of_reply r.answered
+  where
+    of_reply : (a : Option ConnectionType)
+        → (let k = kept_of (record p { request = Some (record r { answered = a }) }) in
+        waits_for_answer k && machine.of_exchange (λ y. y.expects && not y.was_told_to_go_on) k) ≡ false
+    of_reply None = refl
+    of_reply (Some kind) = refl
+
+no_answering : (p : Parts) (x : Option Request) → is_answering (kept_of (record p { request = x })) ≡ false
+no_answering p None = refl
+no_answering p (Some r) = of_reply r.answered
+  where
+    of_reply : (a : Option ConnectionType) → is_answering (kept_of (record p { request = Some (record r { answered = a }) })) ≡ false
+    of_reply None = refl
+    of_reply (Some kind) = refl
+
 -- twice turned round
 not_not : (b : Bool) → not (not b) ≡ b
 not_not true = refl
@@ -114,6 +143,20 @@ allowed_at s p (Write limit) true is = rw is refl
 allowed_at s p (Write limit) false is = rw is refl
 allowed_at s p (Tick moment) true is = rw is refl
 allowed_at s p (Tick moment) false is = rw is refl
+allowed_at s p Drain true is = rw is refl
+allowed_at s p Drain false is = rw is refl
+allowed_at s p Pull true is = rw is refl
+allowed_at s p Pull false is = rw (is, no_pull p p.request) refl
+allowed_at s p DropBody true is = rw is refl
+allowed_at s p DropBody false is = rw (is, no_drop p p.request) refl
+allowed_at s p Continue true is = rw is refl
+allowed_at s p Continue false is = rw (is, no_go_on p p.request) refl
+allowed_at s p (Chunk bytes) true is = rw is refl
+allowed_at s p (Chunk bytes) false is = rw (is, no_answering p p.request) refl
+allowed_at s p BodyEnd true is = rw is refl
+allowed_at s p BodyEnd false is = rw (is, no_answering p p.request) refl
+allowed_at s p BodyError true is = rw is refl
+allowed_at s p BodyError false is = rw (is, no_answering p p.request) refl
 
 pub allowed_same : (s : Settings) (p : Parts) (event : Event)
     → allowed_by (setting_of s) (kept_of p) (event_of event)

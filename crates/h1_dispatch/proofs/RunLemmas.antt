@@ -1,10 +1,9 @@
 -- A run that grows by a step, behind the trace that the connection stands for.
-use Rattle.std.proofs.Common.{◌≡◌, ℕ, ◌+◌, ◌<◌, ◌≤◌, Bool, true, false, List, [], ◌∷◌, ◌++◌, length, get_or, map, take, reverse, Option, Some, Result, Ok, Err, refl, sym, ap, ◌∙◌, subst}
+use Rattle.std.proofs.Common.{◌≡◌, ℕ, ◌+◌, ◌<◌, ◌≤◌, false, List, [], ◌∷◌, ◌++◌, length, get_or, map, take, reverse, Some, Result, Ok, Err, refl, sym, ap, ◌∙◌, subst}
 use Rattle.std.proofs.lemmas.List.{map-append, take_more, take_all}
 use Rattle.std.proofs.lemmas.Grind.{reverse_onto}
-use Rattle.std.specs.Prelude.{IsTrue, IsFalse, IfOk, OnOk, option_map, slice_get}
+use Rattle.std.specs.Prelude.{IfOk, OnOk, option_map, slice_get}
 use Rattle.http_config.specs.Config.{Settings}
-use Rattle.h1_model.specs.Setting.{Setting}
 use Rattle.h1_model.specs.Event as on
 use Rattle.h1_model.specs.Sums as sums
 use Rattle.h1_model.specs.Past.{ParsedStep}
@@ -16,7 +15,6 @@ use Rattle.h1_model.proofs.WrittenLemmas.{written_buffered}
 use Rattle.h1_model.proofs.HandedParsed.{handed_prefix}
 use Rattle.h1_model.proofs.PastLemmas.{past_of_unique}
 use Rattle.h1_machine.specs.Kept.{Kept}
-use Rattle.h1_machine.specs.KeptOf.{kept_of}
 use Rattle.h1_machine.specs.Local.{closing_by, allowed_by}
 use Rattle.h1_machine.specs.StandsFor.{StandsFor}
 use Rattle.h1_machine.proofs.Stands.{fresh_stands, closing_stands, allowed_stands}
@@ -25,7 +23,6 @@ use Rattle.h1_dispatch.specs.State.{State, fresh_state, IsAllowed, Answers, Goes
 use Rattle.h1_dispatch.specs.Served.{IsNotServed}
 use Rattle.h1_dispatch.specs.Run.{SaySteps, IsDriven, IsWhole, IsMisplaced, IsPremature}
 use Rattle.h1_dispatch.specs.declared.error.StepError.{StepError}
-use Rattle.h1_dispatch.specs.declared.event.End.{End}
 use Rattle.h1_dispatch.specs.declared.event.Event.{Event}
 use Rattle.h1_dispatch.specs.declared.event.Outcome.{Outcome}
 use Rattle.h1_dispatch.specs.declared.trace.Step.{Step}

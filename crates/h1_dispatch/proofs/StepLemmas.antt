@@ -8,8 +8,7 @@ use Rattle.http_config.specs.Config.{Settings}
 use Rattle.http_config.specs.KeepAlive.{normalized}
 use Rattle.http_config.specs.declared.keep_alive.KeepAlive.{KeepAlive as Policy}
 use Rattle.http_config.specs.declared.keep_alive.KeepAlive.TheVariants.{Timeout, Os, Disabled}
-use Rattle.h1_model.specs.Setting.{Setting}
-use Rattle.h1_model.specs.OutcomeTable.{counted_from, has_run_out, is_kept_too_long}
+use Rattle.h1_model.specs.OutcomeTable.{has_run_out, is_kept_too_long}
 use Rattle.h1_model.specs.End as ends
 use Rattle.h1_model.specs.Event as on
 use Rattle.h1_machine.specs.Kept as machine
@@ -17,7 +16,7 @@ use Rattle.h1_machine.specs.Kept.{Kept, Exchange}
 use Rattle.h1_machine.specs.Local.{closing_by, allowed_by}
 use Rattle.h1_machine.specs.Kept.{Change}
 use Rattle.h1_machine.specs.Clock.{expiring, at_moment, ticking}
-use Rattle.h1_machine.specs.Change.{IsChange, IsStep, exchange_at_end, ending_input}
+use Rattle.h1_machine.specs.Change.{exchange_at_end, ending_input}
 use Rattle.h1_machine.specs.Body.{passing}
 use Rattle.h1_decode.specs.declared.scan.HeadScan.{HeadScan}
 use Rattle.h1_decode.specs.HeadScan.{AnswersScan}
@@ -26,9 +25,9 @@ use Rattle.h1_dispatch.specs.State.{State, IsAllowed, Answers}
 use Rattle.h1_dispatch.specs.Parts.{Parts, kept_of, exchange_of, is_free, end_by, end_of_parts, takes, AreLinked}
 use Rattle.h1_dispatch.specs.declared.event.End.{End}
 use Rattle.h1_dispatch.specs.declared.event.Event.{Event}
-use Rattle.h1_dispatch.specs.declared.event.Event.TheVariants.{Read, Eof, Next, Answer, Tick}
+use Rattle.h1_dispatch.specs.declared.event.Event.TheVariants.{Read, Eof, Tick}
 use Rattle.h1_dispatch.specs.declared.event.Outcome.{Outcome}
-use Rattle.h1_dispatch.specs.declared.event.Outcome.TheVariants.{Took, Head, Pending, Closed, Gave, Done}
+use Rattle.h1_dispatch.specs.declared.event.Outcome.TheVariants.{Took, Gave, Done}
 use Rattle.h1_dispatch.specs.declared.request.Request.{Request}
 use Rattle.h1_dispatch.proofs.PartsLemmas.{closing_same, some_same, closes_same, allowed_same, step_of, stays_noted, passing_same}
 

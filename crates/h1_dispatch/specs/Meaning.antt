@@ -1,5 +1,5 @@
 -- What a connection's types mean in the model.
-use Rattle.std.specs.Prelude.{◌≡◌, ℕ, false, List, map, flat_map}
+use Rattle.std.specs.Prelude.{◌≡◌, ℕ, List, map, flat_map}
 use Rattle.http_config.specs.Config.{Settings}
 use Rattle.http_types.specs.ResponseHead.{ResponseParts}
 use Rattle.http_bodies.specs.declared.body.size.BodySize.{BodySize}
@@ -15,12 +15,17 @@ use Rattle.h1_model.specs.End as ends
 use Rattle.h1_model.specs.Event as on
 use Rattle.h1_model.specs.Sums as sums
 use Rattle.h1_decode.specs.HeadItem.{SaysHead}
+use Rattle.h1_decode.specs.HeadMap.{header_map}
 use Rattle.h1_dispatch.specs.declared.event.End.{End}
-use Rattle.h1_dispatch.specs.declared.event.End.TheVariants.{Asked, HalfClosed, InputEnded}
+use Rattle.h1_dispatch.specs.declared.event.End.TheVariants.{Malformed, TooLarge, SlowRequestTimeout, KeepAliveExpired, Body, BodyShort, Asked, BrokenBody, UnreadBody, Drained, HalfClosed, InputEnded}
+use Rattle.h1_dispatch.specs.declared.event.HeadFault.{HeadFault}
+use Rattle.h1_dispatch.specs.declared.event.HeadFault.TheVariants as faults
+use Rattle.h1_dispatch.specs.declared.event.PayloadError.{PayloadError}
+use Rattle.h1_dispatch.specs.declared.event.PayloadError.TheVariants.{Incomplete, EncodingCorrupted}
 use Rattle.h1_dispatch.specs.declared.event.Event.{Event}
-use Rattle.h1_dispatch.specs.declared.event.Event.TheVariants.{Read, Eof, Next, Answer, Write, Tick}
+use Rattle.h1_dispatch.specs.declared.event.Event.TheVariants.{Read, Eof, Next, Pull, DropBody, Continue, Answer, Chunk, BodyEnd, BodyError, Write, Tick, Drain}
 use Rattle.h1_dispatch.specs.declared.event.Outcome.{Outcome}
-use Rattle.h1_dispatch.specs.declared.event.Outcome.TheVariants.{Took, Head, Pending, Closed, Gave, Done}
+use Rattle.h1_dispatch.specs.declared.event.Outcome.TheVariants as out
 use Rattle.h1_dispatch.specs.declared.trace.Step.{Step}
 
 -- ---- the setting
@@ -68,8 +73,8 @@ answer_of head =
       closes = head.flags.close;
       keeps_alive = head.flags.keep_alive;
       upgrades = head.flags.upgrade;
-      no_chunking = false;
-      in_camel_case = false;
+      no_chunking = head.flags.no_chunking;
+      in_camel_case = head.flags.in_camel_case;
       headers = headers_of head.headers;
     }
 
@@ -79,23 +84,55 @@ abbrev pub event_of : Event → on.Event
 event_of (Read bytes) = on.read bytes
 event_of Eof = on.eof
 event_of Next = on.next
+event_of Pull = on.pull
+event_of DropBody = on.drop_body
+event_of Continue = on.go_on
 event_of (Answer head size) = on.answer (answer_of head) (size_of size)
+event_of (Chunk bytes) = on.chunk bytes
+event_of BodyEnd = on.body_end
+event_of BodyError = on.body_error
 event_of (Write limit) = on.write limit
 event_of (Tick moment) = on.tick moment
+event_of Drain = on.drain
 
 abbrev pub end_of : End → ends.End
+end_of Malformed = ends.malformed
+end_of TooLarge = ends.too_large
+end_of SlowRequestTimeout = ends.slow_request
+end_of KeepAliveExpired = ends.keep_alive_expired
+end_of Body = ends.body
+end_of BodyShort = ends.body_short
 end_of Asked = ends.asked
+end_of BrokenBody = ends.broken_body
+end_of UnreadBody = ends.unread_body
+end_of Drained = ends.drained
 end_of HalfClosed = ends.half_closed
 end_of InputEnded = ends.input_ended
 
--- The outcome says what the model's does. Of a head this is a relation, since a map keeps its lines name by name.
+abbrev pub fault_of : HeadFault → model.Fault
+fault_of faults.Malformed = model.malformed
+fault_of faults.TooLarge = model.too_large
+
+abbrev pub body_fault_of : PayloadError → on.BodyFault
+body_fault_of Incomplete = on.incomplete
+body_fault_of EncodingCorrupted = on.corrupted
+
+-- The outcome says what the model's does. Of a head and of trailers this is a relation, since a map keeps its lines
+-- name by name.
 abbrev pub SaysOutcome : Outcome → on.Outcome → Type 0
-SaysOutcome (Took count) outcome = outcome ≡ on.took count
-SaysOutcome (Head item) outcome = (head : model.Head) × SaysHead item head × (outcome ≡ on.head head)
-SaysOutcome Pending outcome = outcome ≡ on.pending
-SaysOutcome (Closed end) outcome = outcome ≡ on.closed (end_of end)
-SaysOutcome (Gave bytes) outcome = outcome ≡ on.gave bytes
-SaysOutcome Done outcome = outcome ≡ on.done
+SaysOutcome (out.Took count) outcome = outcome ≡ on.took count
+SaysOutcome (out.Head item) outcome = (head : model.Head) × SaysHead item head × (outcome ≡ on.head head)
+SaysOutcome (out.Bytes bytes) outcome = outcome ≡ on.bytes bytes
+SaysOutcome (out.Trailers map) outcome = (lines : List model.Header) × (map ≡ header_map lines) × (outcome ≡ on.trailers lines)
+SaysOutcome out.BodyEnd outcome = outcome ≡ on.body_ended
+SaysOutcome out.Pending outcome = outcome ≡ on.pending
+SaysOutcome (out.Closed end) outcome = outcome ≡ on.closed (end_of end)
+SaysOutcome (out.Fault fault) outcome = outcome ≡ on.fault (fault_of fault)
+SaysOutcome (out.Broken error) outcome = outcome ≡ on.broken_by (body_fault_of error)
+SaysOutcome (out.Gave bytes) outcome = outcome ≡ on.gave bytes
+SaysOutcome (out.Expired end) outcome = outcome ≡ on.expired (end_of end)
+SaysOutcome out.Abandoned outcome = outcome ≡ on.abandoned
+SaysOutcome out.Done outcome = outcome ≡ on.done
 
 -- the step is that of the model
 pub record SaysStep (step : Step) (of_model : sums.Step) : Type 0 where

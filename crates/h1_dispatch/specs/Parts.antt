@@ -12,7 +12,7 @@ use Rattle.h1_dispatch.specs.Meaning.{HELD_BYTES}
 use Rattle.h1_dispatch.specs.declared.event.End.{End}
 use Rattle.h1_dispatch.specs.declared.event.End.TheVariants.{Asked, HalfClosed, InputEnded}
 use Rattle.h1_dispatch.specs.declared.event.Event.{Event}
-use Rattle.h1_dispatch.specs.declared.event.Event.TheVariants.{Read, Eof, Next, Answer, Write, Tick}
+use Rattle.h1_dispatch.specs.declared.event.Event.TheVariants.{Read, Eof, Next, Answer, Write, Tick, Drain}
 use Rattle.h1_dispatch.specs.declared.request.Request.{Request}
 
 -- the fields of a connection
@@ -127,6 +127,8 @@ running_takes ended free now Next = free
 running_takes ended free now (Answer head size) = not free
 running_takes ended free now (Write limit) = true
 running_takes ended free now (Tick moment) = is_moment now moment
+running_takes ended free now Drain = true
+running_takes ended free now event = false
 
 abbrev pub takes : Bool → Bool → Bool → Bool → ℕ → Event → Bool
 takes over closing ended free now event =

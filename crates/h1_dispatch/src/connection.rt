@@ -164,6 +164,9 @@ fn takes(
         Event::Answer(_, _) => !is_closing && !is_free,
         Event::Write(_) => true,
         Event::Tick(moment) => now <= *moment && *moment < MOMENTS_END,
+        Event::Drain => !is_closing,
+        Event::Pull | Event::DropBody | Event::Continue => false,
+        Event::Chunk(_) | Event::BodyEnd | Event::BodyError => false,
     }
 }
 

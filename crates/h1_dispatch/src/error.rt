@@ -10,8 +10,8 @@ use thiserror::Error;
 /// Why a connection did not take in an event. It is as before.
 #[derive(Debug, Drop, Error)]
 pub enum StepError {
-    /// Events of this kind are not served yet: a second tick, a head that asks for more than one GET does, or an
-    /// answer with a header, a mark, a reason or a body.
+    /// Events of this kind are not served yet: a second tick, a drain, a head that asks for more than one GET does, or
+    /// an answer with a header, a mark, a reason or a body.
     #[error("an event of this kind is not served yet")]
     NotYet,
 

@@ -33,5 +33,5 @@ mod trace;
 pub use connection::Connection;
 pub use driver::drive;
 pub use error::{DriveError, StepError};
-pub use event::{End, Event, Outcome};
+pub use event::{End, Event, HeadFault, Outcome, PayloadError};
 pub use trace::{Step, Steps, Trace};

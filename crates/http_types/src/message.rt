@@ -23,6 +23,8 @@ pub(crate) struct Flags {
     pub(crate) keep_alive: bool,
     pub(crate) upgrade: bool,
     pub(crate) expect: bool,
+    pub(crate) no_chunking: bool,
+    pub(crate) in_camel_case: bool,
 }
 
 impl Flags {
@@ -32,6 +34,8 @@ impl Flags {
         keep_alive: false,
         upgrade: false,
         expect: false,
+        no_chunking: false,
+        in_camel_case: false,
     };
 
     /// Adds the mark of a type. No mark is taken away.

@@ -52,6 +52,13 @@ impl Connection {
             Event::Answer(head, size) => self.answer(head, *size),
             Event::Write(limit) => self.write(*limit),
             Event::Tick(moment) => self.tick(*moment),
+            Event::Pull => Err(StepError::NotYet),
+            Event::DropBody => Err(StepError::NotYet),
+            Event::Continue => Err(StepError::NotYet),
+            Event::Chunk(_) => Err(StepError::NotYet),
+            Event::BodyEnd => Err(StepError::NotYet),
+            Event::BodyError => Err(StepError::NotYet),
+            Event::Drain => Err(StepError::NotYet),
         }
     }
 
@@ -213,6 +220,12 @@ fn is_bare(head: &ResponseHead, size: BodySize) -> bool
         return false;
     }
     if head.conn_type().is_some() {
+        return false;
+    }
+    if head.camel_case_headers() {
+        return false;
+    }
+    if !head.chunked() {
         return false;
     }
     head.headers().len() == 0

@@ -1,6 +1,6 @@
 //! The head of a request.
-ghost use Rattle.std.specs.Prelude.{◌≡◌, None, IfOk};
-ghost use Rattle.http_types.specs.Flags.{no_flags, with_type, with_expect};
+ghost use Rattle.std.specs.Prelude.{◌≡◌, not, None, IfOk};
+ghost use Rattle.http_types.specs.Flags.{no_flags, with_type, with_expect, with_no_chunking, with_camel_case};
 ghost use Rattle.http_types.specs.ConnectionType.{IsTypeOf};
 
 use crate::message::{ConnectionType, Flags};
@@ -48,6 +48,20 @@ impl RequestHead {
         &self.headers
     }
 
+    /// Whether the names of the headers are sent in camel case.
+    pub fn camel_case_headers(&self) -> bool
+        ensures { result ≡ (request_flags self.now).in_camel_case }
+    {
+        self.flags.in_camel_case
+    }
+
+    /// Says whether the names of the headers are sent in camel case, as `Content-Type`.
+    pub fn set_camel_case_headers(&mut self, val: bool)
+        ensures { HasRequestFlags self.old self.new (with_camel_case (request_flags self.old) val) }
+    {
+        self.flags.in_camel_case = val;
+    }
+
     /// Marks the head with a connection type. A mark that stands stays.
     pub fn set_connection_type(&mut self, ctype: ConnectionType)
         ensures { HasRequestFlags self.old self.new (with_type (request_flags self.old) ctype) }
@@ -61,6 +75,20 @@ impl RequestHead {
         ensures { IsTypeOf (request_flags self.now) self.now.version result }
     {
         self.flags.connection_type(self.version)
+    }
+
+    /// Whether a body without a stated length may be sent in chunks (RFC 7230, section 4.1).
+    pub fn chunked(&self) -> bool
+        ensures { result ≡ not (request_flags self.now).no_chunking }
+    {
+        !self.flags.no_chunking
+    }
+
+    /// Says that a body without a stated length isn't to be sent in chunks, or that it may be.
+    pub fn no_chunking(&mut self, val: bool)
+        ensures { HasRequestFlags self.old self.new (with_no_chunking (request_flags self.old) val) }
+    {
+        self.flags.no_chunking = val;
     }
 
     /// Whether the client waits for leave to send the body (RFC 7231, section 5.1.1).

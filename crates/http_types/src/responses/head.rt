@@ -1,7 +1,7 @@
 //! The head of a response.
-ghost use Rattle.std.specs.Prelude.{◌≡◌, ◌↔◌, [], Some, None, Any, IfOk, OnOk, OnErr, IsErr, IsSome, IsTrue, string_bytes};
+ghost use Rattle.std.specs.Prelude.{◌≡◌, ◌↔◌, not, [], Some, None, Any, IfOk, OnOk, OnErr, IsErr, IsSome, IsTrue, string_bytes};
 ghost use Rattle.http.specs.declared.version.TheConstants.Version.{HTTP_11};
-ghost use Rattle.http_types.specs.Flags.{no_flags, type_of_flags, with_type};
+ghost use Rattle.http_types.specs.Flags.{no_flags, type_of_flags, with_type, with_no_chunking, with_camel_case};
 ghost use Rattle.http_types.specs.ConnectionType.{IsTypeOf};
 ghost use Rattle.http_types.specs.ResponseHead.{reason_text, IsLineByte, IsPlain};
 ghost use Rattle.http_types.specs.declared.message.ConnectionType.TheVariants.{KeepAlive, Upgrade};
@@ -65,6 +65,20 @@ impl ResponseHead {
         &self.headers
     }
 
+    /// Whether the names of the headers are sent in camel case.
+    pub fn camel_case_headers(&self) -> bool
+        ensures { result ≡ self.now.flags.in_camel_case }
+    {
+        self.flags.in_camel_case
+    }
+
+    /// Says whether the names of the headers are sent in camel case, as `Content-Type`.
+    pub fn set_camel_case_headers(&mut self, camel_case: bool)
+        ensures { self.new ≡ record self.old { flags = with_camel_case self.old.flags camel_case } }
+    {
+        self.flags.in_camel_case = camel_case;
+    }
+
     /// Marks the head with a connection type. A mark that stands stays.
     pub fn set_connection_type(&mut self, ctype: ConnectionType)
         ensures { self.new ≡ record self.old { flags = with_type self.old.flags ctype } }
@@ -99,6 +113,20 @@ impl ResponseHead {
         ensures { IsTrue result ↔ IsTypeOf self.now.flags self.now.version Upgrade }
     {
         self.connection_type() == ConnectionType::Upgrade
+    }
+
+    /// Whether a body without a stated length may be sent in chunks (RFC 7230, section 4.1).
+    pub fn chunked(&self) -> bool
+        ensures { result ≡ not self.now.flags.no_chunking }
+    {
+        !self.flags.no_chunking
+    }
+
+    /// Says that a body without a stated length isn't to be sent in chunks, or that it may be.
+    pub fn no_chunking(&mut self, val: bool)
+        ensures { self.new ≡ record self.old { flags = with_no_chunking self.old.flags val } }
+    {
+        self.flags.no_chunking = val;
     }
 
     /// The text behind the status: the response's own, else the status's phrase, else

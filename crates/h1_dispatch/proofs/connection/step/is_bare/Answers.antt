@@ -10,6 +10,7 @@ returns-clause-bare c = λ empty.
     bare_of c.args.head.now c.args.size (sym c.is_at_once.ensures ∙ c.if-not-is_at_once.false)
     (nothing_there _ _ c.has_own_reason.ensures c.if-has_own_reason.false)
     (sym c.conn_type.ensures ∙ none_of _ (sym c.is_some.ensures ∙ c.if-is_some.false))
+    (is_not _ _ c.chunked.ensures c.if-chunked.false) (sym c.camel_case_headers.ensures ∙ c.if-camel_case_headers.false)
     (ap (λ (m : Entries). value_count m) (sym c.headers.ensures) ∙ sym c.len.ensures.value ∙ eqb-true _ _ empty)
 
 pub returns-clause-more : goal.returns-clause-more
