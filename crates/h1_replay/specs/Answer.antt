@@ -1,19 +1,30 @@
 -- The line of an answer.
-use Rattle.std.specs.Prelude.{ℕ, ◌==◌, Bool, List, [], ◌∷◌, Option, Some, None, option_and_then, if◌then◌else◌}
+use Rattle.std.specs.Prelude.{ℕ, ◌==◌, false, List, [], ◌∷◌, Option, Some, None, option_and_then, if◌then◌else◌}
 use Rattle.http.specs.declared.version.TheConstants.Version.{HTTP_11}
 use Rattle.http_map.specs.HeaderMap.{Pair, append}
-use Rattle.http_types.specs.Flags.{no_flags}
 use Rattle.http_types.specs.ResponseHead.{ResponseParts}
+use Rattle.http_types.specs.declared.message.Flags.{Flags}
 use Rattle.h1_dispatch.specs.declared.event.Event.{Event}
 use Rattle.h1_dispatch.specs.declared.event.Event.TheVariants.{Answer}
 use Rattle.h1_replay.specs.Word.{◌>>=◌, status_of, size_of, marks_of, reason_of, header_of}
 use Rattle.h1_replay.specs.declared.marks.Marks.{Marks}
 
--- TODO with_marks
+-- the marks as those of a head
+abbrev pub flags_of : Marks → Flags
+flags_of marks =
+    record {
+      close = marks.close;
+      keep_alive = marks.keep_alive;
+      upgrade = marks.upgrade;
+      expect = false;
+      no_chunking = marks.no_chunking;
+      in_camel_case = marks.camel_case;
+    }
 
 -- an answer's head that has nothing but its status and its marks
 abbrev pub marked_head : ℕ → Marks → ResponseParts
-marked_head status marks = with_marks marks (record { version = HTTP_11; status = status; headers = []; reason = None; flags = no_flags })
+marked_head status marks =
+    record { version = HTTP_11; status = status; headers = []; reason = None; flags = flags_of marks }
 
 -- one header more
 abbrev pub with_header : Pair → ResponseParts → ResponseParts

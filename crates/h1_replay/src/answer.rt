@@ -2,7 +2,7 @@
 ghost use Rattle.std.specs.Prelude.{◌≡◌, Some, option_map};
 ghost use Rattle.http_map.specs.HeaderMap.{append};
 ghost use Rattle.h1_replay.specs.Word.{reason_of, header_of};
-ghost use Rattle.h1_replay.specs.Answer.{with_marks, with_headers, with_words, answer_of};
+ghost use Rattle.h1_replay.specs.Answer.{marked_head, with_headers, with_words, answer_of};
 ghost use Rattle.h1_replay.specs.Reading.{Reads, ReadsInto};
 
 use crate::marks::Marks;
@@ -10,8 +10,8 @@ use crate::pieces::Pieces;
 use crate::word::{LineError, bytes, size, status, text};
 use h1_dispatch::Event;
 use http_header::HeaderNameError;
-use http_types::header::{HeaderName, HeaderValue};
-use http_types::{ConnectionType, ResponseHead};
+use http_map::{HeaderName, HeaderValue};
+use http_types::{ConnectionType, ResponseHead, StatusCode};
 use std::alloc::Global;
 
 // What stands between a header's name and its value.
@@ -25,15 +25,15 @@ pub fn answer(alloc: Global, mut words: Pieces<'_>) -> Result<Event, LineError>
     let size = size(words.next().ok_or(LineError::Unreadable)?).ok_or(LineError::Unreadable)?;
     let marks_word = words.next().ok_or(LineError::Unreadable)?;
     let marks = Marks::from_word(marks_word).ok_or(LineError::Unreadable)?;
-    let mut head = ResponseHead::new(alloc, status);
-    put_marks(&mut head, marks);
+    let mut head = marked_head(alloc, status, marks);
     put_words(alloc, &mut head, words)?;
     Ok(Event::Answer(head, size))
 }
 
-fn put_marks(head: &mut ResponseHead, marks: Marks)
-    ensures { head.new ≡ with_marks marks head.old }
+fn marked_head(alloc: Global, status: StatusCode, marks: Marks) -> ResponseHead
+    ensures { result ≡ marked_head status marks }
 {
+    let mut head = ResponseHead::new(alloc, status);
     if marks.close {
         head.set_connection_type(ConnectionType::Close);
     }
@@ -43,12 +43,9 @@ fn put_marks(head: &mut ResponseHead, marks: Marks)
     if marks.upgrade {
         head.set_connection_type(ConnectionType::Upgrade);
     }
-    if marks.no_chunking {
-        head.no_chunking(true);
-    }
-    if marks.camel_case {
-        head.set_camel_case_headers(true);
-    }
+    head.no_chunking(marks.no_chunking);
+    head.set_camel_case_headers(marks.camel_case);
+    head
 }
 
 // A reason behind a slash, where the first word is one, and headers.
