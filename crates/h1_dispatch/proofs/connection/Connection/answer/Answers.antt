@@ -18,7 +18,7 @@ use Rattle.h1_dispatch.proofs.StepLemmas.{viewed, allowed_viewed, since_of}
 use Rattle.h1_dispatch.proofs.connection.Connection.answer.Goals as goal
 
 pub returns-in_default-clause-ok : goal.returns-in_default-clause-ok
-returns-in_default-clause-ok c = absurd (no_request _ _ c.args.head.now c.args.size c.in_default.is (allowed_viewed _ _ _ c.self.view_is c.requires))
+returns-in_default-clause-ok c = absurd (no_request c.self.inside.config _ c.args.head.now c.args.size c.in_default.is (allowed_viewed _ _ _ c.self.view_is c.requires))
 
 pub returns-clause-ok : goal.returns-clause-ok
 returns-clause-ok c =
@@ -34,7 +34,7 @@ returns-clause-ok c =
     ∙ (λ i. head_text 1 (bare_head (status i)) shape_none (size i) (type_of c.answer_type-connection.result) (moment i)) in
     viewed _ _ _ Done _ c.self.view_is
     (answer_answers _ _ c.in-Some.request c.args.head.now c.args.size c.answer_type-connection.result c.extend_from_slice.new.self c.as_slice.result.now _
-    c.in-Some.is bare kind c.in_ok-extend_from_slice.ensures.ok text c.self.invariant (answer_allowed _ _ c.args.head.now c.args.size allowed).0
+    c.in-Some.is bare kind c.in_ok-extend_from_slice.ensures.ok text c.self.invariant (answer_allowed c.self.inside.config _ c.args.head.now c.args.size allowed).0
     (since_of _ _ _ _ c.since_when-self-inside.ensures (c.end_by-end.ensures
     ∙ ap (λ (piece : HeadScan). end_by c.self.inside.config.h1_allow_half_closed c.self.inside.input_ended
     (Some (record { is_head = c.in-Some.request.is_head; answered = Some c.answer_type-connection.result })) piece) c.piece-piece.ensures.value)))

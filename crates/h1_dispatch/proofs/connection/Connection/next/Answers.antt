@@ -14,13 +14,13 @@ returns-in-Some-clause-ok c =
 pub returns-in-Open-clause-not_yet : goal.returns-in-Open-clause-not_yet
 returns-in-Open-clause-not_yet c = λ is.
     later_viewed _ _ on.next c.self.view_is
-    (full_later _ _ (allowed_viewed _ _ _ c.self.view_is c.requires) (none_running _ _ _ c.self.view_is c.closing.ensures c.in_default.is)
+    (full_later c.self.inside.config _ (allowed_viewed _ _ _ c.self.view_is c.requires) (none_running _ _ _ c.self.view_is c.closing.ensures c.in_default.is)
     (sym c.piece.ensures.value ∙ c.in-Open.is)
     (eq-eqb _ _ (sym c.len.ensures.value ∙ c.if-len-eq-HELD_LIMIT.true)))
 
 pub returns-in-Open-2-clause-ok : goal.returns-in-Open-2-clause-ok
 returns-in-Open-2-clause-ok c =
     stays_viewed _ _ _ Pending c.self.view_is
-    (pending_answers _ _ (sym c.piece.ensures.value ∙ c.in-Open-2.is)
+    (pending_answers c.self.inside.config _ (sym c.piece.ensures.value ∙ c.in-Open-2.is)
     (ne_eqb _ _ (λ e. c.if-len-eq-HELD_LIMIT.false (c.len.ensures.value ∙ e)))
     (none_running _ _ _ c.self.view_is c.closing.ensures c.in_default.is) c.self.invariant)

@@ -7,7 +7,7 @@ invariant_of-self-2 c = record {
   moment = c.self.invariant.moment;
   scanned = c.in_ok-count.ensures.scanned;
   limit = c.in_ok-count.ensures.limit;
-  noted = read_noted _ _ c.take.new.self.bytes _ (read_allowed _ _ _ (allowed_viewed _ _ _ c.self.view_is c.requires)).1 c.self.invariant;
+  noted = read_noted _ _ c.take.new.self.bytes _ (read_allowed c.self.inside.config _ _ (allowed_viewed _ _ _ c.self.view_is c.requires)).1 c.self.invariant;
   completed = c.self.invariant.completed;
   since = c.self.invariant.since;
 }

@@ -5,7 +5,7 @@ use Rattle.h1_dispatch.proofs.connection.Connection.tick.Goals as goal
 
 pub invariant_of-self : goal.invariant_of-self
 invariant_of-self c = record {
-  moment = tick_allowed _ _ _ (allowed_viewed _ _ _ c.self.view_is c.requires);
+  moment = tick_allowed c.self.inside.config _ _ (allowed_viewed _ _ _ c.self.view_is c.requires);
   scanned = c.self.invariant.scanned;
   limit = c.self.invariant.limit;
   noted = c.self.invariant.noted;
