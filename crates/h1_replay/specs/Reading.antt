@@ -1,5 +1,5 @@
 -- What the reading of a line or a script gives, against what stands there. Memory may run out.
-use Rattle.std.specs.Prelude.{ℕ, ◌≡◌, ⊤, Unit, List, Vec, String, string_bytes, Option, Some, None, Result, Ok, Err}
+use Rattle.std.specs.Prelude.{ℕ, ◌≡◌, ⊤, List, Vec, String, string_bytes, Option, Some, None, Result, Ok, Err}
 use Rattle.std.specs.declared.alloc.Global.{Global}
 use Rattle.http_config.specs.Config.{Settings}
 use Rattle.h1_dispatch.specs.declared.event.Event.{Event}

@@ -6,13 +6,14 @@ use Rattle.std.specs.Str.{bytes_eq, all_ascii_digits, is_utf8}
 use Rattle.std.specs.Str.Parse.{digits_value}
 use Rattle.hex.specs.Hex.{decode_of}
 use Rattle.http_header.specs.FieldName.{is_field_name}
-use Rattle.http_header.specs.FieldValue.{plain_value}
+use Rattle.http_header.specs.FieldValue.{FieldValue, plain_value}
 use Rattle.http_header.specs.Token.{is_value_byte, lowercase}
 use Rattle.http_map.specs.HeaderMap.{Pair}
 use Rattle.http_config.specs.declared.keep_alive.KeepAlive.{KeepAlive}
 use Rattle.http_config.specs.declared.keep_alive.KeepAlive.TheVariants.{Timeout, Os, Disabled}
 use Rattle.http_bodies.specs.declared.body.size.BodySize.{BodySize}
 use Rattle.http_bodies.specs.declared.body.size.BodySize.TheVariants as size
+use Rattle.h1_replay.specs.Pieces.{only_of}
 use Rattle.h1_replay.specs.declared.marks.Marks.{Marks}
 
 -- the next step of a reading, where there was something to read
@@ -88,21 +89,30 @@ marks_of word =
     if bytes_eq word (codes "-") then Some no_marks
     else if length word == 0 then None else with_letters word no_marks
 
+-- CR and LF
+abbrev pub is_line_byte : ℕ → Bool
+is_line_byte b = (b == 13) || (b == 10)
+
 -- the reason that stands behind a slash: a text without CR and LF (RFC 7230, section 3.1.2)
 abbrev pub reason_of : List ℕ → Option (List ℕ)
-reason_of word =
-    option_and_then (λ bytes. if list_any (λ b. (b == 13) || (b == 10)) bytes then None else Some bytes) (text_of word)
+reason_of word = option_and_then (λ text. if list_any is_line_byte text then None else Some text) (text_of word)
 
--- the header that a name and the word of its value make
-abbrev pub header_by : List ℕ → Option (List ℕ) → Option Pair
-header_by name None = None
-header_by name (Some value) =
-    if is_field_name name && list_all is_value_byte value then Some (lowercase name, plain_value value) else None
+-- a header's name, in any case, and its value
+abbrev pub name_of : List ℕ → Option (List ℕ)
+name_of word = if is_field_name word then Some (lowercase word) else None
 
--- a header: its name, `=`, and its value
+abbrev pub value_of : List ℕ → Option FieldValue
+value_of bytes = if list_all is_value_byte bytes then Some (plain_value bytes) else None
+
+-- the parts of a header, which `=` parts: its name and the word of its value
+abbrev pub header_by : List (List ℕ) → Option Pair
+header_by [] = None
+header_by (name ∷ more) = do
+  value ← only_of more
+  bytes ← bytes_of value
+  value ← value_of bytes
+  name ← name_of name
+  Some (name, value)
+
 abbrev pub header_of : List ℕ → Option Pair
-header_of word = by_parts (slice_split (λ b. b == 61) word)
-  where
-    by_parts : List (List ℕ) → Option Pair
-    by_parts (name ∷ value ∷ []) = header_by name (bytes_of value)
-    by_parts _ = None
+header_of word = header_by (slice_split (λ b. b == 61) word)

@@ -1,13 +1,13 @@
 //! The line of an answer: its status, how large its body is, its marks, a reason, and headers.
 ghost use Rattle.std.specs.Prelude.{◌≡◌, Some, option_map};
-ghost use Rattle.http_map.specs.HeaderMap.{append};
-ghost use Rattle.h1_replay.specs.Word.{reason_of, header_of};
-ghost use Rattle.h1_replay.specs.Answer.{marked_head, with_headers, with_words, answer_of};
+ghost use Rattle.h1_replay.specs.Word.{reason_of, name_of, value_of, header_of};
+ghost use Rattle.h1_replay.specs.Answer.{marked_head, with_header, with_headers, with_words, answer_of};
 ghost use Rattle.h1_replay.specs.Reading.{Reads, ReadsInto};
 
 use crate::marks::Marks;
 use crate::pieces::Pieces;
 use crate::word::{LineError, bytes, size, status, text};
+use bytes::Bytes;
 use h1_dispatch::Event;
 use http_header::HeaderNameError;
 use http_map::{HeaderName, HeaderValue};
@@ -73,7 +73,10 @@ fn put_reason(alloc: Global, head: &mut ResponseHead, word: &[u8]) -> Result<(),
     ensures { ReadsInto result (option_map (λ reason. record head.old { reason = Some reason }) (reason_of word.now)) head.new }
 {
     let reason = text(alloc, word)?;
-    head.set_reason(reason).map_err(|_| LineError::Unreadable)
+    match head.set_reason(reason) {
+        Ok(()) => Ok(()),
+        Err(_) => Err(LineError::Unreadable),
+    }
 }
 
 fn put_headers(
@@ -89,18 +92,47 @@ fn put_headers(
     Ok(())
 }
 
-// A name, `=`, and the hex of a value.
 fn put_header(alloc: Global, head: &mut ResponseHead, word: &[u8]) -> Result<(), LineError>
-    ensures { ReadsInto result (option_map (λ pair. record head.old { headers = append head.old.headers pair.0 pair.1 }) (header_of word.now)) head.new }
+    ensures { ReadsInto result (option_map (λ pair. with_header pair head.old) (header_of word.now)) head.new }
+{
+    let (name, value) = header(alloc, word)?;
+    match head.headers.append(name, value) {
+        Ok(()) => Ok(()),
+        Err(_) => Err(LineError::NoMemory),
+    }
+}
+
+// A name, `=`, and the hex of a value.
+fn header(alloc: Global, word: &[u8]) -> Result<(HeaderName, HeaderValue), LineError>
+    ensures { Reads result (header_of word.now) }
 {
     let mut parts = Pieces::new(word, EQUALS);
-    let name = parts.next().ok_or(LineError::Unreadable)?;
-    let value = parts.only().ok_or(LineError::Unreadable)?;
-    let value = HeaderValue::from_shared(bytes(alloc, value)?).map_err(|_| LineError::Unreadable)?;
-    let name = match HeaderName::from_bytes(alloc, name) {
-        Ok(name) => name,
-        Err(HeaderNameError::Invalid) => return Err(LineError::Unreadable),
-        Err(_) => return Err(LineError::NoMemory),
+    let Some(name) = parts.next() else {
+        return Err(LineError::Unreadable);
     };
-    Ok(head.headers.append(name, value)?)
+    let Some(value) = parts.only() else {
+        return Err(LineError::Unreadable);
+    };
+    let value = header_value(bytes(alloc, value)?)?;
+    let name = header_name(alloc, name)?;
+    Ok((name, value))
+}
+
+fn header_value(bytes: Bytes) -> Result<HeaderValue, LineError>
+    ensures { Reads result (value_of bytes) }
+{
+    match HeaderValue::from_shared(bytes) {
+        Ok(value) => Ok(value),
+        Err(_) => Err(LineError::Unreadable),
+    }
+}
+
+fn header_name(alloc: Global, word: &[u8]) -> Result<HeaderName, LineError>
+    ensures { Reads result (name_of word.now) }
+{
+    match HeaderName::from_bytes(alloc, word) {
+        Ok(name) => Ok(name),
+        Err(HeaderNameError::Invalid) => Err(LineError::Unreadable),
+        Err(HeaderNameError::OutOfMemory) => Err(LineError::NoMemory),
+    }
 }

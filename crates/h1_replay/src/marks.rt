@@ -1,6 +1,6 @@
 //! The marks that a script can set on an answer's head.
 ghost use Rattle.std.specs.Prelude.{◌≡◌};
-ghost use Rattle.h1_replay.specs.Word.{no_marks, with_letter, marks_of};
+ghost use Rattle.h1_replay.specs.Word.{no_marks, once, with_letter, marks_of};
 
 /// What an answer's head asks for.
 #[derive(Clone, Copy)]
@@ -46,19 +46,43 @@ impl Marks {
     fn with(self, letter: u8) -> Option<Marks>
         ensures { result ≡ with_letter letter self }
     {
-        let mut marks = self;
-        let mark = match letter {
-            b'c' => &mut marks.close,
-            b'k' => &mut marks.keep_alive,
-            b'u' => &mut marks.upgrade,
-            b'n' => &mut marks.no_chunking,
-            b'm' => &mut marks.camel_case,
-            _ => return None,
-        };
-        if *mark {
-            return None;
+        match letter {
+            b'c' => once(self.close, Marks { close: true, ..self }),
+            b'k' => once(
+                self.keep_alive,
+                Marks {
+                    keep_alive: true,
+                    ..self
+                },
+            ),
+            b'u' => once(
+                self.upgrade,
+                Marks {
+                    upgrade: true,
+                    ..self
+                },
+            ),
+            b'n' => once(
+                self.no_chunking,
+                Marks {
+                    no_chunking: true,
+                    ..self
+                },
+            ),
+            b'm' => once(
+                self.camel_case,
+                Marks {
+                    camel_case: true,
+                    ..self
+                },
+            ),
+            _ => None,
         }
-        *mark = true;
-        Some(marks)
     }
+}
+
+fn once(is_there: bool, marks: Marks) -> Option<Marks>
+    ensures { result ≡ once is_there marks }
+{
+    if is_there { None } else { Some(marks) }
 }

@@ -160,29 +160,42 @@ fn event_line(alloc: Global, line: &[u8]) -> Result<Event, LineError>
 fn plain_event(name: &[u8]) -> Option<Event>
     ensures { result ≡ plain_event name.now }
 {
-    match name {
-        b"eof" => Some(Event::Eof),
-        b"next" => Some(Event::Next),
-        b"pull" => Some(Event::Pull),
-        b"dropbody" => Some(Event::DropBody),
-        b"continue" => Some(Event::Continue),
-        b"bodyend" => Some(Event::BodyEnd),
-        b"bodyerror" => Some(Event::BodyError),
-        b"drain" => Some(Event::Drain),
-        _ => None,
+    if name == b"eof".as_slice() {
+        Some(Event::Eof)
+    } else if name == b"next".as_slice() {
+        Some(Event::Next)
+    } else if name == b"pull".as_slice() {
+        Some(Event::Pull)
+    } else if name == b"dropbody".as_slice() {
+        Some(Event::DropBody)
+    } else if name == b"continue".as_slice() {
+        Some(Event::Continue)
+    } else if name == b"bodyend".as_slice() {
+        Some(Event::BodyEnd)
+    } else if name == b"bodyerror".as_slice() {
+        Some(Event::BodyError)
+    } else if name == b"drain".as_slice() {
+        Some(Event::Drain)
+    } else {
+        None
     }
 }
 
 fn worded_event(alloc: Global, name: &[u8], words: Pieces<'_>) -> Result<Event, LineError>
     ensures { Reads result (worded_event name.now words.entry) }
 {
-    match name {
-        b"read" => read(alloc, words),
-        b"chunk" => chunk(alloc, words),
-        b"write" => write(words).ok_or(LineError::Unreadable),
-        b"tick" => tick(words).ok_or(LineError::Unreadable),
-        b"answer" => answer(alloc, words),
-        _ => Err(LineError::Unreadable),
+    if name == b"read".as_slice() {
+        read(alloc, words)
+    } else if name == b"chunk".as_slice() {
+        chunk(alloc, words)
+    } else if name == b"write".as_slice() {
+        write(words).ok_or(LineError::Unreadable)
+    } else if name == b"tick".as_slice() {
+        tick(words).ok_or(LineError::Unreadable)
+    } else if name == b"answer".as_slice() {
+        answer(alloc, words)
+    } else {
+        Err(LineError::Unreadable)
     }
 }
 

@@ -52,7 +52,10 @@ pub fn bytes(alloc: Global, word: &[u8]) -> Result<Bytes, LineError>
 pub fn text(alloc: Global, word: &[u8]) -> Result<String, LineError>
     ensures { ReadsText result (text_of word.now) }
 {
-    String::from_utf8(decoded(alloc, word)?).map_err(|_| LineError::Unreadable)
+    match String::from_utf8(decoded(alloc, word)?) {
+        Ok(text) => Ok(text),
+        Err(_) => Err(LineError::Unreadable),
+    }
 }
 
 fn decoded(alloc: Global, word: &[u8]) -> Result<Vec<u8>, LineError>
@@ -108,9 +111,11 @@ pub fn status(word: &[u8]) -> Option<StatusCode>
 pub fn size(word: &[u8]) -> Option<BodySize>
     ensures { result ≡ size_of word.now }
 {
-    match word {
-        b"none" => Some(BodySize::None),
-        b"stream" => Some(BodySize::Stream),
-        _ => Some(BodySize::Sized(number(word)?)),
+    if word == b"none".as_slice() {
+        return Some(BodySize::None);
     }
+    if word == b"stream".as_slice() {
+        return Some(BodySize::Stream);
+    }
+    Some(BodySize::Sized(number(word)?))
 }
