@@ -2,7 +2,8 @@
 use bytes::Bytes;
 use h1_dispatch::{Connection, DriveError, End, Event, Outcome, Step, Trace, drive};
 use http_bodies::BodySize;
-use http_types::{KeepAlive, NoMemory, ResponseHead, ServiceConfig, ServiceConfigBuilder, StatusCode,
+use http_types::{
+    KeepAlive, NoMemory, ResponseHead, ServiceConfig, ServiceConfigBuilder, StatusCode,
 };
 use std::alloc::{AllocError, Global};
 use std::test::Fail;

@@ -8,6 +8,8 @@
 #[cfg(test)]
 mod connection;
 #[cfg(test)]
+mod exchanges;
+#[cfg(test)]
 mod heads;
 #[cfg(test)]
 mod replay;
