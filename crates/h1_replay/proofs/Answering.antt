@@ -2,10 +2,10 @@
 use Rattle.std.proofs.Common.{◌≡◌, ◌<◌, ◌≤◌, ◌↔◌, ℕ, Bool, List, [], ◌∷◌, length, get_or, map, codes, Option, refl, sym, ap, ◌∙◌, arith, IsTrue}
 use Rattle.std.specs.Str.{bytes_eq}
 use Rattle.std.proofs.lemmas.Slice.Eq.{bytes_eq-Decides}
-use Rattle.h1_replay.specs.Run.{IsReplay, ReadsWhole, IsAnswer, done, bad_line, misplaced, no_memory, not_yet}
+use Rattle.h1_replay.specs.Run.{IsReplay, ReadsWhole, IsAnswer, done, bad_line, misplaced, no_memory}
 use Rattle.h1_replay.specs.Reply.{status_of_reply, text_of_reply, IsReplyTo}
 use Rattle.h1_replay.specs.declared.reply.Reply.{Reply}
-use Rattle.h1_replay.specs.declared.reply.Reply.TheVariants.{Done, Usage, BadLine, Misplaced, ReadFault, TooLong, NoMemory, NotYet}
+use Rattle.h1_replay.specs.declared.reply.Reply.TheVariants.{Done, Usage, BadLine, Misplaced, ReadFault, TooLong, NoMemory}
 
 -- the reply to a whole input is the program's answer
 pub IsAnswer-reply : (words : List (List ℕ)) (left then : Option (List ℕ)) (bytes : List ℕ) (reply : Reply) → IsReplay words → ReadsWhole left then bytes → IsReplyTo bytes reply
@@ -17,7 +17,6 @@ IsAnswer-reply words left then bytes (Misplaced text) command read is = misplace
 IsAnswer-reply words left then bytes ReadFault command read is = absurd is
 IsAnswer-reply words left then bytes TooLong command read is = absurd is
 IsAnswer-reply words left then bytes NoMemory command read is = no_memory command refl refl
-IsAnswer-reply words left then bytes (NotYet text) command read is = not_yet bytes command read is refl
 
 -- a list of one is its first
 pub one_item : {X : Type 0} (items : List X) (item : X) → 1 ≤ length items → length items < 2 → item ≡ get_or items 0 item → items ≡ item ∷ []

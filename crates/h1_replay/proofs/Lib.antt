@@ -4,3 +4,4 @@ pub mod Digits
 pub mod EventLines
 pub mod ReportLines
 pub mod Writing
+pub mod Words

@@ -1,5 +1,5 @@
 -- What the reading of a line or a script gives, against what stands there. Memory may run out.
-use Rattle.std.specs.Prelude.{ℕ, ◌≡◌, ⊤, List, Vec, Option, Some, None, Result, Ok, Err}
+use Rattle.std.specs.Prelude.{ℕ, ◌≡◌, ⊤, List, Vec, String, string_bytes, Option, Some, None, Result, Ok, Err}
 use Rattle.std.specs.declared.alloc.Global.{Global}
 use Rattle.http_config.specs.Config.{Settings}
 use Rattle.h1_dispatch.specs.declared.event.Event.{Event}
@@ -14,6 +14,23 @@ abbrev pub Reads : {T : Type 0} → Result T LineError → Option T → Type 0
 Reads (Ok value) there = there ≡ Some value
 Reads (Err line.Unreadable) there = there ≡ None
 Reads (Err line.NoMemory) there = ⊤
+
+-- the same of bytes, and of the bytes of a text
+abbrev pub ReadsItems : Result (Vec ℕ Global) LineError → Option (List ℕ) → Type 0
+ReadsItems (Ok read) there = there ≡ Some read.items
+ReadsItems (Err line.Unreadable) there = there ≡ None
+ReadsItems (Err line.NoMemory) there = ⊤
+
+abbrev pub ReadsText : Result (String Global) LineError → Option (List ℕ) → Type 0
+ReadsText (Ok read) there = there ≡ Some (string_bytes read)
+ReadsText (Err line.Unreadable) there = there ≡ None
+ReadsText (Err line.NoMemory) there = ⊤
+
+-- what was read into a value, which is then the one that is there
+abbrev pub ReadsInto : {T : Type 0} → Result Unit LineError → Option T → T → Type 0
+ReadsInto (Ok done) there new = there ≡ Some new
+ReadsInto (Err line.Unreadable) there new = there ≡ None
+ReadsInto (Err line.NoMemory) there new = ⊤
 
 -- the events of some lines, or the number of the line that names none
 abbrev pub ReadsEvents : Result (Vec Event Global) ScriptError → Result (List Event) ℕ → Type 0

@@ -1,9 +1,9 @@
 -- A reply as its status and its text.
 use Rattle.std.specs.Prelude.{ℕ, ⊤, List, codes}
-use Rattle.h1_dispatch.specs.Run.{IsMisplaced, IsPremature}
+use Rattle.h1_dispatch.specs.Run.{IsMisplaced}
 use Rattle.h1_replay.specs.Run.{IsDone, IsBadLine, IsStopped, usage_text, read_fault_text, too_long_text, no_memory_text}
 use Rattle.h1_replay.specs.declared.reply.Reply.{Reply}
-use Rattle.h1_replay.specs.declared.reply.Reply.TheVariants.{Done, Usage, BadLine, Misplaced, ReadFault, TooLong, NoMemory, NotYet}
+use Rattle.h1_replay.specs.declared.reply.Reply.TheVariants.{Done, Usage, BadLine, Misplaced, ReadFault, TooLong, NoMemory}
 
 -- the exit status; 5 is kept for an output that failed
 abbrev pub status_of_reply : Reply → ℕ
@@ -14,7 +14,6 @@ status_of_reply (Misplaced text) = 3
 status_of_reply ReadFault = 4
 status_of_reply TooLong = 6
 status_of_reply NoMemory = 7
-status_of_reply (NotYet text) = 8
 
 -- the text
 abbrev pub text_of_reply : Reply → List ℕ
@@ -25,7 +24,6 @@ text_of_reply (Misplaced text) = text.items
 text_of_reply ReadFault = read_fault_text
 text_of_reply TooLong = too_long_text
 text_of_reply NoMemory = no_memory_text
-text_of_reply (NotYet text) = text.items
 
 -- what a whole input is answered with
 abbrev pub IsReplyTo : List ℕ → Reply → Type 0
@@ -36,4 +34,3 @@ IsReplyTo bytes (Misplaced text) = IsStopped IsMisplaced (codes "misplaced ") by
 IsReplyTo bytes ReadFault = ⊥
 IsReplyTo bytes TooLong = ⊥
 IsReplyTo bytes NoMemory = ⊤
-IsReplyTo bytes (NotYet text) = IsStopped IsPremature (codes "not yet ") bytes text.items

@@ -1,5 +1,5 @@
 -- The report of a trace: a line for each outcome, the bytes that are still to be written, and the state.
-use Rattle.std.specs.Prelude.{ℕ, ◌≡◌, ◌≢◌, List, [], ◌∷◌, ◌++◌, flat_map, Option, Some, None, codes, decimal, Bool, if◌then◌else◌}
+use Rattle.std.specs.Prelude.{ℕ, ◌≡◌, ◌≢◌, ◌-◌, List, [], ◌∷◌, ◌++◌, flat_map, length, slice_get, Option, Some, None, codes, decimal, Bool, true, false, if◌then◌else◌}
 use Rattle.hex.specs.Hex.{encode_lower}
 use Rattle.http.specs.declared.version.Version.{Version}
 use Rattle.http.specs.declared.version.TheConstants.Version.{HTTP_10}
@@ -12,9 +12,13 @@ use Rattle.h1_decode.specs.declared.decoder.BodyKind.{BodyKind}
 use Rattle.h1_decode.specs.declared.decoder.BodyKind.TheVariants as body
 use Rattle.h1_decode.specs.declared.decoder.HeadItem.{HeadItem}
 use Rattle.h1_dispatch.specs.declared.event.End.{End}
-use Rattle.h1_dispatch.specs.declared.event.End.TheVariants.{Asked, HalfClosed, InputEnded}
+use Rattle.h1_dispatch.specs.declared.event.End.TheVariants as ends
+use Rattle.h1_dispatch.specs.declared.event.HeadFault.{HeadFault}
+use Rattle.h1_dispatch.specs.declared.event.HeadFault.TheVariants as faults
 use Rattle.h1_dispatch.specs.declared.event.Outcome.{Outcome}
-use Rattle.h1_dispatch.specs.declared.event.Outcome.TheVariants.{Took, Head, Pending, Closed, Gave, Done}
+use Rattle.h1_dispatch.specs.declared.event.Outcome.TheVariants.{Took, Head, Bytes, Trailers, BodyEnd, Pending, Closed, Fault, Broken, Gave, Expired, Abandoned, Done}
+use Rattle.h1_dispatch.specs.declared.event.PayloadError.{PayloadError}
+use Rattle.h1_dispatch.specs.declared.event.PayloadError.TheVariants.{Incomplete, EncodingCorrupted}
 use Rattle.h1_dispatch.specs.declared.trace.Step.{Step}
 use Rattle.h1_dispatch.specs.declared.trace.Trace.{Trace}
 
@@ -27,9 +31,27 @@ hex_word (byte ∷ bytes) = encode_lower (byte ∷ bytes)
 
 -- why a connection ends
 abbrev pub end_word : End → List ℕ
-end_word Asked = codes "asked"
-end_word HalfClosed = codes "half-closed"
-end_word InputEnded = codes "input-ended"
+end_word ends.Malformed = codes "malformed"
+end_word ends.TooLarge = codes "too-large"
+end_word ends.SlowRequestTimeout = codes "slow-request"
+end_word ends.KeepAliveExpired = codes "keep-alive"
+end_word ends.Body = codes "body"
+end_word ends.BodyShort = codes "body-short"
+end_word ends.Asked = codes "asked"
+end_word ends.BrokenBody = codes "broken-body"
+end_word ends.UnreadBody = codes "unread-body"
+end_word ends.Drained = codes "drained"
+end_word ends.HalfClosed = codes "half-closed"
+end_word ends.InputEnded = codes "input-ended"
+
+-- what is wrong with a head, and with a body
+abbrev pub fault_word : HeadFault → List ℕ
+fault_word faults.Malformed = codes "malformed"
+fault_word faults.TooLarge = codes "too-large"
+
+abbrev pub broken_word : PayloadError → List ℕ
+broken_word Incomplete = codes "incomplete"
+broken_word EncodingCorrupted = codes "corrupted"
 
 -- a body's kind
 abbrev pub body_word : BodyKind → List ℕ
@@ -71,7 +93,7 @@ pub record IsBodyPart (item : HeadItem) (part : List ℕ) : Type 0 where
   pub is_type : IsTypeOf (request_flags item.head) item.head.version type
   pub is_part : part ≡ spaced (body_word item.body) ++ spaced (type_word type) ++ spaced (expect_word (request_flags item.head).expect)
 
--- each pair of a head, in the order of the map
+-- each pair of a map, in its order
 abbrev pub pair_words : List Pair → List ℕ
 pair_words pairs = flat_map (λ (pair : Pair). spaced pair.0 ++ codes "=" ++ hex_word pair.1.bytes) pairs
 
@@ -87,15 +109,34 @@ pub record IsHeadLine (item : HeadItem) (line : List ℕ) : Type 0 where
 abbrev pub IsOutcomeLine : Outcome → List ℕ → Type 0
 IsOutcomeLine (Took n) line = line ≡ codes "took " ++ decimal n
 IsOutcomeLine (Head item) line = IsHeadLine item line
+IsOutcomeLine (Bytes bytes) line = line ≡ codes "bytes " ++ hex_word bytes
+IsOutcomeLine (Trailers trailers) line = line ≡ codes "trailers" ++ pair_words (pairs trailers)
+IsOutcomeLine BodyEnd line = line ≡ codes "end"
 IsOutcomeLine Pending line = line ≡ codes "pending"
 IsOutcomeLine (Closed end) line = line ≡ codes "closed " ++ end_word end
+IsOutcomeLine (Fault fault) line = line ≡ codes "fault " ++ fault_word fault
+IsOutcomeLine (Broken error) line = line ≡ codes "broken " ++ broken_word error
 IsOutcomeLine (Gave bytes) line = line ≡ codes "gave " ++ hex_word bytes
+IsOutcomeLine (Expired end) line = line ≡ codes "expired " ++ end_word end
+IsOutcomeLine Abandoned line = line ≡ codes "abandoned"
 IsOutcomeLine Done line = line ≡ codes "done"
 
--- the state: why the connection is to end, or `open`
-abbrev pub state_word : Option End → List ℕ
-state_word None = codes "open"
-state_word (Some end) = end_word end
+-- the peer was given up: nothing is allowed behind that, so it is the last outcome
+abbrev pub is_abandoned : List Step → Bool
+is_abandoned steps = by_last (slice_get steps (length steps - 1))
+  where
+    by_outcome : Outcome → Bool
+    by_outcome Abandoned = true
+    by_outcome other = false
+
+    by_last : Option Step → Bool
+    by_last None = false
+    by_last (Some step) = by_outcome step.outcome
+
+-- the state: given up, or why the connection is to end, or `open`
+abbrev pub state_word : Bool → Option End → List ℕ
+state_word abandoned None = if abandoned then codes "abandoned" else codes "open"
+state_word abandoned (Some end) = if abandoned then codes "abandoned" else end_word end
 
 -- ---- the whole
 
@@ -106,11 +147,12 @@ AreStepLines (step ∷ steps) text =
     (line rest : List ℕ) × IsOutcomeLine step.outcome line × AreStepLines steps rest × (text ≡ line ++ codes "\n" ++ rest)
 
 -- the last two lines
-abbrev pub last_lines : List ℕ → Option End → List ℕ
-last_lines buffered closing = codes "buffered " ++ hex_word buffered ++ codes "\nstate " ++ state_word closing ++ codes "\n"
+abbrev pub last_lines : Trace → List ℕ
+last_lines trace =
+    codes "buffered " ++ hex_word trace.buffered ++ codes "\nstate " ++ state_word (is_abandoned trace.steps) trace.closing ++ codes "\n"
 
 -- the whole report
 pub record IsReport (trace : Trace) (text : List ℕ) : Type 0 where
   pub steps : List ℕ
   pub are_steps : AreStepLines trace.steps steps
-  pub is_text : text ≡ steps ++ last_lines trace.buffered trace.closing
+  pub is_text : text ≡ steps ++ last_lines trace

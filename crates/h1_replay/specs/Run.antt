@@ -2,7 +2,7 @@
 use Rattle.std.specs.Prelude.{ℕ, ◌≡◌, ◌++◌, ◌<◌, ◌≤◌, List, [], ◌∷◌, Option, IfSome, Ok, Err, length, codes, decimal}
 use Rattle.std.specs.Io.KnownBytes.{Consumes, Keeps, IsAtEnd}
 use Rattle.http_config.specs.Config.{Settings}
-use Rattle.h1_dispatch.specs.Run.{IsWhole, IsMisplaced, IsPremature}
+use Rattle.h1_dispatch.specs.Run.{IsWhole, IsMisplaced}
 use Rattle.h1_dispatch.specs.declared.event.Event.{Event}
 use Rattle.h1_dispatch.specs.declared.trace.Trace.{Trace}
 use Rattle.h1_replay.specs.Report.{IsReport}
@@ -35,7 +35,7 @@ numbered_line word number = word ++ decimal number ++ codes "\n"
 
 -- ---- what a script gives
 
--- the report of the script's one trace, in which each event was allowed and served
+-- the report of the script's one trace, in which each event was allowed
 pub record IsDone (bytes text : List ℕ) : Type 0 where
   pub config : Settings
   pub events : List Event
@@ -84,5 +84,3 @@ pub data IsAnswer (words : List (List ℕ)) (left then : Option (List ℕ)) (sta
   read_fault : IsReplay words → text ≡ read_fault_text → status ≡ 4 → IsAnswer words left then status text
   too_long : IsReplay words → IfSome left (λ bytes. MAX_INPUT < length bytes) → text ≡ too_long_text → status ≡ 6 → IsAnswer words left then status text
   no_memory : IsReplay words → text ≡ no_memory_text → status ≡ 7 → IsAnswer words left then status text
-  not_yet : (bytes : List ℕ) → IsReplay words → ReadsWhole left then bytes → IsStopped IsPremature (codes "not yet ") bytes text → status ≡ 8
-      → IsAnswer words left then status text

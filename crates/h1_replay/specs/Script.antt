@@ -1,27 +1,27 @@
 -- A script as the config and the events that its lines name.
-use Rattle.std.specs.Prelude.{ℕ, ◌+◌, ◌-◌, ◌==◌, List, [], ◌∷◌, Option, Some, None, option_map, option_and_then, Result, Ok, Err, length, take, slice_index, codes, if◌then◌else◌}
+use Rattle.std.specs.Prelude.{ℕ, ◌+◌, ◌-◌, ◌==◌, ◌&&◌, nat_le, List, [], ◌∷◌, Option, Some, None, option_map, Result, Ok, Err, length, take, slice_index, codes, if◌then◌else◌}
 use Rattle.std.specs.List.{slice_split}
 use Rattle.std.specs.Str.{bytes_eq}
-use Rattle.http.specs.declared.version.TheConstants.Version.{HTTP_11}
 use Rattle.http_config.specs.Config.{Settings, default_settings}
-use Rattle.http_types.specs.Flags.{no_flags}
 use Rattle.http_config.specs.KeepAlive.{normalized}
-use Rattle.http_types.specs.ResponseHead.{ResponseParts}
+use Rattle.http_config.specs.declared.hold_size.TheConstants.{MIN_HOLD_SIZE, MAX_HOLD_SIZE, DEFAULT_HOLD_SIZE}
 use Rattle.h1_dispatch.specs.declared.event.Event.{Event}
-use Rattle.h1_dispatch.specs.declared.event.Event.TheVariants.{Read, Eof, Next, Answer, Write, Tick}
+use Rattle.h1_dispatch.specs.declared.event.Event.TheVariants.{Read, Eof, Next, Pull, DropBody, Continue, Chunk, BodyEnd, BodyError, Write, Tick, Drain}
+use Rattle.h1_replay.specs.Answer.{answer_of}
 use Rattle.h1_replay.specs.Pieces.{only_of}
-use Rattle.h1_replay.specs.Word.{number_of, bytes_of, flag_of, keep_alive_of, status_of, size_of}
-
--- the next step of a reading, where there was something to read
-infixl 10 ◌>>=◌
-abbrev pub ◌>>=◌ : {A B : Type 0} → Option A → (A → Option B) → Option B
-o >>= f = option_and_then f o
+use Rattle.h1_replay.specs.Word.{◌>>=◌, number_of, bytes_of, flag_of, keep_alive_of}
 
 -- ---- the first line
 
--- the settings that five words name
-abbrev pub settings_by : List ℕ → List ℕ → List ℕ → List ℕ → List ℕ → Option Settings
-settings_by keep_alive request disconnect half_closed write_buffer = do
+-- a number of bytes that a connection may hold
+abbrev pub hold_of : List ℕ → Option ℕ
+hold_of word = do
+  size ← number_of word
+  if nat_le MIN_HOLD_SIZE size && nat_le size MAX_HOLD_SIZE then Some size else None
+
+-- the settings that five words and a hold size name
+abbrev pub settings_by : List ℕ → List ℕ → List ℕ → List ℕ → List ℕ → ℕ → Option Settings
+settings_by keep_alive request disconnect half_closed write_buffer hold = do
   keep_alive ← keep_alive_of keep_alive
   request ← number_of request
   disconnect ← number_of disconnect
@@ -33,12 +33,19 @@ settings_by keep_alive request disconnect half_closed write_buffer = do
     client_disconnect_timeout = disconnect;
     h1_allow_half_closed = half_closed;
     h1_write_buffer_size = write_buffer;
+    h1_hold_size = hold;
   })
 
--- five words, no fewer and no more
+-- the hold size that a sixth word names, where there is one
+abbrev pub hold_by : List (List ℕ) → Option ℕ
+hold_by [] = Some DEFAULT_HOLD_SIZE
+hold_by (word ∷ []) = hold_of word
+hold_by _ = None
+
+-- five words, or six
 abbrev pub settings_of : List (List ℕ) → Option Settings
-settings_of (keep_alive ∷ request ∷ disconnect ∷ half_closed ∷ write_buffer ∷ []) =
-    settings_by keep_alive request disconnect half_closed write_buffer
+settings_of (keep_alive ∷ request ∷ disconnect ∷ half_closed ∷ write_buffer ∷ more) =
+    hold_by more >>= settings_by keep_alive request disconnect half_closed write_buffer
 settings_of _ = None
 
 -- the settings that a first line names by its words
@@ -48,26 +55,30 @@ config_of (name ∷ words) = if bytes_eq name (codes "config") then settings_of 
 
 -- ---- the other lines
 
--- the head of an answer that has nothing but its status
-abbrev pub head_of : ℕ → ResponseParts
-head_of status = record { version = HTTP_11; status = status; headers = []; reason = None; flags = no_flags }
-
--- an answer by its three words: status, size, and `-` for no options
-abbrev pub answer_of : List (List ℕ) → Option Event
-answer_of (status ∷ size ∷ options ∷ []) = if bytes_eq options (codes "-") then (do
-  status ← status_of status
-  size ← size_of size
-  Some (Answer (head_of status) size)) else None
-answer_of _ = None
-
 -- an event that has no words but its name
 abbrev pub alone_of : Event → List (List ℕ) → Option Event
 alone_of event [] = Some event
 alone_of event (word ∷ more) = None
 
--- a read by its one word, and a write and a tick
+-- the events that have no words but their name
+abbrev pub plain_event : List ℕ → Option Event
+plain_event name =
+    if bytes_eq name (codes "eof") then Some Eof
+    else if bytes_eq name (codes "next") then Some Next
+    else if bytes_eq name (codes "pull") then Some Pull
+    else if bytes_eq name (codes "dropbody") then Some DropBody
+    else if bytes_eq name (codes "continue") then Some Continue
+    else if bytes_eq name (codes "bodyend") then Some BodyEnd
+    else if bytes_eq name (codes "bodyerror") then Some BodyError
+    else if bytes_eq name (codes "drain") then Some Drain
+    else None
+
+-- a read and a piece of a body by their one word, and a write and a tick
 abbrev pub read_of : List (List ℕ) → Option Event
 read_of words = option_map (λ bytes. Read bytes) (only_of words >>= bytes_of)
+
+abbrev pub chunk_of : List (List ℕ) → Option Event
+chunk_of words = option_map (λ bytes. Chunk bytes) (only_of words >>= bytes_of)
 
 abbrev pub write_of : List (List ℕ) → Option Event
 write_of words = option_map (λ count. Write count) (only_of words >>= number_of)
@@ -75,16 +86,23 @@ write_of words = option_map (λ count. Write count) (only_of words >>= number_of
 abbrev pub tick_of : List (List ℕ) → Option Event
 tick_of words = option_map (λ moment. Tick moment) (only_of words >>= number_of)
 
--- the event of a name and the words behind it
-abbrev pub event_named : List ℕ → List (List ℕ) → Option Event
-event_named name words =
-    if bytes_eq name (codes "eof") then alone_of Eof words
-    else if bytes_eq name (codes "next") then alone_of Next words
-    else if bytes_eq name (codes "read") then read_of words
+-- the events of a name with words
+abbrev pub worded_event : List ℕ → List (List ℕ) → Option Event
+worded_event name words =
+    if bytes_eq name (codes "read") then read_of words
+    else if bytes_eq name (codes "chunk") then chunk_of words
     else if bytes_eq name (codes "write") then write_of words
     else if bytes_eq name (codes "tick") then tick_of words
     else if bytes_eq name (codes "answer") then answer_of words
     else None
+
+-- the event of a name and the words behind it
+abbrev pub event_named : List ℕ → List (List ℕ) → Option Event
+event_named name words = by_plain (plain_event name)
+  where
+    by_plain : Option Event → Option Event
+    by_plain (Some event) = alone_of event words
+    by_plain None = worded_event name words
 
 -- the event that a line names by its words
 abbrev pub event_of : List (List ℕ) → Option Event

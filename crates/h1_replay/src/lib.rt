@@ -41,7 +41,9 @@
 //! none, and nothing is written before the whole text is made; only want of memory may come at any time.
 #![tactic(auto)]
 
+mod answer;
 mod input;
+mod marks;
 mod output;
 mod pieces;
 mod program;

@@ -15,10 +15,9 @@ use std::alloc::Global;
 /// Answers the program's words: reads `input` to its end as a script and writes its report. The
 /// answer is the exit status: 0 for a report, 1 for wrong words, 2 for a bad line, 3 for a misplaced
 /// event, 4 for a failed read, 5 for a failed write, 6 for more than 16777216 bytes of input, 7 for
-/// want of memory, 8 for an event that isn't served yet. Nothing is written before the whole text is
-/// made.
+/// want of memory. Nothing is written before the whole text is made.
 pub fn run<S: Source, K: Sink>(alloc: Global, words: &[String], input: &mut S, output: &mut K) -> u8
-    ensures known { result ≤ 8 }
+    ensures known { result ≤ 7 }
 
     // With each status but 5 the output grew by that status's text.
     ensures answered { result ≢ 5 → ((text : List ℕ) × IsAnswer (map (λ w. string_bytes w) words.now) (S.left input.old) (S.left input.new) result text

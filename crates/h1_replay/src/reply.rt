@@ -16,7 +16,7 @@ pub const WRITE_FAULT: u8 = 5;
 /// An answer, with its text where that isn't always the same.
 #[derive(Drop)]
 pub enum Reply {
-    /// The report of a script whose every event was served.
+    /// The report of a script whose every event was allowed.
     Done(Vec<u8>),
     /// The words are no command.
     Usage,
@@ -30,15 +30,13 @@ pub enum Reply {
     TooLong,
     /// Memory ran out.
     NoMemory,
-    /// An event isn't served yet: the report of those before it, and its place.
-    NotYet(Vec<u8>),
 }
 
 impl Reply {
     /// The exit status.
     pub fn status(&self) -> u8
         ensures value { result ≡ status_of_reply self.now }
-        ensures known { result ≤ 8 }
+        ensures known { result ≤ 7 }
     {
         match self {
             Reply::Done(_) => 0,
@@ -48,7 +46,6 @@ impl Reply {
             Reply::ReadFault => 4,
             Reply::TooLong => 6,
             Reply::NoMemory => 7,
-            Reply::NotYet(_) => 8,
         }
     }
 
@@ -57,10 +54,7 @@ impl Reply {
         ensures { result.now ≡ text_of_reply self.now }
     {
         match self {
-            Reply::Done(text)
-            | Reply::BadLine(text)
-            | Reply::Misplaced(text)
-            | Reply::NotYet(text) => text.as_slice(),
+            Reply::Done(text) | Reply::BadLine(text) | Reply::Misplaced(text) => text.as_slice(),
             Reply::Usage => b"usage: h1_run replay | h1_run gen SEED COUNT\n",
             Reply::ReadFault => b"read fault\n",
             Reply::TooLong => b"too long\n",
@@ -95,12 +89,6 @@ fn try_replay(alloc: Global, input: &[u8]) -> Result<Reply, NoMemory>
             alloc,
             &trace,
             b"misplaced ",
-            index,
-        )?)),
-        Err(DriveError::NotYet(index, trace)) => Ok(Reply::NotYet(stopped(
-            alloc,
-            &trace,
-            b"not yet ",
             index,
         )?)),
         Err(DriveError::NoMemory) => Err(AllocError),

@@ -1,12 +1,12 @@
 //! The report of a trace.
 ghost use Rattle.std.specs.Prelude.{◌≡◌, ◌++◌, OnOk, IfOk};
 ghost use Rattle.http_map.specs.HeaderMap.{pairs};
-ghost use Rattle.h1_replay.specs.Report.{end_word, body_word, type_word, expect_word, IsVersionWord, spaced, IsRequestPart, IsBodyPart, pair_words, IsHeadLine, IsOutcomeLine, AreStepLines, state_word, last_lines, IsReport};
+ghost use Rattle.h1_replay.specs.Report.{hex_word, end_word, fault_word, broken_word, body_word, type_word, expect_word, IsVersionWord, spaced, IsRequestPart, IsBodyPart, pair_words, IsHeadLine, IsOutcomeLine, AreStepLines, is_abandoned, state_word, last_lines, IsReport};
 ghost use Rattle.h1_replay.specs.Text.{Adds};
 
 use crate::text::{put_hex, put_number};
 use h1_decode::{BodyKind, HeadItem};
-use h1_dispatch::{End, Outcome, Steps, Trace};
+use h1_dispatch::{End, HeadFault, Outcome, PayloadError, Steps, Trace};
 use http_types::{ConnectionType, HeaderMap, NoMemory, Version};
 use std::alloc::Global;
 
@@ -40,17 +40,42 @@ fn put_outcome(alloc: Global, text: &mut Vec<u8>, outcome: &Outcome) -> Result<(
             put_number(text, *count as u64)
         }
         Outcome::Head(item) => put_head(alloc, text, item),
+        Outcome::Bytes(bytes) => put_named_hex(alloc, text, b"bytes ", bytes),
+        Outcome::Trailers(trailers) => {
+            text.extend_from_slice(b"trailers")?;
+            put_pairs(alloc, text, trailers)
+        }
+        Outcome::Closed(end) => put_named(text, b"closed ", end_word(*end)),
+        Outcome::Fault(fault) => put_named(text, b"fault ", fault_word(*fault)),
+        Outcome::Broken(error) => put_named(text, b"broken ", broken_word(*error)),
+        Outcome::Gave(bytes) => put_named_hex(alloc, text, b"gave ", bytes),
+        Outcome::Expired(end) => put_named(text, b"expired ", end_word(*end)),
+        Outcome::BodyEnd => text.extend_from_slice(b"end"),
         Outcome::Pending => text.extend_from_slice(b"pending"),
-        Outcome::Closed(end) => {
-            text.extend_from_slice(b"closed ")?;
-            text.extend_from_slice(end_word(*end))
-        }
-        Outcome::Gave(bytes) => {
-            text.extend_from_slice(b"gave ")?;
-            put_hex(alloc, text, bytes)
-        }
+        Outcome::Abandoned => text.extend_from_slice(b"abandoned"),
         Outcome::Done => text.extend_from_slice(b"done"),
     }
+}
+
+// A word behind a name.
+fn put_named(text: &mut Vec<u8>, name: &[u8], word: &[u8]) -> Result<(), NoMemory>
+    ensures { OnOk result (text.new.items ≡ text.old.items ++ name.now ++ word.now) }
+{
+    text.extend_from_slice(name)?;
+    text.extend_from_slice(word)
+}
+
+// Bytes in hex behind a name.
+fn put_named_hex(
+    alloc: Global,
+    text: &mut Vec<u8>,
+    name: &[u8],
+    bytes: &[u8],
+) -> Result<(), NoMemory>
+    ensures { OnOk result (text.new.items ≡ text.old.items ++ name.now ++ hex_word bytes.now) }
+{
+    text.extend_from_slice(name)?;
+    put_hex(alloc, text, bytes)
 }
 
 fn put_head(alloc: Global, text: &mut Vec<u8>, item: &HeadItem) -> Result<(), NoMemory>
@@ -113,13 +138,23 @@ fn put_pairs(alloc: Global, text: &mut Vec<u8>, headers: &HeaderMap) -> Result<(
 }
 
 fn put_last_lines(alloc: Global, text: &mut Vec<u8>, trace: &Trace) -> Result<(), NoMemory>
-    ensures { OnOk result (text.new.items ≡ text.old.items ++ last_lines trace.now.buffered trace.now.closing) }
+    ensures { OnOk result (text.new.items ≡ text.old.items ++ last_lines trace.now) }
 {
     text.extend_from_slice(b"buffered ")?;
     put_hex(alloc, text, &trace.buffered)?;
     text.extend_from_slice(b"\nstate ")?;
-    text.extend_from_slice(state_word(trace.closing))?;
+    text.extend_from_slice(state_word(is_abandoned(&trace.steps), trace.closing))?;
     text.extend_from_slice(b"\n")
+}
+
+// Whether the peer was given up, which is a last outcome.
+fn is_abandoned(steps: &Steps) -> bool
+    ensures { result ≡ is_abandoned steps.now }
+{
+    match steps.get(steps.len().saturating_sub(1)) {
+        Some(step) => matches!(step.outcome, Outcome::Abandoned),
+        None => false,
+    }
 }
 
 fn version_word(version: Version) -> &'static [u8]
@@ -152,15 +187,45 @@ fn end_word(end: End) -> &'static [u8]
     ensures { result.now ≡ end_word end }
 {
     match end {
+        End::Malformed => b"malformed",
+        End::TooLarge => b"too-large",
+        End::SlowRequestTimeout => b"slow-request",
+        End::KeepAliveExpired => b"keep-alive",
+        End::Body => b"body",
+        End::BodyShort => b"body-short",
         End::Asked => b"asked",
+        End::BrokenBody => b"broken-body",
+        End::UnreadBody => b"unread-body",
+        End::Drained => b"drained",
         End::HalfClosed => b"half-closed",
         End::InputEnded => b"input-ended",
     }
 }
 
-fn state_word(closing: Option<End>) -> &'static [u8]
-    ensures { result.now ≡ state_word closing }
+fn fault_word(fault: HeadFault) -> &'static [u8]
+    ensures { result.now ≡ fault_word fault }
 {
+    match fault {
+        HeadFault::Malformed => b"malformed",
+        HeadFault::TooLarge => b"too-large",
+    }
+}
+
+fn broken_word(error: PayloadError) -> &'static [u8]
+    ensures { result.now ≡ broken_word error }
+{
+    match error {
+        PayloadError::Incomplete => b"incomplete",
+        PayloadError::EncodingCorrupted => b"corrupted",
+    }
+}
+
+fn state_word(abandoned: bool, closing: Option<End>) -> &'static [u8]
+    ensures { result.now ≡ state_word abandoned closing }
+{
+    if abandoned {
+        return b"abandoned";
+    }
     match closing {
         None => b"open",
         Some(end) => end_word(end),

@@ -1,12 +1,14 @@
 //! A script: a line for the settings of a connection, and a line for each event that comes to it.
-ghost use Rattle.std.specs.Prelude.{◌≡◌};
-ghost use Rattle.h1_replay.specs.Script.{settings_by, settings_of, config_of, answer_of, read_of, write_of, tick_of, alone_of, event_of, words_of, without_last_feed, events_of, script_of};
+ghost use Rattle.std.specs.Prelude.{◌≡◌, IfSome};
+ghost use Rattle.http_config.specs.Config.{IsHoldSize};
+ghost use Rattle.h1_replay.specs.Script.{hold_by, settings_by, settings_of, config_of, plain_event, worded_event, read_of, chunk_of, write_of, tick_of, alone_of, event_of, words_of, without_last_feed, events_of, script_of};
 ghost use Rattle.h1_replay.specs.Reading.{Reads, ReadsEvents, ReadsScript};
 
+use crate::answer::answer;
 use crate::pieces::Pieces;
-use crate::word::{LineError, bytes, flag, keep_alive, number, size, status};
+use crate::word::{LineError, bytes, flag, keep_alive, number};
 use h1_dispatch::Event;
-use http_types::{ResponseHead, ServiceConfig, ServiceConfigBuilder};
+use http_config::{DEFAULT_HOLD_SIZE, MAX_HOLD_SIZE, MIN_HOLD_SIZE, ServiceConfig, ServiceConfigBuilder};
 use std::alloc::Global;
 use thiserror::Error;
 
@@ -88,14 +90,34 @@ fn settings(mut words: Pieces<'_>) -> Option<ServiceConfig>
     let request = words.next()?;
     let disconnect = words.next()?;
     let half_closed = words.next()?;
-    let write_buffer = words.only()?;
+    let write_buffer = words.next()?;
+    let hold_size = hold_by(words)?;
     settings_by(
         keep_alive_word,
         request,
         disconnect,
         half_closed,
         write_buffer,
+        hold_size,
     )
+}
+
+// The hold size that a last word names, or the usual one where there is none.
+fn hold_by(mut words: Pieces<'_>) -> Option<usize>
+    ensures value { result ≡ hold_by words.entry }
+    ensures range { IfSome result IsHoldSize }
+{
+    let Some(word) = words.next() else {
+        return Some(DEFAULT_HOLD_SIZE);
+    };
+    if words.next().is_some() {
+        return None;
+    }
+    let size = number(word)? as usize;
+    if size < MIN_HOLD_SIZE || size > MAX_HOLD_SIZE {
+        return None;
+    }
+    Some(size)
 }
 
 fn settings_by(
@@ -104,8 +126,10 @@ fn settings_by(
     disconnect: &[u8],
     half_closed: &[u8],
     write_buffer: &[u8],
+    hold_size: usize,
 ) -> Option<ServiceConfig>
-    ensures { result ≡ settings_by keep_alive_word.now request.now disconnect.now half_closed.now write_buffer.now }
+    requires { IsHoldSize hold_size }
+    ensures { result ≡ settings_by keep_alive_word.now request.now disconnect.now half_closed.now write_buffer.now hold_size }
 {
     let builder = ServiceConfigBuilder::new()
         .keep_alive(keep_alive(keep_alive_word)?)
@@ -113,6 +137,8 @@ fn settings_by(
         .client_disconnect_timeout(number(disconnect)?)
         .h1_allow_half_closed(flag(half_closed)?)
         .h1_write_buffer_size(number(write_buffer)? as usize)
+        .ok()?
+        .h1_hold_size(hold_size)
         .ok()?;
     Some(builder.build())
 }
@@ -124,18 +150,50 @@ fn event_line(alloc: Global, line: &[u8]) -> Result<Event, LineError>
     let Some(name) = words.next() else {
         return Err(LineError::Unreadable);
     };
+    match plain_event(name) {
+        Some(event) => alone(words, event),
+        None => worded_event(alloc, name, words),
+    }
+}
+
+// The events that have no words but their name.
+fn plain_event(name: &[u8]) -> Option<Event>
+    ensures { result ≡ plain_event name.now }
+{
     if name == b"eof".as_slice() {
-        alone(words, Event::Eof)
+        Some(Event::Eof)
     } else if name == b"next".as_slice() {
-        alone(words, Event::Next)
-    } else if name == b"read".as_slice() {
+        Some(Event::Next)
+    } else if name == b"pull".as_slice() {
+        Some(Event::Pull)
+    } else if name == b"dropbody".as_slice() {
+        Some(Event::DropBody)
+    } else if name == b"continue".as_slice() {
+        Some(Event::Continue)
+    } else if name == b"bodyend".as_slice() {
+        Some(Event::BodyEnd)
+    } else if name == b"bodyerror".as_slice() {
+        Some(Event::BodyError)
+    } else if name == b"drain".as_slice() {
+        Some(Event::Drain)
+    } else {
+        None
+    }
+}
+
+fn worded_event(alloc: Global, name: &[u8], words: Pieces<'_>) -> Result<Event, LineError>
+    ensures { Reads result (worded_event name.now words.entry) }
+{
+    if name == b"read".as_slice() {
         read(alloc, words)
+    } else if name == b"chunk".as_slice() {
+        chunk(alloc, words)
     } else if name == b"write".as_slice() {
         write(words).ok_or(LineError::Unreadable)
     } else if name == b"tick".as_slice() {
         tick(words).ok_or(LineError::Unreadable)
     } else if name == b"answer".as_slice() {
-        answer(alloc, words).ok_or(LineError::Unreadable)
+        answer(alloc, words)
     } else {
         Err(LineError::Unreadable)
     }
@@ -160,6 +218,15 @@ fn read(alloc: Global, words: Pieces<'_>) -> Result<Event, LineError>
     }
 }
 
+fn chunk(alloc: Global, words: Pieces<'_>) -> Result<Event, LineError>
+    ensures { Reads result (chunk_of words.entry) }
+{
+    match words.only() {
+        Some(word) => Ok(Event::Chunk(bytes(alloc, word)?)),
+        None => Err(LineError::Unreadable),
+    }
+}
+
 fn write(words: Pieces<'_>) -> Option<Event>
     ensures { result ≡ write_of words.entry }
 {
@@ -171,16 +238,4 @@ fn tick(words: Pieces<'_>) -> Option<Event>
     ensures { result ≡ tick_of words.entry }
 {
     Some(Event::Tick(number(words.only()?)?))
-}
-
-fn answer(alloc: Global, mut words: Pieces<'_>) -> Option<Event>
-    ensures { result ≡ answer_of words.entry }
-{
-    let status_word = words.next()?;
-    let size_word = words.next()?;
-    if words.only()? != b"-".as_slice() {
-        return None;
-    }
-    let head = ResponseHead::new(alloc, status(status_word)?);
-    Some(Event::Answer(head, size(size_word)?))
 }

@@ -1,7 +1,7 @@
 //! The words of a script: numbers, bytes, flags and the like.
 ghost use Rattle.std.specs.Prelude.{◌≡◌};
-ghost use Rattle.h1_replay.specs.Word.{number_of, bytes_of, flag_of, keep_alive_of, status_of, size_of};
-ghost use Rattle.h1_replay.specs.Reading.{Reads};
+ghost use Rattle.h1_replay.specs.Word.{number_of, bytes_of, text_of, flag_of, keep_alive_of, status_of, size_of};
+ghost use Rattle.h1_replay.specs.Reading.{Reads, ReadsItems, ReadsText};
 
 use bytes::Bytes;
 use hex::FromHexError;
@@ -45,14 +45,30 @@ pub fn number(word: &[u8]) -> Option<u64>
 pub fn bytes(alloc: Global, word: &[u8]) -> Result<Bytes, LineError>
     ensures { Reads result (bytes_of word.now) }
 {
+    Bytes::from_vec(decoded(alloc, word)?).map_err(|_| LineError::NoMemory)
+}
+
+/// The text that a word spells, by the bytes of its UTF-8.
+pub fn text(alloc: Global, word: &[u8]) -> Result<String, LineError>
+    ensures { ReadsText result (text_of word.now) }
+{
+    match String::from_utf8(decoded(alloc, word)?) {
+        Ok(text) => Ok(text),
+        Err(_) => Err(LineError::Unreadable),
+    }
+}
+
+fn decoded(alloc: Global, word: &[u8]) -> Result<Vec<u8>, LineError>
+    ensures { ReadsItems result (bytes_of word.now) }
+{
     if word == b"-".as_slice() {
-        return Ok(Bytes::new());
+        return Ok(Vec::new(alloc));
     }
     if word.is_empty() {
         return Err(LineError::Unreadable);
     }
     match hex::decode(alloc, word) {
-        Ok(read) => Bytes::from_vec(read).map_err(|_| LineError::NoMemory),
+        Ok(read) => Ok(read),
         Err(FromHexError::OutOfMemory) => Err(LineError::NoMemory),
         Err(_) => Err(LineError::Unreadable),
     }
@@ -91,15 +107,15 @@ pub fn status(word: &[u8]) -> Option<StatusCode>
     StatusCode::from_u16(code as u16).ok()
 }
 
-/// `none`, or a number of the value 0.
+/// `none`, `stream`, or a number of bytes.
 pub fn size(word: &[u8]) -> Option<BodySize>
     ensures { result ≡ size_of word.now }
 {
     if word == b"none".as_slice() {
         return Some(BodySize::None);
     }
-    if number(word)? != 0 {
-        return None;
+    if word == b"stream".as_slice() {
+        return Some(BodySize::Stream);
     }
-    Some(BodySize::ZERO)
+    Some(BodySize::Sized(number(word)?))
 }

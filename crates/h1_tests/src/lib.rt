@@ -10,6 +10,8 @@ mod answers;
 #[cfg(test)]
 mod connection;
 #[cfg(test)]
+mod exchanges;
+#[cfg(test)]
 mod head_bodies;
 #[cfg(test)]
 mod heads;

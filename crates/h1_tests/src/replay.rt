@@ -51,7 +51,7 @@ fn runs(
 }
 
 // Events behind the usual config, and the status and the text that they end with.
-static REPORTS: [(&str, u8, &str); 8] = [
+static REPORTS: [(&str, u8, &str); 7] = [
     ("", 0, "buffered -\nstate open\n"),
     (
         "tick 0\nread 474554202f20485454502f312e310d0a686f73743a20610d0a0d0a\nnext\nanswer 200 0 -\nwrite 200\n",
@@ -67,11 +67,6 @@ static REPORTS: [(&str, u8, &str); 8] = [
         "read 47\neof\nnext\n",
         0,
         "took 1\ndone\nclosed input-ended\nbuffered -\nstate input-ended\n",
-    ),
-    (
-        "tick 0\nread 4241440d0a0d0a\nnext\n",
-        8,
-        "done\ntook 7\nbuffered -\nstate open\nnot yet 2\n",
     ),
     (
         "read 47\neof\nnext\nread 47\n",
@@ -100,7 +95,7 @@ fn reports_what_comes_of_events(rt: HostRuntime) -> Result<(), Fail> {
 }
 
 // Whole scripts, of good and of bad lines.
-static SCRIPTS: [(&str, u8, &str); 10] = [
+static SCRIPTS: [(&str, u8, &str); 14] = [
     ("", 2, "bad line 1\n"),
     ("next\n", 2, "bad line 1\n"),
     ("config os 0 0 0 1", 0, "buffered -\nstate open\n"),
@@ -111,6 +106,10 @@ static SCRIPTS: [(&str, u8, &str); 10] = [
     ),
     ("config 18446744073709551616 0 0 0 1", 2, "bad line 1\n"),
     ("config 1 1 1 1 00", 2, "bad line 1\n"),
+    ("config 1 1 1 1 1 8191", 2, "bad line 1\n"),
+    ("config 1 1 1 1 1 1048577", 2, "bad line 1\n"),
+    ("config 1 1 1 1 1 8192 1", 2, "bad line 1\n"),
+    ("config 1 1 1 1 1 1048576", 0, "buffered -\nstate open\n"),
     ("config 1 1 1 1 1\r\n", 2, "bad line 1\n"),
     ("config 1 1 1 1 1\n\n", 2, "bad line 2\n"),
     // A bad line comes before an event that isn't allowed.
@@ -124,7 +123,7 @@ static SCRIPTS: [(&str, u8, &str); 10] = [
 ];
 
 // Lines that are no event's.
-static BAD_LINES: [&str; 10] = [
+static BAD_LINES: [&str; 22] = [
     "config 5000 5000 0 1 32768",
     "Next",
     "next ",
@@ -132,9 +131,21 @@ static BAD_LINES: [&str; 10] = [
     "read 4",
     "read 4g",
     "write -1",
+    "pull 1",
+    "chunk",
+    "accept",
     "answer 99 0 -",
-    "answer 200 1 -",
-    "pull",
+    "answer 200 0",
+    "answer 200 0 cc",
+    "answer 200 0 x",
+    "answer 200 0 - ",
+    "answer 200 0 - /0d",
+    "answer 200 0 - /ff",
+    "answer 200 0 - a=61 /61",
+    "answer 200 0 - a",
+    "answer 200 0 - a=",
+    "answer 200 0 - a=61=62",
+    "answer 200 0 - a=0a",
 ];
 
 #[test]

@@ -1,0 +1,139 @@
+//! A server's loop over a connection.
+ghost use Rattle.std.specs.Prelude.{◌≡◌};
+ghost use Rattle.h1_echo.specs.declared.serve.ServeError.TheVariants as serve_error;
+
+use h1_dispatch::{Connection, End, NextHead, Pulled};
+use http_bodies::BodySize;
+use http_types::{NoMemory, ResponseHead, ServiceConfig, Sink, Source, StatusCode};
+use std::alloc::Global;
+use thiserror::Error;
+
+/// How many bytes are read at once.
+const CHUNK: usize = 4096;
+
+/// Why a connection wasn't served to its end.
+#[derive(Clone, Copy, Debug, PartialEq, Eq, Error)]
+pub enum ServeError {
+    /// A read failed.
+    #[error("a read failed")]
+    Read,
+
+    /// A write failed.
+    #[error("a write failed")]
+    Write,
+
+    /// More turns passed than are counted.
+    #[error("there is no end of it")]
+    Endless,
+
+    /// Memory ran out.
+    #[error("no memory is left")]
+    NoMemory,
+}
+
+impl From<NoMemory> for ServeError {
+    ghost from_gives = { λ _ error. error ≡ serve_error.NoMemory };
+
+    fn from(_error: NoMemory) -> ServeError {
+        ServeError::NoMemory
+    }
+}
+
+/// Serves a connection until it ends, and says why it did. Each request is answered with the body that it brought.
+pub fn serve<S: Source, K: Sink>(
+    alloc: Global,
+    config: ServiceConfig,
+    input: &mut S,
+    output: &mut K,
+) -> Result<End, ServeError> {
+    let hold_size = config.h1_hold_size();
+    let mut connection = Connection::new(alloc, config);
+    for _ in 0..u64::MAX {
+        write_out(&mut connection, output)?;
+        if !connection.can_next() {
+            return Err(ServeError::Endless);
+        }
+        match connection.next()? {
+            NextHead::Head(_) => echo(alloc, &mut connection, hold_size, input, output)?,
+            NextHead::Pending => read_more(&mut connection, hold_size, input)?,
+            // The answer that says so is to be written, and then the connection has ended.
+            NextHead::Fault(_) => {}
+            NextHead::Closed(end) => return Ok(end),
+        }
+    }
+    Err(ServeError::Endless)
+}
+
+// Answers the open request with its own body, piece by piece as it comes.
+fn echo<S: Source, K: Sink>(
+    alloc: Global,
+    connection: &mut Connection,
+    hold_size: usize,
+    input: &mut S,
+    output: &mut K,
+) -> Result<(), ServeError> {
+    if connection.can_go_on() {
+        connection.go_on()?;
+    }
+    if connection.can_answer() {
+        let head = ResponseHead::new(alloc, StatusCode::OK);
+        connection.answer(&head, BodySize::Stream)?;
+    }
+    for _ in 0..u64::MAX {
+        write_out(connection, output)?;
+        if !connection.can_pull() {
+            break;
+        }
+        match connection.pull()? {
+            Pulled::Bytes(bytes) => {
+                if connection.can_chunk() {
+                    connection.chunk(&bytes)?;
+                }
+            }
+            Pulled::Pending => read_more(connection, hold_size, input)?,
+            Pulled::Trailers(_) | Pulled::End | Pulled::Broken(_) => {}
+        }
+    }
+    if connection.can_end_body() {
+        connection.end_body()?;
+    }
+    Ok(())
+}
+
+// Reads what has come, or that nothing more does: no more than the connection has room for.
+fn read_more<S: Source>(
+    connection: &mut Connection,
+    hold_size: usize,
+    input: &mut S,
+) -> Result<(), ServeError> {
+    let mut chunk = [0u8; CHUNK];
+    let room = hold_size.saturating_sub(connection.held()).min(CHUNK);
+    if room == 0 || !connection.can_read() {
+        return Ok(());
+    }
+    let count = match input.read(&mut chunk[..room]) {
+        Ok(count) => count,
+        Err(_) => return Err(ServeError::Read),
+    };
+    if count == 0 {
+        connection.eof();
+        return Ok(());
+    }
+    connection.read(&chunk[..count])?;
+    Ok(())
+}
+
+// Writes what is to be written.
+fn write_out<K: Sink>(connection: &mut Connection, output: &mut K) -> Result<(), ServeError> {
+    for _ in 0..u64::MAX {
+        if connection.front().is_empty() || !connection.can_write() {
+            break;
+        }
+        let count = match output.write(connection.front()) {
+            Ok(count) => count,
+            Err(_) => return Err(ServeError::Write),
+        };
+        connection.advance(count);
+    }
+    Ok(())
+}
