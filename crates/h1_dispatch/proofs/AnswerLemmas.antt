@@ -215,7 +215,9 @@ some_sending (Some x) asked z asks sends = (x, ap (λ (y : Exchange). Some y) (b
   where
     by_reply : (r : Reply) → x.reply ≡ r → sending_by r ≡ Some z → x ≡ record x { reply = GoesOut z }
     by_reply Unanswered is sends = absurd (cc sends)
-    by_reply (GoesOut y) is sends = λ i. record x { reply = (is ∙ ap (λ (y : Sending). GoesOut y) (cc sends)) i }
+    by_reply (GoesOut y) is sends =
+        let same : y ≡ z = cc sends in
+        λ i. record x { reply = (is ∙ ap (λ (y : Sending). GoesOut y) same) i }
     by_reply (Answered kind) is sends = absurd (cc sends)
 
 pub sending_unsearched : (s : Settings) (p : Parts) (asked : Asked) (z : Sending) → asked_in p.exchange ≡ Some asked → sending_in p.exchange ≡ Some z → IsSound s p

@@ -1,6 +1,6 @@
 -- The machine's steps of reads, the input's end, drains, writes, and what concerns the open request alone.
 use Rattle.std.proofs.Common.{◌≡◌, ℕ, ◌-◌, ◌<◌, Bool, true, false, not, ◌&&◌, List, [], ◌∷◌, ◌++◌, length, take, drop, Option, Some, None, refl, sym, ap, ◌∙◌, subst}
-use Rattle.std.specs.Prelude.{option_map, is_some, is_none, min, if◌then◌else◌}
+use Rattle.std.specs.Prelude.{option_map, is_some, min, if◌then◌else◌}
 use Rattle.http_config.specs.Config.{Settings}
 use Rattle.h1_model.specs.Limits.{MAX_MOMENT}
 use Rattle.h1_model.specs.AnswerText.{interim_text}
@@ -194,18 +194,18 @@ pub dropped_sound : (s : Settings) (p m q : Parts) → IsSound s p → m ≡ rec
 dropped_sound s p m q sound is kept input =
     drop_sound s p q sound (kept ∙ ap (λ (r : Parts). noting_since (setting_of s) (kept_of r)) is) (input ∙ ap (λ (r : Parts). r.input) is)
 
-pub none_told : (s : Settings) (p : Parts) → IsSound s p → is_none p.exchange ≡ true → Steps s p on.go_on on.done p
+pub none_told : (s : Settings) (p : Parts) → IsSound s p → is_some p.exchange ≡ false → Steps s p on.go_on on.done p
 none_told s p sound none = no_go_on s p sound (of_none p.exchange none)
   where
-    of_none : (e : Option Exchange) → is_none e ≡ true → e ≡ None
+    of_none : (e : Option Exchange) → is_some e ≡ false → e ≡ None
     of_none None is = refl
     of_none (Some x) is = absurd (cc is)
 
-pub told_steps : (s : Settings) (p q : Parts) (bytes : List ℕ) → IsSound s p → is_none p.exchange ≡ false → bytes ≡ p.output ++ interim_text
+pub told_steps : (s : Settings) (p q : Parts) (bytes : List ℕ) → IsSound s p → is_some p.exchange ≡ true → bytes ≡ p.output ++ interim_text
     → q ≡ record p { exchange = told_to_go_on p.exchange; output = bytes } → Steps s p on.go_on on.done q
 told_steps s p q bytes sound some bytes_are is = subst (λ (r : Parts). Steps s p on.go_on on.done r) (sym is) (of_some p.exchange refl some)
   where
-    of_some : (e : Option Exchange) → p.exchange ≡ e → is_none e ≡ false → Steps s p on.go_on on.done (record p { exchange = told_to_go_on p.exchange; output = bytes })
+    of_some : (e : Option Exchange) → p.exchange ≡ e → is_some e ≡ true → Steps s p on.go_on on.done (record p { exchange = told_to_go_on p.exchange; output = bytes })
     of_some None there is = absurd (cc is)
     of_some (Some x) there is = go_on_steps s p x bytes sound there bytes_are
 

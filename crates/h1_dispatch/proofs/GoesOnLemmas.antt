@@ -1,5 +1,5 @@
 -- A step of the parts goes on behind each trace that the connection stands for.
-use Rattle.std.proofs.Common.{◌≡◌, ℕ, ◌≤◌, Bool, true, false, not, ◌&&◌, ◌||◌, List, [], ◌∷◌, length, Option, Some, None, Result, Ok, Err, refl, sym, ap, ◌∙◌, subst}
+use Rattle.std.proofs.Common.{◌≡◌, ℕ, ◌<◌, ◌≤◌, Bool, true, false, not, ◌&&◌, ◌||◌, List, [], ◌∷◌, length, Option, Some, None, Result, Ok, Err, refl, sym, ap, ◌∙◌, subst}
 use Rattle.std.specs.Prelude.{IsTrue, IsFalse, IfOk, OnOk, OnErr, option_map, is_some, nat_lt, ◌↔◌, if◌then◌else◌}
 use Rattle.http_config.specs.Config.{Settings}
 use Rattle.h1_model.specs.Setting.{Setting}
@@ -141,8 +141,8 @@ pull_open s p allowed = open_exchange (kept_of p) (kept_of p).exchange (open_cas
 
 pulling_case : (u : Upgrade) (k : Kept) (e : Option Exchange) (c : Change) → is_open (record k { exchange = e }) ≡ true
     → IsPulling (with_upgrade u (record k { exchange = e })) (option_map (with_upgrade_of u) e) c → (p : Pulled) × IsPullFrom k e p
-pulling_case u k None c open pulling = absurd (cc open)
-pulling_case u k (Some x) c open pulling = (pulling.0, pulling.1)
+pulling_case u k None c opened pulling = absurd (cc opened)
+pulling_case u k (Some x) c opened pulling = (pulling.0, pulling.1)
 
 pull_from : (s : Settings) (p q : Parts) (answer : Answer)
     → ((r : Pulled) → IsPullOf (kept_of p) r → SaysPulled answer r.outcome × Steps s p on.pull r.outcome q)

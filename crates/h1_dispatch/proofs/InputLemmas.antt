@@ -2,7 +2,7 @@
 use Rattle.std.proofs.lemmas.List.{length-append}
 use Rattle.std.proofs.lemmas.Grind.{common_steps}
 use Rattle.std.proofs.Common.{◌≡◌, ℕ, ◌+◌, ◌-◌, ◌≤◌, Bool, true, false, List, [], ◌∷◌, ◌++◌, length, take, drop, Option, Some, None, inl, inr, refl, sym, ap, ◌∙◌, subst, arith, append_assoc}
-use Rattle.std.specs.Prelude.{option_map, is_none, is_some, slice_range, ◌⊎◌}
+use Rattle.std.specs.Prelude.{option_map, is_some, slice_range, ◌⊎◌}
 use Rattle.h1_model.specs.HeadPiece.{IsHeadPiece, HasNoHeadPiece}
 use Rattle.bytes.proofs.Ranges.{slice_range_front}
 use Rattle.h1_model.proofs.HeadPieceLemmas.{head_piece_append}
@@ -70,11 +70,11 @@ found_of front bytes (Some s) searched = found_to front bytes s.scanner s.piece 
 
 -- ---- a search that begins
 
-none_front : (front bytes : List ℕ) (search : Option Search) → is_none search ≡ true → IsSearched front bytes search → front ≡ []
+none_front : (front bytes : List ℕ) (search : Option Search) → is_some search ≡ false → IsSearched front bytes search → front ≡ []
 none_front front bytes None is searched = searched
 none_front front bytes (Some s) is searched = absurd (cc is)
 
-pub begun_searched : (front bytes seen : List ℕ) (search after : Option Search) (s : Search) → is_none search ≡ true → IsSearched front bytes search → s.piece ≡ Open
+pub begun_searched : (front bytes seen : List ℕ) (search after : Option Search) (s : Search) → is_some search ≡ false → IsSearched front bytes search → s.piece ≡ Open
     → seen ≡ bytes → GoesOnIn (Some s) seen after → IsSearched front bytes after
 begun_searched front bytes seen search after s none searched opened is on =
     open_found front bytes s after (none_front front bytes search none searched)

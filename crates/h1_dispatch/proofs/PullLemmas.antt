@@ -50,19 +50,19 @@ record Tells (p : Pulled) : Type 0 where
 tells_of : (p q : Pulled) → p ≡ q → Tells q → Tells p
 tells_of p q is t = subst Tells (sym is) t
 
-lacking_tells : (ended : Bool) (rest : Rest) (bytes : List ℕ) → Tells (lacking ended rest bytes)
+lacking_tells : (stopped : Bool) (rest : Rest) (bytes : List ℕ) → Tells (lacking stopped rest bytes)
 unfolding done_of
 lacking_tells true rest bytes = record { done = refl; sound = refl }
 lacking_tells false rest bytes = record { done = refl; sound = refl }
 
-fixed_tells : (ended : Bool) (n : ℕ) (bytes : List ℕ) → Tells (pull_fixed ended n bytes)
+fixed_tells : (stopped : Bool) (n : ℕ) (bytes : List ℕ) → Tells (pull_fixed stopped n bytes)
 unfolding done_of
-fixed_tells ended n [] = lacking_tells ended (fixed_rest n) []
-fixed_tells ended n (b ∷ bytes) = record { done = refl; sound = refl }
+fixed_tells stopped n [] = lacking_tells stopped (fixed_rest n) []
+fixed_tells stopped n (b ∷ bytes) = record { done = refl; sound = refl }
 
-raw_tells : (ended : Bool) (bytes : List ℕ) → Tells (pull_raw ended bytes)
+raw_tells : (stopped : Bool) (bytes : List ℕ) → Tells (pull_raw stopped bytes)
 unfolding done_of
-raw_tells ended (b ∷ bytes) = record { done = refl; sound = refl }
+raw_tells stopped (b ∷ bytes) = record { done = refl; sound = refl }
 raw_tells true [] = record { done = refl; sound = refl }
 raw_tells false [] = record { done = refl; sound = refl }
 
@@ -71,23 +71,23 @@ unfolding done_of
 end_tells [] behind p is = tells_of p _ is (record { done = refl; sound = refl })
 end_tells (b ∷ section) behind p is = tells_of p _ is.3 (record { done = refl; sound = refl })
 
-chunks_tell : (ended : Bool) (place : Place) (section bytes : List ℕ) (next : Next) (noted : List ℕ) (p : Pulled)
-    → IsPullOfChunks ended place section bytes next noted p → Tells p
+chunks_tell : (stopped : Bool) (place : Place) (section bytes : List ℕ) (next : Next) (noted : List ℕ) (p : Pulled)
+    → IsPullOfChunks stopped place section bytes next noted p → Tells p
 unfolding done_of
-chunks_tell ended place section bytes (chunk given next behind) noted p is = tells_of p _ is (record { done = refl; sound = refl })
+chunks_tell stopped place section bytes (chunk given next behind) noted p is = tells_of p _ is (record { done = refl; sound = refl })
 chunks_tell true place section bytes (waits next) noted p is = tells_of p _ is (record { done = refl; sound = refl })
 chunks_tell false place section bytes (waits next) noted p is = tells_of p _ is (record { done = refl; sound = refl })
 chunks_tell is_ended place section bytes (ended behind) noted p is = end_tells (section ++ noted) behind p is
-chunks_tell ended place section bytes breaks noted p is = tells_of p _ is (record { done = refl; sound = refl })
+chunks_tell stopped place section bytes breaks noted p is = tells_of p _ is (record { done = refl; sound = refl })
 
-pull_tells : (ended : Bool) (rest : Rest) (bytes : List ℕ) (p : Pulled) → is_frames rest ≡ false → IsPull ended rest bytes p → Tells p
+pull_tells : (stopped : Bool) (rest : Rest) (bytes : List ℕ) (p : Pulled) → is_frames rest ≡ false → IsPull stopped rest bytes p → Tells p
 unfolding done_of
-pull_tells ended no_rest bytes p plain is = tells_of p _ is (record { done = refl; sound = refl })
-pull_tells ended raw_rest bytes p plain is = tells_of p _ is (raw_tells ended bytes)
-pull_tells ended (fixed_rest n) bytes p plain is = tells_of p _ is (fixed_tells ended n bytes)
-pull_tells ended (chunks_rest place section) bytes p plain is =
-    chunks_tell ended place section bytes (take_next place bytes).next (take_next place bytes).trailers p is
-pull_tells ended (frames_rest under_way limit) bytes p plain is = absurd (cc plain)
+pull_tells stopped no_rest bytes p plain is = tells_of p _ is (record { done = refl; sound = refl })
+pull_tells stopped raw_rest bytes p plain is = tells_of p _ is (raw_tells stopped bytes)
+pull_tells stopped (fixed_rest n) bytes p plain is = tells_of p _ is (fixed_tells stopped n bytes)
+pull_tells stopped (chunks_rest place section) bytes p plain is =
+    chunks_tell stopped place section bytes (take_next place bytes).next (take_next place bytes).trailers p is
+pull_tells stopped (frames_rest under_way limit) bytes p plain is = absurd (cc plain)
 
 -- ---- the step
 

@@ -33,6 +33,19 @@ use Rattle.h1_dispatch.specs.declared.event.Outcome.{Outcome}
 use Rattle.h1_dispatch.specs.declared.trace.Step.{Step}
 use Rattle.h1_dispatch.specs.declared.trace.Trace.{Trace}
 
+-- ---- a step
+
+-- of an event that is this one
+pub at_event : (now after : State) (event other : Event) (outcome : Outcome) → event ≡ other → GoesOn now (event_of other) (SaysOutcome outcome) after
+    → GoesOn now (event_of event) (SaysOutcome outcome) after
+at_event now after event other outcome is goes = subst (λ (e : Event). GoesOn now (event_of e) (SaysOutcome outcome) after) (sym is) goes
+
+-- and of an outcome that says what another one does
+pub says_more : (now after : State) (event : on.Event) (P : on.Outcome → Type 0) (outcome : Outcome) → ((out : on.Outcome) → P out → SaysOutcome outcome out)
+    → GoesOn now event P after → GoesOn now event (SaysOutcome outcome) after
+says_more now after event P outcome says goes = λ trace stands.
+    let x = goes trace stands in (x.0, says x.0 x.1, x.2, x.3)
+
 -- ---- a run
 
 -- nothing of an upgrade

@@ -1,5 +1,5 @@
 -- The machine's steps of a connection's parts.
-use Rattle.std.proofs.Common.{◌≡◌, ℕ, ◌<◌, Bool, true, false, List, length, take, drop, Option, Some, None, refl, sym, ap, ◌∙◌, subst}
+use Rattle.std.proofs.Common.{◌≡◌, ℕ, ◌<◌, Bool, true, false, List, [], length, take, drop, Option, Some, None, refl, sym, ap, ◌∙◌, subst, lit<}
 use Rattle.std.specs.Prelude.{option_map, is_some, min, unwrap_or, if◌then◌else◌}
 use Rattle.std.specs.Option.{option_or}
 use Rattle.http_config.specs.Config.{Settings}
@@ -17,6 +17,7 @@ use Rattle.h1_decode.specs.declared.scan.HeadScan.TheVariants.{Open, Piece}
 use Rattle.h1_dispatch.specs.Incoming.{Incoming, is_coming_in, IsFoundIn, IsFound}
 use Rattle.h1_dispatch.specs.Meaning.{setting_of, end_of}
 use Rattle.h1_dispatch.specs.Parts.{kept_of, exchange_of, reply_of, is_done, passed_by, MayBeSearched, IsNoted, IsSound, IsSearchedFor, IsSettled, Steps}
+use Rattle.h1_dispatch.specs.declared.connection.clock.Clock.{Clock}
 use Rattle.h1_dispatch.specs.declared.connection.exchange.Exchange.{Exchange}
 use Rattle.h1_dispatch.specs.declared.connection.exchange.Reply.{Reply}
 use Rattle.h1_dispatch.specs.declared.connection.exchange.Reply.TheVariants.{Unanswered, Sending, Answered}
@@ -179,3 +180,41 @@ pub pass_none : (p : Parts) → p.exchange ≡ None → kept_of p ≡ passing (k
 pass_none p none =
     ap (λ (e : Option Exchange). kept_of (record p { exchange = e })) none ∙ passed_none p
     ∙ ap (λ (e : Option Exchange). passing (kept_of (record p { exchange = e }))) (sym none)
+
+-- ---- a new connection
+
+fresh_sound : (s : Settings) (bytes : List ℕ) → IsFoundIn [] (Some Open)
+    → IsSound s (record {
+      input = record { unread = []; piece = Some Open };
+      has_ended = false;
+      is_draining = false;
+      is_over = false;
+      exchange = None;
+      output = bytes;
+      clock = record { first = None; last = None; completed = None };
+      failed = None;
+      closing_since = None;
+    })
+unfolding closing_by
+fresh_sound s bytes none = record { moment = lit< tt; searched = refl; scanned = none; noted = λ is. absurd (cc is) }
+
+pub new_sound : (s : Settings) (i : Incoming) (bytes : List ℕ) (k : Clock) → i ≡ record { unread = []; piece = Some Open } → IsFound i
+    → k ≡ record { first = None; last = None; completed = None }
+    → IsSound s (record {
+      input = i;
+      has_ended = false;
+      is_draining = false;
+      is_over = false;
+      exchange = None;
+      output = bytes;
+      clock = k;
+      failed = None;
+      closing_since = None;
+    })
+new_sound s i bytes k input found clock =
+    let made : Incoming → Clock → Parts = λ j t. record {
+      input = j; has_ended = false; is_draining = false; is_over = false; exchange = None; output = bytes; clock = t; failed = None; closing_since = None;
+    } in
+    subst (λ (t : Clock). IsSound s (made i t)) (sym clock)
+    (subst (λ (j : Incoming). IsSound s (made j (record { first = None; last = None; completed = None }))) (sym input)
+    (fresh_sound s bytes (subst (λ (j : Incoming). IsFound j) input found)))

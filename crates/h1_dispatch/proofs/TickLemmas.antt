@@ -11,12 +11,13 @@ use Rattle.h1_model.specs.OutcomeTable.{counted_from, has_run_out}
 use Rattle.h1_model.specs.Event as on
 use Rattle.h1_model.specs.End as ends
 use Rattle.h1_machine.specs.Kept as machine
+use Rattle.h1_dispatch.specs.declared.event.End.{End}
 use Rattle.h1_machine.specs.Kept.{Kept, Change, is_free, now}
 use Rattle.h1_machine.specs.Local.{closing_by}
 use Rattle.h1_machine.specs.Clock.{expiring, at_moment, ticking}
 use Rattle.h1_machine.specs.Change.{IsChange, noting_since}
 use Rattle.h1_dispatch.specs.Incoming.{Incoming, IsFound}
-use Rattle.h1_dispatch.specs.Meaning.{setting_of}
+use Rattle.h1_dispatch.specs.Meaning.{setting_of, end_of}
 use Rattle.h1_dispatch.specs.Parts.{kept_of, IsSound, Steps}
 use Rattle.h1_dispatch.specs.Ticks.{expiry_of, is_past}
 use Rattle.h1_dispatch.specs.declared.connection.clock.Clock.{Clock}

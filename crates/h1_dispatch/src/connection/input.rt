@@ -47,7 +47,8 @@ impl Model for Input {
 impl Input {
     /// No bytes, and no memory taken. A head is searched for.
     pub fn new(alloc: Global) -> Input
-        ensures { result ≡ record { unread = []; piece = Some HeadScan.Open } }
+        ensures value { result ≡ record { unread = []; piece = Some HeadScan.Open } }
+        ensures scanned { IsFound result }
     {
         Input {
             front: Bytes::new(),

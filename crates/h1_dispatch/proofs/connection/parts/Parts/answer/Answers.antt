@@ -6,8 +6,8 @@ use Rattle.h1_dispatch.specs.Meaning.{setting_of, keep_alive_of}
 use Rattle.h1_dispatch.proofs.AnswerLemmas.{text_by, no_answer, waiting_unsearched, at_once_steps, complete_sound, later_steps_by, later_sound_by}
 use Rattle.h1_dispatch.proofs.connection.parts.Parts.answer.Goals as goal
 
-pub complete-requires-then-is_at_once : goal.complete-requires-then-is_at_once
-complete-requires-then-is_at_once c = waiting_unsearched _ c.args.self.now _ (sym c.asked.ensures ∙ c.in-Some.is) c.requires.waits c.requires.sound
+pub complete-requires : goal.complete-requires
+complete-requires c = waiting_unsearched _ c.args.self.now _ (sym c.asked.ensures ∙ c.in-Some.is) c.requires.waits c.requires.sound
 
 pub returns-in_default-clause-ok : goal.returns-in_default-clause-ok
 returns-in_default-clause-ok c = no_answer _ c.args.self.now _ _ (sym c.asked.ensures ∙ c.in_default.is) c.requires.sound
@@ -22,7 +22,7 @@ returns-then-is_at_once-clause-ok c =
     c.complete.ensures
 
 pub returns-then-is_at_once-clause-sound : goal.returns-then-is_at_once-clause-sound
-returns-then-is_at_once-clause-sound c = complete_sound _ _ _ _ c.requires.sound.moment c.complete.ensures
+returns-then-is_at_once-clause-sound c = complete_sound _ (record c.args.self.now { output = c.put_head.new.self }) _ _ c.requires.sound.moment c.complete.ensures
 
 pub returns-else-is_at_once-clause-ok : goal.returns-else-is_at_once-clause-ok
 returns-else-is_at_once-clause-ok c =

@@ -12,9 +12,9 @@ returns-in-Ok-clause-ok c = λ held.
 pub returns-in_ok-refuse-in-Err : goal.returns-in_ok-refuse-in-Err
 returns-in_ok-refuse-in-Err c = record {
   ok = λ held.
-      found_steps _ c.args.self.now _ c.args.head c.in_ok-fault.fault c.requires.runs c.requires.found
-      (subst (λ (f : Fault). IsReading c.args.head (faulty f)) (sym c.in_ok-fault.ensures.1) (c.in-Err.ensures.fault c.in_ok-fault.ensures.0))
+      found_steps _ c.args.self.now _ c.args.head c.in_ok-fault-in-Err.fault c.requires.runs c.requires.found
+      (subst (λ (f : Fault). IsReading c.args.head (faulty f)) (sym c.in_ok-fault-in-Err.ensures.1) (c.in-Err.ensures.fault c.in_ok-fault-in-Err.ensures.0))
       c.in_ok-refuse-in-Err.ensures.ok held;
-  sound = refused_sound _ c.args.self.now _ c.in_ok-fault.fault c.requires.sound c.in_ok-refuse-in-Err.ensures.ok;
+  sound = refused_sound _ c.args.self.now _ c.in_ok-fault-in-Err.fault c.requires.sound c.in_ok-refuse-in-Err.ensures.ok;
   err = tt;
 }
