@@ -84,7 +84,10 @@ fn chunks_are_read(rt: HostRuntime) -> Result<(), Fail> {
     let rows: [(&[u8], &[u8]); 12] = [
         (b"4\r\ndata\r\n0\r\n\r\n", b"[data]."),
         (b"4\r\ndata\r\n0\r\n\r\nGET", b"[data].GET"),
-        (b"4;name=value\r\ndata\r\n2 \t\r\n12\r\n0\r\n\r\n", b"[data][12]."),
+        (
+            b"4;name=value\r\ndata\r\n2 \t\r\n12\r\n0\r\n\r\n",
+            b"[data][12].",
+        ),
         (b"00A\r\n0123456789\r\n\r\n\r\n", b"[0123456789]."),
         (b"4\r\ndata\r\n0\r\nx-sum: 9\r\n\r\n", b"[data]x-sum=9;."),
         (b"0\r\nA: 1\r\nb:2 \r\na:\r\n\r\n", b"a=1;a=;b=2;."),
@@ -106,7 +109,10 @@ fn chunks_are_read(rt: HostRuntime) -> Result<(), Fail> {
 fn chunks_are_read_byte_by_byte(rt: HostRuntime) -> Result<(), Fail> {
     let rows: [(&[u8], &[u8]); 3] = [
         (b"4\r\ndata\r\n0\r\n\r\nG", b"[d][a][t][a]..G"),
-        (b"2;x\r\nab\r\n0\r\nx-sum: 9\r\nX-Sum:10\r\n\r\n", b"[a][b]x-sum=9;x-sum=10;."),
+        (
+            b"2;x\r\nab\r\n0\r\nx-sum: 9\r\nX-Sum:10\r\n\r\n",
+            b"[a][b]x-sum=9;x-sum=10;.",
+        ),
         (b"1\r\naX", b"[a]!X"),
     ];
     for (bytes, want) in rows {
