@@ -144,27 +144,38 @@ fn trailer_lines(alloc: Global, count: u32, line: &[u8]) -> Result<Vec<u8>, Allo
     Ok(text)
 }
 
-#[test]
-fn trailers_have_limits(rt: HostRuntime) -> Result<(), Fail> {
-    let alloc = rt.alloc();
-    let most = trailer_lines(alloc, 64, b"a:b\r\n")?;
-    let log = told(alloc, PayloadDecoder::chunked(), &[most.as_slice()])?;
-    assert!(rt; log.len() == 64 * 4 + 1);
-    let more = trailer_lines(alloc, 65, b"a:b\r\n")?;
-    let log = told(alloc, PayloadDecoder::chunked(), &[more.as_slice()])?;
-    assert!(rt; log.first() == Some(&b'!'));
+// What is told of a body with that many of these lines.
+fn told_of_lines(alloc: Global, count: u32, line: &[u8]) -> Result<Vec<u8>, AllocError> {
+    let text = trailer_lines(alloc, count, line)?;
+    told(alloc, PayloadDecoder::chunked(), &[text.as_slice()])
+}
 
+// A trailer line whose value has this many bytes.
+fn long_line(alloc: Global, len: usize) -> Result<Vec<u8>, AllocError> {
+    let mut value = Vec::new(alloc);
+    value.resize(len, b'v')?;
     let mut line = Vec::from_slice(alloc, b"a:")?;
-    line.resize(2 + 8188, b'v')?;
+    line.extend_from_slice(value.as_slice())?;
     line.extend_from_slice(b"\r\n")?;
-    let longest = trailer_lines(alloc, 1, line.as_slice())?;
-    let log = told(alloc, PayloadDecoder::chunked(), &[longest.as_slice()])?;
+    Ok(line)
+}
+
+#[test]
+fn sixty_four_lines_are_read(rt: HostRuntime) -> Result<(), Fail> {
+    let log = told_of_lines(rt.alloc(), 64, b"a:b\r\n")?;
+    assert!(rt; log.len() == 64 * 4 + 1);
+    let log = told_of_lines(rt.alloc(), 65, b"a:b\r\n")?;
+    assert!(rt; log.first() == Some(&b'!'));
+    Ok(())
+}
+
+#[test]
+fn a_line_of_8192_bytes_is_read(rt: HostRuntime) -> Result<(), Fail> {
+    let longest = long_line(rt.alloc(), 8188)?;
+    let log = told_of_lines(rt.alloc(), 1, longest.as_slice())?;
     assert!(rt; log.len() == 2 + 8188 + 2);
-    let mut line = Vec::from_slice(alloc, b"a:")?;
-    line.resize(2 + 8189, b'v')?;
-    line.extend_from_slice(b"\r\n")?;
-    let longer = trailer_lines(alloc, 1, line.as_slice())?;
-    let log = told(alloc, PayloadDecoder::chunked(), &[longer.as_slice()])?;
+    let longer = long_line(rt.alloc(), 8189)?;
+    let log = told_of_lines(rt.alloc(), 1, longer.as_slice())?;
     assert!(rt; log.first() == Some(&b'!'));
     Ok(())
 }
