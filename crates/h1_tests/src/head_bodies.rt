@@ -3,6 +3,7 @@ use bytes::Bytes;
 use h1_decode::{BodyKind, HeadItem, request_head};
 use http_types::{ConnectionType, ParseError, Version};
 use std::alloc::Global;
+use std::process::Abort;
 use std::test::Fail;
 
 use BodyKind::{Chunked, Length, Raw};
@@ -66,9 +67,9 @@ fn says(item: &HeadItem, body: BodyKind, ctype: ConnectionType, expects: bool) -
         && item.expects_leave() == expects
 }
 
-fn all_say(rt: &HostRuntime, rows: &[Row]) -> Result<(), Fail> {
+fn all_say(rt: &impl Abort, alloc: Global, rows: &[Row]) -> Result<(), Fail> {
     for (text, body, ctype, expects) in rows {
-        let item = read(rt.alloc(), *text)?;
+        let item = read(alloc, *text)?;
         assert!(rt; says(&item, *body, *ctype, *expects), "of {text:?}");
     }
     Ok(())
@@ -76,9 +77,9 @@ fn all_say(rt: &HostRuntime, rows: &[Row]) -> Result<(), Fail> {
 
 #[test]
 fn a_body_ends_where_its_head_says(rt: HostRuntime) -> Result<(), Fail> {
-    all_say(&rt, &PLAIN)?;
-    all_say(&rt, &FRAMED)?;
-    all_say(&rt, &UPGRADED)
+    all_say(&rt, rt.alloc(), &PLAIN)?;
+    all_say(&rt, rt.alloc(), &FRAMED)?;
+    all_say(&rt, rt.alloc(), &UPGRADED)
 }
 
 #[test]
