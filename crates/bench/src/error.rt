@@ -1,5 +1,4 @@
 //! Why there is nothing to measure.
-use h1_dispatch::StepError;
 use http_header::HeaderNameError;
 use http_map::ValueError;
 use http_types::{NoMemory, ParseError};
@@ -28,10 +27,6 @@ pub enum BenchError {
     /// No frame came where one was due.
     #[error("there is no frame")]
     NoFrame,
-
-    /// The engine doesn't do this yet.
-    #[error("an event of this kind is not served yet")]
-    NotYet,
 
     /// Memory ran out.
     #[error("no memory is left")]
@@ -68,20 +63,11 @@ impl From<ValueError> for BenchError {
     }
 }
 
-impl From<StepError> for BenchError {
-    fn from(error: StepError) -> BenchError {
-        match error {
-            StepError::NotYet => BenchError::NotYet,
-            StepError::NoMemory => BenchError::NoMemory,
-        }
-    }
-}
-
 impl From<ParseError> for BenchError {
     fn from(error: ParseError) -> BenchError {
         match error {
             ParseError::NoMemory => BenchError::NoMemory,
-            _ => BenchError::NotYet,
+            _ => BenchError::NoHead,
         }
     }
 }

@@ -3,7 +3,7 @@ use crate::checksum::Checksum;
 use crate::error::BenchError;
 use bytes::Bytes;
 use h1_decode::{HeadScan, request_head, scan_head};
-use h1_dispatch::{Connection, Event, Outcome};
+use h1_dispatch::{Connection, Event, NextHead, Outcome};
 use http_bodies::BodySize;
 use http_types::{NoMemory, ResponseHead, ServiceConfigBuilder, StatusCode};
 use std::alloc::Global;
@@ -18,7 +18,13 @@ const WRITE_LIMIT: usize = 65_536;
 const MOMENT: u64 = 1_795_737_600_000;
 
 /// Every work, in the table's order.
-pub static WORKS: [Work; 3] = [Work::Head, Work::Get, Work::PipelinedGets];
+pub static WORKS: [Work; 5] = [
+    Work::Head,
+    Work::Get,
+    Work::PipelinedGets,
+    Work::GetByEvents,
+    Work::PipelinedGetsByEvents,
+];
 
 /// A work that is done once for each request.
 #[derive(Clone, Copy, Debug, PartialEq, Eq)]
@@ -26,11 +32,17 @@ pub enum Work {
     /// Where the head ends is found, and then the head is read.
     Head,
 
-    /// A request comes in one read, its head is handed out and answered, and the answer is given to be written.
+    /// A request comes in one read, its head is handed out and answered, and the answer is written.
     Get,
 
-    /// The same for sixteen requests that come in one read, and whose answers are given at once.
+    /// The same for sixteen requests that come in one read, and whose answers are written at once.
     PipelinedGets,
+
+    /// The same by events as values, whose bytes are given to be written.
+    GetByEvents,
+
+    /// The same of sixteen requests.
+    PipelinedGetsByEvents,
 }
 
 impl Work {
@@ -45,6 +57,8 @@ impl Work {
             Work::Head => "head",
             Work::Get => "get",
             Work::PipelinedGets => "get16",
+            Work::GetByEvents => "step",
+            Work::PipelinedGetsByEvents => "step16",
         }
     }
 
@@ -54,6 +68,8 @@ impl Work {
             Work::Head => heads(alloc, head, requests),
             Work::Get => gets(alloc, head, 1, requests),
             Work::PipelinedGets => gets(alloc, head, PIPELINED, requests / PIPELINED),
+            Work::GetByEvents => steps(alloc, head, 1, requests),
+            Work::PipelinedGetsByEvents => steps(alloc, head, PIPELINED, requests / PIPELINED),
         }
     }
 }
@@ -73,38 +89,93 @@ fn heads(alloc: Global, head: &[u8], requests: u64) -> Result<u64, BenchError> {
     Ok(checksum.sum())
 }
 
-/// Serves so many reads of `depth` requests each, on one connection. The events are made once.
+/// Serves so many reads of `depth` requests each, on one connection.
 fn gets(alloc: Global, head: &[u8], depth: u64, reads: u64) -> Result<u64, BenchError> {
+    let read = repeated(alloc, head, depth)?;
+    let answer = ResponseHead::new(alloc, StatusCode::OK);
+    let mut connection = Connection::new(alloc, ServiceConfigBuilder::new().build());
+    let mut checksum = Checksum::new();
+    if !connection.can_tick(MOMENT) {
+        return Err(BenchError::Misplaced);
+    }
+    connection.tick(MOMENT)?;
+    for _ in 0..reads {
+        serve(&mut connection, &read, &answer, depth, &mut checksum)?;
+    }
+    Ok(checksum.sum())
+}
+
+/// A read, with its answers, which are written.
+fn serve(
+    connection: &mut Connection,
+    read: &[u8],
+    answer: &ResponseHead,
+    depth: u64,
+    checksum: &mut Checksum,
+) -> Result<(), BenchError> {
+    if !connection.can_read() {
+        return Err(BenchError::Misplaced);
+    }
+    let count = connection.read(read)?;
+    checksum.add(count);
+    for _ in 0..depth {
+        exchange(connection, answer, checksum)?;
+    }
+    if !connection.can_write() {
+        return Err(BenchError::Misplaced);
+    }
+    let written = connection.front().len();
+    checksum.add_bytes(connection.front());
+    connection.advance(written);
+    Ok(())
+}
+
+/// The next head, and its answer.
+fn exchange(
+    connection: &mut Connection,
+    answer: &ResponseHead,
+    checksum: &mut Checksum,
+) -> Result<(), BenchError> {
+    if !connection.can_next() {
+        return Err(BenchError::Misplaced);
+    }
+    match connection.next()? {
+        NextHead::Head(item) => checksum.add_head(&item),
+        _ => return Err(BenchError::NoHead),
+    }
+    if !connection.can_answer() {
+        return Err(BenchError::Misplaced);
+    }
+    connection.answer(answer, BodySize::ZERO)?;
+    Ok(())
+}
+
+/// The same by events, which are made once.
+fn steps(alloc: Global, head: &[u8], depth: u64, reads: u64) -> Result<u64, BenchError> {
     let read = Event::Read(repeated(alloc, head, depth)?);
     let answer = Event::Answer(ResponseHead::new(alloc, StatusCode::OK), BodySize::ZERO);
     let mut connection = Connection::new(alloc, ServiceConfigBuilder::new().build());
     let mut checksum = Checksum::new();
-    let served = serve(&mut connection, &read, &answer, depth, reads, &mut checksum);
-    match served {
-        Ok(()) => Ok(checksum.sum()),
-        Err(error) => Err(error),
+    bring(&mut connection, &Event::Tick(MOMENT), &mut checksum)?;
+    for _ in 0..reads {
+        take_steps(&mut connection, &read, &answer, depth, &mut checksum)?;
     }
+    Ok(checksum.sum())
 }
 
-/// A tick, and then so many reads, each with its answers and one write.
-fn serve(
+fn take_steps(
     connection: &mut Connection,
     read: &Event,
     answer: &Event,
     depth: u64,
-    reads: u64,
     checksum: &mut Checksum,
 ) -> Result<(), BenchError> {
-    bring(connection, &Event::Tick(MOMENT), checksum)?;
-    for _ in 0..reads {
-        bring(connection, read, checksum)?;
-        for _ in 0..depth {
-            bring(connection, &Event::Next, checksum)?;
-            bring(connection, answer, checksum)?;
-        }
-        bring(connection, &Event::Write(WRITE_LIMIT), checksum)?;
+    bring(connection, read, checksum)?;
+    for _ in 0..depth {
+        bring(connection, &Event::Next, checksum)?;
+        bring(connection, answer, checksum)?;
     }
-    Ok(())
+    bring(connection, &Event::Write(WRITE_LIMIT), checksum)
 }
 
 /// Brings an event to the connection and counts its outcome in.
@@ -116,13 +187,12 @@ fn bring(
     if !connection.allowed(event) {
         return Err(BenchError::Misplaced);
     }
-    match connection.step(event) {
-        Ok(Outcome::Took(count)) => checksum.add(count),
-        Ok(Outcome::Head(item)) => checksum.add_head(&item),
-        Ok(Outcome::Gave(bytes)) => checksum.add_bytes(bytes.as_slice()),
-        Ok(Outcome::Done) => checksum.add(1),
-        Ok(Outcome::Pending | Outcome::Closed(_)) => return Err(BenchError::NoHead),
-        Err(error) => return Err(error.into()),
+    match connection.step(event)? {
+        Outcome::Took(count) => checksum.add(count),
+        Outcome::Head(item) => checksum.add_head(&item),
+        Outcome::Gave(bytes) => checksum.add_bytes(bytes.as_slice()),
+        Outcome::Done => checksum.add(1),
+        _ => return Err(BenchError::NoHead),
     }
     Ok(())
 }
