@@ -3,8 +3,7 @@ use Rattle.std.specs.Prelude.{ℕ, ◌+◌, ◌-◌, ◌==◌, List, [], ◌∷�
 use Rattle.std.specs.List.{slice_split}
 use Rattle.std.specs.Str.{bytes_eq}
 use Rattle.http.specs.declared.version.TheConstants.Version.{HTTP_11}
-use Rattle.http_config.specs.Config.{Settings}
-use Rattle.http_config.specs.declared.hold_size.TheConstants.{DEFAULT_HOLD_SIZE}
+use Rattle.http_config.specs.Config.{Settings, default_settings}
 use Rattle.http_types.specs.Flags.{no_flags}
 use Rattle.http_config.specs.KeepAlive.{normalized}
 use Rattle.http_types.specs.ResponseHead.{ResponseParts}
@@ -28,13 +27,12 @@ settings_by keep_alive request disconnect half_closed write_buffer = do
   disconnect ← number_of disconnect
   half_closed ← flag_of half_closed
   write_buffer ← number_of write_buffer
-  if write_buffer == 0 then None else Some (record {
+  if write_buffer == 0 then None else Some (record default_settings {
     keep_alive = normalized keep_alive;
     client_request_timeout = request;
     client_disconnect_timeout = disconnect;
     h1_allow_half_closed = half_closed;
     h1_write_buffer_size = write_buffer;
-    h1_hold_size = DEFAULT_HOLD_SIZE;
   })
 
 -- five words, no fewer and no more

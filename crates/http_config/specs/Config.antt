@@ -1,5 +1,6 @@
 -- A configuration as the record of its settings.
-use Rattle.std.specs.Prelude.{◌≡◌, ◌<◌, ◌≤◌, ℕ, Bool, true}
+use Rattle.std.specs.Prelude.{◌≡◌, ◌<◌, ◌≤◌, ℕ, Bool, true, false, Option, None}
+use Rattle.std.specs.declared.net.socket_addr.SocketAddr.{SocketAddr}
 use Rattle.http_config.specs.declared.hold_size.TheConstants.{MIN_HOLD_SIZE, MAX_HOLD_SIZE, DEFAULT_HOLD_SIZE}
 use Rattle.http_config.specs.declared.keep_alive.KeepAlive.{KeepAlive}
 use Rattle.http_config.specs.declared.keep_alive.KeepAlive.TheVariants.{Timeout}
@@ -13,6 +14,9 @@ pub record Settings : Type 0 where
   pub h1_allow_half_closed : Bool
   pub h1_write_buffer_size : ℕ
   pub h1_hold_size : ℕ
+  pub secure : Bool
+  pub local_addr : Option SocketAddr
+  pub tcp_nodelay : Option Bool
 
 -- so many bytes of the input may be held
 pub record IsHoldSize (size : ℕ) : Type 0 where
@@ -34,4 +38,7 @@ default_settings = record {
   h1_allow_half_closed = true;
   h1_write_buffer_size = 32768;
   h1_hold_size = DEFAULT_HOLD_SIZE;
+  secure = false;
+  local_addr = None;
+  tcp_nodelay = None;
 }

@@ -8,6 +8,7 @@ ghost use Rattle.http_config.specs.declared.hold_size.TheConstants.{MIN_HOLD_SIZ
 use crate::hold_size::{DEFAULT_HOLD_SIZE, HoldSize, MAX_HOLD_SIZE, MIN_HOLD_SIZE};
 use crate::KeepAlive;
 use std::marker::Model;
+use std::net::SocketAddr;
 use thiserror::Error;
 
 const DEFAULT_CLIENT_REQUEST_TIMEOUT: u64 = 5000;
@@ -30,6 +31,9 @@ pub struct ServiceConfig {
     h1_allow_half_closed: bool,
     h1_write_buffer_size: usize,
     h1_hold_size: usize,
+    secure: bool,
+    local_addr: Option<SocketAddr>,
+    tcp_nodelay: Option<bool>,
 }
 
 impl Model for ServiceConfig {
@@ -37,23 +41,11 @@ impl Model for ServiceConfig {
 
     ghost Value = { Settings };
 
-    ghost view = { λ c. record {
-      keep_alive = c.keep_alive;
-      client_request_timeout = c.client_request_timeout;
-      client_disconnect_timeout = c.client_disconnect_timeout;
-      h1_allow_half_closed = c.h1_allow_half_closed;
-      h1_write_buffer_size = c.h1_write_buffer_size;
-      h1_hold_size = c.h1_hold_size;
-    } };
+    ghost use Rattle.http_config.specs.ConfigFields.{settings_of};
 
-    ghost invariant = { λ c. AreUsable (record {
-      keep_alive = c.keep_alive;
-      client_request_timeout = c.client_request_timeout;
-      client_disconnect_timeout = c.client_disconnect_timeout;
-      h1_allow_half_closed = c.h1_allow_half_closed;
-      h1_write_buffer_size = c.h1_write_buffer_size;
-      h1_hold_size = c.h1_hold_size;
-    }) };
+    ghost view = { settings_of };
+
+    ghost invariant = { λ c. AreUsable (settings_of c) };
 
     ghost inverse = { λ s. record {
       keep_alive = s.keep_alive;
@@ -62,10 +54,64 @@ impl Model for ServiceConfig {
       h1_allow_half_closed = s.h1_allow_half_closed;
       h1_write_buffer_size = s.h1_write_buffer_size;
       h1_hold_size = s.h1_hold_size;
+      secure = s.secure;
+      local_addr = s.local_addr;
+      tcp_nodelay = s.tcp_nodelay;
     } };
 }
 
+impl Default for ServiceConfig {
+    ghost use Rattle.std.specs.Prelude.{◌≡◌};
+    ghost use Rattle.http_config.specs.Config.{default_settings};
+
+    ghost is_default = { λ config. config ≡ default_settings };
+
+    fn default() -> Self {
+        ServiceConfigBuilder::new().build()
+    }
+}
+
 impl ServiceConfig {
+    /// A config with these settings, and the others at their defaults. Durations are milliseconds; a
+    /// keep-alive timeout of 0 becomes `Disabled`.
+    pub fn new(
+        keep_alive: KeepAlive,
+        client_request_timeout: u64,
+        client_disconnect_timeout: u64,
+        secure: bool,
+        local_addr: Option<SocketAddr>,
+    ) -> ServiceConfig
+        ensures { result ≡ record default_settings {
+          keep_alive = normalized keep_alive;
+          client_request_timeout = client_request_timeout;
+          client_disconnect_timeout = client_disconnect_timeout;
+          secure = secure;
+          local_addr = local_addr;
+        } }
+    {
+        ServiceConfigBuilder::new()
+            .keep_alive(keep_alive)
+            .client_request_timeout(client_request_timeout)
+            .client_disconnect_timeout(client_disconnect_timeout)
+            .secure(secure)
+            .local_addr(local_addr)
+            .build()
+    }
+
+    /// Whether the connection is encrypted, as by TLS.
+    pub fn secure(&self) -> bool
+        ensures { result ≡ self.now.secure }
+    {
+        self.secure
+    }
+
+    /// The address that the server is bound to, where it has one.
+    pub fn local_addr(&self) -> Option<SocketAddr>
+        ensures { result ≡ self.now.local_addr }
+    {
+        self.local_addr
+    }
+
     /// The keep-alive setting, which is never a timeout of 0.
     pub fn keep_alive(&self) -> KeepAlive
         ensures value { result ≡ self.now.keep_alive }
@@ -118,6 +164,14 @@ impl ServiceConfig {
     {
         self.h1_hold_size
     }
+
+    /// Whether accepted sockets are set to send small pieces at once, or none where this is left to
+    /// the system.
+    pub fn tcp_nodelay(&self) -> Option<bool>
+        ensures { result ≡ self.now.tcp_nodelay }
+    {
+        self.tcp_nodelay
+    }
 }
 
 // The moment `duration` past `now`, where the duration is on and the moment fits.
@@ -149,7 +203,7 @@ impl Model for ServiceConfigBuilder {
 impl ServiceConfigBuilder {
     /// All settings at their defaults: keep-alive and request timeout of 5000 milliseconds, no
     /// disconnect timeout, half-closed connections allowed, a write buffer of 32768 bytes, a hold
-    /// size of 131072 bytes.
+    /// size of 131072 bytes, not encrypted, no local address, and nothing said of small pieces.
     pub fn new() -> Self
         ensures { result ≡ default_settings }
     {
@@ -161,8 +215,27 @@ impl ServiceConfigBuilder {
                 h1_allow_half_closed: true,
                 h1_write_buffer_size: DEFAULT_H1_WRITE_BUFFER_SIZE,
                 h1_hold_size: DEFAULT_HOLD_SIZE,
+                secure: false,
+                local_addr: None,
+                tcp_nodelay: None,
             },
         }
+    }
+
+    /// Whether the connection is encrypted, as by TLS.
+    pub fn secure(mut self, secure: bool) -> Self
+        ensures { result ≡ record self { secure = secure } }
+    {
+        self.config.secure = secure;
+        self
+    }
+
+    /// The address that the server is bound to.
+    pub fn local_addr(mut self, local_addr: Option<SocketAddr>) -> Self
+        ensures { result ≡ record self { local_addr = local_addr } }
+    {
+        self.config.local_addr = local_addr;
+        self
     }
 
     /// A timeout of 0 becomes `Disabled`.
@@ -186,6 +259,14 @@ impl ServiceConfigBuilder {
         ensures { result ≡ record self { client_disconnect_timeout = timeout } }
     {
         self.config.client_disconnect_timeout = timeout;
+        self
+    }
+
+    /// Whether accepted sockets are set to send small pieces at once; none leaves it to the system.
+    pub fn tcp_nodelay(mut self, nodelay: Option<bool>) -> Self
+        ensures { result ≡ record self { tcp_nodelay = nodelay } }
+    {
+        self.config.tcp_nodelay = nodelay;
         self
     }
 

@@ -6,6 +6,7 @@ ghost use Rattle.std.specs.Io.KnownBytes.{ReadConsumes, WriteAppends};
 ghost use Rattle.http_config.specs.Causes.{HasCause, counted};
 
 use crate::{Failed, Sink, Source};
+use std::fmt;
 use std::io::{ErrorKind, Read, Stdin, Stdout, Write};
 use std::marker::Model;
 
@@ -30,6 +31,12 @@ impl StdSource {
         ensures { result ≡ 0 }
     {
         StdSource { stdin, faults: 0 }
+    }
+}
+
+impl fmt::Debug for StdSource {
+    fn fmt<W: fmt::Write>(&self, f: &mut fmt::Formatter<W>) -> fmt::Result {
+        f.debug_struct("StdSource").field("faults", &self.faults).finish()
     }
 }
 
@@ -73,6 +80,12 @@ impl StdSink {
         ensures { result ≡ 0 }
     {
         StdSink { stdout, faults: 0 }
+    }
+}
+
+impl fmt::Debug for StdSink {
+    fn fmt<W: fmt::Write>(&self, f: &mut fmt::Formatter<W>) -> fmt::Result {
+        f.debug_struct("StdSink").field("faults", &self.faults).finish()
     }
 }
 

@@ -1,5 +1,6 @@
 //! Settings.
-use http_types::{KeepAlive, ServiceConfigBuilder};
+use http_types::{HoldSize, KeepAlive, ServiceConfig, ServiceConfigBuilder};
+use std::net::SocketAddr;
 use std::test::Fail;
 
 #[test]
@@ -11,6 +12,34 @@ fn settings_have_defaults(rt: HostRuntime) {
     assert_eq!(rt; config.client_disconnect_deadline(7), None);
     assert!(rt; config.h1_allow_half_closed());
     assert_eq!(rt; config.h1_write_buffer_size(), 32768);
+    assert_eq!(rt; config.h1_hold_size(), 131072);
+    assert!(rt; !config.secure() && config.local_addr().is_none() && config.tcp_nodelay().is_none());
+}
+
+// The hold size of a config that is set to this one.
+fn hold_size(size: usize) -> Result<usize, HoldSize> {
+    Ok(ServiceConfigBuilder::new().h1_hold_size(size)?.build().h1_hold_size())
+}
+
+#[test]
+fn a_hold_size_has_a_range(rt: HostRuntime) {
+    for size in [8192, 1048576] {
+        assert!(rt; hold_size(size) == Ok(size));
+    }
+    for size in [0, 8191, 1048577] {
+        assert!(rt; hold_size(size) == Err(HoldSize));
+    }
+}
+
+#[test]
+fn a_config_is_made_at_once(rt: HostRuntime) -> Result<(), Fail> {
+    let address: SocketAddr = "127.0.0.1:80".parse()?;
+    let config = ServiceConfig::new(KeepAlive::Timeout(0), 1, 2, true, Some(address));
+    assert!(rt; config.keep_alive() == KeepAlive::Disabled);
+    assert!(rt; config.client_request_deadline(7) == Some(8) && config.client_disconnect_deadline(7) == Some(9));
+    assert!(rt; config.secure() && config.local_addr() == Some(address));
+    assert!(rt; ServiceConfig::default().keep_alive_deadline(2) == Some(5002));
+    Ok(())
 }
 
 #[test]

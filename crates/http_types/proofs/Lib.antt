@@ -1,2 +1,3 @@
 mod RequestHeadEquality
+mod TextLemmas
 pub mod UriEquality

@@ -1,5 +1,16 @@
 pub mod ConnectionType
+pub mod Error
 pub mod Flags
+pub mod FullResponseLends
+pub mod HttpMessage
+pub mod MessageLends
+pub mod Request
 pub mod RequestHead
+pub mod RequestHeadType
+pub mod RequestLends
+pub mod RequestPartsLends
+pub mod Response
+pub mod ResponseBuilder
 pub mod ResponseHead
+pub mod ResponseLends
 pub mod Version

@@ -1,9 +1,11 @@
-//! What heads of both kinds keep beside their fields.
+//! What heads of both kinds have in common.
 ghost use Rattle.std.specs.Prelude.{◌≡◌};
+ghost use Rattle.std.specs.Borrow.{sem};
 ghost use Rattle.http_types.specs.Flags.{type_of_flags, with_type};
 ghost use Rattle.http_types.specs.ConnectionType.{IsTypeOf};
 
 use crate::Version;
+use std::marker::Model;
 
 /// What a message asks of its connection.
 #[derive(Clone, Copy, Debug, PartialEq, Eq)]
@@ -14,6 +16,72 @@ pub enum ConnectionType {
     KeepAlive,
     /// Change it to another protocol (RFC 7230, section 6.7).
     Upgrade,
+}
+
+/// The head of a message.
+pub trait Head {
+    // The head without its headers and marks.
+    ghost cleared: { Self → Self };
+
+    /// Takes away the headers and the marks, and nothing else. It takes no memory.
+    fn clear(&mut self)
+        ensures { self.new ≡ cleared self.old };
+}
+
+/// A message without its body: its head.
+#[derive(Debug, Drop)]
+pub struct Message<T> {
+    head: T,
+}
+
+impl<T> Model for Message<T> {
+    ghost Value = { T };
+
+    ghost view = { λ m. m.head };
+}
+
+impl<T: Head> Message<T> {
+    ghost use Rattle.http_types.specs.MessageLends.{lends_head};
+
+    /// The message with this head.
+    pub fn new(head: T) -> Self
+        ensures { result ≡ head }
+    {
+        Message { head }
+    }
+
+    /// Its head.
+    pub fn head(&self) -> &T
+        ensures { result.now ≡ self.now }
+    {
+        &self.head
+    }
+
+    /// Its head, for writing.
+    pub fn head_mut(&mut self) -> &mut T
+        ensures* writes_back { sem 𝓛 (lends_head T.row self.entry result) }
+        ensures value { result.now ≡ self.old }
+    {
+        &mut self.head
+    }
+
+    /// Its head alone.
+    pub fn into_head(self) -> T
+        ensures { result ≡ self }
+    {
+        let Message { head } = self;
+        head
+    }
+}
+
+impl<T: Head> From<T> for Message<T> {
+    ghost use Rattle.std.specs.Prelude.{◌≡◌};
+
+    ghost from_gives = { λ head message. message ≡ head };
+
+    fn from(head: T) -> Self {
+        Message::new(head)
+    }
 }
 
 /// Marks of a head that are no field and no header of it.

@@ -1,10 +1,16 @@
 //! The head of a request.
-ghost use Rattle.std.specs.Prelude.{◌≡◌, not, None, IfOk};
+ghost use Rattle.std.specs.Prelude.{◌≡◌, not, [], None, IfOk, codes};
+ghost use Rattle.std.specs.Borrow.{sem};
+ghost use Rattle.http.specs.declared.version.TheConstants.Version.{HTTP_11};
+ghost use Rattle.http_uri.specs.Uri.{HasParts};
+ghost use Rattle.http_types.specs.HttpMessage.{asks_to_upgrade};
 ghost use Rattle.http_types.specs.Flags.{no_flags, with_type, with_expect, with_no_chunking, with_camel_case};
 ghost use Rattle.http_types.specs.ConnectionType.{IsTypeOf};
 
-use crate::message::{ConnectionType, Flags};
+use crate::http_message::asks_to_upgrade;
+use crate::message::{ConnectionType, Flags, Head};
 use crate::{HeaderMap, Method, NoMemory, Uri, Version};
+use std::alloc::Global;
 use std::net::SocketAddr;
 
 /// What a request says before its body (RFC 7230, section 3).
@@ -21,6 +27,25 @@ pub struct RequestHead {
 
 impl RequestHead {
     ghost use Rattle.http_types.specs.RequestHead.{request_flags, HasRequestFlags};
+    ghost use Rattle.http_types.specs.RequestLends.{lends_headers};
+
+    /// A GET of `/` by HTTP/1.1 without headers, from an unknown peer and with no marks. It takes no
+    /// memory.
+    pub fn new(alloc: Global) -> RequestHead
+        ensures method { result.method ≡ codes "GET" }
+        ensures uri { HasParts result.uri None None (codes "/") }
+        ensures version { result.version ≡ HTTP_11 }
+        ensures headers { result.headers ≡ [] }
+        ensures peer { result.peer_addr ≡ None }
+        ensures flags { request_flags result ≡ no_flags }
+    {
+        RequestHead::from_parts(
+            Method::GET,
+            Uri::default(),
+            Version::HTTP_11,
+            HeaderMap::new(alloc),
+        )
+    }
 
     /// A head with these parts, from an unknown peer and with no marks.
     pub fn from_parts(method: Method, uri: Uri, version: Version, headers: HeaderMap) -> Self
@@ -46,6 +71,14 @@ impl RequestHead {
         ensures { result.now ≡ self.now.headers }
     {
         &self.headers
+    }
+
+    /// The headers, for writing.
+    pub fn headers_mut(&mut self) -> &mut HeaderMap
+        ensures* writes_back { sem 𝓛 (lends_headers self.entry result) }
+        ensures value { result.now ≡ self.old.headers }
+    {
+        &mut self.headers
     }
 
     /// Whether the names of the headers are sent in camel case.
@@ -75,6 +108,14 @@ impl RequestHead {
         ensures { IsTypeOf (request_flags self.now) self.now.version result }
     {
         self.flags.connection_type(self.version)
+    }
+
+    /// Whether the client asks for another protocol: whether the first `Connection` is a text with
+    /// the word `upgrade` in any case (RFC 7230, section 6.7).
+    pub fn upgrade(&self) -> bool
+        ensures { result ≡ asks_to_upgrade self.now.headers }
+    {
+        asks_to_upgrade(&self.headers)
     }
 
     /// Whether a body without a stated length may be sent in chunks (RFC 7230, section 4.1).
@@ -117,5 +158,16 @@ impl RequestHead {
             peer_addr: self.peer_addr,
             flags: self.flags,
         })
+    }
+}
+
+impl Head for RequestHead {
+    ghost use Rattle.http_types.specs.RequestHead.{cleared_request};
+
+    ghost cleared = { cleared_request };
+
+    fn clear(&mut self) {
+        self.flags = Flags::EMPTY;
+        self.headers.clear();
     }
 }

@@ -1,12 +1,13 @@
 //! The head of a response.
 ghost use Rattle.std.specs.Prelude.{◌≡◌, ◌↔◌, not, [], Some, None, Any, IfOk, OnOk, OnErr, IsErr, IsSome, IsTrue, string_bytes};
+ghost use Rattle.std.specs.Borrow.{sem};
 ghost use Rattle.http.specs.declared.version.TheConstants.Version.{HTTP_11};
 ghost use Rattle.http_types.specs.Flags.{no_flags, type_of_flags, with_type, with_no_chunking, with_camel_case};
 ghost use Rattle.http_types.specs.ConnectionType.{IsTypeOf};
 ghost use Rattle.http_types.specs.ResponseHead.{reason_text, IsLineByte, IsPlain};
 ghost use Rattle.http_types.specs.declared.message.ConnectionType.TheVariants.{KeepAlive, Upgrade};
 
-use crate::message::{ConnectionType, Flags};
+use crate::message::{ConnectionType, Flags, Head};
 use crate::{HeaderMap, NoMemory, StatusCode, Version};
 use std::alloc::Global;
 use std::marker::Model;
@@ -45,6 +46,8 @@ impl Model for ResponseHead {
 }
 
 impl ResponseHead {
+    ghost use Rattle.http_types.specs.ResponseLends.{lends_headers};
+
     /// A head of HTTP/1.1 with this status, the status's own reason, no headers and no marks.
     pub fn new(alloc: Global, status: StatusCode) -> ResponseHead
         ensures { result ≡ record { version = HTTP_11; status = status; headers = []; reason = None; flags = no_flags } }
@@ -63,6 +66,14 @@ impl ResponseHead {
         ensures { result.now ≡ self.now.headers }
     {
         &self.headers
+    }
+
+    /// The headers, for writing.
+    pub fn headers_mut(&mut self) -> &mut HeaderMap
+        ensures* writes_back { sem 𝓛 (lends_headers self.entry result) }
+        ensures value { result.now ≡ self.old.headers }
+    {
+        &mut self.headers
     }
 
     /// Whether the names of the headers are sent in camel case.
@@ -187,5 +198,29 @@ impl ResponseHead {
             reason,
             flags: self.flags,
         })
+    }
+    // The same head, but for its marks: only that on chunks stays.
+    pub(crate) fn copy_unmarked(&self) -> Result<ResponseHead, NoMemory>
+        ensures { IfOk result (λ copy. copy ≡ record self.now {
+          flags = with_no_chunking no_flags self.now.flags.no_chunking;
+        }) }
+    {
+        let mut copy = self.copy()?;
+        copy.flags = Flags {
+            no_chunking: self.flags.no_chunking,
+            ..Flags::EMPTY
+        };
+        Ok(copy)
+    }
+}
+
+impl Head for ResponseHead {
+    ghost use Rattle.http_types.specs.ResponseHead.{cleared_response};
+
+    ghost cleared = { cleared_response };
+
+    fn clear(&mut self) {
+        self.flags = Flags::EMPTY;
+        self.headers.clear();
     }
 }
