@@ -12,7 +12,7 @@ has_quote front back none = none (length front) (omega (arith, length-append fro
 pub cut_has_quote : (text front back : List ℕ) → IsFirstCut text front back → HasNoQuote text → ⊥
 cut_has_quote text front back cut none = let P : List ℕ → Type 0 = λ t. HasNoQuote t in has_quote front back (subst P cut.spelled none)
 
-no_quote_behind : (x : ℕ) (text : List ℕ) → HasNoQuote (x ∷ text) → HasNoQuote text
+pub no_quote_behind : (x : ℕ) (text : List ℕ) → HasNoQuote (x ∷ text) → HasNoQuote text
 no_quote_behind x text none = λ i inside. none (suc i) (omega (arith, inside))
 
 -- a text has one first quote

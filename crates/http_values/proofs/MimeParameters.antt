@@ -3,8 +3,9 @@ use Rattle.std.proofs.Common.{◌≡◌, ℕ, ◌<◌, ◌+◌, inl, inr, List, 
 use Rattle.std.proofs.Math.Seq.{take-suc}
 use Rattle.std.proofs.lemmas.List.{take-append-drop}
 use Rattle.std.specs.Prelude.{string_bytes}
+use Rattle.std.specs.List.{AllZip}
 use Rattle.http_values.specs.declared.shared.mime.Parameter.{Parameter}
-use Rattle.http_values.specs.Mime.{IsSameName, HasNoName, IsFirstValue, pairs_of}
+use Rattle.http_values.specs.Mime.{IsSameName, HasNoName, IsFirstValue, pair_of, pairs_of}
 
 -- one parameter more, of another name
 no_name-push : (name : List ℕ) (ps : List Parameter) (p : Parameter) → HasNoName name (pairs_of ps) → ¬ (IsSameName (string_bytes p.name) name)
@@ -36,3 +37,10 @@ first_at name ps i p inside is h same =
     ∙ (ap (λ t. t ++ drop (i + 1) ps) (sym (one_more ps i p inside is)) ∙ take-append-drop (i + 1) ps) in
     let P : List Parameter → Type 0 = λ xs. IsFirstValue name (pairs_of xs) (string_bytes p.value) in
     subst P whole (first_behind name (take i ps) p (drop (i + 1) ps) h same)
+
+-- parameters that are equal place by place
+pub pairs_of-clones : (ps copies : List Parameter) → AllZip (λ p copy. pair_of copy ≡ pair_of p) ps copies → pairs_of copies ≡ pairs_of ps
+pairs_of-clones [] [] h = refl
+pairs_of-clones [] (c ∷ copies) h = absurd h
+pairs_of-clones (p ∷ ps) [] h = absurd h
+pairs_of-clones (p ∷ ps) (c ∷ copies) h = ap (λ x. x ∷ pairs_of copies) h.0 ∙ ap (λ xs. pair_of p ∷ xs) (pairs_of-clones ps copies h.1)

@@ -5,11 +5,13 @@ pub mod ContentEncoding
 pub mod Escapes
 pub mod ExtendedText
 pub mod ExtendedValue
+pub mod Header
 pub mod HttpDate
 pub mod LanguageTag
 pub mod Mime
 pub mod MimeValue
 pub mod OneValue
+pub mod Printed
 pub mod Quality
 pub mod QualityItem
 pub mod TagText

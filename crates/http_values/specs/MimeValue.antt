@@ -11,3 +11,10 @@ mime_text m = string_bytes m.text
 pub record SaysMime (text : List ℕ) (m : Mime) : Type 0 where
   pub kept : mime_text m ≡ text
   pub says : IsMimeText text (string_bytes m.kind) (string_bytes m.subtype) (pairs_of m.params.items)
+
+-- the second is equal to the first: of its text, its type, its subtype, and the names and values of its parameters
+pub record SameMime (m copy : Mime) : Type 0 where
+  pub text : mime_text copy ≡ mime_text m
+  pub kind : string_bytes copy.kind ≡ string_bytes m.kind
+  pub subtype : string_bytes copy.subtype ≡ string_bytes m.subtype
+  pub params : pairs_of copy.params.items ≡ pairs_of m.params.items

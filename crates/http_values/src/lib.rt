@@ -17,10 +17,12 @@
 //! ```
 #![tactic(auto)]
 
+mod header;
 mod read;
 mod shared;
 mod utils;
 
+pub use header::{Header, get_header, mime_type};
 pub use read::{FromText, ReadError};
 pub use shared::{
     Charset, ContentEncoding, ContentEncodingParseError, ExtendedValue, HttpDate, LanguageTag,

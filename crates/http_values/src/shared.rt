@@ -5,6 +5,7 @@ pub(crate) mod extended;
 pub(crate) mod http_date;
 pub(crate) mod language_tag;
 pub(crate) mod mime;
+pub(crate) mod printed;
 pub(crate) mod quality;
 pub(crate) mod quality_item;
 

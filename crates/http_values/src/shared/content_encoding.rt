@@ -1,13 +1,17 @@
 //! Content codings.
-ghost use Rattle.std.specs.Prelude.{◌≡◌, ℕ, List, Some, MatchOption, MatchResult};
+ghost use Rattle.std.specs.Prelude.{◌≡◌, ℕ, List, Some, MatchOption, MatchResult, codes};
 ghost use Rattle.http_header.specs.FieldValue.{plain_value};
 ghost use Rattle.http_values.specs.declared.shared.content_encoding.ContentEncoding.{ContentEncoding as Coding};
 ghost use Rattle.http_values.specs.declared.shared.content_encoding.ContentEncoding.TheVariants.{Identity};
 ghost use Rattle.http_values.specs.ContentEncoding.{IsCodingText, coding_text};
+ghost use Rattle.http_values.specs.Header.{FirstReads};
 
+use crate::header::Header;
 use crate::read::{FromText, ReadError};
-use http_types::HeaderValue;
+use crate::utils::from_one_raw_str;
+use http_types::header::names::CONTENT_ENCODING;
 use http_types::header::{TryIntoHeaderValue, ValueError, value_of_str};
+use http_types::{HeaderName, HeaderValue, HttpMessage, ParseError};
 use std::alloc::Global;
 use std::fmt;
 use thiserror::Error;
@@ -66,6 +70,23 @@ impl TryIntoHeaderValue for ContentEncoding {
 
     fn try_into_value(self, alloc: Global) -> Result<HeaderValue, ValueError> {
         value_of_str(alloc, self.as_str())
+    }
+}
+
+impl Header for ContentEncoding {
+    ghost header_name = { codes "content-encoding" };
+
+    ghost is_said = { λ headers coding. FirstReads (λ text. IsCodingText text coding) headers (codes "content-encoding") };
+
+    ghost is_readable = { λ headers. FirstReads (λ text. (coding : Coding) × IsCodingText text coding) headers (codes "content-encoding") };
+
+    fn name() -> HeaderName {
+        CONTENT_ENCODING
+    }
+
+    /// Reads the first `Content-Encoding` (RFC 7231, section 3.1.2.2) as one coding.
+    fn parse<M: HttpMessage>(alloc: Global, msg: &M) -> Result<ContentEncoding, ParseError> {
+        from_one_raw_str(alloc, msg.headers().get(CONTENT_ENCODING))
     }
 }
 

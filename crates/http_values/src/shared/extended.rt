@@ -1,5 +1,5 @@
 //! Values of extended parameters.
-ghost use Rattle.std.specs.Prelude.{◌≡◌, ◌↔◌, ◌⊎◌, ◌++◌, ◌∷◌, [], ℕ, List, Some, MatchOption, IfOk, IfErr, IsErrOf};
+ghost use Rattle.std.specs.Prelude.{◌≡◌, ◌↔◌, ◌⊎◌, ℕ, List, Some, MatchOption, IfOk, IfErr, IsErrOf};
 ghost use Rattle.percent_encoding.specs.Percent as percent;
 ghost use Rattle.http_values.specs.Charset.{charset_text, IsNamed, SameCharset};
 ghost use Rattle.http_values.specs.declared.shared.extended.ExtendedValue.{ExtendedValue as Value};
@@ -118,10 +118,9 @@ pub fn parse_extended_value(alloc: Global, val: &str) -> Result<ExtendedValue, P
 }
 
 impl fmt::Display for ExtendedValue {
-    ghost use Rattle.http_values.specs.ExtendedValue.{tag_part_text};
-    ghost use Rattle.http_values.specs.declared.utils.TheConstants.{HTTP_VALUE};
+    ghost use Rattle.http_values.specs.Printed.{extended_text};
 
-    ghost output = { λ v. Some (charset_text v.charset ++ (39 ∷ []) ++ tag_part_text v.language_tag ++ (39 ∷ []) ++ percent.percent_encode HTTP_VALUE v.value.items) };
+    ghost output = { λ v. Some (extended_text v) };
 
     fn fmt<W: fmt::Write>(&self, f: &mut fmt::Formatter<W>) -> fmt::Result {
         let charset = &self.charset;

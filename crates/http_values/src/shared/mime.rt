@@ -3,14 +3,14 @@ ghost use Rattle.std.specs.Prelude.{◌≡◌, ◌↔◌, ◌∷◌, [], ◌≤�
 ghost use Rattle.std.specs.List.{prefix_len};
 ghost use Rattle.std.specs.Str.{IsAscii};
 ghost use Rattle.http_header.specs.FieldValue.{FieldValue, plain_value};
-ghost use Rattle.http_values.specs.Mime.{in_class, IsRun, IsTokenCut, IsValueCut, IsParameterCut, AreParameters, IsEssenceCut, IsMimeText, IsSomeMime, HasNoName, IsFirstValue, pairs_of};
-ghost use Rattle.http_values.specs.MimeValue.{mime_text, SaysMime};
+ghost use Rattle.http_values.specs.Mime.{in_class, IsRun, IsTokenCut, IsValueCut, IsParameterCut, AreParameters, IsEssenceCut, IsMimeText, IsSomeMime, HasNoName, IsFirstValue, pair_of, pairs_of};
+ghost use Rattle.http_values.specs.MimeValue.{mime_text, SaysMime, SameMime};
 
 use crate::read::{FromText, ReadError};
 use http_header::is_token_char;
 use http_types::HeaderValue;
 use http_types::header::{TryIntoHeaderValue, ValueError, value_of_str};
-use std::alloc::Global;
+use std::alloc::{AllocError, Global};
 use std::{fmt, str};
 
 /// A media type (RFC 7231, section 3.1.1.1) in a profile: the value of a parameter is a token, or
@@ -28,6 +28,17 @@ pub struct Mime {
 pub(crate) struct Parameter {
     name: String,
     value: String,
+}
+
+impl Clone for Parameter {
+    ghost is_clone = { λ p copy. pair_of copy ≡ pair_of p };
+
+    fn clone(&self) -> Result<Parameter, AllocError> {
+        Ok(Parameter {
+            name: self.name.clone()?,
+            value: self.value.clone()?,
+        })
+    }
 }
 
 // A class of bytes.
@@ -191,7 +202,27 @@ fn read_parameters(alloc: Global, text: &[u8]) -> Result<Vec<Parameter>, ReadErr
     Ok(params)
 }
 
+// Equal parameters.
+fn copied(params: &Vec<Parameter>) -> Result<Vec<Parameter>, AllocError>
+    ensures { IfOk result (λ copy. pairs_of copy.items ≡ pairs_of params.now.items) }
+{
+    let copies = params.clone()?;
+    Ok(copies)
+}
+
 impl Mime {
+    /// An equal media type, of the same text.
+    pub fn copy(&self) -> Result<Mime, AllocError>
+        ensures { IfOk result (λ copy. SameMime self.now copy) }
+    {
+        Ok(Mime {
+            text: self.text.clone()?,
+            kind: self.kind.clone()?,
+            subtype: self.subtype.clone()?,
+            params: copied(&self.params)?,
+        })
+    }
+
     /// The type.
     pub fn type_(&self) -> &str
         ensures { result.now ≡ string_bytes self.now.kind }
