@@ -213,7 +213,15 @@ pub new_sound : (s : Settings) (i : Incoming) (bytes : List ℕ) (k : Clock) →
     })
 new_sound s i bytes k input found clock =
     let made : Incoming → Clock → Parts = λ j t. record {
-      input = j; has_ended = false; is_draining = false; is_over = false; exchange = None; output = bytes; clock = t; failed = None; closing_since = None;
+      input = j;
+      has_ended = false;
+      is_draining = false;
+      is_over = false;
+      exchange = None;
+      output = bytes;
+      clock = t;
+      failed = None;
+      closing_since = None;
     } in
     subst (λ (t : Clock). IsSound s (made i t)) (sym clock)
     (subst (λ (j : Incoming). IsSound s (made j (record { first = None; last = None; completed = None }))) (sym input)

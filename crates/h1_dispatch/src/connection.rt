@@ -16,9 +16,11 @@ ghost use Rattle.h1_dispatch.specs.Ticks.{expiry_of, IsQuietTick};
 ghost use Rattle.h1_dispatch.specs.State.{fresh_state, IsAllowed, Stands, GoesOn, Is};
 
 use crate::connection::clock::Clock;
+pub use crate::connection::heads::NextHead;
 use crate::connection::input::Input;
 use crate::connection::output::Output;
 use crate::connection::parts::Parts;
+pub use crate::connection::ticks::Expiry;
 use crate::{End, Event};
 use bytes::Bytes;
 use h1_payload::Pulled;
@@ -26,9 +28,6 @@ use http_bodies::BodySize;
 use http_types::{NoMemory, ResponseHead, ServiceConfig};
 use std::alloc::Global;
 use std::marker::Model;
-
-pub use crate::connection::heads::NextHead;
-pub use crate::connection::ticks::Expiry;
 
 mod allowed;
 mod answers;

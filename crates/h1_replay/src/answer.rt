@@ -49,11 +49,7 @@ fn marked_head(alloc: Global, status: StatusCode, marks: Marks) -> ResponseHead
 }
 
 // A reason behind a slash, where the first word is one, and headers.
-fn put_words(
-    alloc: Global,
-    head: &mut ResponseHead,
-    mut words: Pieces<'_>,
-) -> Result<(), LineError>
+fn put_words(alloc: Global, head: &mut ResponseHead, mut words: Pieces<'_>) -> Result<(), LineError>
     ensures { ReadsInto result (with_words words.entry head.old) head.new }
 {
     match words.next() {

@@ -47,7 +47,13 @@ impl Marks {
         ensures { result ≡ with_letter letter self }
     {
         match letter {
-            b'c' => once(self.close, Marks { close: true, ..self }),
+            b'c' => once(
+                self.close,
+                Marks {
+                    close: true,
+                    ..self
+                },
+            ),
             b'k' => once(
                 self.keep_alive,
                 Marks {

@@ -8,7 +8,9 @@ use crate::answer::answer;
 use crate::pieces::Pieces;
 use crate::word::{LineError, bytes, flag, keep_alive, number};
 use h1_dispatch::Event;
-use http_config::{DEFAULT_HOLD_SIZE, MAX_HOLD_SIZE, MIN_HOLD_SIZE, ServiceConfig, ServiceConfigBuilder};
+use http_config::{
+    DEFAULT_HOLD_SIZE, MAX_HOLD_SIZE, MIN_HOLD_SIZE, ServiceConfig, ServiceConfigBuilder,
+};
 use std::alloc::Global;
 use thiserror::Error;
 

@@ -1,4 +1,6 @@
 //! Where the heads of requests say that their bodies end, and what they ask of their connections.
+use BodyKind::{Chunked, Length, Raw};
+use ConnectionType::{Close, KeepAlive, Upgrade};
 use bytes::Bytes;
 use h1_decode::{BodyKind, HeadItem, request_head};
 use http_types::{ConnectionType, ParseError, Version};
@@ -6,35 +8,112 @@ use std::alloc::Global;
 use std::process::Abort;
 use std::test::Fail;
 
-use BodyKind::{Chunked, Length, Raw};
-use ConnectionType::{Close, KeepAlive, Upgrade};
-
 // A head, and its body's kind, its connection type and whether its client waits for leave.
 type Row = (&'static [u8], BodyKind, ConnectionType, bool);
 
 const PLAIN: [Row; 9] = [
-    (b"GET / HTTP/1.1\r\nhost: a\r\n\r\n", BodyKind::None, KeepAlive, false),
+    (
+        b"GET / HTTP/1.1\r\nhost: a\r\n\r\n",
+        BodyKind::None,
+        KeepAlive,
+        false,
+    ),
     (b"GET / HTTP/1.0\r\n\r\n", BodyKind::None, Close, false),
-    (b"GET / HTTP/1.0\r\nConnection: Keep-Alive\r\n\r\n", BodyKind::None, KeepAlive, false),
-    (b"GET / HTTP/1.1\r\nconnection:\t close \r\n\r\n", BodyKind::None, Close, false),
+    (
+        b"GET / HTTP/1.0\r\nConnection: Keep-Alive\r\n\r\n",
+        BodyKind::None,
+        KeepAlive,
+        false,
+    ),
+    (
+        b"GET / HTTP/1.1\r\nconnection:\t close \r\n\r\n",
+        BodyKind::None,
+        Close,
+        false,
+    ),
     // The last of several lines decides, and only by one of three words alone.
-    (b"GET / HTTP/1.1\r\nconnection: close\r\nconnection: x\r\n\r\n", BodyKind::None, KeepAlive, false),
-    (b"GET / HTTP/1.1\r\nconnection: close, upgrade\r\n\r\n", BodyKind::None, KeepAlive, false),
-    (b"GET / HTTP/1.1\r\nconnection: x\r\nconnection: UPGRADE\r\n\r\n", BodyKind::None, Upgrade, false),
+    (
+        b"GET / HTTP/1.1\r\nconnection: close\r\nconnection: x\r\n\r\n",
+        BodyKind::None,
+        KeepAlive,
+        false,
+    ),
+    (
+        b"GET / HTTP/1.1\r\nconnection: close, upgrade\r\n\r\n",
+        BodyKind::None,
+        KeepAlive,
+        false,
+    ),
+    (
+        b"GET / HTTP/1.1\r\nconnection: x\r\nconnection: UPGRADE\r\n\r\n",
+        BodyKind::None,
+        Upgrade,
+        false,
+    ),
     (b"CONNECT a:1 HTTP/1.1\r\n\r\n", Raw, KeepAlive, false),
-    (b"CONNECT a:1 HTTP/1.0\r\ncontent-length: 0\r\n\r\n", Raw, Close, false),
+    (
+        b"CONNECT a:1 HTTP/1.0\r\ncontent-length: 0\r\n\r\n",
+        Raw,
+        Close,
+        false,
+    ),
 ];
 
 const FRAMED: [Row; 9] = [
-    (b"POST / HTTP/1.1\r\ncontent-length: 10\r\n\r\n", Length(10), KeepAlive, false),
-    (b"POST / HTTP/1.1\r\nContent-Length:\t0005 \r\n\r\n", Length(5), KeepAlive, false),
-    (b"GET / HTTP/1.1\r\ncontent-length: 18446744073709551615\r\n\r\n", Length(u64::MAX), KeepAlive, false),
-    (b"POST / HTTP/1.0\r\ncontent-length: 0\r\n\r\n", BodyKind::None, Close, false),
-    (b"CONNECT a:1 HTTP/1.1\r\ncontent-length: 5\r\n\r\n", Length(5), KeepAlive, false),
-    (b"POST / HTTP/1.1\r\ntransfer-encoding: chunked\r\n\r\n", Chunked, KeepAlive, false),
-    (b"POST / HTTP/1.1\r\nTransfer-Encoding:\tCHUNKED \r\n\r\n", Chunked, KeepAlive, false),
-    (b"POST / HTTP/1.1\r\nexpect: 100-continue\r\ncontent-length: 2\r\n\r\n", Length(2), KeepAlive, true),
-    (b"POST / HTTP/1.1\r\nexpect: x\r\nExpect: 100-\r\n\r\n", BodyKind::None, KeepAlive, true),
+    (
+        b"POST / HTTP/1.1\r\ncontent-length: 10\r\n\r\n",
+        Length(10),
+        KeepAlive,
+        false,
+    ),
+    (
+        b"POST / HTTP/1.1\r\nContent-Length:\t0005 \r\n\r\n",
+        Length(5),
+        KeepAlive,
+        false,
+    ),
+    (
+        b"GET / HTTP/1.1\r\ncontent-length: 18446744073709551615\r\n\r\n",
+        Length(u64::MAX),
+        KeepAlive,
+        false,
+    ),
+    (
+        b"POST / HTTP/1.0\r\ncontent-length: 0\r\n\r\n",
+        BodyKind::None,
+        Close,
+        false,
+    ),
+    (
+        b"CONNECT a:1 HTTP/1.1\r\ncontent-length: 5\r\n\r\n",
+        Length(5),
+        KeepAlive,
+        false,
+    ),
+    (
+        b"POST / HTTP/1.1\r\ntransfer-encoding: chunked\r\n\r\n",
+        Chunked,
+        KeepAlive,
+        false,
+    ),
+    (
+        b"POST / HTTP/1.1\r\nTransfer-Encoding:\tCHUNKED \r\n\r\n",
+        Chunked,
+        KeepAlive,
+        false,
+    ),
+    (
+        b"POST / HTTP/1.1\r\nexpect: 100-continue\r\ncontent-length: 2\r\n\r\n",
+        Length(2),
+        KeepAlive,
+        true,
+    ),
+    (
+        b"POST / HTTP/1.1\r\nexpect: x\r\nExpect: 100-\r\n\r\n",
+        BodyKind::None,
+        KeepAlive,
+        true,
+    ),
 ];
 
 const UPGRADED: [Row; 5] = [
@@ -45,11 +124,31 @@ const UPGRADED: [Row; 5] = [
         Upgrade,
         false,
     ),
-    (b"GET / HTTP/1.1\r\nupgrade: websocket, x\r\n\r\n", BodyKind::None, KeepAlive, false),
+    (
+        b"GET / HTTP/1.1\r\nupgrade: websocket, x\r\n\r\n",
+        BodyKind::None,
+        KeepAlive,
+        false,
+    ),
     // A WebSocket wins over a length, and chunks over a WebSocket.
-    (b"GET / HTTP/1.1\r\nupgrade: h2c\r\nUpgrade: WebSocket\r\ncontent-length: 5\r\n\r\n", Raw, KeepAlive, false),
-    (b"GET / HTTP/1.1\r\nupgrade: websocket\r\ntransfer-encoding: chunked\r\n\r\n", Chunked, KeepAlive, false),
-    (b"POST / HTTP/1.0\r\nupgrade: websocket\r\n\r\n", Raw, Close, false),
+    (
+        b"GET / HTTP/1.1\r\nupgrade: h2c\r\nUpgrade: WebSocket\r\ncontent-length: 5\r\n\r\n",
+        Raw,
+        KeepAlive,
+        false,
+    ),
+    (
+        b"GET / HTTP/1.1\r\nupgrade: websocket\r\ntransfer-encoding: chunked\r\n\r\n",
+        Chunked,
+        KeepAlive,
+        false,
+    ),
+    (
+        b"POST / HTTP/1.0\r\nupgrade: websocket\r\n\r\n",
+        Raw,
+        Close,
+        false,
+    ),
 ];
 
 fn read(alloc: Global, text: &'static [u8]) -> Result<HeadItem, ParseError> {
@@ -102,21 +201,60 @@ const REFUSED: [(&[u8], ParseError); 22] = [
     (b"GET / HTTP/1.2\r\n\r\n", ParseError::Version),
     // No form of a target.
     (b"GET http://[ HTTP/1.1\r\n\r\n", ParseError::Uri),
-    (b"GET http://[ HTTP/1.1\r\ncontent-length: x\r\n\r\n", ParseError::Uri),
+    (
+        b"GET http://[ HTTP/1.1\r\ncontent-length: x\r\n\r\n",
+        ParseError::Uri,
+    ),
     // The lines frame no body.
     (b"POST / HTTP/1.0\r\n\r\n", ParseError::Header),
-    (b"POST / HTTP/1.1\r\ntransfer-encoding: identity\r\n\r\n", ParseError::Header),
-    (b"POST / HTTP/1.1\r\ntransfer-encoding: gzip, chunked\r\n\r\n", ParseError::Header),
-    (b"POST / HTTP/1.1\r\ntransfer-encoding: chunked\r\ntransfer-encoding: chunked\r\n\r\n", ParseError::Header),
-    (b"POST / HTTP/1.0\r\ntransfer-encoding: chunked\r\n\r\n", ParseError::Header),
-    (b"POST / HTTP/1.1\r\ncontent-length: 3\r\ncontent-length: 3\r\n\r\n", ParseError::Header),
-    (b"POST / HTTP/1.1\r\ntransfer-encoding: chunked\r\ncontent-length: 3\r\n\r\n", ParseError::Header),
-    (b"POST / HTTP/1.1\r\ncontent-length: +3\r\n\r\n", ParseError::Header),
-    (b"POST / HTTP/1.1\r\ncontent-length: 3 4\r\n\r\n", ParseError::Header),
-    (b"POST / HTTP/1.1\r\ncontent-length:\r\n\r\n", ParseError::Header),
-    (b"POST / HTTP/1.1\r\ncontent-length: \xff\r\n\r\n", ParseError::Header),
-    (b"POST / HTTP/1.1\r\ncontent-length: 18446744073709551616\r\n\r\n", ParseError::Header),
-    (b"GET / HTTP/1.1\r\ncontent-length: 0x1\r\nupgrade: websocket\r\n\r\n", ParseError::Header),
+    (
+        b"POST / HTTP/1.1\r\ntransfer-encoding: identity\r\n\r\n",
+        ParseError::Header,
+    ),
+    (
+        b"POST / HTTP/1.1\r\ntransfer-encoding: gzip, chunked\r\n\r\n",
+        ParseError::Header,
+    ),
+    (
+        b"POST / HTTP/1.1\r\ntransfer-encoding: chunked\r\ntransfer-encoding: chunked\r\n\r\n",
+        ParseError::Header,
+    ),
+    (
+        b"POST / HTTP/1.0\r\ntransfer-encoding: chunked\r\n\r\n",
+        ParseError::Header,
+    ),
+    (
+        b"POST / HTTP/1.1\r\ncontent-length: 3\r\ncontent-length: 3\r\n\r\n",
+        ParseError::Header,
+    ),
+    (
+        b"POST / HTTP/1.1\r\ntransfer-encoding: chunked\r\ncontent-length: 3\r\n\r\n",
+        ParseError::Header,
+    ),
+    (
+        b"POST / HTTP/1.1\r\ncontent-length: +3\r\n\r\n",
+        ParseError::Header,
+    ),
+    (
+        b"POST / HTTP/1.1\r\ncontent-length: 3 4\r\n\r\n",
+        ParseError::Header,
+    ),
+    (
+        b"POST / HTTP/1.1\r\ncontent-length:\r\n\r\n",
+        ParseError::Header,
+    ),
+    (
+        b"POST / HTTP/1.1\r\ncontent-length: \xff\r\n\r\n",
+        ParseError::Header,
+    ),
+    (
+        b"POST / HTTP/1.1\r\ncontent-length: 18446744073709551616\r\n\r\n",
+        ParseError::Header,
+    ),
+    (
+        b"GET / HTTP/1.1\r\ncontent-length: 0x1\r\nupgrade: websocket\r\n\r\n",
+        ParseError::Header,
+    ),
 ];
 
 #[test]

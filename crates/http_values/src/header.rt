@@ -8,7 +8,9 @@ ghost use Rattle.http_values.specs.MimeValue.{SaysMime};
 
 use crate::shared::Mime;
 use crate::utils::from_one_raw_str;
-use http_types::header::{CONTENT_TYPE, InvalidHeaderPart, NoMemory, TryIntoHeaderValue, ValueError};
+use http_types::header::{
+    CONTENT_TYPE, InvalidHeaderPart, NoMemory, TryIntoHeaderValue, ValueError,
+};
 use http_types::{ContentTypeError, HeaderName, HeaderValue, HttpMessage, ParseError};
 use std::alloc::{AllocError, Global};
 

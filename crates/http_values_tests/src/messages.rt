@@ -54,7 +54,11 @@ fn a_coding_is_a_header(rt: HostRuntime) -> Result<(), Fail> {
 fn the_media_type_of_a_message_is_read(rt: HostRuntime) -> Result<(), Fail> {
     let none = with_values(rt.alloc(), CONTENT_TYPE, &[])?;
     assert!(rt; mime_type(rt.alloc(), &none)?.is_none());
-    let html = with_values(rt.alloc(), CONTENT_TYPE, &[b"text/html; charset=utf-8", b"a/b"])?;
+    let html = with_values(
+        rt.alloc(),
+        CONTENT_TYPE,
+        &[b"text/html; charset=utf-8", b"a/b"],
+    )?;
     let mime = mime_type(rt.alloc(), &html)?.ok_or("a media type")?;
     let copy = mime.copy()?;
     for mime in [&mime, &copy] {
@@ -66,7 +70,12 @@ fn the_media_type_of_a_message_is_read(rt: HostRuntime) -> Result<(), Fail> {
     let malformed: [&[u8]; 4] = [b"", b"text", b"text/html;", b"text/\xfc"];
     for value in malformed {
         let request = with_values(rt.alloc(), CONTENT_TYPE, &[value])?;
-        assert!(rt; matches!(mime_type(rt.alloc(), &request), Err(ContentTypeError::ParseError)));
+        assert!(rt;
+            matches!(
+                mime_type(rt.alloc(), &request),
+                Err(ContentTypeError::ParseError)
+            )
+        );
     }
     Ok(())
 }

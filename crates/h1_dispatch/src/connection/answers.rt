@@ -37,7 +37,13 @@ impl Parts {
         let Some(asked) = self.asked() else {
             return Ok(());
         };
-        let connection = type_of(keeps(config.keep_alive()), self.is_draining, asked, head, size);
+        let connection = type_of(
+            keeps(config.keep_alive()),
+            self.is_draining,
+            asked,
+            head,
+            size,
+        );
         self.output
             .put_head(asked, head, size, connection, self.clock.now())?;
         if is_at_once(size) {

@@ -9,8 +9,6 @@ use crate::connection::parts::Parts;
 use bytes::Bytes;
 use http_types::{NoMemory, ServiceConfig};
 
-
-
 impl Parts {
     /// Takes the bytes that there is room for, and says how many.
     pub fn read(&mut self, config: &ServiceConfig, bytes: &[u8]) -> Result<usize, NoMemory>

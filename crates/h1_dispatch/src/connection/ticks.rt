@@ -45,7 +45,12 @@ impl Parts {
     }
 
     // What a tick answers, counted from the first one, and what that does.
-    fn expire(&mut self, config: &ServiceConfig, first: u64, moment: u64) -> Result<Expiry, NoMemory>
+    fn expire(
+        &mut self,
+        config: &ServiceConfig,
+        first: u64,
+        moment: u64,
+    ) -> Result<Expiry, NoMemory>
         requires { moment < 253402300800000 }
         ensures ok { IfOk result (λ expiry. record { outcome = expiry_of expiry; kept = kept_of self.new }
             ≡ expiring (setting_of config.now) (kept_of self.old) (closing_by (setting_of config.now) (kept_of self.old)) first moment) }
