@@ -17,8 +17,8 @@ pub loop-index-preserved : goal.loop-index-preserved
 loop-index-preserved c =
     let in_range : c.loop-index.index < length c.args.events.now = omega arith in
     rw (c.in_ok-push.ensures.ok, c.in_ok-copy.ensures)
-    (driven_more _ _ _ _ c.loop-index.connection c.step-outcome.new.self _ _ in_range c.index-events-index.is c.loop-index.invariant
-    c.in_ok-outcome.ensures.stands c.step-outcome.ensures.settings)
+    (driven_more _ _ _ _ c.loop-index.connection c.step.new.self _ _ in_range c.index-events-index.is c.loop-index.invariant
+    c.in_ok-outcome.ensures.stands c.step.ensures.settings)
 
 pub returns-clause-ok : goal.returns-clause-ok
 returns-clause-ok c =
