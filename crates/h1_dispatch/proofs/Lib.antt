@@ -10,5 +10,7 @@ pub mod ResultLemmas
 pub mod GoesOnLemmas
 pub mod AllowedLemmas
 pub mod RunLemmas
+pub mod LawLemmas
+pub mod DeadlineLemmas
 pub mod InputLemmas
 pub mod ClosingLemmas

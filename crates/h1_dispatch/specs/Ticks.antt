@@ -1,5 +1,5 @@
 -- What a tick answers.
-use Rattle.std.specs.Prelude.{◌≡◌, ℕ, ◌⊎◌, Bool, false, nat_le, Option, Some, None, IsSome, unwrap_or}
+use Rattle.std.specs.Prelude.{◌≡◌, ℕ, ◌^◌, ◌⊎◌, Bool, false, nat_le, nat_lt, if◌then◌else◌, Option, Some, None, IsSome, unwrap_or}
 use Rattle.h1_model.specs.Setting.{Setting}
 use Rattle.h1_model.specs.Event as on
 use Rattle.h1_machine.specs.Kept.{Kept}
@@ -18,6 +18,11 @@ expiry_of expiry.Abandoned = on.abandoned
 abbrev pub is_past : Option ℕ → ℕ → Bool
 is_past None moment = false
 is_past (Some deadline) moment = nat_le deadline moment
+
+-- a moment, where it doesn't pass its type
+abbrev pub clipped : Option ℕ → Option ℕ
+clipped None = None
+clipped (Some n) = if nat_lt n (2 ^ 64) then Some n else None
 
 -- no head that doesn't come is answered by a tick at this moment
 abbrev pub IsQuietTick : Setting → Kept → ℕ → Type 0

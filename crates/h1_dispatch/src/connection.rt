@@ -34,6 +34,7 @@ mod answers;
 mod bodies;
 mod clock;
 mod closing;
+mod deadlines;
 mod exchange;
 mod heads;
 mod input;

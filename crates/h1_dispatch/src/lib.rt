@@ -33,6 +33,7 @@ mod connection;
 mod driver;
 mod error;
 mod event;
+pub mod laws;
 mod step;
 mod trace;
 

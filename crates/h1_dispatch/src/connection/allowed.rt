@@ -12,8 +12,8 @@ use crate::connection::exchange::Exchange;
 use crate::connection::parts::Parts;
 use http_types::ServiceConfig;
 
-// The first millisecond of the year 10000.
-const MOMENTS_END: u64 = 253_402_300_800_000;
+/// The first millisecond of the year 10000.
+pub const MOMENTS_END: u64 = 253_402_300_800_000;
 
 impl Parts {
     /// Whether the event may come next.

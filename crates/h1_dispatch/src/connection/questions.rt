@@ -1,5 +1,5 @@
 // The conditions of the calls, each asked for itself.
-ghost use Rattle.std.specs.Prelude.{◌≡◌, ◌-◌, ℕ, List, Option, length};
+ghost use Rattle.std.specs.Prelude.{◌≡◌, ◌-◌, ℕ, List, length};
 ghost use Rattle.h1_model.specs.Answer.{AnswerHead, BodySize};
 ghost use Rattle.h1_model.specs.Deadline.{IsDeadline};
 ghost use Rattle.h1_model.specs.Sums as sums;
@@ -83,6 +83,15 @@ impl Connection {
         ensures { result ≡ allowed_by (setting_of self.now.settings) self.now.kept on.drain }
     {
         self.parts.can_drain(&self.config)
+    }
+
+    /// The least moment whose tick would tell that a time has run out, in milliseconds after the start of 1970; none where
+    /// no tick would. Who drives the connection may sleep until then.
+    pub fn deadline(&self) -> Option<u64>
+        ensures value { result ≡ deadline_by (setting_of self.now.settings) self.now.kept }
+        ensures traced { (trace : List sums.Step) → Stands self.now trace → IsDeadline (setting_of self.now.settings) trace result }
+    {
+        self.parts.deadline(&self.config)
     }
 
     /// How many bytes may be put behind those that wait to be written before pieces of a body have to wait: while it is

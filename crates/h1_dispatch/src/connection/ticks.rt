@@ -117,8 +117,8 @@ impl Parts {
             && is_kept_too_long(config.keep_alive(), since, moment)
     }
 
-    // A request was handed out, and nothing of it is left to do.
-    fn has_done(&self) -> bool
+    /// Whether a request was handed out, and nothing of it is left to do.
+    pub fn has_done(&self) -> bool
         ensures { result ≡ of_exchange (λ x. is_answered x.reply && is_nothing x.rest) (kept_of self.now) }
     {
         match &self.exchange {
