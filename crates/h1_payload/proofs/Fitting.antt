@@ -1,12 +1,11 @@
 -- A rest that fits has a pull, and fits behind it.
-use Rattle.std.proofs.Common.{◌≡◌, ℕ, zero, suc, ◌+◌, ◌-◌, ◌<◌, ◌≤◌, leb, cond, Bool, true, false, List, [], ◌∷◌, ◌++◌, length, take, drop, map, refl, sym, ap, ◌∙◌, subst, subst₂, inl, inr, arith, append-nil, append_assoc}
-use Rattle.std.specs.Prelude.{◌⊎◌, ⊤}
+use Rattle.std.proofs.Common.{◌≡◌, ℕ, zero, suc, ◌-◌, ◌<◌, leb, Bool, true, false, List, [], ◌∷◌, ◌++◌, length, map, refl, sym, ap, ◌∙◌, subst, subst₂, arith, append-nil, append_assoc}
 use Rattle.std.specs.List.{AllByRecursion}
 use Rattle.std.proofs.lemmas.Bool.{cond_both, leb-false}
 use Rattle.std.proofs.lemmas.List.{append_cancel_right}
-use Rattle.h1_chunks.specs.ChunkedText.{Trailer, IsTrailer, ChunkedText, IsChunkedText, chunked_text, content, section_text}
+use Rattle.h1_chunks.specs.ChunkedText.{Trailer, IsTrailer, content, section_text}
 use Rattle.h1_chunks.specs.Place.{Place, start, broken, after}
-use Rattle.h1_chunks.specs.Reading.{Reading, ends_before, only, with_bytes, with_trailers, read}
+use Rattle.h1_chunks.specs.Reading.{Reading, ends_before, read}
 use Rattle.h1_chunks.specs.TakeNext.{Next, chunk, waits, ended, breaks, take_next, says}
 use Rattle.h1_chunks.proofs.Complete.{text_read}
 use Rattle.h1_chunks.proofs.Sound.{ended_is_text}
@@ -30,7 +29,7 @@ pub lines_start : HasLines start []
 lines_start z rest e =
     let t = ended_is_text z rest e in
     let is : read start z ≡ record { body = content t.0; trailers = section_text t.0.trailers; ending = ends_before rest } =
-        ap (read start) t.2 ∙ text_read t.0 rest t.1 in
+    ap (read start) t.2 ∙ text_read t.0 rest t.1 in
     (t.0.trailers, t.1.trailers, sym (ap (λ (r : Reading). r.trailers) is))
 
 -- behind some bytes
@@ -54,9 +53,9 @@ chunk_notes place next bytes given behind e =
     let goes : next ≡ broken → ⊥ = subst IsUnbroken e (unbroken bytes place) in
     let more = (read next (behind ++ [])).trailers in
     let by_taking : (read place (bytes ++ [])).trailers ≡ noted ++ more =
-        ap (λ (r : Reading). r.trailers) (taken_is_read bytes place []) ∙ ap (λ n. noted ++ (says n []).trailers) e in
+    ap (λ (r : Reading). r.trailers) (taken_is_read bytes place []) ∙ ap (λ n. noted ++ (says n []).trailers) e in
     let by_reading : (read place (k.front ++ (behind ++ []))).trailers ≡ (read place k.front).trailers ++ (read (after place k.front) (behind ++ [])).trailers =
-        ap (λ (r : Reading). r.trailers) (read-append place k.front (behind ++ []) (λ x. goes (k.leads ∙ x))) in
+    ap (λ (r : Reading). r.trailers) (read-append place k.front (behind ++ []) (λ x. goes (k.leads ∙ x))) in
     let whole : bytes ++ [] ≡ k.front ++ (behind ++ []) = ap (λ l. l ++ []) k.parts ∙ append_assoc k.front behind [] in
     append_cancel_right (read place k.front).trailers noted more
     (ap (λ q. (read place k.front).trailers ++ (read q (behind ++ [])).trailers) k.leads
@@ -86,9 +85,9 @@ pub lines_ended : (place : Place) (bytes behind section : List ℕ) → HasLines
 lines_ended place bytes behind section has e =
     let noted = (take_next place bytes).trailers in
     let ending : (read place bytes).ending ≡ ends_before (behind ++ []) =
-        ap (λ l. (read place l).ending) (sym (append-nil bytes))
-        ∙ ap (λ (r : Reading). r.ending) (taken_is_read bytes place [])
-        ∙ ap (λ n. (says n []).ending) e in
+    ap (λ l. (read place l).ending) (sym (append-nil bytes))
+    ∙ ap (λ (r : Reading). r.ending) (taken_is_read bytes place [])
+    ∙ ap (λ n. (says n []).ending) e in
     let x = has bytes (behind ++ []) ending in
     (x.0, x.1, x.2 ∙ ap (λ l. section ++ l) (ended_notes place bytes behind e))
 

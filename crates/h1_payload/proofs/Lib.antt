@@ -6,3 +6,8 @@ pub mod Lines
 pub mod Pulls
 pub mod Takes
 pub mod Fitting
+pub mod GoingOn
+pub mod Stopping
+pub mod Decodes
+pub mod Whole
+pub mod Gives

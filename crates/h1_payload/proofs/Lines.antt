@@ -1,24 +1,20 @@
 -- Trailer lines, and the spans that cover them.
-use Rattle.std.proofs.Common.{◌≡◌, ℕ, suc, ◌+◌, ◌-◌, ◌*◌, ◌/◌, ◌<◌, ◌≤◌, Bool, true, false, List, [], ◌∷◌, ◌++◌, length, get_or, take, drop, map, All, refl, sym, ap, ◌∙◌, subst, arith, append_assoc, length-append, append-nil}
+use Rattle.std.proofs.Common.{◌≡◌, ℕ, ◌+◌, ◌*◌, ◌/◌, ◌<◌, ◌≤◌, Bool, List, [], ◌∷◌, ◌++◌, length, get_or, take, drop, map, All, refl, sym, ap, ◌∙◌, subst, arith, append_assoc, length-append, append-nil}
 use Rattle.std.specs.Prelude.{IsTrue, flat_map}
 use Rattle.std.specs.List.{list_all, AllByRecursion}
 use Rattle.std.proofs.lemmas.Bool.{and_parts}
-use Rattle.std.proofs.lemmas.List.{length-map, get_or-map, map_more, map_push}
+use Rattle.std.proofs.lemmas.List.{length-map, get_or-map}
 use Rattle.std.proofs.lemmas.List.Elements.{All-nil, All-cons, All-head, All-tail, All-weaker, All-get_or}
-use Rattle.std.proofs.lemmas.List.Sums.{fold_push}
-use Rattle.http_header.specs.FieldName.{IsFieldName}
-use Rattle.http_header.specs.FieldValue.{IsFieldValue, plain_value}
 use Rattle.http_header.specs.Token as token
-use Rattle.http_map.specs.HeaderMap.{Entries, append}
 use Rattle.httparse.specs.Ascii.{colon, crlf_bytes}
-use Rattle.httparse.specs.Grammar.{is_value_byte, is_token_byte, crlf, Field, IsField, IsToken, AllPass, print_field, print_section, ReadsSection, LineEnd, print_end}
+use Rattle.httparse.specs.Grammar.{is_value_byte, is_token_byte, crlf, Field, IsField, AllPass, print_field, ReadsSection, LineEnd, print_end}
 use Rattle.httparse.specs.Spans.{name_and_value, header_bytes, IsHeaderWithin, IsSectionWithin, IsSectionAt}
 use Rattle.httparse.specs.declared.spans.HeaderSpan.{HeaderSpan}
 use Rattle.httparse.proofs.TrimLemmas.{AllPass-trim_ows}
 use Rattle.h1_chunks.specs.ChunkedText.{Trailer, IsTrailer, trailer_text, section_text}
 use Rattle.h1_model.specs.Request.{Header}
 use Rattle.h1_model.specs.Parse.{trailer_header}
-use Rattle.h1_payload.specs.HeaderMaps.{header_map, IsLine, line_header, IsLinesAt}
+use Rattle.h1_payload.specs.HeaderMaps.{IsLine, line_header, IsLinesAt}
 
 -- ---- trailers as fields
 
@@ -109,7 +105,7 @@ spans_lines text spans len count fields last at short =
     let end = print_end last in
     let rest = drop len text in
     let whole : length text ≡ length body + length end + length rest =
-        ap length at.reads.1 ∙ length-append (body ++ end) rest ∙ ap (λ n. n + length rest) (length-append body end) in
+    ap length at.reads.1 ∙ length-append (body ++ end) rest ∙ ap (λ n. n + length rest) (length-append body end) in
     subst (All IsLine) (sym at.fields_are) (fields_lines fields at.reads.0 (omega arith))
 
 -- spans within a part lie within the whole

@@ -1,15 +1,13 @@
 -- Passing over a body leads where its bytes lead.
-use Rattle.std.proofs.Common.{◌≡◌, ℕ, suc, ◌+◌, ◌-◌, ◌<◌, ◌≤◌, Bool, List, [], ◌∷◌, ◌++◌, length, get_or, take, drop, refl, sym, ap, ◌∙◌, subst, inl, inr, arith, add-one, append-nil, length-drop, length-take, take-append-drop}
+use Rattle.std.proofs.Common.{◌≡◌, ℕ, suc, ◌+◌, ◌-◌, ◌<◌, ◌≤◌, List, [], ◌++◌, length, get_or, take, drop, refl, sym, ap, ◌∙◌, subst, inl, inr, arith, add-one, append-nil, length-drop, length-take, take-append-drop}
 use Rattle.std.specs.Prelude.{◌⊎◌}
 use Rattle.std.proofs.Math.Seq.{drop-cons, drop-length}
 use Rattle.std.proofs.lemmas.List.{drop-drop}
 use Rattle.h1_chunks.specs.Place.{Place, in_bytes, bytes_end, done, broken, step, after}
-use Rattle.h1_chunks.specs.Reading.{Reading, ends_before, at_end, read}
+use Rattle.h1_chunks.specs.Reading.{Reading, at_end, read}
 use Rattle.h1_chunks.proofs.ReadSteps.{HasNext, read-nil, read_done, read_broken, ending-cons}
 use Rattle.h1_chunks.proofs.ReadAfter.{after-nil, after-cons, after-append, after-broken, read-append}
 use Rattle.h1_chunks.proofs.TakenPlaces.{after_all, after_some}
-use Rattle.h1_machine.specs.Body.{Passed, pass_chunks, pass_rest}
-use Rattle.h1_machine.specs.Kept.{Rest, no_rest, chunks_rest}
 use Rattle.h1_payload.specs.declared.place.Place as declared
 use Rattle.h1_payload.specs.declared.place.Place.TheVariants as place
 use Rattle.h1_payload.specs.Passing.{LeadsTo, IsAllPassed}
@@ -57,7 +55,7 @@ chunk_leads more bytes at end fits is =
     let sized : length front ≡ more + 1 = omega (arith, length-take (more + 1) l) in
     let to : at + (more + 1) ≡ end = omega arith in
     let parts : l ≡ front ++ drop end bytes =
-        sym (take-append-drop (more + 1) l) ∙ ap (λ r. front ++ r) (drop-drop (more + 1) at bytes ∙ ap (λ n. drop n bytes) to) in
+    sym (take-append-drop (more + 1) l) ∙ ap (λ r. front ++ r) (drop-drop (more + 1) at bytes ∙ ap (λ n. drop n bytes) to) in
     front_leads (in_bytes more) bytes_end bytes front at end (omega arith) (omega arith) parts (after_all front more sized) (λ e. cc)
 
 -- some of them

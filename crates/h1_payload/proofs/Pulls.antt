@@ -1,28 +1,13 @@
 -- A pull that needs no memory takes something that needs none.
-use Rattle.std.proofs.Common.{◌≡◌, ℕ, suc, ◌+◌, ◌-◌, ◌<◌, ◌≤◌, leb, cond, Bool, true, false, List, [], ◌∷◌, ◌++◌, length, take, drop, map, refl, sym, ap, ◌∙◌, subst, inl, inr, arith, length-append}
-use Rattle.std.specs.Prelude.{◌⊎◌, ⊤}
-use Rattle.std.specs.List.{AllByRecursion}
-use Rattle.std.proofs.lemmas.Bool.{cond-true, cond-false, le-leb, lt-leb}
-use Rattle.std.proofs.lemmas.List.{take_all, drop_all, nil_from_length}
-use Rattle.httparse.specs.Ascii.{crlf_bytes}
-use Rattle.h1_chunks.specs.ChunkedText.{Trailer, IsTrailer, section_text}
+use Rattle.std.proofs.Common.{◌≡◌, ℕ, Bool, true, false, List, [], ◌∷◌, ◌++◌, length, refl, ap, subst, inl, inr, arith, length-append}
+use Rattle.std.proofs.lemmas.List.{nil_from_length}
 use Rattle.h1_chunks.specs.Place.{Place}
-use Rattle.h1_chunks.specs.TakeNext.{Next, chunk, waits, ended, breaks, take_next}
-use Rattle.h1_model.specs.Request.{Header}
-use Rattle.h1_model.specs.Parse.{trailer_header}
-use Rattle.h1_model.specs.Event.{Outcome, corrupted, incomplete}
-use Rattle.h1_model.specs.Event as on
-use Rattle.h1_machine.specs.Kept.{Rest, no_rest, raw_rest, fixed_rest, chunks_rest}
+use Rattle.h1_chunks.specs.TakeNext.{Next, chunk, waits, ended, breaks}
+use Rattle.h1_machine.specs.Kept.{Rest, chunks_rest}
 use Rattle.h1_machine.specs.Pull as pulls
 use Rattle.h1_machine.specs.Pull.{gives, finishes, lacking, pull_fixed, pull_raw, EndsWith, IsPullOfChunks, IsPull}
-use Rattle.h1_payload.specs.HeaderMaps.{header_map, IsMapOf}
-use Rattle.h1_payload.specs.Answers.{is_last}
-use Rattle.h1_payload.specs.Readers.{Reader, IsTakenBy, TakesNone}
-use Rattle.h1_payload.specs.Rests.{SaysPulled, IsPulled, IsLight}
-use Rattle.http_map.specs.HeaderMap.{Entries}
-use Rattle.h1_payload.specs.declared.pulled.BodyFault.TheVariants.{Corrupted, Incomplete}
-use Rattle.h1_payload.specs.declared.pulled.Pulled.{Pulled}
-use Rattle.h1_payload.specs.declared.pulled.Pulled.TheVariants as pulled
+use Rattle.h1_payload.specs.Readers.{TakesNone}
+use Rattle.h1_payload.specs.Rests.{IsLight}
 
 -- at the end there is no text
 light_end : (old : Rest) (text behind : List ℕ) (p : pulls.Pulled) → EndsWith text behind p → IsLight old p.outcome p.rest → text ≡ []

@@ -1,13 +1,12 @@
 -- The text of a trailer section has room, wherever its reader is.
-use Rattle.std.proofs.Common.{◌≡◌, ℕ, suc, ◌+◌, ◌-◌, ◌<◌, ◌≤◌, ltb, cond, true, false, List, [], ◌∷◌, ◌++◌, length, take, drop, refl, sym, ap, ◌∙◌, subst, inl, inr, arith, append-nil, length-append}
+use Rattle.std.proofs.Common.{◌≡◌, ℕ, ◌+◌, ◌-◌, ◌≤◌, ltb, List, [], ◌∷◌, ◌++◌, length, take, drop, refl, sym, ap, ◌∙◌, subst, inl, inr, arith, append-nil, length-append}
 use Rattle.std.specs.Prelude.{◌⊎◌, ⊤}
 use Rattle.std.proofs.lemmas.Bool.{cond_both}
-use Rattle.h1_chunks.specs.ChunkedText.{MAX_TRAILER_BYTES}
 use Rattle.h1_chunks.specs.Place.{InLine, Place, start, in_bytes, bytes_end, in_section, done, broken, step, after}
-use Rattle.h1_chunks.specs.Reading.{Reading, ends_before, only, at_end, with_trailers, read}
+use Rattle.h1_chunks.specs.Reading.{Reading, read}
 use Rattle.h1_chunks.specs.TakeNext.{Next, chunk, waits, ended, breaks, Taken, of_chunk, noted_line, stops_at, take_next, says}
 use Rattle.h1_chunks.proofs.ReadSteps.{read-nil, read_broken}
-use Rattle.h1_chunks.proofs.ReadAfter.{joined, read-append}
+use Rattle.h1_chunks.proofs.ReadAfter.{read-append}
 use Rattle.h1_chunks.proofs.TrailerRoom.{trailers_fit}
 use Rattle.h1_chunks.proofs.TakenReads.{taken_is_read}
 use Rattle.h1_chunks.proofs.TakenPlaces.{waiting_leads, taken_chunk_leads}
@@ -32,7 +31,7 @@ chunk_unbroken more bytes =
     let some = chunk bytes (in_bytes (more - length bytes)) [] in
     cond_both (ltb more (length bytes)) all some IsUnbroken (λ _ e. cc) (λ _ e. cc)
 
-next-noted : (at : InLine) (lines room : ℕ) (q : Place) (b : ℕ) (t : Taken) → (noted_line (in_section at lines room) q b t).next ≡ t.next
+pub next-noted : (at : InLine) (lines room : ℕ) (q : Place) (b : ℕ) (t : Taken) → (noted_line (in_section at lines room) q b t).next ≡ t.next
 next-noted at lines room (in_section at' lines' room') b t = refl
 next-noted at lines room q b t = refl
 
@@ -84,7 +83,7 @@ room_behind place front section room goes z =
     let a = (read place front).trailers in
     let q = after place front in
     let e : length (read place (front ++ z)).trailers ≡ length a + length (read q z).trailers =
-        ap (λ (r : Reading). length r.trailers) (read-append place front z goes) ∙ length-append a (read q z).trailers in
+    ap (λ (r : Reading). length r.trailers) (read-append place front z goes) ∙ length-append a (read q z).trailers in
     omega (arith, room (front ++ z), length-append section a, e)
 
 -- less text has room as well

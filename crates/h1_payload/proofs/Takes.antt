@@ -1,20 +1,16 @@
 -- What a reader takes, by what its scan tells.
-use Rattle.std.proofs.Common.{◌≡◌, ℕ, ◌<◌, ◌≤◌, Bool, true, false, List, [], ◌++◌, length, drop, refl, sym, ap, ◌∙◌, subst, subst₂, inl, inr, arith, append-nil}
-use Rattle.std.specs.Prelude.{slice_range, ◌⊎◌}
-use Rattle.std.proofs.lemmas.Bool.{false≢true}
-use Rattle.h1_chunks.specs.Place.{Place}
-use Rattle.h1_chunks.specs.TakeNext.{Next, chunk, waits, ended, breaks, Taken, take_next}
+use Rattle.std.proofs.Common.{◌≡◌, ℕ, ◌≤◌, Bool, true, List, ◌++◌, length, refl, ap, ◌∙◌, subst, subst₂}
+use Rattle.std.specs.Prelude.{slice_range}
+use Rattle.h1_chunks.specs.TakeNext.{Taken, take_next}
 use Rattle.h1_payload.specs.declared.place.Place as declared
-use Rattle.h1_payload.specs.declared.pulled.Pulled.{Pulled}
 use Rattle.h1_payload.specs.declared.pulled.Pulled.TheVariants as pulled
-use Rattle.h1_payload.specs.declared.pulled.BodyFault.TheVariants.{Corrupted, Incomplete}
+use Rattle.h1_payload.specs.declared.pulled.BodyFault.TheVariants.{Incomplete}
 use Rattle.h1_payload.specs.declared.scan.Found.{Found}
 use Rattle.h1_payload.specs.declared.scan.Found.TheVariants as found
 use Rattle.h1_payload.specs.declared.scan.Scan.{Scan}
 use Rattle.h1_payload.specs.Places.{place_of}
-use Rattle.h1_payload.specs.Readers.{Reader, HasRoom, IsTakenBy, IsTaken, TakesNone, NeedsNoMemory, IsEndTaken}
-use Rattle.h1_payload.specs.Scans.{next_of, told, IsWithin, IsAlone, IsNoChunk}
-use Rattle.h1_payload.proofs.Places.{slice_none}
+use Rattle.h1_payload.specs.Readers.{Reader, HasRoom, IsTaken}
+use Rattle.h1_payload.specs.Scans.{next_of, told, IsWithin}
 use Rattle.h1_payload.proofs.Rooms.{room_chunk, room_waiting, room_ended}
 
 -- what the scan of a reader tells comes next

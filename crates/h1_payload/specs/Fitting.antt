@@ -1,9 +1,11 @@
--- What is left of a body whose trailer section has all its text so far.
-use Rattle.std.specs.Prelude.{◌≡◌, ℕ, ◌<◌, List, ◌++◌, ⊤}
+-- What is left of a body whose trailer section has all its text so far, and that pulls give some.
+use Rattle.std.specs.Prelude.{◌≡◌, ℕ, ◌<◌, List, ◌++◌, length, ⊤}
 use Rattle.std.specs.List.{AllByRecursion}
 use Rattle.h1_chunks.specs.ChunkedText.{Trailer, IsTrailer, section_text}
 use Rattle.h1_chunks.specs.Place.{Place}
 use Rattle.h1_chunks.specs.Reading.{ends_before, read}
+use Rattle.h1_model.specs.Event.{Outcome}
+use Rattle.h1_model.specs.Event as on
 use Rattle.h1_machine.specs.Kept.{Rest, no_rest, raw_rest, fixed_rest, chunks_rest, frames_rest}
 
 -- whatever follows, where the body ends with it, this text and what is read of the section are trailer lines
@@ -19,3 +21,9 @@ Fits raw_rest = ⊤
 Fits (fixed_rest n) = 0 < n
 Fits (chunks_rest place section) = HasLines place section
 Fits (frames_rest under_way limit) = ⊥
+
+-- an outcome of a pull that gives bytes, or trailers, gives some
+abbrev pub GivesSome : Outcome → Type 0
+GivesSome (on.bytes bytes) = 0 < length bytes
+GivesSome (on.trailers headers) = 0 < length headers
+GivesSome o = ⊤

@@ -6,4 +6,6 @@ pub mod Readers
 pub mod Passing
 pub mod Rests
 pub mod Fitting
+pub mod Decoding
+pub mod States
 pub mod Kinds

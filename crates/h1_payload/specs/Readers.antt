@@ -2,7 +2,7 @@
 use Rattle.std.specs.Prelude.{◌≡◌, ℕ, ◌+◌, ◌<◌, ◌≤◌, ◌⊎◌, Bool, true, false, List, [], ◌++◌, length, ⊤}
 use Rattle.httparse.specs.Ascii.{crlf_bytes}
 use Rattle.h1_chunks.specs.ChunkedText.{MAX_TRAILER_BYTES}
-use Rattle.h1_chunks.specs.Place.{Place, done, broken, after}
+use Rattle.h1_chunks.specs.Place.{Place, done, after}
 use Rattle.h1_chunks.specs.Reading.{ends_before, at_end, read}
 use Rattle.h1_chunks.specs.TakeNext.{Next, chunk, waits, ended, breaks, take_next}
 use Rattle.h1_payload.specs.HeaderMaps.{IsMapOf}

@@ -57,6 +57,16 @@ impl ChunkReader {
         matches!(self.place, Place::Broken)
     }
 
+    /// A reader at the same place.
+    pub(crate) fn copy(&self) -> Result<ChunkReader, NoMemory>
+        ensures { IfOk result (λ copy. copy ≡ self.now) }
+    {
+        Ok(ChunkReader {
+            place: self.place,
+            section: self.section.copy()?,
+        })
+    }
+
     /// Takes what comes next: all bytes of the current chunk that are there, and else the trailers, the end or a fault.
     /// It passes what it read, but for a fault, which leaves all as it was. So does want of memory.
     pub(crate) fn take(
@@ -133,12 +143,7 @@ impl ChunkReader {
     }
 
     /// Passes all bytes, and keeps those of trailer lines.
-    fn wait(
-        &mut self,
-        unread: &mut BytesMut,
-        scan: Scan,
-        place: Place,
-    ) -> Result<(), NoMemory>
+    fn wait(&mut self, unread: &mut BytesMut, scan: Scan, place: Place) -> Result<(), NoMemory>
         requires within { IsWithin (length unread.old.items) scan }
         requires room { HasRoom (place_of place) (self.old.section ++ slice_range unread.old.items scan.from scan.to) }
         ensures reader { OnOk result (self.new ≡ record { place = place_of place; section = self.old.section ++ slice_range unread.old.items scan.from scan.to }) }
@@ -155,12 +160,7 @@ impl ChunkReader {
     }
 
     /// Passes the body's end, which is at an index, and gives the trailers, if there are some.
-    fn finish(
-        &self,
-        unread: &mut BytesMut,
-        scan: Scan,
-        at: usize,
-    ) -> Result<Pulled, NoMemory>
+    fn finish(&self, unread: &mut BytesMut, scan: Scan, at: usize) -> Result<Pulled, NoMemory>
         requires within { IsWithin (length unread.old.items) scan }
         requires end { at ≤ length unread.old.items }
         requires short { length (self.now.section ++ slice_range unread.old.items scan.from scan.to) ≤ 8192 }

@@ -1,10 +1,16 @@
-//! Laws of what is left of a body.
-ghost use Rattle.std.specs.Prelude.{◌≡◌, ℕ, Bool, List};
+//! Laws of bodies that are read in pieces.
+ghost use Rattle.std.specs.Prelude.{◌≡◌, ℕ, Bool, false, List, [], ◌++◌};
 ghost use Rattle.h1_model.specs.Request.{BodyKind, fixed_body};
 ghost use Rattle.h1_machine.specs.Kept.{Rest, whole_rest};
 ghost use Rattle.h1_machine.specs.Pull as pulls;
 ghost use Rattle.h1_machine.specs.Pull.{IsPull};
-ghost use Rattle.h1_payload.specs.Fitting.{Fits};
+ghost use Rattle.h1_chunks.specs.ChunkedText.{ChunkedText, IsChunkedText, chunked_text};
+ghost use Rattle.h1_chunks.specs.Place.{start};
+ghost use Rattle.h1_machine.specs.Kept.{fixed_rest, chunks_rest};
+ghost use Rattle.http_bodies.specs.AnyPieces.{Fed, AreFed, LastReads, all_told, all_came};
+ghost use Rattle.h1_payload.specs.Decoding.{Decoding, Payload, Reads, given, chunked_payload, length_payload};
+ghost use Rattle.h1_payload.specs.declared.item.PayloadItem.{PayloadItem};
+ghost use Rattle.h1_payload.specs.Fitting.{Fits, GivesSome};
 
 /// A whole body fits, unless it is one of no bytes; and behind a pull what is left fits as well.
 pub fn rests_fit()
@@ -15,4 +21,33 @@ pub fn rests_fit()
 /// Of a rest that fits there is a pull.
 pub fn a_pull_is_there()
     ensures { (is_ended : Bool) (rest : Rest) (bytes : List ℕ) → Fits rest → (p : pulls.Pulled) × IsPull is_ended rest bytes p }
+{}
+
+/// A pull of a rest that fits gives no empty piece of a body, and no empty list of trailers.
+pub fn pulls_give_some()
+    ensures { (is_ended : Bool) (rest : Rest) (bytes : List ℕ) (p : pulls.Pulled) → Fits rest → IsPull is_ended rest bytes p → GivesSome p.outcome }
+{}
+
+/// Bytes say one thing to a decoder, and to one whose rest fits they say something.
+pub fn bytes_say_one_thing()
+    ensures one { (d : Decoding) (bytes : List ℕ) (p q : Payload) → Reads d bytes p → Reads d bytes q → p ≡ q }
+    ensures some { (d : Decoding) (bytes : List ℕ) → Fits d.rest → (p : Payload) × Reads d bytes p }
+{}
+
+/// Fed with the text of a body in chunks, in any pieces and whatever follows it, a decoder gives the body's bytes, its
+/// trailers and its end, and leaves what follows.
+pub fn chunks_are_given()
+    ensures { (t : ChunkedText) (rest : List ℕ) (calls : List (Fed Decoding PayloadItem)) (z : List ℕ) (p : Payload) → IsChunkedText t
+        → AreFed Reads given (record { rest = chunks_rest start []; is_broken = false }) [] calls → all_came calls ++ z ≡ chunked_text t ++ rest
+        → LastReads Reads given (record { rest = chunks_rest start []; is_broken = false }) [] calls z p
+        → all_told Reads given calls p ≡ chunked_payload t rest }
+{}
+
+/// A decoder of so many bytes gives the first ones, in whatever pieces they come, and then the end, and takes no byte
+/// behind them.
+pub fn a_length_is_given()
+    ensures { (n : ℕ) (calls : List (Fed Decoding PayloadItem)) (z : List ℕ) (p : Payload)
+        → AreFed Reads given (record { rest = fixed_rest n; is_broken = false }) [] calls
+        → LastReads Reads given (record { rest = fixed_rest n; is_broken = false }) [] calls z p
+        → all_told Reads given calls p ≡ length_payload n (all_came calls ++ z) }
 {}

@@ -68,6 +68,13 @@ impl Place {
     /// In front of a body.
     pub(crate) const START: Place = Place::Size(0);
 
+    /// In front of a trailer section.
+    pub(crate) const SECTION_START: Place = Place::Section(
+        Line::Start,
+        MAX_TRAILER_LINES,
+        MAX_TRAILER_BYTES,
+    );
+
     /// The place behind one more byte.
     #[inline(always)]
     pub(crate) fn step(self, byte: u8) -> Place
@@ -171,7 +178,7 @@ fn after_line(size: u64) -> Place
     ensures { place_of result ≡ after_line size }
 {
     if size == 0 {
-        Place::Section(Line::Start, MAX_TRAILER_LINES, MAX_TRAILER_BYTES)
+        Place::SECTION_START
     } else {
         Place::Bytes(size - 1)
     }

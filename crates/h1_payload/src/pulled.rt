@@ -1,6 +1,6 @@
 //! What a pull answers.
 ghost use Rattle.std.specs.Prelude.{◌≡◌};
-ghost use Rattle.h1_payload.specs.Answers.{is_last};
+ghost use Rattle.h1_payload.specs.Answers.{is_last, is_fault};
 
 use bytes::Bytes;
 use http_map::HeaderMap;
@@ -42,6 +42,16 @@ impl Pulled {
         match self {
             Pulled::Trailers(_) => true,
             Pulled::End => true,
+            _ => false,
+        }
+    }
+
+    /// Whether the body is none.
+    pub(crate) fn is_fault(&self) -> bool
+        ensures { result ≡ is_fault self.now }
+    {
+        match self {
+            Pulled::Broken(_) => true,
             _ => false,
         }
     }

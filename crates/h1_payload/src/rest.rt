@@ -82,6 +82,19 @@ impl Rest {
         Rest { left }
     }
 
+    /// An equal rest.
+    pub fn copy(&self) -> Result<Rest, NoMemory>
+        ensures { IfOk result (λ copy. copy ≡ self.now) }
+    {
+        let left = match &self.left {
+            Left::Nothing => Left::Nothing,
+            Left::Raw => Left::Raw,
+            Left::Fixed(len) => Left::Fixed(*len),
+            Left::Chunks(reader) => Left::Chunks(reader.copy()?),
+        };
+        Ok(Rest { left })
+    }
+
     /// Whether nothing is left.
     pub fn is_nothing(&self) -> bool
         ensures { result ≡ is_nothing self.now }
@@ -155,11 +168,7 @@ fn kind_of_chunks(reader: &ChunkReader) -> RestKind
     }
 }
 
-fn pull_left(
-    left: &mut Left,
-    unread: &mut BytesMut,
-    has_ended: bool,
-) -> Result<Pulled, NoMemory>
+fn pull_left(left: &mut Left, unread: &mut BytesMut, has_ended: bool) -> Result<Pulled, NoMemory>
     ensures pulled { IfOk result (λ answer. (p : pulls.Pulled) → IsPull has_ended (rest_of left.old) unread.old.items p
         → IsPulled p answer (rest_of left.new) unread.new.items) }
     ensures no_memory_needed { (p : pulls.Pulled) → IsPull has_ended (rest_of left.old) unread.old.items p
@@ -210,11 +219,7 @@ fn pull_raw(unread: &mut BytesMut, has_ended: bool) -> Result<Pulled, NoMemory>
 }
 
 /// Of a body of so many bytes, those that are there, and what is left of it.
-fn pull_fixed(
-    len: u64,
-    unread: &mut BytesMut,
-    has_ended: bool,
-) -> Result<(Pulled, Left), NoMemory>
+fn pull_fixed(len: u64, unread: &mut BytesMut, has_ended: bool) -> Result<(Pulled, Left), NoMemory>
     ensures pulled { IfOk result (λ answer. IsPulled (pull_fixed has_ended len unread.old.items) answer.0
         (rest_of answer.1) unread.new.items) }
     ensures no_memory_needed { unread.old.items ≡ [] → IsOk result }

@@ -39,6 +39,17 @@ impl Section {
         }
     }
 
+    /// The same text.
+    pub(crate) fn copy(&self) -> Result<Section, NoMemory>
+        ensures { IfOk result (λ copy. copy ≡ self.now) }
+    {
+        let text = match &self.text {
+            Some(text) => Some(text.clone()?),
+            None => None,
+        };
+        Ok(Section { text })
+    }
+
     /// Adds bytes, or changes nothing.
     pub(crate) fn append(&mut self, alloc: Global, bytes: &[u8]) -> Result<(), NoMemory>
         ensures ok { OnOk result (self.new ≡ self.old ++ bytes.now) }

@@ -1,6 +1,6 @@
 -- The calls of a decoder are one.
 use Rattle.std.proofs.Common.{◌≡◌, ℕ, List, [], ◌∷◌, ◌++◌, sym, ap, ◌∙◌, subst, append_assoc}
-use Rattle.http_bodies.specs.AnyPieces.{GoesOn, in_front, Fed, AreFed, LastReads, all_told, all_came}
+use Rattle.http_bodies.specs.AnyPieces.{Fed, AreFed, LastReads, all_told, all_came}
 
 -- pieces, put together in another way
 regrouped : (a b c z : List ℕ) → (a ++ b) ++ (c ++ z) ≡ a ++ ((b ++ c) ++ z)

@@ -1,8 +1,7 @@
-use Rattle.std.proofs.Common.{◌≡◌, true, length, drop, refl, sym, ap, ◌∙◌}
-use Rattle.h1_chunks.specs.Place.{in_bytes, in_section, done, broken}
-use Rattle.h1_chunks.specs.TakeNext.{take_next, stops_at, waits}
+use Rattle.std.proofs.Common.{◌≡◌, true, length, drop, sym, ap, ◌∙◌}
+use Rattle.h1_chunks.specs.TakeNext.{take_next}
 use Rattle.h1_payload.specs.declared.scan.Found.TheVariants as found
-use Rattle.h1_payload.specs.Places.{line_of, place_of, is_quiet}
+use Rattle.h1_payload.specs.Places.{place_of, is_quiet}
 use Rattle.h1_payload.specs.Scans.{told}
 use Rattle.h1_payload.proofs.Places.{waits_at, quiet_stops, rest_is_quiet, plain_told, plain_within}
 use Rattle.h1_payload.proofs.Taking.{take_done, take_broken}
@@ -52,7 +51,7 @@ returns-in_default-clause-value c =
     let at = c.pass_quiet-at.result.0 in
     let q = c.pass_quiet-at.result.1 in
     let quiet : is_quiet (place_of q) ≡ true =
-        rest_is_quiet q c.in_default.not-Bytes c.in_default.not-Section c.in_default.not-Done c.in_default.not-Broken in
+    rest_is_quiet q c.in_default.not-Bytes c.in_default.not-Section c.in_default.not-Done c.in_default.not-Broken in
     c.pass_quiet-at.ensures.same
     ∙ waits_at (place_of q) bytes at (quiet_stops (place_of q) quiet) (c.pass_quiet-at.ensures.all quiet)
     ∙ plain_told bytes at (found.Waits q)

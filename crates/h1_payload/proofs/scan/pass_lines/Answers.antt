@@ -9,5 +9,5 @@ loop-at-preserved c =
     let on : is_section (place_of c.step-next.result) ≡ true = sym c.is_section.ensures ∙ c.if-not-is_section.false in (
       on,
       lines_more (in_section (line_of c.args.line) c.args.lines c.args.room) (place_of c.loop-at.place) (place_of c.step-next.result) c.args.bytes.now
-      c.loop-at.at (get_or c.args.bytes.now c.loop-at.at 0) c.loop-at.invariant.1 c.loop-at.invariant.0 c.loop-at-test.true refl c.step-next.ensures on,
+          c.loop-at.at (get_or c.args.bytes.now c.loop-at.at 0) c.loop-at.invariant.1 c.loop-at.invariant.0 c.loop-at-test.true refl c.step-next.ensures on,
     )

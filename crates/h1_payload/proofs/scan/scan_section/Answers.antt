@@ -1,4 +1,4 @@
-use Rattle.std.proofs.Common.{List, ℕ, length, drop, refl, inl, inr, subst, arith, length-drop}
+use Rattle.std.proofs.Common.{List, ℕ, refl, inr, subst, arith, length-drop}
 use Rattle.std.proofs.lemmas.List.{take_rest}
 use Rattle.h1_chunks.specs.Place.{in_section}
 use Rattle.h1_payload.specs.Places.{line_of, place_of}
@@ -16,6 +16,6 @@ returns c =
     let len = length-drop c.args.at bytes in
     record {
       value = lines_told start (place_of c.pass_lines-count.result.1) bytes c.args.at count _ c.find_end.result c.requires passed.within refl passed.same
-      c.find_end.ensures.value;
+          c.find_end.ensures.value;
       within = record { alone = inr c.find_end.ensures.no_chunk; ordered = omega arith; lines = omega arith; found = c.find_end.ensures.within };
     }

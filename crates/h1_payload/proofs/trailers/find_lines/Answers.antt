@@ -1,4 +1,4 @@
-use Rattle.std.proofs.Common.{◌≤◌, ◌/◌, [], length, map, ap, ◌∙◌, arith}
+use Rattle.std.proofs.Common.{◌≤◌, [], length, map, ap, ◌∙◌, arith}
 use Rattle.httparse.specs.Grammar.{crlf}
 use Rattle.h1_payload.specs.HeaderMaps.{line_header}
 use Rattle.h1_payload.proofs.Lines.{field_of, reads_lines, headers_of_lines, lines_fit, lines_at}

@@ -19,7 +19,7 @@ returns-in-Done-clause-passed c =
     let old = c.args.self.now in
     let bytes = c.args.unread.now.items in
     let way : IsAllPassed old.place bytes at p =
-        subst₂ (λ (r : Reader) (b : List ℕ). IsAllPassed r.place b at p) c.self.view_is c.as_slice.ensures c.pass_body-at.ensures in
+    subst₂ (λ (r : Reader) (b : List ℕ). IsAllPassed r.place b at p) c.self.view_is c.as_slice.ensures c.pass_body-at.ensures in
     subst (IsPassedBy old bytes) (sym c.advance.ensures.items) (passed_end old bytes at p (ap place_of c.in-Done.is) way)
 
 pub returns-in_default-clause-goes_on : goal.returns-in_default-clause-goes_on
@@ -29,6 +29,6 @@ returns-in_default-clause-goes_on c =
     let old = c.args.self.now in
     let bytes = c.args.unread.now.items in
     let way : IsAllPassed old.place bytes at (place_of q) =
-        subst₂ (λ (r : Reader) (b : List ℕ). IsAllPassed r.place b at (place_of q)) c.self.view_is c.as_slice.ensures c.pass_body-at.ensures in
+    subst₂ (λ (r : Reader) (b : List ℕ). IsAllPassed r.place b at (place_of q)) c.self.view_is c.as_slice.ensures c.pass_body-at.ensures in
     passed_on old (record { place = place_of q; section = c.new.result }) bytes c.clear.new.self.items at (place_of q)
     (not_done q c.in_default.not-Done) way refl c.new.ensures c.clear.ensures.items

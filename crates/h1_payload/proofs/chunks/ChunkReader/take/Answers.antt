@@ -1,4 +1,3 @@
-use Rattle.std.proofs.Common.{refl}
 use Rattle.h1_payload.specs.declared.scan.Found.TheVariants as found
 use Rattle.h1_payload.specs.Places.{place_of}
 use Rattle.h1_payload.specs.Readers.{Reader}

@@ -1,0 +1,29 @@
+//! What a payload decoder answers.
+use bytes::Bytes;
+use http_map::HeaderMap;
+use thiserror::Error;
+
+/// A piece of a body.
+#[derive(Debug, Drop)]
+pub enum PayloadItem {
+    /// Bytes of the body, of which there is one at least. They share the memory of the buffer.
+    Chunk(Bytes),
+
+    /// The trailers of a body in chunks, of which there is one at least: its end follows (RFC 7230, section 4.1.2).
+    Trailers(HeaderMap),
+
+    /// The body has ended.
+    Eof,
+}
+
+/// Why bytes give no piece of a body.
+#[derive(Clone, Copy, Debug, PartialEq, Eq, Error)]
+pub enum DecodeError {
+    /// The bytes break the grammar of chunks (RFC 7230, section 4.1).
+    #[error("the chunks of the body are malformed")]
+    Invalid,
+
+    /// There was no memory.
+    #[error("no memory is left")]
+    NoMemory,
+}
