@@ -23,6 +23,7 @@ use Rattle.h1_decode.specs.declared.scan.HeadScan.{HeadScan}
 use Rattle.h1_dispatch.specs.Incoming.{Incoming, IsFound}
 use Rattle.h1_dispatch.specs.Meaning.{setting_of, end_of}
 use Rattle.h1_dispatch.specs.Parts.{kept_of, exchange_of, reply_of, asked_in, sending_in, sending_by, replied, completed, MayBeSearched, IsNoted, IsSettled, IsSound, Steps}
+use Rattle.h1_dispatch.specs.Unsent.{NoPieceBy, NoPieceOf, SendsNoPiece, NoEndBy, NoEndOf, SendsNoEnd}
 use Rattle.h1_dispatch.specs.declared.connection.exchange.Exchange.{Exchange}
 use Rattle.h1_dispatch.specs.declared.connection.exchange.Sending.{Sending}
 use Rattle.h1_dispatch.specs.declared.connection.exchange.Reply.{Reply}
@@ -360,3 +361,42 @@ later_steps_by s p q asked head size y bytes asks waits later kind_is shape_is m
 pub later_sound_by : (s : Settings) (p q : Parts) (asked : Asked) (y : Sending) (bytes : List ℕ) → asked_in p.exchange ≡ Some asked
     → waits_for_answer (kept_of p) ≡ true → IsSound s p → q ≡ record p { exchange = replied (GoesOut y) p.exchange; output = bytes } → IsSound s q
 later_sound_by s p q asked y bytes asks waits sound is = subst (λ (r : Parts). IsSound s r) (sym is) (later_sound s p asked y bytes asks waits sound)
+
+-- ---- where nothing goes out
+
+no_piece_by : (x : Exchange) (z : Sending) (bytes : List ℕ) (r : Reply) → sending_by r ≡ Some z → NoPieceBy (exchange_of x) (reply_of r) bytes
+    → piece_sent x.request.asked (model_shape z.shape) z.missing bytes ≡ []
+no_piece_by x z bytes Unanswered sends none = absurd (cc sends)
+no_piece_by x z bytes (GoesOut y) sends none =
+    let same : y ≡ z = cc sends in
+    subst (λ (w : Sending). piece_sent x.request.asked (model_shape w.shape) w.missing bytes ≡ []) same none
+no_piece_by x z bytes (Answered kind) sends none = absurd (cc sends)
+
+no_piece_of : (e : Option Exchange) (asked : Asked) (z : Sending) (bytes : List ℕ) → asked_in e ≡ Some asked → sending_in e ≡ Some z
+    → NoPieceOf (option_map exchange_of e) bytes → piece_sent asked (model_shape z.shape) z.missing bytes ≡ []
+no_piece_of None asked z bytes asks sends none = absurd (cc asks)
+no_piece_of (Some x) asked z bytes asks sends none =
+    let same : x.request.asked ≡ asked = cc asks in
+    subst (λ (a : Asked). piece_sent a (model_shape z.shape) z.missing bytes ≡ []) same (no_piece_by x z bytes x.reply sends none)
+
+pub no_piece : (p : Parts) (asked : Asked) (z : Sending) (bytes : List ℕ) → asked_in p.exchange ≡ Some asked → sending_in p.exchange ≡ Some z
+    → SendsNoPiece (kept_of p) bytes → piece_sent asked (model_shape z.shape) z.missing bytes ≡ []
+no_piece p asked z bytes asks sends none = no_piece_of p.exchange asked z bytes asks sends none
+
+no_end_by : (x : Exchange) (z : Sending) (r : Reply) → sending_by r ≡ Some z → NoEndBy (exchange_of x) (reply_of r) → sent_end x.request.asked (model_shape z.shape) ≡ []
+no_end_by x z Unanswered sends none = absurd (cc sends)
+no_end_by x z (GoesOut y) sends none =
+    let same : y ≡ z = cc sends in
+    subst (λ (w : Sending). sent_end x.request.asked (model_shape w.shape) ≡ []) same none
+no_end_by x z (Answered kind) sends none = absurd (cc sends)
+
+no_end_of : (e : Option Exchange) (asked : Asked) (z : Sending) → asked_in e ≡ Some asked → sending_in e ≡ Some z
+    → NoEndOf (option_map exchange_of e) → sent_end asked (model_shape z.shape) ≡ []
+no_end_of None asked z asks sends none = absurd (cc asks)
+no_end_of (Some x) asked z asks sends none =
+    let same : x.request.asked ≡ asked = cc asks in
+    subst (λ (a : Asked). sent_end a (model_shape z.shape) ≡ []) same (no_end_by x z x.reply sends none)
+
+pub unsent_end : (p : Parts) (asked : Asked) (z : Sending) → asked_in p.exchange ≡ Some asked → sending_in p.exchange ≡ Some z
+    → SendsNoEnd (kept_of p) → sent_end asked (model_shape z.shape) ≡ []
+unsent_end p asked z asks sends none = no_end_of p.exchange asked z asks sends none

@@ -3,6 +3,7 @@ pub mod Incoming
 pub mod Parts
 pub mod Ticks
 pub mod Pulls
+pub mod Unsent
 pub mod Upgrade
 pub mod Heads
 pub mod State

@@ -11,6 +11,7 @@ use Rattle.h1_dispatch.specs.Meaning.{setting_of}
 use Rattle.h1_dispatch.specs.Heads.{NeedsNoMemory}
 use Rattle.h1_dispatch.specs.Pulls.{IsLightPull}
 use Rattle.h1_dispatch.specs.Ticks.{IsQuietTick}
+use Rattle.h1_dispatch.specs.Unsent.{SendsNoPiece, SendsNoEnd}
 use Rattle.h1_dispatch.specs.Upgrade.{Upgrade, with_upgrade}
 
 pub record State : Type 0 where
@@ -38,8 +39,8 @@ GoesOn state event Says after =
     × Stands after (record { event = event; outcome = out } ∷ trace)
 
 -- The event takes no memory: the input's end, a drop, a drain, an answer's body that fails; a next one that closes, or
--- finds no head and room for more bytes; a pull that tells the end or a fault, or gives nothing; a write of nothing; a
--- tick but one that answers a head that doesn't come.
+-- finds no head and room for more bytes; a pull that tells the end or a fault, or gives nothing; a piece or an end of
+-- which nothing goes out; a write of nothing; a tick but one that answers a head that doesn't come.
 abbrev pub TakesNoMemory : State → on.Event → Type 0
 TakesNoMemory state on.eof = ⊤
 TakesNoMemory state on.drop_body = ⊤
@@ -47,6 +48,8 @@ TakesNoMemory state on.body_error = ⊤
 TakesNoMemory state on.drain = ⊤
 TakesNoMemory state on.next = NeedsNoMemory (setting_of state.settings) state.kept
 TakesNoMemory state on.pull = IsLightPull state.kept
+TakesNoMemory state (on.chunk bytes) = SendsNoPiece state.kept bytes
+TakesNoMemory state on.body_end = SendsNoEnd state.kept
 TakesNoMemory state (on.write limit) = length (take limit state.kept.buffered) ≡ 0
 TakesNoMemory state (on.tick ms) = IsQuietTick (setting_of state.settings) state.kept ms
 TakesNoMemory state event = ⊥

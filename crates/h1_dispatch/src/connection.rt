@@ -12,6 +12,7 @@ ghost use Rattle.h1_payload.specs.Rests.{SaysPulled};
 ghost use Rattle.h1_dispatch.specs.Meaning.{setting_of, event_of, end_of};
 ghost use Rattle.h1_dispatch.specs.Heads.{SaysNext, NeedsNoMemory};
 ghost use Rattle.h1_dispatch.specs.Pulls.{IsLightPull};
+ghost use Rattle.h1_dispatch.specs.Unsent.{SendsNoPiece, SendsNoEnd};
 ghost use Rattle.h1_dispatch.specs.Ticks.{expiry_of, IsQuietTick};
 ghost use Rattle.h1_dispatch.specs.State.{fresh_state, IsAllowed, Stands, GoesOn, Is};
 
@@ -188,21 +189,23 @@ impl Connection {
         self.parts.answer(&self.config, head, size)
     }
 
-    /// The next bytes of the answer's body.
+    /// The next bytes of the answer's body. Where none of them goes out, it takes no memory.
     pub fn chunk(&mut self, bytes: &[u8]) -> Result<(), NoMemory>
         requires { IsAllowed self.old (on.chunk bytes.now) }
         ensures stands { OnOk result (GoesOn self.old (on.chunk bytes.now) (Is on.done) self.new) }
         ensures settings { self.new.settings ≡ self.old.settings }
+        ensures no_memory_needed { SendsNoPiece self.old.kept bytes.now → IsOk result }
         ensures err { OnErr result (self.new ≡ self.old) }
     {
         self.parts.chunk(&self.config, bytes)
     }
 
-    /// The answer's body is whole.
+    /// The answer's body is whole. Where its end isn't written, it takes no memory.
     pub fn end_body(&mut self) -> Result<(), NoMemory>
         requires { IsAllowed self.old on.body_end }
         ensures stands { OnOk result (GoesOn self.old on.body_end (Is on.done) self.new) }
         ensures settings { self.new.settings ≡ self.old.settings }
+        ensures no_memory_needed { SendsNoEnd self.old.kept → IsOk result }
         ensures err { OnErr result (self.new ≡ self.old) }
     {
         self.parts.end_answer(&self.config)

@@ -1,5 +1,5 @@
 // What an answer, a piece of its body and its end do to the parts.
-ghost use Rattle.std.specs.Prelude.{◌≡◌, true, None, option_map, OnOk, OnErr};
+ghost use Rattle.std.specs.Prelude.{◌≡◌, true, None, option_map, IsOk, OnOk, OnErr};
 ghost use Rattle.std.specs.Option.{option_or};
 ghost use Rattle.h1_codec.specs.Meaning.{answer_of, size_of, model_shape};
 ghost use Rattle.h1_model.specs.Setting.{keeps};
@@ -11,6 +11,7 @@ ghost use Rattle.h1_machine.specs.Local.{waits_for_answer};
 ghost use Rattle.h1_machine.specs.Body.{passing};
 ghost use Rattle.h1_machine.specs.Reply.{stated, short_end};
 ghost use Rattle.h1_dispatch.specs.Meaning.{setting_of, end_of, keep_alive_of};
+ghost use Rattle.h1_dispatch.specs.Unsent.{SendsNoPiece, SendsNoEnd};
 ghost use Rattle.h1_dispatch.specs.Parts.{kept_of, asked_in, sending_in, replied, completed, IsSettled, IsSound, Steps};
 
 use crate::End;
@@ -64,6 +65,7 @@ impl Parts {
         requires { IsSound config.now self.old }
         ensures ok { OnOk result (Steps config.now self.old (on.chunk bytes.now) on.done self.new) }
         ensures sound { OnOk result (IsSound config.now self.new) }
+        ensures no_memory_needed { SendsNoPiece (kept_of self.old) bytes.now → IsOk result }
         ensures err { OnErr result (self.new ≡ self.old) }
     {
         let Some(asked) = self.asked() else {
@@ -87,6 +89,7 @@ impl Parts {
         requires { IsSound config.now self.old }
         ensures ok { OnOk result (Steps config.now self.old on.body_end on.done self.new) }
         ensures sound { OnOk result (IsSound config.now self.new) }
+        ensures no_memory_needed { SendsNoEnd (kept_of self.old) → IsOk result }
         ensures err { OnErr result (self.new ≡ self.old) }
     {
         let Some(asked) = self.asked() else {

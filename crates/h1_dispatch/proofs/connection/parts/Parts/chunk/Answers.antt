@@ -1,6 +1,7 @@
 use Rattle.std.proofs.Common.{◌∙◌, sym, ap}
 use Rattle.h1_dispatch.specs.declared.connection.exchange.Sending.{Sending}
-use Rattle.h1_dispatch.proofs.AnswerLemmas.{unasked, no_chunk, chunked_steps, chunked_sound}
+use Rattle.std.proofs.lemmas.Bool.{false≢true}
+use Rattle.h1_dispatch.proofs.AnswerLemmas.{no_piece, unasked, no_chunk, chunked_steps, chunked_sound}
 use Rattle.h1_dispatch.proofs.connection.parts.Parts.chunk.Goals as goal
 
 pub returns-in_default-clause-ok : goal.returns-in_default-clause-ok
@@ -18,3 +19,8 @@ pub returns-clause-sound : goal.returns-clause-sound
 returns-clause-sound c =
     chunked_sound _ c.args.self.now _ c.in-Some.asked c.in-Some-sending.sending _ _ (sym c.asked.ensures ∙ c.in-Some.is) (sym c.sending.ensures ∙ c.in-Some-sending.is)
     c.requires c.set_reply.ensures
+
+pub returns-in_err-put_piece-clause-no_memory_needed : goal.returns-in_err-put_piece-clause-no_memory_needed
+returns-in_err-put_piece-clause-no_memory_needed c = λ none.
+    absurd (false≢true (c.in_err-put_piece.ensures.no_memory_needed
+    (no_piece c.args.self.now c.in-Some.asked c.in-Some-sending.sending c.args.bytes.now (sym c.asked.ensures ∙ c.in-Some.is) (sym c.sending.ensures ∙ c.in-Some-sending.is) none)))

@@ -1,5 +1,6 @@
 use Rattle.std.proofs.Common.{◌∙◌, sym, ap}
-use Rattle.h1_dispatch.proofs.AnswerLemmas.{unasked, no_end, sending_unsearched, ended_steps, ended_sound, short_parts_piece}
+use Rattle.std.proofs.lemmas.Bool.{false≢true}
+use Rattle.h1_dispatch.proofs.AnswerLemmas.{unsent_end, unasked, no_end, sending_unsearched, ended_steps, ended_sound, short_parts_piece}
 use Rattle.h1_dispatch.proofs.connection.parts.Parts.end_answer.Goals as goal
 
 pub complete-requires : goal.complete-requires
@@ -21,3 +22,8 @@ returns-clause-ok c =
 pub returns-clause-sound : goal.returns-clause-sound
 returns-clause-sound c =
     ended_sound _ c.args.self.now _ _ c.in-Some-sending.sending _ c.requires c.note_short.ensures.parts c.complete.ensures
+
+pub returns-in_err-put_end-clause-no_memory_needed : goal.returns-in_err-put_end-clause-no_memory_needed
+returns-in_err-put_end-clause-no_memory_needed c = λ none.
+    absurd (false≢true (c.in_err-put_end.ensures.no_memory_needed
+    (unsent_end c.args.self.now c.in-Some.asked c.in-Some-sending.sending (sym c.asked.ensures ∙ c.in-Some.is) (sym c.sending.ensures ∙ c.in-Some-sending.is) none)))
