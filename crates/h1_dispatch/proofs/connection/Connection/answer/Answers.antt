@@ -13,4 +13,4 @@ pub returns-clause-err : goal.returns-clause-err
 returns-clause-err c = same_state c.answer.result _ _ _ _ c.self.view_is c.answer.ensures.err
 
 pub answer-requires-clause-waits : goal.answer-requires-clause-waits
-answer-requires-clause-waits c = answer_waits _ _ _ _ (allowed_parts _ _ _ _ c.self.view_is c.requires)
+answer-requires-clause-waits c = answer_waits c.self.inside.config _ _ _ (allowed_parts _ _ _ _ c.self.view_is c.requires)

@@ -3,7 +3,7 @@ use Rattle.h1_dispatch.proofs.GoesOnLemmas.{still_sound, same_state, allowed_par
 use Rattle.h1_dispatch.proofs.connection.Connection.pull.Goals as goal
 
 pub pull-requires-clause-open : goal.pull-requires-clause-open
-pull-requires-clause-open c = pull_open _ _ (allowed_parts _ _ _ _ c.self.view_is c.requires)
+pull-requires-clause-open c = pull_open c.self.inside.config _ (allowed_parts _ _ _ _ c.self.view_is c.requires)
 
 pub invariant_of-self : goal.invariant_of-self
 invariant_of-self c = still_sound c.pull.result _ _ _ c.self.invariant c.pull.ensures.sound c.pull.ensures.err

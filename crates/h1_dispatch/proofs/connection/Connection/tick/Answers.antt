@@ -3,7 +3,7 @@ use Rattle.h1_dispatch.proofs.GoesOnLemmas.{still_sound, same_state, goes_on, al
 use Rattle.h1_dispatch.proofs.connection.Connection.tick.Goals as goal
 
 pub tick-requires-clause-before : goal.tick-requires-clause-before
-tick-requires-clause-before c = tick_before _ _ _ (allowed_parts _ _ _ _ c.self.view_is c.requires)
+tick-requires-clause-before c = tick_before c.self.inside.config _ _ (allowed_parts _ _ _ _ c.self.view_is c.requires)
 
 pub invariant_of-self : goal.invariant_of-self
 invariant_of-self c = still_sound c.tick.result _ _ _ c.self.invariant c.tick.ensures.sound c.tick.ensures.err

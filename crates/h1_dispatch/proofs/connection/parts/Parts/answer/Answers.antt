@@ -7,14 +7,14 @@ use Rattle.h1_dispatch.proofs.AnswerLemmas.{text_by, no_answer, waiting_unsearch
 use Rattle.h1_dispatch.proofs.connection.parts.Parts.answer.Goals as goal
 
 pub complete-requires : goal.complete-requires
-complete-requires c = waiting_unsearched _ c.args.self.now _ (sym c.asked.ensures ∙ c.in-Some.is) c.requires.waits c.requires.sound
+complete-requires c = waiting_unsearched c.args.config.now c.args.self.now _ (sym c.asked.ensures ∙ c.in-Some.is) c.requires.waits c.requires.sound
 
 pub returns-in_default-clause-ok : goal.returns-in_default-clause-ok
-returns-in_default-clause-ok c = no_answer _ c.args.self.now _ _ (sym c.asked.ensures ∙ c.in_default.is) c.requires.sound
+returns-in_default-clause-ok c = no_answer c.args.config.now c.args.self.now _ _ (sym c.asked.ensures ∙ c.in_default.is) c.requires.sound
 
 pub returns-then-is_at_once-clause-ok : goal.returns-then-is_at_once-clause-ok
 returns-then-is_at_once-clause-ok c =
-    at_once_steps _ c.args.self.now _ c.in-Some.asked (answer_of c.args.head.now) (size_of c.args.size) c.type_of-connection.result _
+    at_once_steps c.args.config.now c.args.self.now _ c.in-Some.asked (answer_of c.args.head.now) (size_of c.args.size) c.type_of-connection.result _
     (sym c.asked.ensures ∙ c.in-Some.is) (sym c.is_at_once.ensures ∙ c.if-is_at_once.true)
     (c.type_of-connection.ensures (setting_of c.args.config.now) (sym (c.keeps.ensures ∙ ap (λ (k : KeepAlive). keeps (keep_alive_of k)) c.keep_alive.ensures.value)))
     (c.in_ok-put_head.ensures.ok
@@ -22,11 +22,11 @@ returns-then-is_at_once-clause-ok c =
     c.complete.ensures
 
 pub returns-then-is_at_once-clause-sound : goal.returns-then-is_at_once-clause-sound
-returns-then-is_at_once-clause-sound c = complete_sound _ (record c.args.self.now { output = c.put_head.new.self }) _ _ c.requires.sound.moment c.complete.ensures
+returns-then-is_at_once-clause-sound c = complete_sound c.args.config.now (record c.args.self.now { output = c.put_head.new.self }) _ _ c.requires.sound.moment c.complete.ensures
 
 pub returns-else-is_at_once-clause-ok : goal.returns-else-is_at_once-clause-ok
 returns-else-is_at_once-clause-ok c =
-    later_steps_by _ c.args.self.now _ c.in-Some.asked (answer_of c.args.head.now) (size_of c.args.size) _ _
+    later_steps_by c.args.config.now c.args.self.now _ c.in-Some.asked (answer_of c.args.head.now) (size_of c.args.size) _ _
     (sym c.asked.ensures ∙ c.in-Some.is) c.requires.waits (sym c.is_at_once.ensures ∙ c.if-is_at_once.false)
     (c.type_of-connection.ensures (setting_of c.args.config.now) (sym (c.keeps.ensures ∙ ap (λ (k : KeepAlive). keeps (keep_alive_of k)) c.keep_alive.ensures.value)))
     c.shape_of-shape.ensures c.stated.ensures
@@ -36,4 +36,4 @@ returns-else-is_at_once-clause-ok c =
 
 pub returns-else-is_at_once-clause-sound : goal.returns-else-is_at_once-clause-sound
 returns-else-is_at_once-clause-sound c =
-    later_sound_by _ c.args.self.now _ c.in-Some.asked _ _ (sym c.asked.ensures ∙ c.in-Some.is) c.requires.waits c.requires.sound c.set_reply.ensures
+    later_sound_by c.args.config.now c.args.self.now _ c.in-Some.asked _ _ (sym c.asked.ensures ∙ c.in-Some.is) c.requires.waits c.requires.sound c.set_reply.ensures

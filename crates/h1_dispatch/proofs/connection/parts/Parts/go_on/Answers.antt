@@ -3,11 +3,11 @@ use Rattle.h1_dispatch.proofs.EventLemmas.{none_told, told_steps, told_sound_by}
 use Rattle.h1_dispatch.proofs.connection.parts.Parts.go_on.Goals as goal
 
 pub returns-then-is_none-clause-ok : goal.returns-then-is_none-clause-ok
-returns-then-is_none-clause-ok c = none_told _ c.args.self.now c.requires (c.is_none.ensures ∙ ap not c.if-is_none.true)
+returns-then-is_none-clause-ok c = none_told c.args.config.now c.args.self.now c.requires (c.is_none.ensures ∙ ap not c.if-is_none.true)
 
 pub returns-clause-ok : goal.returns-clause-ok
 returns-clause-ok c =
-    told_steps _ c.args.self.now _ _ c.requires (c.is_none.ensures ∙ ap not c.if-is_none.false) c.in_ok-put_interim.ensures.ok c.set_told_to_go_on.ensures
+    told_steps c.args.config.now c.args.self.now _ _ c.requires (c.is_none.ensures ∙ ap not c.if-is_none.false) c.in_ok-put_interim.ensures.ok c.set_told_to_go_on.ensures
 
 pub returns-clause-sound : goal.returns-clause-sound
-returns-clause-sound c = told_sound_by _ c.args.self.now _ _ c.requires c.set_told_to_go_on.ensures
+returns-clause-sound c = told_sound_by c.args.config.now c.args.self.now _ _ c.requires c.set_told_to_go_on.ensures

@@ -11,4 +11,4 @@ returns-clause-handed c = λ piece h start end reading says at.
     refl c.note.ensures.kept
 
 pub returns-clause-sound : goal.returns-clause-sound
-returns-clause-sound c = handed_sound _ c.args.self.now _ _ _ c.requires.sound c.pass_head.ensures refl c.note.ensures.kept c.note.ensures.input
+returns-clause-sound c = handed_sound c.args.config.now c.args.self.now _ _ _ c.requires.sound c.pass_head.ensures refl c.note.ensures.kept c.note.ensures.input
