@@ -16,15 +16,15 @@ with_lines entries headers = fold (λ entries header. append entries header.name
 -- one line more
 one_line : (name : List ℕ) (entries : Entries) (h : Header) → (b : Bool) → bytes_eq h.name name ≡ b
     → value_bytes (get_all (append entries h.name (plain_value h.value)) name)
-      ≡ value_bytes (get_all entries name) ++ map (λ (l : Header). l.value) (if b then h ∷ [] else [])
+    ≡ value_bytes (get_all entries name) ++ map (λ (l : Header). l.value) (if b then h ∷ [] else [])
 one_line name entries h true e =
     let same = same_bytes h.name name e in
     subst (λ (n : List ℕ). value_bytes (get_all (append entries n (plain_value h.value)) name) ≡ value_bytes (get_all entries name) ++ h.value ∷ []) (sym same)
     (ap value_bytes (get_all-append_same name (plain_value h.value) entries) ∙ map-append (λ (v : FieldValue). v.bytes) (get_all entries name) (plain_value h.value ∷ []))
 one_line name entries h false e =
     let apart : name ≢ h.name = λ is.
-        let same : bytes_eq h.name name ≡ true = subst (λ (n : List ℕ). bytes_eq h.name n ≡ true) (sym is) (bytes_eq-itself h.name) in
-        cc in
+    let same : bytes_eq h.name name ≡ true = subst (λ (n : List ℕ). bytes_eq h.name n ≡ true) (sym is) (bytes_eq-itself h.name) in
+    cc in
     ap value_bytes (get_all-append_other h.name (plain_value h.value) name apart entries) ∙ sym (append-nil (value_bytes (get_all entries name)))
 
 -- the values of the lines come behind those that the map has

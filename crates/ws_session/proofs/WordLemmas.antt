@@ -78,7 +78,7 @@ pub goes_wrong : (word text : List ℕ) (at : ℕ) → at < length word → at <
 goes_wrong word text at in_word in_text apart =
     let rest = begins_with (drop (at + 1) word) (drop (at + 1) text) in
     let other = bytes_eq-other (to_ascii_lowercase (get_or text at 0) ∷ []) (get_or word at 0 ∷ [])
-        (λ e. apart (ap (λ (l : List ℕ). get_or l 0 0) e)) in
+    (λ e. apart (ap (λ (l : List ℕ). get_or l 0 0) e)) in
     (λ i. begins_with (next_of word at in_word i) (next_of text at in_text i)) ∙ ap (λ (b : Bool). b && rest) other
 
 -- the text ends within the word
