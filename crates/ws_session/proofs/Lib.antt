@@ -1,0 +1,3 @@
+pub mod CheckLemmas
+pub mod ValueLemmas
+pub mod WordLemmas

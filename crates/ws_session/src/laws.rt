@@ -1,0 +1,11 @@
+//! What a head that was read says of an upgrade.
+ghost use Rattle.h1_model.specs.Request.{Head};
+ghost use Rattle.h1_decode.specs.HeadItem.{SaysHead};
+ghost use Rattle.ws_session.specs.Upgrade.{SaysUpgrade};
+
+use h1_decode::HeadItem;
+
+/// A request that was read says of an upgrade what its head says.
+pub fn heads_say_their_upgrade()
+    ensures { (item : HeadItem) (h : Head) → SaysHead item h → SaysUpgrade item.head h }
+{}
