@@ -1,5 +1,6 @@
 //! Responses and their builder.
-use http_types::header::{NameText, SERVER, SET_COOKIE};
+use http_types::header::names::SERVER;
+use http_types::header::{NameText, SET_COOKIE};
 use http_types::{
     BuildError, HttpError, Response, ResponseBuilder, ResponseHead, StatusCode, Version,
 };
