@@ -1,8 +1,8 @@
 //! Values that the headers of a message say.
 use http_types::header::CONTENT_TYPE;
 use http_types::header::names::CONTENT_ENCODING;
-use http_types::{ContentTypeError, HeaderName, HeaderValue, ParseError, Request, RequestHead};
-use http_values::{ContentEncoding, Header, get_header, mime_type};
+use http_types::{HeaderName, HeaderValue, ParseError, Request, RequestHead};
+use http_values::{ContentEncoding, Header, get_header};
 use std::alloc::Global;
 use std::test::Fail;
 
@@ -47,35 +47,5 @@ fn a_coding_is_a_header(rt: HostRuntime) -> Result<(), Fail> {
     assert!(rt; value.as_bytes() == b"br".as_slice());
     let value: HeaderValue = ContentEncoding::Brotli.to_header_value();
     assert!(rt; value.as_bytes() == b"br".as_slice());
-    Ok(())
-}
-
-#[test]
-fn the_media_type_of_a_message_is_read(rt: HostRuntime) -> Result<(), Fail> {
-    let none = with_values(rt.alloc(), CONTENT_TYPE, &[])?;
-    assert!(rt; mime_type(rt.alloc(), &none)?.is_none());
-    let html = with_values(
-        rt.alloc(),
-        CONTENT_TYPE,
-        &[b"text/html; charset=utf-8", b"a/b"],
-    )?;
-    let mime = mime_type(rt.alloc(), &html)?.ok_or("a media type")?;
-    let copy = mime.copy()?;
-    for mime in [&mime, &copy] {
-        assert_eq!(rt; mime.type_(), "text");
-        assert_eq!(rt; mime.subtype(), "html");
-        assert_eq!(rt; mime.get_param("charset"), Some("utf-8"));
-        assert_eq!(rt; mime.as_str(), "text/html; charset=utf-8");
-    }
-    let malformed: [&[u8]; 4] = [b"", b"text", b"text/html;", b"text/\xfc"];
-    for value in malformed {
-        let request = with_values(rt.alloc(), CONTENT_TYPE, &[value])?;
-        assert!(rt;
-            matches!(
-                mime_type(rt.alloc(), &request),
-                Err(ContentTypeError::ParseError)
-            )
-        );
-    }
     Ok(())
 }
