@@ -1,3 +1,4 @@
+pub mod Adapter
 pub mod Causes
 pub mod Config
 pub mod ConfigFields

@@ -19,6 +19,7 @@
 //! only where its count of faults rose.
 #![tactic(auto)]
 
+mod adapter;
 mod config;
 mod failed;
 mod hold_size;
@@ -29,6 +30,7 @@ mod source;
 mod standard;
 mod sure;
 
+pub use adapter::{ReadSource, WriteSink};
 pub use config::{ServiceConfig, ServiceConfigBuilder, ZeroBuffer};
 pub use failed::Failed;
 pub use hold_size::{DEFAULT_HOLD_SIZE, HoldSize, MAX_HOLD_SIZE, MIN_HOLD_SIZE};

@@ -37,8 +37,8 @@ pub use error::{
 pub use http::{Method, StatusCode, Version};
 pub use http_config::{
     DEFAULT_HOLD_SIZE, Failed, HoldSize, KeepAlive, MAX_HOLD_SIZE, MIN_HOLD_SIZE, MemSink,
-    MemSource, ServiceConfig, ServiceConfigBuilder, Sink, Source, StdSink, StdSource, SureSink,
-    SureSource, ZeroBuffer,
+    MemSource, ReadSource, ServiceConfig, ServiceConfigBuilder, Sink, Source, StdSink, StdSource,
+    SureSink, SureSource, WriteSink, ZeroBuffer,
 };
 pub use http_map as header;
 pub use http_map::{AsHeaderName, HeaderMap, HeaderName, HeaderValue, NoMemory};
