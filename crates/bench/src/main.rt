@@ -2,11 +2,13 @@
 //!
 //! The words are what is measured, with which head, and how many requests, as in `bench get curl 1000`; or `map`, what
 //! is done with a header map, the number of its names or the head that they are of, and how many times, as in
-//! `bench map find 32 1000`; or `frames`, how many bytes a frame's payload has, and how many frames are echoed, as in
+//! `bench map find 32 1000`; or `body`, which exchange with bodies, how many at once, and how many, as in
+//! `bench body echo-length 16 1600`; or `frames`, how many bytes a frame's payload has, and how many frames are echoed, as in
 //! `bench frames 1024 1000`. It prints a checksum of all that came, so that none of the work can be left out. Without
 //! words it does a little of each.
 #![tactic(auto)]
 
+mod body;
 mod checksum;
 mod error;
 mod frames;
@@ -15,6 +17,7 @@ mod map;
 mod work;
 
 use anyhow::{Context, Result};
+use body::{EXCHANGES, Exchange};
 use error::BenchError;
 use frames::echo_frames;
 use head::{HEADS, NamedHead};
@@ -56,6 +59,12 @@ fn main(rt: HostRuntime) -> Result<()> {
             let times = times.parse::<u64>().context("reading how many times")?;
             measure_map(&rt, alloc, work, &lines, times)
         }
+        [word, exchange, depth, times] if word.as_str() == "body" => {
+            let exchange = Exchange::named(exchange.as_str()).ok_or(BenchError::Usage)?;
+            let depth = depth.parse::<u64>().context("reading how many at once")?;
+            let times = times.parse::<u64>().context("reading how many times")?;
+            measure_body(&rt, alloc, exchange, depth, times)
+        }
         _ => Err(BenchError::Usage.into()),
     }
 }
@@ -65,6 +74,9 @@ fn a_little_of_each(rt: &impl Print, alloc: Global) -> Result<()> {
         for head in &HEADS {
             measure(rt, alloc, *work, head, FEW)?;
         }
+    }
+    for exchange in &EXCHANGES {
+        measure_body(rt, alloc, *exchange, 1, FEW)?;
     }
     let lines = Lines::numbered(alloc, NAMES)?;
     for work in &MAP_WORKS {
@@ -108,6 +120,18 @@ fn measure_map(
 ) -> Result<()> {
     let checksum = work.run(alloc, lines, times)?;
     println!(rt; "map {} {checksum:016x}", work.name())?;
+    Ok(())
+}
+
+fn measure_body(
+    rt: &impl Print,
+    alloc: Global,
+    exchange: Exchange,
+    depth: u64,
+    times: u64,
+) -> Result<()> {
+    let checksum = exchange.run(alloc, depth, times)?;
+    println!(rt; "body {} {checksum:016x}", exchange.name())?;
     Ok(())
 }
 

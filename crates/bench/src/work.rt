@@ -15,7 +15,7 @@ const PIPELINED: u64 = 16;
 const WRITE_LIMIT: usize = 65_536;
 
 /// The moment of the answers: the start of 27 November 2026.
-const MOMENT: u64 = 1_795_737_600_000;
+pub const MOMENT: u64 = 1_795_737_600_000;
 
 /// Every work, in the table's order.
 pub static WORKS: [Work; 5] = [
@@ -197,10 +197,11 @@ fn bring(
     Ok(())
 }
 
-fn repeated(alloc: Global, head: &[u8], times: u64) -> Result<Bytes, NoMemory> {
+/// The text so many times over.
+pub fn repeated(alloc: Global, text: &[u8], times: u64) -> Result<Bytes, NoMemory> {
     let mut bytes = Vec::new(alloc);
     for _ in 0..times {
-        bytes.extend_from_slice(head)?;
+        bytes.extend_from_slice(text)?;
     }
     Ok(Bytes::from_vec(bytes)?)
 }

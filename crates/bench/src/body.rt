@@ -1,0 +1,258 @@
+//! Exchanges with bodies that are measured.
+use crate::checksum::Checksum;
+use crate::error::BenchError;
+use crate::work::{MOMENT, repeated};
+use bytes::Bytes;
+use h1_dispatch::{Connection, NextHead, Pulled};
+use http_bodies::BodySize;
+use http_map::HeaderValue;
+use http_map::names::{CACHE_CONTROL, CONTENT_TYPE, ETAG, SERVER, VARY};
+use http_types::{NoMemory, ResponseHead, ServiceConfigBuilder, StatusCode};
+use std::alloc::Global;
+
+/// How many bytes a long body has.
+const BODY: usize = 1000;
+
+/// How many bytes a piece of it has, where it comes or goes in pieces.
+const PIECE: usize = 250;
+
+/// What an answer of a few bytes says.
+const HI: &[u8] = b"hi";
+
+/// Every exchange, in the table's order.
+pub static EXCHANGES: [Exchange; 6] = [
+    Exchange::Length,
+    Exchange::Chunks,
+    Exchange::Hi,
+    Exchange::Stream,
+    Exchange::EchoLength,
+    Exchange::EchoChunks,
+];
+
+/// An exchange that is had over and over on one connection.
+#[derive(Clone, Copy, Debug, PartialEq, Eq)]
+pub enum Exchange {
+    /// A thousand bytes come under their length, are read, and answered with none.
+    Length,
+
+    /// The same in four chunks.
+    Chunks,
+
+    /// A request without a body is answered with two bytes, below five headers of its own.
+    Hi,
+
+    /// A request without a body is answered with a thousand bytes in four chunks.
+    Stream,
+
+    /// A thousand bytes come under their length, and go back so.
+    EchoLength,
+
+    /// The same in four chunks.
+    EchoChunks,
+}
+
+impl Exchange {
+    /// The exchange that a word stands for.
+    pub fn named(word: &str) -> Option<Exchange> {
+        EXCHANGES.iter().copied().find(|it| it.name() == word)
+    }
+
+    /// The word for it.
+    pub fn name(self) -> &'static str {
+        match self {
+            Exchange::Length => "length",
+            Exchange::Chunks => "chunks",
+            Exchange::Hi => "hi",
+            Exchange::Stream => "stream",
+            Exchange::EchoLength => "echo-length",
+            Exchange::EchoChunks => "echo-chunks",
+        }
+    }
+
+    /// Has it so many times, `depth` of them at once, and gives a checksum of what came.
+    pub fn run(self, alloc: Global, depth: u64, times: u64) -> Result<u64, BenchError> {
+        let read = repeated(alloc, &self.request(alloc)?, depth)?;
+        let answer = self.answer(alloc)?;
+        let mut connection = Connection::new(alloc, ServiceConfigBuilder::new().build());
+        let mut checksum = Checksum::new();
+        if !connection.can_tick(MOMENT) {
+            return Err(BenchError::Misplaced);
+        }
+        connection.tick(MOMENT)?;
+        for _ in 0..times / depth.max(1) {
+            self.serve(&mut connection, &read, &answer, depth, &mut checksum)?;
+        }
+        Ok(checksum.sum())
+    }
+
+    /// A read, with its answers, which are written.
+    fn serve(
+        self,
+        connection: &mut Connection,
+        read: &[u8],
+        answer: &ResponseHead,
+        depth: u64,
+        checksum: &mut Checksum,
+    ) -> Result<(), BenchError> {
+        if !connection.can_read() {
+            return Err(BenchError::Misplaced);
+        }
+        checksum.add(connection.read(read)?);
+        for _ in 0..depth {
+            self.exchange(connection, answer, checksum)?;
+        }
+        if !connection.can_write() {
+            return Err(BenchError::Misplaced);
+        }
+        let written = connection.front().len();
+        checksum.add_bytes(connection.front());
+        connection.advance(written);
+        Ok(())
+    }
+
+    /// The next head, its body and its answer.
+    fn exchange(
+        self,
+        connection: &mut Connection,
+        answer: &ResponseHead,
+        checksum: &mut Checksum,
+    ) -> Result<(), BenchError> {
+        if !connection.can_next() {
+            return Err(BenchError::Misplaced);
+        }
+        match connection.next()? {
+            NextHead::Head(item) => checksum.add_head(&item),
+            _ => return Err(BenchError::NoHead),
+        }
+        match self {
+            Exchange::Length | Exchange::Chunks => {
+                pull_all(connection, checksum)?;
+                begin(connection, answer, BodySize::ZERO)
+            }
+            Exchange::Hi => {
+                begin(connection, answer, BodySize::Sized(HI.len() as u64))?;
+                send(connection, HI)?;
+                end(connection)
+            }
+            Exchange::Stream => {
+                begin(connection, answer, BodySize::Stream)?;
+                for _ in 0..BODY / PIECE {
+                    send(connection, &[b'x'; PIECE])?;
+                }
+                end(connection)
+            }
+            Exchange::EchoLength => {
+                begin(connection, answer, BodySize::Sized(BODY as u64))?;
+                echo(connection)
+            }
+            Exchange::EchoChunks => {
+                begin(connection, answer, BodySize::Stream)?;
+                echo(connection)
+            }
+        }
+    }
+
+    /// The request's text.
+    fn request(self, alloc: Global) -> Result<Bytes, NoMemory> {
+        let mut text = Vec::new(alloc);
+        match self {
+            Exchange::Hi | Exchange::Stream => {
+                text.extend_from_slice(b"GET / HTTP/1.1\r\nhost: a\r\n\r\n")?;
+            }
+            Exchange::Length | Exchange::EchoLength => {
+                text.extend_from_slice(
+                    b"POST / HTTP/1.1\r\nhost: a\r\ncontent-length: 1000\r\n\r\n",
+                )?;
+                text.extend_from_slice(&[b'x'; BODY])?;
+            }
+            Exchange::Chunks | Exchange::EchoChunks => {
+                text.extend_from_slice(
+                    b"POST / HTTP/1.1\r\nhost: a\r\ntransfer-encoding: chunked\r\n\r\n",
+                )?;
+                for _ in 0..BODY / PIECE {
+                    text.extend_from_slice(b"fa\r\n")?;
+                    text.extend_from_slice(&[b'x'; PIECE])?;
+                    text.extend_from_slice(b"\r\n")?;
+                }
+                text.extend_from_slice(b"0\r\n\r\n")?;
+            }
+        }
+        Ok(Bytes::from_vec(text)?)
+    }
+
+    /// The answer's head.
+    fn answer(self, alloc: Global) -> Result<ResponseHead, NoMemory> {
+        let mut head = ResponseHead::new(alloc, StatusCode::OK);
+        if self == Exchange::Hi {
+            let lines = [
+                (CONTENT_TYPE, "text/plain; charset=utf-8"),
+                (SERVER, "raspcream"),
+                (CACHE_CONTROL, "no-cache"),
+                (ETAG, "\"5c8d-64a1f0b2\""),
+                (VARY, "accept-encoding"),
+            ];
+            for (name, value) in lines {
+                head.headers.append(name, HeaderValue::from_static(value))?;
+            }
+        }
+        Ok(head)
+    }
+}
+
+/// Takes all of the open request's body.
+fn pull_all(connection: &mut Connection, checksum: &mut Checksum) -> Result<(), BenchError> {
+    for _ in 0..u64::MAX {
+        if !connection.can_pull() {
+            break;
+        }
+        match connection.pull()? {
+            Pulled::Bytes(bytes) => checksum.add_bytes(&bytes),
+            Pulled::Trailers(_) | Pulled::End => {}
+            Pulled::Pending | Pulled::Broken(_) => return Err(BenchError::NoBody),
+        }
+    }
+    Ok(())
+}
+
+/// Sends each piece of the open request's body back as it comes.
+fn echo(connection: &mut Connection) -> Result<(), BenchError> {
+    for _ in 0..u64::MAX {
+        if !connection.can_pull() {
+            break;
+        }
+        match connection.pull()? {
+            Pulled::Bytes(bytes) => send(connection, &bytes)?,
+            Pulled::Trailers(_) | Pulled::End => {}
+            Pulled::Pending | Pulled::Broken(_) => return Err(BenchError::NoBody),
+        }
+    }
+    end(connection)
+}
+
+fn begin(
+    connection: &mut Connection,
+    head: &ResponseHead,
+    size: BodySize,
+) -> Result<(), BenchError> {
+    if !connection.can_answer() {
+        return Err(BenchError::Misplaced);
+    }
+    connection.answer(head, size)?;
+    Ok(())
+}
+
+fn send(connection: &mut Connection, bytes: &[u8]) -> Result<(), BenchError> {
+    if !connection.can_chunk() {
+        return Err(BenchError::Misplaced);
+    }
+    connection.chunk(bytes)?;
+    Ok(())
+}
+
+fn end(connection: &mut Connection) -> Result<(), BenchError> {
+    if !connection.can_end_body() {
+        return Err(BenchError::Misplaced);
+    }
+    connection.end_body()?;
+    Ok(())
+}
