@@ -7,9 +7,8 @@ use Rattle.http_types.specs.declared.message.ConnectionType.TheVariants.{Close, 
 use Rattle.http_types.specs.declared.message.Flags.{Flags}
 use Rattle.http_types.specs.Flags.{no_flags, with_type}
 use Rattle.http_types.specs.RequestHead.{request_flags}
+use Rattle.http_bodies.specs.Kinds.{kind_of}
 use Rattle.http_uri.specs.Uri.{Spells}
-use Rattle.h1_decode.specs.declared.decoder.BodyKind.{BodyKind}
-use Rattle.h1_decode.specs.declared.decoder.BodyKind.TheVariants.{None as NoBody, Length, Chunked, Raw}
 use Rattle.h1_decode.specs.declared.decoder.HeadItem.{HeadItem}
 use Rattle.h1_decode.specs.HeadMap.{header_map}
 use Rattle.h1_model.specs.LengthTable.{asked_type}
@@ -19,13 +18,6 @@ use Rattle.h1_model.specs.Request as model
 abbrev pub version_of : ℕ → Version
 version_of zero = HTTP_10
 version_of (suc _) = HTTP_11
-
--- a body's kind
-abbrev pub kind_of : BodyKind → model.BodyKind
-kind_of NoBody = model.no_body
-kind_of (Length n) = model.fixed_body n
-kind_of Chunked = model.chunked_body
-kind_of Raw = model.raw_body
 
 -- a connection type
 abbrev pub type_of : model.ConnectionType → ConnectionType

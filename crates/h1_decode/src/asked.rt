@@ -5,7 +5,8 @@ ghost use Rattle.h1_model.specs.Answer.{asked_of};
 ghost use Rattle.h1_model.specs.Request.{Head, head_is, has_body};
 ghost use Rattle.h1_model.specs.RequestHead.{IsReading};
 
-use crate::decoder::{BodyKind, HeadItem};
+use crate::decoder::HeadItem;
+use http_bodies::BodyKind;
 use http_types::{ConnectionType, Version};
 
 impl HeadItem {

@@ -1,12 +1,13 @@
 //! What the head of a request says (RFC 7230, section 3).
 ghost use Rattle.std.specs.Prelude.{◌≡◌, ◌↔◌, ◌<◌, ◌≤◌, [], IsTrue, length, map, nat_lt, if◌then◌else◌, OnOk, OnErr, IfOk, IfErr, All};
 ghost use Rattle.http_header.specs.Token.{IsToken};
+ghost use Rattle.http_bodies.specs.Kinds.{kind_of};
 ghost use Rattle.http_uri.specs.Uri.{Spells, SpellsNone};
 ghost use Rattle.httparse.specs.Spans.{IsHeaderWithin, IsRequestWithin, IsWithin, header_bytes};
 ghost use Rattle.h1_model.specs.HeadPiece.{header_lines};
 ghost use Rattle.h1_model.specs.Request.{Head, head_is, faulty};
 ghost use Rattle.h1_model.specs.RequestHead.{IsReading};
-ghost use Rattle.h1_decode.specs.HeadItem.{SaysHead, kind_of, version_of, without_headers};
+ghost use Rattle.h1_decode.specs.HeadItem.{SaysHead, version_of, without_headers};
 ghost use Rattle.h1_decode.specs.Lines.{HasValue};
 ghost use Rattle.h1_decode.specs.ReadParts.{parts_at, head_of, AreParts, RefusesParts};
 ghost use Rattle.h1_decode.specs.Refusal.{UnlessNoMemory, fault_of, Refuses};
@@ -16,6 +17,7 @@ use crate::lines::{read_lines, share};
 use crate::scan::line_end_len;
 use bytes::Bytes;
 use http::method::MethodError;
+use http_bodies::BodyKind;
 use http_types::{HeaderMap, Method, NoMemory, ParseError, RequestHead, Uri, Version};
 use http_uri::UriError;
 use httparse::spans::{EMPTY_HEADER_SPAN, HeaderSpan, RequestSpans, parse_request};
@@ -26,22 +28,6 @@ use std::mem;
 
 /// The most header lines that a head may have.
 const MAX_HEADERS: usize = 96;
-
-/// Where the body of a message ends (RFC 7230, section 3.3.3).
-#[derive(Clone, Copy, Debug, PartialEq, Eq)]
-pub enum BodyKind {
-    /// There is no body.
-    None,
-
-    /// The body has this many bytes.
-    Length(u64),
-
-    /// The body comes in chunks (RFC 7230, section 4.1).
-    Chunked,
-
-    /// The body is all that follows.
-    Raw,
-}
 
 /// A head that was read, with its body's kind.
 #[derive(Debug, Drop)]

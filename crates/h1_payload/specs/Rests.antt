@@ -1,27 +1,17 @@
 -- What is left of a body, and what a pull answers.
 use Rattle.std.specs.Prelude.{◌≡◌, ℕ, List, [], ⊤}
-use Rattle.h1_model.specs.Request.{Header, no_body, fixed_body, chunked_body, raw_body}
-use Rattle.h1_model.specs.Request as model
+use Rattle.h1_model.specs.Request.{Header}
 use Rattle.h1_model.specs.Event.{Outcome, corrupted, incomplete}
 use Rattle.h1_model.specs.Event as on
 use Rattle.h1_machine.specs.Kept as machine
 use Rattle.h1_machine.specs.Pull as pulls
 use Rattle.h1_payload.specs.HeaderMaps.{header_map}
-use Rattle.h1_payload.specs.declared.kind.BodyKind.{BodyKind}
-use Rattle.h1_payload.specs.declared.kind.BodyKind.TheVariants as kind
 use Rattle.h1_payload.specs.declared.pulled.BodyFault.{BodyFault}
 use Rattle.h1_payload.specs.declared.pulled.BodyFault.TheVariants.{Corrupted, Incomplete}
 use Rattle.h1_payload.specs.declared.pulled.Pulled.{Pulled}
 use Rattle.h1_payload.specs.declared.pulled.Pulled.TheVariants as pulled
 use Rattle.h1_payload.specs.declared.rest.Left.{Left}
 use Rattle.h1_payload.specs.declared.rest.Left.TheVariants as left
-
--- a body's kind
-abbrev pub kind_of : BodyKind → model.BodyKind
-kind_of kind.None = no_body
-kind_of (kind.Length n) = fixed_body n
-kind_of kind.Chunked = chunked_body
-kind_of kind.Raw = raw_body
 
 -- what is left of a body
 abbrev pub rest_of : Left → machine.Rest

@@ -33,7 +33,6 @@ mod chunked_state;
 mod chunks;
 mod decoder;
 mod item;
-mod kind;
 pub mod laws;
 mod pass;
 mod place;
@@ -45,7 +44,7 @@ mod trailers;
 
 pub use chunked_state::ChunkedState;
 pub use decoder::PayloadDecoder;
+pub use http_bodies::BodyKind;
 pub use item::{DecodeError, PayloadItem};
-pub use kind::BodyKind;
 pub use pulled::{BodyFault, Pulled};
 pub use rest::{Rest, RestKind};

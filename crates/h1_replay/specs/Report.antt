@@ -8,8 +8,8 @@ use Rattle.http_types.specs.ConnectionType.{IsTypeOf}
 use Rattle.http_types.specs.RequestHead.{request_flags}
 use Rattle.http_types.specs.declared.message.ConnectionType.{ConnectionType}
 use Rattle.http_types.specs.declared.message.ConnectionType.TheVariants.{Close, KeepAlive, Upgrade}
-use Rattle.h1_decode.specs.declared.decoder.BodyKind.{BodyKind}
-use Rattle.h1_decode.specs.declared.decoder.BodyKind.TheVariants as body
+use Rattle.http_bodies.specs.declared.body.kind.BodyKind.{BodyKind}
+use Rattle.http_bodies.specs.declared.body.kind.BodyKind.TheVariants as body
 use Rattle.h1_decode.specs.declared.decoder.HeadItem.{HeadItem}
 use Rattle.h1_dispatch.specs.declared.event.End.{End}
 use Rattle.h1_dispatch.specs.declared.event.End.TheVariants as ends

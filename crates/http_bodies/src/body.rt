@@ -1,4 +1,6 @@
 //! Bodies.
+mod kind;
 mod size;
 
+pub use kind::BodyKind;
 pub use size::BodySize;

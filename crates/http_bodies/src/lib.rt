@@ -15,5 +15,5 @@
 mod body;
 mod framing;
 
-pub use body::BodySize;
+pub use body::{BodyKind, BodySize};
 pub use framing::{Decoder, Encoder, pieces_make_a_whole};

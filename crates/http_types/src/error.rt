@@ -151,9 +151,6 @@ pub enum ParseError {
     /// The chunks of the body are malformed (RFC 7230, section 4.1).
     #[error("the chunks of the body are malformed")]
     Chunk,
-    /// The message is of a kind that is not read yet.
-    #[error("messages of this kind are not read yet")]
-    NotYet,
     /// There was no memory for the message.
     #[error("no memory is left")]
     NoMemory,

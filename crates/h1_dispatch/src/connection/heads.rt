@@ -1,6 +1,7 @@
 // What the next head does to the parts.
 ghost use Rattle.std.specs.Prelude.{◌≡◌, ◌≢◌, ◌==◌, ℕ, List, false, None, Some, length, IfOk, IsOk, OnOk, OnErr};
-ghost use Rattle.h1_decode.specs.HeadItem.{SaysHead, kind_of};
+ghost use Rattle.http_bodies.specs.Kinds.{kind_of};
+ghost use Rattle.h1_decode.specs.HeadItem.{SaysHead};
 ghost use Rattle.h1_decode.specs.declared.scan.HeadScan.TheVariants.{Piece};
 ghost use Rattle.h1_model.specs.Request.{Head, head_is};
 ghost use Rattle.h1_model.specs.RequestHead.{IsReading};
@@ -10,7 +11,6 @@ ghost use Rattle.h1_machine.specs.Local.{closing_by};
 ghost use Rattle.h1_machine.specs.Change.{noting_since};
 ghost use Rattle.h1_model.specs.Closing.{fault_end};
 ghost use Rattle.h1_decode.specs.Refusal as decode;
-ghost use Rattle.h1_payload.specs.Rests as payload;
 ghost use Rattle.h1_dispatch.specs.Incoming.{IsWhole, IsHeadOf};
 ghost use Rattle.h1_dispatch.specs.Meaning.{setting_of, end_of, fault_of};
 ghost use Rattle.h1_dispatch.specs.Parts.{kept_of, IsSettled, IsSound};
@@ -22,7 +22,7 @@ use crate::connection::request::Request;
 use crate::{End, HeadFault};
 use bytes::Bytes;
 use h1_codec::Asked;
-use h1_decode::{BodyKind, HeadItem, request_head};
+use h1_decode::{HeadItem, request_head};
 use h1_payload::Rest;
 use http_types::{NoMemory, ParseError, ServiceConfig};
 use std::alloc::{AllocError, Global};
@@ -144,7 +144,7 @@ impl Parts {
     fn whole_rest(&self, item: &HeadItem) -> Rest
         ensures { result ≡ rest_in self.now.has_ended self.now.input.unread (whole_rest (kind_of item.now.body)) }
     {
-        let mut rest = Rest::whole(payload_kind(item.body));
+        let mut rest = Rest::whole(item.body);
         if self.has_ended {
             self.input.end(&mut rest);
         }
@@ -165,18 +165,6 @@ fn request_of(item: &HeadItem) -> Request
         ),
         has_body: item.has_body(),
         expects: item.expects_leave(),
-    }
-}
-
-// The kind of a body, by the name that its reader has for it.
-fn payload_kind(kind: BodyKind) -> h1_payload::BodyKind
-    ensures { payload.kind_of result ≡ kind_of kind }
-{
-    match kind {
-        BodyKind::None => h1_payload::BodyKind::None,
-        BodyKind::Length(length) => h1_payload::BodyKind::Length(length),
-        BodyKind::Chunked => h1_payload::BodyKind::Chunked,
-        BodyKind::Raw => h1_payload::BodyKind::Raw,
     }
 }
 
