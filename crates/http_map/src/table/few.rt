@@ -1,5 +1,5 @@
 //! Few names, in a list.
-ghost use Rattle.std.specs.Prelude.{◌≡◌, ◌<◌, [], ◌∷◌, length, true, false, bytes_eq, IsOk, IfOk, OnOk, OnErr, IfSome, IfNone, IsTrue, if◌then◌else◌};
+ghost use Rattle.std.specs.Prelude.{◌≡◌, ◌<◌, ℕ, List, [], ◌∷◌, length, true, false, bytes_eq, IsOk, IfOk, OnOk, OnErr, IfSome, IfNone, IsTrue, if◌then◌else◌};
 ghost use Rattle.std.specs.List.{IsDistinct};
 ghost use Rattle.http_header.specs.Token.{lowercase};
 ghost use Rattle.http_map.specs.HeaderMap.{keys, contains_key, get_all, insert, append, remove};
@@ -26,6 +26,7 @@ pub(super) fn find(lines: &[Line], bytes: &[u8]) -> Option<usize>
 }
 
 // The same, where the mark is made already.
+#[inline(always)]
 fn find_marked(lines: &[Line], mark: u32, bytes: &[u8]) -> Option<usize>
     requires { mark ≡ name_mark (lowercase bytes.now) }
     ensures found { IfSome result (StandsFirstAt lines.now (lowercase bytes.now)) }
@@ -43,6 +44,7 @@ fn find_marked(lines: &[Line], mark: u32, bytes: &[u8]) -> Option<usize>
 }
 
 // Adds the value after those of the name.
+#[inline(always)]
 pub(super) fn append_value(
     lines: &mut Vec<Line>,
     key: HeaderName,
@@ -51,15 +53,27 @@ pub(super) fn append_value(
     ensures ok { OnOk result (lines.new.items ≡ append lines.old.items key value) }
     ensures err { OnErr result (lines.new.items ≡ lines.old.items) }
 {
-    let alloc = *lines.allocator();
-    let mark = mark_of_name(&key);
-    match find_marked(lines.as_slice(), mark, key.as_bytes()) {
-        Some(i) => lines[i].push(alloc, value),
+    let bytes = key.as_bytes();
+    let mark = mark_of_name(bytes);
+    match find_marked(lines.as_slice(), mark, bytes) {
+        Some(i) => add_value(lines, i, value),
         None => {
             lines.push(Line::marked(mark, key, Values::one(value)))?;
             Ok(())
         }
     }
+}
+
+// Adds a value after those of the name at the index. It is out of the way of names that come once.
+#[inline(never)]
+fn add_value(lines: &mut Vec<Line>, index: usize, value: HeaderValue) -> Result<(), NoMemory>
+    requires { index < length lines.old.items }
+    ensures ok { OnOk result ((name : List ℕ) → StandsFirstAt lines.old.items name index
+        → lines.new.items ≡ append lines.old.items name value) }
+    ensures err { OnErr result (lines.new.items ≡ lines.old.items) }
+{
+    let alloc = *lines.allocator();
+    lines[index].push(alloc, value)
 }
 
 // Puts the value in place of those of the name, and gives them.

@@ -60,6 +60,7 @@ pub(crate) fn mark_of(bytes: &[u8]) -> u32
 }
 
 // The byte at the index, and 0 past the end.
+#[inline(always)]
 fn byte_at(bytes: &[u8], i: usize) -> u32
     ensures value { result ≡ get_or bytes.now i 0 }
     ensures small { result < 256 }
@@ -71,11 +72,11 @@ fn byte_at(bytes: &[u8], i: usize) -> u32
     }
 }
 
-/// The mark of a name, which is in lower case already.
-pub(crate) fn mark_of_name(name: &HeaderName) -> u32
-    ensures { result ≡ name_mark name.now }
+/// The mark of the name that has these bytes, which are in lower case already.
+#[inline(always)]
+pub(crate) fn mark_of_name(bytes: &[u8]) -> u32
+    ensures { result ≡ name_mark bytes.now }
 {
-    let bytes = name.as_bytes();
     let len = bytes.len();
     let first = byte_at(bytes, 0);
     let last_but_one = byte_at(bytes, len.saturating_sub(2));
@@ -89,7 +90,7 @@ impl Line {
     pub(crate) fn new(name: HeaderName, values: Values) -> Line
         ensures { result ≡ (name, values) }
     {
-        let mark = mark_of_name(&name);
+        let mark = mark_of_name(name.as_bytes());
         Line { mark, name, values }
     }
 
