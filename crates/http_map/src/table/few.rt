@@ -43,6 +43,33 @@ fn find_marked(lines: &[Line], mark: u32, bytes: &[u8]) -> Option<usize>
     None
 }
 
+// The same again, for a name that most likely isn't there: it looks at marks alone until one is the same.
+#[inline(always)]
+fn find_by_marks(lines: &[Line], mark: u32, bytes: &[u8]) -> Option<usize>
+    requires { mark ≡ name_mark (lowercase bytes.now) }
+    ensures found { IfSome result (StandsFirstAt lines.now (lowercase bytes.now)) }
+    ensures within { IfSome result (λ i. i < length lines.now) }
+    ensures lacks { IfNone result (Lacks lines.now (lowercase bytes.now)) }
+{
+    for line in lines {
+        if line.has_mark(mark) {
+            return find_apart(lines, mark, bytes);
+        }
+    }
+    None
+}
+
+// What `find_marked` does, out of the way.
+#[inline(never)]
+fn find_apart(lines: &[Line], mark: u32, bytes: &[u8]) -> Option<usize>
+    requires { mark ≡ name_mark (lowercase bytes.now) }
+    ensures found { IfSome result (StandsFirstAt lines.now (lowercase bytes.now)) }
+    ensures within { IfSome result (λ i. i < length lines.now) }
+    ensures lacks { IfNone result (Lacks lines.now (lowercase bytes.now)) }
+{
+    find_marked(lines, mark, bytes)
+}
+
 // Adds the value after those of the name.
 #[inline(always)]
 pub(super) fn append_value(
@@ -55,7 +82,7 @@ pub(super) fn append_value(
 {
     let bytes = key.as_bytes();
     let mark = mark_of_name(bytes);
-    match find_marked(lines.as_slice(), mark, bytes) {
+    match find_by_marks(lines.as_slice(), mark, bytes) {
         Some(i) => add_value(lines, i, value),
         None => {
             lines.push(Line::marked(mark, key, Values::one(value)))?;
