@@ -6,6 +6,7 @@ ghost use Rattle.http_map.specs.HeaderMap.{keys, contains_key, get_all, insert, 
 ghost use Rattle.http_map.specs.Lines.{StandsFirstAt, Lacks, name_mark};
 ghost use Rattle.http_map.specs.Retain.{MayAnswer, KeepsValues, Retains};
 
+use super::MOST_FEW;
 use super::line::{Line, mark_of, mark_of_name};
 use super::many::Hashed;
 use crate::NoMemory;
@@ -156,13 +157,14 @@ pub(super) fn retain_names<F: Fn(&HeaderName, &HeaderValue) -> bool>(
     );
 }
 
-// The same names in an `IndexMap`. It is out of the way of the maps that never come to it.
+// The same names in an `IndexMap`, with room for as many again. It is out of the way of the maps that
+// never come to it.
 #[inline(never)]
 pub(super) fn hashed(alloc: Global, lines: &[Line]) -> Result<Hashed, NoMemory>
     requires { IsDistinct bytes_eq (keys lines.now) }
     ensures { IfOk result (λ names. names.entries ≡ lines.now) }
 {
-    let mut names = IndexMap::with_capacity(alloc, lines.len() + 1)?;
+    let mut names = IndexMap::with_capacity(alloc, 2 * MOST_FEW)?;
     for line in lines {
         names.insert(line.name().clone()?, line.values().clone()?)?;
     }
