@@ -1,9 +1,9 @@
 -- A write to the first value of a name.
-use Rattle.std.proofs.Common.{◌≡◌, ℕ, zero, suc, ◌+◌, ◌<◌, true, false, List, [], ◌∷◌, length, All, drop, get_or, bytes_eq, slice_get, Some, refl, sym, ap, ◌∙◌, arith, length-drop}
+use Rattle.std.proofs.Common.{◌≡◌, ℕ, zero, suc, ◌+◌, ◌<◌, List, [], ◌∷◌, length, All, drop, slice_get, Some, refl, sym, ap, ◌∙◌, arith, length-drop}
 use Rattle.std.specs.Map.{values_of}
 use Rattle.indexmap.specs.Layout.{set_value_at}
 use Rattle.http_header.specs.FieldValue.{FieldValue}
-use Rattle.http_map.specs.HeaderMap.{Entry, Entries, IsEntry, keys, value_count, get_all, set_first}
+use Rattle.http_map.specs.HeaderMap.{Entries, IsEntry, value_count, get_all, set_first}
 use Rattle.http_map.specs.Counted.{IsCounted}
 use Rattle.http_map.specs.Lines.{StandsFirstAt}
 use Rattle.http_map.specs.Lends.{set_first_at, values_at}

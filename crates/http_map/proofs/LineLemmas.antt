@@ -1,5 +1,5 @@
 -- Where a name stands among a map's names, and what a look-up and an edit give there.
-use Rattle.std.proofs.Common.{◌≡◌, ◌≢◌, ℕ, zero, suc, ◌+◌, ◌<◌, ◌≤◌, Bor, option_copied, Bool, true, false, cond, if◌then◌else◌, List, [], ◌∷◌, ◌++◌, ◌||◌, take, drop, length, bytes_eq, get_or, Option, Some, None, is_some, refl, sym, ap, ◌∙◌, subst, arith, add-one}
+use Rattle.std.proofs.Common.{◌≡◌, ℕ, zero, suc, ◌<◌, ◌≤◌, Bor, option_copied, true, false, cond, if◌then◌else◌, List, [], ◌∷◌, ◌++◌, ◌||◌, take, drop, length, bytes_eq, get_or, Option, Some, None, is_some, refl, sym, ap, ◌∙◌, subst, arith}
 use Rattle.std.specs.Map.{lookup, values_of}
 use Rattle.std.specs.Prelude.{slice_set, slice_get, position, IfSome, IfNone}
 use Rattle.std.proofs.lemmas.List.Quantifiers.{position-Some}

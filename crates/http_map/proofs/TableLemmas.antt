@@ -8,7 +8,7 @@ use Rattle.indexmap.specs.Layout.{set_value_at}
 use Rattle.http_header.specs.FieldValue.{FieldValue}
 use Rattle.http_map.specs.declared.table.Table.{Table}
 use Rattle.http_map.specs.declared.table.Table.TheVariants.{Few, Many}
-use Rattle.http_map.specs.HeaderMap.{Entry, Entries, keys}
+use Rattle.http_map.specs.HeaderMap.{Entry, keys}
 use Rattle.http_map.specs.Names.{listed, IsTable}
 use Rattle.http_map.specs.NamesLends.{with_values_at}
 use Rattle.http_map.proofs.LineLemmas.{set_value_at-entry, set_value_at-past}

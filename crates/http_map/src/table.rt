@@ -214,7 +214,23 @@ impl Names {
     }
 
     /// Adds the value after those of the name.
+    #[inline(always)]
     pub(crate) fn append(&mut self, key: HeaderName, value: HeaderValue) -> Result<(), NoMemory>
+        ensures ok { OnOk result (self.new ≡ append self.old key value) }
+        ensures err { OnErr result (self.new ≡ self.old) }
+    {
+        match &mut self.table {
+            Table::Few(lines) if lines.len() < MOST_FEW => {
+                return few::append_value(lines, key, value);
+            }
+            _ => {}
+        }
+        self.append_to_many(key, value)
+    }
+
+    // The same where a list has no room for one more. It is out of the way of few names.
+    #[inline(never)]
+    fn append_to_many(&mut self, key: HeaderName, value: HeaderValue) -> Result<(), NoMemory>
         ensures ok { OnOk result (self.new ≡ append self.old key value) }
         ensures err { OnErr result (self.new ≡ self.old) }
     {

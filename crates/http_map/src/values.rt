@@ -30,11 +30,24 @@ impl Model for Values {
     ghost view = { λ values. listed values.kept };
 }
 
-#[derive(Drop)]
 enum Kept {
     One(HeaderValue),
     More(Vec<HeaderValue>),
 }
+
+impl Drop for Kept {
+    #[inline(always)]
+    fn drop(self) {
+        match self {
+            Kept::One(_value) => {}
+            Kept::More(values) => drop_values(values),
+        }
+    }
+}
+
+// Drops several values, out of the way of names with one.
+#[inline(never)]
+fn drop_values(_values: Vec<HeaderValue>) {}
 
 impl Kept {
     ghost use Rattle.http_map.specs.Kept.{listed, kept_lends_first};
@@ -47,6 +60,15 @@ impl Kept {
         match self {
             Kept::One(value) => value,
             Kept::More(values) => &mut values[0],
+        }
+    }
+
+    fn into_removed(self) -> Removed
+        ensures { result ≡ listed self }
+    {
+        match self {
+            Kept::One(value) => Removed::one(value),
+            Kept::More(values) => Removed::more(values),
         }
     }
 }
@@ -155,9 +177,6 @@ impl IntoIterator for Values {
     ghost into_iter_gives = { λ values it. it ≡ values };
 
     fn into_iter(self) -> Removed {
-        match self.kept {
-            Kept::One(value) => Removed::one(value),
-            Kept::More(values) => Removed::more(values),
-        }
+        self.kept.into_removed()
     }
 }

@@ -61,6 +61,7 @@ impl HeaderMap {
 
     /// Adds a last value to those of the name, or the name at the end. It grows first, so want of
     /// memory leaves the map as it was.
+    #[inline(always)]
     pub fn append(&mut self, key: HeaderName, value: HeaderValue) -> Result<(), NoMemory>
         ensures ok { OnOk result (self.new ≡ append self.old key value) }
         ensures values { OnOk result (get_all self.new key ≡ get_all self.old key ++ value ∷ []) }

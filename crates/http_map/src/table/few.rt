@@ -1,11 +1,12 @@
 //! Few names, in a list.
-ghost use Rattle.std.specs.Prelude.{◌≡◌, ◌<◌, [], ◌∷◌, length, true, false, bytes_eq, IsOk, IfOk, OnOk, OnErr, IfSome, IfNone, IsTrue, if◌then◌else◌};
+ghost use Rattle.std.specs.Prelude.{◌≡◌, ◌<◌, ℕ, List, [], ◌∷◌, length, true, false, bytes_eq, IsOk, IfOk, OnOk, OnErr, IfSome, IfNone, IsTrue, if◌then◌else◌};
 ghost use Rattle.std.specs.List.{IsDistinct};
 ghost use Rattle.http_header.specs.Token.{lowercase};
 ghost use Rattle.http_map.specs.HeaderMap.{keys, contains_key, get_all, insert, append, remove};
 ghost use Rattle.http_map.specs.Lines.{StandsFirstAt, Lacks, name_mark};
 ghost use Rattle.http_map.specs.Retain.{MayAnswer, KeepsValues, Retains};
 
+use super::MOST_FEW;
 use super::line::{Line, mark_of, mark_of_name};
 use super::many::Hashed;
 use crate::NoMemory;
@@ -26,6 +27,7 @@ pub(super) fn find(lines: &[Line], bytes: &[u8]) -> Option<usize>
 }
 
 // The same, where the mark is made already.
+#[inline(always)]
 fn find_marked(lines: &[Line], mark: u32, bytes: &[u8]) -> Option<usize>
     requires { mark ≡ name_mark (lowercase bytes.now) }
     ensures found { IfSome result (StandsFirstAt lines.now (lowercase bytes.now)) }
@@ -42,7 +44,35 @@ fn find_marked(lines: &[Line], mark: u32, bytes: &[u8]) -> Option<usize>
     None
 }
 
+// The same again, for a name that most likely isn't there: it looks at marks alone until one is the same.
+#[inline(always)]
+fn find_by_marks(lines: &[Line], mark: u32, bytes: &[u8]) -> Option<usize>
+    requires { mark ≡ name_mark (lowercase bytes.now) }
+    ensures found { IfSome result (StandsFirstAt lines.now (lowercase bytes.now)) }
+    ensures within { IfSome result (λ i. i < length lines.now) }
+    ensures lacks { IfNone result (Lacks lines.now (lowercase bytes.now)) }
+{
+    for line in lines {
+        if line.has_mark(mark) {
+            return find_apart(lines, mark, bytes);
+        }
+    }
+    None
+}
+
+// What `find_marked` does, out of the way.
+#[inline(never)]
+fn find_apart(lines: &[Line], mark: u32, bytes: &[u8]) -> Option<usize>
+    requires { mark ≡ name_mark (lowercase bytes.now) }
+    ensures found { IfSome result (StandsFirstAt lines.now (lowercase bytes.now)) }
+    ensures within { IfSome result (λ i. i < length lines.now) }
+    ensures lacks { IfNone result (Lacks lines.now (lowercase bytes.now)) }
+{
+    find_marked(lines, mark, bytes)
+}
+
 // Adds the value after those of the name.
+#[inline(always)]
 pub(super) fn append_value(
     lines: &mut Vec<Line>,
     key: HeaderName,
@@ -51,15 +81,27 @@ pub(super) fn append_value(
     ensures ok { OnOk result (lines.new.items ≡ append lines.old.items key value) }
     ensures err { OnErr result (lines.new.items ≡ lines.old.items) }
 {
-    let alloc = *lines.allocator();
-    let mark = mark_of_name(&key);
-    match find_marked(lines.as_slice(), mark, key.as_bytes()) {
-        Some(i) => lines[i].push(alloc, value),
+    let bytes = key.as_bytes();
+    let mark = mark_of_name(bytes);
+    match find_by_marks(lines.as_slice(), mark, bytes) {
+        Some(i) => add_value(lines, i, value),
         None => {
             lines.push(Line::marked(mark, key, Values::one(value)))?;
             Ok(())
         }
     }
+}
+
+// Adds a value after those of the name at the index. It is out of the way of names that come once.
+#[inline(never)]
+fn add_value(lines: &mut Vec<Line>, index: usize, value: HeaderValue) -> Result<(), NoMemory>
+    requires { index < length lines.old.items }
+    ensures ok { OnOk result ((name : List ℕ) → StandsFirstAt lines.old.items name index
+        → lines.new.items ≡ append lines.old.items name value) }
+    ensures err { OnErr result (lines.new.items ≡ lines.old.items) }
+{
+    let alloc = *lines.allocator();
+    lines[index].push(alloc, value)
 }
 
 // Puts the value in place of those of the name, and gives them.
@@ -115,13 +157,14 @@ pub(super) fn retain_names<F: Fn(&HeaderName, &HeaderValue) -> bool>(
     );
 }
 
-// The same names in an `IndexMap`. It is out of the way of the maps that never come to it.
+// The same names in an `IndexMap`, with room for as many again. It is out of the way of the maps that
+// never come to it.
 #[inline(never)]
 pub(super) fn hashed(alloc: Global, lines: &[Line]) -> Result<Hashed, NoMemory>
     requires { IsDistinct bytes_eq (keys lines.now) }
     ensures { IfOk result (λ names. names.entries ≡ lines.now) }
 {
-    let mut names = IndexMap::with_capacity(alloc, lines.len() + 1)?;
+    let mut names = IndexMap::with_capacity(alloc, 2 * MOST_FEW)?;
     for line in lines {
         names.insert(line.name().clone()?, line.values().clone()?)?;
     }

@@ -1,5 +1,5 @@
 //! A name with its values, and the mark by which it is found among few.
-ghost use Rattle.std.specs.Prelude.{◌≡◌, ◌<◌, ◌^◌, ◌∷◌, ◌++◌, [], get_or, bytes_eq, OnOk, OnErr, IsTrue, length, if◌then◌else◌};
+ghost use Rattle.std.specs.Prelude.{◌≡◌, ◌<◌, ◌^◌, ℕ, List, false, ◌∷◌, ◌++◌, [], get_or, bytes_eq, OnOk, OnErr, IsTrue, length, if◌then◌else◌};
 ghost use Rattle.std.specs.Borrow.{sem};
 ghost use Rattle.http_header.specs.Token.{lowercase};
 ghost use Rattle.http_map.specs.Lines.{name_mark};
@@ -60,6 +60,7 @@ pub(crate) fn mark_of(bytes: &[u8]) -> u32
 }
 
 // The byte at the index, and 0 past the end.
+#[inline(always)]
 fn byte_at(bytes: &[u8], i: usize) -> u32
     ensures value { result ≡ get_or bytes.now i 0 }
     ensures small { result < 256 }
@@ -71,11 +72,26 @@ fn byte_at(bytes: &[u8], i: usize) -> u32
     }
 }
 
-/// The mark of a name, which is in lower case already.
-pub(crate) fn mark_of_name(name: &HeaderName) -> u32
-    ensures { result ≡ name_mark name.now }
+/// The mark of the name that has these bytes, which are in lower case already.
+#[inline(always)]
+pub(crate) fn mark_of_name(bytes: &[u8]) -> u32
+    ensures { result ≡ name_mark bytes.now }
 {
-    let bytes = name.as_bytes();
+    let len = bytes.len();
+    if len < 2 {
+        return mark_of_short(bytes);
+    }
+    let first = byte_at(bytes, 0);
+    let last_but_one = byte_at(bytes, len - 2);
+    let last = byte_at(bytes, len - 1);
+    (first * 256 + last_but_one) * 256 + last
+}
+
+// The same for any bytes.
+#[inline(never)]
+fn mark_of_short(bytes: &[u8]) -> u32
+    ensures { result ≡ name_mark bytes.now }
+{
     let len = bytes.len();
     let first = byte_at(bytes, 0);
     let last_but_one = byte_at(bytes, len.saturating_sub(2));
@@ -89,7 +105,7 @@ impl Line {
     pub(crate) fn new(name: HeaderName, values: Values) -> Line
         ensures { result ≡ (name, values) }
     {
-        let mark = mark_of_name(&name);
+        let mark = mark_of_name(name.as_bytes());
         Line { mark, name, values }
     }
 
@@ -99,6 +115,15 @@ impl Line {
         ensures { result ≡ (name, values) }
     {
         Line { mark, name, values }
+    }
+
+    /// Whether the name has this mark: if not, it is no name that has it.
+    #[inline(always)]
+    pub(crate) fn has_mark(&self, mark: u32) -> bool
+        ensures { result ≡ false → (name : List ℕ) → mark ≡ name_mark name
+            → bytes_eq name self.now.0 ≡ false }
+    {
+        self.mark == mark
     }
 
     /// Whether these bytes are the name, in any case.

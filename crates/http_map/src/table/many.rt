@@ -24,8 +24,7 @@ pub(super) fn find(names: &Hashed, bytes: &[u8]) -> Option<usize>
     names.get_index_of(AnyCase { bytes })
 }
 
-// Adds the value after those of the name, which is looked up once. It is out of the way of few names.
-#[inline(never)]
+// Adds the value after those of the name, which is looked up once.
 pub(super) fn append_value(
     names: &mut Hashed,
     key: HeaderName,

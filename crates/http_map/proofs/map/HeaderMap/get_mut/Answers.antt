@@ -1,8 +1,8 @@
-use Rattle.std.proofs.Common.{◌≡◌, ◌∙◌, ◌<◌, sym, refl, ap, subst, inl, Some, None, [], bytes_eq, length, slice_get, arith}
+use Rattle.std.proofs.Common.{◌≡◌, ◌∙◌, sym, refl, ap, subst, inl, Some, None, slice_get}
 use Rattle.http_header.specs.FieldValue.{FieldValue}
 use Rattle.http_header.specs.FieldName.{IsFieldName}
 use Rattle.http_header.specs.Token.{lowercase}
-use Rattle.http_map.specs.HeaderMap.{keys, Entry, get, set_first}
+use Rattle.http_map.specs.HeaderMap.{get, set_first}
 use Rattle.http_map.specs.Lends.{set_first_at}
 use Rattle.http_map.proofs.CallerLemmas.{get-no_name}
 use Rattle.http_map.proofs.LineLemmas.{get_all-lacks}

@@ -1,14 +1,9 @@
 use Rattle.http_map.specs.HeaderMap.{append}
 use Rattle.http_map.proofs.DistinctLemmas.{IsDistinct-append, IsDistinct-after}
 use Rattle.http_map.proofs.table.Names.append.Goals as goal
-use Rattle.http_map.proofs.table.Names.append.Goals.{in-Few, in-Many}
 
 pub invariant_of-self : goal.invariant_of-self
 invariant_of-self c =
-    elim c.match-self.branch [
-      | in-Few w ↦
-          (let m = w.in-Few.lines.items in
-          let before = rw w.in-Few.is at c.self.invariant in
-          rw w.self-inside-is (IsDistinct-after w.append_value.result (append m c.args.key c.args.value) m w.append_value.new.lines.items w.append_value.ensures.ok w.append_value.ensures.err (IsDistinct-append c.args.key c.args.value m before) before))
-      | in-Many w ↦ rw w.self-inside-is tt
-    ]
+    let m = c.in-Few.lines.items in
+    let before = rw c.in-Few.is at c.self.invariant in
+    IsDistinct-after c.append_value.result (append m c.args.key c.args.value) m c.append_value.new.lines.items c.append_value.ensures.ok c.append_value.ensures.err (IsDistinct-append c.args.key c.args.value m before) before

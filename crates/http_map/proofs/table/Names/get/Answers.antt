@@ -1,4 +1,4 @@
-use Rattle.std.proofs.Common.{◌≡◌, Some, sym, ap, subst, ◌∙◌}
+use Rattle.std.proofs.Common.{Some, sym, ap, subst, ◌∙◌}
 use Rattle.http_header.specs.Token.{lowercase}
 use Rattle.http_map.specs.Lines.{StandsFirstAt, Lacks}
 use Rattle.http_map.proofs.LineLemmas.{lookup-stands, lookup-lacks}

@@ -1,4 +1,4 @@
-use Rattle.std.proofs.Common.{◌≡◌, ◌+◌, true, false, bytes_eq, refl, sym, ap, ◌∙◌, arith, add-one}
+use Rattle.std.proofs.Common.{◌+◌, bytes_eq, refl, sym, ap, ◌∙◌, arith, add-one}
 use Rattle.http_header.specs.Token.{lowercase}
 use Rattle.http_map.proofs.LineLemmas.{none_before, passed, stands, lacks_all}
 use Rattle.http_map.proofs.table.few.find_marked.Goals as goal

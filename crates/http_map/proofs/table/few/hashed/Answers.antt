@@ -1,4 +1,4 @@
-use Rattle.std.proofs.Common.{◌≡◌, ap, ◌∙◌, sym, take, get_or, bytes_eq}
+use Rattle.std.proofs.Common.{◌≡◌, ap, ◌∙◌, take, get_or, bytes_eq}
 use Rattle.indexmap.specs.IndexMap.{insert_entry}
 use Rattle.http_map.proofs.DistinctLemmas.{insert_entry-next}
 use Rattle.http_map.proofs.table.few.hashed.Goals as goal

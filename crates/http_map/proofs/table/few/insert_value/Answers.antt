@@ -1,8 +1,7 @@
-use Rattle.std.proofs.Common.{◌≡◌, true, false, List, [], ◌∷◌, ◌++◌, sym, ap, subst, ◌∙◌}
+use Rattle.std.proofs.Common.{◌≡◌, true, false, [], ◌∷◌, ◌++◌, sym, ap, subst, ◌∙◌}
 use Rattle.std.specs.Prelude.{slice_set}
 use Rattle.http_header.specs.Token.{lowercase}
 use Rattle.http_map.specs.Lines.{StandsFirstAt, Lacks}
-use Rattle.http_map.specs.HeaderMap.{Entry}
 use Rattle.http_map.proofs.LineLemmas.{contains_key-lacks, insert-stands, insert-lacks, get_all-stands, get_all-lacks}
 use Rattle.http_map.proofs.table.few.insert_value.Goals as goal
 

@@ -1,4 +1,4 @@
-use Rattle.std.proofs.Common.{◌≡◌, sym, ap, subst, ◌∙◌}
+use Rattle.std.proofs.Common.{sym, ap, subst, ◌∙◌}
 use Rattle.http_header.specs.Token.{lowercase}
 use Rattle.http_map.specs.Lines.{StandsFirstAt, Lacks}
 use Rattle.http_map.proofs.LineLemmas.{get_all-stands, get_all-lacks, remove-stands, remove-lacks}
