@@ -3,11 +3,12 @@ use Rattle.std.proofs.Common.{◌≡◌, ℕ, ◌≤◌, List, [], ◌∷◌, �
 use Rattle.std.proofs.lemmas.List.{take-append-le, drop-append-le, take-append-drop, length-take}
 use Rattle.httparse.specs.Grammar.{print_end}
 use Rattle.h1_model.specs.HeadPiece.{AreBlankLines, EndsBlank, IsHeadPiece, HasNoHeadPiece}
-use Rattle.h1_model.specs.Request.{Fault, Reading, head_is, faulty}
+use Rattle.h1_model.specs.Request.{Head, Fault, Reading, head_is, faulty}
 use Rattle.h1_model.specs.RequestHead.{IsReading}
 use Rattle.h1_model.proofs.HeadPieceLemmas.{head_piece_unique, slice_range-append}
 use Rattle.h1_model.proofs.ReadingLemmas.{reading_unique}
-use Rattle.h1_messages.specs.Heads.{Item, IsNext, IsTooLong, Stop, waits, refused, Stops, AreHeads}
+use Rattle.h1_decode.specs.HeadItem.{SaysHead}
+use Rattle.h1_messages.specs.Heads.{Item, payload_of, SayTheSame, IsNext, IsTooLong, Stop, waits, refused, Stops, AreHeads}
 use Rattle.h1_messages.proofs.GoingOn.{next_append}
 
 -- a head that ends within so many bytes is that of the first so many
@@ -71,3 +72,37 @@ one_stop limit bytes fault (item ∷ items) stop (inl (long, is)) (s, e, next, s
 one_stop limit bytes fault (item ∷ items) stop (inr (s, e, next, reading)) (s', e', next', said, left) =
     let same = one_reading limit bytes s e s' e' (faulty fault) (head_is said.head) next next' reading said.reading in
     absurd (cc same)
+
+-- ---- all heads
+
+one_end : (limit : ℕ) (bytes : List ℕ) (s t : Stop) → Stops limit bytes s → Stops limit bytes t → s ≡ t
+one_end limit bytes waits waits a b = refl
+one_end limit bytes waits (refused g) a b = (one_stop limit bytes g [] waits b a).1
+one_end limit bytes (refused f) t a b = sym (one_stop limit bytes f [] t a b).1
+
+-- behind the last head no other is read
+no_more : (limit : ℕ) (bytes : List ℕ) (s t : Stop) (item : Item) (items : List Item) → Stops limit bytes s → AreHeads limit bytes (item ∷ items) t → ⊥
+no_more limit bytes waits t item items a (start, end, next, said, left) = a.0 start end next.piece
+no_more limit bytes (refused f) t item items a heads = let none = (one_stop limit bytes f (item ∷ items) t a heads).0 in cc none
+
+pub one_reading_of_all : (limit : ℕ) (bytes : List ℕ) (xs ys : List Item) (s t : Stop) → AreHeads limit bytes xs s → AreHeads limit bytes ys t
+    → SayTheSame xs ys × (s ≡ t)
+one_reading_of_all limit bytes [] [] s t a b = (tt, one_end limit bytes s t a b)
+one_reading_of_all limit bytes [] (y ∷ ys) s t a b = absurd (no_more limit bytes s t y ys a b)
+one_reading_of_all limit bytes (x ∷ xs) [] s t a b = absurd (no_more limit bytes t s x xs b a)
+one_reading_of_all limit bytes (x ∷ xs) (y ∷ ys) s t (p, e, next, said, left) (p', e', next', said', left') =
+    let same = one_reading limit bytes p e p' e' (head_is said.head) (head_is said'.head) next next' said.reading said'.reading in
+    let head : said.head ≡ said'.head = cc same in
+    let end : e ≡ e' = (head_piece_unique bytes p e p' e' next.piece next'.piece).1 in
+    let rest = one_reading_of_all limit (drop e bytes) xs ys s t left (subst (λ (k : ℕ). AreHeads limit (drop k bytes) ys t) (sym end) left') in (
+      (
+        (
+          said.head,
+          said.says,
+          subst (SaysHead y.0) (sym head) said'.says,
+          said.payload ∙ ap (λ (h : Head). payload_of h.body) head ∙ sym said'.payload,
+        ),
+        rest.0,
+      ),
+      rest.1,
+    )

@@ -1,5 +1,5 @@
 -- What a decoder of messages reads in bytes: heads, one behind the other, each with what reads its body.
-use Rattle.std.specs.Prelude.{◌≡◌, ◌⊎◌, ℕ, ◌<◌, ◌≤◌, ◌==◌, List, [], ◌∷◌, length, take, drop, slice_range, false, if◌then◌else◌}
+use Rattle.std.specs.Prelude.{⊤, ◌≡◌, ◌⊎◌, ℕ, ◌<◌, ◌≤◌, ◌==◌, List, [], ◌∷◌, length, take, drop, slice_range, false, if◌then◌else◌}
 use Rattle.http_types.specs.declared.error.ParseError.{ParseError}
 use Rattle.http_types.specs.declared.error.ParseError.TheVariants.{TooLarge}
 use Rattle.h1_chunks.specs.Place.{start}
@@ -85,6 +85,12 @@ AreHeads limit bytes [] stop = Stops limit bytes stop
 AreHeads limit bytes (item ∷ items) stop =
     (start end : ℕ) × IsNext limit bytes start end × IsItemOf (slice_range bytes start end) item
     × AreHeads limit (drop end bytes) items stop
+
+-- item by item, the same head is said, and the same reads its body
+abbrev pub SayTheSame : List Item → List Item → Type 0
+SayTheSame [] [] = ⊤
+SayTheSame (x ∷ xs) (y ∷ ys) = ((head : Head) × SaysHead x.0 head × SaysHead y.0 head × (x.1 ≡ y.1)) × SayTheSame xs ys
+SayTheSame xs ys = ⊥
 
 -- what bytes say
 pub record Heads : Type 0 where
