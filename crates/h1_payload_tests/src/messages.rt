@@ -1,8 +1,6 @@
 //! Heads of messages in pieces.
 use bytes::BytesMut;
-use h1_messages::{
-    DecodeError, HeadItem, MessageDecoder, PayloadDecoder, PayloadItem, PayloadType,
-};
+use h1_messages::{HeadItem, MessageDecoder, PayloadDecoder, PayloadItem, PayloadType};
 use http_types::ParseError;
 use std::alloc::{AllocError, Global};
 use std::test::Fail;
@@ -161,58 +159,93 @@ fn a_new_decoder_waits_for_131072_bytes(rt: HostRuntime) -> Result<(), Fail> {
     Ok(())
 }
 
-// The target of the head that these bytes are the last of, and the word of what reads its body, where each byte comes
-// alone.
-fn read_bytewise(
-    decoder: &mut MessageDecoder<HeadItem>,
-    src: &mut BytesMut,
-    bytes: &[u8],
-) -> Result<Option<(HeadItem, PayloadType)>, ParseError> {
-    for i in 0..bytes.len() {
-        if src.extend_from_slice(&bytes[i..i + 1]).is_err() {
-            return Err(ParseError::NoMemory);
-        }
-        let answer = decoder.decode(src)?;
-        if answer.is_some() {
-            return Ok(answer);
-        }
+// Logs the target of a head that was answered, or `!` for an error.
+fn log_answer(
+    log: &mut Vec<u8>,
+    answer: &Result<Option<(HeadItem, PayloadType)>, ParseError>,
+) -> Result<(), AllocError> {
+    match answer {
+        Ok(Some((item, _))) => log.extend_from_slice(item.target.as_slice()),
+        Ok(None) => Ok(()),
+        Err(_) => log.extend_from_slice(b"!"),
     }
-    Ok(None)
 }
 
-// The bytes of a body of which all pieces are there.
-fn body_of(alloc: Global, mut body: PayloadDecoder, src: &mut BytesMut) -> Result<Vec<u8>, Fail> {
-    let mut text = Vec::new(alloc);
-    for _ in 0..8 {
-        match body.decode(src)? {
-            Some(PayloadItem::Chunk(bytes)) => text.extend_from_slice(bytes.as_slice())?,
-            Some(_) => break,
-            None => break,
-        }
+// What is logged of the bytes, which come one by one, and what is left of them.
+fn told_bytewise(alloc: Global, bytes: &[u8]) -> Result<Vec<u8>, AllocError> {
+    let mut log = Vec::new(alloc);
+    let mut src = BytesMut::new(alloc);
+    let mut decoder = MessageDecoder::<HeadItem>::new();
+    for i in 0..bytes.len() {
+        src.extend_from_slice(&bytes[i..i + 1])?;
+        log_answer(&mut log, &decoder.decode(&mut src))?;
     }
-    Ok(text)
+    log.extend_from_slice(src.as_slice())?;
+    Ok(log)
 }
 
 #[test]
-fn messages_come_byte_by_byte(rt: HostRuntime) -> Result<(), Fail> {
-    let mut decoder = MessageDecoder::new();
-    let mut src = BytesMut::new(rt.alloc());
-    let first = b"\r\nPOST /a HTTP/1.1\r\ncontent-length: 2\r\n\r\n";
-    match read_bytewise(&mut decoder, &mut src, first)? {
-        Some((item, PayloadType::Payload(body))) => {
-            assert!(rt; item.target.as_slice() == b"/a".as_slice());
-            src.extend_from_slice(b"hi")?;
-            let text = body_of(rt.alloc(), body, &mut src)?;
-            assert!(rt; text.as_slice() == b"hi".as_slice());
-        }
-        _ => assert!(rt; false),
+fn heads_come_byte_by_byte(rt: HostRuntime) -> Result<(), Fail> {
+    let rows: [(&[u8], &[u8]); 2] = [
+        (
+            b"\r\nGET /a HTTP/1.1\r\nHost: b\r\n\r\n\nGET /b HTTP/1.0\n\nGE",
+            b"/a/bGE",
+        ),
+        (b"GET /a HTTP/2.0\n\n", b"!GET /a HTTP/2.0\n\n"),
+    ];
+    for (bytes, want) in rows {
+        assert!(rt; told_bytewise(rt.alloc(), bytes)?.as_slice() == want);
     }
-    match read_bytewise(&mut decoder, &mut src, b"GET /b HTTP/1.1\n\n")? {
-        Some((item, PayloadType::None)) => {
-            assert!(rt; item.target.as_slice() == b"/b".as_slice())
-        }
-        _ => assert!(rt; false),
+    Ok(())
+}
+
+// The bytes of the first piece of a body.
+fn first_piece(
+    alloc: Global,
+    mut body: PayloadDecoder,
+    src: &mut BytesMut,
+) -> Result<Vec<u8>, AllocError> {
+    match body.decode(src) {
+        Ok(Some(PayloadItem::Chunk(bytes))) => Vec::from_slice(alloc, bytes.as_slice()),
+        _ => Ok(Vec::new(alloc)),
     }
-    assert!(rt; src.is_empty());
+}
+
+fn piece_of_payload(
+    alloc: Global,
+    payload: PayloadType,
+    src: &mut BytesMut,
+) -> Result<Vec<u8>, AllocError> {
+    match payload {
+        PayloadType::None => Ok(Vec::new(alloc)),
+        PayloadType::Payload(body) => first_piece(alloc, body, src),
+        PayloadType::Stream(body) => first_piece(alloc, body, src),
+    }
+}
+
+// The bytes of the first piece of the body behind a head.
+fn piece_of_body(alloc: Global, bytes: &[u8]) -> Result<Vec<u8>, AllocError> {
+    let mut src = BytesMut::copy_from_slice(alloc, bytes)?;
+    let mut decoder = MessageDecoder::<HeadItem>::new();
+    match decoder.decode(&mut src) {
+        Ok(Some(message)) => piece_of_payload(alloc, message.1, &mut src),
+        _ => Ok(Vec::new(alloc)),
+    }
+}
+
+#[test]
+fn bodies_follow_their_heads(rt: HostRuntime) -> Result<(), Fail> {
+    let rows: [(&[u8], &[u8]); 4] = [
+        (b"POST / HTTP/1.1\nContent-Length: 2\n\nhi!", b"hi"),
+        (
+            b"POST / HTTP/1.1\nTransfer-Encoding: chunked\n\n2\r\nhi\r\n",
+            b"hi",
+        ),
+        (b"CONNECT a:1 HTTP/1.1\n\nhi!", b"hi!"),
+        (b"GET / HTTP/1.1\n\nhi!", b""),
+    ];
+    for (bytes, want) in rows {
+        assert!(rt; piece_of_body(rt.alloc(), bytes)?.as_slice() == want);
+    }
     Ok(())
 }
