@@ -14,3 +14,7 @@ pub record HasScanned (position : HeadPosition) (bytes : List ℕ) : Type 0 wher
   pub in_range : position.scanned ≤ length bytes
   pub blank : AreBlankLines (take position.start bytes)
   pub no_head : HasNoHeadPiece (take position.scanned bytes)
+
+-- where as many bytes are there as it has seen, it is a position in them
+abbrev pub IsSeenIn : HeadPosition → List ℕ → Type 0
+IsSeenIn position bytes = position.scanned ≤ length bytes → HasScanned position bytes

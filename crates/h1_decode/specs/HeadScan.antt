@@ -1,5 +1,5 @@
 -- What the answer of a scan says of the bytes.
-use Rattle.std.specs.Prelude.{ℕ, List}
+use Rattle.std.specs.Prelude.{ℕ, ◌≤◌, List, ⊤}
 use Rattle.h1_model.specs.HeadPiece.{IsHeadPiece, HasNoHeadPiece}
 use Rattle.h1_decode.specs.declared.scan.HeadScan.{HeadScan}
 use Rattle.h1_decode.specs.declared.scan.HeadScan.TheVariants.{Open, Piece}
@@ -8,3 +8,8 @@ use Rattle.h1_decode.specs.declared.scan.HeadScan.TheVariants.{Open, Piece}
 abbrev pub AnswersScan : List ℕ → HeadScan → Type 0
 AnswersScan bytes Open = HasNoHeadPiece bytes
 AnswersScan bytes (Piece start end) = IsHeadPiece bytes start end
+
+-- a piece lies within so many bytes
+abbrev pub LiesWithin : ℕ → HeadScan → Type 0
+LiesWithin n Open = ⊤
+LiesWithin n (Piece start end) = (start ≤ end) × (end ≤ n)

@@ -1,8 +1,8 @@
 //! Where the head of a message begins and ends (RFC 7230, sections 3 and 3.5).
 ghost use Rattle.std.specs.Prelude.{◌≡◌, ℕ, List, ◌≤◌, length, take, drop, IfSome, IfNone};
 ghost use Rattle.h1_model.specs.HeadPiece.{AreBlankLines, BeginsBlank, IsHeadPiece};
-ghost use Rattle.h1_decode.specs.HeadPosition.{HasScanned};
-ghost use Rattle.h1_decode.specs.HeadScan.{AnswersScan};
+ghost use Rattle.h1_decode.specs.HeadPosition.{HasScanned, IsSeenIn};
+ghost use Rattle.h1_decode.specs.HeadScan.{AnswersScan, LiesWithin};
 ghost use Rattle.h1_decode.specs.LineEnds.{IsLineEndAt, IsFirstEnd, HasNoEnd};
 
 use memchr::memchr;
@@ -69,7 +69,33 @@ impl HeadScanner {
         ensures goes_on { HasScanned self.new bytes.now }
         ensures all_seen { result ≡ HeadScan.Open → self.new.scanned ≡ length bytes.now }
     {
-        let start = skip_blank_lines(bytes, self.start);
+        self.scan_on(bytes)
+    }
+
+    /// The same for a caller who is handed the buffer. Fewer bytes than before are searched anew. Where
+    /// other bytes stand in place of those that were given before, the answer lies within these bytes,
+    /// and says nothing of them.
+    pub fn scan_any(&mut self, bytes: &[u8]) -> HeadScan
+        ensures within { LiesWithin (length bytes.now) result }
+        ensures answer { IsSeenIn self.old bytes.now → AnswersScan bytes.now result }
+        ensures goes_on { IsSeenIn self.old bytes.now → HasScanned self.new bytes.now }
+        ensures all_seen { result ≡ HeadScan.Open → self.new.scanned ≡ length bytes.now }
+    {
+        if self.scanned > bytes.len() {
+            *self = HeadScanner::new();
+        }
+        self.scan_on(bytes)
+    }
+
+    /// The same, where there are as many bytes as before, or more.
+    fn scan_on(&mut self, bytes: &[u8]) -> HeadScan
+        requires { self.old.scanned ≤ length bytes.now }
+        ensures within { LiesWithin (length bytes.now) result }
+        ensures answer { HasScanned self.old bytes.now → AnswersScan bytes.now result }
+        ensures goes_on { HasScanned self.old bytes.now → HasScanned self.new bytes.now }
+        ensures all_seen { result ≡ HeadScan.Open → self.new.scanned ≡ length bytes.now }
+    {
+        let start = skip_blank_lines(bytes, self.start.min(bytes.len()));
 
         // An empty line that ends among the new bytes stands behind one of the last two old ones.
         let from = start.max(self.scanned.saturating_sub(2));
@@ -86,10 +112,9 @@ impl HeadScanner {
 
 /// The place behind the empty lines that stand at `at`.
 fn skip_blank_lines(bytes: &[u8], at: usize) -> usize
-    requires in_range { at ≤ length bytes.now }
-    requires blank { AreBlankLines (take at bytes.now) }
+    requires { at ≤ length bytes.now }
     ensures in_range { result ≤ length bytes.now }
-    ensures blank { AreBlankLines (take result bytes.now) }
+    ensures blank { AreBlankLines (take at bytes.now) → AreBlankLines (take result bytes.now) }
     ensures begins { ¬ (BeginsBlank (drop result bytes.now)) }
 {
     let mut start = at;

@@ -1,0 +1,4 @@
+pub mod FirstBytes
+pub mod GoingOn
+pub mod Refusals
+pub mod ByNext

@@ -1,0 +1,5 @@
+use Rattle.h1_messages.proofs.Refusals.{one_reading_of_all}
+use Rattle.h1_messages.proofs.laws.bytes_say_the_same.Goals as goal
+
+pub returns : goal.returns
+returns c = one_reading_of_all

@@ -1,0 +1,106 @@
+-- What a decoder of messages reads in bytes: heads, one behind the other, each with what reads its body.
+use Rattle.std.specs.Prelude.{⊤, ◌≡◌, ◌⊎◌, ℕ, ◌<◌, ◌≤◌, ◌==◌, List, [], ◌∷◌, length, take, drop, slice_range, false, if◌then◌else◌}
+use Rattle.http_types.specs.declared.error.ParseError.{ParseError}
+use Rattle.http_types.specs.declared.error.ParseError.TheVariants.{TooLarge}
+use Rattle.h1_chunks.specs.Place.{start}
+use Rattle.h1_model.specs.HeadPiece.{IsHeadPiece, HasNoHeadPiece}
+use Rattle.h1_model.specs.Request.{BodyKind, no_body, fixed_body, chunked_body, raw_body, Head, Fault, too_large, head_is, faulty}
+use Rattle.h1_model.specs.RequestHead.{IsReading}
+use Rattle.h1_machine.specs.Kept.{no_rest, fixed_rest, chunks_rest, raw_rest}
+use Rattle.h1_decode.specs.HeadItem.{SaysHead}
+use Rattle.h1_decode.specs.HeadPosition.{HeadPosition, IsSeenIn}
+use Rattle.h1_decode.specs.Refusal.{Refuses}
+use Rattle.h1_decode.specs.declared.decoder.HeadItem.{HeadItem}
+use Rattle.h1_messages.specs.declared.payload_type.PayloadType.{PayloadType}
+use Rattle.h1_messages.specs.declared.payload_type.PayloadType.TheVariants as payload
+
+-- within how many bytes a head has to end, and how far the search for the next one has come
+pub record Search : Type 0 where
+  pub limit : ℕ
+  pub position : HeadPosition
+
+-- where as many bytes are there as it has seen, they are those
+abbrev pub HasSeen : Search → List ℕ → Type 0
+HasSeen search bytes = IsSeenIn search.position bytes
+
+-- ---- the next head
+
+-- what reads a body of this kind, from its first byte on
+abbrev pub payload_of : BodyKind → PayloadType
+payload_of no_body = payload.None
+payload_of (fixed_body n) = payload.Payload (record { rest = if n == 0 then no_rest else fixed_rest n; is_broken = false })
+payload_of chunked_body = payload.Payload (record { rest = chunks_rest start []; is_broken = false })
+payload_of raw_body = payload.Stream (record { rest = raw_rest; is_broken = false })
+
+-- a head, and what reads its body
+abbrev pub Item : Type 0
+Item = HeadItem × PayloadType
+
+-- the piece is the head that the item says
+pub record IsItemOf (piece : List ℕ) (item : Item) : Type 0 where
+  pub head : Head
+  pub reading : IsReading piece (head_is head)
+  pub says : SaysHead item.0 head
+  pub payload : item.1 ≡ payload_of head.body
+
+-- the first head is whole, and ends within the limit
+pub record IsNext (limit : ℕ) (bytes : List ℕ) (start end : ℕ) : Type 0 where
+  pub piece : IsHeadPiece bytes start end
+  pub within : end ≤ limit
+
+-- no head is whole, and there are fewer bytes than the limit
+abbrev pub IsWaiting : ℕ → List ℕ → Type 0
+IsWaiting limit bytes = HasNoHeadPiece bytes × (length bytes < limit)
+
+-- as many bytes as the limit are there, and no head ends within the first so many
+abbrev pub IsTooLong : ℕ → List ℕ → Type 0
+IsTooLong limit bytes = (limit ≤ length bytes) × HasNoHeadPiece (take limit bytes)
+
+-- the item is the first head's, and this is what stands behind it
+abbrev pub IsNextItem : ℕ → List ℕ → List ℕ → Item → Type 0
+IsNextItem limit bytes rest item =
+    (start end : ℕ) × IsNext limit bytes start end × IsItemOf (slice_range bytes start end) item × (rest ≡ drop end bytes)
+
+-- why there is none, by the name of the error: the limit is judged before the head
+abbrev pub RefusesNext : ParseError → ℕ → List ℕ → Type 0
+RefusesNext e limit bytes =
+    (IsTooLong limit bytes × (e ≡ TooLarge))
+    ⊎ ((start end : ℕ) × IsNext limit bytes start end × Refuses e (slice_range bytes start end))
+
+-- ---- all heads, as if no body stood between them
+
+-- what stands behind the last head: no further one is whole yet, or the next is refused
+pub data Stop : Type 0 where
+  waits : Stop
+  refused : Fault → Stop
+
+abbrev pub Stops : ℕ → List ℕ → Stop → Type 0
+Stops limit bytes waits = IsWaiting limit bytes
+Stops limit bytes (refused fault) =
+    (IsTooLong limit bytes × (fault ≡ too_large))
+    ⊎ ((start end : ℕ) × IsNext limit bytes start end × IsReading (slice_range bytes start end) (faulty fault))
+
+abbrev pub AreHeads : ℕ → List ℕ → List Item → Stop → Type 0
+AreHeads limit bytes [] stop = Stops limit bytes stop
+AreHeads limit bytes (item ∷ items) stop =
+    (start end : ℕ) × IsNext limit bytes start end × IsItemOf (slice_range bytes start end) item
+    × AreHeads limit (drop end bytes) items stop
+
+-- item by item, the same head is said, and the same reads its body
+abbrev pub SayTheSame : List Item → List Item → Type 0
+SayTheSame [] [] = ⊤
+SayTheSame (x ∷ xs) (y ∷ ys) = ((head : Head) × SaysHead x.0 head × SaysHead y.0 head × (x.1 ≡ y.1)) × SayTheSame xs ys
+SayTheSame xs ys = ⊥
+
+-- what bytes say
+pub record Heads : Type 0 where
+  pub items : List Item
+  pub stop : Stop
+
+-- what bytes say to a decoder that has seen the first of them
+abbrev pub Reads : Search → List ℕ → Heads → Type 0
+Reads search bytes heads = HasSeen search bytes → AreHeads search.limit bytes heads.items heads.stop
+
+-- an answered head in front of what is said
+abbrev pub given : Item → Heads → Heads
+given item heads = record heads { items = item ∷ heads.items }
