@@ -11,3 +11,4 @@ pub mod CodecState
 pub mod ParserState
 pub mod Pieces
 pub mod Sent
+pub mod Framing
