@@ -12,3 +12,4 @@ pub mod ParserState
 pub mod Pieces
 pub mod Sent
 pub mod Framing
+pub mod Causes
