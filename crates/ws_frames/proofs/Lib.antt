@@ -9,3 +9,4 @@ pub mod KindLemmas
 pub mod TakeLemmas
 pub mod PieceLemmas
 pub mod PlaceLemmas
+pub mod ErrorLemmas
