@@ -13,3 +13,4 @@ pub mod Pieces
 pub mod Sent
 pub mod Framing
 pub mod Causes
+pub mod Copies
