@@ -7,3 +7,6 @@ pub mod WrittenLemmas
 pub mod CloseLemmas
 pub mod KindLemmas
 pub mod TakeLemmas
+pub mod PieceLemmas
+pub mod PlaceLemmas
+pub mod ErrorLemmas

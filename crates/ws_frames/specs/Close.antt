@@ -7,7 +7,7 @@ use Rattle.h1_model.specs.FrameText.{big_endian, is_close_code, description_of}
 use Rattle.ws_frames.specs.declared.error.ProtocolError.{ProtocolError}
 use Rattle.ws_frames.specs.declared.proto.CloseReason.{CloseReason}
 use Rattle.ws_frames.specs.Protocol.{close_number}
-use Rattle.ws_frames.specs.Refusal.{refusal, UnlessNoMemory}
+use Rattle.ws_frames.specs.Refusal.{refusal, error_of}
 
 -- what a reason says
 abbrev pub reason_says : CloseReason → model.CloseReason
@@ -17,10 +17,10 @@ reason_says reason = record { code = close_number reason.code; description = opt
 abbrev pub ErrorSays : ProtocolError → Result model.Frame model.ProtocolError → Type 0
 ErrorSays e what = (rule : model.ProtocolError) × (what ≡ Err rule) × (e ≡ refusal rule)
 
--- what was read of the payload, or the rule that it breaks
+-- what was read of the payload, or the rule that it breaks; memory may be wanting where it breaks none
 abbrev pub CloseSays : Result (Option CloseReason) ProtocolError → Result model.Frame model.ProtocolError → Type 0
 CloseSays (Ok reason) what = what ≡ Ok (model.close (option_map reason_says reason))
-CloseSays (Err e) what = UnlessNoMemory e (ErrorSays e what)
+CloseSays (Err e) what = e ≡ error_of what
 
 -- a code and a text
 abbrev pub reason_frame : ℕ → List ℕ → Result model.Frame model.ProtocolError

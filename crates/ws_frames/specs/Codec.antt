@@ -11,7 +11,7 @@ use Rattle.ws_frames.specs.declared.message.Frame.{Frame}
 use Rattle.ws_frames.specs.declared.message.Frame.TheVariants as frames
 use Rattle.ws_frames.specs.declared.kind.Kind.{Kind}
 use Rattle.ws_frames.specs.declared.kind.Kind.TheVariants as kinds
-use Rattle.ws_frames.specs.Refusal.{UnlessNoMemory}
+use Rattle.ws_frames.specs.Refusal.{error_of, left_after}
 use Rattle.ws_frames.specs.Close.{reason_says, ErrorSays}
 
 -- a fragment
@@ -75,5 +75,4 @@ with_payload from payload len bytes = take from bytes ++ (payload ++ drop (from 
 -- the frame that was taken, its payload read by what is judged of it
 abbrev pub TakenFrame : Result Frame ProtocolError → Result model.Frame model.ProtocolError → ℕ → List ℕ → List ℕ → Type 0
 TakenFrame (Ok frame) judged len old new = (judged ≡ Ok (frame_says frame)) × (new ≡ drop len old)
-TakenFrame (Err e) judged len old new =
-    (e ≡ errors.NoMemory → new ≡ old) × UnlessNoMemory e (ErrorSays e judged × (new ≡ drop len old))
+TakenFrame (Err e) judged len old new = (e ≡ error_of judged) × (new ≡ left_after judged len old)

@@ -1,12 +1,12 @@
 -- The state of a codec, and what it reads.
 use Rattle.std.specs.Prelude.{◌≡◌, ℕ, Bool, List, drop, Option, Some, None, Result, Ok, Err}
 use Rattle.h1_model.specs.Frame as model
-use Rattle.h1_model.specs.FrameText.{front_frame, partial, whole, breaks, is_under_way}
+use Rattle.h1_model.specs.FrameText.{Front, front_frame, partial, whole, breaks, is_under_way}
 use Rattle.ws_frames.specs.declared.error.ProtocolError.{ProtocolError}
 use Rattle.ws_frames.specs.declared.error.ProtocolError.TheVariants as errors
 use Rattle.ws_frames.specs.declared.message.Frame.{Frame}
 use Rattle.ws_frames.specs.declared.codec.Codec.{Codec}
-use Rattle.ws_frames.specs.Refusal.{refusal, UnlessNoMemory}
+use Rattle.ws_frames.specs.Refusal.{refusal, error_of, left_after}
 use Rattle.ws_frames.specs.Parsed.{late_reader, Parsed, waits, refuses, takes, parsed}
 use Rattle.ws_frames.specs.Codec.{frame_says}
 
@@ -44,6 +44,13 @@ cost waits = 0
 cost (refuses e dropped) = dropped
 cost (takes is_final opcode payload len) = len
 
+-- An error by what stands at the front: none is answered where no frame is whole and no rule broken; a frame for which
+-- there was no memory stays; and a broken rule costs so many bytes.
+abbrev pub Failed : Front → ProtocolError → ℕ → List ℕ → List ℕ → Type 0
+Failed partial e n bytes rest = ⊥
+Failed (whole frame len) e n bytes rest = (e ≡ errors.NoMemory) × (rest ≡ bytes)
+Failed (breaks rule) e n bytes rest = (e ≡ refusal rule) × (rest ≡ drop n bytes)
+
 -- a frame at the front is given once it is whole, and a broken rule costs the frame that breaks it, if that is there
 abbrev pub Decoded : Bool → ℕ → Bool → List ℕ → Result (Option Frame) ProtocolError → Bool → List ℕ → Type 0
 Decoded server max_size under_way bytes (Ok None) after rest =
@@ -52,14 +59,11 @@ Decoded server max_size under_way bytes (Ok (Some frame)) after rest =
     (len : ℕ) × (front_frame (late_reader server max_size) under_way bytes ≡ whole (frame_says frame) len)
     × (rest ≡ drop len bytes) × (after ≡ is_under_way under_way (frame_says frame))
 Decoded server max_size under_way bytes (Err e) after rest =
-    (after ≡ under_way) × (e ≡ errors.NoMemory → rest ≡ bytes)
-    × UnlessNoMemory e ((rule : model.ProtocolError) × (front_frame (late_reader server max_size) under_way bytes ≡ breaks rule)
-    × (e ≡ refusal rule) × (rest ≡ drop (cost (parsed server max_size bytes)) bytes))
+    (after ≡ under_way)
+    × Failed (front_frame (late_reader server max_size) under_way bytes) e (cost (parsed server max_size bytes)) bytes rest
 
 -- the same of a frame that was found, which is taken or breaks a rule
 abbrev pub JudgedTaken : Bool → Result model.Frame model.ProtocolError → ℕ → List ℕ → Result (Frame × Bool) ProtocolError → List ℕ → Type 0
 JudgedTaken under_way judged len old (Ok p) new =
     (judged ≡ Ok (frame_says p.0)) × (new ≡ drop len old) × (p.1 ≡ is_under_way under_way (frame_says p.0))
-JudgedTaken under_way judged len old (Err e) new =
-    (e ≡ errors.NoMemory → new ≡ old)
-    × UnlessNoMemory e ((rule : model.ProtocolError) × (judged ≡ Err rule) × (e ≡ refusal rule) × (new ≡ drop len old))
+JudgedTaken under_way judged len old (Err e) new = (e ≡ error_of judged) × (new ≡ left_after judged len old)

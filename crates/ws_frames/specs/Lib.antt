@@ -11,3 +11,6 @@ pub mod CodecState
 pub mod ParserState
 pub mod Pieces
 pub mod Sent
+pub mod Framing
+pub mod Causes
+pub mod Copies

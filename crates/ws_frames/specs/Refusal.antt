@@ -1,5 +1,5 @@
 -- What the errors of reading say.
-use Rattle.std.specs.Prelude.{◌≢◌}
+use Rattle.std.specs.Prelude.{ℕ, List, drop, Option, Some, None, Result, Ok, Err}
 use Rattle.h1_model.specs.Frame as model
 use Rattle.h1_model.specs.FrameText.{opcode_of}
 use Rattle.ws_frames.specs.declared.error.ProtocolError.{ProtocolError}
@@ -19,6 +19,17 @@ refusal (model.invalid_opcode number) = errors.InvalidOpcode number
 refusal (model.invalid_length n) = errors.InvalidLength n
 refusal (model.continuation_fragment number) = errors.ContinuationFragment (code_of (opcode_of number))
 
--- what is said of each error but want of memory
-abbrev pub UnlessNoMemory : ProtocolError → Type 0 → Type 0
-UnlessNoMemory e P = e ≢ errors.NoMemory → P
+-- the error where this rule refuses something, and where none does: then there was no memory
+abbrev pub error_for : Option model.ProtocolError → ProtocolError
+error_for (Some rule) = refusal rule
+error_for None = errors.NoMemory
+
+-- the same of a frame that is one, or breaks a rule
+abbrev pub error_of : Result model.Frame model.ProtocolError → ProtocolError
+error_of (Err rule) = refusal rule
+error_of (Ok frame) = errors.NoMemory
+
+-- what is left of the bytes behind that error: a frame for which there was no memory stays
+abbrev pub left_after : Result model.Frame model.ProtocolError → ℕ → List ℕ → List ℕ
+left_after (Err rule) len bytes = drop len bytes
+left_after (Ok frame) len bytes = bytes

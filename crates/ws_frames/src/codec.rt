@@ -104,8 +104,8 @@ impl<R: Drop> Codec<R> {
 }
 
 impl<R> Codec<R> {
-    /// The next frame, once it is whole. A frame above the limit is refused once it is whole, and dropped. Where memory
-    /// ran out, codec and buffer are as before.
+    /// The next frame, once it is whole. A frame above the limit is refused once it is whole, and dropped. Memory is taken
+    /// for a frame alone that breaks no rule; where it ran out, codec and buffer are as before.
     pub fn decode(
         &mut self,
         alloc: Global,

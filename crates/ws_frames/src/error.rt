@@ -1,5 +1,6 @@
 //! Why bytes are no frames, or a message may not be sent.
 use crate::proto::OpCode;
+use http_types::{Cause, Kind};
 use thiserror::Error;
 
 /// The rule that a frame breaks (RFC 6455, sections 5 and 7.4).
@@ -41,4 +42,18 @@ pub enum ProtocolError {
     /// There was no memory for the frame.
     #[error("no memory is left")]
     NoMemory,
+}
+
+impl From<ProtocolError> for http_types::Error {
+    ghost use Rattle.std.specs.Prelude.{◌≡◌};
+    ghost use Rattle.ws_frames.specs.Causes.{of_protocol};
+
+    ghost from_gives = { λ cause error. error ≡ of_protocol };
+
+    fn from(_cause: ProtocolError) -> http_types::Error {
+        http_types::Error {
+            kind: Kind::Ws,
+            cause: Some(Cause::Protocol),
+        }
+    }
 }

@@ -3,7 +3,8 @@
 //! [`Codec`] reads frames from a buffer that grows and writes messages into another one, as a server or as a client;
 //! [`Parser`] does the same frame by frame and keeps no state. Both answer what the definitions of `h1_model` say of all
 //! bytes, in whatever pieces these come. A payload that is read shares the memory of the buffer, its mask taken off
-//! where it lies, and no memory is asked for because of a length that a peer declares.
+//! where it lies, and no memory is asked for because of a length that a peer declares. A codec is also a `Decoder` and an
+//! `Encoder<Message>` of `http_bodies`.
 //!
 //! A server reads the text `Hello` in two pieces, and sends it back:
 //!
@@ -22,6 +23,7 @@
 mod codec;
 mod error;
 mod frame;
+mod framing;
 mod kind;
 mod laws;
 mod mask;
@@ -38,7 +40,7 @@ pub use laws::{close_codes_keep_their_numbers, masking_goes_on, opcodes_keep_the
 pub use mask::{apply_mask, apply_mask_fast32, mask_from};
 pub use message::{Frame, Item, Message};
 pub use parser::Parser;
-pub use pieces::decoding_goes_on;
+pub use pieces::{bytes_are_frames, decoding_goes_on};
 pub use proto::{CloseCode, CloseReason, OpCode, hash_key};
 
 /// The allocator had no memory.

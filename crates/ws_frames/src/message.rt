@@ -1,5 +1,9 @@
 //! What is received, and what is sent.
-use crate::proto::CloseReason;
+ghost use Rattle.std.specs.Prelude.{◌≡◌, IfOk};
+ghost use Rattle.ws_frames.specs.Copies.{IsFrameCopy, IsMessageCopy};
+
+use crate::NoMemory;
+use crate::proto::{CloseReason, copy_reason};
 use bytes::Bytes;
 
 /// A part of a message in fragments (RFC 6455, section 5.4).
@@ -13,6 +17,20 @@ pub enum Item {
     Continue(Bytes),
     /// The last fragment.
     Last(Bytes),
+}
+
+impl Item {
+    /// An equal fragment.
+    pub fn copy(&self) -> Result<Item, NoMemory>
+        ensures { IfOk result (λ copy. copy ≡ self.now) }
+    {
+        match self {
+            Item::FirstText(payload) => Ok(Item::FirstText(payload.clone()?)),
+            Item::FirstBinary(payload) => Ok(Item::FirstBinary(payload.clone()?)),
+            Item::Continue(payload) => Ok(Item::Continue(payload.clone()?)),
+            Item::Last(payload) => Ok(Item::Last(payload.clone()?)),
+        }
+    }
 }
 
 /// What was received. A text is not tested for UTF-8.
@@ -32,6 +50,22 @@ pub enum Frame {
     Close(Option<CloseReason>),
 }
 
+impl Frame {
+    /// An equal frame.
+    pub fn copy(&self) -> Result<Frame, NoMemory>
+        ensures { IfOk result (λ copy. IsFrameCopy copy self.now) }
+    {
+        match self {
+            Frame::Text(payload) => Ok(Frame::Text(payload.clone()?)),
+            Frame::Binary(payload) => Ok(Frame::Binary(payload.clone()?)),
+            Frame::Continuation(item) => Ok(Frame::Continuation(item.copy()?)),
+            Frame::Ping(payload) => Ok(Frame::Ping(payload.clone()?)),
+            Frame::Pong(payload) => Ok(Frame::Pong(payload.clone()?)),
+            Frame::Close(reason) => Ok(Frame::Close(copy_reason(reason)?)),
+        }
+    }
+}
+
 /// What is sent.
 #[derive(Debug, PartialEq, Eq, Drop)]
 pub enum Message {
@@ -49,4 +83,21 @@ pub enum Message {
     Close(Option<CloseReason>),
     /// Nothing is sent.
     Nop,
+}
+
+impl Message {
+    /// An equal message.
+    pub fn copy(&self) -> Result<Message, NoMemory>
+        ensures { IfOk result (λ copy. IsMessageCopy copy self.now) }
+    {
+        match self {
+            Message::Text(text) => Ok(Message::Text(text.clone()?)),
+            Message::Binary(payload) => Ok(Message::Binary(payload.clone()?)),
+            Message::Continuation(item) => Ok(Message::Continuation(item.copy()?)),
+            Message::Ping(payload) => Ok(Message::Ping(payload.clone()?)),
+            Message::Pong(payload) => Ok(Message::Pong(payload.clone()?)),
+            Message::Close(reason) => Ok(Message::Close(copy_reason(reason)?)),
+            Message::Nop => Ok(Message::Nop),
+        }
+    }
 }

@@ -1,5 +1,5 @@
 //! Frames read and written one by one, with no state.
-ghost use Rattle.std.specs.Prelude.{◌≡◌, ℕ, ◌++◌, true, IfOk, OnOk, OnErr, option_map};
+ghost use Rattle.std.specs.Prelude.{◌≡◌, ◌<◌, ℕ, ◌++◌, length, true, Err, IfOk, OnOk, OnErr, option_map};
 ghost use Rattle.h1_model.specs.FrameText.{close_frame, close_opcode, close_payload};
 ghost use Rattle.ws_frames.specs.Close.{reason_says, CloseSays, lossy_reason};
 ghost use Rattle.ws_frames.specs.Header.{declared};
@@ -26,7 +26,7 @@ pub struct Parser;
 impl Parser {
     /// The frame at the front, once it is whole: whether it is the last of its message, its opcode, and its payload, if
     /// that isn't empty. A frame above the limit is refused once it is whole, and dropped. A Close with more than 125
-    /// bytes is one without payload. Where memory ran out, the buffer is as it was.
+    /// bytes is one without payload. Memory is taken for a whole frame alone; where it ran out, the buffer is as it was.
     pub fn parse(
         src: &mut BytesMut,
         server: bool,
@@ -56,22 +56,26 @@ impl Parser {
         declared_len(src, server)
     }
 
-    /// The reason that the payload of a Close gives, if it isn't empty: a code that may be sent, and a text of UTF-8.
+    /// The reason that the payload of a Close gives, if it isn't empty: a code that may be sent, and a text of UTF-8. Memory
+    /// is taken for a text alone.
     pub fn try_parse_close_payload(
         alloc: Global,
         payload: &[u8],
     ) -> Result<Option<CloseReason>, ProtocolError>
-        ensures { CloseSays result (close_frame payload.now) }
+        ensures says { CloseSays result (close_frame payload.now) }
+        ensures memory { result ≡ Err ProtocolError.NoMemory → 2 < length payload.now }
     {
         read_close(alloc, payload)
     }
 
     /// The reason that a payload gives, whatever its code; U+FFFD stands for what is no UTF-8. There is none below two bytes.
+    /// Memory is taken for a text alone.
     pub fn parse_close_payload(
         alloc: Global,
         payload: &[u8],
     ) -> Result<Option<CloseReason>, NoMemory>
-        ensures { IfOk result (λ reason. option_map reason_says reason ≡ lossy_reason payload.now) }
+        ensures reason { IfOk result (λ reason. option_map reason_says reason ≡ lossy_reason payload.now) }
+        ensures memory { OnErr result (2 < length payload.now) }
     {
         read_any_close(alloc, payload)
     }

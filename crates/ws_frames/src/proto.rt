@@ -1,9 +1,11 @@
 //! Opcodes, close codes, and the answer to a key.
-ghost use Rattle.std.specs.Prelude.{◌≡◌, Some, None};
+ghost use Rattle.std.specs.Prelude.{◌≡◌, Some, None, IfOk, option_map, string_bytes};
 ghost use Rattle.h1_model.specs.FrameText.{opcode_of, opcode_number};
 ghost use Rattle.h1_model.specs.Handshake.{accept_key, base64};
+ghost use Rattle.ws_frames.specs.Copies.{IsReasonCopy};
 ghost use Rattle.ws_frames.specs.Protocol.{code_of, opcode_written, close_number, close_code};
 
+use crate::NoMemory;
 use base64::engine::general_purpose::STANDARD;
 use sha1::Sha1;
 use std::fmt;
@@ -160,6 +162,38 @@ pub struct CloseReason {
 
     /// A text for the logs of the peer.
     pub description: Option<String>,
+}
+
+impl CloseReason {
+    /// An equal reason.
+    pub fn copy(&self) -> Result<CloseReason, NoMemory>
+        ensures { IfOk result (λ copy. IsReasonCopy (Some copy) (Some self.now)) }
+    {
+        Ok(CloseReason {
+            code: self.code,
+            description: copy_text(&self.description)?,
+        })
+    }
+}
+
+/// An equal reason, if there is one.
+pub(crate) fn copy_reason(reason: &Option<CloseReason>) -> Result<Option<CloseReason>, NoMemory>
+    ensures { IfOk result (λ copy. IsReasonCopy copy reason.now) }
+{
+    match reason {
+        Some(reason) => Ok(Some(reason.copy()?)),
+        None => Ok(None),
+    }
+}
+
+/// The same text, if there is one.
+fn copy_text(text: &Option<String>) -> Result<Option<String>, NoMemory>
+    ensures { IfOk result (λ copy. option_map string_bytes copy ≡ option_map string_bytes text.now) }
+{
+    match text {
+        Some(text) => Ok(Some(text.clone()?)),
+        None => Ok(None),
+    }
 }
 
 impl From<CloseCode> for CloseReason {

@@ -1,12 +1,12 @@
 //! Messages into bytes.
-ghost use Rattle.std.specs.Prelude.{◌≡◌, ◌++◌, None, Some, option_map, true, false, if◌then◌else◌, OnOk, OnErr, IfOk, IfErr};
-ghost use Rattle.h1_model.specs.Frame.{frame};
+ghost use Rattle.std.specs.Prelude.{◌≡◌, ◌++◌, None, Some, option_map, true, false, if◌then◌else◌, OnOk, OnErr, IsOk, IfOk, IfErr};
+ghost use Rattle.h1_model.specs.Frame.{frame, continuation_started, continuation_not_started};
 ghost use Rattle.h1_model.specs.FrameText.{close_payload, send_error};
 ghost use Rattle.ws_frames.specs.Close.{reason_says};
 ghost use Rattle.ws_frames.specs.Codec.{item_says};
 ghost use Rattle.ws_frames.specs.CodecState.{codec_server, codec_sending, codec_words};
 ghost use Rattle.ws_frames.specs.Protocol.{opcode_written};
-ghost use Rattle.ws_frames.specs.Refusal.{refusal, UnlessNoMemory};
+ghost use Rattle.ws_frames.specs.Refusal.{error_for};
 ghost use Rattle.ws_frames.specs.Sent.{message_says, message_written, frame_written, mask_drawn, sending_after, words_left, words_after, with_sending};
 ghost use Rattle.ws_frames.specs.Written.{written};
 
@@ -21,7 +21,8 @@ use std::alloc::Global;
 
 impl<R: Rng> Codec<R> {
     /// Writes a message. A first fragment inside a message that is sent is refused, and any other fragment outside one;
-    /// a whole message may stand between fragments. After an error codec and bytes are as before.
+    /// a whole message may stand between fragments. After an error codec and bytes are as before. To refuse a message, or
+    /// to send nothing, takes no memory.
     pub fn encode(
         &mut self,
         alloc: Global,
@@ -35,7 +36,8 @@ impl<R: Rng> Codec<R> {
         ensures words { OnOk result (R.stream (codec_words self.new) ≡ words_after (codec_server self.old) (message_says item) (R.stream (codec_words self.old))) }
         ensures others { OnOk result (self.new ≡ with_sending (codec_words self.new) (codec_sending self.new) self.old) }
         ensures err { OnErr result ((dst.new.items ≡ dst.old.items) × (self.new ≡ self.old)) }
-        ensures cause { IfErr result (λ e. UnlessNoMemory e (option_map refusal (send_error (codec_sending self.old) (message_says item)) ≡ Some e)) }
+        ensures cause { IfErr result (λ e. e ≡ error_for (send_error (codec_sending self.old) (message_says item))) }
+        ensures nothing { item ≡ Message.Nop → IsOk result }
     {
         match item {
             Message::Text(text) => self.send(dst, text.as_bytes(), OpCode::Text, true),
@@ -60,7 +62,7 @@ impl<R: Rng> Codec<R> {
         ensures words { OnOk result (R.stream (codec_words self.new) ≡ words_left (codec_server self.old) (R.stream (codec_words self.old))) }
         ensures others { OnOk result (self.new ≡ with_sending (codec_words self.new) (codec_sending self.new) self.old) }
         ensures err { OnErr result ((dst.new.items ≡ dst.old.items) × (self.new ≡ self.old)) }
-        ensures cause { IfErr result (λ e. UnlessNoMemory e (option_map refusal (send_error (codec_sending self.old) (frame (item_says item))) ≡ Some e)) }
+        ensures cause { IfErr result (λ e. e ≡ error_for (send_error (codec_sending self.old) (frame (item_says item)))) }
     {
         match item {
             Item::FirstText(payload) => self.send_first(dst, payload.as_slice(), OpCode::Text),
@@ -84,7 +86,7 @@ impl<R: Rng> Codec<R> {
         ensures after { OnOk result (codec_sending self.new ≡ true) }
         ensures others { OnOk result (self.new ≡ with_sending (codec_words self.new) (codec_sending self.new) self.old) }
         ensures err { OnErr result ((dst.new.items ≡ dst.old.items) × (self.new ≡ self.old)) }
-        ensures cause { IfErr result (λ e. UnlessNoMemory e ((codec_sending self.old ≡ true) × (e ≡ ProtocolError.ContinuationStarted))) }
+        ensures cause { IfErr result (λ e. e ≡ error_for (if codec_sending self.old then Some continuation_started else None)) }
     {
         if self.is_sending() {
             return Err(ProtocolError::ContinuationStarted);
@@ -112,7 +114,7 @@ impl<R: Rng> Codec<R> {
         ensures after { OnOk result (codec_sending self.new ≡ (if is_last then false else true)) }
         ensures others { OnOk result (self.new ≡ with_sending (codec_words self.new) (codec_sending self.new) self.old) }
         ensures err { OnErr result ((dst.new.items ≡ dst.old.items) × (self.new ≡ self.old)) }
-        ensures cause { IfErr result (λ e. UnlessNoMemory e ((codec_sending self.old ≡ false) × (e ≡ ProtocolError.ContinuationNotStarted))) }
+        ensures cause { IfErr result (λ e. e ≡ error_for (if codec_sending self.old then None else Some continuation_not_started)) }
     {
         if !self.is_sending() {
             return Err(ProtocolError::ContinuationNotStarted);

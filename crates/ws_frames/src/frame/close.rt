@@ -1,5 +1,5 @@
 //! The payload of a Close (RFC 6455, sections 5.5.1 and 7.4).
-ghost use Rattle.std.specs.Prelude.{◌≡◌, IfOk, option_map, string_bytes};
+ghost use Rattle.std.specs.Prelude.{◌≡◌, ◌<◌, length, Err, IfOk, OnErr, option_map, string_bytes};
 ghost use Rattle.std.specs.Str.Lossy.{utf8_lossy};
 ghost use Rattle.h1_model.specs.FrameText.{is_close_code, description_of, close_frame};
 ghost use Rattle.ws_frames.specs.Close.{reason_says, CloseSays, reason_frame, lossy_reason};
@@ -14,7 +14,8 @@ pub(crate) fn read_close(
     alloc: Global,
     payload: &[u8],
 ) -> Result<Option<CloseReason>, ProtocolError>
-    ensures { CloseSays result (close_frame payload.now) }
+    ensures says { CloseSays result (close_frame payload.now) }
+    ensures memory { result ≡ Err ProtocolError.NoMemory → 2 < length payload.now }
 {
     match payload {
         [] => Ok(None),
@@ -29,7 +30,8 @@ fn read_reason(
     number: u16,
     text: &[u8],
 ) -> Result<Option<CloseReason>, ProtocolError>
-    ensures { CloseSays result (reason_frame number text.now) }
+    ensures says { CloseSays result (reason_frame number text.now) }
+    ensures memory { result ≡ Err ProtocolError.NoMemory → 0 < length text.now }
 {
     if !is_close_code(number) {
         return Err(ProtocolError::BadOpCode);
@@ -55,7 +57,8 @@ fn is_close_code(number: u16) -> bool
 
 /// The text, if there is one.
 fn describe(alloc: Global, text: &str) -> Result<Option<String>, NoMemory>
-    ensures { IfOk result (λ description. option_map string_bytes description ≡ description_of text.now) }
+    ensures text { IfOk result (λ description. option_map string_bytes description ≡ description_of text.now) }
+    ensures memory { OnErr result (0 < length text.now) }
 {
     if text.is_empty() {
         return Ok(None);
@@ -65,7 +68,8 @@ fn describe(alloc: Global, text: &str) -> Result<Option<String>, NoMemory>
 
 /// The reason that a payload gives, whatever its code; U+FFFD stands for what is no UTF-8. There is none below two bytes.
 pub(crate) fn read_any_close(alloc: Global, payload: &[u8]) -> Result<Option<CloseReason>, NoMemory>
-    ensures { IfOk result (λ reason. option_map reason_says reason ≡ lossy_reason payload.now) }
+    ensures reason { IfOk result (λ reason. option_map reason_says reason ≡ lossy_reason payload.now) }
+    ensures memory { OnErr result (2 < length payload.now) }
 {
     match payload {
         [] => Ok(None),
@@ -80,7 +84,8 @@ pub(crate) fn read_any_close(alloc: Global, payload: &[u8]) -> Result<Option<Clo
 
 /// The text, if there is one, with U+FFFD for what is no UTF-8.
 fn describe_lossy(alloc: Global, text: &[u8]) -> Result<Option<String>, NoMemory>
-    ensures { IfOk result (λ description. option_map string_bytes description ≡ option_map utf8_lossy (description_of text.now)) }
+    ensures text { IfOk result (λ description. option_map string_bytes description ≡ option_map utf8_lossy (description_of text.now)) }
+    ensures memory { OnErr result (0 < length text.now) }
 {
     match text {
         [] => Ok(None),

@@ -1,12 +1,12 @@
 -- What is taken from the front of the bytes is the frame there.
 use Rattle.std.proofs.Common.{◌≡◌, ℕ, ◌+◌, List, drop, refl, sym, ap, ◌∙◌, subst}
-use Rattle.h1_model.specs.FrameText.{front_of_judged}
-use Rattle.ws_frames.specs.CodecState.{codec_server, codec_limit, codec_reading, cost}
+use Rattle.h1_model.specs.FrameText.{Front, front_of_judged}
+use Rattle.ws_frames.specs.CodecState.{codec_server, codec_limit, codec_reading, cost, Failed}
 use Rattle.ws_frames.specs.Header.{payload_at}
 use Rattle.ws_frames.specs.Judged.{front_of_parsed}
 use Rattle.ws_frames.specs.Parsed.{Parsed, takes, parsed}
 use Rattle.ws_frames.specs.Protocol.{opcode_written}
-use Rattle.ws_frames.proofs.KindLemmas.{not_memory}
+use Rattle.ws_frames.proofs.ErrorLemmas.{judged_fails}
 use Rattle.ws_frames.proofs.ParsedFronts.{front_is_parsed}
 use Rattle.ws_frames.proofs.codec.Codec.decode.Goals as goal
 
@@ -24,15 +24,11 @@ returns-in-Refuses-clause-frame g c =
     let max = codec_limit c.args.self.now in
     let u = codec_reading c.args.self.now in
     let said = c.in-Refuses.ensures in
-    let is = ap (parsed server max) (sym c.as_slice.ensures) ∙ said.refused in (
+    let is = ap (parsed server max) (sym c.as_slice.ensures) ∙ said.refused in
+    let front = front_is_parsed server u max c.args.src.now.items ∙ ap (front_of_parsed u) is in (
       refl,
-      λ e. absurd (not_memory said.rule (sym said.named ∙ e)),
-      λ other. (
-        said.rule,
-        front_is_parsed server u max c.args.src.now.items ∙ ap (front_of_parsed u) is,
-        said.named,
-        c.advance.ensures.items ∙ ap (λ (p : Parsed). drop (cost p) c.args.src.now.items) (sym is),
-      ),
+      subst (λ (x : Front). Failed x c.in-Refuses.error (cost (parsed server max c.args.src.now.items)) c.args.src.now.items c.advance.new.self.items) (sym front)
+          (said.named, c.advance.ensures.items ∙ ap (λ (p : Parsed). drop (cost p) c.args.src.now.items) (sym is)),
     )
 
 pub returns-in-Ok-clause-frame : goal.returns-in-Ok-clause-frame
@@ -54,13 +50,9 @@ returns-in-Err-clause-frame g c =
     let len = c.in-Takes.header_len + c.in-Takes.payload_len in
     let is = subst (λ (t : List ℕ). parsed server max t ≡ takes c.in-Takes.finished (opcode_written c.in-Takes.op)
     (payload_at server c.in-Takes.header_len c.in-Takes.payload_len t) len) c.as_slice.ensures c.in-Takes.ensures.taken in
-    let taken = c.in-Err.ensures in (
+    let front = front_is_parsed server u max c.args.src.now.items ∙ ap (front_of_parsed u) is in
+    let fails = judged_fails _ c.in-Err.error len (cost (parsed server max c.args.src.now.items)) c.args.src.now.items c.take_judged.new.src.items
+    (ap cost is) c.in-Err.ensures in (
       refl,
-      taken.0,
-      λ other. let said = taken.1 other in (
-        said.0,
-        front_is_parsed server u max c.args.src.now.items ∙ ap (front_of_parsed u) is ∙ ap (front_of_judged len) said.1,
-        said.2,
-        said.3 ∙ ap (λ (p : Parsed). drop (cost p) c.args.src.now.items) (sym is),
-      ),
+      subst (λ (x : Front). Failed x c.in-Err.error (cost (parsed server max c.args.src.now.items)) c.args.src.now.items c.take_judged.new.src.items) (sym front) fails,
     )

@@ -1,9 +1,10 @@
 -- What was found is what is taken.
 use Rattle.std.proofs.Common.{◌≡◌, ℕ, ◌+◌, List, refl, sym, ap, ◌∙◌, subst}
 use Rattle.ws_frames.specs.Header.{payload_at}
-use Rattle.ws_frames.specs.Parsed.{takes, parsed}
+use Rattle.ws_frames.specs.declared.error.ProtocolError.TheVariants as errors
+use Rattle.ws_frames.specs.Parsed.{Parsed, takes, parsed}
+use Rattle.ws_frames.specs.ParserState.{ParseFails}
 use Rattle.ws_frames.specs.Protocol.{opcode_written}
-use Rattle.ws_frames.proofs.KindLemmas.{not_memory}
 use Rattle.ws_frames.proofs.parser.Parser.parse.Goals as goal
 
 pub returns-in-Waits : goal.returns-in-Waits
@@ -13,7 +14,7 @@ pub returns-in-Refuses : goal.returns-in-Refuses
 returns-in-Refuses c =
     let said = c.in-Refuses.ensures in
     let is = ap (parsed c.args.server c.args.max_size) (sym c.as_slice.ensures) ∙ said.refused in
-    (λ e. absurd (not_memory said.rule (sym said.named ∙ e)), λ other. (said.rule, c.in-Refuses.dropped, is, said.named, c.advance.ensures.items))
+    subst (λ (p : Parsed). ParseFails p c.in-Refuses.error c.args.src.now.items c.advance.new.self.items) (sym is) (said.named, c.advance.ensures.items)
 
 pub returns-in-Ok : goal.returns-in-Ok
 returns-in-Ok c =
@@ -23,4 +24,8 @@ returns-in-Ok c =
     (len, is ∙ ap (λ (p : List ℕ). takes c.in-Takes.finished (opcode_written c.in-Takes.op) p len) (sym c.in-Ok.ensures.payload), c.in-Ok.ensures.rest)
 
 pub returns-in-Err : goal.returns-in-Err
-returns-in-Err c = (λ _. c.in-Err.ensures.err, λ other. absurd (other refl))
+returns-in-Err c =
+    let len = c.in-Takes.header_len + c.in-Takes.payload_len in
+    let is = subst (λ (t : List ℕ). parsed c.args.server c.args.max_size t ≡ takes c.in-Takes.finished (opcode_written c.in-Takes.op)
+    (payload_at c.args.server c.in-Takes.header_len c.in-Takes.payload_len t) len) c.as_slice.ensures c.in-Takes.ensures.taken in
+    subst (λ (p : Parsed). ParseFails p errors.NoMemory c.args.src.now.items c.take_data.new.src.items) (sym is) (refl, c.in-Err.ensures.err)

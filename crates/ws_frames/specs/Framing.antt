@@ -1,0 +1,36 @@
+-- What bytes say to a codec, and the text that one writes.
+use Rattle.std.specs.Prelude.{◌≡◌, ℕ, List, ◌∷◌, Option, None}
+use Rattle.rand_core.specs.Stream.{Stream}
+use Rattle.h1_model.specs.Frame as model
+use Rattle.h1_model.specs.FrameText.{send_error}
+use Rattle.ws_frames.specs.declared.message.Frame.{Frame}
+use Rattle.ws_frames.specs.declared.message.Message.{Message}
+use Rattle.ws_frames.specs.declared.codec.Codec.{Codec}
+use Rattle.ws_frames.specs.Parsed.{late_reader}
+use Rattle.ws_frames.specs.Pieces.{AreFrames}
+use Rattle.ws_frames.specs.Codec.{frame_says}
+use Rattle.ws_frames.specs.CodecState.{codec_server, codec_limit, codec_reading, codec_sending, codec_words}
+use Rattle.ws_frames.specs.Sent.{message_says, message_written, mask_drawn, sending_after, words_after, with_sending}
+
+-- frames, and the rule that what stands behind them breaks, or none
+pub record Frames : Type 0 where
+  pub frames : List model.Frame
+  pub fail : Option model.ProtocolError
+
+-- from where the codec stands the bytes are these frames
+abbrev pub Reads : {R : Type 0} → Codec R → List ℕ → Frames → Type 0
+Reads codec bytes said =
+    AreFrames (late_reader (codec_server codec) (codec_limit codec)) (codec_reading codec) bytes said.frames said.fail
+
+-- a frame in front of what is said
+abbrev pub given : Frame → Frames → Frames
+given frame said = record said { frames = frame_says frame ∷ said.frames }
+
+-- from where the codec stands a message may be sent, has this text, and leaves the codec so
+abbrev pub Writes : {R : Type 0} → (R → Stream) → Codec R → Message → List ℕ → Codec R → Type 0
+Writes stream old message text new =
+    (send_error (codec_sending old) (message_says message) ≡ None)
+    × (text ≡ message_written (mask_drawn (codec_server old) (stream (codec_words old))) (message_says message))
+    × (codec_sending new ≡ sending_after (codec_sending old) (message_says message))
+    × (stream (codec_words new) ≡ words_after (codec_server old) (message_says message) (stream (codec_words old)))
+    × (new ≡ with_sending (codec_words new) (codec_sending new) old)

@@ -1,0 +1,39 @@
+//! A codec as a decoder and an encoder like any other. What memory they take is that of the buffer's allocator.
+use crate::codec::Codec;
+use crate::error::ProtocolError;
+use crate::message::{Frame, Message};
+use bytes::BytesMut;
+use http_bodies::{Decoder, Encoder};
+use rand_core::Rng;
+
+impl<R> Decoder for Codec<R> {
+    ghost use Rattle.ws_frames.specs.Framing.{Frames, Reads, given};
+
+    type Item = Frame;
+
+    type Error = ProtocolError;
+
+    ghost Said = { Frames };
+
+    ghost reads = { Reads };
+
+    ghost given = { given };
+
+    fn decode(&mut self, src: &mut BytesMut) -> Result<Option<Frame>, ProtocolError> {
+        let alloc = *src.allocator();
+        Codec::decode(self, alloc, src)
+    }
+}
+
+impl<R: Rng> Encoder<Message> for Codec<R> {
+    ghost use Rattle.ws_frames.specs.Framing.{Writes};
+
+    type Error = ProtocolError;
+
+    ghost writes = { Writes R.stream };
+
+    fn encode(&mut self, item: Message, dst: &mut BytesMut) -> Result<(), ProtocolError> {
+        let alloc = *dst.allocator();
+        Codec::encode(self, alloc, item, dst)
+    }
+}
