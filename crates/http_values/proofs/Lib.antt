@@ -1,5 +1,6 @@
 pub mod CharsetLemmas
 pub mod CodingLemmas
+pub mod DateLemmas
 pub mod EscapeLemmas
 pub mod ExtendedLemmas
 pub mod ExtendedReadings
@@ -7,6 +8,7 @@ pub mod ListLemmas
 pub mod ListReadings
 pub mod MimeLemmas
 pub mod MimeParameters
+pub mod PrintedExtended
 pub mod PrintedQuality
 pub mod QualityItemLemmas
 pub mod QualityLemmas
