@@ -6,6 +6,7 @@ pub mod ExtendedLemmas
 pub mod ExtendedReadings
 pub mod ListLemmas
 pub mod ListReadings
+pub mod MediaTypeLemmas
 pub mod MimeLemmas
 pub mod MimeParameters
 pub mod PrintedExtended

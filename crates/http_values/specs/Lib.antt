@@ -8,6 +8,8 @@ pub mod ExtendedValue
 pub mod Header
 pub mod HttpDate
 pub mod LanguageTag
+pub mod MediaType
+pub mod MediaTypeCuts
 pub mod Mime
 pub mod MimeValue
 pub mod OneValue
