@@ -13,4 +13,8 @@ pub mod PrintedExtended
 pub mod PrintedQuality
 pub mod QualityItemLemmas
 pub mod QualityLemmas
+pub mod TagPaths
+pub mod TagTests
+pub mod TagTexts
+pub mod TagTrees
 pub mod WriteLemmas
