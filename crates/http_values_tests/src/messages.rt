@@ -51,10 +51,7 @@ fn a_coding_is_a_header(rt: HostRuntime) -> Result<(), Fail> {
 }
 
 // What a message with these values of `Content-Type` says.
-fn told(
-    alloc: Global,
-    values: &[&[u8]],
-) -> Result<Result<Option<Mime>, ContentTypeError>, Fail> {
+fn told(alloc: Global, values: &[&[u8]]) -> Result<Result<Option<Mime>, ContentTypeError>, Fail> {
     let request = with_values(alloc, CONTENT_TYPE, values)?;
     Ok(mime_type(alloc, &request))
 }
