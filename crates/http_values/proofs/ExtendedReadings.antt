@@ -5,16 +5,19 @@ use Rattle.std.specs.Char.{to_ascii_lowercase}
 use Rattle.percent_encoding.specs.Percent.{percent_decode}
 use Rattle.http_values.specs.declared.shared.language_tag.LanguageTag.{LanguageTag}
 use Rattle.http_values.specs.declared.shared.extended.ExtendedValue.{ExtendedValue}
-use Rattle.http_values.specs.LanguageTag.{IsLanguageTag, after_start, is_x}
+use Rattle.http_values.specs.declared.shared.language_tag.Place.TheVariants.{Start}
+use Rattle.http_values.specs.LanguageTag.{IsLanguageTag, is_x}
+use Rattle.http_values.specs.LanguageTagPlaces.{after_start, subtags, Leads}
 use Rattle.http_values.specs.Charset.{IsNamed, charset_text}
 use Rattle.http_values.specs.ExtendedValue.{IsTagPart, SaysExtended, SameTag}
 use Rattle.http_values.proofs.CharsetLemmas.{keeps_its_label}
 use Rattle.http_values.proofs.ExtendedLemmas.{three_unique}
+use Rattle.http_values.proofs.TagTexts.{tag_leads}
 
 -- an empty text is no tag
 empty_is_no_tag : IsLanguageTag [] → ⊥
 unfolding after_start is_x
-empty_is_no_tag h = cc (h)
+empty_is_no_tag h = let leads : Leads (Some Start) (subtags []) = tag_leads [] h in cc (leads)
 
 -- a part is that of one tag
 tag_unique : (text : List ℕ) (a b : Option LanguageTag) → IsTagPart text a → IsTagPart text b → SameTag a b

@@ -14,7 +14,9 @@ use Rattle.std.specs.List.{prefix_len}
 use Rattle.http_header.specs.Token.{is_token_byte}
 use Rattle.http_values.specs.declared.shared.mime.Class.{Class}
 use Rattle.http_values.specs.declared.shared.mime.Class.TheVariants.{Token, Blank, Quotable}
-use Rattle.http_values.specs.Mime.{in_class, IsRun, IsTokenCut, IsQuotedCut, IsValueCut, IsParameterCut, AreParameters, IsEssenceCut, IsMimeText, pair_of, pairs_of}
+use Rattle.http_values.specs.MediaType.{IsMimeText}
+use Rattle.http_values.specs.MediaTypeCuts.{in_class, IsRun, IsTokenCut, IsQuotedCut, IsValueCut, IsParameterCut, AreParameters, IsEssenceCut}
+use Rattle.http_values.specs.Mime.{pair_of, pairs_of}
 
 -- a text has one run of a class
 pub run_unique : (class : Class) (text a b c d : List ℕ) → IsRun class text a b → IsRun class text c d → (a ≡ c) × (b ≡ d)
@@ -194,10 +196,10 @@ pub pairs_pushed : (p : Parameter) (was now : List Parameter) (n v : List ℕ) �
     → pairs_of now ≡ pairs_of was ++ (n, v) ∷ []
 pairs_pushed p was now n v is name value = ap (λ ps. pairs_of ps) is ∙ pairs_behind p n v name value was
 
--- a text is that of one media type
-pub mime_unique : (text kind subtype kind' subtype' : List ℕ) (ps qs : List (List ℕ × List ℕ)) → IsMimeText text kind subtype ps
-    → IsMimeText text kind' subtype' qs → (kind ≡ kind') × (subtype ≡ subtype') × (ps ≡ qs)
-mime_unique text kind subtype kind' subtype' ps qs h k =
-    let one = essence_unique text kind subtype h.rest kind' subtype' k.rest h.essence k.essence in
-    let P : List ℕ → Type 0 = λ t. AreParameters t ps in
-    (one.0, one.1, parameters_unique k.rest ps qs (subst P one.2 h.parameters) k.parameters)
+-- a text that is cut in two ways is cut in one
+pub cuts_unique : (text kind subtype rest kind' subtype' rest' : List ℕ) (ps qs : List (List ℕ × List ℕ))
+    → IsEssenceCut text kind subtype rest → AreParameters rest ps → IsEssenceCut text kind' subtype' rest' → AreParameters rest' qs
+    → (kind ≡ kind') × (subtype ≡ subtype') × (ps ≡ qs)
+cuts_unique text kind subtype rest kind' subtype' rest' ps qs a h b k =
+    let one = essence_unique text kind subtype rest kind' subtype' rest' a b in
+    let P : List ℕ → Type 0 = λ t. AreParameters t ps in (one.0, one.1, parameters_unique rest' ps qs (subst P one.2 h) k)

@@ -1,10 +1,8 @@
--- Language tags (RFC 5646, section 2.1): subtags with hyphens between them. The grammar is regular: each rule reads
--- one subtag, and says after which place it may stand and which place it leads to.
-use Rattle.std.specs.Prelude.{ℕ, ◌-◌, Bool, true, false, ◌&&◌, ◌||◌, not, List, length, IsTrue, Option, Some, None, ◌==◌, nat_le, nat_lt, if◌then◌else◌, slice_index, fold}
-use Rattle.std.specs.List.{slice_split, list_all}
+-- Language tags (RFC 5646, section 2.1), but those that are registered whole: subtags with hyphens between them. A tree,
+-- its text, and when the tree is well formed.
+use Rattle.std.specs.Prelude.{◌≡◌, ℕ, ◌<◌, ◌≤◌, ◌⊎◌, Bool, ◌&&◌, ◌||◌, not, List, [], ◌∷◌, ◌++◌, length, IsTrue, Option, Some, None, ◌==◌, nat_le, slice_index, flat_map}
+use Rattle.std.specs.List.{list_all, join_with_byte, AllByRecursion}
 use Rattle.std.specs.Char.{is_ascii_alphabetic, is_ascii_digit, is_ascii_alphanumeric}
-use Rattle.http_values.specs.declared.shared.language_tag.Place.{Place}
-use Rattle.http_values.specs.declared.shared.language_tag.Place.TheVariants.{Start, Language, Script, Region, Variant, Singleton, Extension, PrivateStart, Private}
 
 -- from low to high bytes
 abbrev pub has_len : ℕ → ℕ → List ℕ → Bool
@@ -36,62 +34,101 @@ is_x s = (length s == 1) && ((slice_index s 0 == 120) || (slice_index s 0 == 88)
 unfoldable pub is_singleton : List ℕ → Bool
 is_singleton s = is_letters_or_digits 1 1 s && not (is_x s)
 
--- what may follow a variant: an extension, or private use
-unfoldable pub after_variant : List ℕ → Option Place
-after_variant s = if is_singleton s then Some Singleton else (if is_x s then Some PrivateStart else None)
+-- each subtag passes the test
+abbrev pub EachPasses : (List ℕ → Bool) → List (List ℕ) → Type 0
+EachPasses test subtags = IsTrue (list_all test subtags)
 
--- what may follow a region
-unfoldable pub after_region : List ℕ → Option Place
-after_region s = if is_variant s then Some Variant else after_variant s
+-- there is no subtag, or it passes the test
+abbrev pub NonePasses : (List ℕ → Bool) → Option (List ℕ) → Type 0
+NonePasses test None = Unit {0}
+NonePasses test (Some subtag) = IsTrue (test subtag)
 
--- what may follow a script
-unfoldable pub after_script : List ℕ → Option Place
-after_script s = if is_region s then Some Region else after_region s
+-- extension = singleton 1*("-" (2*8alphanum))
+pub record ExtensionPart : Type 0 where
+  pub singleton : List ℕ
+  pub subtags : List (List ℕ)
 
--- what may follow the language, and k of its extended subtags may too
-unfoldable pub after_language : ℕ → List ℕ → Option Place
-after_language k s =
-    if nat_lt 0 k && is_letters 3 3 s then Some (Language (k - 1))
-    else (if is_letters 4 4 s then Some Script else after_script s)
+abbrev pub extension_subtags : ExtensionPart → List (List ℕ)
+extension_subtags e = e.singleton ∷ e.subtags
 
--- the first subtag: a language of two or three letters, which up to three extended subtags may follow, one of four to eight, or `x`
-unfoldable pub after_start : List ℕ → Option Place
-after_start s =
-    if is_letters 2 3 s then Some (Language 3)
-    else (if is_letters 4 8 s then Some (Language 0) else (if is_x s then Some PrivateStart else None))
+pub record IsExtensionPart (e : ExtensionPart) : Type 0 where
+  pub singleton : IsTrue (is_singleton e.singleton)
+  pub some : 0 < length e.subtags
+  pub subtags : EachPasses (is_letters_or_digits 2 8) e.subtags
 
--- where a subtag leads to
-abbrev pub next_place : Place → List ℕ → Option Place
-next_place Start s = after_start s
-next_place (Language k) s = after_language k s
-next_place Script s = after_script s
-next_place Region s = after_region s
-next_place Variant s = after_region s
-next_place Singleton s = if is_letters_or_digits 2 8 s then Some Extension else None
-next_place Extension s = if is_letters_or_digits 2 8 s then Some Extension else after_variant s
-next_place PrivateStart s = if is_letters_or_digits 1 8 s then Some Private else None
-next_place Private s = if is_letters_or_digits 1 8 s then Some Private else None
+-- privateuse = "x" 1*("-" (1*8alphanum))
+pub record PrivatePart : Type 0 where
+  pub mark : List ℕ
+  pub subtags : List (List ℕ)
 
--- the same from where an earlier subtag led, if anywhere
-abbrev pub step : Option Place → List ℕ → Option Place
-step None s = None
-step (Some place) s = next_place place s
+abbrev pub private_subtags : PrivatePart → List (List ℕ)
+private_subtags p = p.mark ∷ p.subtags
 
--- whether a tag may end there: not where a further subtag must follow
-abbrev pub may_end : Place → Bool
-may_end Start = false
-may_end Singleton = false
-may_end PrivateStart = false
-may_end _ = true
+pub record IsPrivatePart (p : PrivatePart) : Type 0 where
+  pub mark : IsTrue (is_x p.mark)
+  pub some : 0 < length p.subtags
+  pub subtags : EachPasses (is_letters_or_digits 1 8) p.subtags
 
-abbrev pub ends : Option Place → Bool
-ends None = false
-ends (Some place) = may_end place
+-- the subtag, or the part, if there is one
+abbrev pub subtag_if : Option (List ℕ) → List (List ℕ)
+subtag_if None = []
+subtag_if (Some subtag) = subtag ∷ []
 
--- the subtags of a text
-abbrev pub subtags : List ℕ → List (List ℕ)
-subtags text = slice_split (λ b. b == 45) text
+abbrev pub private_if : Option PrivatePart → List (List ℕ)
+private_if None = []
+private_if (Some p) = private_subtags p
 
--- the subtags lead from the start to a place where the tag may end
-abbrev pub IsLanguageTag : List ℕ → Type 0
-IsLanguageTag text = IsTrue (ends (fold step (Some Start) (subtags text)))
+abbrev pub IsPrivateIf : Option PrivatePart → Type 0
+IsPrivateIf None = Unit {0}
+IsPrivateIf (Some p) = IsPrivatePart p
+
+-- langtag = language *("-" extlang) ["-" script] ["-" region] *("-" variant) *("-" extension) ["-" privateuse]
+pub record Langtag : Type 0 where
+  pub language : List ℕ
+  pub extlangs : List (List ℕ)
+  pub script : Option (List ℕ)
+  pub region : Option (List ℕ)
+  pub variants : List (List ℕ)
+  pub extensions : List ExtensionPart
+  pub private : Option PrivatePart
+
+abbrev pub langtag_subtags : Langtag → List (List ℕ)
+langtag_subtags t =
+    t.language ∷ (t.extlangs ++ (subtag_if t.script ++ (subtag_if t.region ++ (t.variants ++ (flat_map extension_subtags t.extensions ++ private_if t.private)))))
+
+-- language = 2*3ALPHA, which up to three extlang = 3ALPHA may follow, or 4*8ALPHA
+abbrev pub IsLanguage : List ℕ → List (List ℕ) → Type 0
+IsLanguage language extlangs =
+    (IsTrue (is_letters 2 3 language) × (length extlangs ≤ 3) × EachPasses (is_letters 3 3) extlangs)
+    ⊎ (IsTrue (is_letters 4 8 language) × (extlangs ≡ []))
+
+-- script = 4ALPHA
+pub record IsLangtag (t : Langtag) : Type 0 where
+  pub language : IsLanguage t.language t.extlangs
+  pub script : NonePasses (is_letters 4 4) t.script
+  pub region : NonePasses is_region t.region
+  pub variants : EachPasses is_variant t.variants
+  pub extensions : AllByRecursion IsExtensionPart t.extensions
+  pub private : IsPrivateIf t.private
+
+-- Language-Tag = langtag / privateuse
+pub data TagTree : Type 0 where
+  Common : Langtag → TagTree
+  Private : PrivatePart → TagTree
+
+abbrev pub tree_subtags : TagTree → List (List ℕ)
+tree_subtags (Common t) = langtag_subtags t
+tree_subtags (Private p) = private_subtags p
+
+abbrev pub tree_text : TagTree → List ℕ
+tree_text t = join_with_byte 45 (tree_subtags t)
+
+abbrev pub IsTagTree : TagTree → Type 0
+IsTagTree (Common t) = IsLangtag t
+IsTagTree (Private p) = IsPrivatePart p
+
+-- the text is that of a language tag
+pub record IsLanguageTag (text : List ℕ) : Type 0 where
+  pub tree : TagTree
+  pub well_formed : IsTagTree tree
+  pub spelled : text ≡ tree_text tree

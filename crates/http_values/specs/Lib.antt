@@ -8,6 +8,9 @@ pub mod ExtendedValue
 pub mod Header
 pub mod HttpDate
 pub mod LanguageTag
+pub mod LanguageTagPlaces
+pub mod MediaType
+pub mod MediaTypeCuts
 pub mod Mime
 pub mod MimeValue
 pub mod OneValue

@@ -1,7 +1,8 @@
 -- What a media type keeps, and the text that it was read from.
 use Rattle.std.specs.Prelude.{◌≡◌, ℕ, List, string_bytes}
 use Rattle.http_values.specs.declared.shared.mime.Mime.{Mime}
-use Rattle.http_values.specs.Mime.{IsMimeText, pairs_of}
+use Rattle.http_values.specs.MediaType.{IsMimeText}
+use Rattle.http_values.specs.Mime.{pairs_of}
 
 -- the text, which the media type prints
 abbrev pub mime_text : Mime → List ℕ

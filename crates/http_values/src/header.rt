@@ -3,7 +3,7 @@ ghost use Rattle.std.specs.Prelude.{◌≡◌, ◌≢◌, ◌↔◌, ◌⊎◌, 
 ghost use Rattle.http_header.specs.FieldValue.{IsFieldValue};
 ghost use Rattle.http_map.specs.HeaderMap.{Entries, get};
 ghost use Rattle.http_values.specs.Header.{HasName, FirstReads};
-ghost use Rattle.http_values.specs.Mime.{IsSomeMime};
+ghost use Rattle.http_values.specs.MediaType.{IsSomeMime};
 ghost use Rattle.http_values.specs.MimeValue.{SaysMime};
 
 use crate::shared::Mime;

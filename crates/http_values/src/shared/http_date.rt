@@ -90,3 +90,8 @@ pub fn http_date_is_unique()
 pub fn printed_date_shows_it()
     ensures { (d : Date) → IsDateText (http_date_text d) d.date }
 {}
+
+/// What a date prints is read as that date.
+pub fn printed_date_is_read()
+    ensures { (d : Date) → IsHttpDateText (http_date_text d) d }
+{}

@@ -2,7 +2,8 @@
 ghost use Rattle.std.specs.Prelude.{◌≡◌, ◌↔◌, ℕ, List, Some, IsTrue, IfOk, IsErrOf, string_bytes};
 ghost use Rattle.std.specs.List.{list_all};
 ghost use Rattle.std.specs.Char.{is_ascii_alphabetic, is_ascii_digit, is_ascii_alphanumeric};
-ghost use Rattle.http_values.specs.LanguageTag.{IsLanguageTag, has_len, is_letters, is_letters_or_digits, is_digits, is_region, is_variant, is_x, is_singleton, after_variant, after_region, after_script, after_language, after_start, next_place, may_end};
+ghost use Rattle.http_values.specs.LanguageTag.{IsLanguageTag, has_len, is_letters, is_letters_or_digits, is_digits, is_region, is_variant, is_x, is_singleton};
+ghost use Rattle.http_values.specs.LanguageTagPlaces.{after_variant, after_region, after_script, after_language, after_start, next_place, may_end};
 ghost use Rattle.http_values.specs.TagText.{tag_text};
 ghost use Rattle.http_values.specs.declared.shared.language_tag.LanguageTag.{LanguageTag as Tag};
 
@@ -111,7 +112,7 @@ fn begins_extension(s: &[u8]) -> bool
     are_letters_or_digits(s, 1, 1) && !begins_private(s)
 }
 
-#[tactic(auto, unfolding(crate::specs::LanguageTag::after_variant))]
+#[tactic(auto, unfolding(crate::specs::LanguageTagPlaces::after_variant))]
 fn next_after_variant(s: &[u8]) -> Option<Place>
     ensures { result ≡ after_variant s.now }
 {
@@ -124,7 +125,7 @@ fn next_after_variant(s: &[u8]) -> Option<Place>
     }
 }
 
-#[tactic(auto, unfolding(crate::specs::LanguageTag::after_region))]
+#[tactic(auto, unfolding(crate::specs::LanguageTagPlaces::after_region))]
 fn next_after_region(s: &[u8]) -> Option<Place>
     ensures { result ≡ after_region s.now }
 {
@@ -135,7 +136,7 @@ fn next_after_region(s: &[u8]) -> Option<Place>
     }
 }
 
-#[tactic(auto, unfolding(crate::specs::LanguageTag::after_script))]
+#[tactic(auto, unfolding(crate::specs::LanguageTagPlaces::after_script))]
 fn next_after_script(s: &[u8]) -> Option<Place>
     ensures { result ≡ after_script s.now }
 {
@@ -146,7 +147,7 @@ fn next_after_script(s: &[u8]) -> Option<Place>
     }
 }
 
-#[tactic(auto, unfolding(crate::specs::LanguageTag::after_language))]
+#[tactic(auto, unfolding(crate::specs::LanguageTagPlaces::after_language))]
 fn next_after_language(more: u8, s: &[u8]) -> Option<Place>
     ensures { result ≡ after_language more s.now }
 {
@@ -159,7 +160,7 @@ fn next_after_language(more: u8, s: &[u8]) -> Option<Place>
     }
 }
 
-#[tactic(auto, unfolding(crate::specs::LanguageTag::after_start))]
+#[tactic(auto, unfolding(crate::specs::LanguageTagPlaces::after_start))]
 fn next_after_start(s: &[u8]) -> Option<Place>
     ensures { result ≡ after_start s.now }
 {

@@ -3,7 +3,9 @@ ghost use Rattle.std.specs.Prelude.{◌≡◌, ◌↔◌, ◌∷◌, [], ◌≤�
 ghost use Rattle.std.specs.List.{prefix_len};
 ghost use Rattle.std.specs.Str.{IsAscii};
 ghost use Rattle.http_header.specs.FieldValue.{FieldValue, plain_value};
-ghost use Rattle.http_values.specs.Mime.{in_class, IsRun, IsTokenCut, IsValueCut, IsParameterCut, AreParameters, IsEssenceCut, IsMimeText, IsSomeMime, HasNoName, IsFirstValue, pair_of, pairs_of};
+ghost use Rattle.http_values.specs.MediaType.{IsMimeText, IsSomeMime};
+ghost use Rattle.http_values.specs.MediaTypeCuts.{in_class, IsRun, IsTokenCut, IsValueCut, IsParameterCut, AreParameters, IsEssenceCut};
+ghost use Rattle.http_values.specs.Mime.{HasNoName, IsFirstValue, pair_of, pairs_of};
 ghost use Rattle.http_values.specs.MimeValue.{mime_text, SaysMime, SameMime};
 
 use crate::read::{FromText, ReadError};

@@ -3,7 +3,8 @@ use Rattle.std.specs.Prelude.{fold}
 use Rattle.std.proofs.lemmas.Iterator.{items_from_drains}
 use Rattle.std.proofs.lemmas.Iterator.Splits.{YieldsList-from_str_split}
 use Rattle.http_values.specs.declared.shared.language_tag.Place.TheVariants.{Start}
-use Rattle.http_values.specs.LanguageTag.{step, ends, subtags}
+use Rattle.http_values.specs.LanguageTagPlaces.{step, ends, subtags}
+use Rattle.http_values.proofs.TagTexts.{is_tag, tag_leads}
 use Rattle.http_values.proofs.shared.language_tag.is_language_tag.Goals as goal
 
 pub returns-in-Some-place-2 : goal.returns-in-Some-place-2
@@ -15,7 +16,7 @@ returns-in-Some-place-2 c =
     let e : ends (fold step (Some Start) (subtags c.args.s.now)) ≡ c.is_end.result =
     ap (λ xs. ends (fold step (Some Start) xs)) (sym whole)
     ∙ (ap ends (sym c.loop-subtag.invariant) ∙ (ap ends c.in-Some-place-2.is ∙ sym c.is_end.ensures)) in
-    (λ h. e ∙ h, λ h. sym e ∙ h)
+    (λ h. is_tag c.args.s.now (e ∙ h), λ h. sym e ∙ tag_leads c.args.s.now h)
 
 pub returns-in-None-place-2 : goal.returns-in-None-place-2
 returns-in-None-place-2 c =
@@ -25,4 +26,4 @@ returns-in-None-place-2 c =
     let whole = items_from_drains c.loop-subtag.yielded (c.loop-subtag.subtag-iterator, c.loop-subtag.yielded_by, λ _. (c.next.new.self, c.in-None.ensures.steps)) chain in
     let e : ends (fold step (Some Start) (subtags c.args.s.now)) ≡ ends None =
     ap (λ xs. ends (fold step (Some Start) xs)) (sym whole) ∙ (ap ends (sym c.loop-subtag.invariant) ∙ ap ends c.in-None-place-2.is) in
-    (λ h. e ∙ h, λ h. sym e ∙ h)
+    (λ h. is_tag c.args.s.now (e ∙ h), λ h. sym e ∙ tag_leads c.args.s.now h)

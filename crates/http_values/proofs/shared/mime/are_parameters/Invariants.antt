@@ -1,5 +1,5 @@
 use Rattle.std.proofs.Common.{ℕ, List, length}
-use Rattle.http_values.specs.Mime.{AreParameters}
+use Rattle.http_values.specs.MediaTypeCuts.{AreParameters}
 use Rattle.http_values.proofs.shared.mime.are_parameters.Given as goal
 
 -- what is left is that of parameters exactly where the whole text is

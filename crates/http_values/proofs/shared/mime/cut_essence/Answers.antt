@@ -1,5 +1,5 @@
 use Rattle.std.proofs.Common.{◌∷◌, ℕ, List, subst, ◌∙◌}
-use Rattle.http_values.specs.Mime.{IsTokenCut}
+use Rattle.http_values.specs.MediaTypeCuts.{IsTokenCut}
 use Rattle.http_values.proofs.MimeLemmas.{token_unique, behind_unique}
 use Rattle.http_values.proofs.shared.mime.cut_essence.Goals as goal
 

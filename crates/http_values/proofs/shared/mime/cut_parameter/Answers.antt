@@ -1,5 +1,5 @@
 use Rattle.std.proofs.Common.{◌∷◌, ℕ, List, subst, ◌∙◌}
-use Rattle.http_values.specs.Mime.{IsTokenCut, IsValueCut}
+use Rattle.http_values.specs.MediaTypeCuts.{IsTokenCut, IsValueCut}
 use Rattle.http_values.proofs.MimeLemmas.{named_is, token_unique, behind_unique}
 use Rattle.http_values.proofs.shared.mime.cut_parameter.Goals as goal
 

@@ -1,6 +1,6 @@
 use Rattle.std.proofs.Common.{ℕ, List, Option, Some, None, MatchOption, inr, ◌≡◌, ◌∷◌}
 use Rattle.std.specs.Borrow.{Bor}
-use Rattle.http_values.specs.Mime.{IsTokenCut, IsValueCut}
+use Rattle.http_values.specs.MediaTypeCuts.{IsTokenCut, IsValueCut}
 use Rattle.http_values.proofs.MimeLemmas.{no_value, no_quoted}
 use Rattle.http_values.proofs.shared.mime.cut_value.Goals as goal
 

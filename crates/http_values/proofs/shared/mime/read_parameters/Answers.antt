@@ -1,7 +1,8 @@
 use Rattle.std.proofs.Common.{◌≡◌, ℕ, List, [], ◌∷◌, ◌++◌, true, subst, sym, append-nil}
 use Rattle.std.specs.Prelude.{is_ok}
 use Rattle.http_values.specs.declared.shared.mime.Class.TheVariants.{Token}
-use Rattle.http_values.specs.Mime.{AreParameters, pairs_of}
+use Rattle.http_values.specs.MediaTypeCuts.{AreParameters}
+use Rattle.http_values.specs.Mime.{pairs_of}
 use Rattle.http_values.proofs.MimeLemmas.{no_parameter, parameter_short, parameters_behind, parameters_more, pairs_pushed, empty_is, run_ascii, value_ascii}
 use Rattle.http_values.proofs.shared.mime.read_parameters.Goals as goal
 

@@ -1,5 +1,6 @@
 use Rattle.std.proofs.Common.{ℕ, List, ◌++◌, length}
-use Rattle.http_values.specs.Mime.{AreParameters, pairs_of}
+use Rattle.http_values.specs.MediaTypeCuts.{AreParameters}
+use Rattle.http_values.specs.Mime.{pairs_of}
 use Rattle.http_values.proofs.shared.mime.read_parameters.Given as goal
 
 -- what is left goes on with the parameters of the whole text

@@ -1,6 +1,6 @@
 use Rattle.std.proofs.Common.{◌≡◌, ◌+◌, ◌-◌, ◌≤◌, length, drop}
 use Rattle.std.specs.List.{prefix_len}
-use Rattle.http_values.specs.Mime.{in_class}
+use Rattle.http_values.specs.MediaTypeCuts.{in_class}
 use Rattle.http_values.proofs.shared.mime.run_len.Given as goal
 
 -- the bytes so far are of the class
