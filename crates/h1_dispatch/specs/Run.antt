@@ -1,5 +1,5 @@
 -- What a list of events gives: the one trace of a connection, in the model's terms.
-use Rattle.std.specs.Prelude.{◌≡◌, ℕ, List, [], ◌∷◌, ◌++◌, map, reverse, take, slice_get, Option, Some, option_map, ⊤}
+use Rattle.std.specs.Prelude.{◌≡◌, ℕ, List, [], ◌∷◌, ◌++◌, map, reverse, take, slice_get, Option, Some, option_map, Result, Ok, Err, ⊤}
 use Rattle.http_config.specs.Config.{Settings}
 use Rattle.h1_model.specs.Parse as parsed
 use Rattle.h1_model.specs.Parse.{IsParse}
@@ -11,6 +11,7 @@ use Rattle.h1_model.specs.Text.{text}
 use Rattle.h1_model.specs.Closing.{closing}
 use Rattle.h1_model.specs.Trace as traces
 use Rattle.h1_model.specs.Trace.{IsTrace, IsPastOf}
+use Rattle.h1_model.specs.Laws.Runs as runs
 use Rattle.h1_dispatch.specs.Meaning.{setting_of, event_of, end_of, SaysOutcome}
 use Rattle.h1_dispatch.specs.declared.error.DriveError.{DriveError}
 use Rattle.h1_dispatch.specs.declared.error.DriveError.TheVariants.{Misplaced, NoMemory}
@@ -58,3 +59,25 @@ pub record IsMisplaced (settings : Settings) (events : List Event) (index : ℕ)
 abbrev pub IsStop : Settings → List Event → DriveError → Type 0
 IsStop settings events (Misplaced index trace) = IsMisplaced settings events index trace
 IsStop settings events NoMemory = ⊤
+
+-- ---- which of the two comes
+
+-- each of the events is allowed where it comes: there is a trace of all of them
+abbrev pub AreAllowed : Settings → List Event → Type 0
+AreAllowed settings events = (model : List sums.Step) × runs.IsWhole (setting_of settings) (map event_of events) model
+
+-- the event at the index is the first that isn't: there is a trace of those before it, and it isn't allowed behind that
+abbrev pub IsFirstRefused : Settings → List Event → ℕ → Type 0
+IsFirstRefused settings events index = (model : List sums.Step) × runs.StopsAt (setting_of settings) (map event_of events) index model
+
+-- every event was answered, but for want of memory
+abbrev pub AnswersAll : Result Trace DriveError → Type 0
+AnswersAll (Ok trace) = ⊤
+AnswersAll (Err (Misplaced index trace)) = ⊥
+AnswersAll (Err NoMemory) = ⊤
+
+-- the event at the index is the one that was refused, but for want of memory
+abbrev pub RefusesAt : ℕ → Result Trace DriveError → Type 0
+RefusesAt index (Ok trace) = ⊥
+RefusesAt index (Err (Misplaced at trace)) = at ≡ index
+RefusesAt index (Err NoMemory) = ⊤

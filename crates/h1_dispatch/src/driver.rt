@@ -1,8 +1,8 @@
 //! A connection's answers to a list of events.
-ghost use Rattle.std.specs.Prelude.{◌≡◌, option_map, IfOk, IfErr};
+ghost use Rattle.std.specs.Prelude.{◌≡◌, ℕ, option_map, IfOk, IfErr};
 ghost use Rattle.h1_machine.specs.Local.{closing_by};
 ghost use Rattle.h1_dispatch.specs.Meaning.{setting_of, end_of};
-ghost use Rattle.h1_dispatch.specs.Run.{IsWhole, IsStop};
+ghost use Rattle.h1_dispatch.specs.Run.{IsWhole, IsStop, AreAllowed, IsFirstRefused, AnswersAll, RefusesAt};
 
 use crate::{Connection, DriveError, Event, Steps, Trace};
 use bytes::Bytes;
@@ -13,6 +13,10 @@ use std::alloc::Global;
 pub fn drive(alloc: Global, config: &ServiceConfig, events: &[Event]) -> Result<Trace, DriveError>
     ensures ok { IfOk result (IsWhole config.now events.now) }
     ensures stopped { IfErr result (IsStop config.now events.now) }
+
+    // Where each event is allowed none is refused, and where one isn't, the first such is.
+    ensures complete { AreAllowed config.now events.now → AnswersAll result }
+    ensures first { (index : ℕ) → IsFirstRefused config.now events.now index → RefusesAt index result }
 {
     let mut connection = Connection::new(alloc, *config);
     let mut steps = Steps::with_capacity(alloc, events.len())?;

@@ -1,8 +1,9 @@
 -- What the program answers: a status, and the text that goes to its output.
-use Rattle.std.specs.Prelude.{ℕ, ◌≡◌, ◌++◌, ◌<◌, ◌≤◌, List, [], ◌∷◌, Option, IfSome, Ok, Err, length, codes, decimal}
-use Rattle.std.specs.Io.KnownBytes.{Consumes, Keeps, IsAtEnd}
+use Rattle.std.specs.Prelude.{ℕ, ◌≡◌, ◌++◌, ◌<◌, ◌≤◌, ◌⊎◌, List, [], ◌∷◌, Option, Some, IfSome, Ok, Err, length, codes, decimal}
+use Rattle.std.specs.Io.KnownBytes.{Appends, Consumes, Keeps, IsAtEnd}
+use Rattle.http_config.specs.Causes.{Rose}
 use Rattle.http_config.specs.Config.{Settings}
-use Rattle.h1_dispatch.specs.Run.{IsWhole, IsMisplaced}
+use Rattle.h1_dispatch.specs.Run.{IsWhole, IsMisplaced, AreAllowed, IsFirstRefused}
 use Rattle.h1_dispatch.specs.declared.event.Event.{Event}
 use Rattle.h1_dispatch.specs.declared.trace.Trace.{Trace}
 use Rattle.h1_replay.specs.Report.{IsReport}
@@ -84,3 +85,45 @@ pub data IsAnswer (words : List (List ℕ)) (left then : Option (List ℕ)) (sta
   read_fault : IsReplay words → text ≡ read_fault_text → status ≡ 4 → IsAnswer words left then status text
   too_long : IsReplay words → IfSome left (λ bytes. MAX_INPUT < length bytes) → text ≡ too_long_text → status ≡ 6 → IsAnswer words left then status text
   no_memory : IsReplay words → text ≡ no_memory_text → status ≡ 7 → IsAnswer words left then status text
+
+-- ---- which status comes where no end fails
+
+-- the source has these known bytes left: no more than are read, a script with these settings and events
+pub record IsScript (left : Option (List ℕ)) (config : Settings) (events : List Event) : Type 0 where
+  pub bytes : List ℕ
+  pub known : left ≡ Some bytes
+  pub within : length bytes ≤ MAX_INPUT
+  pub script : script_of bytes ≡ Ok (config, events)
+
+-- a script whose every event is allowed
+pub record IsGood (left : Option (List ℕ)) : Type 0 where
+  pub config : Settings
+  pub events : List Event
+  pub script : IsScript left config events
+  pub allowed : AreAllowed config events
+
+-- a script whose first event that isn't allowed stands at the index
+pub record IsRefused (left : Option (List ℕ)) (index : ℕ) : Type 0 where
+  pub config : Settings
+  pub events : List Event
+  pub script : IsScript left config events
+  pub first : IsFirstRefused config events index
+
+-- a report of the script's events before the one at the index, and a line that says that one is misplaced
+pub record IsRefusal (left : Option (List ℕ)) (index : ℕ) (text : List ℕ) : Type 0 where
+  pub config : Settings
+  pub events : List Event
+  pub trace : Trace
+  pub script : IsScript left config events
+  pub stops : IsMisplaced config events index trace
+  pub is_text : IsStoppedText trace (codes "misplaced ") index text
+
+-- no read and no write failed, by the counts of faults before and behind
+pub record NoEndFailed (source source_then sink sink_then : ℕ) : Type 0 where
+  pub reads : ¬ Rose source source_then
+  pub writes : ¬ Rose sink sink_then
+
+-- the status of a refusal, whose text the output grew by, or want of memory
+abbrev pub IsRefusedWith : Option (List ℕ) → ℕ → Option (List ℕ) → Option (List ℕ) → ℕ → Type 0
+IsRefusedWith left index given given_then status =
+    ((status ≡ 3) × ((text : List ℕ) × IsRefusal left index text × Appends given given_then text)) ⊎ (status ≡ 7)

@@ -1,10 +1,10 @@
 //! The program over any source and sink.
-ghost use Rattle.std.specs.Prelude.{◌≡◌, ◌≢◌, ◌≤◌, ◌↔◌, ℕ, List, IsTrue, map, string_bytes};
+ghost use Rattle.std.specs.Prelude.{◌≡◌, ◌≢◌, ◌≤◌, ◌↔◌, ◌⊎◌, ℕ, List, IsTrue, map, string_bytes};
 ghost use Rattle.std.specs.Io.KnownBytes.{Appends};
 ghost use Rattle.http_config.specs.Causes.{Rose};
 ghost use Rattle.h1_replay.specs.Output.{AppendsPrefix};
 ghost use Rattle.h1_replay.specs.Reply.{status_of_reply, text_of_reply};
-ghost use Rattle.h1_replay.specs.Run.{IsReplay, IsAnswer};
+ghost use Rattle.h1_replay.specs.Run.{IsReplay, IsAnswer, IsGood, IsRefused, NoEndFailed, IsRefusedWith};
 
 use crate::input::{InputError, read_input};
 use crate::output::write_all;
@@ -30,6 +30,15 @@ pub fn run<S: Source, K: Sink>(alloc: Global, words: &[String], input: &mut S, o
     // Faults are told only where there were any.
     ensures read_fault { result ≡ 4 → Rose (S.faults input.old) (S.faults input.new) }
     ensures write_fault { result ≡ 5 → Rose (K.faults output.old) (K.faults output.new) }
+
+    // Where no end fails, a script whose every event is allowed gets 0, and another one 3 with the place of the first
+    // that isn't; but for want of memory, which is 7.
+    ensures complete { IsReplay (map (λ w. string_bytes w) words.now) → IsGood (S.left input.old)
+        → NoEndFailed (S.faults input.old) (S.faults input.new) (K.faults output.old) (K.faults output.new)
+        → (result ≡ 0) ⊎ (result ≡ 7) }
+    ensures refused { (index : ℕ) → IsReplay (map (λ w. string_bytes w) words.now) → IsRefused (S.left input.old) index
+        → NoEndFailed (S.faults input.old) (S.faults input.new) (K.faults output.old) (K.faults output.new)
+        → IsRefusedWith (S.left input.old) index (K.given output.old) (K.given output.new) result }
 {
     let reply = reply_to(alloc, words, input);
     match write_all(output, reply.text()) {

@@ -1,6 +1,7 @@
 use Rattle.std.proofs.Common.{◌≡◌, ◌<◌, ◌≤◌, length, refl, sym, ◌∙◌, arith}
 use Rattle.std.proofs.lemmas.Option.{slice_get_read}
 use Rattle.h1_dispatch.proofs.RunLemmas.{driven_new, driven_more, whole_of, misplaced_of}
+use Rattle.h1_dispatch.proofs.LawLemmas.{none_refused, first_refused, not_whole}
 use Rattle.h1_dispatch.proofs.driver.drive.Goals as goal
 
 pub loop-index-init : goal.loop-index-init
@@ -25,3 +26,12 @@ returns-clause-ok c =
     let kept = c.in_ok-trace-2.ensures in
     let all : length c.args.events.now ≤ c.loop-index.index = omega arith in
     whole_of _ _ _ _ _ _ c.loop-index.invariant kept.steps kept.buffered kept.closing all
+
+pub returns-then-not-allowed-clause-complete : goal.returns-then-not-allowed-clause-complete
+returns-then-not-allowed-clause-complete c = λ allowed. none_refused _ _ _ _ (returns-then-not-allowed-clause-stopped c) allowed
+
+pub returns-then-not-allowed-clause-first : goal.returns-then-not-allowed-clause-first
+returns-then-not-allowed-clause-first c = λ index refused. first_refused _ _ _ index _ (returns-then-not-allowed-clause-stopped c) refused
+
+pub returns-clause-first : goal.returns-clause-first
+returns-clause-first c = λ index refused. not_whole _ _ index _ (returns-clause-ok c) refused
