@@ -1,6 +1,6 @@
 -- What a piece is read as, by the parts that the spans cover.
 use Rattle.std.proofs.Common.{◌≡◌, ℕ, List, [], ◌∷◌, map, take, All, Some, Result, Ok, Err, inl, inr, refl, sym, ap, ◌∙◌, subst}
-use Rattle.std.specs.Prelude.{IfOk, IfErr}
+use Rattle.std.specs.Prelude.{IfOk, IfErr, OnOk}
 use Rattle.std.specs.List.{AllByRecursion}
 use Rattle.std.proofs.lemmas.List.Elements.{All-nil, All-cons, All-head, All-tail}
 use Rattle.httparse.specs.Grammar.{is_value_byte, Field, IsField, RequestHead}
@@ -174,7 +174,20 @@ says_whole piece text all spans (Ok item) same whole parts says = (
 )
 says_whole piece text all spans (Err e) same whole parts says = tt
 
-pub causes_whole : (piece text : List ℕ) (all : List HeaderSpan) (spans : RequestSpans) (r : Result HeadItem ParseError)
+-- the same of a head that was read over another
+pub says_over : {T : Type 0} (piece text : List ℕ) (all : List HeaderSpan) (spans : RequestSpans) (item : HeadItem) (r : Result T ParseError)
+    → text ≡ piece → IsWholeHeadAt text all spans
+    → OnOk r (AreParts (parts_at piece spans (take spans.headers all)) (kind_of item.body))
+    → OnOk r (SaysHead item (head_of (parts_at piece spans (take spans.headers all)) (kind_of item.body)))
+    → OnOk r ((h : Head) × IsReading piece (head_is h) × SaysHead item h)
+says_over piece text all spans item (Ok done) same whole parts says = (
+  head_of (parts_at piece spans (take spans.headers all)) (kind_of item.body),
+  reads_whole piece all spans (subst (λ (t : List ℕ). IsWholeHeadAt t all spans) same whole) (kind_of item.body) parts,
+  says,
+)
+says_over piece text all spans item (Err e) same whole parts says = tt
+
+pub causes_whole : {T : Type 0} (piece text : List ℕ) (all : List HeaderSpan) (spans : RequestSpans) (r : Result T ParseError)
     → text ≡ piece → IsWholeHeadAt text all spans
     → IfErr r (λ e. UnlessNoMemory e (RefusesParts e (parts_at piece spans (take spans.headers all))))
     → IfErr r (λ e. UnlessNoMemory e (Refuses e piece))
@@ -183,7 +196,7 @@ causes_whole piece text all spans (Err e) same whole refused =
     λ ne. refuses_whole piece all spans (subst (λ (t : List ℕ). IsWholeHeadAt t all spans) same whole) e (refused ne)
 
 -- the fault behind the cause
-pub faults : (piece : List ℕ) (r : Result HeadItem ParseError)
+pub faults : {T : Type 0} (piece : List ℕ) (r : Result T ParseError)
     → IfErr r (λ e. UnlessNoMemory e (Refuses e piece)) → IfErr r (λ e. UnlessNoMemory e (IsReading piece (faulty (fault_of e))))
 faults piece (Ok item) cause = tt
 faults piece (Err e) cause = λ ne. reads_fault piece e (cause ne)

@@ -24,7 +24,6 @@ use httparse::spans::{EMPTY_HEADER_SPAN, HeaderSpan, RequestSpans, parse_request
 use httparse::{Error, Status};
 use memchr::memchr_iter;
 use std::alloc::Global;
-use std::mem;
 
 /// The most header lines that a head may have.
 const MAX_HEADERS: usize = 96;
@@ -113,13 +112,31 @@ pub fn read_head_into(
     ensures cause { IfErr result (λ e. UnlessNoMemory e (Refuses e piece)) }
     ensures err { OnErr result (item.new ≡ without_headers item.old) }
 {
-    let mut headers = mem::replace(&mut item.head.headers, HeaderMap::new(alloc));
-    headers.clear();
-    match read_head(alloc, &piece, room, headers) {
-        Ok(read) => {
-            *item = read;
-            Ok(())
-        }
+    item.head.headers.clear();
+    let result = read_over(alloc, item, room, &piece);
+    if result.is_err() {
+        item.head.headers.clear();
+    }
+    result
+}
+
+/// Reads a head over one without headers, part by part, so that nothing large is moved. After an error
+/// some headers may be there.
+#[inline(always)]
+fn read_over(
+    alloc: Global,
+    item: &mut HeadItem,
+    room: &mut HeadRoom,
+    piece: &Bytes,
+) -> Result<(), ParseError>
+    requires { item.old.head.headers ≡ [] }
+    ensures head { OnOk result ((h : Head) × IsReading piece.now (head_is h) × SaysHead item.new h) }
+    ensures fault { IfErr result (λ e. UnlessNoMemory e (IsReading piece.now (faulty (fault_of e)))) }
+    ensures cause { IfErr result (λ e. UnlessNoMemory e (Refuses e piece.now)) }
+    ensures err { OnErr result (without_headers item.new ≡ without_headers item.old) }
+{
+    match parse_whole(piece.as_slice(), &mut room.fields) {
+        Ok(spans) => read_parts_over(alloc, item, piece, spans, &room.fields[..spans.headers]),
         Err(error) => Err(error),
     }
 }
@@ -241,6 +258,43 @@ fn read_parts(
     let mut head = RequestHead::from_parts(method, uri, read_version(spans.version), headers);
     framing.mark(&mut head);
     Ok(HeadItem { head, target, body })
+}
+
+/// The same, over a head without headers.
+#[inline(always)]
+fn read_parts_over(
+    alloc: Global,
+    item: &mut HeadItem,
+    piece: &Bytes,
+    spans: RequestSpans,
+    fields: &[HeaderSpan],
+) -> Result<(), ParseError>
+    requires method { IsWithin (length piece.now) spans.method }
+    requires path { IsWithin (length piece.now) spans.path }
+    requires fields { All (IsHeaderWithin (length piece.now)) fields.now }
+    requires values { All HasValue (map (header_bytes piece.now) fields.now) }
+    requires empty { item.old.head.headers ≡ [] }
+    ensures parts { OnOk result (AreParts (parts_at piece.now spans fields.now) (kind_of item.new.body)) }
+    ensures says { OnOk result (SaysHead item.new (head_of (parts_at piece.now spans fields.now) (kind_of item.new.body))) }
+    ensures refused { IfErr result (λ e. UnlessNoMemory e (RefusesParts e (parts_at piece.now spans fields.now))) }
+    ensures err { OnErr result (without_headers item.new ≡ without_headers item.old) }
+{
+    let method = read_method(alloc, spans.method.of(piece.as_slice()))?;
+    let target = share(piece, spans.path)?;
+    let uri = read_uri(share(piece, spans.path)?)?;
+    let (framing, body) = read_lines(
+        alloc,
+        piece,
+        fields,
+        spans.version,
+        method.as_str(),
+        &mut item.head.headers,
+    )?;
+    item.head.restart(method, uri, read_version(spans.version));
+    framing.mark(&mut item.head);
+    item.target = target;
+    item.body = body;
+    Ok(())
 }
 
 /// The version HTTP/1.0 or HTTP/1.1 (RFC 7230, section 2.6).
