@@ -1,28 +1,26 @@
 -- The machine's steps of reads, the input's end, drains, writes, and what concerns the open request alone.
-use Rattle.std.proofs.Common.{◌≡◌, ℕ, ◌-◌, ◌<◌, Bool, true, false, not, ◌&&◌, List, [], ◌∷◌, ◌++◌, length, take, drop, Option, Some, None, refl, sym, ap, ◌∙◌, subst}
-use Rattle.std.specs.Prelude.{option_map, is_some, min, if◌then◌else◌}
+use Rattle.std.proofs.Math.Seq.{take-length}
+use Rattle.std.proofs.Common.{◌≡◌, ◌≢◌, ℕ, ◌-◌, ◌<◌, ◌≤◌, Bool, true, false, ◌&&◌, List, [], ◌∷◌, ◌++◌, length, take, drop, Option, Some, None, refl, sym, ap, ◌∙◌, subst, arith}
+use Rattle.std.specs.Prelude.{option_map, is_some, min}
 use Rattle.http_config.specs.Config.{Settings}
 use Rattle.h1_model.specs.Limits.{MAX_MOMENT}
 use Rattle.h1_model.specs.AnswerText.{interim_text}
 use Rattle.h1_model.specs.Setting.{Setting}
 use Rattle.h1_model.specs.Event as on
-use Rattle.h1_model.specs.End as ends
 use Rattle.h1_machine.specs.Kept as machine
 use Rattle.h1_machine.specs.Kept.{Kept, Change, Rest, no_rest, raw_rest, fixed_rest, chunks_rest, frames_rest, is_nothing, is_free, is_answered, rest_in, now}
 use Rattle.h1_machine.specs.Local.{closing_by}
 use Rattle.h1_machine.specs.Body.{passing}
-use Rattle.h1_machine.specs.Change.{IsChange, noting_since, reading, ending_input, exchange_at_end, doing_with}
+use Rattle.h1_machine.specs.Change.{IsChange, noting_since, ending_input, exchange_at_end}
 use Rattle.h1_dispatch.specs.Incoming.{Incoming, is_coming_in, IsFound}
-use Rattle.h1_dispatch.specs.Meaning.{setting_of, end_of}
-use Rattle.h1_dispatch.specs.Parts.{kept_of, exchange_of, reply_of, ended_exchange, dropped, told_to_go_on, MayBeSearched, IsNoted, IsSound, IsSettled, Steps}
+use Rattle.h1_dispatch.specs.Meaning.{setting_of}
+use Rattle.h1_dispatch.specs.Parts.{kept_of, exchange_of, reply_of, ended_exchange, dropped, told_to_go_on, MayBeSearched, IsNoted, IsSound, IsSettled, Steps, StepsIn}
 use Rattle.h1_dispatch.specs.declared.connection.exchange.Exchange.{Exchange}
 use Rattle.h1_dispatch.specs.declared.connection.exchange.Reply.{Reply}
 use Rattle.h1_dispatch.specs.declared.connection.exchange.Reply.TheVariants.{Unanswered, Sending, Answered}
 use Rattle.h1_dispatch.specs.declared.connection.parts.Parts.{Parts}
-use Rattle.h1_dispatch.specs.declared.event.End.{End}
-use Rattle.h1_dispatch.specs.declared.event.End.TheVariants.{Body}
-use Rattle.h1_dispatch.proofs.PassingLemmas.{passing_coming, passing_clock, passing_free}
-use Rattle.h1_dispatch.proofs.StepLemmas.{quiet_step, settled_step, settled_sound, settled_noted, may_of, passed_may}
+use Rattle.h1_dispatch.proofs.PassingLemmas.{passing_coming, passing_clock}
+use Rattle.h1_dispatch.proofs.StepLemmas.{quiet_step, settled_step, settled_sound, settled_noted, may_of}
 
 -- the moment, behind a body that is passed
 now_passed : (k m : Kept) → k ≡ passing m → now k ≡ now m
@@ -50,6 +48,22 @@ pub read_sound : (s : Settings) (p n q : Parts) (grown : Incoming) → IsSound s
     → IsSettled (setting_of s) (kept_of n) q → IsSound s q
 read_sound s p n q grown sound passed settled =
     settled_sound s (kept_of n) q (subst (λ (m : ℕ). m < MAX_MOMENT) (sym (now_passed (kept_of n) (kept_of (record p { input = grown })) passed)) sound.moment) settled
+
+-- bytes from a source, which all found room
+came_all : (s : Settings) (p n q : Parts) (grown : Incoming) (bytes : List ℕ) → length bytes ≤ s.h1_hold_size - length p.input.unread
+    → grown.unread ≡ p.input.unread ++ bytes → kept_of n ≡ passing (kept_of (record p { input = grown })) → IsSettled (setting_of s) (kept_of n) q
+    → Steps s p (on.read bytes) (on.took (length bytes)) q
+came_all s p n q grown bytes fits grown_is passed settled =
+    read_steps s p n q grown bytes (length bytes) (omega (arith, fits))
+    (grown_is ∙ ap (λ (l : List ℕ). p.input.unread ++ l) (sym (take-length bytes))) passed settled
+
+-- of which there is at least one
+pub came_steps : (s : Settings) (p n q : Parts) (grown : Incoming) (bytes : List ℕ) (count : ℕ) → count ≢ 0 → length bytes ≡ count
+    → count ≤ s.h1_hold_size - length p.input.unread → grown.unread ≡ p.input.unread ++ bytes
+    → kept_of n ≡ passing (kept_of (record p { input = grown })) → IsSettled (setting_of s) (kept_of n) q → StepsIn s p bytes q
+came_steps s p n q grown [] count some long fits grown_is passed settled = absurd (some (sym long))
+came_steps s p n q grown (b ∷ bytes) count some long fits grown_is passed settled =
+    came_all s p n q grown (b ∷ bytes) (subst (λ (n : ℕ). n ≤ s.h1_hold_size - length p.input.unread) (sym long) fits) grown_is passed settled
 
 -- ---- the input's end
 

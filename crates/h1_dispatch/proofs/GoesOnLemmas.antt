@@ -1,6 +1,6 @@
 -- A step of the parts goes on behind each trace that the connection stands for.
 use Rattle.std.proofs.Common.{◌≡◌, ℕ, ◌<◌, ◌≤◌, Bool, true, false, not, ◌&&◌, ◌||◌, List, [], ◌∷◌, length, Option, Some, None, Result, Ok, Err, refl, sym, ap, ◌∙◌, subst}
-use Rattle.std.specs.Prelude.{IsTrue, IsFalse, IfOk, OnOk, OnErr, option_map, is_some, nat_lt, ◌↔◌, if◌then◌else◌}
+use Rattle.std.specs.Prelude.{IsTrue, OnOk, OnErr, option_map, is_some, nat_lt, ◌↔◌, if◌then◌else◌}
 use Rattle.http_config.specs.Config.{Settings}
 use Rattle.h1_model.specs.Setting.{Setting}
 use Rattle.h1_model.specs.Event as on
@@ -12,12 +12,10 @@ use Rattle.h1_model.specs.Trace as traces
 use Rattle.h1_model.specs.Trace.{IsPastOf, IsOutcome}
 use Rattle.h1_machine.specs.Kept.{Kept, Change, Exchange, is_frames, is_open, is_upgraded}
 use Rattle.h1_machine.specs.Local.{closing_by, allowed_by, has_body_left, waits_for_answer}
-use Rattle.h1_machine.specs.Change.{IsStep, IsPulling}
+use Rattle.h1_machine.specs.Change.{IsPulling}
 use Rattle.h1_machine.specs.Pull.{Pulled}
-use Rattle.h1_machine.specs.StandsFor.{StandsFor}
 use Rattle.h1_machine.proofs.Stands.{closing_of_trace, allowed_of_trace, a_step_is_there, step_outcome, step_state}
 use Rattle.h1_machine.proofs.KeptBounds.{unread_bounded}
-use Rattle.h1_decode.specs.HeadItem.{SaysHead}
 use Rattle.h1_payload.specs.Rests.{SaysPulled}
 use Rattle.h1_payload.specs.declared.pulled.Pulled.{Pulled as Answer}
 use Rattle.h1_payload.specs.declared.pulled.Pulled.TheVariants as answers
@@ -26,11 +24,11 @@ use Rattle.h1_model.specs.Answer.{AnswerHead, BodySize}
 use Rattle.h1_model.specs.Limits.{MAX_MOMENT}
 use Rattle.h1_dispatch.specs.Meaning.{setting_of, end_of, fault_of}
 use Rattle.h1_dispatch.specs.Upgrade.{Upgrade, with_upgrade_of, with_upgrade}
-use Rattle.h1_dispatch.specs.Parts.{kept_of, IsSound, Steps}
+use Rattle.h1_dispatch.specs.Parts.{kept_of, IsSound, Steps, StepsIn}
 use Rattle.h1_dispatch.specs.Pulls.{IsPullFrom, IsPullOf}
 use Rattle.h1_dispatch.specs.Ticks.{expiry_of}
 use Rattle.h1_dispatch.specs.Heads.{IsHeld, IsNexted, SaysNext, upgrade_of}
-use Rattle.h1_dispatch.specs.State.{State, IsAllowed, Stands, GoesOn, Is}
+use Rattle.h1_dispatch.specs.State.{State, IsAllowed, Stands, GoesOn, ReadsIn, Is}
 use Rattle.h1_dispatch.specs.declared.connection.heads.NextHead.{NextHead}
 use Rattle.h1_dispatch.specs.declared.connection.heads.NextHead.TheVariants as next
 use Rattle.h1_dispatch.specs.declared.connection.parts.Parts.{Parts}
@@ -78,6 +76,19 @@ goes_on now s p q event out plain headless view allowed steps =
 -- what is said of the connection is said of its parts
 pub allowed_parts : (now : State) (s : Settings) (p : Parts) (event : on.Event) → state_of s p ≡ now → IsAllowed now event → IsAllowed (state_of s p) event
 allowed_parts now s p event view allowed = subst (λ (m : State). IsAllowed m event) (sym view) allowed
+
+-- ---- reads from a source
+
+-- where a read is allowed, one of any bytes is
+any_read : (now : State) (bytes : List ℕ) → IsAllowed now (on.read []) → IsAllowed now (on.read bytes)
+unfolding allowed_by
+any_read now bytes allowed = allowed
+
+pub reads_in : (now : State) (s : Settings) (p q : Parts) (bytes : List ℕ) → state_of s p ≡ now → IsAllowed now (on.read []) → StepsIn s p bytes q
+    → ReadsIn now bytes (state_of s q)
+reads_in now s p q [] view allowed same = ap (λ (p : Parts). state_of s p) same ∙ view
+reads_in now s p q (b ∷ bytes) view allowed steps =
+    goes_on now s p q (on.read (b ∷ bytes)) (on.took (length (b ∷ bytes))) tt (λ h e. cc e) view (any_read now (b ∷ bytes) allowed) steps
 
 -- ---- ticks
 

@@ -1,7 +1,6 @@
 -- The search for a head in the bytes that are held.
-use Rattle.std.proofs.lemmas.List.{length-append}
 use Rattle.std.proofs.lemmas.Grind.{common_steps}
-use Rattle.std.proofs.Common.{◌≡◌, ℕ, ◌+◌, ◌-◌, ◌≤◌, Bool, true, false, List, [], ◌∷◌, ◌++◌, length, take, drop, Option, Some, None, inl, inr, refl, sym, ap, ◌∙◌, subst, arith, append_assoc}
+use Rattle.std.proofs.Common.{◌≡◌, ℕ, ◌≤◌, false, List, [], ◌∷◌, ◌++◌, length, take, Option, Some, None, inl, inr, refl, sym, ap, ◌∙◌, subst, arith, append-nil, append_assoc}
 use Rattle.std.specs.Prelude.{option_map, is_some, slice_range, ◌⊎◌}
 use Rattle.h1_model.specs.HeadPiece.{IsHeadPiece, HasNoHeadPiece}
 use Rattle.bytes.proofs.Ranges.{slice_range_front}
@@ -11,7 +10,7 @@ use Rattle.h1_decode.specs.declared.scan.HeadScan.TheVariants.{Open, Piece}
 use Rattle.h1_decode.specs.HeadPosition.{HeadPosition, HasScanned}
 use Rattle.h1_decode.specs.HeadScan.{AnswersScan}
 use Rattle.h1_decode.proofs.HeadPieceLemmas.{HasScanned-append}
-use Rattle.h1_dispatch.specs.Incoming.{Incoming, piece_of, is_coming_in, IsFoundIn, IsFound, IsHeadIn, IsHeadOf, IsSearchedTo, IsSearched, CanScan, CanGoOn, IsContinued, GoesOnIn}
+use Rattle.h1_dispatch.specs.Incoming.{Incoming, piece_of, IsFoundIn, IsHeadIn, IsHeadOf, IsSearchedTo, IsSearched, CanScan, CanGoOn, IsContinued, GoesOnIn}
 use Rattle.h1_dispatch.specs.declared.connection.input.Search.{Search}
 
 -- ---- more bytes
@@ -67,6 +66,12 @@ found_to front bytes scanner (Piece start end) searched = searched.0
 pub found_of : (front bytes : List ℕ) (search : Option Search) → IsSearched front bytes search → IsFoundIn (front ++ bytes) (option_map piece_of search)
 found_of front bytes None searched = tt
 found_of front bytes (Some s) searched = found_to front bytes s.scanner s.piece searched
+
+-- ---- no bytes from a source
+
+pub none_came : (bytes more grown : List ℕ) (count : ℕ) → length more ≡ count → count ≡ 0 → grown ≡ bytes ++ more → grown ≡ bytes
+none_came bytes [] grown count long none is = is ∙ append-nil bytes
+none_came bytes (b ∷ more) grown count long none is = absurd (omega (arith, long, none))
 
 -- ---- a search that begins
 

@@ -1,7 +1,6 @@
 -- What comes where the next head is asked for.
-use Rattle.std.specs.Prelude.{◌≡◌, ℕ, ◌≤◌, ◌==◌, ◌⊎◌, false, List, [], length, drop, Option, Some, None, IsSome}
+use Rattle.std.specs.Prelude.{◌≡◌, ℕ, ◌≤◌, ◌==◌, ◌⊎◌, Bool, true, false, if◌then◌else◌, [], length, drop, Option, Some, None, IsSome, ⊤}
 use Rattle.http_config.specs.Config.{Settings}
-use Rattle.h1_model.specs.Request as model
 use Rattle.h1_model.specs.Request.{Head, has_body, faulty}
 use Rattle.h1_model.specs.Setting.{Setting}
 use Rattle.h1_model.specs.Answer.{asked_of}
@@ -9,12 +8,15 @@ use Rattle.h1_model.specs.Event as on
 use Rattle.h1_machine.specs.Kept.{Rest, Exchange, Kept, new_exchange, rest_in, whole_rest, refusal_of, key_answer_of}
 use Rattle.h1_machine.specs.Local.{closing_by}
 use Rattle.h1_machine.specs.Change.{IsStep, behind_head}
-use Rattle.h1_decode.specs.HeadItem.{SaysHead}
+use Rattle.h1_decode.specs.HeadItem.{SaysHead, without_headers}
+use Rattle.h1_decode.specs.declared.decoder.HeadItem.{HeadItem}
 use Rattle.h1_dispatch.specs.Meaning.{setting_of, end_of, fault_of}
 use Rattle.h1_dispatch.specs.Upgrade.{Upgrade, with_upgrade}
 use Rattle.h1_dispatch.specs.Parts.{kept_of, Steps}
 use Rattle.h1_dispatch.specs.declared.connection.heads.NextHead.{NextHead}
 use Rattle.h1_dispatch.specs.declared.connection.heads.NextHead.TheVariants as next
+use Rattle.h1_dispatch.specs.declared.connection.heads.NextKind.{NextKind}
+use Rattle.h1_dispatch.specs.declared.connection.heads.NextKind.TheVariants as next_kind
 use Rattle.h1_dispatch.specs.declared.connection.parts.Parts.{Parts}
 use Rattle.h1_dispatch.specs.declared.connection.request.Request.{Request}
 use Rattle.h1_dispatch.specs.declared.event.HeadFault.{HeadFault}
@@ -62,6 +64,11 @@ IsNexted settings p (next.Fault fault) q = Steps settings p on.next (on.fault (f
 IsNexted settings p next.Pending q = Steps settings p on.next on.pending q
 IsNexted settings p (next.Closed end) q = Steps settings p on.next (on.closed (end_of end)) q
 
+-- what comes where no whole head is there
+abbrev pub waited : Option HeadFault → on.Outcome
+waited (Some fault) = on.fault (fault_of fault)
+waited None = on.pending
+
 -- the connection closes, or there is no head and room for more bytes
 abbrev pub NeedsNoMemory : Setting → Kept → Type 0
 NeedsNoMemory setting k =
@@ -73,3 +80,23 @@ SaysNext (next.Head item) out = (h : Head) × SaysHead item h × (out ≡ on.hea
 SaysNext (next.Fault fault) out = out ≡ on.fault (fault_of fault)
 SaysNext next.Pending out = out ≡ on.pending
 SaysNext (next.Closed end) out = out ≡ on.closed (end_of end)
+
+-- ---- a head that is written over another one
+
+-- what comes, with the item that its head was written over
+abbrev pub with_head : HeadItem → NextKind → NextHead
+with_head item next_kind.Head = next.Head item
+with_head item (next_kind.Fault fault) = next.Fault fault
+with_head item next_kind.Pending = next.Pending
+with_head item (next_kind.Closed end) = next.Closed end
+
+-- Where no head came, the item is what it was; but a head that was found and is none takes the headers away.
+abbrev pub KeepsItem : Bool → NextKind → HeadItem → HeadItem → Type 0
+KeepsItem coming next_kind.Head was now = ⊤
+KeepsItem coming (next_kind.Fault fault) was now = now ≡ (if coming then without_headers was else was)
+KeepsItem coming next_kind.Pending was now = now ≡ was
+KeepsItem coming (next_kind.Closed end) was now = now ≡ was
+
+-- the item is what it was, or without headers where a head was found
+abbrev pub LosesAtMostHeaders : Bool → HeadItem → HeadItem → Type 0
+LosesAtMostHeaders coming was now = (now ≡ was) ⊎ ((coming ≡ true) × (now ≡ without_headers was))

@@ -1,5 +1,5 @@
 -- What a connection's fields mean: what the machine keeps.
-use Rattle.std.specs.Prelude.{◌≡◌, ℕ, ◌<◌, Bool, true, false, ◌&&◌, List, [], Option, Some, None, option_map, is_some, if◌then◌else◌}
+use Rattle.std.specs.Prelude.{◌≡◌, ℕ, ◌<◌, Bool, true, false, ◌&&◌, List, [], ◌∷◌, length, Option, Some, None, option_map, is_some, if◌then◌else◌}
 use Rattle.http_types.specs.declared.message.ConnectionType.{ConnectionType}
 use Rattle.http_config.specs.Config.{Settings}
 use Rattle.h1_model.specs.Limits.{MAX_MOMENT}
@@ -11,8 +11,8 @@ use Rattle.h1_machine.specs.Kept as machine
 use Rattle.h1_machine.specs.Kept.{Kept, is_free, is_nothing, is_answered, now, rest_in, unanswered, sending, answered}
 use Rattle.h1_machine.specs.Local.{closing_by}
 use Rattle.h1_machine.specs.Body.{Passed, pass_rest}
-use Rattle.h1_machine.specs.Change.{IsComing, noting_since, IsStep}
-use Rattle.h1_dispatch.specs.Incoming.{Incoming, is_coming_in, IsFound}
+use Rattle.h1_machine.specs.Change.{noting_since, IsStep}
+use Rattle.h1_dispatch.specs.Incoming.{is_coming_in, IsFound}
 use Rattle.h1_dispatch.specs.Meaning.{setting_of, end_of}
 use Rattle.h1_dispatch.specs.declared.event.End.{End}
 use Rattle.h1_dispatch.specs.declared.event.End.TheVariants.{HalfClosed, InputEnded}
@@ -156,3 +156,8 @@ pub record IsSettled (setting : Setting) (k : Kept) (q : Parts) : Type 0 where
 -- from these parts the event leads to those, with this outcome
 abbrev pub Steps : Settings → Parts → on.Event → on.Outcome → Parts → Type 0
 Steps settings p event outcome q = IsStep (setting_of settings) (kept_of p) event outcome (kept_of q)
+
+-- Bytes that came from a source lead from these parts to those as an event that took them all. Of none there is no event.
+abbrev pub StepsIn : Settings → Parts → List ℕ → Parts → Type 0
+StepsIn settings p [] q = q ≡ p
+StepsIn settings p (b ∷ bytes) q = Steps settings p (on.read (b ∷ bytes)) (on.took (length (b ∷ bytes))) q

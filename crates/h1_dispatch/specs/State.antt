@@ -1,11 +1,11 @@
 -- A connection as its contracts see it: its settings, and what the machine keeps.
-use Rattle.std.specs.Prelude.{◌≡◌, List, ◌∷◌, length, take, IsTrue, ⊤}
+use Rattle.std.specs.Prelude.{◌≡◌, ℕ, List, [], ◌∷◌, length, take, IsTrue, ⊤}
 use Rattle.http_config.specs.Config.{Settings}
 use Rattle.h1_model.specs.Event as on
 use Rattle.h1_model.specs.Sums as sums
 use Rattle.h1_model.specs.Trace.{IsOutcome}
 use Rattle.h1_machine.specs.Kept.{Kept, fresh}
-use Rattle.h1_machine.specs.Local.{closing_by, allowed_by}
+use Rattle.h1_machine.specs.Local.{allowed_by}
 use Rattle.h1_machine.specs.StandsFor.{StandsFor}
 use Rattle.h1_dispatch.specs.Meaning.{setting_of}
 use Rattle.h1_dispatch.specs.Heads.{NeedsNoMemory}
@@ -57,3 +57,8 @@ TakesNoMemory state event = ⊥
 -- the outcome is this one
 abbrev pub Is : on.Outcome → on.Outcome → Type 0
 Is outcome out = out ≡ outcome
+
+-- Bytes that came from a source: they are the event of their read, which took them all. Of none there is no event.
+abbrev pub ReadsIn : State → List ℕ → State → Type 0
+ReadsIn state [] after = after ≡ state
+ReadsIn state (b ∷ bytes) after = GoesOn state (on.read (b ∷ bytes)) (Is (on.took (length (b ∷ bytes)))) after

@@ -1,5 +1,7 @@
 //! One connection: what it keeps between two events, and its answer to each.
-ghost use Rattle.std.specs.Prelude.{◌≡◌, ◌<◌, ◌≤◌, ◌↔◌, ℕ, List, true, false, length, take, min, option_map, unwrap_or, IsTrue, IfOk, IsOk, OnOk, OnErr};
+ghost use Rattle.std.specs.Prelude.{◌≡◌, ◌≢◌, ◌<◌, ◌≤◌, ◌↔◌, ℕ, List, [], true, false, length, take, min, option_map, unwrap_or, IsTrue, IfOk, IfErr, IsOk, OnOk, OnErr, IsErrOf};
+ghost use Rattle.std.specs.Io.KnownBytes.{Consumes, Keeps, IsAtEnd};
+ghost use Rattle.http_config.specs.Causes.{Rose};
 ghost use Rattle.h1_codec.specs.Meaning.{answer_of, size_of};
 ghost use Rattle.h1_model.specs.Closing.{closing};
 ghost use Rattle.h1_model.specs.Past.{ParsedStep};
@@ -10,23 +12,24 @@ ghost use Rattle.h1_model.specs.Event as on;
 ghost use Rattle.h1_machine.specs.Local.{closing_by, allowed_by};
 ghost use Rattle.h1_payload.specs.Rests.{SaysPulled};
 ghost use Rattle.h1_dispatch.specs.Meaning.{setting_of, event_of, end_of};
-ghost use Rattle.h1_dispatch.specs.Heads.{SaysNext, NeedsNoMemory};
+ghost use Rattle.h1_dispatch.specs.Heads.{SaysNext, NeedsNoMemory, with_head, KeepsItem, LosesAtMostHeaders};
 ghost use Rattle.h1_dispatch.specs.Pulls.{IsLightPull};
 ghost use Rattle.h1_dispatch.specs.Unsent.{SendsNoPiece, SendsNoEnd};
 ghost use Rattle.h1_dispatch.specs.Ticks.{expiry_of, IsQuietTick};
-ghost use Rattle.h1_dispatch.specs.State.{fresh_state, IsAllowed, Stands, GoesOn, Is};
+ghost use Rattle.h1_dispatch.specs.State.{fresh_state, IsAllowed, Stands, GoesOn, ReadsIn, Is};
 
 use crate::connection::clock::Clock;
-pub use crate::connection::heads::NextHead;
+pub use crate::connection::heads::{NextHead, NextKind};
 use crate::connection::input::Input;
 use crate::connection::output::Output;
 use crate::connection::parts::Parts;
 pub use crate::connection::ticks::Expiry;
-use crate::{End, Event};
+use crate::{End, Event, ReadFromError};
 use bytes::Bytes;
+use h1_decode::{HeadItem, HeadRoom};
 use h1_payload::Pulled;
 use http_bodies::BodySize;
-use http_types::{NoMemory, ResponseHead, ServiceConfig};
+use http_types::{NoMemory, ResponseHead, ServiceConfig, Source};
 use std::alloc::Global;
 use std::marker::Model;
 
@@ -37,19 +40,24 @@ mod clock;
 mod closing;
 mod deadlines;
 mod exchange;
+mod filling;
 mod heads;
 mod input;
 mod output;
 mod parts;
 mod questions;
 mod request;
+mod show;
 mod steps;
 mod ticks;
+
+/// The most bytes that one read from a source asks for.
+pub const READ_SIZE: usize = 8192;
 
 /// The server's side of one HTTP/1 connection (RFC 7230), which reads nothing and writes nothing itself.
 ///
 /// Each event has a call of its own, which may be made where `allowed` says so. What it answers is what the tables
-/// over all that happened say. After want of memory, the one error, all is as before.
+/// over all that happened say. After an error, which is want of memory but for a source's, all is as before.
 ///
 /// A clause sees it as its settings and what the machine keeps.
 #[derive(Drop)]
@@ -126,6 +134,29 @@ impl Connection {
         self.parts.read(&self.config, bytes)
     }
 
+    /// Reads bytes from the source, straight into the memory where they are held, and says how many: the read of exactly
+    /// those bytes, of which all are taken. It asks once, for as many as there is room for and at most `READ_SIZE`. 0
+    /// says that the source has ended, and changes nothing: `eof` tells it to the connection.
+    ///
+    /// `ReadFromError::Full` comes where as many bytes are held as may be, `Failed` where the source failed, and else
+    /// `NoMemory`. The source was asked where it failed alone.
+    pub fn read_from<S: Source>(&mut self, source: &mut S) -> Result<usize, ReadFromError>
+        requires { IsAllowed self.old (on.read []) }
+        ensures stands { IfOk result (λ count. (bytes : List ℕ) × (length bytes ≡ count) × Consumes (S.left source.old) (S.left source.new) bytes
+            × ReadsIn self.old bytes self.new) }
+        ensures settings { self.new.settings ≡ self.old.settings }
+        ensures bound { IfOk result (λ count. count ≤ READ_SIZE) }
+        ensures end { IfOk result (λ count. count ≡ 0 → (self.new ≡ self.old) × IsAtEnd (S.left source.new)) }
+        ensures full { IsErrOf result ReadFromError.Full ↔ self.old.settings.h1_hold_size ≤ length self.old.kept.unread }
+        ensures failed { IsErrOf result ReadFromError.Failed → Rose (S.faults source.old) (S.faults source.new) }
+        ensures left { IsErrOf result ReadFromError.Failed → Keeps (S.left source.old) (S.left source.new) }
+        ensures unasked { IfErr result (λ e. e ≢ ReadFromError.Failed → source.new ≡ source.old) }
+        ensures faults { S.faults source.old ≤ S.faults source.new }
+        ensures err { OnErr result (self.new ≡ self.old) }
+    {
+        self.parts.read_from(&self.config, source)
+    }
+
     /// The peer sends no more bytes. It takes no memory.
     pub fn eof(&mut self)
         requires { IsAllowed self.old on.eof }
@@ -145,6 +176,25 @@ impl Connection {
         ensures err { OnErr result (self.new ≡ self.old) }
     {
         self.parts.next(self.alloc, &self.config)
+    }
+
+    /// The same, with a head that is written over `item`, whose map keeps its memory, and with room that the caller
+    /// keeps from head to head. Where no head comes, `item` is what it was; but where a head was found and is none, it
+    /// has lost its headers, and after want of memory it may have.
+    pub fn next_into(
+        &mut self,
+        item: &mut HeadItem,
+        room: &mut HeadRoom,
+    ) -> Result<NextKind, NoMemory>
+        requires { IsAllowed self.old on.next }
+        ensures stands { IfOk result (λ kind. GoesOn self.old on.next (SaysNext (with_head item.new kind)) self.new) }
+        ensures settings { self.new.settings ≡ self.old.settings }
+        ensures item { IfOk result (λ kind. KeepsItem self.old.kept.is_coming kind item.old item.new) }
+        ensures no_memory_needed { NeedsNoMemory (setting_of self.old.settings) self.old.kept → IsOk result }
+        ensures err { OnErr result (self.new ≡ self.old) }
+        ensures kept_item { OnErr result (LosesAtMostHeaders self.old.kept.is_coming item.old item.new) }
+    {
+        self.parts.next_into(self.alloc, &self.config, item, room)
     }
 
     /// Takes what comes next of the open request's body: a piece that shares the memory of what was read, or its
@@ -198,6 +248,17 @@ impl Connection {
         ensures err { OnErr result (self.new ≡ self.old) }
     {
         self.parts.chunk(&self.config, bytes)
+    }
+
+    /// The next bytes of the answer's body, in memory that may be shared. They are still copied, as `chunk` copies them.
+    pub fn chunk_bytes(&mut self, bytes: Bytes) -> Result<(), NoMemory>
+        requires { IsAllowed self.old (on.chunk bytes) }
+        ensures stands { OnOk result (GoesOn self.old (on.chunk bytes) (Is on.done) self.new) }
+        ensures settings { self.new.settings ≡ self.old.settings }
+        ensures no_memory_needed { SendsNoPiece self.old.kept bytes → IsOk result }
+        ensures err { OnErr result (self.new ≡ self.old) }
+    {
+        self.chunk(bytes.as_slice())
     }
 
     /// The answer's body is whole. Where its end isn't written, it takes no memory.

@@ -25,8 +25,8 @@
 //! # Contract
 //!
 //! A connection stands for the traces of all that happened to it. Behind each of them, a call answers what the tables
-//! over whole traces say, and the connection then stands for the longer trace. Want of memory is the only error, and
-//! changes nothing; what takes no memory says so.
+//! over whole traces say, and the connection then stands for the longer trace. Want of memory is the only error of an
+//! event, and changes nothing; what takes no memory says so.
 #![tactic(auto)]
 
 mod connection;
@@ -37,9 +37,9 @@ pub mod laws;
 mod step;
 mod trace;
 
-pub use connection::{Connection, Expiry, NextHead};
+pub use connection::{Connection, Expiry, NextHead, NextKind, READ_SIZE};
 pub use driver::drive;
-pub use error::DriveError;
+pub use error::{DriveError, ReadFromError};
 pub use event::{End, Event, HeadFault, Outcome, PayloadError};
 pub use h1_payload::{BodyFault, Pulled};
 pub use trace::{Step, Steps, Trace};

@@ -2,14 +2,11 @@
 ghost use Rattle.std.specs.Prelude.{◌≡◌};
 ghost use Rattle.h1_echo.specs.declared.serve.ServeError.TheVariants as serve_error;
 
-use h1_dispatch::{Connection, End, NextHead, Pulled};
+use h1_dispatch::{Connection, End, NextHead, Pulled, ReadFromError};
 use http_bodies::BodySize;
 use http_types::{NoMemory, ResponseHead, ServiceConfig, Sink, Source, StatusCode};
 use std::alloc::Global;
 use thiserror::Error;
-
-/// How many bytes are read at once.
-const CHUNK: usize = 4096;
 
 /// Why a connection wasn't served to its end.
 #[derive(Clone, Copy, Debug, PartialEq, Eq, Error)]
@@ -46,7 +43,6 @@ pub fn serve<S: Source, K: Sink>(
     input: &mut S,
     output: &mut K,
 ) -> Result<End, ServeError> {
-    let hold_size = config.h1_hold_size();
     let mut connection = Connection::new(alloc, config);
     for _ in 0..u64::MAX {
         write_out(&mut connection, output)?;
@@ -54,8 +50,8 @@ pub fn serve<S: Source, K: Sink>(
             return Err(ServeError::Endless);
         }
         match connection.next()? {
-            NextHead::Head(_) => echo(alloc, &mut connection, hold_size, input, output)?,
-            NextHead::Pending => read_more(&mut connection, hold_size, input)?,
+            NextHead::Head(_) => echo(alloc, &mut connection, input, output)?,
+            NextHead::Pending => read_more(&mut connection, input)?,
             // The answer that says so is to be written, and then the connection has ended.
             NextHead::Fault(_) => {}
             NextHead::Closed(end) => return Ok(end),
@@ -68,7 +64,6 @@ pub fn serve<S: Source, K: Sink>(
 fn echo<S: Source, K: Sink>(
     alloc: Global,
     connection: &mut Connection,
-    hold_size: usize,
     input: &mut S,
     output: &mut K,
 ) -> Result<(), ServeError> {
@@ -90,7 +85,7 @@ fn echo<S: Source, K: Sink>(
                     connection.chunk(&bytes)?;
                 }
             }
-            Pulled::Pending => read_more(connection, hold_size, input)?,
+            Pulled::Pending => read_more(connection, input)?,
             Pulled::Trailers(_) | Pulled::End | Pulled::Broken(_) => {}
         }
     }
@@ -100,26 +95,18 @@ fn echo<S: Source, K: Sink>(
     Ok(())
 }
 
-// Reads what has come, or that nothing more does: no more than the connection has room for.
-fn read_more<S: Source>(
-    connection: &mut Connection,
-    hold_size: usize,
-    input: &mut S,
-) -> Result<(), ServeError> {
-    let mut chunk = [0u8; CHUNK];
-    let room = hold_size.saturating_sub(connection.held()).min(CHUNK);
-    if room == 0 || !connection.can_read() {
+// Reads what has come, or that nothing more does.
+fn read_more<S: Source>(connection: &mut Connection, input: &mut S) -> Result<(), ServeError> {
+    if !connection.can_read() {
         return Ok(());
     }
-    let count = match input.read(&mut chunk[..room]) {
-        Ok(count) => count,
-        Err(_) => return Err(ServeError::Read),
-    };
-    if count == 0 {
-        connection.eof();
-        return Ok(());
+    match connection.read_from(input) {
+        Ok(0) => connection.eof(),
+        // Where no more may be held, what is held is asked for.
+        Ok(_) | Err(ReadFromError::Full) => {}
+        Err(ReadFromError::Failed) => return Err(ServeError::Read),
+        Err(ReadFromError::NoMemory) => return Err(ServeError::NoMemory),
     }
-    connection.read(&chunk[..count])?;
     Ok(())
 }
 

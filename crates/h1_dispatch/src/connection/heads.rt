@@ -1,7 +1,7 @@
 // What the next head does to the parts.
-ghost use Rattle.std.specs.Prelude.{◌≡◌, ◌≢◌, ◌==◌, ℕ, List, false, None, Some, length, IfOk, IsOk, OnOk, OnErr};
+ghost use Rattle.std.specs.Prelude.{◌≡◌, ◌≢◌, ◌==◌, ℕ, List, true, false, None, Some, length, IfOk, IsOk, OnOk, OnErr};
 ghost use Rattle.http_bodies.specs.Kinds.{kind_of};
-ghost use Rattle.h1_decode.specs.HeadItem.{SaysHead};
+ghost use Rattle.h1_decode.specs.HeadItem.{SaysHead, without_headers};
 ghost use Rattle.h1_decode.specs.declared.scan.HeadScan.TheVariants.{Piece};
 ghost use Rattle.h1_model.specs.Request.{Head, head_is};
 ghost use Rattle.h1_model.specs.RequestHead.{IsReading};
@@ -13,8 +13,8 @@ ghost use Rattle.h1_model.specs.Closing.{fault_end};
 ghost use Rattle.h1_decode.specs.Refusal as decode;
 ghost use Rattle.h1_dispatch.specs.Incoming.{IsWhole, IsHeadOf};
 ghost use Rattle.h1_dispatch.specs.Meaning.{setting_of, end_of, fault_of};
-ghost use Rattle.h1_dispatch.specs.Parts.{kept_of, IsSettled, IsSound};
-ghost use Rattle.h1_dispatch.specs.Heads.{refused, behind_plain, IsAsked, IsHeld, IsNexted, NeedsNoMemory};
+ghost use Rattle.h1_dispatch.specs.Parts.{kept_of, IsSettled, IsSound, Steps};
+ghost use Rattle.h1_dispatch.specs.Heads.{refused, behind_plain, waited, with_head, IsAsked, IsHeld, IsNexted, KeepsItem, LosesAtMostHeaders, NeedsNoMemory};
 
 use crate::connection::exchange::{Exchange, Reply};
 use crate::connection::parts::Parts;
@@ -22,7 +22,7 @@ use crate::connection::request::Request;
 use crate::{End, HeadFault};
 use bytes::Bytes;
 use h1_codec::Asked;
-use h1_decode::{HeadItem, request_head};
+use h1_decode::{HeadItem, HeadRoom, read_head_into, request_head};
 use h1_payload::Rest;
 use http_types::{NoMemory, ParseError, ServiceConfig};
 use std::alloc::{AllocError, Global};
@@ -32,6 +32,22 @@ use std::alloc::{AllocError, Global};
 pub enum NextHead {
     /// The head of the next request, which is open from now on.
     Head(HeadItem),
+
+    /// The next head is none. An answer that says so is to be written, and the connection ends.
+    Fault(HeadFault),
+
+    /// There is no whole head before more bytes are read.
+    Pending,
+
+    /// The connection has ended, for this reason. No event is allowed any more.
+    Closed(End),
+}
+
+/// What comes where the next head is asked for and written over another one: a `NextHead` without its head.
+#[derive(Clone, Copy, Debug, PartialEq, Eq)]
+pub enum NextKind {
+    /// The head of the next request, which is open from now on.
+    Head,
 
     /// The next head is none. An answer that says so is to be written, and the connection ends.
     Fault(HeadFault),
@@ -58,25 +74,57 @@ impl Parts {
         }
         match self.input.head()? {
             Some(head) => self.read_head(alloc, config, head),
-            None => self.go_without(config),
+            None => match self.go_without(config)? {
+                Some(fault) => Ok(NextHead::Fault(fault)),
+                None => Ok(NextHead::Pending),
+            },
         }
     }
 
-    // No whole head is there: no more bytes can be taken for one, or more may come.
-    fn go_without(&mut self, config: &ServiceConfig) -> Result<NextHead, NoMemory>
+    /// The same, with a head that is written over `item`.
+    pub fn next_into(
+        &mut self,
+        alloc: Global,
+        config: &ServiceConfig,
+        item: &mut HeadItem,
+        room: &mut HeadRoom,
+    ) -> Result<NextKind, NoMemory>
+        requires { IsSound config.now self.old }
+        ensures ok { IfOk result (λ kind. IsHeld config.now self.old → IsNexted config.now self.old (with_head item.new kind) self.new) }
+        ensures sound { OnOk result (IsSound config.now self.new) }
+        ensures item { IfOk result (λ kind. KeepsItem (kept_of self.old).is_coming kind item.old item.new) }
+        ensures no_memory_needed { NeedsNoMemory (setting_of config.now) (kept_of self.old) → IsOk result }
+        ensures err { OnErr result (self.new ≡ self.old) }
+        ensures kept_item { OnErr result (LosesAtMostHeaders (kept_of self.old).is_coming item.old item.new) }
+    {
+        if let Some(end) = self.closing(config) {
+            self.is_over = true;
+            return Ok(NextKind::Closed(end));
+        }
+        match self.input.head()? {
+            Some(head) => self.read_over(alloc, config, head, item, room),
+            None => match self.go_without(config)? {
+                Some(fault) => Ok(NextKind::Fault(fault)),
+                None => Ok(NextKind::Pending),
+            },
+        }
+    }
+
+    // No whole head is there: no more bytes can be taken for one, which is answered as a fault, or more may come.
+    fn go_without(&mut self, config: &ServiceConfig) -> Result<Option<HeadFault>, NoMemory>
         requires sound { IsSound config.now self.old }
         requires runs { closing_by (setting_of config.now) (kept_of self.old) ≡ None }
         requires none { IsHeadOf self.old.input None }
-        ensures ok { IfOk result (λ next. IsNexted config.now self.old next self.new) }
+        ensures ok { IfOk result (λ fault. Steps config.now self.old on.next (waited fault) self.new) }
         ensures sound { OnOk result (IsSound config.now self.new) }
         ensures no_memory_needed { (length self.old.input.unread == config.now.h1_hold_size) ≡ false → IsOk result }
         ensures err { OnErr result (self.new ≡ self.old) }
     {
         if self.input.len() == config.h1_hold_size() {
             self.refuse(config, HeadFault::TooLarge)?;
-            return Ok(NextHead::Fault(HeadFault::TooLarge));
+            return Ok(Some(HeadFault::TooLarge));
         }
-        Ok(NextHead::Pending)
+        Ok(None)
     }
 
     // Hands out the head that was found.
@@ -98,12 +146,51 @@ impl Parts {
                 self.hand_out(config, &item);
                 Ok(NextHead::Head(item))
             }
-            Err(error) => {
-                let fault = fault_by(error)?;
-                self.refuse(config, fault)?;
-                Ok(NextHead::Fault(fault))
-            }
+            Err(error) => Ok(NextHead::Fault(self.refuse_by(config, error)?)),
         }
+    }
+
+    // Hands out the head that was found, and writes it over another one.
+    fn read_over(
+        &mut self,
+        alloc: Global,
+        config: &ServiceConfig,
+        head: Bytes,
+        item: &mut HeadItem,
+        room: &mut HeadRoom,
+    ) -> Result<NextKind, NoMemory>
+        requires sound { IsSound config.now self.old }
+        requires runs { closing_by (setting_of config.now) (kept_of self.old) ≡ None }
+        requires found { IsHeadOf self.old.input (Some head) }
+        ensures ok { IfOk result (λ kind. IsHeld config.now self.old → IsNexted config.now self.old (with_head item.new kind) self.new) }
+        ensures sound { OnOk result (IsSound config.now self.new) }
+        ensures item { IfOk result (λ kind. KeepsItem true kind item.old item.new) }
+        ensures err { OnErr result (self.new ≡ self.old) }
+        ensures kept_item { OnErr result (item.new ≡ without_headers item.old) }
+    {
+        match read_head_into(alloc, item, room, head) {
+            Ok(()) => {
+                self.hand_out(config, item);
+                Ok(NextKind::Head)
+            }
+            Err(error) => Ok(NextKind::Fault(self.refuse_by(config, error)?)),
+        }
+    }
+
+    // The head that was found is none, for this reason, unless memory was wanted: that is answered.
+    fn refuse_by(
+        &mut self,
+        config: &ServiceConfig,
+        error: ParseError,
+    ) -> Result<HeadFault, NoMemory>
+        requires { IsSound config.now self.old }
+        ensures cause { IfOk result (λ fault. (error ≢ ParseError.NoMemory) × (fault_of fault ≡ decode.fault_of error)) }
+        ensures ok { IfOk result (λ fault. IsSettled (setting_of config.now) (refused fault (kept_of self.old)) self.new) }
+        ensures err { OnErr result (self.new ≡ self.old) }
+    {
+        let fault = fault_by(error)?;
+        self.refuse(config, fault)?;
+        Ok(fault)
     }
 
     // The next head is none: that is answered, and the connection closes.

@@ -1,5 +1,7 @@
 // What a connection holds of its input: the bytes that were read and not passed, and the search for a head among them.
-ghost use Rattle.std.specs.Prelude.{◌≡◌, ◌≤◌, ◌-◌, ◌++◌, ◌⊎◌, [], length, take, drop, min, true, false, is_some, IfOk, IsOk, OnOk, OnErr};
+ghost use Rattle.std.specs.Prelude.{◌≡◌, ◌≢◌, ◌≤◌, ◌-◌, ◌++◌, ◌⊎◌, ◌↔◌, ℕ, List, [], length, take, drop, min, true, false, is_some, IfOk, IfErr, IsOk, OnOk, OnErr, IsErrOf};
+ghost use Rattle.std.specs.Io.KnownBytes.{Consumes, Keeps, IsAtEnd};
+ghost use Rattle.http_config.specs.Causes.{Rose};
 ghost use Rattle.h1_machine.specs.Kept.{rest_in};
 ghost use Rattle.h1_machine.specs.Body.{pass_rest};
 ghost use Rattle.h1_machine.specs.Pull.{IsPull};
@@ -7,10 +9,13 @@ ghost use Rattle.h1_machine.specs.Pull as pulls;
 ghost use Rattle.h1_payload.specs.Rests.{IsPulled, IsLight};
 ghost use Rattle.h1_dispatch.specs.Incoming.{is_coming_in, IsFound, IsWhole, IsHeadOf, IsPassedHead, CanGoOn, GoesOnIn};
 
+use crate::ReadFromError;
+use crate::connection::READ_SIZE;
+use crate::connection::filling::read_behind;
 use bytes::{Bytes, BytesMut};
 use h1_decode::{HeadScan, HeadScanner};
 use h1_payload::{Pulled, Rest};
-use http_types::NoMemory;
+use http_types::{NoMemory, Source};
 use std::alloc::Global;
 use std::marker::Model;
 
@@ -88,6 +93,39 @@ impl Input {
         let held = self.front.len() + self.bytes.len();
         let count = bytes.len().min(limit.saturating_sub(held));
         self.bytes.extend_from_slice(&bytes[..count])?;
+        self.search = continued(self.search, self.bytes.as_slice());
+        Ok(count)
+    }
+
+    /// Reads bytes from the source, at most as many as there is room for up to the limit, and at most `READ_SIZE`.
+    /// Where none is left there, all stays as it is.
+    pub fn read_from<S: Source>(
+        &mut self,
+        source: &mut S,
+        limit: usize,
+    ) -> Result<usize, ReadFromError>
+        ensures read { IfOk result (λ count. (bytes : List ℕ) × (length bytes ≡ count) × (self.new.unread ≡ self.old.unread ++ bytes)
+            × Consumes (S.left source.old) (S.left source.new) bytes) }
+        ensures room { IfOk result (λ count. count ≤ limit - length self.old.unread) }
+        ensures bound { IfOk result (λ count. count ≤ READ_SIZE) }
+        ensures end { IfOk result (λ count. count ≡ 0 → (self.new ≡ self.old) × IsAtEnd (S.left source.new)) }
+        ensures scanned { OnOk result (IsFound self.new) }
+        ensures searched { OnOk result (is_some self.new.piece ≡ is_some self.old.piece) }
+        ensures full { IsErrOf result ReadFromError.Full ↔ limit ≤ length self.old.unread }
+        ensures failed { IsErrOf result ReadFromError.Failed → Rose (S.faults source.old) (S.faults source.new) }
+        ensures left { IsErrOf result ReadFromError.Failed → Keeps (S.left source.old) (S.left source.new) }
+        ensures unasked { IfErr result (λ e. e ≢ ReadFromError.Failed → source.new ≡ source.old) }
+        ensures faults { S.faults source.old ≤ S.faults source.new }
+        ensures err { OnErr result (self.new ≡ self.old) }
+    {
+        let room = limit.saturating_sub(self.front.len() + self.bytes.len());
+        if room == 0 {
+            return Err(ReadFromError::Full);
+        }
+        let count = read_behind(&mut self.bytes, source, room.min(READ_SIZE))?;
+        if count == 0 {
+            return Ok(0);
+        }
         self.search = continued(self.search, self.bytes.as_slice());
         Ok(count)
     }

@@ -1,13 +1,16 @@
 // What each event does to the parts, but for heads, bodies and answers.
-ghost use Rattle.std.specs.Prelude.{◌≡◌, ◌≤◌, ◌<◌, false, length, IfOk, OnOk, OnErr, IsOk, take};
+ghost use Rattle.std.specs.Prelude.{◌≡◌, ◌≢◌, ◌≤◌, ◌<◌, ◌↔◌, ℕ, List, false, length, IfOk, IfErr, OnOk, OnErr, IsOk, IsErrOf, take};
+ghost use Rattle.std.specs.Io.KnownBytes.{Consumes, Keeps, IsAtEnd};
+ghost use Rattle.http_config.specs.Causes.{Rose};
 ghost use Rattle.h1_model.specs.Event as on;
 ghost use Rattle.h1_machine.specs.Kept.{is_free};
-ghost use Rattle.h1_dispatch.specs.Parts.{kept_of, ended_exchange, dropped, told_to_go_on, IsSound, Steps};
+ghost use Rattle.h1_dispatch.specs.Parts.{kept_of, ended_exchange, dropped, told_to_go_on, IsSound, Steps, StepsIn};
 
-use crate::End;
+use crate::connection::READ_SIZE;
 use crate::connection::parts::Parts;
+use crate::{End, ReadFromError};
 use bytes::Bytes;
-use http_types::{NoMemory, ServiceConfig};
+use http_types::{NoMemory, ServiceConfig, Source};
 
 impl Parts {
     /// Takes the bytes that there is room for, and says how many.
@@ -18,6 +21,34 @@ impl Parts {
         ensures err { OnErr result (self.new ≡ self.old) }
     {
         let count = self.input.take(bytes, config.h1_hold_size())?;
+        self.pass_body();
+        self.settle(config);
+        Ok(count)
+    }
+
+    /// Takes bytes that are read from the source, and says how many came.
+    pub fn read_from<S: Source>(
+        &mut self,
+        config: &ServiceConfig,
+        source: &mut S,
+    ) -> Result<usize, ReadFromError>
+        requires { IsSound config.now self.old }
+        ensures ok { IfOk result (λ count. (bytes : List ℕ) × (length bytes ≡ count) × Consumes (S.left source.old) (S.left source.new) bytes
+            × StepsIn config.now self.old bytes self.new) }
+        ensures bound { IfOk result (λ count. count ≤ READ_SIZE) }
+        ensures end { IfOk result (λ count. count ≡ 0 → (self.new ≡ self.old) × IsAtEnd (S.left source.new)) }
+        ensures sound { OnOk result (IsSound config.now self.new) }
+        ensures full { IsErrOf result ReadFromError.Full ↔ config.now.h1_hold_size ≤ length self.old.input.unread }
+        ensures failed { IsErrOf result ReadFromError.Failed → Rose (S.faults source.old) (S.faults source.new) }
+        ensures left { IsErrOf result ReadFromError.Failed → Keeps (S.left source.old) (S.left source.new) }
+        ensures unasked { IfErr result (λ e. e ≢ ReadFromError.Failed → source.new ≡ source.old) }
+        ensures faults { S.faults source.old ≤ S.faults source.new }
+        ensures err { OnErr result (self.new ≡ self.old) }
+    {
+        let count = self.input.read_from(source, config.h1_hold_size())?;
+        if count == 0 {
+            return Ok(0);
+        }
         self.pass_body();
         self.settle(config);
         Ok(count)

@@ -1,0 +1,41 @@
+// Bytes that are read from a source straight into a buffer.
+ghost use Rattle.std.specs.Prelude.{◌≡◌, ◌<◌, ◌≤◌, ◌++◌, ℕ, List, length, IfOk, OnErr, IsErrOf};
+ghost use Rattle.std.specs.Io.KnownBytes.{Consumes, Keeps, IsAtEnd};
+ghost use Rattle.http_config.specs.Causes.{Rose};
+
+use crate::ReadFromError;
+use bytes::BytesMut;
+use http_types::Source;
+
+/// One read of at most so many bytes, which come to stand behind those of the buffer. None is copied, and the room for
+/// them isn't cleared before.
+pub fn read_behind<S: Source>(
+    bytes: &mut BytesMut,
+    source: &mut S,
+    size: usize,
+) -> Result<usize, ReadFromError>
+    ensures read { IfOk result (λ count. (more : List ℕ) × (length more ≡ count) × (bytes.new.items ≡ bytes.old.items ++ more)
+        × Consumes (S.left source.old) (S.left source.new) more) }
+    ensures bound { IfOk result (λ count. count ≤ size) }
+    ensures end { IfOk result (λ count. count ≡ 0 → 0 < size → IsAtEnd (S.left source.new)) }
+    ensures not_full { ¬ IsErrOf result ReadFromError.Full }
+    ensures failed { IsErrOf result ReadFromError.Failed → Rose (S.faults source.old) (S.faults source.new) }
+    ensures left { IsErrOf result ReadFromError.Failed → Keeps (S.left source.old) (S.left source.new) }
+    ensures unasked { IsErrOf result ReadFromError.NoMemory → source.new ≡ source.old }
+    ensures faults { S.faults source.old ≤ S.faults source.new }
+    ensures err { OnErr result (bytes.new.items ≡ bytes.old.items) }
+{
+    let len = bytes.len();
+    bytes.reserve(size)?;
+    bytes.advance_mut(size);
+    match source.read(&mut bytes.as_mut_slice()[len..]) {
+        Ok(count) => {
+            bytes.truncate(len + count);
+            Ok(count)
+        }
+        Err(_) => {
+            bytes.truncate(len);
+            Err(ReadFromError::Failed)
+        }
+    }
+}
