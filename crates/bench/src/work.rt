@@ -3,7 +3,7 @@ use crate::checksum::Checksum;
 use crate::error::BenchError;
 use bytes::Bytes;
 use h1_decode::{HeadScan, request_head, scan_head};
-use h1_dispatch::{Connection, Event, NextHead, Outcome};
+use h1_dispatch::{Boxed, Connection, Event, NextHead, Outcome};
 use http_bodies::BodySize;
 use http_types::{NoMemory, ResponseHead, ServiceConfigBuilder, StatusCode};
 use std::alloc::Global;
@@ -153,7 +153,8 @@ fn exchange(
 /// The same by events, which are made once.
 fn steps(alloc: Global, head: &[u8], depth: u64, reads: u64) -> Result<u64, BenchError> {
     let read = Event::Read(repeated(alloc, head, depth)?);
-    let answer = Event::Answer(ResponseHead::new(alloc, StatusCode::OK), BodySize::ZERO);
+    let head = Boxed::new(alloc, ResponseHead::new(alloc, StatusCode::OK))?;
+    let answer = Event::Answer(head, BodySize::ZERO);
     let mut connection = Connection::new(alloc, ServiceConfigBuilder::new().build());
     let mut checksum = Checksum::new();
     bring(&mut connection, &Event::Tick(MOMENT), &mut checksum)?;

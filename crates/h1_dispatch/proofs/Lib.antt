@@ -9,6 +9,7 @@ pub mod HeadLemmas
 pub mod ResultLemmas
 pub mod GoesOnLemmas
 pub mod AllowedLemmas
+pub mod TraceLemmas
 pub mod RunLemmas
 pub mod LawLemmas
 pub mod DeadlineLemmas

@@ -1,5 +1,5 @@
 -- A run that grows by a step, behind the trace that the connection stands for.
-use Rattle.std.proofs.Common.{◌≡◌, ℕ, ◌+◌, ◌<◌, ◌≤◌, Bool, true, false, List, [], ◌∷◌, ◌++◌, length, get_or, map, take, reverse, Option, Some, None, refl, sym, ap, ◌∙◌, subst}
+use Rattle.std.proofs.Common.{◌≡◌, ℕ, ◌+◌, ◌<◌, ◌≤◌, Bool, true, false, List, [], ◌∷◌, ◌++◌, length, get_or, map, take, reverse, Option, Some, None, refl, sym, ap, ◌∙◌, subst, arith, length-append}
 use Rattle.std.proofs.lemmas.List.{map-append, take_more, take_all}
 use Rattle.std.proofs.lemmas.Grind.{reverse_onto}
 use Rattle.std.specs.Prelude.{option_map, slice_get}
@@ -27,9 +27,12 @@ use Rattle.h1_dispatch.proofs.GoesOnLemmas.{buffered_traced, closing_traced}
 use Rattle.h1_dispatch.specs.Meaning.{setting_of, event_of, end_of, SaysOutcome}
 use Rattle.h1_dispatch.specs.State.{State, fresh_state, Stands, GoesOn}
 use Rattle.h1_dispatch.specs.Run.{SaysStep, SaySteps, IsDriven, IsWhole, IsMisplaced}
+use Rattle.h1_dispatch.specs.Steps.{pair, paired, Notes}
+use Rattle.h1_dispatch.proofs.TraceLemmas.{paired_push}
 use Rattle.h1_dispatch.specs.declared.event.End.{End}
 use Rattle.h1_dispatch.specs.declared.event.Event.{Event}
 use Rattle.h1_dispatch.specs.declared.event.Outcome.{Outcome}
+use Rattle.h1_dispatch.specs.declared.noted.Noted.{Noted}
 use Rattle.h1_dispatch.specs.declared.trace.Step.{Step}
 use Rattle.h1_dispatch.specs.declared.trace.Trace.{Trace}
 
@@ -96,6 +99,35 @@ driven_more settings events index steps now after event outcome in_range is driv
       says =
           subst (λ (l : List sums.Step). SaySteps (steps ++ (record { event = event; outcome = outcome }) ∷ []) l) (sym (reverse_onto driven.model step []))
           (say_more steps (reverse driven.model) (record { event = event; outcome = outcome }) step driven.says (record { event = refl; outcome = next.1 }));
+    }
+
+-- ---- its outcomes as they are noted
+
+-- what the loop has done, by what it noted
+pub record IsNotedTo (settings : Settings) (events : List Event) (index : ℕ) (noted : List Noted) (now : State) : Type 0 where
+  pub driven : IsDrivenTo settings events index (paired events noted) now
+  pub counted : length noted ≡ index
+
+-- before the first event
+pub noted_new : (settings : Settings) (events : List Event) (noted : List Noted) (now : State) → noted ≡ [] → now ≡ fresh_state settings
+    → IsNotedTo settings events 0 noted now
+noted_new settings events noted now empty is =
+    record { driven = driven_new settings events (paired events noted) now (ap (λ l. paired events l) empty) is; counted = ap length empty }
+
+-- behind one more
+pub noted_more : (settings : Settings) (events : List Event) (index : ℕ) (noted more : List Noted) (now after : State) (event : Event) (outcome : Outcome)
+    → index < length events → event ≡ get_or events index event → IsNotedTo settings events index noted now
+    → GoesOn now (event_of event) (SaysOutcome outcome) after → after.settings ≡ now.settings → Notes noted outcome more
+    → IsNotedTo settings events (index + 1) more after
+noted_more settings events index noted more now after event outcome in_range is x goes same notes =
+    let there : event ≡ get_or events (length noted) event = is ∙ ap (λ n. get_or events n event) (sym x.counted) in
+    let grown : paired events more ≡ paired events noted ++ (record { event = event; outcome = outcome }) ∷ [] =
+    ap (λ l. paired events l) notes.are ∙ paired_push events noted event notes.last (omega (arith, in_range, x.counted)) there
+    ∙ (λ i. paired events noted ++ (record { event = event; outcome = notes.is_last i }) ∷ []) in
+    record {
+      driven = subst (λ (l : List Step). IsDrivenTo settings events (index + 1) l after) (sym grown)
+          (driven_more settings events index (paired events noted) now after event outcome in_range is x.driven goes same);
+      counted = omega (arith, ap length notes.are, length-append noted (notes.last ∷ []), x.counted);
     }
 
 -- ---- what the run gives

@@ -7,4 +7,5 @@ pub mod Unsent
 pub mod Upgrade
 pub mod Heads
 pub mod State
+pub mod Steps
 pub mod Run

@@ -9,20 +9,20 @@ use thiserror::Error;
 
 /// Why a run of events was not a whole one.
 #[derive(Debug, Drop, Error)]
-pub enum DriveError {
+pub enum DriveError<'a> {
     /// The event at this place, from 0, was not allowed after the trace of those before it.
     #[error("event {0} is misplaced")]
-    Misplaced(usize, Trace),
+    Misplaced(usize, Trace<'a>),
 
     /// There was no memory.
     #[error("no memory is left")]
     NoMemory,
 }
 
-impl From<NoMemory> for DriveError {
+impl<'a> From<NoMemory> for DriveError<'a> {
     ghost from_gives = { λ _ error. error ≡ drive_error.NoMemory };
 
-    fn from(_error: NoMemory) -> DriveError {
+    fn from(_error: NoMemory) -> DriveError<'a> {
         DriveError::NoMemory
     }
 }

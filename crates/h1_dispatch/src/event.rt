@@ -1,6 +1,7 @@
 //! What comes to a connection, and what it answers.
 ghost use Rattle.std.specs.Prelude.{◌≡◌, IfOk};
 
+use crate::Boxed;
 use bytes::Bytes;
 use h1_decode::HeadItem;
 use http_bodies::BodySize;
@@ -28,7 +29,7 @@ pub enum Event {
     Continue,
 
     /// The open request is answered with this head, and with a body of this size.
-    Answer(ResponseHead, BodySize),
+    Answer(Boxed<ResponseHead>, BodySize),
 
     /// The next bytes of the answer's body.
     Chunk(Bytes),
@@ -164,7 +165,10 @@ impl Event {
             Event::Pull => Event::Pull,
             Event::DropBody => Event::DropBody,
             Event::Continue => Event::Continue,
-            Event::Answer(head, size) => Event::Answer(head.copy()?, *size),
+            Event::Answer(head, size) => {
+                let copy = head.get().copy()?;
+                Event::Answer(Boxed::new(head.allocator(), copy)?, *size)
+            }
             Event::Chunk(bytes) => Event::Chunk(bytes.clone()?),
             Event::BodyEnd => Event::BodyEnd,
             Event::BodyError => Event::BodyError,

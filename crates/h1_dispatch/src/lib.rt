@@ -29,17 +29,21 @@
 //! event, and changes nothing; what takes no memory says so.
 #![tactic(auto)]
 
+mod boxed;
 mod connection;
 mod driver;
 mod error;
 mod event;
 pub mod laws;
+mod noted;
 mod step;
 mod trace;
 
+pub use boxed::Boxed;
 pub use connection::{Connection, Expiry, NextHead, NextKind, READ_SIZE};
 pub use driver::drive;
 pub use error::{DriveError, ReadFromError};
 pub use event::{End, Event, HeadFault, Outcome, PayloadError};
 pub use h1_payload::{BodyFault, Pulled};
-pub use trace::{Step, Steps, Trace};
+pub use noted::Noted;
+pub use trace::{Step, Steps, StepsIter, Trace};

@@ -48,7 +48,7 @@ impl Connection {
                 Ok(Outcome::Done)
             }
             Event::Answer(head, size) => {
-                self.answer(head, *size)?;
+                self.answer(head.get(), *size)?;
                 Ok(Outcome::Done)
             }
             Event::Chunk(bytes) => {

@@ -1,10 +1,8 @@
 -- The lines of a report, step by step.
-use Rattle.std.proofs.Common.{◌≡◌, ℕ, ◌+◌, List, [], ◌∷◌, ◌++◌, take, codes, Some, refl, sym, ap, ◌∙◌, append_assoc, append-nil}
-use Rattle.std.specs.List.{slice_get}
-use Rattle.std.proofs.lemmas.List.{take_more}
-use Rattle.std.proofs.lemmas.Option.{slice_get_within, get_or_from_slice_get}
+use Rattle.std.proofs.Common.{◌≡◌, ℕ, List, [], ◌∷◌, ◌++◌, codes, refl, sym, ap, ◌∙◌, subst, append_assoc, append-nil}
 use Rattle.http_map.specs.HeaderMap.{pairs}
 use Rattle.h1_decode.specs.declared.decoder.HeadItem.{HeadItem}
+use Rattle.h1_dispatch.specs.declared.event.Outcome.{Outcome}
 use Rattle.h1_dispatch.specs.declared.trace.Step.{Step}
 use Rattle.h1_replay.specs.Report.{IsRequestPart, IsBodyPart, pair_words, IsHeadLine, IsOutcomeLine, AreStepLines}
 use Rattle.h1_replay.specs.Text.{Adds}
@@ -26,15 +24,21 @@ Adds-head item old named requested bodied new name (request, is_request, with_re
       with_pairs ∙ ap (λ (l : List ℕ). l ++ ps) (with_body ∙ ap (λ (l : List ℕ). l ++ body) (with_request ∙ ap (λ (l : List ℕ). l ++ request) name)) ∙ regroup old (codes "head") request body ps,
     )
 
--- a line behind the others
-AreStepLines-push : (steps : List Step) (step : Step) (text line : List ℕ) → AreStepLines steps text → IsOutcomeLine step.outcome line → AreStepLines (steps ++ step ∷ []) (text ++ line ++ codes "\n")
-AreStepLines-push [] step text line none is = (line, [], is, refl, ap (λ (l : List ℕ). l ++ line ++ codes "\n") none ∙ sym (append-nil (line ++ codes "\n")))
-AreStepLines-push (first ∷ steps) step text line lines is =
-    (lines.0, lines.1 ++ line ++ codes "\n", lines.2, AreStepLines-push steps step lines.1 line lines.3 is, ap (λ (l : List ℕ). l ++ line ++ codes "\n") lines.4 ∙ simp append_assoc)
+-- the line of the next step: what was written goes on to be that of all
+pub AreStepLines-next : (steps left later : List Step) (step : Step) (outcome : Outcome) (text line new : List ℕ)
+    → ((rest : List ℕ) → AreStepLines left rest → AreStepLines steps (text ++ rest))
+    → left ≡ step ∷ later → outcome ≡ step.outcome → IsOutcomeLine outcome line → new ≡ text ++ line ++ codes "\n"
+    → (rest : List ℕ) → AreStepLines later rest → AreStepLines steps (new ++ rest)
+AreStepLines-next steps left later step outcome text line new before left_is outcome_is is new_is rest lines =
+    let of_step : IsOutcomeLine step.outcome line = subst (λ (o : Outcome). IsOutcomeLine o line) outcome_is is in
+    let of_left : AreStepLines left (line ++ codes "\n" ++ rest) = subst (λ (l : List Step). AreStepLines l (line ++ codes "\n" ++ rest)) (sym left_is) (line, rest, of_step, lines, refl) in
+    let parts : text ++ (line ++ codes "\n" ++ rest) ≡ text ++ line ++ codes "\n" ++ rest = simp append_assoc in
+    let grouped = parts ∙ ap (λ (l : List ℕ). l ++ rest) (sym new_is) in
+    subst (λ (l : List ℕ). AreStepLines steps l) grouped (before (line ++ codes "\n" ++ rest) of_left)
 
--- the line of the next step
-pub AreStepLines-more : (steps : List Step) (index : ℕ) (step : Step) (text line : List ℕ) → slice_get steps index ≡ Some step → AreStepLines (take index steps) text → IsOutcomeLine step.outcome line
-    → AreStepLines (take (index + 1) steps) (text ++ line ++ codes "\n")
-AreStepLines-more steps index step text line there lines is =
-    let within = slice_get_within steps index step there in
-    rw (take_more steps index step within, get_or_from_slice_get steps index step step there) (AreStepLines-push (take index steps) step text line lines is)
+-- behind the last step it is all
+pub AreStepLines-all : (steps left : List Step) (text : List ℕ) → ((rest : List ℕ) → AreStepLines left rest → AreStepLines steps (text ++ rest)) → left ≡ []
+    → AreStepLines steps text
+AreStepLines-all steps left text before none =
+    let nothing : AreStepLines left [] = subst (λ (l : List Step). AreStepLines l []) (sym none) refl in
+    subst (λ (l : List ℕ). AreStepLines steps l) (append-nil text) (before [] nothing)

@@ -8,7 +8,7 @@ use crate::marks::Marks;
 use crate::pieces::Pieces;
 use crate::word::{LineError, bytes, size, status, text};
 use bytes::Bytes;
-use h1_dispatch::Event;
+use h1_dispatch::{Boxed, Event};
 use http_header::HeaderNameError;
 use http_map::{HeaderName, HeaderValue};
 use http_types::{ConnectionType, ResponseHead, StatusCode};
@@ -27,7 +27,10 @@ pub fn answer(alloc: Global, mut words: Pieces<'_>) -> Result<Event, LineError>
     let marks = Marks::from_word(marks_word).ok_or(LineError::Unreadable)?;
     let mut head = marked_head(alloc, status, marks);
     put_words(alloc, &mut head, words)?;
-    Ok(Event::Answer(head, size))
+    match Boxed::new(alloc, head) {
+        Ok(head) => Ok(Event::Answer(head, size)),
+        Err(_) => Err(LineError::NoMemory),
+    }
 }
 
 fn marked_head(alloc: Global, status: StatusCode, marks: Marks) -> ResponseHead

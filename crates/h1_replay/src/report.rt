@@ -1,12 +1,13 @@
 //! The report of a trace.
 ghost use Rattle.std.specs.Prelude.{◌≡◌, ◌++◌, OnOk, IfOk};
 ghost use Rattle.http_map.specs.HeaderMap.{pairs};
+ghost use Rattle.h1_dispatch.specs.Steps.{outcome_of};
 ghost use Rattle.h1_replay.specs.Report.{hex_word, end_word, fault_word, broken_word, body_word, type_word, expect_word, IsVersionWord, spaced, IsRequestPart, IsBodyPart, pair_words, IsHeadLine, IsOutcomeLine, AreStepLines, is_abandoned, state_word, last_lines, IsReport};
 ghost use Rattle.h1_replay.specs.Text.{Adds};
 
 use crate::text::{put_hex, put_number};
 use h1_decode::{BodyKind, HeadItem};
-use h1_dispatch::{End, HeadFault, Outcome, PayloadError, Steps, Trace};
+use h1_dispatch::{End, HeadFault, Noted, PayloadError, Steps, Trace};
 use http_types::{ConnectionType, HeaderMap, NoMemory, Version};
 use std::alloc::Global;
 
@@ -23,37 +24,36 @@ fn step_lines(alloc: Global, steps: &Steps) -> Result<Vec<u8>, NoMemory>
     ensures { IfOk result (λ text. AreStepLines steps.now text.items) }
 {
     let mut text = Vec::new(alloc);
-    for index in 0..steps.len() {
-        let step = steps.get(index).unwrap();
-        put_outcome(alloc, &mut text, &step.outcome)?;
+    for step in steps.iter() {
+        put_outcome(alloc, &mut text, step.outcome())?;
         text.extend_from_slice(b"\n")?;
     }
     Ok(text)
 }
 
-fn put_outcome(alloc: Global, text: &mut Vec<u8>, outcome: &Outcome) -> Result<(), NoMemory>
-    ensures { OnOk result (Adds (IsOutcomeLine outcome.now) text.old.items text.new.items) }
+fn put_outcome(alloc: Global, text: &mut Vec<u8>, noted: &Noted) -> Result<(), NoMemory>
+    ensures { OnOk result (Adds (IsOutcomeLine (outcome_of noted.now)) text.old.items text.new.items) }
 {
-    match outcome {
-        Outcome::Took(count) => {
+    match noted {
+        Noted::Took(count) => {
             text.extend_from_slice(b"took ")?;
             put_number(text, *count as u64)
         }
-        Outcome::Head(item) => put_head(alloc, text, item),
-        Outcome::Bytes(bytes) => put_named_hex(alloc, text, b"bytes ", bytes),
-        Outcome::Trailers(trailers) => {
+        Noted::Head(item) => put_head(alloc, text, item.get()),
+        Noted::Bytes(bytes) => put_named_hex(alloc, text, b"bytes ", bytes),
+        Noted::Trailers(trailers) => {
             text.extend_from_slice(b"trailers")?;
-            put_pairs(alloc, text, trailers)
+            put_pairs(alloc, text, trailers.get())
         }
-        Outcome::Closed(end) => put_named(text, b"closed ", end_word(*end)),
-        Outcome::Fault(fault) => put_named(text, b"fault ", fault_word(*fault)),
-        Outcome::Broken(error) => put_named(text, b"broken ", broken_word(*error)),
-        Outcome::Gave(bytes) => put_named_hex(alloc, text, b"gave ", bytes),
-        Outcome::Expired(end) => put_named(text, b"expired ", end_word(*end)),
-        Outcome::BodyEnd => text.extend_from_slice(b"end"),
-        Outcome::Pending => text.extend_from_slice(b"pending"),
-        Outcome::Abandoned => text.extend_from_slice(b"abandoned"),
-        Outcome::Done => text.extend_from_slice(b"done"),
+        Noted::Closed(end) => put_named(text, b"closed ", end_word(*end)),
+        Noted::Fault(fault) => put_named(text, b"fault ", fault_word(*fault)),
+        Noted::Broken(error) => put_named(text, b"broken ", broken_word(*error)),
+        Noted::Gave(bytes) => put_named_hex(alloc, text, b"gave ", bytes),
+        Noted::Expired(end) => put_named(text, b"expired ", end_word(*end)),
+        Noted::BodyEnd => text.extend_from_slice(b"end"),
+        Noted::Pending => text.extend_from_slice(b"pending"),
+        Noted::Abandoned => text.extend_from_slice(b"abandoned"),
+        Noted::Done => text.extend_from_slice(b"done"),
     }
 }
 
@@ -152,7 +152,7 @@ fn is_abandoned(steps: &Steps) -> bool
     ensures { result ≡ is_abandoned steps.now }
 {
     match steps.get(steps.len().saturating_sub(1)) {
-        Some(step) => matches!(step.outcome, Outcome::Abandoned),
+        Some(step) => matches!(step.outcome(), Noted::Abandoned),
         None => false,
     }
 }

@@ -11,6 +11,7 @@ use h1_dispatch::Event;
 use http_config::{
     DEFAULT_HOLD_SIZE, MAX_HOLD_SIZE, MIN_HOLD_SIZE, ServiceConfig, ServiceConfigBuilder,
 };
+use memchr::memchr_iter;
 use std::alloc::Global;
 use thiserror::Error;
 
@@ -40,15 +41,22 @@ pub enum ScriptError {
 pub fn read_script(alloc: Global, text: &[u8]) -> Result<Script, ScriptError>
     ensures { ReadsScript result (script_of text.now) }
 {
-    let mut lines = Pieces::new(without_last_feed(text), LINE_FEED);
+    let text = without_last_feed(text);
+    let mut lines = Pieces::new(text, LINE_FEED);
     let Some(line) = lines.next() else {
         return Err(ScriptError::BadLine(1));
     };
     let Some(config) = config_line(line) else {
         return Err(ScriptError::BadLine(1));
     };
-    let events = event_lines(alloc, lines)?;
+    let events = event_lines(alloc, lines, most_events(text))?;
     Ok(Script { config, events })
+}
+
+// As many events as the text can have at most, each on a line of its own of four bytes or more behind the first one.
+// With that much room from the start the events never move.
+fn most_events(text: &[u8]) -> usize {
+    memchr_iter(LINE_FEED, text).count().min(text.len() / 4 + 1)
 }
 
 fn without_last_feed(text: &[u8]) -> &[u8]
@@ -61,10 +69,10 @@ fn without_last_feed(text: &[u8]) -> &[u8]
 }
 
 // The events of the second line and those behind it.
-fn event_lines(alloc: Global, mut lines: Pieces<'_>) -> Result<Vec<Event>, ScriptError>
+fn event_lines(alloc: Global, mut lines: Pieces<'_>, most: usize) -> Result<Vec<Event>, ScriptError>
     ensures { ReadsEvents result (events_of 2 lines.entry) }
 {
-    let mut events = Vec::new(alloc);
+    let mut events = Vec::with_capacity(alloc, most).map_err(|_| ScriptError::NoMemory)?;
     while let Some(line) = lines.next() {
         match event_line(alloc, line) {
             Ok(event) => events.push(event).map_err(|_| ScriptError::NoMemory)?,

@@ -1,6 +1,6 @@
 //! The calls of a connection.
 use bytes::Bytes;
-use h1_dispatch::{Connection, DriveError, Event, NextHead, Outcome, drive};
+use h1_dispatch::{Boxed, Connection, DriveError, Event, NextHead, Outcome, drive};
 use http_bodies::BodySize;
 use http_types::{NoMemory, ResponseHead, ServiceConfigBuilder, StatusCode};
 use std::alloc::{AllocError, Global};
@@ -86,5 +86,16 @@ fn outcomes_are_copied(rt: HostRuntime) -> Result<(), Fail> {
     assert!(rt; matches!(&copy, Outcome::Bytes(bytes) if bytes.as_slice() == b"ab".as_slice()));
     let pulled = Outcome::Pending.copy()?;
     assert!(rt; matches!(pulled, Outcome::Pending));
+    Ok(())
+}
+
+#[test]
+fn answers_are_copied(rt: HostRuntime) -> Result<(), Fail> {
+    let head = ResponseHead::new(rt.alloc(), StatusCode::NOT_FOUND);
+    let answer = Event::Answer(Boxed::new(rt.alloc(), head)?, BodySize::ZERO);
+    let copy = answer.copy()?;
+    assert!(rt;
+        matches!(&copy, Event::Answer(head, _) if head.get().status == StatusCode::NOT_FOUND)
+    );
     Ok(())
 }

@@ -1,6 +1,8 @@
 use Rattle.std.proofs.Common.{List, ℕ, subst}
 use Rattle.h1_model.specs.Event as on
 use Rattle.h1_dispatch.specs.declared.event.Outcome.TheVariants as out
+use Rattle.http_types.specs.ResponseHead.{ResponseParts}
+use Rattle.h1_codec.specs.Meaning.{answer_of, size_of}
 use Rattle.h1_dispatch.specs.State.{GoesOn, Is}
 use Rattle.h1_dispatch.proofs.RunLemmas.{at_event, says_more}
 use Rattle.h1_dispatch.proofs.connection.Connection.step.Goals as goal
@@ -26,7 +28,9 @@ pub returns-in_ok-go_on-in-Continue-clause-stands : goal.returns-in_ok-go_on-in-
 returns-in_ok-go_on-in-Continue-clause-stands c = at_event c.args.self.now c.go_on.new.self _ _ out.Done c.in-Continue.is c.in_ok-go_on-in-Continue.ensures.stands
 
 pub returns-in_ok-answer-in-Answer-clause-stands : goal.returns-in_ok-answer-in-Answer-clause-stands
-returns-in_ok-answer-in-Answer-clause-stands c = at_event c.args.self.now c.answer.new.self _ _ out.Done c.in-Answer.is c.in_ok-answer-in-Answer.ensures.stands
+returns-in_ok-answer-in-Answer-clause-stands c =
+    at_event c.args.self.now c.answer.new.self _ _ out.Done c.in-Answer.is
+    (subst (λ (h : ResponseParts). GoesOn c.args.self.now (on.answer (answer_of h) (size_of c.in-Answer.size)) (Is on.done) c.answer.new.self) c.get.ensures c.in_ok-answer-in-Answer.ensures.stands)
 
 pub returns-in_ok-chunk-in-Chunk-clause-stands : goal.returns-in_ok-chunk-in-Chunk-clause-stands
 returns-in_ok-chunk-in-Chunk-clause-stands c =
