@@ -48,9 +48,11 @@ pub record ExtensionPart : Type 0 where
   pub singleton : List ℕ
   pub subtags : List (List ℕ)
 
+-- its subtags
 abbrev pub extension_subtags : ExtensionPart → List (List ℕ)
 extension_subtags e = e.singleton ∷ e.subtags
 
+-- each subtag is of its class
 pub record IsExtensionPart (e : ExtensionPart) : Type 0 where
   pub singleton : IsTrue (is_singleton e.singleton)
   pub some : 0 < length e.subtags
@@ -61,9 +63,11 @@ pub record PrivatePart : Type 0 where
   pub mark : List ℕ
   pub subtags : List (List ℕ)
 
+-- its subtags
 abbrev pub private_subtags : PrivatePart → List (List ℕ)
 private_subtags p = p.mark ∷ p.subtags
 
+-- each subtag is of its class
 pub record IsPrivatePart (p : PrivatePart) : Type 0 where
   pub mark : IsTrue (is_x p.mark)
   pub some : 0 < length p.subtags
@@ -74,10 +78,12 @@ abbrev pub subtag_if : Option (List ℕ) → List (List ℕ)
 subtag_if None = []
 subtag_if (Some subtag) = subtag ∷ []
 
+-- the same of a part of several subtags
 abbrev pub private_if : Option PrivatePart → List (List ℕ)
 private_if None = []
 private_if (Some p) = private_subtags p
 
+-- there is no such part, or one of its class
 abbrev pub IsPrivateIf : Option PrivatePart → Type 0
 IsPrivateIf None = Unit {0}
 IsPrivateIf (Some p) = IsPrivatePart p
@@ -92,6 +98,7 @@ pub record Langtag : Type 0 where
   pub extensions : List ExtensionPart
   pub private : Option PrivatePart
 
+-- its subtags, in order
 abbrev pub langtag_subtags : Langtag → List (List ℕ)
 langtag_subtags t =
     t.language ∷ (t.extlangs ++ (subtag_if t.script ++ (subtag_if t.region ++ (t.variants ++ (flat_map extension_subtags t.extensions ++ private_if t.private)))))
@@ -116,13 +123,16 @@ pub data TagTree : Type 0 where
   Common : Langtag → TagTree
   Private : PrivatePart → TagTree
 
+-- its subtags, in order
 abbrev pub tree_subtags : TagTree → List (List ℕ)
 tree_subtags (Common t) = langtag_subtags t
 tree_subtags (Private p) = private_subtags p
 
+-- its text: the subtags with hyphens between them
 abbrev pub tree_text : TagTree → List ℕ
 tree_text t = join_with_byte 45 (tree_subtags t)
 
+-- each part is of its class
 abbrev pub IsTagTree : TagTree → Type 0
 IsTagTree (Common t) = IsLangtag t
 IsTagTree (Private p) = IsPrivatePart p

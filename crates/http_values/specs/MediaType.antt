@@ -21,6 +21,7 @@ is_quotable b = nat_le 32 b && nat_le b 126 && not (b == 34) && not (b == 92)
 pub data Spelling : Type 0 where
   Bare Quoted : List ℕ → Spelling
 
+-- its text
 abbrev pub spelling_text : Spelling → List ℕ
 spelling_text (Bare value) = value
 spelling_text (Quoted value) = 34 ∷ (value ++ 34 ∷ [])
@@ -30,6 +31,7 @@ abbrev pub said : Spelling → List ℕ
 said (Bare value) = value
 said (Quoted value) = value
 
+-- its bytes are those that it may have
 abbrev pub IsSpelling : Spelling → Type 0
 IsSpelling (Bare value) = IsToken value
 IsSpelling (Quoted value) = IsTrue (list_all is_quotable value)
@@ -41,6 +43,7 @@ pub record Parameter : Type 0 where
   pub attribute : List ℕ
   pub value : Spelling
 
+-- its text
 abbrev pub parameter_text : Parameter → List ℕ
 parameter_text p = p.before ++ (59 ∷ (p.behind ++ (p.attribute ++ (61 ∷ spelling_text p.value))))
 
@@ -48,6 +51,7 @@ parameter_text p = p.before ++ (59 ∷ (p.behind ++ (p.attribute ++ (61 ∷ spel
 abbrev pub parameter_says : Parameter → List ℕ × List ℕ
 parameter_says p = (p.attribute, said p.value)
 
+-- each part is of its class
 pub record IsParameter (p : Parameter) : Type 0 where
   pub before : IsTrue (list_all is_blank p.before)
   pub behind : IsTrue (list_all is_blank p.behind)
@@ -60,9 +64,11 @@ pub record MediaType : Type 0 where
   pub subtype : List ℕ
   pub parameters : List Parameter
 
+-- its text
 abbrev pub media_type_text : MediaType → List ℕ
 media_type_text m = m.kind ++ (47 ∷ (m.subtype ++ flat_map parameter_text m.parameters))
 
+-- each part is of its class
 pub record IsMediaType (m : MediaType) : Type 0 where
   pub kind : IsToken m.kind
   pub subtype : IsToken m.subtype

@@ -1,5 +1,5 @@
 //! Content codings.
-ghost use Rattle.std.specs.Prelude.{◌≡◌, ℕ, List, Some, MatchOption, MatchResult, codes};
+ghost use Rattle.std.specs.Prelude.{◌≡◌, ◌↔◌, ℕ, List, Some, MatchOption, MatchResult, IfOk, IfErr, IsErrOf, codes};
 ghost use Rattle.http_header.specs.FieldValue.{plain_value};
 ghost use Rattle.http_values.specs.declared.shared.content_encoding.ContentEncoding.{ContentEncoding as Coding};
 ghost use Rattle.http_values.specs.declared.shared.content_encoding.ContentEncoding.TheVariants.{Identity};
@@ -124,8 +124,13 @@ impl FromText for ContentEncoding {
 
     ghost is_text = { λ text. (coding : Coding) × IsCodingText text coding };
 
-    /// Reads a coding's name, in either case and with white space around it.
-    fn from_text(_alloc: Global, s: &str) -> Result<ContentEncoding, ReadError> {
+    /// Reads a coding's name, in either case and with white space around it. No memory is needed.
+    fn from_text(_alloc: Global, s: &str) -> Result<ContentEncoding, ReadError>
+        ensures ok { IfOk result (λ coding. IsCodingText s.now coding) }
+        ensures readable { IfOk result (λ _. (coding : Coding) × IsCodingText s.now coding) }
+        ensures invalid { IsErrOf result ReadError.Invalid ↔ ¬ ((coding : Coding) × IsCodingText s.now coding) }
+        ensures no_memory_needed { IfErr result (λ e. e ≡ ReadError.Invalid) }
+    {
         match read_coding(s) {
             Some(coding) => Ok(coding),
             None => Err(ReadError::Invalid),

@@ -1,5 +1,5 @@
 //! Dates.
-ghost use Rattle.std.specs.Prelude.{◌≡◌, ◌<◌, ◌≤◌, ℕ, List, Some, MatchOption};
+ghost use Rattle.std.specs.Prelude.{◌≡◌, ◌↔◌, ◌<◌, ◌≤◌, ℕ, List, Some, MatchOption, IfOk, IfErr, IsErrOf};
 ghost use Rattle.http_header.specs.FieldValue.{FieldValue, plain_value};
 ghost use Rattle.httpdate.specs.Date.{IsDateText};
 ghost use Rattle.http_values.specs.declared.shared.http_date.HttpDate.{HttpDate as Date};
@@ -53,8 +53,13 @@ impl FromText for HttpDate {
 
     ghost is_text = { λ text. (d : Date) × IsHttpDateText text d };
 
-    /// Reads a date in any of the three formats, with white space around it.
-    fn from_text(_alloc: Global, s: &str) -> Result<HttpDate, ReadError> {
+    /// Reads a date in any of the three formats, with white space around it. No memory is needed.
+    fn from_text(_alloc: Global, s: &str) -> Result<HttpDate, ReadError>
+        ensures ok { IfOk result (λ date. IsHttpDateText s.now date) }
+        ensures readable { IfOk result (λ _. (d : Date) × IsHttpDateText s.now d) }
+        ensures invalid { IsErrOf result ReadError.Invalid ↔ ¬ ((d : Date) × IsHttpDateText s.now d) }
+        ensures no_memory_needed { IfErr result (λ e. e ≡ ReadError.Invalid) }
+    {
         if !s.is_ascii() {
             return Err(ReadError::Invalid);
         }
