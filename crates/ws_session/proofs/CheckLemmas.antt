@@ -1,5 +1,5 @@
 -- The checks of a request, one after another.
-use Rattle.std.proofs.Common.{◌≡◌, ℕ, Bool, true, false, not, ◌&&◌, ◌||◌, if◌then◌else◌, List, [], ◌∷◌, map, codes, bytes_eq, slice_get, Option, Some, None, option_copied, Result, Ok, Err, Bor, refl, sym, ap, ◌∙◌, subst}
+use Rattle.std.proofs.Common.{◌≡◌, ℕ, Bool, true, false, not, ◌&&◌, if◌then◌else◌, List, [], ◌∷◌, codes, bytes_eq, slice_get, Option, Some, None, option_copied, Bor, refl, sym, ap, ◌∙◌, subst}
 use Rattle.std.specs.Option.{option_or}
 use Rattle.std.proofs.lemmas.List.Sums.{AllPass-from_list_all, list_all-from_AllPass}
 use Rattle.http_header.specs.FieldValue.{FieldValue, IsVisibleAscii, is_visible_text}
@@ -9,7 +9,6 @@ use Rattle.h1_model.specs.LengthTable.{values_of}
 use Rattle.h1_model.specs.Handshake as model
 use Rattle.h1_model.specs.Handshake.{handshake_error, has_word, first_has_word, version_error, key_error, key_of}
 use Rattle.ws_session.specs.declared.handshake.HandshakeError.{HandshakeError}
-use Rattle.ws_session.specs.declared.handshake.HandshakeError.TheVariants.{NoVersionHeader, UnsupportedVersion}
 use Rattle.ws_session.specs.Upgrade.{value_bytes, IsFirst, is_spoken, error_of, FailsWith}
 
 -- the first value of a map is the first of a head

@@ -26,7 +26,8 @@ fn written(
 
 #[test]
 fn examples_are_written(rt: HostRuntime) -> Result<(), Fail> {
-    let rows: [(&[u8], OpCode, bool, Option<[u8; 4]>, &[u8]); 6] = [
+    let rows: [(&[u8], OpCode, bool, Option<[u8; 4]>, &[u8]); 7] = [
+        (b"1", OpCode::Text, true, None, b"\x81\x01\x31"),
         (b"Hello", OpCode::Text, true, None, b"\x81\x05Hello"),
         (
             b"Hello",

@@ -1,5 +1,5 @@
 -- The first version, if there is one, is spoken or isn't.
-use Rattle.std.proofs.Common.{ℕ, List, refl, sym, ap, ◌∙◌}
+use Rattle.std.proofs.Common.{refl, sym, ap, ◌∙◌}
 use Rattle.h1_model.specs.Handshake as model
 use Rattle.h1_model.specs.Handshake.{version_error}
 use Rattle.ws_session.specs.Upgrade.{is_spoken}

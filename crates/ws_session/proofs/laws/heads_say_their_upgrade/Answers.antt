@@ -1,4 +1,4 @@
-use Rattle.std.proofs.Common.{◌≡◌, ℕ, List, ap, ◌∙◌}
+use Rattle.std.proofs.Common.{ap, ◌∙◌}
 use Rattle.http_map.specs.HeaderMap.{Entries, get_all}
 use Rattle.ws_session.specs.Upgrade.{value_bytes}
 use Rattle.ws_session.proofs.ValueLemmas.{head_values}

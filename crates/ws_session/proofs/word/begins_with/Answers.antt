@@ -1,6 +1,6 @@
 -- Byte by byte.
-use Rattle.std.proofs.Common.{refl, sym, ap, ◌∙◌, arith}
-use Rattle.ws_session.proofs.WordLemmas.{goes_on, goes_wrong, ends_early, is_there}
+use Rattle.std.proofs.Common.{refl, sym, ◌∙◌, arith}
+use Rattle.ws_session.proofs.WordLemmas.{goes_wrong, ends_early}
 use Rattle.ws_session.proofs.word.begins_with.Goals.{then-at-text-via-then-at-text, then-at-text-via-else-at-text+then-to_ascii_lowercase-word}
 use Rattle.ws_session.proofs.word.begins_with.Goals as goal
 

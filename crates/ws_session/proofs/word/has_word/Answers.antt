@@ -2,7 +2,7 @@
 use Rattle.std.proofs.Common.{◌≡◌, refl, sym, ap, ◌∙◌, arith, drop}
 use Rattle.std.proofs.lemmas.List.{take_rest}
 use Rattle.ws_session.specs.Upgrade.{begins_with}
-use Rattle.ws_session.proofs.WordLemmas.{found_here, found_further, found_nowhere}
+use Rattle.ws_session.proofs.WordLemmas.{found_further, found_nowhere}
 use Rattle.ws_session.proofs.word.has_word.Goals as goal
 
 pub loop-at-init : goal.loop-at-init
