@@ -1,9 +1,9 @@
 //! Exchanges with bodies that are measured.
 use crate::checksum::Checksum;
 use crate::error::BenchError;
-use crate::work::{MOMENT, repeated};
+use crate::work::{MOMENT, Place, begin, repeated};
 use bytes::Bytes;
-use h1_dispatch::{Connection, NextHead, Pulled};
+use h1_dispatch::{Connection, Pulled};
 use http_bodies::BodySize;
 use http_map::HeaderValue;
 use http_map::names::{CACHE_CONTROL, CONTENT_TYPE, ETAG, SERVER, VARY};
@@ -79,8 +79,16 @@ impl Exchange {
             return Err(BenchError::Misplaced);
         }
         connection.tick(MOMENT)?;
+        let mut place = Place::new(alloc);
         for _ in 0..times / depth.max(1) {
-            self.serve(&mut connection, &read, &answer, depth, &mut checksum)?;
+            self.serve(
+                &mut connection,
+                &read,
+                &answer,
+                depth,
+                &mut place,
+                &mut checksum,
+            )?;
         }
         Ok(checksum.sum())
     }
@@ -92,6 +100,7 @@ impl Exchange {
         read: &[u8],
         answer: &ResponseHead,
         depth: u64,
+        place: &mut Place,
         checksum: &mut Checksum,
     ) -> Result<(), BenchError> {
         if !connection.can_read() {
@@ -99,6 +108,7 @@ impl Exchange {
         }
         checksum.add(connection.read(read)?);
         for _ in 0..depth {
+            place.fill(connection, checksum)?;
             self.exchange(connection, answer, checksum)?;
         }
         if !connection.can_write() {
@@ -110,20 +120,13 @@ impl Exchange {
         Ok(())
     }
 
-    /// The next head, its body and its answer.
+    /// The open request's body and its answer.
     fn exchange(
         self,
         connection: &mut Connection,
         answer: &ResponseHead,
         checksum: &mut Checksum,
     ) -> Result<(), BenchError> {
-        if !connection.can_next() {
-            return Err(BenchError::Misplaced);
-        }
-        match connection.next()? {
-            NextHead::Head(item) => checksum.add_head(&item),
-            _ => return Err(BenchError::NoHead),
-        }
         match self {
             Exchange::Length | Exchange::Chunks => {
                 pull_all(connection, checksum)?;
@@ -227,18 +230,6 @@ fn echo(connection: &mut Connection) -> Result<(), BenchError> {
         }
     }
     end(connection)
-}
-
-fn begin(
-    connection: &mut Connection,
-    head: &ResponseHead,
-    size: BodySize,
-) -> Result<(), BenchError> {
-    if !connection.can_answer() {
-        return Err(BenchError::Misplaced);
-    }
-    connection.answer(head, size)?;
-    Ok(())
 }
 
 fn send(connection: &mut Connection, bytes: &[u8]) -> Result<(), BenchError> {

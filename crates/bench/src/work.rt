@@ -2,10 +2,10 @@
 use crate::checksum::Checksum;
 use crate::error::BenchError;
 use bytes::Bytes;
-use h1_decode::{HeadScan, request_head, scan_head};
-use h1_dispatch::{Boxed, Connection, Event, NextHead, Outcome};
-use http_bodies::BodySize;
-use http_types::{NoMemory, ResponseHead, ServiceConfigBuilder, StatusCode};
+use h1_decode::{HeadItem, HeadRoom, HeadScan, request_head, scan_head};
+use h1_dispatch::{Boxed, Connection, Event, NextKind, Outcome};
+use http_bodies::{BodyKind, BodySize};
+use http_types::{NoMemory, RequestHead, ResponseHead, ServiceConfigBuilder, StatusCode};
 use std::alloc::Global;
 
 /// How many requests come in one read where several do.
@@ -32,7 +32,7 @@ pub enum Work {
     /// Where the head ends is found, and then the head is read.
     Head,
 
-    /// A request comes in one read, its head is handed out and answered, and the answer is written.
+    /// A request comes in one read, its head is written over the last one and answered, and the answer is written.
     Get,
 
     /// The same for sixteen requests that come in one read, and whose answers are written at once.
@@ -99,10 +99,55 @@ fn gets(alloc: Global, head: &[u8], depth: u64, reads: u64) -> Result<u64, Bench
         return Err(BenchError::Misplaced);
     }
     connection.tick(MOMENT)?;
+    let mut place = Place::new(alloc);
     for _ in 0..reads {
-        serve(&mut connection, &read, &answer, depth, &mut checksum)?;
+        serve(
+            &mut connection,
+            &read,
+            &answer,
+            depth,
+            &mut place,
+            &mut checksum,
+        )?;
     }
     Ok(checksum.sum())
+}
+
+/// Where each head is written over the last one.
+#[derive(Drop)]
+pub struct Place {
+    item: HeadItem,
+    room: HeadRoom,
+}
+
+impl Place {
+    /// The place of a head that says the least.
+    pub fn new(alloc: Global) -> Place {
+        Place {
+            item: HeadItem {
+                head: RequestHead::new(alloc),
+                target: Bytes::new(),
+                body: BodyKind::None,
+            },
+            room: HeadRoom::new(),
+        }
+    }
+
+    /// Has the next head written there, and counts it in.
+    pub fn fill(
+        &mut self,
+        connection: &mut Connection,
+        checksum: &mut Checksum,
+    ) -> Result<(), BenchError> {
+        if !connection.can_next() {
+            return Err(BenchError::Misplaced);
+        }
+        match connection.next_into(&mut self.item, &mut self.room)? {
+            NextKind::Head => checksum.add_head(&self.item),
+            _ => return Err(BenchError::NoHead),
+        }
+        Ok(())
+    }
 }
 
 /// A read, with its answers, which are written.
@@ -111,6 +156,7 @@ fn serve(
     read: &[u8],
     answer: &ResponseHead,
     depth: u64,
+    place: &mut Place,
     checksum: &mut Checksum,
 ) -> Result<(), BenchError> {
     if !connection.can_read() {
@@ -119,7 +165,8 @@ fn serve(
     let count = connection.read(read)?;
     checksum.add(count);
     for _ in 0..depth {
-        exchange(connection, answer, checksum)?;
+        place.fill(connection, checksum)?;
+        begin(connection, answer, BodySize::ZERO)?;
     }
     if !connection.can_write() {
         return Err(BenchError::Misplaced);
@@ -130,23 +177,16 @@ fn serve(
     Ok(())
 }
 
-/// The next head, and its answer.
-fn exchange(
+/// Answers the open request.
+pub fn begin(
     connection: &mut Connection,
-    answer: &ResponseHead,
-    checksum: &mut Checksum,
+    head: &ResponseHead,
+    size: BodySize,
 ) -> Result<(), BenchError> {
-    if !connection.can_next() {
-        return Err(BenchError::Misplaced);
-    }
-    match connection.next()? {
-        NextHead::Head(item) => checksum.add_head(&item),
-        _ => return Err(BenchError::NoHead),
-    }
     if !connection.can_answer() {
         return Err(BenchError::Misplaced);
     }
-    connection.answer(answer, BodySize::ZERO)?;
+    connection.answer(head, size)?;
     Ok(())
 }
 
