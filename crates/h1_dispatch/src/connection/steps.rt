@@ -45,13 +45,13 @@ impl Parts {
         ensures faults { S.faults source.old ≤ S.faults source.new }
         ensures err { OnErr result (self.new ≡ self.old) }
     {
-        let count = self.input.read_from(source, config.h1_hold_size())?;
-        if count == 0 {
+        let came = self.input.read_from(source, config.h1_hold_size())?;
+        if came == 0 {
             return Ok(0);
         }
         self.pass_body();
         self.settle(config);
-        Ok(count)
+        Ok(came)
     }
 
     /// The peer sends no more bytes.
