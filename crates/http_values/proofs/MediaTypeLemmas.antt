@@ -1,6 +1,6 @@
 -- Media types: the text of a tree is cut as the tree has it, and what is cut is the text of a tree.
-use Rattle.std.proofs.Common.{◌≡◌, ℕ, ◌<◌, ◌+◌, inl, inr, Bool, true, false, cond, ◌&&◌, List, [], ◌∷◌, ◌++◌, length, take, drop, refl, sym, ap, subst, ◌∙◌, arith, take-append-drop, append_assoc, IsTrue}
-use Rattle.std.specs.Prelude.{◌==◌, map, flat_map}
+use Rattle.std.proofs.Common.{◌≡◌, ℕ, inl, inr, Bool, true, false, cond, List, [], ◌∷◌, ◌++◌, length, drop, refl, sym, ap, subst, ◌∙◌, arith, take-append-drop, append_assoc, IsTrue}
+use Rattle.std.specs.Prelude.{map, flat_map}
 use Rattle.std.specs.List.{prefix_len, take_while, list_all, AllByRecursion}
 use Rattle.std.proofs.lemmas.Bool.{and_parts}
 use Rattle.std.proofs.lemmas.Bool.Decides.{nat_tests}
@@ -10,8 +10,8 @@ use Rattle.http_header.specs.Token.{is_token_byte}
 use Rattle.http_header.proofs.TokenLemmas.{token_byte_range}
 use Rattle.http_values.specs.declared.shared.mime.Class.{Class}
 use Rattle.http_values.specs.declared.shared.mime.Class.TheVariants.{Token, Blank, Quotable}
-use Rattle.http_values.specs.MediaType.{IsToken, is_blank, is_quotable, Spelling, Bare, Quoted, spelling_text, said, IsSpelling, Parameter, parameter_text, parameter_says, IsParameter, MediaType, media_type_text, IsMediaType, IsMimeText, IsSomeMime}
-use Rattle.http_values.specs.MediaTypeCuts.{in_class, IsRun, IsTokenCut, IsQuotedCut, IsValueCut, IsParameterCut, AreParameters, IsEssenceCut}
+use Rattle.http_values.specs.MediaType.{IsToken, is_blank, Spelling, Bare, Quoted, spelling_text, said, IsSpelling, Parameter, parameter_text, parameter_says, IsParameter, MediaType, media_type_text, IsMediaType, IsMimeText, IsSomeMime}
+use Rattle.http_values.specs.MediaTypeCuts.{in_class, IsRun, IsTokenCut, IsValueCut, IsParameterCut, AreParameters, IsEssenceCut}
 use Rattle.http_values.proofs.MimeLemmas.{essence_unique, cuts_unique}
 
 -- no byte of the class stands at the front

@@ -14,7 +14,6 @@ use Rattle.std.specs.List.{prefix_len}
 use Rattle.http_header.specs.Token.{is_token_byte}
 use Rattle.http_values.specs.declared.shared.mime.Class.{Class}
 use Rattle.http_values.specs.declared.shared.mime.Class.TheVariants.{Token, Blank, Quotable}
-use Rattle.http_values.specs.MediaType.{IsMimeText}
 use Rattle.http_values.specs.MediaTypeCuts.{in_class, IsRun, IsTokenCut, IsQuotedCut, IsValueCut, IsParameterCut, AreParameters, IsEssenceCut}
 use Rattle.http_values.specs.Mime.{pair_of, pairs_of}
 

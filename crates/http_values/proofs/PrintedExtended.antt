@@ -1,10 +1,10 @@
 -- An extended value is read from what it prints.
-use Rattle.std.proofs.Common.{◌≡◌, ◌≢◌, ℕ, ◌<◌, zero, suc, List, [], ◌∷◌, ◌++◌, length, Option, Some, None, refl, sym, ap, subst, arith, ◌∙◌, append_assoc}
+use Rattle.std.proofs.Common.{◌≡◌, ◌≢◌, ℕ, ◌<◌, zero, suc, List, [], ◌∷◌, ◌++◌, Option, Some, None, refl, sym, ap, subst, arith, ◌∙◌, append_assoc}
 use Rattle.std.specs.Prelude.{All, map, string_bytes}
 use Rattle.std.specs.Char.{to_ascii_uppercase, to_ascii_lowercase}
 use Rattle.std.proofs.lemmas.Bool.Decides.{nat_tests}
 use Rattle.std.proofs.lemmas.Str.Ascii.{uppercase-uppercase}
-use Rattle.percent_encoding.specs.Percent.{percent_encode, percent_decode}
+use Rattle.percent_encoding.specs.Percent.{percent_encode}
 use Rattle.percent_encoding.proofs.PercentLemmas.{round_trip}
 use Rattle.http_values.specs.declared.utils.TheConstants.{HTTP_VALUE}
 use Rattle.http_values.specs.declared.shared.charset.Charset.{Charset}
@@ -12,8 +12,6 @@ use Rattle.http_values.specs.declared.shared.charset.Charset.TheVariants.{Ext}
 use Rattle.http_values.specs.declared.shared.language_tag.LanguageTag.{LanguageTag}
 use Rattle.http_values.specs.declared.shared.extended.ExtendedValue.{ExtendedValue}
 use Rattle.http_values.specs.Charset.{IsNoneOf, latin_labels, asian_labels, other_labels, IsCharsetText, charset_text}
-use Rattle.http_values.specs.LanguageTag.{IsLanguageTag}
-use Rattle.http_values.specs.TagText.{tag_text}
 use Rattle.http_values.specs.ExtendedText.{HasNoQuote, IsCutInThree}
 use Rattle.http_values.specs.ExtendedValue.{IsTagPart, SaysExtended, tag_part_text}
 use Rattle.http_values.specs.Printed.{extended_text}

@@ -1,7 +1,7 @@
 -- A text is that of a language tag exactly where its subtags lead from the start to an end.
-use Rattle.std.proofs.Common.{◌≡◌, ℕ, ◌⊎◌, inl, inr, Bool, true, false, cond, ◌&&◌, ◌||◌, IsTrue, List, [], ◌∷◌, ◌++◌, length, Option, Some, None, refl, sym, ap, subst, ◌∙◌, arith}
+use Rattle.std.proofs.Common.{◌≡◌, ℕ, inl, inr, Bool, true, false, cond, ◌&&◌, ◌||◌, List, [], ◌∷◌, length, Option, Some, None, refl, sym, ap, subst, ◌∙◌, arith}
 use Rattle.std.specs.Prelude.{◌==◌, All, nat_lt, slice_index}
-use Rattle.std.specs.List.{list_all, slice_split, join_with_byte, AllByRecursion}
+use Rattle.std.specs.List.{list_all, join_with_byte, AllByRecursion}
 use Rattle.std.specs.Char.{is_ascii_alphabetic, is_ascii_digit, is_ascii_alphanumeric}
 use Rattle.std.proofs.lemmas.Bool.{and_parts}
 use Rattle.std.proofs.lemmas.Bool.Decides.{nat_tests}
@@ -9,7 +9,7 @@ use Rattle.std.proofs.lemmas.List.Elements.{All-nil, All-cons}
 use Rattle.std.proofs.lemmas.List.Splits.{slice_split_none, slice_split_at, join_with_byte-slice_split}
 use Rattle.http_values.specs.declared.shared.language_tag.Place.{Place}
 use Rattle.http_values.specs.declared.shared.language_tag.Place.TheVariants.{Start, Language, Script, Region, Variant, Singleton, Extension, PrivateStart, Private}
-use Rattle.http_values.specs.LanguageTag.{is_letters, is_letters_or_digits, is_digits, is_region, is_variant, is_x, is_singleton, tree_subtags, tree_text, IsLanguageTag}
+use Rattle.http_values.specs.LanguageTag.{is_letters, is_letters_or_digits, is_digits, is_region, is_variant, is_x, is_singleton, tree_subtags, IsLanguageTag}
 use Rattle.http_values.specs.LanguageTagPlaces.{after_variant, after_region, after_script, after_language, after_start, next_place, subtags, Leads}
 use Rattle.http_values.proofs.TagTests.{or_cases, passes}
 use Rattle.http_values.proofs.TagTrees.{dead_end, chosen, tree_of}

@@ -1,14 +1,14 @@
 -- Subtags that lead to the end of a tag are those of a tree.
-use Rattle.std.proofs.Common.{◌≡◌, ℕ, zero, suc, ◌+◌, ◌-◌, ◌<◌, ◌≤◌, ◌⊎◌, inl, inr, Bool, true, false, cond, ◌&&◌, IsTrue, List, [], ◌∷◌, ◌++◌, length, Option, Some, None, refl, sym, ap, subst, ◌∙◌, arith, append_assoc}
-use Rattle.std.specs.Prelude.{fold, flat_map, nat_lt}
+use Rattle.std.proofs.Common.{◌≡◌, ℕ, ◌-◌, ◌<◌, ◌≤◌, ◌⊎◌, inl, inr, Bool, true, false, cond, ◌&&◌, IsTrue, List, [], ◌∷◌, ◌++◌, length, Option, Some, None, refl, sym, ap, ◌∙◌, arith, append_assoc}
+use Rattle.std.specs.Prelude.{flat_map, nat_lt}
 use Rattle.std.specs.List.{list_all, AllByRecursion}
 use Rattle.std.proofs.lemmas.Bool.{and_parts}
 use Rattle.std.proofs.lemmas.Bool.Decides.{nat_tests}
 use Rattle.http_values.specs.declared.shared.language_tag.Place.{Place}
 use Rattle.http_values.specs.declared.shared.language_tag.Place.TheVariants.{Start, Language, Script, Region, Variant, Singleton, Extension, PrivateStart, Private}
-use Rattle.http_values.specs.LanguageTag.{is_letters, is_letters_or_digits, is_region, is_variant, is_x, is_singleton, EachPasses, NonePasses, ExtensionPart, extension_subtags, IsExtensionPart, PrivatePart, private_subtags, IsPrivatePart, subtag_if, private_if, IsPrivateIf, Langtag, IsLangtag, IsLanguage, TagTree, Common, tree_subtags, IsTagTree}
+use Rattle.http_values.specs.LanguageTag.{is_letters, is_letters_or_digits, is_region, is_variant, is_x, is_singleton, EachPasses, NonePasses, ExtensionPart, extension_subtags, IsExtensionPart, PrivatePart, IsPrivatePart, subtag_if, private_if, IsPrivateIf, Langtag, IsLangtag, IsLanguage, TagTree, Common, tree_subtags, IsTagTree}
 use Rattle.http_values.specs.LanguageTag.{Private as Alone}
-use Rattle.http_values.specs.LanguageTagPlaces.{after_variant, after_region, after_script, after_language, after_start, next_place, step, may_end, ends, Leads}
+use Rattle.http_values.specs.LanguageTagPlaces.{after_variant, after_region, after_script, after_language, after_start, Leads}
 use Rattle.http_values.proofs.TagTests.{and_of}
 
 -- nothing follows a subtag that leads nowhere

@@ -1,6 +1,5 @@
 -- What the headers of a message say under one name. The first value of a name counts.
-use Rattle.std.specs.Prelude.{◌≡◌, ℕ, List, Option, Some, None, IsSome, codes}
-use Rattle.http_header.specs.FieldValue.{FieldValue}
+use Rattle.std.specs.Prelude.{ℕ, List, IsSome}
 use Rattle.http_map.specs.HeaderMap.{Entries, get}
 use Rattle.http_values.specs.OneValue.{HasReading}
 
