@@ -1,10 +1,17 @@
 //! The calls of a connection.
 use bytes::Bytes;
-use h1_dispatch::{Boxed, Connection, DriveError, Event, NextHead, Outcome, drive};
+use h1_decode::{BodyKind, HeadItem, HeadRoom};
+use h1_dispatch::{
+    Boxed, Connection, DriveError, Event, NextHead, NextKind, Outcome, ReadFromError, drive,
+};
 use http_bodies::BodySize;
-use http_types::{NoMemory, ResponseHead, ServiceConfigBuilder, StatusCode};
+use http_types::{
+    NoMemory, RequestHead, ResponseHead, ServiceConfigBuilder, StatusCode, SureSource,
+};
 use std::alloc::{AllocError, Global};
 use std::test::Fail;
+
+const TWO_REQUESTS: &[u8] = b"GET /a HTTP/1.1\r\nhost: b\r\n\r\nGET /c HTTP/1.1\r\nhost: d\r\n\r\n";
 
 // Asks for the next head: its target, where there is one.
 fn target(connection: &mut Connection) -> Result<Option<Bytes>, NoMemory> {
@@ -29,6 +36,71 @@ fn a_request_is_answered(rt: HostRuntime) -> Result<(), Fail> {
     let head = ResponseHead::new(rt.alloc(), StatusCode::OK);
     connection.answer(&head, BodySize::ZERO)?;
     assert!(rt; connection.front().starts_with(b"HTTP/1.1 200 OK\r\n"));
+    Ok(())
+}
+
+// Answers the open request with a body of two pieces, whose memory may be shared.
+fn answer_in_pieces(connection: &mut Connection, head: &ResponseHead) -> Result<(), NoMemory> {
+    if connection.can_answer() {
+        connection.answer(head, BodySize::Sized(3))?;
+    }
+    for piece in [b"ab".as_slice(), b"c".as_slice()] {
+        if connection.can_chunk() {
+            connection.chunk_bytes(Bytes::from_static(piece))?;
+        }
+    }
+    if connection.can_end_body() {
+        connection.end_body()?;
+    }
+    Ok(())
+}
+
+// Reads what a source has, and writes the next head over the last one: whether it is of this target. It is answered.
+fn is_served(
+    alloc: Global,
+    connection: &mut Connection,
+    source: &mut SureSource,
+    item: &mut HeadItem,
+    target: &[u8],
+) -> Result<bool, ReadFromError> {
+    if connection.can_read() {
+        connection.read_from(source)?;
+    }
+    if !connection.can_next() {
+        return Ok(false);
+    }
+    let kind = connection.next_into(item, &mut HeadRoom::new())?;
+    answer_in_pieces(connection, &ResponseHead::new(alloc, StatusCode::OK))?;
+    Ok(kind == NextKind::Head && item.target.as_slice() == target)
+}
+
+#[test]
+fn heads_from_a_source_are_written_over_one_another(rt: HostRuntime) -> Result<(), Fail> {
+    let alloc = rt.alloc();
+    let mut connection = Connection::new(alloc, ServiceConfigBuilder::new().build());
+    let mut source = SureSource::new(Bytes::from_static(TWO_REQUESTS));
+    let mut item = HeadItem {
+        head: RequestHead::new(alloc),
+        target: Bytes::new(),
+        body: BodyKind::None,
+    };
+    assert!(rt; is_served(alloc, &mut connection, &mut source, &mut item, b"/a")?);
+    assert!(rt; connection.front().ends_with(b"\r\n\r\nabc"));
+    assert!(rt; is_served(alloc, &mut connection, &mut source, &mut item, b"/c")?);
+    Ok(())
+}
+
+#[test]
+fn a_connection_prints_no_byte_that_it_holds(rt: HostRuntime) -> Result<(), Fail> {
+    let mut connection = Connection::new(rt.alloc(), ServiceConfigBuilder::new().build());
+    assert!(rt; connection.can_read());
+    connection.read(b"GET /")?;
+    let text = format!(in rt.alloc(); "{connection:?}")?;
+    assert!(rt;
+        text.as_str()
+            == "Connection { held: 5, buffered: 0, is_open: false, has_ended: false, \
+        is_draining: false, closing: None, is_over: false, .. }"
+    );
     Ok(())
 }
 
