@@ -1,5 +1,5 @@
 //! Values that the headers of a message say.
-ghost use Rattle.std.specs.Prelude.{◌≡◌, ◌≢◌, ◌↔◌, ◌⊎◌, ℕ, List, IfOk, IfErr, IfSome, IsSome, IsNone, IsErrOf, MatchOption, codes};
+ghost use Rattle.std.specs.Prelude.{◌≡◌, ◌≢◌, ◌↔◌, ◌⊎◌, ℕ, List, IfOk, IfErr, IfSome, IsOk, IsSome, IsNone, IsErrOf, MatchOption, codes};
 ghost use Rattle.http_header.specs.FieldValue.{IsFieldValue};
 ghost use Rattle.http_map.specs.HeaderMap.{Entries, get};
 ghost use Rattle.http_values.specs.Header.{HasName, FirstReads};
@@ -52,10 +52,11 @@ pub trait Header: TryIntoHeaderValue + Sized {
 }
 
 /// The value that the headers of a message say, where there is one of the name and they say a value. The error is want
-/// of memory.
+/// of memory, which comes only where there is one of the name.
 pub fn get_header<H: Header, M: HttpMessage>(alloc: Global, msg: &M) -> Result<Option<H>, NoMemory>
     ensures value { IfOk result (λ found. IfSome found (λ value. H.is_said (M.fields msg.now) value)) }
     ensures found { IfOk result (λ found. IsSome found ↔ (HasName (M.fields msg.now) H.header_name × H.is_readable (M.fields msg.now))) }
+    ensures no_memory_needed { ¬ (HasName (M.fields msg.now) H.header_name) → IsOk result }
 {
     if !msg.headers().contains_key(H::name()) {
         return Ok(None);
@@ -75,6 +76,7 @@ pub fn mime_type<M: HttpMessage>(alloc: Global, msg: &M) -> Result<Option<Mime>,
     ensures malformed { IsErrOf result ContentTypeError.ParseError
         ↔ (HasName (M.fields msg.now) (codes "content-type") × ¬ (FirstReads IsSomeMime (M.fields msg.now) (codes "content-type"))) }
     ensures err { IfErr result (λ e. (e ≡ ContentTypeError.ParseError) ⊎ (e ≡ ContentTypeError.NoMemory)) }
+    ensures no_memory_needed { ¬ (HasName (M.fields msg.now) (codes "content-type")) → IsOk result }
 {
     let Some(value) = msg.headers().get(CONTENT_TYPE) else {
         return Ok(None);
