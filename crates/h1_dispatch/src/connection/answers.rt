@@ -169,11 +169,7 @@ fn keeps(keep_alive: KeepAlive) -> bool
 fn is_at_once(size: BodySize) -> bool
     ensures { result ≡ answers.is_at_once (size_of size) }
 {
-    match size {
-        BodySize::None => true,
-        BodySize::Sized(length) => length == 0,
-        BodySize::Stream => false,
-    }
+    size.is_eof()
 }
 
 // How many bytes a shape states.
