@@ -1,7 +1,6 @@
 -- Which events may come next, by tests of the parts.
-use Rattle.std.proofs.Common.{◌≡◌, ℕ, ◌<◌, ◌≤◌, Bool, true, false, not, ◌&&◌, ◌||◌, List, length, Option, Some, None, refl, sym, ap, ◌∙◌}
-use Rattle.std.specs.Prelude.{is_some, is_none, nat_lt, nat_le, option_map, if◌then◌else◌}
-use Rattle.h1_chunks.specs.Place.{Place}
+use Rattle.std.proofs.Common.{◌≡◌, Bool, true, false, not, ◌&&◌, ◌||◌, Option, Some, None, refl, ap}
+use Rattle.std.specs.Prelude.{is_some, is_none, option_map, if◌then◌else◌}
 use Rattle.h1_machine.specs.Kept.{Rest, is_frames}
 use Rattle.h1_payload.specs.Kinds.{IsKind}
 use Rattle.h1_payload.specs.declared.rest.RestKind.{RestKind}

@@ -12,17 +12,15 @@ use Rattle.h1_model.specs.Answer.{AnswerHead, BodySize, Asked, Shape, shape_of, 
 use Rattle.h1_model.specs.AnswerText.{head_text, sent_end}
 use Rattle.h1_model.specs.Text.{answer_head_text}
 use Rattle.h1_model.specs.Event as on
-use Rattle.h1_model.specs.End as ends
 use Rattle.h1_machine.specs.Kept as machine
 use Rattle.h1_machine.specs.Kept.{Kept, Change, is_frames, is_free, is_nothing, is_unanswered, is_answered, now, answered}
 use Rattle.h1_machine.specs.Local.{closing_by, waits_for_answer}
 use Rattle.h1_machine.specs.Body.{passing}
-use Rattle.h1_machine.specs.Reply.{stated, completing, answering, piece_sent, sending_piece, short_end, ending_body}
-use Rattle.h1_machine.specs.Change.{IsChange, doing_with}
+use Rattle.h1_machine.specs.Reply.{stated, completing, piece_sent, short_end}
+use Rattle.h1_machine.specs.Change.{IsChange}
 use Rattle.h1_decode.specs.declared.scan.HeadScan.{HeadScan}
-use Rattle.h1_dispatch.specs.Incoming.{Incoming, IsFound}
 use Rattle.h1_dispatch.specs.Meaning.{setting_of, end_of}
-use Rattle.h1_dispatch.specs.Parts.{kept_of, exchange_of, reply_of, asked_in, sending_in, sending_by, replied, completed, MayBeSearched, IsNoted, IsSettled, IsSound, Steps}
+use Rattle.h1_dispatch.specs.Parts.{kept_of, exchange_of, reply_of, asked_in, sending_in, sending_by, replied, completed, IsSettled, IsSound, Steps}
 use Rattle.h1_dispatch.specs.Unsent.{NoPieceBy, NoPieceOf, SendsNoPiece, NoEndBy, NoEndOf, SendsNoEnd}
 use Rattle.h1_dispatch.specs.declared.connection.exchange.Exchange.{Exchange}
 use Rattle.h1_dispatch.specs.declared.connection.exchange.Sending.{Sending}

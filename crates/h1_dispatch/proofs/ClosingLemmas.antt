@@ -1,6 +1,5 @@
 -- Why a connection closes, by its parts.
 use Rattle.std.proofs.Common.{◌≡◌, Option, Some, None, refl}
-use Rattle.std.specs.Prelude.{option_map}
 use Rattle.std.specs.Option.{option_or}
 use Rattle.h1_model.specs.End as ends
 use Rattle.h1_model.specs.Setting.{Setting}

@@ -1,7 +1,7 @@
 -- The machine's steps where the next head is asked for.
 use Rattle.std.proofs.lemmas.List.{length-take, length-drop}
-use Rattle.std.proofs.Common.{◌≡◌, ℕ, zero, suc, ◌-◌, ◌<◌, ◌≤◌, Bool, true, false, not, ◌&&◌, List, [], ◌∷◌, ◌++◌, length, drop, Option, Some, None, inl, inr, refl, sym, ap, ◌∙◌, subst, arith}
-use Rattle.std.specs.Prelude.{option_map, is_some, slice_range, ◌==◌, if◌then◌else◌}
+use Rattle.std.proofs.Common.{◌≡◌, ℕ, zero, suc, ◌-◌, ◌<◌, ◌≤◌, Bool, true, false, List, [], length, drop, Option, Some, None, inl, refl, sym, ap, ◌∙◌, subst, arith}
+use Rattle.std.specs.Prelude.{option_map, is_some, slice_range, ◌==◌}
 use Rattle.http_config.specs.Config.{Settings}
 use Rattle.h1_model.specs.Limits.{MAX_MOMENT}
 use Rattle.h1_model.specs.HeadPiece.{IsHeadPiece}
@@ -11,7 +11,6 @@ use Rattle.h1_model.specs.RequestHead.{IsReading, IsReadingWithin}
 use Rattle.h1_model.specs.Setting.{Setting}
 use Rattle.h1_model.specs.Event as on
 use Rattle.h1_model.specs.End as ends
-use Rattle.h1_model.specs.Closing.{fault_end}
 use Rattle.h1_machine.specs.Kept as machine
 use Rattle.h1_machine.specs.Kept.{Kept, Change, is_free, now, rest_in, whole_rest}
 use Rattle.h1_machine.specs.Local.{closing_by}
@@ -23,10 +22,10 @@ use Rattle.http_types.specs.declared.message.ConnectionType.{ConnectionType}
 use Rattle.h1_decode.specs.declared.decoder.HeadItem.{HeadItem}
 use Rattle.h1_decode.specs.declared.scan.HeadScan.{HeadScan}
 use Rattle.h1_decode.specs.declared.scan.HeadScan.TheVariants.{Open, Piece}
-use Rattle.h1_dispatch.specs.Incoming.{Incoming, is_coming_in, IsFoundIn, IsFound, IsHeadIn, IsHeadOf, IsPassedIn, IsPassedHead}
+use Rattle.h1_dispatch.specs.Incoming.{Incoming, is_coming_in, IsFoundIn, IsHeadIn, IsHeadOf, IsPassedIn, IsPassedHead}
 use Rattle.h1_dispatch.specs.Meaning.{setting_of, end_of, fault_of}
 use Rattle.h1_dispatch.specs.Parts.{kept_of, exchange_of, IsNoted, IsSound, IsSettled, Steps}
-use Rattle.h1_dispatch.specs.Heads.{IsAsked, upgrade_of, plain_exchange, behind_plain, refused, IsHeld, HeadSteps, IsNexted}
+use Rattle.h1_dispatch.specs.Heads.{IsAsked, plain_exchange, behind_plain, refused, IsHeld, IsNexted}
 use Rattle.h1_dispatch.specs.declared.connection.exchange.Exchange.{Exchange}
 use Rattle.h1_dispatch.specs.declared.connection.exchange.Reply.{Reply}
 use Rattle.h1_dispatch.specs.declared.connection.exchange.Reply.TheVariants.{Unanswered}

@@ -1,7 +1,7 @@
 -- A body that is passed over leaves the rest of what the machine keeps.
-use Rattle.std.proofs.Common.{◌≡◌, ℕ, ◌-◌, Bool, true, false, not, ◌&&◌, ◌||◌, List, [], length, drop, Option, Some, None, refl, sym, ap, ◌∙◌}
+use Rattle.std.proofs.Common.{◌≡◌, ℕ, ◌-◌, Bool, true, false, List, [], length, drop, Option, Some, None, refl, ap, ◌∙◌}
 use Rattle.std.specs.Prelude.{if◌then◌else◌, nat_le}
-use Rattle.h1_chunks.specs.Place.{Place, after}
+use Rattle.h1_chunks.specs.Place.{Place}
 use Rattle.h1_chunks.specs.Reading.{Ending, ends_before, goes_on, is_broken, read}
 use Rattle.h1_machine.specs.Kept.{Rest, no_rest, raw_rest, fixed_rest, chunks_rest, frames_rest, Reply, unanswered, sending, answered, Exchange, Kept, is_frames, is_nothing, is_free, is_upgraded}
 use Rattle.h1_machine.specs.Body.{Passed, pass_chunks, pass_rest, passing}

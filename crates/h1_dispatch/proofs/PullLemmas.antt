@@ -1,6 +1,6 @@
 -- What a pull gives of a request's body.
-use Rattle.std.proofs.Common.{◌≡◌, ℕ, ◌-◌, Bool, true, false, not, ◌&&◌, ◌||◌, List, [], ◌∷◌, ◌++◌, length, take, drop, Option, Some, None, refl, sym, ap, ◌∙◌, subst}
-use Rattle.std.specs.Prelude.{is_some, if◌then◌else◌, option_map}
+use Rattle.std.proofs.Common.{◌≡◌, ℕ, Bool, true, false, not, ◌&&◌, ◌||◌, List, [], ◌∷◌, ◌++◌, Option, Some, None, refl, sym, ap, ◌∙◌, subst}
+use Rattle.std.specs.Prelude.{is_some}
 use Rattle.std.specs.Option.{option_or}
 use Rattle.http_config.specs.Config.{Settings}
 use Rattle.h1_chunks.specs.Place.{Place}
@@ -11,14 +11,14 @@ use Rattle.h1_model.specs.End.{End}
 use Rattle.h1_machine.specs.Kept.{Rest, no_rest, raw_rest, fixed_rest, chunks_rest, frames_rest, Kept, is_frames, is_nothing, is_free, is_open, is_answered}
 use Rattle.h1_machine.specs.Local.{closing_by}
 use Rattle.h1_machine.specs.Pull.{Pulled, lacking, pull_fixed, pull_raw, EndsWith, IsPullOfChunks, IsPull}
-use Rattle.h1_machine.specs.Change.{IsChange, IsPulling}
+use Rattle.h1_machine.specs.Change.{IsChange}
 use Rattle.h1_payload.specs.Rests.{SaysPulled}
 use Rattle.h1_payload.specs.declared.pulled.Pulled.{Pulled as Answer}
 use Rattle.h1_payload.specs.declared.pulled.Pulled.TheVariants as answers
 use Rattle.h1_decode.specs.declared.scan.HeadScan.{HeadScan}
 use Rattle.h1_dispatch.specs.Incoming.{Incoming, IsFoundIn}
 use Rattle.h1_dispatch.specs.Meaning.{setting_of}
-use Rattle.h1_dispatch.specs.Parts.{kept_of, exchange_of, reply_of, IsNoted, IsSound, Steps}
+use Rattle.h1_dispatch.specs.Parts.{kept_of, reply_of, IsSound, Steps}
 use Rattle.h1_dispatch.specs.Pulls.{tells_done, IsPulledFrom, IsPullOf}
 use Rattle.h1_dispatch.specs.declared.connection.exchange.Exchange.{Exchange}
 use Rattle.h1_dispatch.specs.declared.connection.exchange.Reply.{Reply}

@@ -1,6 +1,6 @@
 -- What is said of a result, one fact from another.
-use Rattle.std.proofs.Common.{◌≡◌, Result, Ok, Err, subst, sym}
-use Rattle.std.specs.Prelude.{IfOk, OnOk, OnErr, IsOk}
+use Rattle.std.proofs.Common.{Result, Ok, Err}
+use Rattle.std.specs.Prelude.{IfOk, OnOk, OnErr}
 
 pub ok_map : {A E : Type 0} (r : Result A E) (P Q : A → Type 0) → ((a : A) → P a → Q a) → IfOk r P → IfOk r Q
 ok_map (Ok a) P Q f x = f a x

@@ -1,24 +1,15 @@
 -- A run that grows by a step, behind the trace that the connection stands for.
-use Rattle.std.proofs.Common.{◌≡◌, ℕ, ◌+◌, ◌<◌, ◌≤◌, Bool, true, false, List, [], ◌∷◌, ◌++◌, length, get_or, map, take, reverse, Option, Some, None, refl, sym, ap, ◌∙◌, subst, arith, length-append}
+use Rattle.std.proofs.Common.{◌≡◌, ℕ, ◌+◌, ◌<◌, ◌≤◌, false, List, [], ◌∷◌, ◌++◌, length, get_or, map, take, reverse, Some, None, refl, sym, ap, ◌∙◌, subst, arith, length-append}
 use Rattle.std.proofs.lemmas.List.{map-append, take_more, take_all}
 use Rattle.std.proofs.lemmas.Grind.{reverse_onto}
 use Rattle.std.specs.Prelude.{option_map, slice_get}
 use Rattle.http_config.specs.Config.{Settings}
-use Rattle.h1_model.specs.Setting.{Setting}
 use Rattle.h1_model.specs.Event as on
 use Rattle.h1_model.specs.Sums as sums
-use Rattle.h1_model.specs.Past.{ParsedStep}
 use Rattle.h1_model.specs.Sums.{written}
-use Rattle.h1_model.specs.Text.{buffered}
-use Rattle.h1_model.specs.Closing.{closing}
-use Rattle.h1_model.specs.Allowed.{is_allowed}
 use Rattle.h1_model.proofs.WrittenLemmas.{written_buffered}
 use Rattle.h1_model.proofs.HandedParsed.{handed_prefix}
-use Rattle.h1_model.proofs.PastLemmas.{past_of_unique}
-use Rattle.h1_machine.specs.Kept.{Kept}
-use Rattle.h1_machine.specs.KeptOf.{kept_of}
 use Rattle.h1_machine.specs.Local.{closing_by, allowed_by}
-use Rattle.h1_machine.specs.StandsFor.{StandsFor}
 use Rattle.h1_model.specs.Trace as traces
 use Rattle.h1_machine.proofs.Stands.{fresh_stands, misplaced_of_trace}
 use Rattle.h1_dispatch.specs.Upgrade.{Upgrade, with_upgrade}
@@ -27,9 +18,8 @@ use Rattle.h1_dispatch.proofs.GoesOnLemmas.{buffered_traced, closing_traced}
 use Rattle.h1_dispatch.specs.Meaning.{setting_of, event_of, end_of, SaysOutcome}
 use Rattle.h1_dispatch.specs.State.{State, fresh_state, Stands, GoesOn}
 use Rattle.h1_dispatch.specs.Run.{SaysStep, SaySteps, IsDriven, IsWhole, IsMisplaced}
-use Rattle.h1_dispatch.specs.Steps.{pair, paired, Notes}
+use Rattle.h1_dispatch.specs.Steps.{paired, Notes}
 use Rattle.h1_dispatch.proofs.TraceLemmas.{paired_push}
-use Rattle.h1_dispatch.specs.declared.event.End.{End}
 use Rattle.h1_dispatch.specs.declared.event.Event.{Event}
 use Rattle.h1_dispatch.specs.declared.event.Outcome.{Outcome}
 use Rattle.h1_dispatch.specs.declared.noted.Noted.{Noted}

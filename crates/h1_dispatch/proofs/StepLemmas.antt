@@ -1,28 +1,26 @@
 -- The machine's steps of a connection's parts.
-use Rattle.std.proofs.Common.{◌≡◌, ℕ, ◌<◌, Bool, true, false, List, [], length, take, drop, Option, Some, None, refl, sym, ap, ◌∙◌, subst, lit<}
-use Rattle.std.specs.Prelude.{option_map, is_some, min, unwrap_or, if◌then◌else◌}
+use Rattle.std.proofs.Common.{◌≡◌, ℕ, ◌<◌, Bool, true, false, List, [], Option, Some, None, refl, sym, ap, ◌∙◌, subst, lit<}
+use Rattle.std.specs.Prelude.{is_some, if◌then◌else◌}
 use Rattle.std.specs.Option.{option_or}
 use Rattle.http_config.specs.Config.{Settings}
 use Rattle.h1_model.specs.Limits.{MAX_MOMENT}
 use Rattle.h1_model.specs.Setting.{Setting}
 use Rattle.h1_model.specs.Event as on
-use Rattle.h1_model.specs.End as ends
-use Rattle.h1_machine.specs.Kept as machine
-use Rattle.h1_machine.specs.Kept.{Kept, Change, is_free, is_upgraded, is_answered, now}
+use Rattle.h1_machine.specs.Kept.{Kept, is_free, now}
 use Rattle.h1_machine.specs.Local.{closing_by}
-use Rattle.h1_machine.specs.Body.{Passed, pass_rest, passing}
-use Rattle.h1_machine.specs.Change.{IsChange, IsComing, noting_since, IsStep}
+use Rattle.h1_machine.specs.Body.{passing}
+use Rattle.h1_machine.specs.Change.{IsChange, IsComing, noting_since}
 use Rattle.h1_decode.specs.declared.scan.HeadScan.{HeadScan}
 use Rattle.h1_decode.specs.declared.scan.HeadScan.TheVariants.{Open, Piece}
 use Rattle.h1_dispatch.specs.Incoming.{Incoming, is_coming_in, IsFoundIn, IsFound}
-use Rattle.h1_dispatch.specs.Meaning.{setting_of, end_of}
-use Rattle.h1_dispatch.specs.Parts.{kept_of, exchange_of, reply_of, is_done, passed_by, MayBeSearched, IsNoted, IsSound, IsSearchedFor, IsSettled, Steps}
+use Rattle.h1_dispatch.specs.Meaning.{setting_of}
+use Rattle.h1_dispatch.specs.Parts.{kept_of, passed_by, MayBeSearched, IsNoted, IsSound, IsSearchedFor, IsSettled, Steps}
 use Rattle.h1_dispatch.specs.declared.connection.clock.Clock.{Clock}
 use Rattle.h1_dispatch.specs.declared.connection.exchange.Exchange.{Exchange}
 use Rattle.h1_dispatch.specs.declared.connection.exchange.Reply.{Reply}
 use Rattle.h1_dispatch.specs.declared.connection.exchange.Reply.TheVariants.{Unanswered, Sending, Answered}
 use Rattle.h1_dispatch.specs.declared.connection.parts.Parts.{Parts}
-use Rattle.h1_dispatch.proofs.PassingLemmas.{passing_coming, passing_framed, passing_free, passing_clock}
+use Rattle.h1_dispatch.proofs.PassingLemmas.{passing_free}
 
 -- ---- since when the connection closes
 

@@ -1,21 +1,19 @@
 -- The machine's step of a tick.
-use Rattle.std.proofs.Common.{◌≡◌, ℕ, ◌+◌, ◌^◌, ◌<◌, Bool, true, false, not, ◌&&◌, List, length, Option, Some, None, refl, sym, ap, ◌∙◌, subst, arith}
+use Rattle.std.proofs.Common.{◌≡◌, ℕ, ◌+◌, ◌^◌, ◌<◌, Bool, true, false, not, ◌&&◌, Option, Some, None, refl, sym, ap, ◌∙◌, subst, arith}
 use Rattle.std.proofs.lemmas.Bool.{ltb-false, lt-leb}
-use Rattle.std.specs.Prelude.{option_map, is_some, is_none, unwrap_or, nat_lt, nat_le, ◌==◌, if◌then◌else◌}
+use Rattle.std.specs.Prelude.{option_map, is_some, unwrap_or, nat_lt, nat_le, ◌==◌, if◌then◌else◌}
 use Rattle.std.specs.Option.{option_or}
 use Rattle.http_config.specs.Config.{Settings}
 use Rattle.http_config.specs.Deadline.{deadline_of}
 use Rattle.h1_model.specs.Limits.{MAX_MOMENT}
-use Rattle.h1_model.specs.Setting.{Setting}
 use Rattle.h1_model.specs.OutcomeTable.{counted_from, has_run_out}
 use Rattle.h1_model.specs.Event as on
 use Rattle.h1_model.specs.End as ends
-use Rattle.h1_machine.specs.Kept as machine
 use Rattle.h1_dispatch.specs.declared.event.End.{End}
-use Rattle.h1_machine.specs.Kept.{Kept, Change, is_free, now}
+use Rattle.h1_machine.specs.Kept.{Change, is_free}
 use Rattle.h1_machine.specs.Local.{closing_by}
-use Rattle.h1_machine.specs.Clock.{expiring, at_moment, ticking}
-use Rattle.h1_machine.specs.Change.{IsChange, noting_since}
+use Rattle.h1_machine.specs.Clock.{expiring, at_moment}
+use Rattle.h1_machine.specs.Change.{noting_since}
 use Rattle.h1_dispatch.specs.Incoming.{Incoming, IsFound}
 use Rattle.h1_dispatch.specs.Meaning.{setting_of, end_of}
 use Rattle.h1_dispatch.specs.Parts.{kept_of, IsSound, Steps}

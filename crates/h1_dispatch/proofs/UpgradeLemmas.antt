@@ -1,6 +1,6 @@
 -- What an upgrade needs of a request is no matter for the events that a connection takes.
-use Rattle.std.proofs.Common.{◌≡◌, ℕ, ◌-◌, Bool, true, false, not, ◌&&◌, ◌||◌, List, [], ◌∷◌, ◌++◌, length, take, drop, Option, Some, None, refl, sym, ap, ◌∙◌, subst}
-use Rattle.std.specs.Prelude.{option_map, is_some, is_none, min, slice_range, unwrap_or, ◌==◌, if◌then◌else◌}
+use Rattle.std.proofs.Common.{◌≡◌, ℕ, ◌-◌, Bool, true, false, not, ◌&&◌, List, [], ◌++◌, length, take, Option, Some, None, refl, sym, ap, ◌∙◌, subst}
+use Rattle.std.specs.Prelude.{option_map, is_some, min, slice_range, unwrap_or, ◌==◌, if◌then◌else◌}
 use Rattle.std.specs.Option.{option_or}
 use Rattle.h1_model.specs.HeadPiece.{IsHeadPiece}
 use Rattle.h1_model.specs.Request.{ConnectionType, Head, Reading, head_is, faulty, too_large}
@@ -16,9 +16,9 @@ use Rattle.h1_model.specs.End.{End}
 use Rattle.h1_machine.specs.Kept.{Reply, unanswered, sending, answered, Exchange, Kept, Change, is_free, now}
 use Rattle.h1_machine.specs.Local.{closing_by, allowed_by, is_allowed_running, is_allowed_closing}
 use Rattle.h1_machine.specs.Body.{passing}
-use Rattle.h1_machine.specs.Reply.{stated, short_end, completing, answering, sending_piece, ending_body}
+use Rattle.h1_machine.specs.Reply.{stated, short_end, completing}
 use Rattle.h1_machine.specs.Clock.{is_abandoned, is_slow, is_idle, expiring, at_moment, ticking}
-use Rattle.h1_machine.specs.Change.{IsChange, IsComing, IsNext, IsUpcoming, IsPulling, noting_since, IsStep, doing, doing_with, reading, ending_input, exchange_at_end, behind_head, without_head, pulled_from}
+use Rattle.h1_machine.specs.Change.{IsChange, IsComing, IsNext, IsUpcoming, IsPulling, noting_since, IsStep, doing, reading, ending_input, exchange_at_end, behind_head, without_head}
 use Rattle.h1_dispatch.specs.Upgrade.{Upgrade, with_upgrade_of, with_upgrade}
 use Rattle.h1_dispatch.specs.Heads.{upgrade_of, behind_plain}
 

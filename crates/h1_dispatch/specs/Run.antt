@@ -1,5 +1,5 @@
 -- What a list of events gives: the one trace of a connection, in the model's terms.
-use Rattle.std.specs.Prelude.{◌≡◌, ℕ, List, [], ◌∷◌, ◌++◌, map, reverse, take, slice_get, Option, Some, option_map, Result, Ok, Err, ⊤}
+use Rattle.std.specs.Prelude.{◌≡◌, ℕ, List, [], ◌∷◌, ◌++◌, map, reverse, take, slice_get, Some, option_map, Result, Ok, Err, ⊤}
 use Rattle.http_config.specs.Config.{Settings}
 use Rattle.h1_model.specs.Parse as parsed
 use Rattle.h1_model.specs.Parse.{IsParse}

@@ -1,5 +1,5 @@
 -- What an upgrade to WebSocket needs of a request. A connection doesn't keep it yet: no event that it takes reads it.
-use Rattle.std.specs.Prelude.{ℕ, List, [], Option, Some, None, option_map}
+use Rattle.std.specs.Prelude.{ℕ, List, Option, option_map}
 use Rattle.h1_model.specs.Handshake.{HandshakeError}
 use Rattle.h1_machine.specs.Kept.{Exchange, Kept}
 

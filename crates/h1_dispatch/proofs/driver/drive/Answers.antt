@@ -1,4 +1,4 @@
-use Rattle.std.proofs.Common.{◌≡◌, ◌<◌, ◌≤◌, length, refl, sym, ◌∙◌, arith}
+use Rattle.std.proofs.Common.{◌<◌, ◌≤◌, length, refl, sym, ◌∙◌, arith}
 use Rattle.std.proofs.lemmas.Option.{slice_get_read}
 use Rattle.h1_dispatch.proofs.RunLemmas.{noted_new, noted_more, whole_of, misplaced_of}
 use Rattle.h1_dispatch.proofs.LawLemmas.{none_refused, first_refused, not_whole}

@@ -1,5 +1,5 @@
-use Rattle.std.proofs.Common.{◌≤◌, length, ap, subst, sym}
-use Rattle.std.proofs.Common.{ℕ, List, take, ◌≡◌}
+use Rattle.std.proofs.Common.{◌≤◌, length, subst, sym}
+use Rattle.std.proofs.Common.{take}
 use Rattle.h1_model.specs.Event as on
 use Rattle.h1_dispatch.specs.State.{State, GoesOn, Is}
 use Rattle.h1_dispatch.proofs.GoesOnLemmas.{goes_on, state_of}

@@ -1,4 +1,3 @@
-use Rattle.std.proofs.Common.{◌≡◌, ◌∙◌, ap}
 use Rattle.h1_dispatch.proofs.HeadLemmas.{asked_by}
 use Rattle.h1_dispatch.proofs.connection.heads.request_of.Goals as goal
 

@@ -1,5 +1,4 @@
-use Rattle.std.proofs.Common.{◌∙◌}
-use Rattle.h1_dispatch.proofs.InputLemmas.{cut_fits, cut_whole, cut_searched, head_found}
+use Rattle.h1_dispatch.proofs.InputLemmas.{cut_fits, cut_whole, head_found}
 use Rattle.h1_dispatch.proofs.connection.input.Input.head.Goals as goal
 
 pub cut-requires-clause-fits : goal.cut-requires-clause-fits

@@ -1,4 +1,4 @@
-use Rattle.std.proofs.Common.{◌≡◌, ℕ, List, ◌++◌, ◌∙◌, sym, ap}
+use Rattle.std.proofs.Common.{ℕ, ◌++◌, ◌∙◌, sym, ap}
 use Rattle.h1_codec.specs.Meaning.{answer_of, size_of, model_type}
 use Rattle.h1_model.specs.Setting.{keeps}
 use Rattle.http_config.specs.declared.keep_alive.KeepAlive.{KeepAlive}

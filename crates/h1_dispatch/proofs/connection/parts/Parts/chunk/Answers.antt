@@ -1,5 +1,4 @@
-use Rattle.std.proofs.Common.{◌∙◌, sym, ap}
-use Rattle.h1_dispatch.specs.declared.connection.exchange.Sending.{Sending}
+use Rattle.std.proofs.Common.{◌∙◌, sym}
 use Rattle.std.proofs.lemmas.Bool.{false≢true}
 use Rattle.h1_dispatch.proofs.AnswerLemmas.{no_piece, unasked, no_chunk, chunked_steps, chunked_sound}
 use Rattle.h1_dispatch.proofs.connection.parts.Parts.chunk.Goals as goal

@@ -1,6 +1,3 @@
-use Rattle.std.proofs.Common.{◌∙◌, ap, subst}
-use Rattle.h1_machine.specs.Kept.{Kept}
-use Rattle.h1_dispatch.specs.declared.connection.parts.Parts.{Parts}
 use Rattle.h1_dispatch.proofs.EventLemmas.{dropped_steps, dropped_sound}
 use Rattle.h1_dispatch.proofs.connection.parts.Parts.drop_body.Goals as goal
 

@@ -1,4 +1,4 @@
-use Rattle.std.proofs.Common.{◌∙◌, sym, ap}
+use Rattle.std.proofs.Common.{◌∙◌, sym}
 use Rattle.std.proofs.lemmas.Bool.{false≢true}
 use Rattle.h1_dispatch.proofs.AnswerLemmas.{unsent_end, unasked, no_end, sending_unsearched, ended_steps, ended_sound, short_parts_piece}
 use Rattle.h1_dispatch.proofs.connection.parts.Parts.end_answer.Goals as goal

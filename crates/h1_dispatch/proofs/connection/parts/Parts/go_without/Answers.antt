@@ -1,4 +1,4 @@
-use Rattle.std.proofs.Common.{◌≡◌, ◌∙◌, sym, refl}
+use Rattle.std.proofs.Common.{◌∙◌, sym, refl}
 use Rattle.std.proofs.lemmas.Bool.{eq-eqb, ne_eqb}
 use Rattle.h1_dispatch.specs.declared.event.HeadFault.TheVariants.{TooLarge}
 use Rattle.h1_dispatch.proofs.HeadLemmas.{full_steps, pending_steps}

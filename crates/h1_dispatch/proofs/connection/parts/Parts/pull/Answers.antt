@@ -1,6 +1,5 @@
-use Rattle.std.proofs.Common.{sym}
 use Rattle.h1_dispatch.proofs.ResultLemmas.{ok_three, on_both}
-use Rattle.h1_dispatch.proofs.PullLemmas.{open_unsearched, pull_of, pull_steps, pull_sound}
+use Rattle.h1_dispatch.proofs.PullLemmas.{pull_of, pull_steps, pull_sound}
 use Rattle.h1_dispatch.proofs.connection.parts.Parts.pull.Goals as goal
 
 pub returns-clause-ok : goal.returns-clause-ok

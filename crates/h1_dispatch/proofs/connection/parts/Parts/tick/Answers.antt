@@ -1,4 +1,3 @@
-use Rattle.std.proofs.Common.{◌≡◌, ℕ, ◌∙◌, sym, ap}
 use Rattle.h1_dispatch.proofs.TickLemmas.{tick_steps_by, tick_sound_by}
 use Rattle.h1_dispatch.proofs.connection.parts.Parts.tick.Goals as goal
 
