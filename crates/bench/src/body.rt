@@ -16,6 +16,14 @@ const BODY: usize = 1000;
 /// How many bytes a piece of it has, where it comes or goes in pieces.
 const PIECE: usize = 250;
 
+/// A request without a body.
+const GET: &[u8] = b"GET / HTTP/1.1\r\nhost: a\r\n\r\n";
+
+/// The heads of requests with a body.
+const POST_OF_A_LENGTH: &[u8] = b"POST / HTTP/1.1\r\nhost: a\r\ncontent-length: 1000\r\n\r\n";
+
+const POST_IN_CHUNKS: &[u8] = b"POST / HTTP/1.1\r\nhost: a\r\ntransfer-encoding: chunked\r\n\r\n";
+
 /// What an answer of a few bytes says.
 const HI: &[u8] = b"hi";
 
@@ -128,59 +136,21 @@ impl Exchange {
         checksum: &mut Checksum,
     ) -> Result<(), BenchError> {
         match self {
-            Exchange::Length | Exchange::Chunks => {
-                pull_all(connection, checksum)?;
-                begin(connection, answer, BodySize::ZERO)
-            }
-            Exchange::Hi => {
-                begin(connection, answer, BodySize::Sized(HI.len() as u64))?;
-                send(connection, HI)?;
-                end(connection)
-            }
-            Exchange::Stream => {
-                begin(connection, answer, BodySize::Stream)?;
-                for _ in 0..BODY / PIECE {
-                    send(connection, &[b'x'; PIECE])?;
-                }
-                end(connection)
-            }
-            Exchange::EchoLength => {
-                begin(connection, answer, BodySize::Sized(BODY as u64))?;
-                echo(connection)
-            }
-            Exchange::EchoChunks => {
-                begin(connection, answer, BodySize::Stream)?;
-                echo(connection)
-            }
+            Exchange::Length | Exchange::Chunks => take_all(connection, answer, checksum),
+            Exchange::Hi => say_hi(connection, answer),
+            Exchange::Stream => stream(connection, answer),
+            Exchange::EchoLength => { echo(connection, answer, BodySize::Sized(BODY as u64)) }
+            Exchange::EchoChunks => echo(connection, answer, BodySize::Stream),
         }
     }
 
     /// The request's text.
     fn request(self, alloc: Global) -> Result<Bytes, NoMemory> {
-        let mut text = Vec::new(alloc);
         match self {
-            Exchange::Hi | Exchange::Stream => {
-                text.extend_from_slice(b"GET / HTTP/1.1\r\nhost: a\r\n\r\n")?;
-            }
-            Exchange::Length | Exchange::EchoLength => {
-                text.extend_from_slice(
-                    b"POST / HTTP/1.1\r\nhost: a\r\ncontent-length: 1000\r\n\r\n",
-                )?;
-                text.extend_from_slice(&[b'x'; BODY])?;
-            }
-            Exchange::Chunks | Exchange::EchoChunks => {
-                text.extend_from_slice(
-                    b"POST / HTTP/1.1\r\nhost: a\r\ntransfer-encoding: chunked\r\n\r\n",
-                )?;
-                for _ in 0..BODY / PIECE {
-                    text.extend_from_slice(b"fa\r\n")?;
-                    text.extend_from_slice(&[b'x'; PIECE])?;
-                    text.extend_from_slice(b"\r\n")?;
-                }
-                text.extend_from_slice(b"0\r\n\r\n")?;
-            }
+            Exchange::Hi | Exchange::Stream => Ok(Bytes::from_static(GET)),
+            Exchange::Length | Exchange::EchoLength => post_of_a_length(alloc),
+            Exchange::Chunks | Exchange::EchoChunks => post_in_chunks(alloc),
         }
-        Ok(Bytes::from_vec(text)?)
     }
 
     /// The answer's head.
@@ -202,34 +172,101 @@ impl Exchange {
     }
 }
 
-/// Takes all of the open request's body.
-fn pull_all(connection: &mut Connection, checksum: &mut Checksum) -> Result<(), BenchError> {
+/// A thousand bytes under their length.
+fn post_of_a_length(alloc: Global) -> Result<Bytes, NoMemory> {
+    let mut text = POST_OF_A_LENGTH.to_vec(alloc)?;
+    text.extend_from_slice(&[b'x'; BODY])?;
+    Ok(Bytes::from_vec(text)?)
+}
+
+/// The same in four chunks.
+fn post_in_chunks(alloc: Global) -> Result<Bytes, NoMemory> {
+    let mut text = POST_IN_CHUNKS.to_vec(alloc)?;
+    for _ in 0..BODY / PIECE {
+        put_chunk(&mut text)?;
+    }
+    text.extend_from_slice(b"0\r\n\r\n")?;
+    Ok(Bytes::from_vec(text)?)
+}
+
+fn put_chunk(text: &mut Vec<u8>) -> Result<(), NoMemory> {
+    text.extend_from_slice(b"fa\r\n")?;
+    text.extend_from_slice(&[b'x'; PIECE])?;
+    text.extend_from_slice(b"\r\n")?;
+    Ok(())
+}
+
+/// Takes all of the open request's body, and answers with none.
+fn take_all(
+    connection: &mut Connection,
+    answer: &ResponseHead,
+    checksum: &mut Checksum,
+) -> Result<(), BenchError> {
     for _ in 0..u64::MAX {
         if !connection.can_pull() {
             break;
         }
-        match connection.pull()? {
-            Pulled::Bytes(bytes) => checksum.add_bytes(&bytes),
-            Pulled::Trailers(_) | Pulled::End => {}
-            Pulled::Pending | Pulled::Broken(_) => return Err(BenchError::NoBody),
-        }
+        take_piece(connection, checksum)?;
+    }
+    begin(connection, answer, BodySize::ZERO)
+}
+
+/// Takes what comes next of the open request's body.
+fn take_piece(connection: &mut Connection, checksum: &mut Checksum) -> Result<(), BenchError> {
+    if !connection.can_pull() {
+        return Err(BenchError::Misplaced);
+    }
+    match connection.pull()? {
+        Pulled::Bytes(bytes) => checksum.add_bytes(&bytes),
+        Pulled::Trailers(_) | Pulled::End => {}
+        Pulled::Pending | Pulled::Broken(_) => return Err(BenchError::NoBody),
     }
     Ok(())
 }
 
-/// Sends each piece of the open request's body back as it comes.
-fn echo(connection: &mut Connection) -> Result<(), BenchError> {
+/// Answers with two bytes.
+fn say_hi(connection: &mut Connection, answer: &ResponseHead) -> Result<(), BenchError> {
+    begin(connection, answer, BodySize::Sized(HI.len() as u64))?;
+    send(connection, HI)?;
+    end(connection)
+}
+
+/// Answers with a thousand bytes in four chunks.
+fn stream(connection: &mut Connection, answer: &ResponseHead) -> Result<(), BenchError> {
+    begin(connection, answer, BodySize::Stream)?;
+    for _ in 0..BODY / PIECE {
+        send(connection, &[b'x'; PIECE])?;
+    }
+    end(connection)
+}
+
+/// Answers with the open request's own body, each piece as it comes.
+fn echo(
+    connection: &mut Connection,
+    answer: &ResponseHead,
+    size: BodySize,
+) -> Result<(), BenchError> {
+    begin(connection, answer, size)?;
     for _ in 0..u64::MAX {
         if !connection.can_pull() {
             break;
         }
-        match connection.pull()? {
-            Pulled::Bytes(bytes) => send(connection, &bytes)?,
-            Pulled::Trailers(_) | Pulled::End => {}
-            Pulled::Pending | Pulled::Broken(_) => return Err(BenchError::NoBody),
-        }
+        send_back(connection)?;
     }
     end(connection)
+}
+
+/// Sends what comes next of the open request's body back.
+fn send_back(connection: &mut Connection) -> Result<(), BenchError> {
+    if !connection.can_pull() {
+        return Err(BenchError::Misplaced);
+    }
+    match connection.pull()? {
+        Pulled::Bytes(bytes) => send(connection, &bytes)?,
+        Pulled::Trailers(_) | Pulled::End => {}
+        Pulled::Pending | Pulled::Broken(_) => return Err(BenchError::NoBody),
+    }
+    Ok(())
 }
 
 fn send(connection: &mut Connection, bytes: &[u8]) -> Result<(), BenchError> {
