@@ -4,8 +4,8 @@ use crate::error::BenchError;
 use bytes::Bytes;
 use h1_decode::{HeadItem, HeadRoom, HeadScan, request_head, scan_head};
 use h1_dispatch::{Boxed, Connection, Event, NextKind, Outcome};
-use http_bodies::{BodyKind, BodySize};
-use http_types::{NoMemory, RequestHead, ResponseHead, ServiceConfigBuilder, StatusCode};
+use http_bodies::BodySize;
+use http_types::{NoMemory, ResponseHead, ServiceConfigBuilder, StatusCode};
 use std::alloc::Global;
 
 /// How many requests come in one read where several do.
@@ -124,11 +124,7 @@ impl Place {
     /// The place of a head that says the least.
     pub fn new(alloc: Global) -> Place {
         Place {
-            item: HeadItem {
-                head: RequestHead::new(alloc),
-                target: Bytes::new(),
-                body: BodyKind::None,
-            },
+            item: HeadItem::new(alloc),
             room: HeadRoom::new(),
         }
     }

@@ -1,6 +1,7 @@
 -- The text of a head, line by line.
-use Rattle.std.proofs.Common.{◌≡◌, ℕ, ◌/◌, Bool, true, not, ◌&&◌, ◌||◌, List, [], ◌++◌, drop, sym, ap, ◌∙◌, append_assoc, codes, if◌then◌else◌}
-use Rattle.std.specs.Prelude.{◌==◌, filter, flat_map}
+use Rattle.std.proofs.Common.{◌≡◌, ℕ, ◌/◌, Bool, true, false, Option, Some, None, refl, not, ◌&&◌, ◌||◌, List, [], ◌++◌, drop, sym, ap, ◌∙◌, append_assoc, codes, if◌then◌else◌}
+use Rattle.std.specs.Prelude.{◌==◌, ◌+◌, ◌∷◌, filter, flat_map, unwrap_or, IsSome, IsTrue}
+use Rattle.http.specs.StatusCode.{code_digits, reason_phrase}
 use Rattle.httparse.specs.Ascii.{crlf_bytes}
 use Rattle.http_map.specs.HeaderMap.{Entries, pairs, IsHeaderMap}
 use Rattle.h1_model.specs.Request.{ConnectionType}
@@ -11,6 +12,12 @@ use Rattle.h1_codec.specs.Lines.{status_words, pairs_text, has_date}
 use Rattle.h1_codec.specs.Meaning.{headers_of}
 use Rattle.h1_codec.proofs.Pieces.{two, three}
 use Rattle.h1_codec.proofs.HeaderLines.{sent_lines, date_lines}
+
+-- no reason of its own
+no_reason : (reason : Option (List ℕ)) (own : Bool) → IsTrue (not own) → (IsSome reason → IsTrue own) → reason ≡ None
+no_reason None own none has = refl
+no_reason (Some r) true none has = absurd (cc none)
+no_reason (Some r) false none has = absurd (cc (has refl))
 
 -- the lines behind one another
 lines_are : (minor : ℕ) (answer : AnswerHead) (shape : Shape) (size : BodySize) (kind : ConnectionType) (now : ℕ)
@@ -64,3 +71,10 @@ camel_date now second old one line rest all line_is one_is all_is rest_is is =
     two old (codes "Date") rest one all one_is all_is
     ∙ ap (λ (l : List ℕ). old ++ (codes "Date" ++ l)) text
     ∙ ap (λ (l : List ℕ). old ++ (codes "Date: " ++ l)) (sym (append_assoc (date_of (now / 1000)) crlf_bytes crlf_bytes))
+
+-- the most common status line
+pub ok_line : (minor : ℕ) (answer : AnswerHead) (own : Bool) → minor ≡ 1 → answer.status ≡ 200 → IsTrue (not own) → (IsSome answer.reason → IsTrue own)
+    → codes "HTTP/1.1 200 OK" ≡ status_words minor answer
+ok_line minor answer own minor_is status_is none has =
+    sym (λ i. codes "HTTP/1." ++ ((48 + minor_is i) ∷ (codes " " ++ (code_digits (status_is i)
+    ++ (codes " " ++ unwrap_or (no_reason answer.reason own none has i) (unwrap_or (reason_phrase (status_is i)) (codes "<unknown status code>")))))))

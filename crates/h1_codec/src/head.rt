@@ -1,5 +1,5 @@
 //! The head of an answer.
-ghost use Rattle.std.specs.Prelude.{◌≡◌, ℕ, [], ◌++◌, ◌/◌, ◌<◌, ◌≤◌, ◌+◌, ◌∷◌, length, codes, decimal, OnOk, OnErr, true, if◌then◌else◌};
+ghost use Rattle.std.specs.Prelude.{◌≡◌, ℕ, [], ◌++◌, ◌/◌, ◌<◌, ◌≤◌, ◌+◌, ◌∷◌, length, codes, decimal, OnOk, OnErr, IsTrue, true, if◌then◌else◌};
 ghost use Rattle.http.specs.StatusCode.{code_digits};
 ghost use Rattle.httparse.specs.Ascii.{crlf_bytes};
 ghost use Rattle.h1_model.specs.Answer as answers;
@@ -70,22 +70,32 @@ fn put_head(
     out.reserve(lines.saturating_add(USUAL_LEN))?;
     put_status(out, asked, head)?;
     put_framing(out, camel, head.status, shape, size)?;
-    out.extend_from_slice(connection_line(asked, camel, connection))?;
+    put_connection(out, asked, camel, connection)?;
     let has_date = put_headers(out, head, shape, camel)?;
     put_end_of_head(out, camel, has_date, date)
 }
 
-// The status line, without its line end.
+// The status line, without its line end. The most common one is there as a whole.
 fn put_status(out: &mut BytesMut, asked: Asked, head: &ResponseHead) -> Result<(), NoMemory>
     ensures ok { OnOk result (out.new.items ≡ out.old.items ++ status_words asked.minor (answer_of head.now)) }
     ensures err { OnErr result (out.new.items ≡ out.old.items) }
 {
+    if is_plain_ok(asked, head) {
+        return out.extend_from_slice(b"HTTP/1.1 200 OK");
+    }
     let start = status_start(asked.minor(), head.status);
     let reason = head.reason().as_bytes();
     out.reserve(start.len() + reason.len())?;
     out.extend_reserved(&start);
     out.extend_reserved(reason);
     Ok(())
+}
+
+// Whether it is that one.
+fn is_plain_ok(asked: Asked, head: &ResponseHead) -> bool
+    ensures { IsTrue result → codes "HTTP/1.1 200 OK" ≡ status_words asked.minor (answer_of head.now) }
+{
+    asked.minor() == 1 && head.status == StatusCode::OK && !head.has_own_reason()
 }
 
 // What the status line has before its reason.
@@ -169,7 +179,24 @@ fn length_name(camel: bool) -> &'static [u8; 18]
     }
 }
 
-// The line that says what becomes of the connection, where the version alone doesn't.
+// The line that says what becomes of the connection, if there is one.
+fn put_connection(
+    out: &mut BytesMut,
+    asked: Asked,
+    camel: bool,
+    connection: ConnectionType,
+) -> Result<(), NoMemory>
+    ensures ok { OnOk result (out.new.items ≡ out.old.items ++ texts.connection_line asked.minor camel (model_type connection)) }
+    ensures err { OnErr result (out.new.items ≡ out.old.items) }
+{
+    let line = connection_line(asked, camel, connection);
+    if line.is_empty() {
+        return Ok(());
+    }
+    out.extend_from_slice(line)
+}
+
+// That line, where the version alone doesn't say it.
 fn connection_line(asked: Asked, camel: bool, connection: ConnectionType) -> &'static [u8]
     ensures { result.now ≡ texts.connection_line asked.minor camel (model_type connection) }
 {

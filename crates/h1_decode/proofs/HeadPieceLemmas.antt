@@ -1,7 +1,7 @@
 -- The head piece of a buffer, and what a scan may pass over.
-use Rattle.std.proofs.Common.{◌≡◌, ℕ, zero, suc, ◌+◌, ◌-◌, ◌<◌, ◌≤◌, max, List, ◌++◌, length, take, drop, slice_range, inl, inr, sym, ap, ◌∙◌, subst, arith, append_assoc, length-append}
+use Rattle.std.proofs.Common.{◌≡◌, ℕ, zero, suc, ◌+◌, ◌-◌, ◌<◌, ◌≤◌, max, List, ◌++◌, length, take, drop, slice_range, inl, inr, sym, ap, ◌∙◌, subst, arith, append_assoc, length-append, le_refl}
 use Rattle.std.proofs.lemmas.Bool.{cases_lt}
-use Rattle.std.proofs.lemmas.List.{take-append-le, take-take, take-append-drop, drop-append-le, length-take-le}
+use Rattle.std.proofs.lemmas.List.{take_all, take-append-le, take-take, take-append-drop, drop-append-le, length-take-le}
 use Rattle.std.proofs.lemmas.Slice.{between_is}
 use Rattle.httparse.specs.Grammar.{print_end}
 use Rattle.h1_model.specs.HeadPiece.{AreBlankLines, BeginsBlank, EndsBlank, IsHeadPiece, HasNoHeadPiece}
@@ -21,6 +21,11 @@ AnswersScan-found bytes (Piece s' e') piece' s e piece =
     let at_start : s' ≡ s = same.0 in
     let at_end : e' ≡ e = same.1 in
     ap (λ x. Piece x e') at_start ∙ ap (λ x. Piece s x) at_end
+
+-- where all bytes were scanned, they hold no head
+pub no_head_in_all : (position : HeadPosition) (bytes : List ℕ) → position.scanned ≡ length bytes → HasScanned position bytes → HasNoHeadPiece bytes
+no_head_in_all position bytes all has =
+    subst HasNoHeadPiece (ap (λ (n : ℕ). take n bytes) all ∙ take_all (length bytes) bytes (le_refl (length bytes))) has.no_head
 
 -- nothing ends among the bytes that were scanned
 module _ (bytes : List ℕ) (s n : ℕ) (fits : n ≤ length bytes) (none : HasNoHeadPiece (take n bytes))

@@ -1,20 +1,27 @@
 -- The header lines that the spans cover, one after another.
-use Rattle.std.proofs.Common.{◌≡◌, ℕ, ◌+◌, ◌<◌, List, [], ◌∷◌, ◌++◌, length, take, map, get_or, All, sym, ap, ◌∙◌, subst, true, Result, Ok, Err}
+use Rattle.std.proofs.Common.{◌≡◌, ℕ, ◌+◌, ◌<◌, List, [], ◌∷◌, ◌++◌, length, take, map, get_or, All, sym, ap, ◌∙◌, subst, true, Result, Ok, Err, inl, inr}
+use Rattle.std.specs.Prelude.{◌⊎◌}
 use Rattle.std.specs.Result.{OnOk, is_ok}
 use Rattle.std.proofs.lemmas.Bool.{false≢true}
 use Rattle.std.proofs.lemmas.List.{length-map, get_or-map, map_more, map_push}
 use Rattle.std.proofs.lemmas.List.Elements.{All-push, All-get_or}
 use Rattle.std.proofs.lemmas.List.Sums.{fold_push}
 use Rattle.http_header.specs.FieldValue.{plain_value}
-use Rattle.http_header.specs.Token.{lowercase}
+use Rattle.http_header.specs.Token.{lowercase, IsToken}
 use Rattle.http_map.specs.HeaderMap.{append}
+use Rattle.http_types.specs.declared.error.ParseError.{ParseError}
+use Rattle.http_types.specs.declared.error.ParseError.TheVariants.{Uri, NoMemory}
+use Rattle.http_uri.specs.Uri.{SpellsNone}
 use Rattle.httparse.specs.Spans.{header_bytes, span_bytes}
 use Rattle.httparse.specs.declared.spans.HeaderSpan.{HeaderSpan}
 use Rattle.h1_model.specs.Request.{Header}
+use Rattle.h1_model.specs.RequestHead.{IsTarget}
 use Rattle.h1_decode.specs.declared.framing.Framing.{Framing}
 use Rattle.h1_decode.specs.Framing.{TellsLines}
 use Rattle.h1_decode.specs.HeadMap.{header_map}
-use Rattle.h1_decode.specs.Lines.{HasName, HasValue, line_header}
+use Rattle.h1_decode.specs.Lines.{HasName, HasValue, line_header, RefusesLinesOf}
+use Rattle.h1_decode.specs.ReadParts.{Parts, RefusesParts}
+use Rattle.h1_decode.specs.Refusal.{UnlessNoMemory, IsHeaderUnlessNoMemory}
 
 module _ (piece : List ℕ) (fields : List HeaderSpan) (i : ℕ) (d : HeaderSpan) (below : i < length fields) where
   -- of all lines with a name, each has one
@@ -66,3 +73,17 @@ module _ (piece : List ℕ) (fields : List HeaderSpan) (i : ℕ) (d : HeaderSpan
 pub known_ok : {T E P : Type 0} (r : Result T E) → true ≡ is_ok r → OnOk r P → P
 known_ok (Ok x) is p = p
 known_ok (Err e) is p = absurd (false≢true (sym is))
+
+-- ---- what is told of lines that are refused
+
+-- a target that is none is told before them
+pub refused_lines : (parts : Parts) (error told : ParseError) → IsToken parts.method
+    → IsHeaderUnlessNoMemory error (RefusesLinesOf parts.minor parts.method parts.lines)
+    → (told ≡ NoMemory) ⊎ (((told ≡ Uri) × SpellsNone parts.target) ⊎ ((told ≡ error) × IsTarget parts.target))
+    → UnlessNoMemory told (RefusesParts told parts)
+refused_lines parts error told token refused (inl none) = λ ne. absurd (ne none)
+refused_lines parts error told token refused (inr (inl none)) =
+    λ ne. subst (λ (e : ParseError). RefusesParts e parts) (sym none.0) (token, λ target. none.1 target.0 target.1 target.2 target.3)
+refused_lines parts error told token refused (inr (inr same)) = λ ne.
+    let lines = refused (λ none. ne (same.0 ∙ none)) in
+    subst (λ (e : ParseError). RefusesParts e parts) (sym (same.0 ∙ lines.0)) (token, same.1, lines.1)

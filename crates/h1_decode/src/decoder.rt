@@ -1,12 +1,12 @@
 //! What the head of a request says (RFC 7230, section 3).
-ghost use Rattle.std.specs.Prelude.{◌≡◌, ◌↔◌, ◌<◌, ◌≤◌, [], IsTrue, length, map, nat_lt, if◌then◌else◌, OnOk, OnErr, IfOk, IfErr, All};
+ghost use Rattle.std.specs.Prelude.{◌≡◌, ◌↔◌, ◌<◌, ◌≤◌, ◌⊎◌, [], IsTrue, length, map, codes, nat_lt, if◌then◌else◌, OnOk, OnErr, IfOk, IfErr, All};
 ghost use Rattle.http_header.specs.Token.{IsToken};
 ghost use Rattle.http_bodies.specs.Kinds.{kind_of};
 ghost use Rattle.http_uri.specs.Uri.{Spells, SpellsNone};
-ghost use Rattle.httparse.specs.Spans.{IsHeaderWithin, IsRequestWithin, IsWithin, header_bytes};
+ghost use Rattle.httparse.specs.Spans.{IsHeaderWithin, IsRequestWithin, IsWithin, header_bytes, span_bytes};
 ghost use Rattle.h1_model.specs.HeadPiece.{header_lines};
 ghost use Rattle.h1_model.specs.Request.{Head, head_is, faulty};
-ghost use Rattle.h1_model.specs.RequestHead.{IsReading};
+ghost use Rattle.h1_model.specs.RequestHead.{IsReading, IsTarget};
 ghost use Rattle.h1_decode.specs.HeadItem.{SaysHead, version_of, without_headers};
 ghost use Rattle.h1_decode.specs.Lines.{HasValue};
 ghost use Rattle.h1_decode.specs.ReadParts.{parts_at, head_of, AreParts, RefusesParts};
@@ -18,9 +18,9 @@ use crate::scan::line_end_len;
 use bytes::Bytes;
 use http::method::MethodError;
 use http_bodies::BodyKind;
-use http_types::{HeaderMap, Method, NoMemory, ParseError, RequestHead, Uri, Version};
+use http_types::{Method, NoMemory, ParseError, RequestHead, Uri, Version};
 use http_uri::UriError;
-use httparse::spans::{EMPTY_HEADER_SPAN, HeaderSpan, RequestSpans, parse_request};
+use httparse::spans::{EMPTY_HEADER_SPAN, HeaderSpan, RequestSpans, Span, parse_request};
 use httparse::{Error, Status};
 use memchr::memchr_iter;
 use std::alloc::Global;
@@ -42,6 +42,21 @@ pub struct HeadItem {
 }
 
 impl HeadItem {
+    /// A GET of `/` by HTTP/1.1 without headers and without a body: a place for heads that are read over it. It takes
+    /// no memory.
+    pub fn new(alloc: Global) -> HeadItem
+        ensures method { result.head.method ≡ codes "GET" }
+        ensures headers { result.head.headers ≡ [] }
+        ensures target { result.target ≡ codes "/" }
+        ensures body { result.body ≡ BodyKind.None }
+    {
+        HeadItem {
+            head: RequestHead::new(alloc),
+            target: Bytes::from_static(b"/"),
+            body: BodyKind::None,
+        }
+    }
+
     /// An equal head.
     pub fn copy(&self) -> Result<HeadItem, NoMemory>
         ensures { IfOk result (λ copy. copy ≡ self.now) }
@@ -96,7 +111,9 @@ pub fn request_head_in(
     ensures fault { IfErr result (λ e. UnlessNoMemory e (IsReading piece (faulty (fault_of e)))) }
     ensures cause { IfErr result (λ e. UnlessNoMemory e (Refuses e piece)) }
 {
-    read_head(alloc, &piece, room, HeaderMap::new(alloc))
+    let mut item = HeadItem::new(alloc);
+    read_over(alloc, &mut item, room, &piece)?;
+    Ok(item)
 }
 
 /// Reads a head over another one, whose map keeps its memory. It reads and refuses as `request_head`
@@ -105,15 +122,15 @@ pub fn read_head_into(
     alloc: Global,
     item: &mut HeadItem,
     room: &mut HeadRoom,
-    piece: Bytes,
+    piece: &Bytes,
 ) -> Result<(), ParseError>
-    ensures head { OnOk result ((h : Head) × IsReading piece (head_is h) × SaysHead item.new h) }
-    ensures fault { IfErr result (λ e. UnlessNoMemory e (IsReading piece (faulty (fault_of e)))) }
-    ensures cause { IfErr result (λ e. UnlessNoMemory e (Refuses e piece)) }
+    ensures head { OnOk result ((h : Head) × IsReading piece.now (head_is h) × SaysHead item.new h) }
+    ensures fault { IfErr result (λ e. UnlessNoMemory e (IsReading piece.now (faulty (fault_of e)))) }
+    ensures cause { IfErr result (λ e. UnlessNoMemory e (Refuses e piece.now)) }
     ensures err { OnErr result (item.new ≡ without_headers item.old) }
 {
     item.head.headers.clear();
-    let result = read_over(alloc, item, room, &piece);
+    let result = read_over(alloc, item, room, piece);
     if result.is_err() {
         item.head.headers.clear();
     }
@@ -137,25 +154,6 @@ fn read_over(
 {
     match parse_whole(piece.as_slice(), &mut room.fields) {
         Ok(spans) => read_parts_over(alloc, item, piece, spans, &room.fields[..spans.headers]),
-        Err(error) => Err(error),
-    }
-}
-
-/// The head that the piece is, with its headers in an empty map.
-#[inline(always)]
-fn read_head(
-    alloc: Global,
-    piece: &Bytes,
-    room: &mut HeadRoom,
-    headers: HeaderMap,
-) -> Result<HeadItem, ParseError>
-    requires { headers ≡ [] }
-    ensures head { IfOk result (λ item. (h : Head) × IsReading piece.now (head_is h) × SaysHead item h) }
-    ensures fault { IfErr result (λ e. UnlessNoMemory e (IsReading piece.now (faulty (fault_of e)))) }
-    ensures cause { IfErr result (λ e. UnlessNoMemory e (Refuses e piece.now)) }
-{
-    match parse_whole(piece.as_slice(), &mut room.fields) {
-        Ok(spans) => read_parts(alloc, piece, spans, &room.fields[..spans.headers], headers),
         Err(error) => Err(error),
     }
 }
@@ -226,41 +224,8 @@ fn text_error(piece: &[u8], error: ParseError) -> ParseError
     }
 }
 
-/// The head whose parts the spans cover, with its headers in an empty map.
-#[inline(always)]
-fn read_parts(
-    alloc: Global,
-    piece: &Bytes,
-    spans: RequestSpans,
-    fields: &[HeaderSpan],
-    mut headers: HeaderMap,
-) -> Result<HeadItem, ParseError>
-    requires method { IsWithin (length piece.now) spans.method }
-    requires path { IsWithin (length piece.now) spans.path }
-    requires fields { All (IsHeaderWithin (length piece.now)) fields.now }
-    requires values { All HasValue (map (header_bytes piece.now) fields.now) }
-    requires empty { headers ≡ [] }
-    ensures parts { IfOk result (λ item. AreParts (parts_at piece.now spans fields.now) (kind_of item.body)) }
-    ensures says { IfOk result (λ item. SaysHead item (head_of (parts_at piece.now spans fields.now) (kind_of item.body))) }
-    ensures refused { IfErr result (λ e. UnlessNoMemory e (RefusesParts e (parts_at piece.now spans fields.now))) }
-{
-    let method = read_method(alloc, spans.method.of(piece.as_slice()))?;
-    let target = share(piece, spans.path)?;
-    let uri = read_uri(share(piece, spans.path)?)?;
-    let (framing, body) = read_lines(
-        alloc,
-        piece,
-        fields,
-        spans.version,
-        method.as_str(),
-        &mut headers,
-    )?;
-    let mut head = RequestHead::from_parts(method, uri, read_version(spans.version), headers);
-    framing.mark(&mut head);
-    Ok(HeadItem { head, target, body })
-}
-
-/// The same, over a head without headers.
+/// Writes the head whose parts the spans cover over one without headers. The target comes last: it is large,
+/// and is written once, where it stays. Of two errors it is told before that of the lines all the same.
 #[inline(always)]
 fn read_parts_over(
     alloc: Global,
@@ -280,21 +245,26 @@ fn read_parts_over(
     ensures err { OnErr result (without_headers item.new ≡ without_headers item.old) }
 {
     let method = read_method(alloc, spans.method.of(piece.as_slice()))?;
-    let target = share(piece, spans.path)?;
-    let uri = read_uri(share(piece, spans.path)?)?;
-    let (framing, body) = read_lines(
+    let lines = read_lines(
         alloc,
         piece,
         fields,
         spans.version,
         method.as_str(),
         &mut item.head.headers,
-    )?;
-    item.head.restart(method, uri, read_version(spans.version));
-    framing.mark(&mut item.head);
-    item.target = target;
-    item.body = body;
-    Ok(())
+    );
+    match lines {
+        Ok((framing, body)) => {
+            let target = share(piece, spans.path)?;
+            put_uri(&mut item.head.uri, share(piece, spans.path)?)?;
+            item.head.restart(method, read_version(spans.version));
+            framing.mark(&mut item.head);
+            item.target = target;
+            item.body = body;
+            Ok(())
+        }
+        Err(error) => Err(lines_error(piece, spans.path, error)),
+    }
 }
 
 /// The version HTTP/1.0 or HTTP/1.1 (RFC 7230, section 2.6).
@@ -321,14 +291,35 @@ fn read_method(alloc: Global, src: &[u8]) -> Result<Method, ParseError>
     }
 }
 
-/// The request target (RFC 7230, section 5.3), which shares the memory of the bytes.
-fn read_uri(src: Bytes) -> Result<Uri, ParseError>
-    ensures spelled { IfOk result (Spells src) }
+/// Makes it the request target (RFC 7230, section 5.3), which shares the memory of the bytes.
+fn put_uri(uri: &mut Uri, src: Bytes) -> Result<(), ParseError>
+    ensures spelled { OnOk result (Spells src uri.new) }
     ensures refused { IfErr result (λ e. UnlessNoMemory e ((e ≡ ParseError.Uri) × SpellsNone src)) }
+    ensures err { OnErr result (uri.new ≡ uri.old) }
 {
     match Uri::from_shared(src) {
-        Ok(uri) => Ok(uri),
+        Ok(new) => {
+            *uri = new;
+            Ok(())
+        }
         Err(UriError::Invalid(_)) => Err(ParseError::Uri),
         Err(UriError::OutOfMemory) => Err(ParseError::NoMemory),
+    }
+}
+
+/// The error of a head whose lines are refused for this one: a target that is none is told before.
+#[cold]
+fn lines_error(piece: &Bytes, path: Span, error: ParseError) -> ParseError
+    requires { IsWithin (length piece.now) path }
+    ensures { (result ≡ ParseError.NoMemory) ⊎ (((result ≡ ParseError.Uri) × SpellsNone (span_bytes piece.now path))
+        ⊎ ((result ≡ error) × IsTarget (span_bytes piece.now path))) }
+{
+    let src = match share(piece, path) {
+        Ok(src) => src,
+        Err(error) => return error,
+    };
+    match put_uri(&mut Uri::default(), src) {
+        Ok(()) => error,
+        Err(error) => error,
     }
 }

@@ -150,17 +150,18 @@ impl Framing {
     }
 }
 
-/// What a line with this name, in lower case, is on.
+/// What a line with this name, in lower case, is on. Most names have the length of none of these, and are compared
+/// with none.
 #[tactic(auto, unfolding(crate::specs::Framing::subject_of))]
 fn subject_of(name: &str) -> Option<Subject>
     ensures { result ≡ subject_of name.now }
 {
-    match name {
-        "content-length" => Some(Subject::Length),
-        "transfer-encoding" => Some(Subject::Coding),
-        "connection" => Some(Subject::Connection),
-        "upgrade" => Some(Subject::Upgrade),
-        "expect" => Some(Subject::Expect),
+    match name.len() {
+        6 if name == "expect" => Some(Subject::Expect),
+        7 if name == "upgrade" => Some(Subject::Upgrade),
+        10 if name == "connection" => Some(Subject::Connection),
+        14 if name == "content-length" => Some(Subject::Length),
+        17 if name == "transfer-encoding" => Some(Subject::Coding),
         _ => None,
     }
 }

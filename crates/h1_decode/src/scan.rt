@@ -69,6 +69,9 @@ impl HeadScanner {
         ensures goes_on { HasScanned self.new bytes.now }
         ensures all_seen { result ≡ HeadScan.Open → self.new.scanned ≡ length bytes.now }
     {
+        if self.scanned == bytes.len() {
+            return HeadScan::Open;
+        }
         self.scan_on(bytes)
     }
 

@@ -4,11 +4,26 @@ ghost use Rattle.std.specs.Io.KnownBytes.{Consumes, Keeps, IsAtEnd};
 ghost use Rattle.http_config.specs.Causes.{Rose};
 
 use crate::ReadFromError;
+use crate::connection::READ_SIZE;
 use bytes::BytesMut;
-use http_types::Source;
+use http_types::{NoMemory, Source};
+
+// A read asks for no fewer bytes where as many are wanted.
+const LEAST_READ: usize = 1024;
+
+/// Makes room for so many more bytes. Memory is taken in blocks, in which many heads stand, each in a part of its own.
+pub fn make_room(bytes: &mut BytesMut, size: usize) -> Result<(), NoMemory>
+    ensures items { bytes.new.items ≡ bytes.old.items }
+    ensures room { OnOk result (size ≤ bytes.new.spare) }
+{
+    if size <= bytes.capacity() - bytes.len() {
+        return Ok(());
+    }
+    bytes.reserve(size.max(READ_SIZE))
+}
 
 /// One read of at most so many bytes, which come to stand behind those of the buffer. None is copied, and the room for
-/// them isn't cleared before.
+/// them isn't cleared before. What is left of a block is read into first, unless that is little.
 pub fn read_behind<S: Source>(
     bytes: &mut BytesMut,
     source: &mut S,
@@ -26,7 +41,8 @@ pub fn read_behind<S: Source>(
     ensures err { OnErr result (bytes.new.items ≡ bytes.old.items) }
 {
     let len = bytes.len();
-    bytes.reserve(size)?;
+    make_room(bytes, size.min(LEAST_READ))?;
+    let size = size.min(bytes.capacity() - len);
     bytes.advance_mut(size);
     match source.read(&mut bytes.as_mut_slice()[len..]) {
         Ok(count) => {

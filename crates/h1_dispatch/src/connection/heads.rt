@@ -20,9 +20,8 @@ use crate::connection::exchange::{Exchange, Reply};
 use crate::connection::parts::Parts;
 use crate::connection::request::Request;
 use crate::{End, HeadFault};
-use bytes::Bytes;
 use h1_codec::Asked;
-use h1_decode::{HeadItem, HeadRoom, read_head_into, request_head};
+use h1_decode::{HeadItem, HeadRoom};
 use h1_payload::Rest;
 use http_types::{NoMemory, ParseError, ServiceConfig};
 use std::alloc::{AllocError, Global};
@@ -72,12 +71,12 @@ impl Parts {
             self.is_over = true;
             return Ok(NextHead::Closed(end));
         }
-        match self.input.head()? {
-            Some(head) => self.read_head(alloc, config, head),
-            None => match self.go_without(config)? {
-                Some(fault) => Ok(NextHead::Fault(fault)),
-                None => Ok(NextHead::Pending),
-            },
+        if self.input.is_coming() {
+            return self.read_head(alloc, config);
+        }
+        match self.go_without(config)? {
+            Some(fault) => Ok(NextHead::Fault(fault)),
+            None => Ok(NextHead::Pending),
         }
     }
 
@@ -101,12 +100,12 @@ impl Parts {
             self.is_over = true;
             return Ok(NextKind::Closed(end));
         }
-        match self.input.head()? {
-            Some(head) => self.read_over(alloc, config, head, item, room),
-            None => match self.go_without(config)? {
-                Some(fault) => Ok(NextKind::Fault(fault)),
-                None => Ok(NextKind::Pending),
-            },
+        if self.input.is_coming() {
+            return self.read_over(alloc, config, item, room);
+        }
+        match self.go_without(config)? {
+            Some(fault) => Ok(NextKind::Fault(fault)),
+            None => Ok(NextKind::Pending),
         }
     }
 
@@ -128,25 +127,20 @@ impl Parts {
     }
 
     // Hands out the head that was found.
-    fn read_head(
-        &mut self,
-        alloc: Global,
-        config: &ServiceConfig,
-        head: Bytes,
-    ) -> Result<NextHead, NoMemory>
+    fn read_head(&mut self, alloc: Global, config: &ServiceConfig) -> Result<NextHead, NoMemory>
         requires sound { IsSound config.now self.old }
         requires runs { closing_by (setting_of config.now) (kept_of self.old) ≡ None }
-        requires found { IsHeadOf self.old.input (Some head) }
+        requires found { IsWhole self.old.input }
         ensures ok { IfOk result (λ next. IsHeld config.now self.old → IsNexted config.now self.old next self.new) }
         ensures sound { OnOk result (IsSound config.now self.new) }
         ensures err { OnErr result (self.new ≡ self.old) }
     {
-        match request_head(alloc, head) {
-            Ok(item) => {
-                self.hand_out(config, &item);
-                Ok(NextHead::Head(item))
-            }
-            Err(error) => Ok(NextHead::Fault(self.refuse_by(config, error)?)),
+        let mut item = HeadItem::new(alloc);
+        match self.read_over(alloc, config, &mut item, &mut HeadRoom::new())? {
+            NextKind::Head => Ok(NextHead::Head(item)),
+            NextKind::Fault(fault) => Ok(NextHead::Fault(fault)),
+            NextKind::Pending => Ok(NextHead::Pending),
+            NextKind::Closed(end) => Ok(NextHead::Closed(end)),
         }
     }
 
@@ -155,20 +149,19 @@ impl Parts {
         &mut self,
         alloc: Global,
         config: &ServiceConfig,
-        head: Bytes,
         item: &mut HeadItem,
         room: &mut HeadRoom,
     ) -> Result<NextKind, NoMemory>
         requires sound { IsSound config.now self.old }
         requires runs { closing_by (setting_of config.now) (kept_of self.old) ≡ None }
-        requires found { IsHeadOf self.old.input (Some head) }
+        requires found { IsWhole self.old.input }
         ensures ok { IfOk result (λ kind. IsHeld config.now self.old → IsNexted config.now self.old (with_head item.new kind) self.new) }
         ensures sound { OnOk result (IsSound config.now self.new) }
         ensures item { IfOk result (λ kind. KeepsItem true kind item.old item.new) }
         ensures err { OnErr result (self.new ≡ self.old) }
         ensures kept_item { OnErr result (item.new ≡ without_headers item.old) }
     {
-        match read_head_into(alloc, item, room, head) {
+        match self.input.read_head(alloc, item, room) {
             Ok(()) => {
                 self.hand_out(config, item);
                 Ok(NextKind::Head)

@@ -1,7 +1,11 @@
 // What a connection holds of its input: the bytes that were read and not passed, and the search for a head among them.
-ghost use Rattle.std.specs.Prelude.{◌≡◌, ◌≢◌, ◌≤◌, ◌-◌, ◌++◌, ◌⊎◌, ◌↔◌, ℕ, List, [], length, take, drop, min, true, false, is_some, IfOk, IfErr, IsOk, OnOk, OnErr, IsErrOf};
+ghost use Rattle.std.specs.Prelude.{◌≡◌, ◌≢◌, ◌≤◌, ◌-◌, ◌++◌, ◌⊎◌, ◌↔◌, ℕ, List, [], Some, length, take, drop, slice_range, min, true, false, is_some, IfOk, IfErr, IsOk, OnOk, OnErr, IsErrOf};
 ghost use Rattle.std.specs.Io.KnownBytes.{Consumes, Keeps, IsAtEnd};
 ghost use Rattle.http_config.specs.Causes.{Rose};
+ghost use Rattle.h1_decode.specs.HeadItem.{SaysHead, without_headers};
+ghost use Rattle.h1_decode.specs.Refusal.{UnlessNoMemory, fault_of};
+ghost use Rattle.h1_model.specs.Request.{Head, head_is, faulty};
+ghost use Rattle.h1_model.specs.RequestHead.{IsReading};
 ghost use Rattle.h1_machine.specs.Kept.{rest_in};
 ghost use Rattle.h1_machine.specs.Body.{pass_rest};
 ghost use Rattle.h1_machine.specs.Pull.{IsPull};
@@ -11,11 +15,11 @@ ghost use Rattle.h1_dispatch.specs.Incoming.{is_coming_in, IsFound, IsWhole, IsH
 
 use crate::ReadFromError;
 use crate::connection::READ_SIZE;
-use crate::connection::filling::read_behind;
+use crate::connection::filling::{make_room, read_behind};
 use bytes::{Bytes, BytesMut};
-use h1_decode::{HeadScan, HeadScanner};
+use h1_decode::{HeadItem, HeadRoom, HeadScan, HeadScanner, read_head_into};
 use h1_payload::{Pulled, Rest};
-use http_types::{NoMemory, Source};
+use http_types::{NoMemory, ParseError, Source};
 use std::alloc::Global;
 use std::marker::Model;
 
@@ -92,7 +96,8 @@ impl Input {
     {
         let held = self.front.len() + self.bytes.len();
         let count = bytes.len().min(limit.saturating_sub(held));
-        self.bytes.extend_from_slice(&bytes[..count])?;
+        make_room(&mut self.bytes, count)?;
+        self.bytes.extend_reserved(&bytes[..count]);
         self.search = continued(self.search, self.bytes.as_slice());
         Ok(count)
     }
@@ -145,21 +150,34 @@ impl Input {
         }
     }
 
-    /// The head that was found, if one was. It shares the memory of its bytes, which stay.
-    pub fn head(&mut self) -> Result<Option<Bytes>, NoMemory>
+    /// Reads the head that was found over another one, which shares the memory of its bytes. They stay. After an error
+    /// the other one is as it was, but without headers.
+    pub fn read_head(
+        &mut self,
+        alloc: Global,
+        item: &mut HeadItem,
+        room: &mut HeadRoom,
+    ) -> Result<(), ParseError>
+        requires { IsWhole self.old }
         ensures same { self.new ≡ self.old }
-        ensures head { IfOk result (λ head. IsHeadOf self.old head) }
-        ensures no_memory_needed { is_coming_in self.old.piece ≡ false → IsOk result }
+        ensures head { OnOk result ((head : List ℕ) × IsHeadOf self.old (Some head) × ((h : Head) × IsReading head (head_is h) × SaysHead item.new h)) }
+        ensures fault { IfErr result (λ e. UnlessNoMemory e ((head : List ℕ) × IsHeadOf self.old (Some head) × IsReading head (faulty (fault_of e)))) }
+        ensures err { OnErr result (item.new ≡ without_headers item.old) }
     {
         let Some(search) = self.search else {
-            return Ok(None);
+            return Ok(());
         };
         let HeadScan::Piece(start, end) = search.piece else {
-            return Ok(None);
+            return Ok(());
         };
-        cut(&mut self.front, &mut self.bytes, end)?;
-        let head = self.front.slice(start..end)?;
-        Ok(Some(head))
+        if cut(&mut self.front, &mut self.bytes, end).is_err() {
+            item.head.headers.clear();
+            return Err(ParseError::NoMemory);
+        }
+        if start > 0 {
+            return read_behind_blank_lines(alloc, item, room, &self.front, start);
+        }
+        read_head_into(alloc, item, room, &self.front)
     }
 
     /// Passes the head that was found. No other is searched for.
@@ -228,6 +246,29 @@ fn cut(front: &mut Bytes, bytes: &mut BytesMut, end: usize) -> Result<(), NoMemo
         *front = bytes.freeze_to(end)?;
     }
     Ok(())
+}
+
+// Reads the head that begins there, and fills the rest of the bytes. It is out of the way of those that nothing stands before.
+#[inline(never)]
+fn read_behind_blank_lines(
+    alloc: Global,
+    item: &mut HeadItem,
+    room: &mut HeadRoom,
+    bytes: &Bytes,
+    start: usize,
+) -> Result<(), ParseError>
+    requires { start ≤ length bytes.now }
+    ensures head { OnOk result ((h : Head) × IsReading (slice_range bytes.now start (length bytes.now)) (head_is h) × SaysHead item.new h) }
+    ensures fault { IfErr result (λ e. UnlessNoMemory e (IsReading (slice_range bytes.now start (length bytes.now)) (faulty (fault_of e)))) }
+    ensures err { OnErr result (item.new ≡ without_headers item.old) }
+{
+    match bytes.slice(start..bytes.len()) {
+        Ok(head) => read_head_into(alloc, item, room, &head),
+        Err(_) => {
+            item.head.headers.clear();
+            Err(ParseError::NoMemory)
+        }
+    }
 }
 
 // The search behind more bytes. A head that was found stays the next.

@@ -66,18 +66,17 @@ impl RequestHead {
         }
     }
 
-    /// Makes it the head of another request: with these parts and the headers that are there, from an
-    /// unknown peer and with no marks.
-    pub fn restart(&mut self, method: Method, uri: Uri, version: Version)
+    /// Makes it the head of another request: with this method and version, with the target and the headers that are
+    /// there, from an unknown peer and with no marks.
+    pub fn restart(&mut self, method: Method, version: Version)
         ensures method { self.new.method ≡ method }
-        ensures uri { self.new.uri ≡ uri }
+        ensures uri { self.new.uri ≡ self.old.uri }
         ensures version { self.new.version ≡ version }
         ensures headers { self.new.headers ≡ self.old.headers }
         ensures peer { self.new.peer_addr ≡ None }
         ensures flags { request_flags self.new ≡ no_flags }
     {
         self.method = method;
-        self.uri = uri;
         self.version = version;
         self.peer_addr = None;
         self.flags = Flags::EMPTY;
