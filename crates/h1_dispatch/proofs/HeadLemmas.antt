@@ -55,6 +55,15 @@ none_coming i (Some (Piece start end)) is = absurd (cc is.1)
 pub not_coming : (i : Incoming) → IsHeadOf i None → is_coming_in i.piece ≡ false
 not_coming i is = none_coming i i.piece is
 
+-- and where none is coming none is found
+found_none : (i : Incoming) (piece : Option HeadScan) → is_coming_in piece ≡ false → IsHeadIn i piece None
+found_none i None is = refl
+found_none i (Some Open) is = refl
+found_none i (Some (Piece start end)) is = absurd (cc is)
+
+pub none_found : (i : Incoming) → is_coming_in i.piece ≡ false → IsHeadOf i None
+none_found i is = found_none i i.piece is
+
 -- ---- the connection's end
 
 pub closed_sound : (s : Settings) (p : Parts) → IsSound s p → IsSound s (record p { is_over = true })
@@ -256,3 +265,10 @@ asked_by piece item h a is_head is_raw kind reading says is head raw connection 
 pub next_same : (s : Settings) (p : Parts) (i : Incoming) (q : Parts) (answer : NextHead) → i ≡ p.input
     → (IsHeld s (record p { input = i }) → IsNexted s (record p { input = i }) answer q) → IsHeld s p → IsNexted s p answer q
 next_same s p i q answer same nexted = subst (λ (j : Incoming). IsHeld s (record p { input = j }) → IsNexted s (record p { input = j }) answer q) same nexted
+
+pub runs_same : (s : Settings) (p : Parts) (i : Incoming) → i ≡ p.input → closing_by (setting_of s) (kept_of p) ≡ None
+    → closing_by (setting_of s) (kept_of (record p { input = i })) ≡ None
+runs_same s p i same runs = subst (λ (j : Incoming). closing_by (setting_of s) (kept_of (record p { input = j })) ≡ None) (sym same) runs
+
+pub found_same : (p : Parts) (i : Incoming) (head : List ℕ) → i ≡ p.input → IsHeadOf p.input (Some head) → IsHeadOf i (Some head)
+found_same p i head same found = subst (λ (j : Incoming). IsHeadOf j (Some head)) (sym same) found

@@ -1,6 +1,7 @@
 -- The search for a head in the bytes that are held.
 use Rattle.std.proofs.lemmas.Grind.{common_steps}
-use Rattle.std.proofs.Common.{◌≡◌, ℕ, ◌≤◌, false, List, [], ◌∷◌, ◌++◌, length, take, Option, Some, None, inl, inr, refl, sym, ap, ◌∙◌, subst, arith, append-nil, append_assoc}
+use Rattle.std.proofs.lemmas.List.{take_all}
+use Rattle.std.proofs.Common.{◌≡◌, ℕ, zero, suc, ◌≤◌, ◌-◌, false, List, [], ◌∷◌, ◌++◌, length, take, Option, Some, None, inl, inr, refl, sym, ap, ◌∙◌, subst, arith, append-nil, append_assoc}
 use Rattle.std.specs.Prelude.{option_map, is_some, slice_range, ◌⊎◌}
 use Rattle.h1_model.specs.HeadPiece.{IsHeadPiece, HasNoHeadPiece}
 use Rattle.bytes.proofs.Ranges.{slice_range_front}
@@ -130,6 +131,20 @@ head_found front bytes cut head i search s start end view there found searched c
     head_is ∙ ap (λ (l : List ℕ). slice_range l start end) cut_is ∙ taken_slice (front ++ bytes) start end in
     subst (λ (j : Incoming). IsHeadOf j (Some head)) view
     (subst (λ (o : Option HeadScan). IsHeadIn all o (Some head)) (sym piece) (was.0, ap (λ (l : List ℕ). Some l) slice))
+
+-- what was cut off, from its start on
+pub head_at : (front bytes cut head : List ℕ) (i : Incoming) (search : Option Search) (s : Search) (start end : ℕ)
+    → record { unread = front ++ bytes; piece = option_map piece_of search } ≡ i → search ≡ Some s → s.piece ≡ Piece start end
+    → IsSearched front bytes search → cut ≡ take end (front ++ bytes) → head ≡ slice_range cut start (length cut) → IsHeadOf i (Some head)
+head_at front bytes cut head i search s start end view there found searched cut_is head_is =
+    let was = piece_searched front bytes search s start end there found searched in
+    let long : length cut ≡ end = ap length cut_is ∙ take_length end (front ++ bytes) was.0.in_range in
+    head_found front bytes cut head i search s start end view there found searched cut_is (head_is ∙ ap (λ (n : ℕ). slice_range cut start n) long)
+
+-- which is all of it where no blank line stands before
+pub from_start : (cut : List ℕ) (start : ℕ) → start ≤ 0 → cut ≡ slice_range cut start (length cut)
+from_start cut zero none = sym (take_all (length cut - 0) cut (omega arith))
+from_start cut (suc n) none = absurd (omega (arith, none))
 
 -- where nothing was cut off all is as before
 pub same_searched : (front bytes cut rest : List ℕ) (search : Option Search) → cut ≡ front → rest ≡ bytes → IsSearched front bytes search → IsSearched cut rest search

@@ -170,10 +170,10 @@ impl Input {
         let HeadScan::Piece(start, end) = search.piece else {
             return Ok(());
         };
-        if cut(&mut self.front, &mut self.bytes, end).is_err() {
+        let Ok(()) = cut(&mut self.front, &mut self.bytes, end) else {
             item.head.headers.clear();
             return Err(ParseError::NoMemory);
-        }
+        };
         if start > 0 {
             return read_behind_blank_lines(alloc, item, room, &self.front, start);
         }
@@ -262,13 +262,11 @@ fn read_behind_blank_lines(
     ensures fault { IfErr result (λ e. UnlessNoMemory e (IsReading (slice_range bytes.now start (length bytes.now)) (faulty (fault_of e)))) }
     ensures err { OnErr result (item.new ≡ without_headers item.old) }
 {
-    match bytes.slice(start..bytes.len()) {
-        Ok(head) => read_head_into(alloc, item, room, &head),
-        Err(_) => {
-            item.head.headers.clear();
-            Err(ParseError::NoMemory)
-        }
-    }
+    let Ok(head) = bytes.slice(start..bytes.len()) else {
+        item.head.headers.clear();
+        return Err(ParseError::NoMemory);
+    };
+    read_head_into(alloc, item, room, &head)
 }
 
 // The search behind more bytes. A head that was found stays the next.

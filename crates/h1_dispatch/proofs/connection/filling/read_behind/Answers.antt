@@ -29,10 +29,10 @@ returns-in-Ok-clause-read g c =
     let got = c.read.new.buf in
     let old = c.args.bytes.now.items in
     let lent : all ≡ grown = c.as_mut_slice.ensures.value in
-    let kept : length c.reserve.new.self.items ≡ len = ap length c.reserve.ensures.items ∙ sym c.len-len.ensures.value in
-    let long : length all ≡ len + c.args.size = ap length lent ∙ c.advance_mut.ensures.len ∙ ap (λ (k : ℕ). k + c.args.size) kept in
+    let kept : length c.make_room.new.bytes.items ≡ len = ap length c.make_room.ensures.items ∙ sym c.len-len.ensures.value in
+    let long : length all ≡ len + c.min-size.result = ap length lent ∙ c.advance_mut.ensures.len ∙ ap (λ (k : ℕ). k + c.min-size.result) kept in
     let front : take len all ≡ old =
-    ap (λ (l : List ℕ). take len l) lent ∙ ap (λ (k : ℕ). take k grown) (sym kept) ∙ c.advance_mut.ensures.front ∙ c.reserve.ensures.items in
+    ap (λ (l : List ℕ). take len l) lent ∙ ap (λ (k : ℕ). take k grown) (sym kept) ∙ c.advance_mut.ensures.front ∙ c.make_room.ensures.items in
     let room : length got ≡ length all - len = search (rules, places) in (
       take n got,
       sym c.in-Ok.ensures.bound.1,

@@ -1,16 +1,20 @@
-use Rattle.std.proofs.Common.{sym, subst}
-use Rattle.h1_model.specs.Request.{Fault, faulty}
-use Rattle.h1_model.specs.RequestHead.{IsReading}
-use Rattle.h1_dispatch.proofs.HeadLemmas.{head_steps, found_steps}
+use Rattle.std.proofs.Common.{subst}
+use Rattle.h1_dispatch.specs.Heads.{with_head, IsNexted}
+use Rattle.h1_dispatch.specs.declared.connection.heads.NextKind.{NextKind}
 use Rattle.h1_dispatch.proofs.connection.parts.Parts.read_head.Goals as goal
 
-pub returns-in-Ok-clause-ok : goal.returns-in-Ok-clause-ok
-returns-in-Ok-clause-ok c = λ held.
-    let read = c.in-Ok.ensures.head in
-    head_steps c.args.config.now c.args.self.now _ c.args.head c.in-Ok.item read.0 c.requires.runs c.requires.found read.1 read.2 c.hand_out.ensures.handed held
+pub returns-in-Head-clause-ok : goal.returns-in-Head-clause-ok
+returns-in-Head-clause-ok c = λ held.
+    subst (λ (k : NextKind). IsNexted c.args.config.now c.args.self.now (with_head c.read_over.new.item k) c.read_over.new.self) c.in-Head.is (c.in_ok-read_over.ensures.ok held)
 
-pub returns-in_ok-refuse_by-in-Err-clause-ok : goal.returns-in_ok-refuse_by-in-Err-clause-ok
-returns-in_ok-refuse_by-in-Err-clause-ok c = λ held.
-    let cause = c.in_ok-refuse_by-in-Err.ensures.cause in
-    found_steps c.args.config.now c.args.self.now _ c.args.head c.in_ok-refuse_by-in-Err.field-0 c.requires.runs c.requires.found
-    (subst (λ (f : Fault). IsReading c.args.head (faulty f)) (sym cause.1) (c.in-Err.ensures.fault cause.0)) c.in_ok-refuse_by-in-Err.ensures.ok held
+pub returns-in-Fault-clause-ok : goal.returns-in-Fault-clause-ok
+returns-in-Fault-clause-ok c = λ held.
+    subst (λ (k : NextKind). IsNexted c.args.config.now c.args.self.now (with_head c.read_over.new.item k) c.read_over.new.self) c.in-Fault.is (c.in_ok-read_over.ensures.ok held)
+
+pub returns-in-Pending-clause-ok : goal.returns-in-Pending-clause-ok
+returns-in-Pending-clause-ok c = λ held.
+    subst (λ (k : NextKind). IsNexted c.args.config.now c.args.self.now (with_head c.read_over.new.item k) c.read_over.new.self) c.in-Pending.is (c.in_ok-read_over.ensures.ok held)
+
+pub returns-in-Closed-clause-ok : goal.returns-in-Closed-clause-ok
+returns-in-Closed-clause-ok c = λ held.
+    subst (λ (k : NextKind). IsNexted c.args.config.now c.args.self.now (with_head c.read_over.new.item k) c.read_over.new.self) c.in-Closed.is (c.in_ok-read_over.ensures.ok held)
