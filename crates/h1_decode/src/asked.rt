@@ -26,7 +26,8 @@ impl HeadItem {
     pub fn is_head(&self) -> bool
         ensures { (h : Head) → SaysHead self.now h → result ≡ (asked_of h).is_head }
     {
-        self.head.method.as_str() == "HEAD"
+        let method = self.head.method.as_str();
+        method.len() == 4 && method == "HEAD"
     }
 
     /// Whether the body is raw: all that follows the head.

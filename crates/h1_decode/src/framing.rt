@@ -173,7 +173,7 @@ fn kind_of_length(length: Option<u64>, version: u8, method: &str) -> Option<Body
     match length {
         Some(length) if length > 0 => Some(BodyKind::Length(length)),
         None if version == 0 && method == "POST" => None,
-        _ if method == "CONNECT" => Some(BodyKind::Raw),
+        _ if method.len() == 7 && method == "CONNECT" => Some(BodyKind::Raw),
         _ => Some(BodyKind::None),
     }
 }

@@ -51,7 +51,7 @@ mod show;
 mod steps;
 mod ticks;
 
-/// The most bytes that one read from a source asks for.
+/// The most bytes that one read from a source asks for. The memory of what is read is taken in blocks of so many bytes.
 pub const READ_SIZE: usize = 8192;
 
 /// The server's side of one HTTP/1 connection (RFC 7230), which reads nothing and writes nothing itself.
@@ -135,8 +135,8 @@ impl Connection {
     }
 
     /// Reads bytes from the source, straight into the memory where they are held, and says how many: the read of exactly
-    /// those bytes, of which all are taken. It asks once, for as many as there is room for and at most `READ_SIZE`. 0
-    /// says that the source has ended, and changes nothing: `eof` tells it to the connection.
+    /// those bytes, of which all are taken. It asks once, for at most `READ_SIZE` bytes, and for no fewer than 1024 where
+    /// as many may be held. 0 says that the source has ended, and changes nothing: `eof` tells it to the connection.
     ///
     /// `ReadFromError::Full` comes where as many bytes are held as may be, `Failed` where the source failed, and else
     /// `NoMemory`. The source was asked where it failed alone.
