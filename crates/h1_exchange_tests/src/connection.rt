@@ -91,19 +91,34 @@ fn is_served(
     Ok(kind == NextKind::Head && item.target.as_slice() == target)
 }
 
+// Whether two requests of one source are served, the first with all pieces of its answer.
+fn are_served(
+    alloc: Global,
+    connection: &mut Connection,
+    item: &mut HeadItem,
+) -> Result<bool, ReadFromError> {
+    let mut source = SureSource::new(Bytes::from_static(TWO_REQUESTS));
+    let first = is_served(alloc, connection, &mut source, item, b"/a")?;
+    let is_written = connection.front().ends_with(b"\r\n\r\nabc");
+    let second = is_served(alloc, connection, &mut source, item, b"/c")?;
+    Ok(first && is_written && second)
+}
+
+// A head to be written over.
+fn blank(alloc: Global) -> HeadItem {
+    HeadItem {
+        head: RequestHead::new(alloc),
+        target: Bytes::new(),
+        body: BodyKind::None,
+    }
+}
+
 #[test]
 fn heads_from_a_source_are_written_over_one_another(rt: HostRuntime) -> Result<(), Fail> {
     let alloc = rt.alloc();
     let mut connection = Connection::new(alloc, ServiceConfigBuilder::new().build());
-    let mut source = SureSource::new(Bytes::from_static(TWO_REQUESTS));
-    let mut item = HeadItem {
-        head: RequestHead::new(alloc),
-        target: Bytes::new(),
-        body: BodyKind::None,
-    };
-    assert!(rt; is_served(alloc, &mut connection, &mut source, &mut item, b"/a")?);
-    assert!(rt; connection.front().ends_with(b"\r\n\r\nabc"));
-    assert!(rt; is_served(alloc, &mut connection, &mut source, &mut item, b"/c")?);
+    let mut item = blank(alloc);
+    assert!(rt; are_served(alloc, &mut connection, &mut item)?);
     Ok(())
 }
 
