@@ -12,7 +12,7 @@ use std::alloc::Global;
 use std::test::Fail;
 
 // A request, its answer's status and size, a piece of the body, and what is written.
-#[derive(Clone, Copy, Debug)]
+#[derive(Clone, Copy)]
 struct Row {
     version: Version,
     is_head: bool,
@@ -135,14 +135,26 @@ fn asked_by(version: Version, is_head: bool) -> Asked {
     Asked::new(version, is_head, false, connection)
 }
 
+fn is_written(alloc: Global, row: &Row) -> Result<bool, NoMemory> {
+    let head = ResponseHead::new(alloc, row.status);
+    let asked = asked_by(row.version, row.is_head);
+    let text = written(alloc, asked, &head, row.size, row.piece)?;
+    Ok(text.as_slice() == row.text)
+}
+
 #[test]
 fn answers_are_written(rt: HostRuntime) -> Result<(), Fail> {
     for row in &ROWS {
-        let head = ResponseHead::new(rt.alloc(), row.status);
-        let asked = asked_by(row.version, row.is_head);
-        let text = written(rt.alloc(), asked, &head, row.size, row.piece)?;
-        assert!(rt; text.as_slice() == row.text);
+        assert!(rt; is_written(rt.alloc(), row)?);
     }
+    Ok(())
+}
+
+fn put_header(alloc: Global, head: &mut ResponseHead, pair: (&str, &str)) -> Result<(), Fail> {
+    let (name, value) = pair;
+    let name = HeaderName::from_bytes(alloc, name.as_bytes())?;
+    let value = value_of_bytes(alloc, value.as_bytes())?;
+    head.headers.append(name, value)?;
     Ok(())
 }
 
@@ -153,70 +165,73 @@ fn head_of(
     pairs: &[(&str, &str)],
 ) -> Result<ResponseHead, Fail> {
     let mut head = ResponseHead::new(alloc, status);
-    for (name, value) in pairs {
-        let name = HeaderName::from_bytes(alloc, name.as_bytes())?;
-        let value = value_of_bytes(alloc, value.as_bytes())?;
-        head.headers.append(name, value)?;
+    for pair in pairs {
+        put_header(alloc, &mut head, *pair)?;
     }
     Ok(head)
 }
 
 // Headers go name by name. A connection header is dropped; so is one that frames a body, but for a 304.
+static PAIRS: [(&str, &str); 6] = [
+    ("b", "1"),
+    ("connection", "close"),
+    ("content-length", "5"),
+    ("a", ""),
+    ("b", "2"),
+    ("date", "now"),
+];
+
+const HEADED: [(StatusCode, &[u8]); 2] = [
+    (
+        StatusCode::OK,
+        b"HTTP/1.1 200 OK\r\ncontent-length: 0\r\nb: 1\r\nb: 2\r\na: \r\ndate: now\r\n\r\n",
+    ),
+    (
+        StatusCode::NOT_MODIFIED,
+        b"HTTP/1.1 304 Not Modified\r\nb: 1\r\nb: 2\r\ncontent-length: 5\r\na: \r\ndate: now\r\n\r\n",
+    ),
+];
+
+// Whether this is written of an answer without a body to a GET of HTTP/1.1.
+fn is_written_of(alloc: Global, head: &ResponseHead, want: &[u8]) -> Result<bool, NoMemory> {
+    let asked = asked_by(Version::HTTP_11, false);
+    let text = written(alloc, asked, head, BodySize::ZERO, b"")?;
+    Ok(text.as_slice() == want)
+}
+
 #[test]
 fn headers_are_written(rt: HostRuntime) -> Result<(), Fail> {
-    let pairs = [
-        ("b", "1"),
-        ("connection", "close"),
-        ("content-length", "5"),
-        ("a", ""),
-        ("b", "2"),
-        ("date", "now"),
-    ];
-    let rows: [(StatusCode, &[u8]); 2] = [
-        (
-            StatusCode::OK,
-            b"HTTP/1.1 200 OK\r\ncontent-length: 0\r\nb: 1\r\nb: 2\r\na: \r\ndate: now\r\n\r\n",
-        ),
-        (
-            StatusCode::NOT_MODIFIED,
-            b"HTTP/1.1 304 Not Modified\r\nb: 1\r\nb: 2\r\ncontent-length: 5\r\na: \r\ndate: now\r\n\r\n",
-        ),
-    ];
-    for (status, want) in rows {
-        let head = head_of(rt.alloc(), status, &pairs)?;
-        let asked = asked_by(Version::HTTP_11, false);
-        let text = written(rt.alloc(), asked, &head, BodySize::ZERO, b"")?;
-        assert!(rt; text.as_slice() == want);
+    for (status, want) in &HEADED {
+        let head = head_of(rt.alloc(), *status, &PAIRS)?;
+        assert!(rt; is_written_of(rt.alloc(), &head, want)?);
     }
     Ok(())
 }
 
 #[test]
 fn names_are_written_in_camel_case(rt: HostRuntime) -> Result<(), Fail> {
-    let mut head = head_of(
-        rt.alloc(),
-        StatusCode::OK,
-        &[("a--b", "1"), ("x-frame-options", "y")],
-    )?;
+    let pairs = [("a--b", "1"), ("x-frame-options", "y")];
+    let mut head = head_of(rt.alloc(), StatusCode::OK, &pairs)?;
     head.set_camel_case_headers(true);
     head.set_connection_type(ConnectionType::Close);
-    let asked = asked_by(Version::HTTP_11, false);
-    let text = written(rt.alloc(), asked, &head, BodySize::ZERO, b"")?;
-    assert!(rt;
-        text.as_slice()
-            == b"HTTP/1.1 200 OK\r\nContent-Length: 0\r\nConnection: close\r\nA--b: 1\r\nX-Frame-Options: y\r\nDate: Thu, 01 Jan 1970 00:00:00 GMT\r\n\r\n".as_slice()
-    );
+    let want =
+        b"HTTP/1.1 200 OK\r\nContent-Length: 0\r\nConnection: close\r\nA--b: 1\r\nX-Frame-Options: y\r\nDate: Thu, 01 Jan 1970 00:00:00 GMT\r\n\r\n";
+    assert!(rt; is_written_of(rt.alloc(), &head, want)?);
     Ok(())
+}
+
+fn put_texts(out: &mut BytesMut) -> Result<(), NoMemory> {
+    let mut date = DateLine::new();
+    put_interim(out)?;
+    put_bad_request(out, &mut date, 999)?;
+    put_too_large(out, &mut date, 0)?;
+    put_timeout(out, &mut date, 5000)
 }
 
 #[test]
 fn texts_without_an_answer_are_written(rt: HostRuntime) -> Result<(), Fail> {
-    let mut date = DateLine::new();
     let mut out = BytesMut::new(rt.alloc());
-    put_interim(&mut out)?;
-    put_bad_request(&mut out, &mut date, 999)?;
-    put_too_large(&mut out, &mut date, 0)?;
-    put_timeout(&mut out, &mut date, 5000)?;
+    put_texts(&mut out)?;
     assert!(rt;
         out.as_slice()
             == b"HTTP/1.1 100 Continue\r\n\r\n\
@@ -228,12 +243,16 @@ HTTP/1.1 408 Request Timeout\r\ncontent-length: 0\r\nconnection: close\r\ndate: 
     Ok(())
 }
 
+fn put_lines(out: &mut BytesMut) -> Result<(), NoMemory> {
+    write_content_length(0, out, false)?;
+    write_date_header(0, out, false)?;
+    write_date_header(784111777000, out, true)
+}
+
 #[test]
 fn lines_are_written(rt: HostRuntime) -> Result<(), Fail> {
     let mut out = BytesMut::new(rt.alloc());
-    write_content_length(0, &mut out, false)?;
-    write_date_header(0, &mut out, false)?;
-    write_date_header(784111777000, &mut out, true)?;
+    put_lines(&mut out)?;
     assert!(rt;
         out.as_slice()
             == b"\r\ncontent-length: 0\r\ndate: Thu, 01 Jan 1970 00:00:00 GMT\r\nDate: Sun, 06 Nov 1994 08:49:37 GMT\r\n".as_slice()
@@ -241,16 +260,21 @@ fn lines_are_written(rt: HostRuntime) -> Result<(), Fail> {
     Ok(())
 }
 
+// A body in chunks, its end twice, and a piece behind it: whether the first piece and the last were the body's end.
+fn put_chunks(out: &mut BytesMut) -> Result<(bool, bool), EncodeError> {
+    let mut body = TransferEncoding::chunked();
+    let first = body.encode(b"test", out)?;
+    body.encode_eof(out)?;
+    body.encode_eof(out)?;
+    let last = body.encode(b"more", out)?;
+    Ok((first, last))
+}
+
 #[test]
 fn chunks_are_encoded(rt: HostRuntime) -> Result<(), Fail> {
     let mut out = BytesMut::new(rt.alloc());
-    let mut body = TransferEncoding::chunked();
-    let complete = body.encode(b"test", &mut out)?;
-    assert!(rt; !complete);
-    body.encode_eof(&mut out)?;
-    body.encode_eof(&mut out)?;
-    let complete = body.encode(b"more", &mut out)?;
-    assert!(rt; complete && out.as_slice() == b"4\r\ntest\r\n0\r\n\r\n".as_slice());
+    let (first, last) = put_chunks(&mut out)?;
+    assert!(rt; !first && last && out.as_slice() == b"4\r\ntest\r\n0\r\n\r\n".as_slice());
     Ok(())
 }
 
@@ -264,24 +288,21 @@ fn a_short_body_is_told(rt: HostRuntime) -> Result<(), Fail> {
     Ok(())
 }
 
+// A message with a body of one chunk: whether the chunk was the body's end.
+fn put_message(out: &mut BytesMut, head: &ResponseHead) -> Result<bool, EncodeError> {
+    let mut encoder: MessageEncoder<ResponseHead> = MessageEncoder::new();
+    let (size, kind) = (BodySize::Stream, ConnectionType::KeepAlive);
+    encoder.encode(out, head, false, false, Version::HTTP_11, size, kind, 0)?;
+    let complete = encoder.encode_chunk(&[b'x'; 26], out)?;
+    encoder.encode_eof(out)?;
+    Ok(complete)
+}
+
 #[test]
 fn a_message_is_encoded(rt: HostRuntime) -> Result<(), Fail> {
     let mut out = BytesMut::new(rt.alloc());
     let head = ResponseHead::new(rt.alloc(), StatusCode::OK);
-    let mut encoder: MessageEncoder<ResponseHead> = MessageEncoder::new();
-    let (size, kind) = (BodySize::Stream, ConnectionType::KeepAlive);
-    encoder.encode(
-        &mut out,
-        &head,
-        false,
-        false,
-        Version::HTTP_11,
-        size,
-        kind,
-        0,
-    )?;
-    let complete = encoder.encode_chunk(&[b'x'; 26], &mut out)?;
-    encoder.encode_eof(&mut out)?;
+    let complete = put_message(&mut out, &head)?;
     assert!(rt;
         !complete
             && out.as_slice()

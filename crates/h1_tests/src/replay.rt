@@ -3,7 +3,6 @@ use bytes::Bytes;
 use h1_replay::run;
 use http_types::{MemSink, MemSource, Sink, Source, SureSink, SureSource};
 use std::alloc::{AllocError, Global};
-use std::process::Abort;
 use std::test::Fail;
 
 const CONFIG: &str = "config 5000 5000 0 1 32768\n";
@@ -21,33 +20,29 @@ fn strings(alloc: Global, line: &str) -> Result<Vec<String>, AllocError> {
     Ok(words)
 }
 
-// Runs `replay` on a script, and compares its status and its text.
-fn replays(
-    rt: &impl Abort,
+// The status that the program ends with, given the words of a command line.
+fn ends<S: Source, K: Sink>(
     alloc: Global,
-    script: &str,
-    status: u8,
-    text: &str,
-) -> Result<(), AllocError> {
-    let words = strings(alloc, "replay")?;
+    line: &str,
+    input: &mut S,
+    output: &mut K,
+) -> Result<u8, AllocError> {
+    let words = strings(alloc, line)?;
+    Ok(run(alloc, &words, input, output))
+}
+
+// Runs `replay` on a script: whether its status and its text are these.
+fn replays(alloc: Global, script: &str, status: u8, text: &str) -> Result<bool, AllocError> {
     let mut input = SureSource::new(bytes(alloc, script)?);
     let mut output = SureSink::new(alloc);
-    let ended = run(alloc, &words, &mut input, &mut output);
-    assert_eq!(rt; ended, status, "at {script:?}");
-    assert_eq!(rt; output.given(), text.as_bytes(), "at {script:?}");
-    Ok(())
+    let ended = ends(alloc, "replay", &mut input, &mut output)?;
+    Ok(ended == status && output.given() == text.as_bytes())
 }
 
 // The same, of event lines behind the usual config.
-fn runs(
-    rt: &impl Abort,
-    alloc: Global,
-    events: &str,
-    status: u8,
-    text: &str,
-) -> Result<(), AllocError> {
+fn runs(alloc: Global, events: &str, status: u8, text: &str) -> Result<bool, AllocError> {
     let script = format!(in alloc; "{CONFIG}{events}")?;
-    replays(rt, alloc, script.as_str(), status, text)
+    replays(alloc, script.as_str(), status, text)
 }
 
 // Events behind the usual config, and the status and the text that they end with.
@@ -89,7 +84,7 @@ static REPORTS: [(&str, u8, &str); 7] = [
 #[test]
 fn reports_what_comes_of_events(rt: HostRuntime) -> Result<(), Fail> {
     for (events, status, text) in REPORTS.iter() {
-        runs(&rt, rt.alloc(), events, *status, text)?;
+        assert!(rt; runs(rt.alloc(), events, *status, text)?, "at {events:?}");
     }
     Ok(())
 }
@@ -151,22 +146,15 @@ static BAD_LINES: [&str; 22] = [
 #[test]
 fn reads_lines_of_the_grammar_alone(rt: HostRuntime) -> Result<(), Fail> {
     for (script, status, text) in SCRIPTS.iter() {
-        replays(&rt, rt.alloc(), script, *status, text)?;
+        assert!(rt;
+            replays(rt.alloc(), script, *status, text)?,
+            "at {script:?}"
+        );
     }
     for line in BAD_LINES.iter() {
-        runs(&rt, rt.alloc(), line, 2, "bad line 2\n")?;
+        assert!(rt; runs(rt.alloc(), line, 2, "bad line 2\n")?, "at {line:?}");
     }
     Ok(())
-}
-
-// Runs `replay` from a source to a sink.
-fn ends<S: Source, K: Sink>(
-    alloc: Global,
-    input: &mut S,
-    output: &mut K,
-) -> Result<u8, AllocError> {
-    let words = strings(alloc, "replay")?;
-    Ok(run(alloc, &words, input, output))
 }
 
 // A head with two line ends before it, in hex, byte by byte.
@@ -175,80 +163,91 @@ static BYTES: [&str; 30] = [
     "31", "0d", "0a", "68", "6f", "73", "74", "3a", "20", "61", "0d", "0a", "0d", "0a",
 ];
 
+fn put_question(events: &mut String, byte: &str) -> Result<(), AllocError> {
+    events.push_str("read ")?;
+    events.push_str(byte)?;
+    events.push_str("\nnext\n")
+}
+
+// Each byte is read, with a question after it.
+fn questions(alloc: Global) -> Result<String, AllocError> {
+    let mut events = String::new(alloc);
+    for byte in BYTES.iter() {
+        put_question(&mut events, byte)?;
+    }
+    Ok(events)
+}
+
 #[test]
 fn waits_for_the_last_byte_of_a_head(rt: HostRuntime) -> Result<(), Fail> {
-    let alloc = rt.alloc();
-    let mut events = String::new(alloc);
-    let mut text = String::new(alloc);
-    for byte in BYTES.iter() {
-        events.push_str("read ")?;
-        events.push_str(byte)?;
-        events.push_str("\nnext\n")?;
-    }
-    for _ in 0..29u8 {
-        text.push_str("took 1\npending\n")?;
-    }
-    text.push_str("took 1\nhead GET / 1.1 none keep-alive - host=61\nbuffered -\nstate open\n")?;
-    runs(&rt, alloc, events.as_str(), 0, text.as_str())?;
+    let events = questions(rt.alloc())?;
+    let pending = "took 1\npending\n".repeat(rt.alloc(), 29)?;
+    let text = format!(in rt.alloc();
+        "{pending}took 1\nhead GET / 1.1 none keep-alive - host=61\nbuffered -\nstate open\n"
+    )?;
+    assert!(rt; runs(rt.alloc(), events.as_str(), 0, text.as_str())?);
     Ok(())
+}
+
+// Whether the words of a line are answered with the usage, and a source whose first read would fail isn't read.
+fn is_usage(alloc: Global, line: &str) -> Result<bool, AllocError> {
+    let mut input = MemSource::new(Bytes::new(), vec![in alloc; 0]?);
+    let mut output = SureSink::new(alloc);
+    let ended = ends(alloc, line, &mut input, &mut output)?;
+    let text = b"usage: h1_run replay | h1_run gen SEED COUNT\n".as_slice();
+    Ok(ended == 1 && output.given() == text)
 }
 
 static WRONG_WORDS: [&str; 3] = ["", "replay replay", "--help"];
 
 #[test]
 fn answers_wrong_words_with_the_usage(rt: HostRuntime) -> Result<(), Fail> {
-    let alloc = rt.alloc();
     for line in WRONG_WORDS.iter() {
-        let words = strings(alloc, line)?;
-        // The source isn't read: its first read would fail.
-        let mut input = MemSource::new(Bytes::new(), vec![in alloc; 0]?);
-        let mut output = SureSink::new(alloc);
-        assert_eq!(rt;
-            run(alloc, &words, &mut input, &mut output),
-            1,
-            "at {line:?}"
-        );
-        assert_eq!(rt;
-            output.given(),
-            b"usage: h1_run replay | h1_run gen SEED COUNT\n".as_slice()
-        );
+        assert!(rt; is_usage(rt.alloc(), line)?, "at {line:?}");
     }
     Ok(())
+}
+
+// Whether a source that fails at this read is told.
+fn is_read_fault(alloc: Global, failing: usize) -> Result<bool, AllocError> {
+    let mut input = MemSource::new(bytes(alloc, CONFIG)?, vec![in alloc; failing]?);
+    let mut output = SureSink::new(alloc);
+    let ended = ends(alloc, "replay", &mut input, &mut output)?;
+    Ok(ended == 4 && output.given() == b"read fault\n".as_slice())
 }
 
 #[test]
 fn tells_a_failed_read(rt: HostRuntime) -> Result<(), Fail> {
-    let alloc = rt.alloc();
     for failing in 0..2usize {
-        let mut input = MemSource::new(bytes(alloc, CONFIG)?, vec![in alloc; failing]?);
-        let mut output = SureSink::new(alloc);
-        assert_eq!(rt;
-            ends(alloc, &mut input, &mut output)?,
-            4,
-            "at read {failing}"
-        );
-        assert_eq!(rt; output.given(), b"read fault\n".as_slice());
+        assert!(rt; is_read_fault(rt.alloc(), failing)?, "at read {failing}");
     }
     Ok(())
+}
+
+// Whether a sink that fails at its first write is told, and is given nothing.
+fn is_write_fault(alloc: Global) -> Result<bool, AllocError> {
+    let mut input = SureSource::new(bytes(alloc, CONFIG)?);
+    let mut output = MemSink::new(alloc, vec![in alloc; 0]?);
+    let ended = ends(alloc, "replay", &mut input, &mut output)?;
+    Ok(ended == 5 && output.given().is_empty())
 }
 
 #[test]
 fn tells_a_failed_write(rt: HostRuntime) -> Result<(), Fail> {
-    let alloc = rt.alloc();
-    let mut input = SureSource::new(bytes(alloc, CONFIG)?);
-    let mut output = MemSink::new(alloc, vec![in alloc; 0]?);
-    assert_eq!(rt; ends(alloc, &mut input, &mut output)?, 5);
-    assert_eq!(rt; output.given().len(), 0);
+    assert!(rt; is_write_fault(rt.alloc())?);
     Ok(())
+}
+
+// The status that an input of so many bytes, which are no script, ends with.
+fn status_of(alloc: Global, count: usize) -> Result<u8, AllocError> {
+    let mut input = SureSource::new(Bytes::from_vec(vec![in alloc; b'x'; count]?)?);
+    let mut output = SureSink::new(alloc);
+    ends(alloc, "replay", &mut input, &mut output)
 }
 
 #[test]
 fn reads_no_more_than_its_limit(rt: HostRuntime) -> Result<(), Fail> {
-    let alloc = rt.alloc();
-    for (count, status) in [(16_777_216usize, 2u8), (16_777_217, 6)] {
-        let mut input = SureSource::new(Bytes::from_vec(vec![in alloc; b'x'; count]?)?);
-        let mut output = SureSink::new(alloc);
-        assert_eq!(rt; ends(alloc, &mut input, &mut output)?, status, "at {count}");
-    }
+    assert!(rt; status_of(rt.alloc(), 16_777_216)? == 2);
+    assert!(rt; status_of(rt.alloc(), 16_777_217)? == 6);
     Ok(())
 }

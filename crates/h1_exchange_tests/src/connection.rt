@@ -24,18 +24,35 @@ fn target(connection: &mut Connection) -> Result<Option<Bytes>, NoMemory> {
     }
 }
 
+// Whether a request is taken whole, and handed out with its target.
+fn is_taken(connection: &mut Connection) -> Result<bool, NoMemory> {
+    if !connection.can_read() {
+        return Ok(false);
+    }
+    let taken = connection.read(b"GET /a HTTP/1.1\r\nhost: b\r\n\r\n")?;
+    let target = target(connection)?;
+    Ok(taken == 28 && matches!(&target, Some(bytes) if bytes.as_slice() == b"/a".as_slice()))
+}
+
+// Whether the open request can be answered, with a text that begins so.
+fn is_answered(
+    connection: &mut Connection,
+    head: &ResponseHead,
+    text: &[u8],
+) -> Result<bool, NoMemory> {
+    if !connection.can_answer() {
+        return Ok(false);
+    }
+    connection.answer(head, BodySize::ZERO)?;
+    Ok(connection.front().starts_with(text))
+}
+
 #[test]
 fn a_request_is_answered(rt: HostRuntime) -> Result<(), Fail> {
     let mut connection = Connection::new(rt.alloc(), ServiceConfigBuilder::new().build());
-    assert!(rt; connection.can_read());
-    let taken = connection.read(b"GET /a HTTP/1.1\r\nhost: b\r\n\r\n")?;
-    assert_eq!(rt; taken, 28);
-    let target = target(&mut connection)?;
-    assert!(rt; matches!(&target, Some(bytes) if bytes.as_slice() == b"/a".as_slice()));
-    assert!(rt; connection.can_answer());
+    assert!(rt; is_taken(&mut connection)?);
     let head = ResponseHead::new(rt.alloc(), StatusCode::OK);
-    connection.answer(&head, BodySize::ZERO)?;
-    assert!(rt; connection.front().starts_with(b"HTTP/1.1 200 OK\r\n"));
+    assert!(rt; is_answered(&mut connection, &head, b"HTTP/1.1 200 OK\r\n")?);
     Ok(())
 }
 
@@ -74,28 +91,49 @@ fn is_served(
     Ok(kind == NextKind::Head && item.target.as_slice() == target)
 }
 
+// Whether two requests of one source are served, the first with all pieces of its answer.
+fn are_served(
+    alloc: Global,
+    connection: &mut Connection,
+    item: &mut HeadItem,
+) -> Result<bool, ReadFromError> {
+    let mut source = SureSource::new(Bytes::from_static(TWO_REQUESTS));
+    let first = is_served(alloc, connection, &mut source, item, b"/a")?;
+    let is_written = connection.front().ends_with(b"\r\n\r\nabc");
+    let second = is_served(alloc, connection, &mut source, item, b"/c")?;
+    Ok(first && is_written && second)
+}
+
+// A head to be written over.
+fn blank(alloc: Global) -> HeadItem {
+    HeadItem {
+        head: RequestHead::new(alloc),
+        target: Bytes::new(),
+        body: BodyKind::None,
+    }
+}
+
 #[test]
 fn heads_from_a_source_are_written_over_one_another(rt: HostRuntime) -> Result<(), Fail> {
     let alloc = rt.alloc();
     let mut connection = Connection::new(alloc, ServiceConfigBuilder::new().build());
-    let mut source = SureSource::new(Bytes::from_static(TWO_REQUESTS));
-    let mut item = HeadItem {
-        head: RequestHead::new(alloc),
-        target: Bytes::new(),
-        body: BodyKind::None,
-    };
-    assert!(rt; is_served(alloc, &mut connection, &mut source, &mut item, b"/a")?);
-    assert!(rt; connection.front().ends_with(b"\r\n\r\nabc"));
-    assert!(rt; is_served(alloc, &mut connection, &mut source, &mut item, b"/c")?);
+    let mut item = blank(alloc);
+    assert!(rt; are_served(alloc, &mut connection, &mut item)?);
     Ok(())
+}
+
+// Reads what may come, and prints the connection.
+fn printed(alloc: Global, connection: &mut Connection, text: &[u8]) -> Result<String, AllocError> {
+    if connection.can_read() {
+        connection.read(text)?;
+    }
+    format!(in alloc; "{connection:?}")
 }
 
 #[test]
 fn a_connection_prints_no_byte_that_it_holds(rt: HostRuntime) -> Result<(), Fail> {
     let mut connection = Connection::new(rt.alloc(), ServiceConfigBuilder::new().build());
-    assert!(rt; connection.can_read());
-    connection.read(b"GET /")?;
-    let text = format!(in rt.alloc(); "{connection:?}")?;
+    let text = printed(rt.alloc(), &mut connection, b"GET /")?;
     assert!(rt;
         text.as_str()
             == "Connection { held: 5, buffered: 0, is_open: false, has_ended: false, \
@@ -114,21 +152,32 @@ fn is_whole_with(connection: &mut Connection, byte: u8) -> Result<bool, NoMemory
     Ok(target.is_some())
 }
 
-// A head as long as a connection holds, byte by byte with a question after each.
-#[test]
-fn the_longest_head_is_handed_out(rt: HostRuntime) -> Result<(), Fail> {
-    let alloc = rt.alloc();
+// A head as long as a connection holds.
+fn longest(alloc: Global) -> Result<Vec<u8>, AllocError> {
     let mut head = Vec::from_slice(alloc, b"GET / HTTP/1.1\r\nx: ")?;
     head.resize(131_068, b'v')?;
     head.extend_from_slice(b"\r\n\r\n")?;
-    let mut connection = Connection::new(alloc, ServiceConfigBuilder::new().build());
+    Ok(head)
+}
+
+// Reads a head byte by byte, with a question after each: whether it is whole with the last, and not before.
+fn is_whole_at_last(connection: &mut Connection, head: &[u8]) -> Result<bool, NoMemory> {
     let mut is_whole = false;
-    for byte in head.as_slice() {
-        assert!(rt; !is_whole);
-        is_whole = is_whole_with(&mut connection, *byte)?;
+    for byte in head {
+        if is_whole {
+            return Ok(false);
+        }
+        is_whole = is_whole_with(connection, *byte)?;
     }
-    assert!(rt; is_whole);
-    assert_eq!(rt; connection.held(), 0);
+    Ok(is_whole)
+}
+
+#[test]
+fn the_longest_head_is_handed_out(rt: HostRuntime) -> Result<(), Fail> {
+    let head = longest(rt.alloc())?;
+    let mut connection = Connection::new(rt.alloc(), ServiceConfigBuilder::new().build());
+    assert!(rt; is_whole_at_last(&mut connection, head.as_slice())?);
+    assert!(rt; connection.held() == 0);
     Ok(())
 }
 
@@ -151,23 +200,31 @@ fn events_are_driven(rt: HostRuntime) -> Result<(), Fail> {
     Ok(())
 }
 
+// Whether the copy of an outcome is these bytes.
+fn is_copied(outcome: &Outcome, want: &[u8]) -> Result<bool, NoMemory> {
+    let copy = outcome.copy()?;
+    Ok(matches!(&copy, Outcome::Bytes(bytes) if bytes.as_slice() == want))
+}
+
 #[test]
 fn outcomes_are_copied(rt: HostRuntime) -> Result<(), Fail> {
     let bytes = Outcome::Bytes(Bytes::from_static(b"ab"));
-    let copy = bytes.copy()?;
-    assert!(rt; matches!(&copy, Outcome::Bytes(bytes) if bytes.as_slice() == b"ab".as_slice()));
+    assert!(rt; is_copied(&bytes, b"ab")?);
     let pulled = Outcome::Pending.copy()?;
     assert!(rt; matches!(pulled, Outcome::Pending));
     Ok(())
+}
+
+// Whether the copy of an event is an answer of this status.
+fn is_answer_of(event: &Event, status: StatusCode) -> Result<bool, NoMemory> {
+    let copy = event.copy()?;
+    Ok(matches!(&copy, Event::Answer(head, _) if head.get().status == status))
 }
 
 #[test]
 fn answers_are_copied(rt: HostRuntime) -> Result<(), Fail> {
     let head = ResponseHead::new(rt.alloc(), StatusCode::NOT_FOUND);
     let answer = Event::Answer(Boxed::new(rt.alloc(), head)?, BodySize::ZERO);
-    let copy = answer.copy()?;
-    assert!(rt;
-        matches!(&copy, Event::Answer(head, _) if head.get().status == StatusCode::NOT_FOUND)
-    );
+    assert!(rt; is_answer_of(&answer, StatusCode::NOT_FOUND)?);
     Ok(())
 }
