@@ -1,13 +1,11 @@
 //! The calls of a connection.
 use bytes::Bytes;
-use h1_decode::{BodyKind, HeadItem, HeadRoom};
+use h1_decode::{HeadItem, HeadRoom};
 use h1_dispatch::{
     Boxed, Connection, DriveError, Event, NextHead, NextKind, Outcome, ReadFromError, drive,
 };
 use http_bodies::BodySize;
-use http_types::{
-    NoMemory, RequestHead, ResponseHead, ServiceConfigBuilder, StatusCode, SureSource,
-};
+use http_types::{NoMemory, ResponseHead, ServiceConfigBuilder, StatusCode, SureSource};
 use std::alloc::{AllocError, Global};
 use std::test::Fail;
 
@@ -104,20 +102,11 @@ fn are_served(
     Ok(first && is_written && second)
 }
 
-// A head to be written over.
-fn blank(alloc: Global) -> HeadItem {
-    HeadItem {
-        head: RequestHead::new(alloc),
-        target: Bytes::new(),
-        body: BodyKind::None,
-    }
-}
-
 #[test]
 fn heads_from_a_source_are_written_over_one_another(rt: HostRuntime) -> Result<(), Fail> {
     let alloc = rt.alloc();
     let mut connection = Connection::new(alloc, ServiceConfigBuilder::new().build());
-    let mut item = blank(alloc);
+    let mut item = HeadItem::new(alloc);
     assert!(rt; are_served(alloc, &mut connection, &mut item)?);
     Ok(())
 }
