@@ -1,4 +1,4 @@
--- Where the names of a map stand: few in one list, more in an `IndexMap`.
+-- Where the names of a map stand: few in one list, more in an `IndexMap` in a block of its own.
 use Rattle.std.specs.Prelude.{⊤, bytes_eq}
 use Rattle.std.specs.List.{IsDistinct}
 use Rattle.http_map.specs.HeaderMap.{Entries, keys}
@@ -8,7 +8,7 @@ use Rattle.http_map.specs.declared.table.Table.TheVariants.{Few, Many}
 -- the names with their values, in order
 abbrev pub listed : Table → Entries
 listed (Few lines) = lines.items
-listed (Many names) = names.entries
+listed (Many names) = names.value.entries
 
 -- no name is twice in the list. An `IndexMap` says so itself
 abbrev pub IsTable : Table → Type 0

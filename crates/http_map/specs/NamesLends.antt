@@ -4,6 +4,7 @@ use Rattle.std.specs.Borrow.{Lends, Fml, MutBor}
 use Rattle.std.specs.Option.{option_map_or}
 use Rattle.std.specs.Prelude.{slice_get}
 use Rattle.std.specs.Vec as vec
+use Rattle.std.specs.Box as box
 use Rattle.indexmap.specs.IndexMap.{with_value_at, set_value_at}
 use Rattle.http_header.specs.FieldValue.{FieldValue}
 use Rattle.http_map.specs.HeaderMap.{Entry, Entries}
@@ -21,7 +22,7 @@ line_lends_values line r = Lends line_row values_row line r (λ w. (line.now.0, 
 -- other values under the name at an index
 abbrev pub with_values_at : Table → ℕ → List FieldValue → Table
 with_values_at (Few lines) i w = Few (option_map_or (λ e. vec.with_item lines i (e.0, w)) (slice_get lines.items i) lines)
-with_values_at (Many names) i w = Many (with_value_at names i w)
+with_values_at (Many names) i w = Many (box.with_value names (with_value_at names.value i w))
 
 abbrev pub table_lends_values : MutBor Table → ℕ → MutBor (List FieldValue) → Fml
 table_lends_values table i r = Lends table_row values_row table r (with_values_at table.now i)

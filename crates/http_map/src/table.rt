@@ -18,7 +18,6 @@ use crate::any_case::AnyCase;
 use crate::removed::Removed;
 use crate::values::Values;
 use http_header::{HeaderName, HeaderValue};
-use indexmap::IndexMap;
 pub(crate) use iter::{NamesIntoIter, NamesIter};
 use line::Line;
 use many::Hashed;
@@ -42,7 +41,8 @@ pub(crate) struct Names {
 #[derive(Drop)]
 enum Table {
     Few(Vec<Line>),
-    Many(Hashed),
+    // In a block of its own, so that a map of few names is small.
+    Many(Box<Hashed>),
 }
 
 impl Model for Names {
@@ -68,7 +68,7 @@ impl Table {
     {
         match self {
             Table::Few(lines) => lines[index].values_mut(),
-            Table::Many(names) => &mut names[index],
+            Table::Many(names) => &mut names.as_mut()[index],
         }
     }
 }
@@ -93,7 +93,7 @@ impl Names {
         let table = if capacity <= MOST_FEW {
             Table::Few(Vec::with_capacity(alloc, capacity)?)
         } else {
-            Table::Many(IndexMap::with_capacity(alloc, capacity)?)
+            Table::Many(many::with_capacity(alloc, capacity)?)
         };
         Ok(Names { table })
     }
@@ -101,7 +101,7 @@ impl Names {
     pub(crate) fn allocator(&self) -> Global {
         match &self.table {
             Table::Few(lines) => *lines.allocator(),
-            Table::Many(names) => *names.allocator(),
+            Table::Many(names) => *names.as_ref().allocator(),
         }
     }
 
@@ -112,7 +112,7 @@ impl Names {
     {
         match &self.table {
             Table::Few(lines) => lines.len(),
-            Table::Many(names) => names.len(),
+            Table::Many(names) => names.as_ref().len(),
         }
     }
 
@@ -124,7 +124,7 @@ impl Names {
     {
         match &self.table {
             Table::Few(lines) => few::find(lines.as_slice(), bytes),
-            Table::Many(names) => many::find(names, bytes),
+            Table::Many(names) => many::find(names.as_ref(), bytes),
         }
     }
 
@@ -137,7 +137,7 @@ impl Names {
                 let index = few::find(lines.as_slice(), bytes)?;
                 Some(lines[index].values())
             }
-            Table::Many(names) => names.get(AnyCase { bytes }),
+            Table::Many(names) => names.as_ref().get(AnyCase { bytes }),
         }
     }
 
@@ -163,7 +163,7 @@ impl Names {
     {
         match &self.table {
             Table::Few(lines) => NamesIter::few(lines.iter()),
-            Table::Many(names) => NamesIter::many(names.iter()),
+            Table::Many(names) => NamesIter::many(names.as_ref().iter()),
         }
     }
 
@@ -173,7 +173,7 @@ impl Names {
     {
         match self.table {
             Table::Few(lines) => NamesIntoIter::few(lines.into_iter()),
-            Table::Many(names) => NamesIntoIter::many(names.into_iter()),
+            Table::Many(names) => NamesIntoIter::many(Box::into_inner(names).into_iter()),
         }
     }
 
@@ -183,7 +183,7 @@ impl Names {
     {
         match &mut self.table {
             Table::Few(lines) => lines.clear(),
-            Table::Many(names) => names.clear(),
+            Table::Many(names) => names.as_mut().clear(),
         }
     }
 
@@ -193,7 +193,7 @@ impl Names {
     {
         match &mut self.table {
             Table::Few(lines) => lines.reserve(additional),
-            Table::Many(names) => names.reserve(additional),
+            Table::Many(names) => names.as_mut().reserve(additional),
         }
     }
 
@@ -219,25 +219,25 @@ impl Names {
         ensures ok { OnOk result (self.new ≡ append self.old key value) }
         ensures err { OnErr result (self.new ≡ self.old) }
     {
-        match &mut self.table {
-            Table::Few(lines) if lines.len() < MOST_FEW => {
-                return few::append_value(lines, key, value);
+        if let Table::Few(lines) = &mut self.table {
+            if let Some(mark) = few::mark_of_new(lines, &key) {
+                lines.push_reserved(Line::marked(mark, key, Values::one(value)));
+                return Ok(());
             }
-            _ => {}
         }
-        self.append_to_many(key, value)
+        self.append_apart(key, value)
     }
 
-    // The same where a list has no room for one more. It is out of the way of few names.
+    // The same for any name. It is out of the way of those that come last among few, where there is room.
     #[inline(never)]
-    fn append_to_many(&mut self, key: HeaderName, value: HeaderValue) -> Result<(), NoMemory>
+    fn append_apart(&mut self, key: HeaderName, value: HeaderValue) -> Result<(), NoMemory>
         ensures ok { OnOk result (self.new ≡ append self.old key value) }
         ensures err { OnErr result (self.new ≡ self.old) }
     {
         self.make_way_for(&key)?;
         match &mut self.table {
             Table::Few(lines) => few::append_value(lines, key, value),
-            Table::Many(names) => many::append_value(names, key, value),
+            Table::Many(names) => many::append_value(names.as_mut(), key, value),
         }
     }
 
@@ -255,7 +255,7 @@ impl Names {
         self.make_way_for(&name)?;
         match &mut self.table {
             Table::Few(lines) => few::insert_value(lines, name, value),
-            Table::Many(names) => many::insert_value(names, name, value),
+            Table::Many(names) => many::insert_value(names.as_mut(), name, value),
         }
     }
 
@@ -267,7 +267,7 @@ impl Names {
     {
         match &mut self.table {
             Table::Few(lines) => few::remove_values(lines, bytes),
-            Table::Many(names) => many::remove_values(names, bytes),
+            Table::Many(names) => many::remove_values(names.as_mut(), bytes),
         }
     }
 
@@ -278,7 +278,7 @@ impl Names {
     {
         match &mut self.table {
             Table::Few(lines) => few::retain_names(lines, keep),
-            Table::Many(names) => many::retain_names(names, keep),
+            Table::Many(names) => many::retain_names(names.as_mut(), keep),
         }
     }
 }

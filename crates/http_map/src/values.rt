@@ -32,7 +32,8 @@ impl Model for Values {
 
 enum Kept {
     One(HeaderValue),
-    More(Vec<HeaderValue>),
+    // In a block of its own: what drops a single value then has nothing else to move.
+    More(Box<Vec<HeaderValue>>),
 }
 
 impl Drop for Kept {
@@ -47,7 +48,7 @@ impl Drop for Kept {
 
 // Drops several values, out of the way of names with one.
 #[inline(never)]
-fn drop_values(_values: Vec<HeaderValue>) {}
+fn drop_values(_values: Box<Vec<HeaderValue>>) {}
 
 impl Kept {
     ghost use Rattle.http_map.specs.Kept.{listed, kept_lends_first};
@@ -59,7 +60,7 @@ impl Kept {
     {
         match self {
             Kept::One(value) => value,
-            Kept::More(values) => &mut values[0],
+            Kept::More(values) => &mut values.as_mut()[0],
         }
     }
 
@@ -68,7 +69,7 @@ impl Kept {
     {
         match self {
             Kept::One(value) => Removed::one(value),
-            Kept::More(values) => Removed::more(values),
+            Kept::More(values) => Removed::more(Box::into_inner(values)),
         }
     }
 }
@@ -90,7 +91,7 @@ impl Values {
     {
         match &self.kept {
             Kept::One(value) => slice::from_ref(value),
-            Kept::More(values) => values.as_slice(),
+            Kept::More(values) => values.as_ref().as_slice(),
         }
     }
 
@@ -101,14 +102,15 @@ impl Values {
     {
         match &mut self.kept {
             Kept::One(only) => {
-                let mut values = Vec::with_capacity(alloc, 2)?;
+                let mut values = Box::new(alloc, Vec::with_capacity(alloc, 2)?)?;
                 // An empty value stands in for the one that moves to the vector.
                 let first = mem::replace(only, HeaderValue::from_static(""));
-                values.push_reserved(first);
-                values.push_reserved(value);
+                let both = values.as_mut();
+                both.push_reserved(first);
+                both.push_reserved(value);
                 self.kept = Kept::More(values);
             }
-            Kept::More(values) => values.push(value)?,
+            Kept::More(values) => values.as_mut().push(value)?,
         }
         Ok(())
     }
@@ -137,6 +139,7 @@ impl Values {
         match &mut self.kept {
             Kept::One(value) => keep(name, value),
             Kept::More(values) => {
+                let values = values.as_mut();
                 values.retain(
                     |value: &HeaderValue| -> bool
                         requires { F.IsAlwaysCallable keep.now }

@@ -1,5 +1,5 @@
 //! Few names, in a list.
-ghost use Rattle.std.specs.Prelude.{◌≡◌, ◌<◌, ℕ, List, [], ◌∷◌, length, true, false, bytes_eq, IsOk, IfOk, OnOk, OnErr, IfSome, IfNone, IsTrue, if◌then◌else◌};
+ghost use Rattle.std.specs.Prelude.{◌≡◌, ◌<◌, ℕ, List, [], ◌∷◌, length, vec_len, vec_capacity, true, false, bytes_eq, IsOk, IfOk, OnOk, OnErr, OnSome, IfSome, IfNone, IsTrue, if◌then◌else◌};
 ghost use Rattle.std.specs.List.{IsDistinct};
 ghost use Rattle.http_header.specs.Token.{lowercase};
 ghost use Rattle.http_map.specs.HeaderMap.{keys, contains_key, get_all, insert, append, remove};
@@ -28,7 +28,7 @@ pub(super) fn find(lines: &[Line], bytes: &[u8]) -> Option<usize>
 
 // The same, where the mark is made already.
 #[inline(always)]
-fn find_marked(lines: &[Line], mark: u32, bytes: &[u8]) -> Option<usize>
+fn find_marked(lines: &[Line], mark: u64, bytes: &[u8]) -> Option<usize>
     requires { mark ≡ name_mark (lowercase bytes.now) }
     ensures found { IfSome result (StandsFirstAt lines.now (lowercase bytes.now)) }
     ensures within { IfSome result (λ i. i < length lines.now) }
@@ -44,35 +44,40 @@ fn find_marked(lines: &[Line], mark: u32, bytes: &[u8]) -> Option<usize>
     None
 }
 
-// The same again, for a name that most likely isn't there: it looks at marks alone until one is the same.
+// The mark of a name that comes last in the room that there is: no line has its mark, and so none the name.
+// It looks at marks alone.
 #[inline(always)]
-fn find_by_marks(lines: &[Line], mark: u32, bytes: &[u8]) -> Option<usize>
-    requires { mark ≡ name_mark (lowercase bytes.now) }
-    ensures found { IfSome result (StandsFirstAt lines.now (lowercase bytes.now)) }
-    ensures within { IfSome result (λ i. i < length lines.now) }
-    ensures lacks { IfNone result (Lacks lines.now (lowercase bytes.now)) }
+pub(super) fn mark_of_new(lines: &Vec<Line>, name: &HeaderName) -> Option<u64>
+    ensures mark { IfSome result (λ mark. mark ≡ name_mark name.now) }
+    ensures room { OnSome result (vec_len lines.now < vec_capacity lines.now) }
+    ensures lacks { OnSome result (Lacks lines.now.items name.now) }
+{
+    let len = lines.len();
+    if MOST_FEW <= len || lines.capacity() <= len {
+        return None;
+    }
+    let mark = mark_of_name(name.as_bytes());
+    if lacks_mark(lines.as_slice(), mark) {
+        Some(mark)
+    } else {
+        None
+    }
+}
+
+// Whether no line has the mark.
+#[inline(always)]
+fn lacks_mark(lines: &[Line], mark: u64) -> bool
+    ensures { IsTrue result → (name : List ℕ) → mark ≡ name_mark name → Lacks lines.now name }
 {
     for line in lines {
         if line.has_mark(mark) {
-            return find_apart(lines, mark, bytes);
+            return false;
         }
     }
-    None
-}
-
-// What `find_marked` does, out of the way.
-#[inline(never)]
-fn find_apart(lines: &[Line], mark: u32, bytes: &[u8]) -> Option<usize>
-    requires { mark ≡ name_mark (lowercase bytes.now) }
-    ensures found { IfSome result (StandsFirstAt lines.now (lowercase bytes.now)) }
-    ensures within { IfSome result (λ i. i < length lines.now) }
-    ensures lacks { IfNone result (Lacks lines.now (lowercase bytes.now)) }
-{
-    find_marked(lines, mark, bytes)
+    true
 }
 
 // Adds the value after those of the name.
-#[inline(always)]
 pub(super) fn append_value(
     lines: &mut Vec<Line>,
     key: HeaderName,
@@ -83,7 +88,7 @@ pub(super) fn append_value(
 {
     let bytes = key.as_bytes();
     let mark = mark_of_name(bytes);
-    match find_by_marks(lines.as_slice(), mark, bytes) {
+    match find_marked(lines.as_slice(), mark, bytes) {
         Some(i) => add_value(lines, i, value),
         None => {
             lines.push(Line::marked(mark, key, Values::one(value)))?;
@@ -92,8 +97,7 @@ pub(super) fn append_value(
     }
 }
 
-// Adds a value after those of the name at the index. It is out of the way of names that come once.
-#[inline(never)]
+// Adds a last value to those of the name at the index.
 fn add_value(lines: &mut Vec<Line>, index: usize, value: HeaderValue) -> Result<(), NoMemory>
     requires { index < length lines.old.items }
     ensures ok { OnOk result ((name : List ℕ) → StandsFirstAt lines.old.items name index
@@ -157,16 +161,16 @@ pub(super) fn retain_names<F: Fn(&HeaderName, &HeaderValue) -> bool>(
     );
 }
 
-// The same names in an `IndexMap`, with room for as many again. It is out of the way of the maps that
-// never come to it.
+// The same names in an `IndexMap`, with room for as many again, in a block of its own. It is out of the way of
+// the maps that never come to it.
 #[inline(never)]
-pub(super) fn hashed(alloc: Global, lines: &[Line]) -> Result<Hashed, NoMemory>
+pub(super) fn hashed(alloc: Global, lines: &[Line]) -> Result<Box<Hashed>, NoMemory>
     requires { IsDistinct bytes_eq (keys lines.now) }
-    ensures { IfOk result (λ names. names.entries ≡ lines.now) }
+    ensures { IfOk result (λ names. names.value.entries ≡ lines.now) }
 {
     let mut names = IndexMap::with_capacity(alloc, 2 * MOST_FEW)?;
     for line in lines {
         names.insert(line.name().clone()?, line.values().clone()?)?;
     }
-    Ok(names)
+    Ok(Box::new(alloc, names)?)
 }

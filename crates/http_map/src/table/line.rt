@@ -19,7 +19,7 @@ use std::marker::Model;
 /// A contract sees it as the name and the values.
 #[derive(Debug, Drop)]
 pub(crate) struct Line {
-    mark: u32,
+    mark: u64,
     name: HeaderName,
     values: Values,
 }
@@ -37,19 +37,19 @@ impl Model for Line {
 }
 
 // The byte at the index in lower case, and 0 past the end.
-fn low_byte(bytes: &[u8], i: usize) -> u32
+fn low_byte(bytes: &[u8], i: usize) -> u64
     ensures value { result ≡ get_or (lowercase bytes.now) i 0 }
     ensures small { result < 256 }
 {
     if i < bytes.len() {
-        u32::from(bytes[i].to_ascii_lowercase())
+        u64::from(bytes[i].to_ascii_lowercase())
     } else {
         0
     }
 }
 
 /// The mark of the name that has these bytes in lower case: its first byte and its last two.
-pub(crate) fn mark_of(bytes: &[u8]) -> u32
+pub(crate) fn mark_of(bytes: &[u8]) -> u64
     ensures { result ≡ name_mark (lowercase bytes.now) }
 {
     let len = bytes.len();
@@ -61,12 +61,12 @@ pub(crate) fn mark_of(bytes: &[u8]) -> u32
 
 // The byte at the index, and 0 past the end.
 #[inline(always)]
-fn byte_at(bytes: &[u8], i: usize) -> u32
+fn byte_at(bytes: &[u8], i: usize) -> u64
     ensures value { result ≡ get_or bytes.now i 0 }
     ensures small { result < 256 }
 {
     if i < bytes.len() {
-        u32::from(bytes[i])
+        u64::from(bytes[i])
     } else {
         0
     }
@@ -74,7 +74,7 @@ fn byte_at(bytes: &[u8], i: usize) -> u32
 
 /// The mark of the name that has these bytes, which are in lower case already.
 #[inline(always)]
-pub(crate) fn mark_of_name(bytes: &[u8]) -> u32
+pub(crate) fn mark_of_name(bytes: &[u8]) -> u64
     ensures { result ≡ name_mark bytes.now }
 {
     let len = bytes.len();
@@ -89,7 +89,7 @@ pub(crate) fn mark_of_name(bytes: &[u8]) -> u32
 
 // The same for any bytes.
 #[inline(never)]
-fn mark_of_short(bytes: &[u8]) -> u32
+fn mark_of_short(bytes: &[u8]) -> u64
     ensures { result ≡ name_mark bytes.now }
 {
     let len = bytes.len();
@@ -110,7 +110,7 @@ impl Line {
     }
 
     /// A line whose mark is made already.
-    pub(crate) fn marked(mark: u32, name: HeaderName, values: Values) -> Line
+    pub(crate) fn marked(mark: u64, name: HeaderName, values: Values) -> Line
         requires { mark ≡ name_mark name }
         ensures { result ≡ (name, values) }
     {
@@ -119,7 +119,7 @@ impl Line {
 
     /// Whether the name has this mark: if not, it is no name that has it.
     #[inline(always)]
-    pub(crate) fn has_mark(&self, mark: u32) -> bool
+    pub(crate) fn has_mark(&self, mark: u64) -> bool
         ensures { result ≡ false → (name : List ℕ) → mark ≡ name_mark name
             → bytes_eq name self.now.0 ≡ false }
     {
@@ -127,7 +127,7 @@ impl Line {
     }
 
     /// Whether these bytes are the name, in any case.
-    pub(crate) fn is(&self, mark: u32, bytes: &[u8]) -> bool
+    pub(crate) fn is(&self, mark: u64, bytes: &[u8]) -> bool
         requires { mark ≡ name_mark (lowercase bytes.now) }
         ensures { result ≡ bytes_eq (lowercase bytes.now) self.now.0 }
     {

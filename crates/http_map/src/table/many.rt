@@ -12,8 +12,17 @@ use crate::values::Values;
 use http_header::{HeaderName, HeaderValue};
 use indexmap::IndexMap;
 use indexmap::map::Entry;
+use std::alloc::Global;
 
 pub(super) type Hashed = IndexMap<HeaderName, Values>;
+
+// No names, with room for so many. It is out of the way of few.
+#[inline(never)]
+pub(super) fn with_capacity(alloc: Global, capacity: usize) -> Result<Box<Hashed>, NoMemory>
+    ensures { IfOk result (λ names. names.value.entries ≡ []) }
+{
+    Ok(Box::new(alloc, IndexMap::with_capacity(alloc, capacity)?)?)
+}
 
 // Where the name stands that has these bytes in lower case.
 pub(super) fn find(names: &Hashed, bytes: &[u8]) -> Option<usize>

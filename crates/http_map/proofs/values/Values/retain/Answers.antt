@@ -22,7 +22,8 @@ returns-clause-kept g c =
           rw (← c.self.view_is, w.result-is, w.self-inside-is, w.in-One.is)
           (w.keep.result, [], record { shown_name = c.args.name; shown_value = _; is_name = refl; is_value = refl; answered = w.keep.ensures }, refl, refl)
       | in-More w ↦
-          (let counted : vec_len w.retain.new.self ≡ length w.retain.new.self.items = omega (arith, w.retain.new.self.ok.0) in
-          rw (← c.self.view_is, w.result-is, w.self-inside-is, w.in-More.is, whole w.is_empty.result w.retain.new.self.items (w.is_empty.ensures ∙ ap (λ n. n == 0) counted))
+          (let values : w.as_mut-values.result.now ≡ w.in-More.values.value = w.as_mut-values.ensures.value in
+          let counted : vec_len w.retain.new.self ≡ length w.retain.new.self.items = omega (arith, w.retain.new.self.ok.0) in
+          rw (← c.self.view_is, w.result-is, w.self-inside-is, w.in-More.is, ← values, whole w.is_empty.result w.retain.new.self.items (w.is_empty.ensures ∙ ap (λ n. n == 0) counted))
           (KeepsValues-IsFiltered _ answers _ (λ v b f call. search rules) _ _ w.retain.ensures.filtered))
     ]

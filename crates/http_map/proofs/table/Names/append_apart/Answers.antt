@@ -1,7 +1,7 @@
 use Rattle.http_map.specs.HeaderMap.{append}
 use Rattle.http_map.proofs.DistinctLemmas.{IsDistinct-append, IsDistinct-after}
-use Rattle.http_map.proofs.table.Names.append_to_many.Goals as goal
-use Rattle.http_map.proofs.table.Names.append_to_many.Goals.{in-Few, in-Many}
+use Rattle.http_map.proofs.table.Names.append_apart.Goals as goal
+use Rattle.http_map.proofs.table.Names.append_apart.Goals.{in-Few, in-Many}
 
 pub invariant_of-self : goal.invariant_of-self
 invariant_of-self c =
