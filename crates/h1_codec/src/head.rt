@@ -137,6 +137,7 @@ fn put_framing(
         return out.extend_from_slice(b"\r\n");
     }
     match size {
+        BodySize::Sized(0) if !camel => out.extend_from_slice(b"\r\ncontent-length: 0\r\n"),
         BodySize::Sized(length) => write_content_length(length, out, camel),
         BodySize::Stream if shape == Shape::Chunked => out.extend_from_slice(chunked_line(camel)),
         BodySize::None | BodySize::Stream => out.extend_from_slice(b"\r\n"),
