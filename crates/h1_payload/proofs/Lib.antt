@@ -1,5 +1,6 @@
 pub mod Taking
 pub mod Places
+pub mod QuietWays
 pub mod Rooms
 pub mod PassLemmas
 pub mod Lines
