@@ -1,8 +1,8 @@
 pub mod Taking
 pub mod Places
-pub mod QuietWays
 pub mod Rooms
 pub mod PassLemmas
+pub mod QuietWays
 pub mod Lines
 pub mod Pulls
 pub mod Takes

@@ -1,29 +1,47 @@
--- Where bytes lead that are none of a chunk or of a trailer line.
+-- Where the bytes between two chunks lead.
 use Rattle.std.proofs.Common.{◌≡◌, ℕ, ◌+◌, ◌*◌, ◌^◌, ◌<◌, ◌≤◌, ltb, cond, true, List, length, get_or, drop, refl, sym, ap, ◌∙◌, subst, arith}
 use Rattle.std.specs.Char.{digit_value}
 use Rattle.std.proofs.lemmas.Bool.{cond-true, lt-ltb}
-use Rattle.h1_chunks.specs.Place.{Place, in_size, size_cr, bytes_end, bytes_cr, broken, after_digits, after_line, step}
+use Rattle.h1_chunks.specs.Place.{Place, in_size, size_cr, bytes_end, bytes_cr, done, broken, after_digits, after_line, step, after}
 use Rattle.h1_chunks.specs.TakeNext.{take_next}
+use Rattle.h1_chunks.specs.Reading.{read}
+use Rattle.h1_chunks.proofs.ReadSteps.{HasNext}
 use Rattle.h1_payload.specs.Places.{is_quiet}
-use Rattle.h1_payload.specs.Scans.{LeadsQuietly, HasLineEnd}
+use Rattle.h1_payload.specs.QuietWays.{LeadsQuietly, HasLineEnd}
+use Rattle.h1_payload.proofs.PassLemmas.{one_leads}
 use Rattle.h1_payload.proofs.Places.{quiet_at}
 
 -- no byte
 pub none_leads : (p : Place) (bytes : List ℕ) (at : ℕ) → at ≤ length bytes → LeadsQuietly p bytes at at p
-none_leads p bytes at below = record { within = below; same = refl }
+none_leads p bytes at below = record { within = below; same = refl; ending = refl; leads = refl }
 
 -- some bytes, and then others
 pub then_leads : (start p q : Place) (bytes : List ℕ) (from mid at : ℕ) → LeadsQuietly start bytes from mid p → LeadsQuietly p bytes mid at q
     → LeadsQuietly start bytes from at q
-then_leads start p q bytes from mid at first then = record { within = then.within; same = first.same ∙ then.same }
+then_leads start p q bytes from mid at first then =
+    record {
+      within = then.within;
+      same = first.same ∙ then.same;
+      ending = first.ending ∙ then.ending;
+      leads = first.leads ∙ then.leads;
+    }
+
+-- a quiet place has a next one
+quiet_goes : (p : Place) → is_quiet p ≡ true → HasNext p
+quiet_goes done quiet = cc
+quiet_goes p quiet = tt
 
 -- one more byte
 pub step_leads : (start p next : Place) (bytes : List ℕ) (from at : ℕ) → LeadsQuietly start bytes from at p → is_quiet p ≡ true → at < length bytes
     → next ≡ step p (get_or bytes at 0) → LeadsQuietly start bytes from (at + 1) next
 step_leads start p next bytes from at way quiet below leads =
+    let one = one_leads p bytes at below (quiet_goes p quiet) in
+    let rest = drop (at + 1) bytes in
     record {
       within = omega arith;
-      same = way.same ∙ quiet_at p bytes at quiet below ∙ ap (λ q. take_next q (drop (at + 1) bytes)) (sym leads);
+      same = way.same ∙ quiet_at p bytes at quiet below ∙ ap (λ q. take_next q rest) (sym leads);
+      ending = way.ending ∙ one.ending ∙ ap (λ q. (read q rest).ending) (sym leads);
+      leads = way.leads ∙ one.leads ∙ ap (λ q. after q rest) (sym leads);
     }
 
 -- one more digit
@@ -57,6 +75,7 @@ pub line_leads : (start : Place) (bytes : List ℕ) (from at size : ℕ) → Lea
 line_leads start bytes from at size way ends = two_lead start (in_size size) (size_cr size) (after_line size) bytes from at way ends refl refl refl refl
 
 -- behind a chunk
-pub chunk_end_leads : (bytes : List ℕ) → HasLineEnd bytes 0 → LeadsQuietly bytes_end bytes 0 2 (in_size 0)
-chunk_end_leads bytes ends =
-    two_lead bytes_end bytes_end bytes_cr (in_size 0) bytes 0 0 (none_leads bytes_end bytes 0 (omega arith)) ends refl refl refl refl
+pub chunk_end_leads : (bytes : List ℕ) (at : ℕ) → HasLineEnd bytes at → LeadsQuietly bytes_end bytes at (at + 2) (in_size 0)
+chunk_end_leads bytes at ends =
+    let long = ends.0 in
+    two_lead bytes_end bytes_end bytes_cr (in_size 0) bytes at at (none_leads bytes_end bytes at (omega arith)) ends refl refl refl refl

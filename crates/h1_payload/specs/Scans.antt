@@ -1,5 +1,5 @@
 -- What a scan of the bytes of a body in chunks says.
-use Rattle.std.specs.Prelude.{◌≡◌, ◌⊎◌, ℕ, ◌+◌, ◌≤◌, true, false, List, [], ◌∷◌, ◌++◌, length, get_or, take, drop, slice_range, ⊤}
+use Rattle.std.specs.Prelude.{◌≡◌, ◌⊎◌, ℕ, ◌≤◌, true, false, List, [], ◌∷◌, ◌++◌, length, take, drop, slice_range, ⊤}
 use Rattle.h1_chunks.specs.Place as model
 use Rattle.h1_chunks.specs.TakeNext.{Next, chunk, waits, ended, breaks, Taken, take_next}
 use Rattle.h1_payload.specs.declared.place.Place.{Place}
@@ -45,15 +45,6 @@ pub record IsWithin (len : ℕ) (s : Scan) : Type 0 where
 -- bytes of trailer lines in front of what is taken
 abbrev pub noting : List ℕ → Taken → Taken
 noting text t = record t { trailers = text ++ t.trailers }
-
--- bytes that are none of a chunk or of a trailer line lead on, from an index up to another
-pub record LeadsQuietly (start : model.Place) (bytes : List ℕ) (from at : ℕ) (place : model.Place) : Type 0 where
-  pub within : at ≤ length bytes
-  pub same : take_next start (drop from bytes) ≡ take_next place (drop at bytes)
-
--- CR LF stands at an index
-abbrev pub HasLineEnd : List ℕ → ℕ → Type 0
-HasLineEnd bytes at = (at + 2 ≤ length bytes) × (get_or bytes at 0 ≡ 13) × (get_or bytes (at + 1) 0 ≡ 10)
 
 -- so many bytes that are none of a chunk or of a trailer line were passed, up to the first that is, or to the end
 pub record IsPassed (start : Place) (bytes : List ℕ) (at : ℕ) (place : Place) : Type 0 where

@@ -1,13 +1,12 @@
 //! What comes next in the bytes of a body in chunks.
 ghost use Rattle.std.specs.Prelude.{◌≡◌, ◌≤◌, true, length, drop};
-ghost use Rattle.std.specs.Bool.{OnTrue};
 ghost use Rattle.h1_chunks.specs.TakeNext.{nothing_noted, take_next};
 ghost use Rattle.h1_payload.specs.Places.{line_of, place_of, is_section};
-ghost use Rattle.h1_chunks.specs.Place.{in_size, in_bytes, in_section, end_cr};
-ghost use Rattle.h1_payload.specs.Scans.{IsPassed, LeadsQuietly, HasLineEnd, IsLinesPassed, EndsLines, told, next_of, IsFoundWithin, IsNoChunk, IsWithin};
+ghost use Rattle.h1_chunks.specs.Place.{in_bytes, in_section, end_cr};
+ghost use Rattle.h1_payload.specs.Scans.{IsPassed, IsLinesPassed, EndsLines, told, next_of, IsFoundWithin, IsNoChunk, IsWithin};
 
-use crate::place::{Line, Place, after_line};
-use httparse::parse_hex_digit;
+use crate::place::{Line, Place};
+use crate::size_line::pass_usual;
 
 /// What comes next, by where it stands in the bytes.
 #[derive(Clone, Copy, Debug, PartialEq, Eq)]
@@ -33,7 +32,7 @@ pub(crate) struct Scan {
     pub(crate) found: Found,
 }
 
-/// What comes next in the bytes, from a place on. No byte of a chunk is looked at, and each other byte once.
+/// What comes next in the bytes, from a place on. No byte of a chunk is looked at, and each other is passed once.
 pub(crate) fn find_next(start: Place, bytes: &[u8]) -> Scan
     ensures value { take_next (place_of start) bytes.now ≡ told bytes.now result }
     ensures within { IsWithin (length bytes.now) result }
@@ -63,66 +62,12 @@ fn plain(at: usize, found: Found) -> Scan
 fn pass_quiet(start: Place, bytes: &[u8]) -> (usize, Place)
     ensures { IsPassed start bytes.now result.0 result.1 }
 {
-    let (mut at, mut place) = pass_usual(start, bytes);
+    let (mut at, mut place) = pass_usual(start, bytes, 0);
     while at < bytes.len() && place.is_quiet() {
         place = place.step(bytes[at]);
         at += 1;
     }
     (at, place)
-}
-
-/// The same as far as it is usual: the line end behind a chunk, and a size line of digits alone. Without the steps
-/// between all places a digit costs little.
-#[inline(always)]
-fn pass_usual(start: Place, bytes: &[u8]) -> (usize, Place)
-    ensures { LeadsQuietly (place_of start) bytes.now 0 result.0 (place_of result.1) }
-{
-    match start {
-        Place::Size(size) => pass_line(size, bytes, 0),
-        Place::BytesEnd if has_line_end(bytes, 0) => pass_line(0, bytes, 2),
-        _ => (0, start),
-    }
-}
-
-/// Passes a size line of digits alone, from an index on, where its size so far is this: of another line, its digits.
-#[inline(always)]
-fn pass_line(size: u64, bytes: &[u8], from: usize) -> (usize, Place)
-    requires { from ≤ length bytes.now }
-    ensures { LeadsQuietly (in_size size) bytes.now from result.0 (place_of result.1) }
-{
-    let (at, size) = pass_digits(size, bytes, from);
-    if has_line_end(bytes, at) {
-        (at + 2, after_line(size))
-    } else {
-        (at, Place::Size(size))
-    }
-}
-
-/// Passes the digits of a size, from an index on, while a further one still fits.
-#[inline(always)]
-fn pass_digits(start: u64, bytes: &[u8], from: usize) -> (usize, u64)
-    requires { from ≤ length bytes.now }
-    ensures { LeadsQuietly (in_size start) bytes.now from result.0 (in_size result.1) }
-{
-    let mut at = from;
-    let mut size = start;
-    while at < bytes.len() && size < 1 << 60 {
-        match parse_hex_digit(bytes[at]) {
-            Some(digit) => size = size * 16 + digit,
-            None => return (at, size),
-        }
-        at += 1;
-    }
-    (at, size)
-}
-
-/// Whether CR LF stands at an index.
-#[inline(always)]
-fn has_line_end(bytes: &[u8], at: usize) -> bool
-    requires { at ≤ length bytes.now }
-    ensures { OnTrue result (HasLineEnd bytes.now at) }
-{
-    bytes.len() - at >= 2 && bytes[at] == b'\r' && bytes[at + 1] == b'\n'
 }
 
 /// The bytes of a chunk that are there, from an index on, where so many follow the first.

@@ -1,6 +1,6 @@
 use Rattle.std.proofs.Common.{◌-◌, length}
 use Rattle.h1_payload.specs.Places.{place_of}
-use Rattle.h1_payload.specs.Scans.{LeadsQuietly}
+use Rattle.h1_payload.specs.QuietWays.{LeadsQuietly}
 use Rattle.h1_payload.proofs.scan.pass_quiet.Given as goal
 
 -- nothing was passed that comes next

@@ -1,7 +1,7 @@
 use Rattle.std.proofs.Common.{◌-◌, length}
 use Rattle.h1_chunks.specs.Place.{in_size}
-use Rattle.h1_payload.specs.Scans.{LeadsQuietly}
-use Rattle.h1_payload.proofs.scan.pass_digits.Given as goal
+use Rattle.h1_payload.specs.QuietWays.{LeadsQuietly}
+use Rattle.h1_payload.proofs.size_line.pass_digits.Given as goal
 
 -- all that was passed are digits of this size
 abbrev pub invariant-loop-at : goal.invariant-loop-at

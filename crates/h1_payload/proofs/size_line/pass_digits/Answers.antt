@@ -1,6 +1,6 @@
 use Rattle.h1_chunks.specs.Place.{in_size}
 use Rattle.h1_payload.proofs.QuietWays.{digit_leads}
-use Rattle.h1_payload.proofs.scan.pass_digits.Goals as goal
+use Rattle.h1_payload.proofs.size_line.pass_digits.Goals as goal
 
 pub loop-at-preserved : goal.loop-at-preserved
 loop-at-preserved c =

@@ -1,8 +1,8 @@
 use Rattle.std.proofs.Common.{◌+◌, sym, subst}
 use Rattle.h1_chunks.specs.Place.{Place, in_size}
-use Rattle.h1_payload.specs.Scans.{LeadsQuietly}
+use Rattle.h1_payload.specs.QuietWays.{LeadsQuietly}
 use Rattle.h1_payload.proofs.QuietWays.{line_leads}
-use Rattle.h1_payload.proofs.scan.pass_line.Goals as goal
+use Rattle.h1_payload.proofs.size_line.pass_line.Goals as goal
 
 pub returns-then-has_line_end : goal.returns-then-has_line_end
 returns-then-has_line_end c =
