@@ -26,7 +26,8 @@ pub(crate) fn pass_body(start: Place, bytes: &[u8]) -> (usize, Place)
     (at, place)
 }
 
-/// Passes one byte, the usual bytes between two chunks, or as many bytes of a chunk as are there. Behind a body, and where it is broken, it passes none.
+/// Passes as many bytes of a chunk as are there, or the usual ones between two chunks, or one byte. Behind a body, and
+/// where it is broken, it passes none.
 #[inline(always)]
 fn pass_next(place: Place, bytes: &[u8], at: usize) -> Option<(usize, Place)>
     requires { at < length bytes.now }

@@ -63,6 +63,11 @@ fn pass_quiet(start: Place, bytes: &[u8]) -> (usize, Place)
     ensures { IsPassed start bytes.now result.0 result.1 }
 {
     let (mut at, mut place) = pass_usual(start, bytes, 0);
+
+    // Mostly a chunk follows. The loop says so too, but later.
+    if let Place::Bytes(_) = place {
+        return (at, place);
+    }
     while at < bytes.len() && place.is_quiet() {
         place = place.step(bytes[at]);
         at += 1;

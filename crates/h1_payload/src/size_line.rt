@@ -61,5 +61,5 @@ fn has_line_end(bytes: &[u8], at: usize) -> bool
     requires { at ≤ length bytes.now }
     ensures { OnTrue result (HasLineEnd bytes.now at) }
 {
-    bytes.len() - at >= 2 && bytes[at] == b'\r' && bytes[at + 1] == b'\n'
+    at + 1 < bytes.len() && bytes[at] == b'\r' && bytes[at + 1] == b'\n'
 }
