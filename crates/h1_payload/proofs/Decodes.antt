@@ -1,5 +1,5 @@
 -- A decoder's answer, by what was pulled.
-use Rattle.std.proofs.Common.{◌≡◌, ℕ, Bool, true, false, List, ◌++◌, refl, sym, ap, ◌∙◌, subst, subst₂, ◌<◌, length}
+use Rattle.std.proofs.Common.{◌≡◌, ℕ, Bool, false, List, ◌++◌, refl, sym, ap, ◌∙◌, subst, subst₂, ◌<◌, length}
 use Rattle.std.specs.Prelude.{Option, Some, None, Result, Ok, Err, IfOk}
 use Rattle.http_map.specs.HeaderMap.{Entries}
 use Rattle.h1_model.specs.Request.{fixed_body}

@@ -1,9 +1,8 @@
 -- A pull that gives bytes or trailers gives some.
-use Rattle.std.proofs.Common.{◌≡◌, ℕ, ◌+◌, ◌<◌, Bool, true, false, cond, List, [], ◌∷◌, ◌++◌, length, take, map, fold, min, refl, sym, ap, ◌∙◌, subst, arith, length-take}
-use Rattle.std.specs.Prelude.{⊤, bytes_eq}
-use Rattle.std.specs.List.{AllByRecursion}
+use Rattle.std.proofs.Common.{◌≡◌, ℕ, ◌<◌, Bool, true, false, cond, List, [], ◌∷◌, ◌++◌, length, map, fold, refl, sym, subst, arith, length-take}
+use Rattle.std.specs.Prelude.{bytes_eq}
 use Rattle.http_header.specs.FieldValue.{FieldValue, plain_value}
-use Rattle.h1_chunks.specs.ChunkedText.{Trailer, IsTrailer, section_text}
+use Rattle.h1_chunks.specs.ChunkedText.{Trailer, section_text}
 use Rattle.h1_chunks.specs.Place.{Place}
 use Rattle.h1_chunks.specs.TakeNext.{Next, chunk, waits, ended, breaks, take_next}
 use Rattle.h1_chunks.proofs.TakenPlaces.{taken_chunk_leads}

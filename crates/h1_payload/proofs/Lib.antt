@@ -2,6 +2,7 @@ pub mod Taking
 pub mod Places
 pub mod Rooms
 pub mod PassLemmas
+pub mod QuietWays
 pub mod Lines
 pub mod Pulls
 pub mod Takes

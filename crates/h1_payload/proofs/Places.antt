@@ -66,7 +66,7 @@ chunk_some more bytes at left past some is =
 -- ---- the end
 
 -- one quiet byte
-quiet_at : (p : Place) (bytes : List ℕ) (at : ℕ) → is_quiet p ≡ true → at < length bytes
+pub quiet_at : (p : Place) (bytes : List ℕ) (at : ℕ) → is_quiet p ≡ true → at < length bytes
     → take_next p (drop at bytes) ≡ take_next (step p (get_or bytes at 0)) (drop (at + 1) bytes)
 quiet_at p bytes at quiet below =
     ap (take_next p) (drop-cons bytes at 0 below)

@@ -1,5 +1,6 @@
 pub mod Places
 pub mod Scans
+pub mod QuietWays
 pub mod HeaderMaps
 pub mod Answers
 pub mod Readers

@@ -25,7 +25,7 @@
 //! # Cost
 //!
 //! No byte of a chunk or of another body is looked at or copied: what is handed out shares the buffer's memory. Each
-//! byte between the chunks is looked at once, however it is cut. Trailer lines are kept until their section has ended,
+//! byte between the chunks is passed once, however it is cut. Trailer lines are kept until their section has ended,
 //! at most 8192 bytes, and then copied once.
 #![tactic(auto)]
 
@@ -40,6 +40,7 @@ mod pulled;
 mod rest;
 mod scan;
 mod section;
+mod size_line;
 mod trailers;
 
 pub use chunked_state::ChunkedState;

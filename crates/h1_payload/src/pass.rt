@@ -1,10 +1,11 @@
 //! Passing over a body in chunks, without its bytes.
-ghost use Rattle.std.specs.Prelude.{◌≡◌, ◌<◌, ◌⊎◌, length, drop, IfSome, IfNone};
+ghost use Rattle.std.specs.Prelude.{◌≡◌, ◌≢◌, ◌<◌, ◌⊎◌, length, drop, IfSome, IfNone};
 ghost use Rattle.h1_chunks.specs.Place.{in_bytes, done, broken};
 ghost use Rattle.h1_payload.specs.Places.{place_of};
 ghost use Rattle.h1_payload.specs.Passing.{LeadsTo, IsAllPassed};
 
 use crate::place::Place;
+use crate::size_line::pass_usual;
 
 /// Passes a body, and says where: at its end, where that is there, and else at the end of the bytes, or where it is
 /// broken. No byte of a chunk is looked at.
@@ -25,7 +26,8 @@ pub(crate) fn pass_body(start: Place, bytes: &[u8]) -> (usize, Place)
     (at, place)
 }
 
-/// Passes one byte, or as many bytes of a chunk as are there. Behind a body, and where it is broken, it passes none.
+/// Passes as many bytes of a chunk as are there, or the usual ones between two chunks, or one byte. Behind a body, and
+/// where it is broken, it passes none.
 #[inline(always)]
 fn pass_next(place: Place, bytes: &[u8], at: usize) -> Option<(usize, Place)>
     requires { at < length bytes.now }
@@ -36,8 +38,22 @@ fn pass_next(place: Place, bytes: &[u8], at: usize) -> Option<(usize, Place)>
         Place::Bytes(more) => Some(pass_chunk(more, bytes, at)),
         Place::Done => None,
         Place::Broken => None,
-        place => Some((at + 1, place.step(bytes[at]))),
+        place => Some(pass_between(place, bytes, at)),
     }
+}
+
+/// Passes the usual bytes between two chunks, and of others one.
+#[inline(always)]
+fn pass_between(place: Place, bytes: &[u8], at: usize) -> (usize, Place)
+    requires there { at < length bytes.now }
+    requires on { place_of place ≢ done }
+    ensures { LeadsTo (place_of place) bytes.now at result.0 (place_of result.1) }
+{
+    let (end, next) = pass_usual(place, bytes, at);
+    if end > at {
+        return (end, next);
+    }
+    (at + 1, place.step(bytes[at]))
 }
 
 /// Passes the bytes of a chunk that are there, where so many follow the first.

@@ -174,7 +174,7 @@ fn extension_step(size: u64, byte: u8) -> Place
 
 /// Behind a size line.
 #[inline(always)]
-fn after_line(size: u64) -> Place
+pub(crate) fn after_line(size: u64) -> Place
     ensures { place_of result ≡ after_line size }
 {
     if size == 0 {

@@ -6,6 +6,7 @@ ghost use Rattle.h1_chunks.specs.Place.{in_bytes, in_section, end_cr};
 ghost use Rattle.h1_payload.specs.Scans.{IsPassed, IsLinesPassed, EndsLines, told, next_of, IsFoundWithin, IsNoChunk, IsWithin};
 
 use crate::place::{Line, Place};
+use crate::size_line::pass_usual;
 
 /// What comes next, by where it stands in the bytes.
 #[derive(Clone, Copy, Debug, PartialEq, Eq)]
@@ -31,7 +32,7 @@ pub(crate) struct Scan {
     pub(crate) found: Found,
 }
 
-/// What comes next in the bytes, from a place on. No byte of a chunk is looked at, and each other byte once.
+/// What comes next in the bytes, from a place on. No byte of a chunk is looked at, and each other is passed once.
 pub(crate) fn find_next(start: Place, bytes: &[u8]) -> Scan
     ensures value { take_next (place_of start) bytes.now ≡ told bytes.now result }
     ensures within { IsWithin (length bytes.now) result }
@@ -61,14 +62,17 @@ fn plain(at: usize, found: Found) -> Scan
 fn pass_quiet(start: Place, bytes: &[u8]) -> (usize, Place)
     ensures { IsPassed start bytes.now result.0 result.1 }
 {
-    let mut place = start;
-    for (at, byte) in bytes.iter().enumerate() {
-        if !place.is_quiet() {
-            return (at, place);
-        }
-        place = place.step(*byte);
+    let (mut at, mut place) = pass_usual(start, bytes, 0);
+
+    // Mostly a chunk follows. The loop says so too, but later.
+    if let Place::Bytes(_) = place {
+        return (at, place);
     }
-    (bytes.len(), place)
+    while at < bytes.len() && place.is_quiet() {
+        place = place.step(bytes[at]);
+        at += 1;
+    }
+    (at, place)
 }
 
 /// The bytes of a chunk that are there, from an index on, where so many follow the first.

@@ -3,13 +3,12 @@ use Rattle.h1_chunks.specs.Place.{Place}
 use Rattle.h1_chunks.proofs.ReadSteps.{has_next}
 use Rattle.h1_payload.specs.Passing.{LeadsTo}
 use Rattle.h1_payload.specs.Places.{place_of}
-use Rattle.h1_payload.proofs.PassLemmas.{one_leads, not_done}
-use Rattle.h1_payload.proofs.pass.pass_next.Goals as goal
+use Rattle.h1_payload.proofs.PassLemmas.{one_leads}
+use Rattle.h1_payload.proofs.pass.pass_between.Goals as goal
 
-pub returns-in_default-clause-on : goal.returns-in_default-clause-on
-returns-in_default-clause-on c =
+pub returns : goal.returns
+returns c =
     let p = place_of c.args.place in
-    let other = not_done c.args.place c.in_default.not-Done in
     subst (λ (q : Place). LeadsTo p c.args.bytes.now c.args.at (c.args.at + 1) q)
     (sym c.step.ensures)
-    (one_leads p c.args.bytes.now c.args.at c.requires (has_next p other))
+    (one_leads p c.args.bytes.now c.args.at c.requires.there (has_next p c.requires.on))
