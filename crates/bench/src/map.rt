@@ -10,10 +10,11 @@ use std::str;
 const MOST_REMOVED: usize = 100;
 
 /// Every work with a map.
-pub static MAP_WORKS: [MapWork; 7] = [
+pub static MAP_WORKS: [MapWork; 8] = [
     MapWork::Lines,
     MapWork::Append,
     MapWork::AppendInRoom,
+    MapWork::AppendKept,
     MapWork::Find,
     MapWork::Miss,
     MapWork::Iterate,
@@ -31,6 +32,9 @@ pub enum MapWork {
 
     /// The same in a map that was given room for them.
     AppendInRoom,
+
+    /// The same in a map that is kept and cleared, as that of a head that is written over another one.
+    AppendKept,
 
     /// A name that is there is looked up.
     Find,
@@ -57,6 +61,7 @@ impl MapWork {
             MapWork::Lines => "lines",
             MapWork::Append => "append",
             MapWork::AppendInRoom => "append-in-room",
+            MapWork::AppendKept => "append-kept",
             MapWork::Find => "find",
             MapWork::Miss => "miss",
             MapWork::Iterate => "iterate",
@@ -94,6 +99,12 @@ impl MapWork {
             MapWork::AppendInRoom => {
                 let made = map_of(HeaderMap::with_capacity(alloc, there.len())?, there)?;
                 checksum.add(made.len());
+                Ok(())
+            }
+            MapWork::AppendKept => {
+                map.clear();
+                append_all(map, there)?;
+                checksum.add(map.len());
                 Ok(())
             }
             MapWork::Find => {
@@ -254,10 +265,15 @@ fn clone_lines(lines: &[Line], checksum: &mut Checksum) -> Result<(), BenchError
 }
 
 fn map_of(mut map: HeaderMap, lines: &[Line]) -> Result<HeaderMap, BenchError> {
+    append_all(&mut map, lines)?;
+    Ok(map)
+}
+
+fn append_all(map: &mut HeaderMap, lines: &[Line]) -> Result<(), BenchError> {
     for (name, value) in lines {
         map.append(name.clone()?, value.clone()?)?;
     }
-    Ok(map)
+    Ok(())
 }
 
 fn look_up(map: &HeaderMap, lines: &[Line], checksum: &mut Checksum) {
