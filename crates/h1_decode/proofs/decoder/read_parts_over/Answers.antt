@@ -16,5 +16,5 @@ returns-in-Err-clause-refused c =
     refused_lines (parts_at c.args.piece.now spans c.args.fields.now) c.in-Err.error c.lines_error.result
     (subst IsToken method c.in_ok-method.ensures.token)
     (λ ne. let r = c.in-Err.ensures.refused ne in
-      (r.0, subst (λ (m : List ℕ). RefusesLinesOf spans.version m lines) (c.as_str.ensures.value ∙ c.in_ok-method.ensures.method ∙ method) r.1))
+    (r.0, subst (λ (m : List ℕ). RefusesLinesOf spans.version m lines) (c.as_str.ensures.value ∙ c.in_ok-method.ensures.method ∙ method) r.1))
     c.lines_error.ensures

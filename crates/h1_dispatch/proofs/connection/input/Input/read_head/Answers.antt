@@ -24,13 +24,21 @@ returns-then-start-gt0-clause-fault c =
 pub returns-clause-head : goal.returns-clause-head
 returns-clause-head c =
     on_ok_weaker c.read_head_into.result
-    (λ read. (_, head_at _ _ c.cut.new.front _ _ _ c.in-Some.search c.in-Piece.start c.in-Piece.end c.self.view_is c.in-Some.is c.in-Piece.is c.self.invariant c.in-Ok.ensures.front
-      (from_start c.cut.new.front c.in-Piece.start c.if-start-gt0.false), read))
+    (λ read. (
+      _,
+      head_at _ _ c.cut.new.front _ _ _ c.in-Some.search c.in-Piece.start c.in-Piece.end c.self.view_is c.in-Some.is c.in-Piece.is c.self.invariant c.in-Ok.ensures.front
+          (from_start c.cut.new.front c.in-Piece.start c.if-start-gt0.false),
+      read,
+    ))
     c.read_head_into.ensures.head
 
 pub returns-clause-fault : goal.returns-clause-fault
 returns-clause-fault c =
     IfErr-weaker c.read_head_into.result _ _
-    (λ e read ne. (_, head_at _ _ c.cut.new.front _ _ _ c.in-Some.search c.in-Piece.start c.in-Piece.end c.self.view_is c.in-Some.is c.in-Piece.is c.self.invariant c.in-Ok.ensures.front
-      (from_start c.cut.new.front c.in-Piece.start c.if-start-gt0.false), read ne))
+    (λ e read ne. (
+      _,
+      head_at _ _ c.cut.new.front _ _ _ c.in-Some.search c.in-Piece.start c.in-Piece.end c.self.view_is c.in-Some.is c.in-Piece.is c.self.invariant c.in-Ok.ensures.front
+          (from_start c.cut.new.front c.in-Piece.start c.if-start-gt0.false),
+      read ne,
+    ))
     c.read_head_into.ensures.fault
