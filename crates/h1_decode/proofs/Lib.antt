@@ -8,4 +8,5 @@ pub mod LengthLemmas
 pub mod LineEndLemmas
 pub mod LinesLemmas
 pub mod ReadingLemmas
+pub mod TargetLemmas
 pub mod TrimLemmas

@@ -256,7 +256,7 @@ fn read_parts_over(
     match lines {
         Ok((framing, body)) => {
             let target = share(piece, spans.path)?;
-            put_uri(&mut item.head.uri, share(piece, spans.path)?)?;
+            put_uri(&mut item.head.uri, &target)?;
             item.head.restart(method, read_version(spans.version));
             framing.mark(&mut item.head);
             item.target = target;
@@ -291,12 +291,20 @@ fn read_method(alloc: Global, src: &[u8]) -> Result<Method, ParseError>
     }
 }
 
-/// Makes it the request target (RFC 7230, section 5.3), which shares the memory of the bytes.
-fn put_uri(uri: &mut Uri, src: Bytes) -> Result<(), ParseError>
-    ensures spelled { OnOk result (Spells src uri.new) }
-    ensures refused { IfErr result (λ e. UnlessNoMemory e ((e ≡ ParseError.Uri) × SpellsNone src)) }
+/// Makes it the request target (RFC 7230, section 5.3), which shares the memory of the bytes. The most common one
+/// is there already.
+fn put_uri(uri: &mut Uri, src: &Bytes) -> Result<(), ParseError>
+    ensures spelled { OnOk result (Spells src.now uri.new) }
+    ensures refused { IfErr result (λ e. UnlessNoMemory e ((e ≡ ParseError.Uri) × SpellsNone src.now)) }
     ensures err { OnErr result (uri.new ≡ uri.old) }
 {
+    if is_root(src.as_slice()) {
+        *uri = Uri::default();
+        return Ok(());
+    }
+    let Ok(src) = src.clone() else {
+        return Err(ParseError::NoMemory);
+    };
     match Uri::from_shared(src) {
         Ok(new) => {
             *uri = new;
@@ -305,6 +313,13 @@ fn put_uri(uri: &mut Uri, src: Bytes) -> Result<(), ParseError>
         Err(UriError::Invalid(_)) => Err(ParseError::Uri),
         Err(UriError::OutOfMemory) => Err(ParseError::NoMemory),
     }
+}
+
+/// Whether these bytes are `/`.
+fn is_root(bytes: &[u8]) -> bool
+    ensures { IsTrue result → bytes.now ≡ codes "/" }
+{
+    bytes.len() == 1 && bytes[0] == b'/'
 }
 
 /// The error of a head whose lines are refused for this one: a target that is none is told before.
@@ -318,7 +333,7 @@ fn lines_error(piece: &Bytes, path: Span, error: ParseError) -> ParseError
         Ok(src) => src,
         Err(error) => return error,
     };
-    match put_uri(&mut Uri::default(), src) {
+    match put_uri(&mut Uri::default(), &src) {
         Ok(()) => error,
         Err(error) => error,
     }

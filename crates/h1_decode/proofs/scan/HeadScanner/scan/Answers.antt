@@ -1,4 +1,4 @@
-use Rattle.std.proofs.Common.{sym, ap}
+use Rattle.std.proofs.Common.{sym, ap, ◌∙◌}
 use Rattle.h1_model.specs.HeadPiece.{HasNoHeadPiece}
 use Rattle.h1_decode.specs.declared.scan.HeadScan.TheVariants.{Open}
 use Rattle.h1_decode.specs.HeadPosition.{HeadPosition}
