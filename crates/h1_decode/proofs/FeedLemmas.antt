@@ -10,15 +10,15 @@ use Rattle.h1_model.specs.HeadPiece.{BeginsBlank, header_lines}
 use Rattle.httparse.specs.Grammar.{AllPass, is_token_byte, is_uri_byte, is_value_byte, LineEnd, crlf, lf, print_end, print_blank, print_version, Field, IsField, print_field, print_section, RequestHead, IsRequestHead, print_request, ReadsRequest}
 
 -- the test for a line feed
-abbrev is_feed : ℕ → Bool
+abbrev pub is_feed : ℕ → Bool
 is_feed b = b == line_feed
 
 -- the line feeds of a text
-abbrev feeds : List ℕ → ℕ
+abbrev pub feeds : List ℕ → ℕ
 feeds text = length (filter is_feed text)
 
 -- those of two texts are theirs together
-feeds-append : (a b : List ℕ) → feeds (a ++ b) ≡ feeds a + feeds b
+pub feeds-append : (a b : List ℕ) → feeds (a ++ b) ≡ feeds a + feeds b
 feeds-append a b = ap length (filter-append is_feed a b) ∙ length-append (filter is_feed a) (filter is_feed b)
 
 -- each line end has one
@@ -27,7 +27,7 @@ feeds-print_end crlf = refl
 feeds-print_end lf = refl
 
 -- bytes of a kind that a line feed is not of have no line feed
-feeds-none : (test : ℕ → Bool) → test line_feed ≡ false → (text : List ℕ) → AllPass test text → feeds text ≡ 0
+pub feeds-none : (test : ℕ → Bool) → test line_feed ≡ false → (text : List ℕ) → AllPass test text → feeds text ≡ 0
 feeds-none test fails [] pass = refl
 feeds-none test fails (b ∷ text) pass =
     by_byte (is_feed b) refl (feeds-none test fails text (All-tail (λ x. IsTrue (test x)) b text pass))
@@ -40,12 +40,12 @@ feeds-none test fails (b ∷ text) pass =
     by_byte false is none = rw is none
 
 -- a token has none
-feeds-token : (text : List ℕ) → AllPass is_token_byte text → feeds text ≡ 0
+pub feeds-token : (text : List ℕ) → AllPass is_token_byte text → feeds text ≡ 0
 unfolding is_token_byte
 feeds-token text pass = feeds-none is_token_byte refl text pass
 
 -- nor has a version
-feeds-version : (minor : ℕ) → minor ≤ 1 → feeds (print_version minor) ≡ 0
+pub feeds-version : (minor : ℕ) → minor ≤ 1 → feeds (print_version minor) ≡ 0
 feeds-version zero low = refl
 feeds-version (suc zero) low = refl
 feeds-version (suc (suc n)) low = absurd (omega (arith, low))
@@ -74,7 +74,7 @@ feeds-fields (f ∷ fields) all =
     )
 
 -- where a text does not begin with an empty line, it begins with no empty lines
-no_blank : (blank : List LineEnd) (rest : List ℕ) → ¬ (BeginsBlank (print_blank blank ++ rest)) → blank ≡ []
+pub no_blank : (blank : List LineEnd) (rest : List ℕ) → ¬ (BeginsBlank (print_blank blank ++ rest)) → blank ≡ []
 no_blank [] rest begins = refl
 no_blank (end ∷ blank) rest begins = absurd (begins (end, print_blank blank ++ rest, append_assoc (print_end end) (print_blank blank) rest))
 

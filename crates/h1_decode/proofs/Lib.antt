@@ -2,6 +2,7 @@ pub mod BodyKindLemmas
 pub mod ConnectionLemmas
 pub mod FeedLemmas
 pub mod FramingLemmas
+pub mod FrontLemmas
 pub mod GrammarErrors
 pub mod HeadPieceLemmas
 pub mod LengthLemmas

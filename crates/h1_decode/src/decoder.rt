@@ -1,10 +1,10 @@
 //! What the head of a request says (RFC 7230, section 3).
-ghost use Rattle.std.specs.Prelude.{◌≡◌, ◌↔◌, ◌<◌, ◌≤◌, ◌⊎◌, [], IsTrue, length, map, codes, nat_lt, if◌then◌else◌, OnOk, OnErr, IfOk, IfErr, All};
+ghost use Rattle.std.specs.Prelude.{◌≡◌, ◌↔◌, ◌<◌, ◌≤◌, ◌⊎◌, ◌++◌, [], IsTrue, false, length, map, take, codes, IfSome, nat_lt, if◌then◌else◌, OnOk, OnErr, IfOk, IfErr, All};
 ghost use Rattle.http_header.specs.Token.{IsToken};
 ghost use Rattle.http_bodies.specs.Kinds.{kind_of};
 ghost use Rattle.http_uri.specs.Uri.{Spells, SpellsNone};
 ghost use Rattle.httparse.specs.Spans.{IsHeaderWithin, IsRequestWithin, IsWithin, header_bytes, span_bytes};
-ghost use Rattle.h1_model.specs.HeadPiece.{header_lines};
+ghost use Rattle.h1_model.specs.HeadPiece.{IsHeadPiece, header_lines};
 ghost use Rattle.h1_model.specs.Request.{Head, head_is, faulty};
 ghost use Rattle.h1_model.specs.RequestHead.{IsReading, IsTarget};
 ghost use Rattle.h1_decode.specs.HeadItem.{SaysHead, version_of, without_headers};
@@ -15,7 +15,7 @@ ghost use Rattle.h1_decode.specs.WholeHead.{HasFewFields, IsOfGrammar, IsWholeHe
 
 use crate::lines::{read_lines, share};
 use crate::scan::line_end_len;
-use bytes::Bytes;
+use bytes::{Bytes, BytesMut};
 use http::method::MethodError;
 use http_bodies::BodyKind;
 use http_types::{Method, NoMemory, ParseError, RequestHead, Uri, Version};
@@ -155,6 +155,60 @@ fn read_over(
     match parse_whole(piece.as_slice(), &mut room.fields) {
         Ok(spans) => read_parts_over(alloc, item, piece, spans, &room.fields[..spans.headers]),
         Err(error) => Err(error),
+    }
+}
+
+/// Cuts off the head with which the buffer begins, and reads it over another one as `read_head_into` does. It looks
+/// for no end before. It answers false where no head of at most 96 header lines stands there whole, and where empty
+/// lines stand before it: all is then as before. After an error `item` is what it was, but without headers.
+pub fn cut_head_into(
+    alloc: Global,
+    item: &mut HeadItem,
+    room: &mut HeadRoom,
+    buffer: &mut BytesMut,
+    front: &mut Bytes,
+) -> Result<bool, ParseError>
+    requires { front.old ≡ [] }
+    ensures bytes { front.new ++ buffer.new.items ≡ buffer.old.items }
+    ensures cut { (front.new ≡ []) ⊎ IsHeadPiece buffer.old.items 0 (length front.new) }
+    ensures head { IfOk result (λ found. IsTrue found → IsHeadPiece buffer.old.items 0 (length front.new)
+        × ((h : Head) × IsReading front.new (head_is h) × SaysHead item.new h)) }
+    ensures none { IfOk result (λ found. found ≡ false → (front.new ≡ []) × (item.new ≡ item.old)) }
+    ensures fault { IfErr result (λ e. UnlessNoMemory e (IsHeadPiece buffer.old.items 0 (length front.new)
+        × IsReading front.new (faulty (fault_of e)))) }
+    ensures err { OnErr result (item.new ≡ without_headers item.old) }
+{
+    let Some(spans) = parse_front(buffer.as_slice(), &mut room.fields) else {
+        return Ok(false);
+    };
+    item.head.headers.clear();
+    match buffer.freeze_to(spans.len) {
+        Ok(head) => *front = head,
+        Err(_) => return Err(ParseError::NoMemory),
+    }
+    match read_parts_over(alloc, item, front, spans, &room.fields[..spans.headers]) {
+        Ok(()) => Ok(true),
+        Err(error) => {
+            item.head.headers.clear();
+            Err(error)
+        }
+    }
+}
+
+/// Where the parts of the head are with which the bytes begin, if it stands there whole and no empty lines before it.
+#[inline(always)]
+fn parse_front(bytes: &[u8], fields: &mut [HeaderSpan]) -> Option<RequestSpans>
+    requires { length fields.old ≡ MAX_HEADERS }
+    ensures piece { IfSome result (λ spans. IsHeadPiece bytes.now 0 spans.len) }
+    ensures within { IfSome result (λ spans. IsRequestWithin (take spans.len bytes.now) fields.new spans) }
+    ensures found { IfSome result (λ spans. IsWholeHeadAt (take spans.len bytes.now) fields.new spans) }
+{
+    let None = line_end_len(bytes) else {
+        return None;
+    };
+    match parse_request(bytes, fields) {
+        Ok(Status::Complete(spans)) => Some(spans),
+        _ => None,
     }
 }
 

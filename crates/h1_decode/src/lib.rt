@@ -26,6 +26,8 @@ mod lines;
 mod scan;
 mod value;
 
-pub use decoder::{HeadItem, HeadRoom, read_head_into, request_head, request_head_in};
+pub use decoder::{
+    HeadItem, HeadRoom, cut_head_into, read_head_into, request_head, request_head_in,
+};
 pub use http_bodies::BodyKind;
 pub use scan::{HeadScan, HeadScanner, scan_head};
