@@ -1,5 +1,5 @@
 -- A head with which a buffer begins, without a search for its end.
-use Rattle.std.proofs.Common.{◌≡◌, ℕ, ◌+◌, ◌<◌, ◌≤◌, Bool, List, [], ◌∷◌, ◌++◌, length, take, drop, map, filter, flat_map, get_or, slice_range, cond, true, false, All, refl, sym, ap, ◌∙◌, subst, arith, le_refl, append-nil, append_assoc, length-append, length-drop}
+use Rattle.std.proofs.Common.{◌≡◌, ℕ, ◌+◌, ◌<◌, ◌≤◌, Bool, List, [], ◌∷◌, ◌++◌, length, take, drop, map, filter, flat_map, get_or, slice_range, cond, true, false, All, refl, sym, ap, ◌∙◌, subst, arith, append-nil, append_assoc, length-append, length-drop}
 use Rattle.std.specs.Prelude.{IsTrue}
 use Rattle.std.proofs.Math.Seq.{take-append_seam}
 use Rattle.std.proofs.lemmas.Bool.{eq-eqb, false≢true}
@@ -9,11 +9,11 @@ use Rattle.std.proofs.lemmas.Slice.{between_is}
 use Rattle.bytes.proofs.Ranges.{slice_range_front}
 use Rattle.httparse.specs.Ascii.{line_feed, carriage_return, space, colon}
 use Rattle.httparse.specs.Grammar.{is_token_byte, is_uri_byte, is_value_byte, IsToken, LineEnd, crlf, lf, print_end, print_blank, print_version, Field, IsField, print_field, RequestHead, IsRequestHead, print_request, ReadsRequest}
-use Rattle.httparse.specs.Spans.{span_bytes, header_bytes, name_and_value, IsHeaderWithin, IsRequestWithin, IsRequestAt, IsRequestOf}
+use Rattle.httparse.specs.Spans.{span_bytes, header_bytes, name_and_value, IsHeaderWithin, IsRequestWithin, IsRequestOf}
 use Rattle.httparse.specs.declared.spans.HeaderSpan.{HeaderSpan}
 use Rattle.httparse.specs.declared.spans.RequestSpans.{RequestSpans}
 use Rattle.httparse.proofs.GrammarLemmas.{print_request-append}
-use Rattle.h1_model.specs.HeadPiece.{BeginsBlank, EndsBlank, IsHeadPiece, header_lines}
+use Rattle.h1_model.specs.HeadPiece.{BeginsBlank, EndsBlank, IsHeadPiece}
 use Rattle.h1_decode.specs.WholeHead.{IsWholeHeadAt}
 use Rattle.h1_decode.proofs.FeedLemmas.{is_feed, feeds, feeds-append, feeds-none, feeds-token, feeds-version, no_blank, header_lines-fields}
 
@@ -24,14 +24,14 @@ abbrev EndsLate : List ℕ → ℕ → Type 0
 EndsLate text n =
     (before : List ℕ) (end : LineEnd) (after : List ℕ) → text ≡ before ++ (line_feed ∷ print_end end ++ after) → length after ≤ n
 
--- so it is with one byte more in front, be it no line feed
+-- so it is with one more byte in front that is no line feed
 late_byte : (b : ℕ) (text : List ℕ) (n : ℕ) → is_feed b ≡ false → EndsLate text n → EndsLate (b ∷ text) n
 late_byte b text n other late [] end after is =
     let here : b ≡ line_feed = ap (λ xs. get_or xs 0 0) is in
     absurd (false≢true (sym other ∙ eq-eqb b line_feed here))
 late_byte b text n other late (x ∷ before) end after is = late before end after (ap (drop 1) is)
 
--- a text without line feeds has none at its front, and none behind it
+-- a text without line feeds has none at its front, and none behind that
 feedless : (b : ℕ) (text : List ℕ) → feeds (b ∷ text) ≡ 0 → (is_feed b ≡ false) × (feeds text ≡ 0)
 feedless b text none = by_byte (is_feed b) refl none
   where
@@ -52,6 +52,7 @@ late_feed : (text : List ℕ) (n : ℕ) → ¬ (BeginsBlank text) → EndsLate t
 late_feed text n begins late [] end after is = absurd (begins (end, after, ap (drop 1) is))
 late_feed text n begins late (x ∷ before) end after is = late before end after (ap (drop 1) is)
 
+-- with a line end in front
 late_end : (end : LineEnd) (text : List ℕ) (n : ℕ) → ¬ (BeginsBlank text) → EndsLate text n → EndsLate (print_end end ++ text) n
 late_end crlf text n begins late = late_byte carriage_return (line_feed ∷ text) n refl (late_feed text n begins late)
 late_end lf text n begins late = late_feed text n begins late
@@ -61,7 +62,7 @@ end_bytes : (end : LineEnd) → (1 ≤ length (print_end end)) × (length (print
 end_bytes crlf = (omega arith, omega arith)
 end_bytes lf = (omega arith, omega arith)
 
--- what follows a line end at the front is one text
+-- what follows the line end at the front of a text is as long, however it is read
 rest_alike : (a b : LineEnd) (rest after : List ℕ) → print_end a ++ rest ≡ print_end b ++ after → length after ≤ length rest
 rest_alike crlf crlf rest after is = omega (arith, ap length is)
 rest_alike lf lf rest after is = omega (arith, ap length is)
@@ -82,6 +83,7 @@ late_last_feed last rest (x ∷ before) end after is =
       (end_bytes end).0,
     )
 
+-- the same with the line end before
 late_last : (end last : LineEnd) (rest : List ℕ) → EndsLate (print_end end ++ (print_end last ++ rest)) (length rest)
 late_last crlf last rest = late_byte carriage_return (line_feed ∷ print_end last ++ rest) (length rest) refl (late_last_feed last rest)
 late_last lf last rest = late_last_feed last rest
@@ -147,7 +149,7 @@ lines_of h none =
     ap (λ (blank : List LineEnd). print_blank blank ++ h.method ++ space ∷ h.target ++ space ∷ print_version h.minor ++ print_end h.line_end ++ section) none
     ∙ append_assoc (request_line h) (print_end h.line_end) section
 
--- it has no line feed in its first line
+-- its request line has no line feed
 feeds-line : (h : RequestHead) → IsRequestHead h → feeds (request_line h) ≡ 0
 feeds-line h is =
     omega (
@@ -160,9 +162,11 @@ feeds-line h is =
     )
 
 module _ (bytes rest : List ℕ) (h : RequestHead) (reads : ReadsRequest bytes h rest) (begins : ¬ (BeginsBlank bytes)) where
+  -- it has no empty lines in front
   none_before : h.blank ≡ []
   none_before = no_blank h.blank _ (subst (λ (text : List ℕ). ¬ (BeginsBlank text)) (reads.1 ∙ print_request-append h rest) begins)
 
+  -- an empty line behind a line feed ends no earlier than the head
   late : EndsLate bytes (length rest)
   late =
       let lines = flat_map print_field h.fields in
@@ -197,7 +201,7 @@ module _ (bytes rest : List ℕ) (h : RequestHead) (reads : ReadsRequest bytes h
         first = λ e low less ends. none_shorter e less (subst EndsBlank (between_is bytes 0 e) ends);
       }
 
--- ---- its spans in the piece that is cut off
+-- ---- the spans of a head in the piece that is cut off
 
 -- spans within the first bytes cover the same of the whole
 same_lines : (piece bytes : List ℕ) (n : ℕ) (spans : List HeaderSpan) → take n bytes ≡ piece → All (IsHeaderWithin n) spans
@@ -211,20 +215,7 @@ same_lines piece bytes n (s ∷ spans) front within =
     (λ i. (name i, value i) ∷ later i)
 
 module _ (bytes : List ℕ) (fields : List HeaderSpan) (spans : RequestSpans) (within : IsRequestWithin bytes fields spans) where
-  -- the spans of a head at the front lie in the piece that is cut off
-  pub front_within : IsRequestWithin (take spans.len bytes) fields spans
-  front_within = record {
-    method = within.method;
-    path = within.path;
-    version = within.version;
-    section = record {
-      len_fits = omega (arith, length-take-le spans.len bytes within.section.len_fits);
-      count_fits = within.section.count_fits;
-      headers_fit = within.section.headers_fit;
-    };
-  }
-
-  -- and are those of a head that is this whole piece
+  -- the spans are those of a head that is the whole piece
   pub front_whole : IsRequestOf bytes fields spans → ¬ (BeginsBlank bytes) → length fields ≤ 96 → IsWholeHeadAt (take spans.len bytes) fields spans
   front_whole (h, at) begins room =
       let cut = take spans.len bytes in
@@ -254,6 +245,7 @@ module _ (bytes : List ℕ) (fields : List HeaderSpan) (spans : RequestSpans) (w
         };
       }
 
+  -- this piece is the head piece of the bytes
   pub front_is_piece : IsRequestOf bytes fields spans → ¬ (BeginsBlank bytes) → IsHeadPiece bytes 0 spans.len
   front_is_piece (h, at) begins = subst (IsHeadPiece bytes 0) (sym at.len) (front_piece bytes (drop spans.len bytes) h at.reads begins)
 

@@ -6,7 +6,7 @@ use Rattle.httparse.specs.Grammar.{RequestHead, ReadsRequest}
 use Rattle.httparse.specs.Spans.{IsRequestAt}
 use Rattle.httparse.specs.declared.spans.HeaderSpan.{HeaderSpan}
 use Rattle.httparse.specs.declared.spans.RequestSpans.{RequestSpans}
-use Rattle.h1_model.specs.HeadPiece.{header_lines}
+use Rattle.h1_model.specs.HeadPiece.{BeginsBlank, header_lines}
 use Rattle.h1_model.specs.Limits.{MAX_HEADER_LINES}
 use Rattle.h1_decode.specs.Refusal.{IsTextOf, IsNoText}
 
@@ -19,6 +19,11 @@ pub record IsWholeHeadAt (piece : List ℕ) (fields : List HeaderSpan) (spans : 
 -- the piece is a head of no more fields than a head may have header lines
 abbrev pub HasFewFields : List ℕ → Type 0
 HasFewFields piece = (text : RequestHead) × ReadsRequest piece text [] × (length text.fields ≤ MAX_HEADER_LINES)
+
+-- where the bytes begin with no empty line, a head at their front has more fields than a head may have header lines
+abbrev pub BeginsWithNoHead : List ℕ → Type 0
+BeginsWithNoHead bytes =
+    ¬ (BeginsBlank bytes) → (text : RequestHead) (rest : List ℕ) → ReadsRequest bytes text rest → MAX_HEADER_LINES < length text.fields
 
 -- which text of the grammar the piece would be, were it none of too many lines
 abbrev pub HasNoText : List ℕ → Type 0

@@ -1,5 +1,5 @@
 //! What the head of a request says (RFC 7230, section 3).
-ghost use Rattle.std.specs.Prelude.{◌≡◌, ◌↔◌, ◌<◌, ◌≤◌, ◌⊎◌, ◌++◌, [], IsTrue, false, length, map, take, codes, IfSome, nat_lt, if◌then◌else◌, OnOk, OnErr, IfOk, IfErr, All};
+ghost use Rattle.std.specs.Prelude.{◌≡◌, ◌↔◌, ◌<◌, ◌≤◌, ◌⊎◌, ◌++◌, [], IsTrue, false, length, map, take, codes, IfSome, IfNone, nat_lt, if◌then◌else◌, OnOk, OnErr, IfOk, IfErr, All};
 ghost use Rattle.http_header.specs.Token.{IsToken};
 ghost use Rattle.http_bodies.specs.Kinds.{kind_of};
 ghost use Rattle.http_uri.specs.Uri.{Spells, SpellsNone};
@@ -11,7 +11,7 @@ ghost use Rattle.h1_decode.specs.HeadItem.{SaysHead, version_of, without_headers
 ghost use Rattle.h1_decode.specs.Lines.{HasValue};
 ghost use Rattle.h1_decode.specs.ReadParts.{parts_at, head_of, AreParts, RefusesParts};
 ghost use Rattle.h1_decode.specs.Refusal.{UnlessNoMemory, fault_of, Refuses};
-ghost use Rattle.h1_decode.specs.WholeHead.{HasFewFields, IsOfGrammar, IsWholeHeadAt, RefusesText};
+ghost use Rattle.h1_decode.specs.WholeHead.{BeginsWithNoHead, HasFewFields, IsOfGrammar, IsWholeHeadAt, RefusesText};
 
 use crate::lines::{read_lines, share};
 use crate::scan::line_end_len;
@@ -158,9 +158,10 @@ fn read_over(
     }
 }
 
-/// Cuts off the head with which the buffer begins, and reads it over another one as `read_head_into` does. It looks
-/// for no end before. It answers false where no head of at most 96 header lines stands there whole, and where empty
-/// lines stand before it: all is then as before. After an error `item` is what it was, but without headers.
+/// Cuts off the head with which the buffer begins, and reads it over another one as `read_head_into` does, with no
+/// search for its end. It answers false where an empty line stands at the front, and where no whole head of the grammar
+/// with at most 96 header lines does: all is then as before. A head that is refused is cut off too. After an error
+/// `item` is what it was, but without headers.
 pub fn cut_head_into(
     alloc: Global,
     item: &mut HeadItem,
@@ -174,6 +175,7 @@ pub fn cut_head_into(
     ensures head { IfOk result (λ found. IsTrue found → IsHeadPiece buffer.old.items 0 (length front.new)
         × ((h : Head) × IsReading front.new (head_is h) × SaysHead item.new h)) }
     ensures none { IfOk result (λ found. found ≡ false → (front.new ≡ []) × (item.new ≡ item.old)) }
+    ensures missing { IfOk result (λ found. found ≡ false → BeginsWithNoHead buffer.old.items) }
     ensures fault { IfErr result (λ e. UnlessNoMemory e (IsHeadPiece buffer.old.items 0 (length front.new)
         × IsReading front.new (faulty (fault_of e)))) }
     ensures err { OnErr result (item.new ≡ without_headers item.old) }
@@ -195,20 +197,22 @@ pub fn cut_head_into(
     }
 }
 
-/// Where the parts of the head are with which the bytes begin, if it stands there whole and no empty lines before it.
+/// Where the parts of the head are with which the bytes begin, if it stands there whole, with no empty line before it.
 #[inline(always)]
 fn parse_front(bytes: &[u8], fields: &mut [HeaderSpan]) -> Option<RequestSpans>
     requires { length fields.old ≡ MAX_HEADERS }
     ensures piece { IfSome result (λ spans. IsHeadPiece bytes.now 0 spans.len) }
     ensures within { IfSome result (λ spans. IsRequestWithin (take spans.len bytes.now) fields.new spans) }
     ensures found { IfSome result (λ spans. IsWholeHeadAt (take spans.len bytes.now) fields.new spans) }
+    ensures none { IfNone result (BeginsWithNoHead bytes.now) }
 {
     let None = line_end_len(bytes) else {
         return None;
     };
     match parse_request(bytes, fields) {
         Ok(Status::Complete(spans)) => Some(spans),
-        _ => None,
+        Ok(Status::Partial) => None,
+        Err(_) => None,
     }
 }
 
