@@ -1,8 +1,11 @@
 //! What the head of a request says (RFC 7230, section 3).
-ghost use Rattle.std.specs.Prelude.{◌≡◌, ◌↔◌, ◌<◌, ◌≤◌, ◌⊎◌, ◌++◌, [], IsTrue, false, length, map, take, codes, IfSome, IfNone, nat_lt, if◌then◌else◌, OnOk, OnErr, IfOk, IfErr, All};
+ghost use Rattle.std.specs.Prelude.{◌≡◌, ◌↔◌, ◌<◌, ◌≤◌, ◌⊎◌, ◌++◌, ℕ, [], None, IsTrue, false, length, map, take, codes, IfSome, IfNone, nat_lt, if◌then◌else◌, OnOk, OnErr, IfOk, IfErr, All};
 ghost use Rattle.http_header.specs.Token.{IsToken};
 ghost use Rattle.http_bodies.specs.Kinds.{kind_of};
-ghost use Rattle.http_uri.specs.Uri.{Spells, SpellsNone};
+ghost use Rattle.http.specs.declared.version.TheConstants.Version.{HTTP_11};
+ghost use Rattle.http_types.specs.Flags.{no_flags};
+ghost use Rattle.http_types.specs.RequestHead.{request_flags};
+ghost use Rattle.http_uri.specs.Uri.{HasParts, Spells, SpellsNone};
 ghost use Rattle.httparse.specs.Spans.{IsHeaderWithin, IsRequestWithin, IsWithin, header_bytes, span_bytes};
 ghost use Rattle.h1_model.specs.HeadPiece.{IsHeadPiece, header_lines};
 ghost use Rattle.h1_model.specs.Request.{Head, head_is, faulty};
@@ -46,7 +49,11 @@ impl HeadItem {
     /// no memory.
     pub fn new(alloc: Global) -> HeadItem
         ensures method { result.head.method ≡ codes "GET" }
+        ensures uri { HasParts result.head.uri None None (codes "/") }
+        ensures version { result.head.version ≡ HTTP_11 }
         ensures headers { result.head.headers ≡ [] }
+        ensures peer { result.head.peer_addr ≡ None }
+        ensures flags { request_flags result.head ≡ no_flags }
         ensures target { result.target ≡ codes "/" }
         ensures body { result.body ≡ BodyKind.None }
     {
@@ -178,6 +185,7 @@ pub fn cut_head_into(
     ensures missing { IfOk result (λ found. found ≡ false → BeginsWithNoHead buffer.old.items) }
     ensures fault { IfErr result (λ e. UnlessNoMemory e (IsHeadPiece buffer.old.items 0 (length front.new)
         × IsReading front.new (faulty (fault_of e)))) }
+    ensures whole { OnErr result ((end : ℕ) × IsHeadPiece buffer.old.items 0 end) }
     ensures err { OnErr result (item.new ≡ without_headers item.old) }
 {
     let Some(spans) = parse_front(buffer.as_slice(), &mut room.fields) else {

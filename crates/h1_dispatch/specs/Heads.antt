@@ -64,10 +64,12 @@ IsNexted settings p (next.Fault fault) q = Steps settings p on.next (on.fault (f
 IsNexted settings p next.Pending q = Steps settings p on.next on.pending q
 IsNexted settings p (next.Closed end) q = Steps settings p on.next (on.closed (end_of end)) q
 
--- what comes where no whole head is there
-abbrev pub waited : Option HeadFault → on.Outcome
-waited (Some fault) = on.fault (fault_of fault)
-waited None = on.pending
+-- what comes where no whole head is there is the machine's
+abbrev pub IsWaited : Settings → Parts → NextKind → Parts → Type 0
+IsWaited settings p next_kind.Head q = ⊥
+IsWaited settings p (next_kind.Fault fault) q = Steps settings p on.next (on.fault (fault_of fault)) q
+IsWaited settings p next_kind.Pending q = Steps settings p on.next on.pending q
+IsWaited settings p (next_kind.Closed end) q = ⊥
 
 -- the connection closes, or there is no head and room for more bytes
 abbrev pub NeedsNoMemory : Setting → Kept → Type 0

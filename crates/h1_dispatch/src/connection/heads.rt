@@ -14,7 +14,7 @@ ghost use Rattle.h1_decode.specs.Refusal as decode;
 ghost use Rattle.h1_dispatch.specs.Incoming.{IsWhole, IsHeadOf};
 ghost use Rattle.h1_dispatch.specs.Meaning.{setting_of, end_of, fault_of};
 ghost use Rattle.h1_dispatch.specs.Parts.{kept_of, IsSettled, IsSound, Steps};
-ghost use Rattle.h1_dispatch.specs.Heads.{refused, behind_plain, waited, with_head, IsAsked, IsHeld, IsNexted, KeepsItem, LosesAtMostHeaders, NeedsNoMemory};
+ghost use Rattle.h1_dispatch.specs.Heads.{refused, behind_plain, with_head, IsAsked, IsHeld, IsNexted, IsWaited, KeepsItem, LosesAtMostHeaders, NeedsNoMemory};
 
 use crate::connection::exchange::{Exchange, Reply};
 use crate::connection::parts::Parts;
@@ -67,16 +67,12 @@ impl Parts {
         ensures no_memory_needed { NeedsNoMemory (setting_of config.now) (kept_of self.old) → IsOk result }
         ensures err { OnErr result (self.new ≡ self.old) }
     {
-        if let Some(end) = self.closing(config) {
-            self.is_over = true;
-            return Ok(NextHead::Closed(end));
-        }
-        if self.input.is_coming() {
-            return self.read_head(alloc, config);
-        }
-        match self.go_without(config)? {
-            Some(fault) => Ok(NextHead::Fault(fault)),
-            None => Ok(NextHead::Pending),
+        let mut item = HeadItem::new(alloc);
+        match self.next_into(alloc, config, &mut item, &mut HeadRoom::new())? {
+            NextKind::Head => Ok(NextHead::Head(item)),
+            NextKind::Fault(fault) => Ok(NextHead::Fault(fault)),
+            NextKind::Pending => Ok(NextHead::Pending),
+            NextKind::Closed(end) => Ok(NextHead::Closed(end)),
         }
     }
 
@@ -100,74 +96,31 @@ impl Parts {
             self.is_over = true;
             return Ok(NextKind::Closed(end));
         }
-        if self.input.is_coming() {
-            return self.read_over(alloc, config, item, room);
-        }
-        match self.go_without(config)? {
-            Some(fault) => Ok(NextKind::Fault(fault)),
-            None => Ok(NextKind::Pending),
+        match self.input.read_head(alloc, item, room) {
+            Ok(true) => {
+                self.hand_out(config, item);
+                Ok(NextKind::Head)
+            }
+            Ok(false) => self.go_without(config),
+            Err(error) => Ok(NextKind::Fault(self.refuse_by(config, error)?)),
         }
     }
 
     // No whole head is there: no more bytes can be taken for one, which is answered as a fault, or more may come.
-    fn go_without(&mut self, config: &ServiceConfig) -> Result<Option<HeadFault>, NoMemory>
+    fn go_without(&mut self, config: &ServiceConfig) -> Result<NextKind, NoMemory>
         requires sound { IsSound config.now self.old }
         requires runs { closing_by (setting_of config.now) (kept_of self.old) ≡ None }
         requires none { IsHeadOf self.old.input None }
-        ensures ok { IfOk result (λ fault. Steps config.now self.old on.next (waited fault) self.new) }
+        ensures ok { IfOk result (λ kind. IsWaited config.now self.old kind self.new) }
         ensures sound { OnOk result (IsSound config.now self.new) }
         ensures no_memory_needed { (length self.old.input.unread == config.now.h1_hold_size) ≡ false → IsOk result }
         ensures err { OnErr result (self.new ≡ self.old) }
     {
         if self.input.len() == config.h1_hold_size() {
             self.refuse(config, HeadFault::TooLarge)?;
-            return Ok(Some(HeadFault::TooLarge));
+            return Ok(NextKind::Fault(HeadFault::TooLarge));
         }
-        Ok(None)
-    }
-
-    // Hands out the head that was found.
-    fn read_head(&mut self, alloc: Global, config: &ServiceConfig) -> Result<NextHead, NoMemory>
-        requires sound { IsSound config.now self.old }
-        requires runs { closing_by (setting_of config.now) (kept_of self.old) ≡ None }
-        requires found { IsWhole self.old.input }
-        ensures ok { IfOk result (λ next. IsHeld config.now self.old → IsNexted config.now self.old next self.new) }
-        ensures sound { OnOk result (IsSound config.now self.new) }
-        ensures err { OnErr result (self.new ≡ self.old) }
-    {
-        let mut item = HeadItem::new(alloc);
-        match self.read_over(alloc, config, &mut item, &mut HeadRoom::new())? {
-            NextKind::Head => Ok(NextHead::Head(item)),
-            NextKind::Fault(fault) => Ok(NextHead::Fault(fault)),
-            NextKind::Pending => Ok(NextHead::Pending),
-            NextKind::Closed(end) => Ok(NextHead::Closed(end)),
-        }
-    }
-
-    // Hands out the head that was found, and writes it over another one.
-    fn read_over(
-        &mut self,
-        alloc: Global,
-        config: &ServiceConfig,
-        item: &mut HeadItem,
-        room: &mut HeadRoom,
-    ) -> Result<NextKind, NoMemory>
-        requires sound { IsSound config.now self.old }
-        requires runs { closing_by (setting_of config.now) (kept_of self.old) ≡ None }
-        requires found { IsWhole self.old.input }
-        ensures ok { IfOk result (λ kind. IsHeld config.now self.old → IsNexted config.now self.old (with_head item.new kind) self.new) }
-        ensures sound { OnOk result (IsSound config.now self.new) }
-        ensures item { IfOk result (λ kind. KeepsItem true kind item.old item.new) }
-        ensures err { OnErr result (self.new ≡ self.old) }
-        ensures kept_item { OnErr result (item.new ≡ without_headers item.old) }
-    {
-        match self.input.read_head(alloc, item, room) {
-            Ok(()) => {
-                self.hand_out(config, item);
-                Ok(NextKind::Head)
-            }
-            Err(error) => Ok(NextKind::Fault(self.refuse_by(config, error)?)),
-        }
+        Ok(NextKind::Pending)
     }
 
     // The head that was found is none, for this reason, unless memory was wanted: that is answered.

@@ -1,9 +1,10 @@
 // What a connection holds of its input: the bytes that were read and not passed, and the search for a head among them.
-ghost use Rattle.std.specs.Prelude.{◌≡◌, ◌≢◌, ◌≤◌, ◌-◌, ◌++◌, ◌⊎◌, ◌↔◌, ℕ, List, [], Some, length, take, drop, slice_range, min, true, false, is_some, IfOk, IfErr, IsOk, OnOk, OnErr, IsErrOf};
+ghost use Rattle.std.specs.Prelude.{◌≡◌, ◌≢◌, ◌≤◌, ◌-◌, ◌++◌, ◌⊎◌, ◌↔◌, ℕ, List, [], Some, None, length, take, drop, slice_range, min, true, false, is_some, IfOk, IfErr, IsOk, OnOk, OnErr, IsErrOf};
 ghost use Rattle.std.specs.Io.KnownBytes.{Consumes, Keeps, IsAtEnd};
 ghost use Rattle.http_config.specs.Causes.{Rose};
 ghost use Rattle.h1_decode.specs.HeadItem.{SaysHead, without_headers};
 ghost use Rattle.h1_decode.specs.Refusal.{UnlessNoMemory, fault_of};
+ghost use Rattle.h1_decode.specs.HeadPosition.{HasScanned};
 ghost use Rattle.h1_model.specs.Request.{Head, head_is, faulty};
 ghost use Rattle.h1_model.specs.RequestHead.{IsReading};
 ghost use Rattle.h1_machine.specs.Kept.{rest_in};
@@ -11,13 +12,13 @@ ghost use Rattle.h1_machine.specs.Body.{pass_rest};
 ghost use Rattle.h1_machine.specs.Pull.{IsPull};
 ghost use Rattle.h1_machine.specs.Pull as pulls;
 ghost use Rattle.h1_payload.specs.Rests.{IsPulled, IsLight};
-ghost use Rattle.h1_dispatch.specs.Incoming.{is_coming_in, IsFound, IsWhole, IsHeadOf, IsPassedHead, CanGoOn, GoesOnIn};
+ghost use Rattle.h1_dispatch.specs.Incoming.{is_coming_in, scan_of, IsFound, IsWhole, IsHeadOf, IsNextHead, IsNextFault, IsPassedHead, IsSearched, incoming, CanGoOn, GoesOnIn, HasSearched, IsCaughtUp};
 
 use crate::ReadFromError;
 use crate::connection::READ_SIZE;
 use crate::connection::filling::{make_room, read_behind};
 use bytes::{Bytes, BytesMut};
-use h1_decode::{HeadItem, HeadRoom, HeadScan, HeadScanner, read_head_into};
+use h1_decode::{HeadItem, HeadRoom, HeadScan, HeadScanner, read_head_into, scan_head};
 use h1_payload::{Pulled, Rest};
 use http_types::{NoMemory, ParseError, Source};
 use std::alloc::Global;
@@ -25,7 +26,20 @@ use std::marker::Model;
 
 /// How far the search for the next head is.
 #[derive(Clone, Copy)]
-struct Search {
+enum Search {
+    /// None is searched for: the bytes are a body's.
+    Off,
+
+    /// A head may come next, and no byte was looked at. One that is whole when it is asked for is read at once.
+    Due,
+
+    /// All bytes were searched.
+    Done(Scan),
+}
+
+/// How far a search has come, and what it has found.
+#[derive(Clone, Copy)]
+struct Scan {
     scanner: HeadScanner,
     piece: HeadScan,
 }
@@ -39,16 +53,15 @@ pub struct Input {
     /// The head that was asked for, with the empty lines before it, where it couldn't be handed out.
     front: Bytes,
     bytes: BytesMut,
-    search: Option<Search>,
+    search: Search,
 }
 
 impl Model for Input {
-    ghost use Rattle.std.specs.Prelude.{◌++◌, option_map};
-    ghost use Rattle.h1_dispatch.specs.Incoming.{Incoming, piece_of, IsSearched};
+    ghost use Rattle.h1_dispatch.specs.Incoming.{Incoming, incoming, IsSearched};
 
     ghost Value = { Incoming };
 
-    ghost view = { λ input. record { unread = input.front ++ input.bytes.items; piece = option_map piece_of input.search } };
+    ghost view = { λ input. incoming input.front input.bytes.items input.search };
 
     ghost invariant = { λ input. IsSearched input.front input.bytes.items input.search };
 }
@@ -62,7 +75,7 @@ impl Input {
         Input {
             front: Bytes::new(),
             bytes: BytesMut::new(alloc),
-            search: Some(Search {
+            search: Search::Done(Scan {
                 scanner: HeadScanner::new(),
                 piece: HeadScan::Open,
             }),
@@ -76,13 +89,14 @@ impl Input {
         self.front.len() + self.bytes.len()
     }
 
-    /// Whether a head was found.
+    /// Whether a whole head is there.
     pub fn is_coming(&self) -> bool
         ensures { result ≡ is_coming_in self.now.piece }
     {
         match &self.search {
-            Some(search) => search.piece != HeadScan::Open,
-            None => false,
+            Search::Off => false,
+            Search::Due => has_head(self.bytes.as_slice()),
+            Search::Done(scan) => scan.piece != HeadScan::Open,
         }
     }
 
@@ -135,70 +149,76 @@ impl Input {
         Ok(count)
     }
 
-    /// Searches for a head from the first byte on, if it isn't done yet.
+    /// Lets the next head be searched for where it is asked for.
+    pub fn await_head(&mut self)
+        ensures unread { self.new.unread ≡ self.old.unread }
+        ensures scanned { IsFound self.new }
+        ensures searched { is_some self.new.piece ≡ true }
+    {
+        if let Search::Off = self.search {
+            self.search = Search::Due;
+        }
+    }
+
+    /// Searches for the next head, if it isn't done yet.
     pub fn search(&mut self)
         ensures unread { self.new.unread ≡ self.old.unread }
         ensures scanned { IsFound self.new }
         ensures searched { is_some self.new.piece ≡ true }
     {
-        if self.search.is_none() {
-            let begun = Some(Search {
-                scanner: HeadScanner::new(),
-                piece: HeadScan::Open,
-            });
-            self.search = continued(begun, self.bytes.as_slice());
-        }
+        self.await_head();
+        self.search = caught_up(self.search, self.bytes.as_slice());
     }
 
-    /// Reads the head that was found over another one, which shares the memory of its bytes. They stay. After an error
-    /// the other one is as it was, but without headers.
+    /// Reads the next head over another one, and says whether it is there. It shares the memory of its bytes, which stay.
+    /// Where none is there the other one stays too; after an error it is as it was, but without headers.
     pub fn read_head(
         &mut self,
         alloc: Global,
         item: &mut HeadItem,
         room: &mut HeadRoom,
-    ) -> Result<(), ParseError>
-        requires { IsWhole self.old }
+    ) -> Result<bool, ParseError>
         ensures same { self.new ≡ self.old }
-        ensures head { OnOk result ((head : List ℕ) × IsHeadOf self.old (Some head) × ((h : Head) × IsReading head (head_is h) × SaysHead item.new h)) }
-        ensures fault { IfErr result (λ e. UnlessNoMemory e ((head : List ℕ) × IsHeadOf self.old (Some head) × IsReading head (faulty (fault_of e)))) }
+        ensures head { IfOk result (λ is_there. is_there ≡ true → IsNextHead self.old item.new) }
+        ensures none { IfOk result (λ is_there. is_there ≡ false → IsHeadOf self.old None × (item.new ≡ item.old)) }
+        ensures fault { IfErr result (λ e. UnlessNoMemory e (IsNextFault self.old (fault_of e))) }
+        ensures whole { OnErr result (IsWhole self.old) }
         ensures err { OnErr result (item.new ≡ without_headers item.old) }
     {
-        let Some(search) = self.search else {
-            return Ok(());
-        };
-        let HeadScan::Piece(start, end) = search.piece else {
-            return Ok(());
-        };
-        let Ok(()) = cut(&mut self.front, &mut self.bytes, end) else {
-            item.head.headers.clear();
-            return Err(ParseError::NoMemory);
-        };
-        if start > 0 {
-            return read_behind_blank_lines(alloc, item, room, &self.front, start);
+        if let Search::Due = self.search {
+            self.search = searched(HeadScanner::new(), self.bytes.as_slice());
+            return read_found(
+                alloc,
+                item,
+                room,
+                &mut self.front,
+                &mut self.bytes,
+                &self.search,
+            );
         }
-        read_head_into(alloc, item, room, &self.front)
+        read_found(
+            alloc,
+            item,
+            room,
+            &mut self.front,
+            &mut self.bytes,
+            &self.search,
+        )
     }
 
-    /// Passes the head that was found. No other is searched for.
+    /// Passes the head that is there. No other is searched for.
     pub fn pass_head(&mut self)
         requires { IsWhole self.old }
         ensures { IsPassedHead self.old self.new }
     {
-        let Some(search) = self.search else {
+        let Search::Done(scan) = caught_up(self.search, self.bytes.as_slice()) else {
             return;
         };
-        let HeadScan::Piece(_, end) = search.piece else {
+        let HeadScan::Piece(_, end) = scan.piece else {
             return;
         };
-        self.search = None;
-        if self.front.is_empty() {
-            self.bytes.advance(end);
-        }
-        self.front = Bytes::new();
-        if self.bytes.is_empty() {
-            self.bytes.clear();
-        }
+        self.search = Search::Off;
+        pass(&mut self.front, &mut self.bytes, end);
     }
 
     /// Takes what comes next of a body.
@@ -234,6 +254,41 @@ impl Input {
     }
 }
 
+// Reads the head that the search has found, and says whether there is one. It is cut off first, where that isn't done yet.
+fn read_found(
+    alloc: Global,
+    item: &mut HeadItem,
+    room: &mut HeadRoom,
+    front: &mut Bytes,
+    bytes: &mut BytesMut,
+    search: &Search,
+) -> Result<bool, ParseError>
+    requires searched { IsSearched front.old bytes.old.items search.now }
+    requires done { search.now ≢ Search.Due }
+    ensures all { front.new ++ bytes.new.items ≡ front.old ++ bytes.old.items }
+    ensures searched { IsSearched front.new bytes.new.items search.now }
+    ensures head { IfOk result (λ is_there. is_there ≡ true → IsNextHead (incoming front.old bytes.old.items search.now) item.new) }
+    ensures none { IfOk result (λ is_there. is_there ≡ false → IsHeadOf (incoming front.old bytes.old.items search.now) None × (item.new ≡ item.old)) }
+    ensures fault { IfErr result (λ e. UnlessNoMemory e (IsNextFault (incoming front.old bytes.old.items search.now) (fault_of e))) }
+    ensures whole { OnErr result (IsWhole (incoming front.old bytes.old.items search.now)) }
+    ensures err { OnErr result (item.new ≡ without_headers item.old) }
+{
+    let Search::Done(scan) = search else {
+        return Ok(false);
+    };
+    let HeadScan::Piece(start, end) = scan.piece else {
+        return Ok(false);
+    };
+    let Ok(()) = cut(front, bytes, end) else {
+        item.head.headers.clear();
+        return Err(ParseError::NoMemory);
+    };
+    match read_piece(alloc, item, room, front, start) {
+        Ok(()) => Ok(true),
+        Err(error) => Err(error),
+    }
+}
+
 // Cuts the first bytes off up to the head's end, where that isn't done yet. They stay in their memory.
 fn cut(front: &mut Bytes, bytes: &mut BytesMut, end: usize) -> Result<(), NoMemory>
     requires fits { end ≤ length (front.old ++ bytes.old.items) }
@@ -248,7 +303,42 @@ fn cut(front: &mut Bytes, bytes: &mut BytesMut, end: usize) -> Result<(), NoMemo
     Ok(())
 }
 
-// Reads the head that begins there, and fills the rest of the bytes. It is out of the way of those that nothing stands before.
+// Lets the first bytes go up to the head's end, whether they were cut off or not.
+fn pass(front: &mut Bytes, bytes: &mut BytesMut, end: usize)
+    requires fits { end ≤ length (front.old ++ bytes.old.items) }
+    requires whole { (front.old ≡ []) ⊎ (length front.old ≡ end) }
+    ensures front { front.new ≡ [] }
+    ensures bytes { bytes.new.items ≡ drop end (front.old ++ bytes.old.items) }
+{
+    if front.is_empty() {
+        bytes.advance(end);
+    }
+    *front = Bytes::new();
+    if bytes.is_empty() {
+        bytes.clear();
+    }
+}
+
+// Reads the head that begins there, and fills the rest of the bytes.
+fn read_piece(
+    alloc: Global,
+    item: &mut HeadItem,
+    room: &mut HeadRoom,
+    bytes: &Bytes,
+    start: usize,
+) -> Result<(), ParseError>
+    requires { start ≤ length bytes.now }
+    ensures head { OnOk result ((h : Head) × IsReading (slice_range bytes.now start (length bytes.now)) (head_is h) × SaysHead item.new h) }
+    ensures fault { IfErr result (λ e. UnlessNoMemory e (IsReading (slice_range bytes.now start (length bytes.now)) (faulty (fault_of e)))) }
+    ensures err { OnErr result (item.new ≡ without_headers item.old) }
+{
+    if start > 0 {
+        return read_behind_blank_lines(alloc, item, room, bytes, start);
+    }
+    read_head_into(alloc, item, room, bytes)
+}
+
+// The same where empty lines stand before it. It is out of the way of those that nothing stands before.
 #[inline(never)]
 fn read_behind_blank_lines(
     alloc: Global,
@@ -269,18 +359,41 @@ fn read_behind_blank_lines(
     read_head_into(alloc, item, room, &head)
 }
 
-// The search behind more bytes. A head that was found stays the next.
-fn continued(search: Option<Search>, bytes: &[u8]) -> Option<Search>
-    requires { CanGoOn search bytes.now }
-    ensures found { GoesOnIn search bytes.now result }
+// Whether the bytes have a whole head. It is asked of a search that is due only where no head is asked for.
+#[cold]
+fn has_head(bytes: &[u8]) -> bool
+    ensures { result ≡ is_coming_in (Some (scan_of bytes.now)) }
 {
-    let Some(search) = search else {
-        return None;
-    };
-    if search.piece != HeadScan::Open {
-        return Some(search);
+    scan_head(bytes) != HeadScan::Open
+}
+
+// The search behind more bytes. A head that was found stays the next, and a search that is due stays so.
+fn continued(search: Search, bytes: &[u8]) -> Search
+    requires { CanGoOn search bytes.now }
+    ensures { GoesOnIn search bytes.now result }
+{
+    match search {
+        Search::Done(scan) if scan.piece == HeadScan::Open => searched(scan.scanner, bytes),
+        _ => search,
     }
-    let mut scanner = search.scanner;
+}
+
+// The search, done where it was due.
+fn caught_up(search: Search, bytes: &[u8]) -> Search
+    ensures { IsCaughtUp search bytes.now result }
+{
+    match search {
+        Search::Due => searched(HeadScanner::new(), bytes),
+        _ => search,
+    }
+}
+
+// The search that has seen all the bytes.
+fn searched(scanner: HeadScanner, bytes: &[u8]) -> Search
+    requires { HasScanned scanner bytes.now }
+    ensures { HasSearched bytes.now result }
+{
+    let mut scanner = scanner;
     let piece = scanner.scan(bytes);
-    Some(Search { scanner, piece })
+    Search::Done(Scan { scanner, piece })
 }

@@ -98,12 +98,19 @@ impl Parts {
         self.note(config);
     }
 
+    // Where one may come. It is searched for at once where more is asked of it than what it says: whether the first one
+    // has come, and whether another one is coming once the input has ended.
     fn search(&mut self)
         requires { MayBeSearched self.old }
         ensures { IsSearchedFor self.old self.new }
     {
-        if self.is_free() {
+        if !self.is_free() {
+            return;
+        }
+        if self.exchange.is_none() || self.has_ended {
             self.input.search();
+        } else {
+            self.input.await_head();
         }
     }
 

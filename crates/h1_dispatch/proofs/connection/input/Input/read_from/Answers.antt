@@ -1,6 +1,6 @@
-use Rattle.std.proofs.Common.{◌∙◌, List, ℕ, refl, subst}
-use Rattle.h1_dispatch.specs.Incoming.{GoesOnIn}
-use Rattle.h1_dispatch.proofs.InputLemmas.{can_go_on, still_searched, found_of, none_came, same_searched}
+use Rattle.std.proofs.Common.{◌∙◌, List, ℕ, ◌++◌, ap, sym, refl, subst}
+use Rattle.h1_dispatch.specs.Incoming.{IsSearched, GoesOnIn}
+use Rattle.h1_dispatch.proofs.InputLemmas.{can_go_on, still_searched, found_of, none_came}
 use Rattle.h1_dispatch.proofs.connection.input.Input.read_from.Goals as goal
 
 pub continued-self-inside-requires : goal.continued-self-inside-requires
@@ -10,7 +10,7 @@ continued-self-inside-requires g c =
 pub invariant_of-self-2 : goal.invariant_of-self-2
 invariant_of-self-2 g c =
     still_searched _ _ _ _ _ _ c.in_ok-count.ensures.read.2 c.self.invariant
-    (subst (λ (l : List ℕ). GoesOnIn c.self.inside.search l c.continued-self-inside.result) c.as_slice.ensures c.continued-self-inside.ensures.found)
+    (subst (λ (l : List ℕ). GoesOnIn c.self.inside.search l c.continued-self-inside.result) c.as_slice.ensures c.continued-self-inside.ensures)
 
 pub returns-clause-scanned : goal.returns-clause-scanned
 returns-clause-scanned g c = found_of _ _ _ (invariant_of-self-2 g c)
@@ -19,5 +19,4 @@ pub returns-then-count-eq0-clause-scanned : goal.returns-then-count-eq0-clause-s
 returns-then-count-eq0-clause-scanned g c =
     let came = c.in_ok-count.ensures.read in
     let same = none_came c.self.inside.bytes.items came.0 c.read_behind.new.bytes.items c.in_ok-count.count came.1 c.if-count-eq0.true came.2 in
-    found_of _ _ _
-    (same_searched c.self.inside.front c.self.inside.bytes.items c.self.inside.front c.read_behind.new.bytes.items c.self.inside.search refl same c.self.invariant)
+    found_of _ _ _ (subst (λ (l : List ℕ). IsSearched c.self.inside.front l c.self.inside.search) (sym same) c.self.invariant)

@@ -1,9 +1,20 @@
-use Rattle.std.proofs.Common.{sym, ◌∙◌}
-use Rattle.h1_dispatch.proofs.HeadLemmas.{closed_steps, none_found}
+use Rattle.std.proofs.Common.{subst}
+use Rattle.h1_dispatch.specs.Heads.{with_head, IsNexted}
+use Rattle.h1_dispatch.specs.declared.connection.heads.NextKind.{NextKind}
 use Rattle.h1_dispatch.proofs.connection.parts.Parts.next.Goals as goal
 
-pub returns-in-Some-clause-ok : goal.returns-in-Some-clause-ok
-returns-in-Some-clause-ok c = λ held. closed_steps c.args.config.now c.args.self.now c.in-Some.end c.requires c.in-Some.ensures
+pub returns-in-Head-clause-ok : goal.returns-in-Head-clause-ok
+returns-in-Head-clause-ok c = λ held.
+    subst (λ (k : NextKind). IsNexted c.args.config.now c.args.self.now (with_head c.next_into.new.item k) c.next_into.new.self) c.in-Head.is (c.in_ok-next_into.ensures.ok held)
 
-pub go_without-requires-clause-none : goal.go_without-requires-clause-none
-go_without-requires-clause-none c = none_found c.args.self.now.input (sym c.is_coming.ensures ∙ c.if-is_coming.false)
+pub returns-in-Fault-clause-ok : goal.returns-in-Fault-clause-ok
+returns-in-Fault-clause-ok c = λ held.
+    subst (λ (k : NextKind). IsNexted c.args.config.now c.args.self.now (with_head c.next_into.new.item k) c.next_into.new.self) c.in-Fault.is (c.in_ok-next_into.ensures.ok held)
+
+pub returns-in-Pending-clause-ok : goal.returns-in-Pending-clause-ok
+returns-in-Pending-clause-ok c = λ held.
+    subst (λ (k : NextKind). IsNexted c.args.config.now c.args.self.now (with_head c.next_into.new.item k) c.next_into.new.self) c.in-Pending.is (c.in_ok-next_into.ensures.ok held)
+
+pub returns-in-Closed-clause-ok : goal.returns-in-Closed-clause-ok
+returns-in-Closed-clause-ok c = λ held.
+    subst (λ (k : NextKind). IsNexted c.args.config.now c.args.self.now (with_head c.next_into.new.item k) c.next_into.new.self) c.in-Closed.is (c.in_ok-next_into.ensures.ok held)
