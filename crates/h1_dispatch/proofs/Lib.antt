@@ -15,3 +15,4 @@ pub mod LawLemmas
 pub mod DeadlineLemmas
 pub mod InputLemmas
 pub mod ClosingLemmas
+pub mod CutLemmas

@@ -126,3 +126,15 @@ GoesOnIn search bytes after = after ≡ search
 abbrev pub IsCaughtUp : Search → List ℕ → Search → Type 0
 IsCaughtUp Due bytes after = HasSearched bytes after
 IsCaughtUp search bytes after = after ≡ search
+
+-- ---- a head that is cut off unsearched
+
+-- bytes that weren't searched
+abbrev pub due_in : List ℕ → Incoming
+due_in bytes = incoming [] bytes Due
+
+-- a head that was cut off is what was found
+abbrev pub IsCutNoted : List ℕ → Search → Type 0
+IsCutNoted front Off = ⊥
+IsCutNoted front Due = front ≡ []
+IsCutNoted front (Done scan) = ¬ (front ≡ []) × (scan.piece ≡ Piece 0 (length front))

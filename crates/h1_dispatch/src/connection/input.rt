@@ -12,13 +12,15 @@ ghost use Rattle.h1_machine.specs.Body.{pass_rest};
 ghost use Rattle.h1_machine.specs.Pull.{IsPull};
 ghost use Rattle.h1_machine.specs.Pull as pulls;
 ghost use Rattle.h1_payload.specs.Rests.{IsPulled, IsLight};
-ghost use Rattle.h1_dispatch.specs.Incoming.{is_coming_in, scan_of, IsFound, IsWhole, IsHeadOf, IsNextHead, IsNextFault, IsPassedHead, IsSearched, incoming, CanGoOn, GoesOnIn, HasSearched, IsCaughtUp};
+ghost use Rattle.h1_dispatch.specs.Incoming.{is_coming_in, scan_of, IsFound, IsWhole, IsHeadOf, IsNextHead, IsNextFault, IsPassedHead, IsSearched, IsCutNoted, incoming, due_in, CanGoOn, GoesOnIn, HasSearched, IsCaughtUp};
 
 use crate::ReadFromError;
 use crate::connection::READ_SIZE;
 use crate::connection::filling::{make_room, read_behind};
 use bytes::{Bytes, BytesMut};
-use h1_decode::{HeadItem, HeadRoom, HeadScan, HeadScanner, read_head_into, scan_head};
+use h1_decode::{
+    HeadItem, HeadRoom, HeadScan, HeadScanner, cut_head_into, read_head_into, scan_head,
+};
 use h1_payload::{Pulled, Rest};
 use http_types::{NoMemory, ParseError, Source};
 use std::alloc::Global;
@@ -186,14 +188,13 @@ impl Input {
         ensures err { OnErr result (item.new ≡ without_headers item.old) }
     {
         if let Search::Due = self.search {
-            self.search = searched(HeadScanner::new(), self.bytes.as_slice());
-            return read_found(
+            return read_due(
                 alloc,
                 item,
                 room,
                 &mut self.front,
                 &mut self.bytes,
-                &self.search,
+                &mut self.search,
             );
         }
         read_found(
@@ -252,6 +253,56 @@ impl Input {
             rest.end_input(&self.bytes);
         }
     }
+}
+
+// Reads the head with which the bytes begin, and says whether there is one. It is parsed at once, so that none of its
+// bytes is looked at twice; where that finds none, the bytes are searched, and no further ones are parsed in vain.
+fn read_due(
+    alloc: Global,
+    item: &mut HeadItem,
+    room: &mut HeadRoom,
+    front: &mut Bytes,
+    bytes: &mut BytesMut,
+    search: &mut Search,
+) -> Result<bool, ParseError>
+    requires empty { front.old ≡ [] }
+    requires due { search.old ≡ Search.Due }
+    ensures same { incoming front.new bytes.new.items search.new ≡ due_in bytes.old.items }
+    ensures searched { IsSearched front.new bytes.new.items search.new }
+    ensures head { IfOk result (λ is_there. is_there ≡ true → IsNextHead (due_in bytes.old.items) item.new) }
+    ensures none { IfOk result (λ is_there. is_there ≡ false → IsHeadOf (due_in bytes.old.items) None × (item.new ≡ item.old)) }
+    ensures fault { IfErr result (λ e. UnlessNoMemory e (IsNextFault (due_in bytes.old.items) (fault_of e))) }
+    ensures whole { OnErr result (IsWhole (due_in bytes.old.items)) }
+    ensures err { OnErr result (item.new ≡ without_headers item.old) }
+{
+    match cut_head_into(alloc, item, room, bytes, front) {
+        Ok(true) => {
+            note_cut(front, search);
+            Ok(true)
+        }
+        Ok(false) => {
+            *search = searched(HeadScanner::new(), bytes.as_slice());
+            read_found(alloc, item, room, front, bytes, search)
+        }
+        Err(error) => {
+            note_cut(front, search);
+            Err(error)
+        }
+    }
+}
+
+// A head that was cut off unsearched is what a search finds.
+fn note_cut(front: &Bytes, search: &mut Search)
+    requires { search.old ≡ Search.Due }
+    ensures { IsCutNoted front.now search.new }
+{
+    if front.is_empty() {
+        return;
+    }
+    *search = Search::Done(Scan {
+        scanner: HeadScanner::new(),
+        piece: HeadScan::Piece(0, front.len()),
+    });
 }
 
 // Reads the head that the search has found, and says whether there is one. It is cut off first, where that isn't done yet.
