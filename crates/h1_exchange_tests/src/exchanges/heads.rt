@@ -2,7 +2,7 @@
 use super::Row;
 use super::Text::{Plain, With};
 
-pub static ROWS: [Row; 18] = [
+pub static ROWS: [Row; 19] = [
     Row {
         name: "HTTP/1.0 without a length",
         config: "5000 5000 0 1 32768",
@@ -323,5 +323,32 @@ pub static ROWS: [Row; 18] = [
         misplaced: None,
         buffered: "",
         state: "open",
+    },
+    Row {
+        name: "heads behind the first: whole, behind an empty line and in pieces, and none",
+        config: "5000 5000 0 1 32768",
+        steps: &[
+            (Plain("tick 0"), Plain("done")),
+            (
+                With(
+                    "read",
+                    "GET /a HTTP/1.1\r\n\r\nGET /b HTTP/1.1\r\n\r\n\r\nGET /c HTT",
+                ),
+                Plain("took 50"),
+            ),
+            (Plain("next"), Plain("head GET /a 1.1 none keep-alive -")),
+            (Plain("answer 200 0 -"), Plain("done")),
+            (Plain("next"), Plain("head GET /b 1.1 none keep-alive -")),
+            (Plain("answer 200 0 -"), Plain("done")),
+            (Plain("next"), Plain("pending")),
+            (With("read", "P/1.1\r\n\r\n"), Plain("took 9")),
+            (Plain("next"), Plain("head GET /c 1.1 none keep-alive -")),
+            (Plain("answer 200 0 -"), Plain("done")),
+            (With("read", "GET /d\r\n\r\n"), Plain("took 10")),
+            (Plain("next"), Plain("fault malformed")),
+        ],
+        misplaced: None,
+        buffered: "HTTP/1.1 200 OK\r\ncontent-length: 0\r\ndate: Thu, 01 Jan 1970 00:00:00 GMT\r\n\r\nHTTP/1.1 200 OK\r\ncontent-length: 0\r\ndate: Thu, 01 Jan 1970 00:00:00 GMT\r\n\r\nHTTP/1.1 200 OK\r\ncontent-length: 0\r\ndate: Thu, 01 Jan 1970 00:00:00 GMT\r\n\r\nHTTP/1.1 400 Bad Request\r\ncontent-length: 0\r\nconnection: close\r\ndate: Thu, 01 Jan 1970 00:00:00 GMT\r\n\r\n",
+        state: "malformed",
     },
 ];
