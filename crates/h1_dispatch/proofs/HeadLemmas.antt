@@ -1,7 +1,7 @@
 -- The machine's steps where the next head is asked for.
 use Rattle.std.proofs.lemmas.List.{length-take, length-drop}
-use Rattle.std.proofs.Common.{◌≡◌, ℕ, zero, suc, ◌-◌, ◌<◌, ◌≤◌, Bool, true, false, List, [], length, drop, Option, Some, None, inl, refl, sym, ap, ◌∙◌, subst, arith}
-use Rattle.std.specs.Prelude.{option_map, is_some, slice_range, ◌==◌}
+use Rattle.std.proofs.Common.{◌≡◌, ℕ, zero, suc, ◌-◌, ◌<◌, ◌≤◌, Bool, true, false, List, [], ◌∷◌, length, drop, Option, Some, None, inl, refl, sym, ap, ◌∙◌, subst, arith}
+use Rattle.std.specs.Prelude.{option_map, is_some, slice_range, ◌==◌, ◌||◌, not}
 use Rattle.http_config.specs.Config.{Settings}
 use Rattle.h1_model.specs.Limits.{MAX_MOMENT}
 use Rattle.h1_model.specs.HeadPiece.{IsHeadPiece}
@@ -12,8 +12,8 @@ use Rattle.h1_model.specs.Setting.{Setting}
 use Rattle.h1_model.specs.Event as on
 use Rattle.h1_model.specs.End as ends
 use Rattle.h1_machine.specs.Kept as machine
-use Rattle.h1_machine.specs.Kept.{Kept, Change, is_free, now, rest_in, whole_rest}
-use Rattle.h1_machine.specs.Local.{closing_by}
+use Rattle.h1_machine.specs.Kept.{Kept, Change, is_free, is_frames, is_answered, now, rest_in, whole_rest}
+use Rattle.h1_machine.specs.Local.{closing_by, answered_end_of}
 use Rattle.h1_machine.specs.Change.{IsChange, IsNext, IsUpcoming, noting_since, behind_head, without_head}
 use Rattle.h1_decode.specs.HeadItem.{SaysHead, version_of, type_of}
 use Rattle.h1_codec.specs.Meaning.{minor_of, model_type}
@@ -24,7 +24,7 @@ use Rattle.h1_decode.specs.declared.scan.HeadScan.{HeadScan}
 use Rattle.h1_decode.specs.declared.scan.HeadScan.TheVariants.{Open, Piece}
 use Rattle.h1_dispatch.specs.Incoming.{Incoming, is_coming_in, IsFoundIn, IsHeadIn, IsHeadOf, IsPassedIn, IsPassedHead}
 use Rattle.h1_dispatch.specs.Meaning.{setting_of, end_of, fault_of}
-use Rattle.h1_dispatch.specs.Parts.{kept_of, exchange_of, IsNoted, IsSound, IsSettled, Steps}
+use Rattle.h1_dispatch.specs.Parts.{kept_of, exchange_of, reply_of, IsNoted, IsSound, IsSettled, Steps}
 use Rattle.h1_dispatch.specs.Heads.{IsAsked, plain_exchange, behind_plain, refused, IsHeld, IsNexted}
 use Rattle.h1_dispatch.specs.declared.connection.exchange.Exchange.{Exchange}
 use Rattle.h1_dispatch.specs.declared.connection.exchange.Reply.{Reply}
@@ -35,7 +35,8 @@ use Rattle.h1_dispatch.specs.declared.connection.parts.Parts.{Parts}
 use Rattle.h1_dispatch.specs.declared.connection.request.Request.{Request}
 use Rattle.h1_dispatch.specs.declared.event.End.{End}
 use Rattle.h1_dispatch.specs.declared.event.HeadFault.{HeadFault}
-use Rattle.h1_dispatch.proofs.StepLemmas.{noting_notes, quiet_step, settled_step, settled_sound}
+use Rattle.h1_dispatch.proofs.ClosingLemmas.{handed_runs}
+use Rattle.h1_dispatch.proofs.StepLemmas.{noted_same, quiet_step, settled_step, settled_sound}
 use Rattle.h1_dispatch.proofs.UpgradeLemmas.{head_step}
 
 -- ---- a next one that doesn't close
@@ -210,29 +211,64 @@ passed_unsearched i after passed = passed_none i after i.piece passed
 abbrev pub handed : Parts → Incoming → Exchange → Parts
 handed p after x = record p { input = after; exchange = Some x }
 
-pub handed_kept : (set : Setting) (p q : Parts) (after : Incoming) (x : Exchange) (item : HeadItem) (h : Head) (request : Request) (rest : machine.Rest) (start end : ℕ)
-    → p.input.piece ≡ Some (Piece start end) → IsPassedHead p.input after → IsAsked h request
+-- what is left of its body isn't read as frames
+in_plain : (ended : Bool) (unread : List ℕ) (rest : machine.Rest) → is_frames rest ≡ false → is_frames (rest_in ended unread rest) ≡ false
+in_plain true [] machine.no_rest plain = refl
+in_plain true [] machine.raw_rest plain = refl
+in_plain true [] (machine.fixed_rest n) plain = refl
+in_plain true [] (machine.chunks_rest place section) plain = refl
+in_plain true [] (machine.frames_rest under_way limit) plain = plain
+in_plain true (b ∷ unread) rest plain = plain
+in_plain false unread rest plain = plain
+
+whole_plain : (body : model.BodyKind) → is_frames (whole_rest body) ≡ false
+whole_plain model.no_body = refl
+whole_plain (model.fixed_body n) = refl
+whole_plain model.chunked_body = refl
+whole_plain model.raw_body = refl
+
+rest_plain : (ended : Bool) (unread : List ℕ) (body : model.BodyKind) (rest : machine.Rest) → rest ≡ rest_in ended unread (whole_rest body) → is_frames rest ≡ false
+rest_plain ended unread body rest is = ap is_frames is ∙ in_plain ended unread (whole_rest body) (whole_plain body)
+
+-- so its request is open, and nothing closes
+handed_open : (set : Setting) (p : Parts) (after : Incoming) (x : Exchange) → closing_by set (kept_of p) ≡ None → x.reply ≡ Unanswered → is_frames x.rest ≡ false
+    → closing_by set (kept_of (handed p after x)) ≡ None
+handed_open set p after x runs waits plain =
+    handed_runs set (kept_of p) (kept_of (handed p after x)) runs refl refl
+    (ap (λ (r : Reply). answered_end_of (exchange_of x) (reply_of r)) waits)
+    (ap (λ (r : Reply). is_frames x.rest || not (is_answered (reply_of r))) waits ∙ ap (λ (f : Bool). f || true) plain) plain
+
+handed_noted : (set : Setting) (p : Parts) (after : Incoming) (x : Exchange) → closing_by set (kept_of p) ≡ None → x.reply ≡ Unanswered → is_frames x.rest ≡ false
+    → IsNoted set (kept_of (handed p after x))
+handed_noted set p after x runs waits plain = λ is.
+    let none = handed_open set p after x runs waits plain in
+    absurd (let no : false ≡ true = sym (ap is_some none) ∙ is in cc no)
+
+pub handed_kept : (set : Setting) (p : Parts) (after : Incoming) (x : Exchange) (h : Head) (request : Request) (rest : machine.Rest) (start end : ℕ)
+    → closing_by set (kept_of p) ≡ None → p.input.piece ≡ Some (Piece start end) → IsPassedHead p.input after → IsAsked h request
     → rest ≡ rest_in p.has_ended after.unread (whole_rest h.body)
     → x ≡ record { request = request; rest = rest; reply = Unanswered; was_pulled = false; was_dropped = false; was_told_to_go_on = false; body_is_done = false }
-    → kept_of q ≡ noting_since set (kept_of (handed p after x)) → kept_of q ≡ noting_since set (behind_plain (kept_of p) end h)
-handed_kept set p q after x item h request rest start end piece passed asked rest_is x_is noted =
+    → kept_of (handed p after x) ≡ noting_since set (behind_plain (kept_of p) end h)
+handed_kept set p after x h request rest start end runs piece passed asked rest_is x_is =
     let input = passed_at p.input after start end piece passed in
     let unread : after.unread ≡ drop end p.input.unread = ap (λ (i : Incoming). i.unread) input in
     let exchange : exchange_of x ≡ plain_exchange (rest_in p.has_ended (drop end p.input.unread) (whole_rest h.body)) h =
     plain_same x h rest request asked x_is ∙ ap (λ (r : machine.Rest). plain_exchange r h) (rest_is ∙ ap (λ (b : List ℕ). rest_in p.has_ended b (whole_rest h.body)) unread) in
-    noted ∙ (λ i. noting_since set (record (kept_of p) { unread = unread i; is_coming = is_coming_in (input i).piece; exchange = Some (exchange i) }))
+    let plain : is_frames x.rest ≡ false = ap (λ (y : Exchange). is_frames y.rest) x_is ∙ rest_plain p.has_ended after.unread h.body rest rest_is in
+    let waits : x.reply ≡ Unanswered = ap (λ (y : Exchange). y.reply) x_is in
+    sym (noted_same set (kept_of (handed p after x)) (handed_noted set p after x runs waits plain))
+    ∙ (λ i. noting_since set (record (kept_of p) { unread = unread i; is_coming = is_coming_in (input i).piece; exchange = Some (exchange i) }))
 
-pub handed_sound : (s : Settings) (p q : Parts) (after : Incoming) (x : Exchange) → IsSound s p → IsPassedHead p.input after → x.reply ≡ Unanswered
-    → kept_of q ≡ noting_since (setting_of s) (kept_of (handed p after x)) → q.input ≡ after → IsSound s q
-handed_sound s p q after x sound passed waits noted input =
-    let none : q.input.piece ≡ None = ap (λ (i : Incoming). i.piece) input ∙ passed_unsearched p.input after passed in
-    let free : is_free (kept_of q) ≡ false =
-    ap (λ (k : Kept). is_free k) noted ∙ ap (λ (r : Reply). is_free (kept_of (handed p after (record x { reply = r })))) waits in
+pub handed_sound : (s : Settings) (p : Parts) (after : Incoming) (x : Exchange) (body : model.BodyKind) → IsSound s p → closing_by (setting_of s) (kept_of p) ≡ None
+    → IsPassedHead p.input after → x.reply ≡ Unanswered → x.rest ≡ rest_in p.has_ended after.unread (whole_rest body) → IsSound s (handed p after x)
+handed_sound s p after x body sound runs passed waits rest_is =
+    let none : after.piece ≡ None = passed_unsearched p.input after passed in
+    let free : is_free (kept_of (handed p after x)) ≡ false = ap (λ (r : Reply). is_free (kept_of (handed p after (record x { reply = r })))) waits in
     record {
-      moment = subst (λ (k : Kept). now k < MAX_MOMENT) (sym noted) sound.moment;
+      moment = sound.moment;
       searched = ap is_some none ∙ sym free;
-      scanned = subst (λ (o : Option HeadScan). IsFoundIn q.input.unread o) (sym none) tt;
-      noted = subst (λ (k : Kept). IsNoted (setting_of s) k) (sym noted) (noting_notes (setting_of s) (kept_of (handed p after x)));
+      scanned = subst (λ (o : Option HeadScan). IsFoundIn after.unread o) (sym none) tt;
+      noted = handed_noted (setting_of s) p after x runs waits (rest_plain p.has_ended after.unread body x.rest rest_is);
     }
 
 -- ---- what is kept of a request is what its head asks

@@ -5,7 +5,7 @@ ghost use Rattle.h1_model.specs.Event as on;
 ghost use Rattle.h1_machine.specs.Kept.{of_exchange, is_frames, is_unanswered, is_answered, is_upgraded};
 ghost use Rattle.h1_machine.specs.Local.{closing_by, allowed_by, has_body_left, waits_for_answer, is_answering, is_moment};
 ghost use Rattle.h1_dispatch.specs.Meaning.{setting_of, event_of};
-ghost use Rattle.h1_dispatch.specs.Parts.{kept_of, reply_of};
+ghost use Rattle.h1_dispatch.specs.Parts.{kept_of, reply_of, IsNoted};
 
 use crate::Event;
 use crate::connection::exchange::Exchange;
@@ -18,6 +18,7 @@ pub const MOMENTS_END: u64 = 253_402_300_800_000;
 impl Parts {
     /// Whether the event may come next.
     pub fn allowed(&self, config: &ServiceConfig, event: &Event) -> bool
+        requires { IsNoted (setting_of config.now) (kept_of self.now) }
         ensures { result ≡ allowed_by (setting_of config.now) (kept_of self.now) (event_of event.now) }
     {
         match event {
@@ -39,13 +40,15 @@ impl Parts {
 
     // The connection is neither over nor closes.
     fn is_running(&self, config: &ServiceConfig) -> bool
+        requires { IsNoted (setting_of config.now) (kept_of self.now) }
         ensures { result ≡ (not self.now.is_over && not (is_some (closing_by (setting_of config.now) (kept_of self.now)))) }
     {
-        !self.is_over && self.closing(config).is_none()
+        !self.is_over && self.noted_closing(config).is_none()
     }
 
     #[tactic(auto, unfolding(h1_machine::specs::Local::allowed_by))]
     pub fn can_read(&self, config: &ServiceConfig) -> bool
+        requires { IsNoted (setting_of config.now) (kept_of self.now) }
         ensures read { (bytes : List ℕ) → result ≡ allowed_by (setting_of config.now) (kept_of self.now) (on.read bytes) }
         ensures eof { result ≡ allowed_by (setting_of config.now) (kept_of self.now) on.eof }
     {
@@ -54,15 +57,17 @@ impl Parts {
 
     #[tactic(auto, unfolding(h1_machine::specs::Local::allowed_by))]
     pub fn can_next(&self, config: &ServiceConfig) -> bool
+        requires { IsNoted (setting_of config.now) (kept_of self.now) }
         ensures { result ≡ allowed_by (setting_of config.now) (kept_of self.now) on.next }
     {
         let is_open = self.is_open();
-        let closes = self.closing(config).is_some();
+        let closes = self.noted_closing(config).is_some();
         !self.is_over && (closes || !is_open)
     }
 
     #[tactic(auto, unfolding(h1_machine::specs::Local::allowed_by))]
     pub fn can_pull(&self, config: &ServiceConfig) -> bool
+        requires { IsNoted (setting_of config.now) (kept_of self.now) }
         ensures pull { result ≡ allowed_by (setting_of config.now) (kept_of self.now) on.pull }
         ensures drops { result ≡ allowed_by (setting_of config.now) (kept_of self.now) on.drop_body }
     {
@@ -72,6 +77,7 @@ impl Parts {
 
     #[tactic(auto, unfolding(h1_machine::specs::Local::allowed_by))]
     pub fn can_go_on(&self, config: &ServiceConfig) -> bool
+        requires { IsNoted (setting_of config.now) (kept_of self.now) }
         ensures { result ≡ allowed_by (setting_of config.now) (kept_of self.now) on.go_on }
     {
         let waits = self.waits_to_go_on();
@@ -80,6 +86,7 @@ impl Parts {
 
     #[tactic(auto, unfolding(h1_machine::specs::Local::allowed_by))]
     pub fn can_answer(&self, config: &ServiceConfig) -> bool
+        requires { IsNoted (setting_of config.now) (kept_of self.now) }
         ensures { (head : AnswerHead) (size : BodySize) → result ≡ allowed_by (setting_of config.now) (kept_of self.now) (on.answer head size) }
     {
         let waits = self.waits_for_answer();
@@ -88,6 +95,7 @@ impl Parts {
 
     #[tactic(auto, unfolding(h1_machine::specs::Local::allowed_by))]
     pub fn can_chunk(&self, config: &ServiceConfig) -> bool
+        requires { IsNoted (setting_of config.now) (kept_of self.now) }
         ensures { (bytes : List ℕ) → result ≡ allowed_by (setting_of config.now) (kept_of self.now) (on.chunk bytes) }
     {
         let has_room = self.output.len() < config.h1_write_buffer_size();
@@ -97,6 +105,7 @@ impl Parts {
 
     #[tactic(auto, unfolding(h1_machine::specs::Local::allowed_by))]
     pub fn can_end_body(&self, config: &ServiceConfig) -> bool
+        requires { IsNoted (setting_of config.now) (kept_of self.now) }
         ensures ends { result ≡ allowed_by (setting_of config.now) (kept_of self.now) on.body_end }
         ensures fails { result ≡ allowed_by (setting_of config.now) (kept_of self.now) on.body_error }
     {
@@ -124,6 +133,7 @@ impl Parts {
 
     #[tactic(auto, unfolding(h1_machine::specs::Local::allowed_by))]
     pub fn can_drain(&self, config: &ServiceConfig) -> bool
+        requires { IsNoted (setting_of config.now) (kept_of self.now) }
         ensures { result ≡ allowed_by (setting_of config.now) (kept_of self.now) on.drain }
     {
         self.is_running(config) && !self.is_draining

@@ -4,7 +4,7 @@ ghost use Rattle.std.specs.Option.{option_or};
 ghost use Rattle.h1_machine.specs.Local.{closing_by, answered_end, drained_end, input_end};
 ghost use Rattle.h1_dispatch.specs.Meaning.{setting_of, end_of};
 ghost use Rattle.h1_dispatch.specs.Incoming.{is_coming_in};
-ghost use Rattle.h1_dispatch.specs.Parts.{kept_of, ended_end};
+ghost use Rattle.h1_dispatch.specs.Parts.{kept_of, ended_end, IsNoted};
 
 use crate::End;
 use crate::connection::parts::Parts;
@@ -18,6 +18,17 @@ impl Parts {
         match self.failed {
             Some(end) => Some(end),
             None => self.closing_unless_failed(config),
+        }
+    }
+
+    /// The same behind an event, where it is noted since when the connection closes: where none is, it doesn't.
+    pub fn noted_closing(&self, config: &ServiceConfig) -> Option<End>
+        requires { IsNoted (setting_of config.now) (kept_of self.now) }
+        ensures { option_map end_of result ≡ closing_by (setting_of config.now) (kept_of self.now) }
+    {
+        match self.closing_since {
+            Some(_) => self.closing(config),
+            None => None,
         }
     }
 

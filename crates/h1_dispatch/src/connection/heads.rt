@@ -92,7 +92,7 @@ impl Parts {
         ensures err { OnErr result (self.new ≡ self.old) }
         ensures kept_item { OnErr result (LosesAtMostHeaders (kept_of self.old).is_coming item.old item.new) }
     {
-        if let Some(end) = self.closing(config) {
+        if let Some(end) = self.noted_closing(config) {
             self.is_over = true;
             return Ok(NextKind::Closed(end));
         }
@@ -151,9 +151,10 @@ impl Parts {
         Ok(())
     }
 
-    // The head is handed out: its request is open.
+    // The head is handed out: its request is open, and nothing closes behind it.
     fn hand_out(&mut self, config: &ServiceConfig, item: &HeadItem)
         requires sound { IsSound config.now self.old }
+        requires runs { closing_by (setting_of config.now) (kept_of self.old) ≡ None }
         requires whole { IsWhole self.old.input }
         ensures handed { (piece : List ℕ) (h : Head) (start end : ℕ) → IsReading piece (head_is h) → SaysHead item.now h → self.old.input.piece ≡ Some (Piece start end)
             → kept_of self.new ≡ noting_since (setting_of config.now) (behind_plain (kept_of self.old) end h) }
@@ -170,7 +171,6 @@ impl Parts {
             was_told_to_go_on: false,
             body_is_done: false,
         });
-        self.note(config);
     }
 
     // All of the body of this head. Where the input has ended, one up to its end has ended if no byte is there.
