@@ -1,12 +1,12 @@
 -- A head that was parsed and cut off where no byte was searched.
 use Rattle.std.proofs.Math.Seq.{take-append_seam}
 use Rattle.std.proofs.lemmas.Slice.{between_is}
-use Rattle.std.proofs.Common.{◌≡◌, ℕ, true, List, [], ◌++◌, length, take, Option, Some, inl, inr, refl, sym, ap, ◌∙◌, subst}
+use Rattle.std.proofs.Common.{◌≡◌, ℕ, List, [], ◌++◌, length, take, Some, inl, inr, refl, sym, ap, ◌∙◌, subst}
 use Rattle.std.specs.Prelude.{slice_range, ◌⊎◌}
 use Rattle.h1_model.specs.HeadPiece.{IsHeadPiece}
 use Rattle.h1_decode.specs.declared.scan.HeadScan.{HeadScan}
-use Rattle.h1_decode.specs.declared.scan.HeadScan.TheVariants.{Open, Piece}
-use Rattle.h1_dispatch.specs.Incoming.{Incoming, incoming, due_in, scan_of, is_coming_in, IsHeadIn, IsHeadOf, IsWhole, IsPieceOf, IsSearchedTo, IsSearched, HasSearched, IsCutNoted}
+use Rattle.h1_decode.specs.declared.scan.HeadScan.TheVariants.{Piece}
+use Rattle.h1_dispatch.specs.Incoming.{Incoming, incoming, due_in, scan_of, is_coming_in, IsHeadIn, IsHeadOf, IsWhole, IsSearchedTo, IsSearched, HasSearched, IsCutNoted}
 use Rattle.h1_dispatch.specs.declared.connection.input.Search.{Search}
 use Rattle.h1_dispatch.specs.declared.connection.input.Search.TheVariants.{Off, Due, Done}
 use Rattle.h1_dispatch.proofs.InputLemmas.{scan_is, due_front, due_searched, due_incoming}

@@ -1,4 +1,4 @@
-use Rattle.std.proofs.Common.{◌≡◌, true, false, None, inl, inr, refl, sym, ◌∙◌, subst}
+use Rattle.std.proofs.Common.{◌≡◌, true, false, None, ◌∙◌, subst}
 use Rattle.std.specs.Prelude.{IfOk, IfErr, OnErr}
 use Rattle.h1_decode.specs.Refusal.{UnlessNoMemory, fault_of}
 use Rattle.h1_decode.specs.declared.decoder.HeadItem.{HeadItem}

@@ -1,4 +1,4 @@
-use Rattle.std.proofs.Common.{List, ℕ, sym, refl, subst}
+use Rattle.std.proofs.Common.{List, ℕ, refl, subst}
 use Rattle.h1_model.specs.Request.{faulty}
 use Rattle.h1_model.specs.RequestHead.{IsReading}
 use Rattle.h1_decode.specs.Refusal.{fault_of}

@@ -1,4 +1,4 @@
-use Rattle.std.proofs.Common.{◌∙◌, List, ℕ, ◌++◌, ap, sym, refl, subst}
+use Rattle.std.proofs.Common.{◌∙◌, List, ℕ, sym, subst}
 use Rattle.h1_dispatch.specs.Incoming.{IsSearched, GoesOnIn}
 use Rattle.h1_dispatch.proofs.InputLemmas.{can_go_on, still_searched, found_of, none_came}
 use Rattle.h1_dispatch.proofs.connection.input.Input.read_from.Goals as goal

@@ -1,4 +1,4 @@
-use Rattle.std.proofs.Common.{sym, refl, subst}
+use Rattle.std.proofs.Common.{sym, subst}
 use Rattle.h1_model.specs.Request.{Fault, faulty}
 use Rattle.h1_model.specs.RequestHead.{IsReading}
 use Rattle.h1_dispatch.specs.declared.connection.heads.NextHead.TheVariants as next
