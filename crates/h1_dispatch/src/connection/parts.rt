@@ -98,8 +98,8 @@ impl Parts {
         self.note(config);
     }
 
-    // Where one may come. It is searched for at once where more is asked of it than what it says: whether the first one
-    // has come, and whether another one is coming once the input has ended.
+    // Where a head may come. It is searched for at once where it counts, before it is asked for, whether it is whole: the
+    // first one, whose time may run out, and one behind the end of the input, where the connection closes without it.
     fn search(&mut self)
         requires { MayBeSearched self.old }
         ensures { IsSearchedFor self.old self.new }
