@@ -9,12 +9,12 @@ use Rattle.std.proofs.lemmas.Slice.{between_is}
 use Rattle.bytes.proofs.Ranges.{slice_range_front}
 use Rattle.httparse.specs.Ascii.{line_feed, carriage_return, space, colon}
 use Rattle.httparse.specs.Grammar.{is_token_byte, is_uri_byte, is_value_byte, IsToken, LineEnd, crlf, lf, print_end, print_blank, print_version, Field, IsField, print_field, RequestHead, IsRequestHead, print_request, ReadsRequest}
-use Rattle.httparse.specs.Spans.{span_bytes, header_bytes, name_and_value, IsHeaderWithin, IsRequestWithin, IsRequestOf}
+use Rattle.httparse.specs.Spans.{span_bytes, header_bytes, name_and_value, IsHeaderWithin, IsRequestWithin, IsRequestAt, IsRequestOf}
 use Rattle.httparse.specs.declared.spans.HeaderSpan.{HeaderSpan}
 use Rattle.httparse.specs.declared.spans.RequestSpans.{RequestSpans}
 use Rattle.httparse.proofs.GrammarLemmas.{print_request-append}
 use Rattle.h1_model.specs.HeadPiece.{BeginsBlank, EndsBlank, IsHeadPiece}
-use Rattle.h1_decode.specs.WholeHead.{IsWholeHeadAt}
+use Rattle.h1_decode.specs.WholeHead.{BeginsWithHead, IsWholeHeadAt}
 use Rattle.h1_decode.proofs.FeedLemmas.{is_feed, feeds, feeds-append, feeds-none, feeds-token, feeds-version, no_blank, header_lines-fields}
 
 -- ---- where the text can end with an empty line
@@ -187,7 +187,7 @@ module _ (bytes rest : List ℕ) (h : RequestHead) (reads : ReadsRequest bytes h
       absurd (omega (arith, less, size, length-drop e bytes, late before end (drop e bytes) split))
 
   -- a head that the buffer begins with is its head piece
-  pub front_piece : IsHeadPiece bytes 0 (length (print_request h))
+  front_piece : IsHeadPiece bytes 0 (length (print_request h))
   front_piece =
       let n = length (print_request h) in
       let front : slice_range bytes 0 n ≡ print_request h =
@@ -215,6 +215,22 @@ same_lines piece bytes n (s ∷ spans) front within =
     (λ i. (name i, value i) ∷ later i)
 
 module _ (bytes : List ℕ) (fields : List HeaderSpan) (spans : RequestSpans) (within : IsRequestWithin bytes fields spans) where
+  -- there are as many as fields
+  field_count : (h : RequestHead) → IsRequestAt bytes fields spans h → length h.fields ≡ spans.headers
+  field_count h at =
+      sym (length-map h.fields name_and_value) ∙ sym (ap length at.fields) ∙ length-map (take spans.headers fields) (header_bytes bytes)
+      ∙ length-take-le spans.headers fields within.section.count_fits
+
+  -- the bytes begin with a head
+  pub front_begins : IsRequestOf bytes fields spans → ¬ (BeginsBlank bytes) → length fields ≤ 96 → BeginsWithHead bytes
+  front_begins (h, at) begins room = record {
+    begins = begins;
+    text = h;
+    rest = drop spans.len bytes;
+    reads = at.reads;
+    few = omega (arith, field_count h at, within.section.count_fits, room);
+  }
+
   -- the spans are those of a head that is the whole piece
   pub front_whole : IsRequestOf bytes fields spans → ¬ (BeginsBlank bytes) → length fields ≤ 96 → IsWholeHeadAt (take spans.len bytes) fields spans
   front_whole (h, at) begins room =
@@ -224,9 +240,7 @@ module _ (bytes : List ℕ) (fields : List HeaderSpan) (spans : RequestSpans) (w
       ap (λ (n : ℕ). take n bytes) at.len ∙ ap (take (length (print_request h))) at.reads.1 ∙ take-append_seam (print_request h) (drop spans.len bytes) in
       let reads : ReadsRequest cut h [] = (at.reads.0, text ∙ sym (append-nil (print_request h))) in
       let same = same_lines cut bytes spans.len (take spans.headers fields) refl within.section.headers_fit in
-      let count : length h.fields ≡ spans.headers =
-      sym (length-map h.fields name_and_value) ∙ sym (ap length at.fields) ∙ length-map (take spans.headers fields) (header_bytes bytes)
-      ∙ length-take-le spans.headers fields within.section.count_fits in
+      let count = field_count h at in
       let cut_begins : ¬ (BeginsBlank cut) =
       λ (end, rest, is). begins (end, rest ++ drop spans.len bytes, sym (take-append-drop spans.len bytes) ∙ ap (λ xs. xs ++ drop spans.len bytes) is ∙ append_assoc (print_end end) rest (drop spans.len bytes)) in
       record {
@@ -254,3 +268,7 @@ pub cut_piece : (buffer bytes front : List ℕ) (n : ℕ) → bytes ≡ buffer �
 cut_piece buffer bytes front n same cut piece =
     let size : n ≡ length front = sym (length-take-le n bytes piece.in_range) ∙ ap length cut in
     subst (IsHeadPiece buffer 0) size (subst (λ (xs : List ℕ). IsHeadPiece xs 0 n) same piece)
+
+-- where the bytes begin with a head, one is their head piece
+pub begins_piece : (bytes : List ℕ) → BeginsWithHead bytes → (end : ℕ) × IsHeadPiece bytes 0 end
+begins_piece bytes b = (length (print_request b.text), front_piece bytes b.rest b.text b.reads b.begins)

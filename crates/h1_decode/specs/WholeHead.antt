@@ -25,6 +25,14 @@ abbrev pub BeginsWithNoHead : List ℕ → Type 0
 BeginsWithNoHead bytes =
     ¬ (BeginsBlank bytes) → (text : RequestHead) (rest : List ℕ) → ReadsRequest bytes text rest → MAX_HEADER_LINES < length text.fields
 
+-- the bytes begin with a whole head of the grammar, of no more fields than a head may have header lines, and with no empty line
+pub record BeginsWithHead (bytes : List ℕ) : Type 0 where
+  pub begins : ¬ (BeginsBlank bytes)
+  pub text : RequestHead
+  pub rest : List ℕ
+  pub reads : ReadsRequest bytes text rest
+  pub few : length text.fields ≤ MAX_HEADER_LINES
+
 -- which text of the grammar the piece would be, were it none of too many lines
 abbrev pub HasNoText : List ℕ → Type 0
 HasNoText piece = header_lines piece ≤ MAX_HEADER_LINES → (text : RequestHead) → ¬ (ReadsRequest piece text [])

@@ -1,5 +1,5 @@
 //! What the head of a request says (RFC 7230, section 3).
-ghost use Rattle.std.specs.Prelude.{◌≡◌, ◌↔◌, ◌<◌, ◌≤◌, ◌⊎◌, ◌++◌, ℕ, [], None, IsTrue, false, length, map, take, codes, IfSome, IfNone, nat_lt, if◌then◌else◌, OnOk, OnErr, IfOk, IfErr, All};
+ghost use Rattle.std.specs.Prelude.{◌≡◌, ◌↔◌, ◌<◌, ◌≤◌, ◌⊎◌, ◌++◌, [], None, IsTrue, false, length, map, take, codes, IfSome, IfNone, nat_lt, if◌then◌else◌, OnOk, OnErr, IfOk, IfErr, All};
 ghost use Rattle.http_header.specs.Token.{IsToken};
 ghost use Rattle.http_bodies.specs.Kinds.{kind_of};
 ghost use Rattle.http.specs.declared.version.TheConstants.Version.{HTTP_11};
@@ -14,7 +14,7 @@ ghost use Rattle.h1_decode.specs.HeadItem.{SaysHead, version_of, without_headers
 ghost use Rattle.h1_decode.specs.Lines.{HasValue};
 ghost use Rattle.h1_decode.specs.ReadParts.{parts_at, head_of, AreParts, RefusesParts};
 ghost use Rattle.h1_decode.specs.Refusal.{UnlessNoMemory, fault_of, Refuses};
-ghost use Rattle.h1_decode.specs.WholeHead.{BeginsWithNoHead, HasFewFields, IsOfGrammar, IsWholeHeadAt, RefusesText};
+ghost use Rattle.h1_decode.specs.WholeHead.{BeginsWithHead, BeginsWithNoHead, HasFewFields, IsOfGrammar, IsWholeHeadAt, RefusesText};
 
 use crate::lines::{read_lines, share};
 use crate::scan::line_end_len;
@@ -165,9 +165,10 @@ fn read_over(
     }
 }
 
-/// Cuts off the head with which the buffer begins, and reads it over another one as `read_head_into` does, with no
-/// search for its end. It answers false where an empty line stands at the front, and where no whole head of the grammar
-/// with at most 96 header lines does: all is then as before. A head that is refused is cut off too. After an error
+/// Cuts off the head with which the buffer begins, and reads it over another one as `read_head_into` does: it is parsed
+/// where it stands, and not searched for. What was cut off stands in `front`, which is empty before. The answer is false
+/// where an empty line stands at the buffer's front, and where no whole head of the grammar with at most 96 header lines
+/// does: all is then as before. A head that is refused is cut off too, and one that wants memory may be. After an error
 /// `item` is what it was, but without headers.
 pub fn cut_head_into(
     alloc: Global,
@@ -185,7 +186,8 @@ pub fn cut_head_into(
     ensures missing { IfOk result (λ found. found ≡ false → BeginsWithNoHead buffer.old.items) }
     ensures fault { IfErr result (λ e. UnlessNoMemory e (IsHeadPiece buffer.old.items 0 (length front.new)
         × IsReading front.new (faulty (fault_of e)))) }
-    ensures whole { OnErr result ((end : ℕ) × IsHeadPiece buffer.old.items 0 end) }
+    ensures cause { IfErr result (λ e. UnlessNoMemory e (Refuses e front.new)) }
+    ensures there { OnErr result (BeginsWithHead buffer.old.items) }
     ensures err { OnErr result (item.new ≡ without_headers item.old) }
 {
     let Some(spans) = parse_front(buffer.as_slice(), &mut room.fields) else {
@@ -210,6 +212,7 @@ pub fn cut_head_into(
 fn parse_front(bytes: &[u8], fields: &mut [HeaderSpan]) -> Option<RequestSpans>
     requires { length fields.old ≡ MAX_HEADERS }
     ensures piece { IfSome result (λ spans. IsHeadPiece bytes.now 0 spans.len) }
+    ensures there { IfSome result (λ spans. BeginsWithHead bytes.now) }
     ensures within { IfSome result (λ spans. IsRequestWithin (take spans.len bytes.now) fields.new spans) }
     ensures found { IfSome result (λ spans. IsWholeHeadAt (take spans.len bytes.now) fields.new spans) }
     ensures none { IfNone result (BeginsWithNoHead bytes.now) }

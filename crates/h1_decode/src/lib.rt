@@ -1,6 +1,7 @@
 //! Reading the heads of messages: where a head begins and ends in a buffer, and what it says.
 //! `HeadScanner` keeps its place over a buffer that grows, so a head that comes byte by byte costs
-//! what it costs in one piece.
+//! what it costs in one piece. `cut_head_into` reads a head that is there whole, at the front of a
+//! buffer, without a scan.
 //!
 //! # Example
 //!

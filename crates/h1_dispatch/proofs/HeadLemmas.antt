@@ -55,15 +55,6 @@ none_coming i (Some (Piece start end)) is = absurd (cc is.1)
 pub not_coming : (i : Incoming) → IsHeadOf i None → is_coming_in i.piece ≡ false
 not_coming i is = none_coming i i.piece is
 
--- and where none is coming none is found
-found_none : (i : Incoming) (piece : Option HeadScan) → is_coming_in piece ≡ false → IsHeadIn i piece None
-found_none i None is = refl
-found_none i (Some Open) is = refl
-found_none i (Some (Piece start end)) is = absurd (cc is)
-
-pub none_found : (i : Incoming) → is_coming_in i.piece ≡ false → IsHeadOf i None
-none_found i is = found_none i i.piece is
-
 -- ---- the connection's end
 
 pub closed_sound : (s : Settings) (p : Parts) → IsSound s p → IsSound s (record p { is_over = true })

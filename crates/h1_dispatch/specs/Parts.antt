@@ -127,8 +127,8 @@ MayBeSearched p = is_free (kept_of p) ≡ false → p.input.piece ≡ None
 abbrev pub IsNoted : Setting → Kept → Type 0
 IsNoted setting k = is_some (closing_by setting k) ≡ true → is_some k.closing_since ≡ true
 
--- What holds of every connection between two events: the last tick is before the year 10000; a head is searched for
--- where the last request is done with, and what was found is there; and since when it closes is noted.
+-- What holds of every connection between two events: the last tick is before the year 10000; a head is searched for, or
+-- will be when it is asked for, where the last request is done with, and what is found is there; and since when it closes is noted.
 pub record IsSound (settings : Settings) (p : Parts) : Type 0 where
   pub moment : now (kept_of p) < MAX_MOMENT
   pub searched : is_some p.input.piece ≡ is_free (kept_of p)
@@ -137,7 +137,7 @@ pub record IsSound (settings : Settings) (p : Parts) : Type 0 where
 
 -- ---- what is brought up to date behind an event
 
--- a head was searched for where one may come
+-- a head is searched for where one may come, or will be when it is asked for
 pub record IsSearchedFor (p q : Parts) : Type 0 where
   pub parts : q ≡ record p { input = q.input }
   pub unread : q.input.unread ≡ p.input.unread

@@ -90,8 +90,7 @@ impl Parts {
     fn waits_for_first(&self) -> bool
         ensures { result ≡ waits_for_first (kept_of self.now) }
     {
-        let is_coming = self.input.is_coming();
-        self.exchange.is_none() && !is_coming
+        self.exchange.is_none() && !self.input.is_coming()
     }
 
     // The last request is done with, and no byte of another one has come.

@@ -151,7 +151,7 @@ impl Parts {
         Ok(())
     }
 
-    // The head is handed out: its request is open, and nothing closes behind it.
+    // The head is handed out: its request is open, and nothing closes behind it. `config` is named by the clauses alone.
     fn hand_out(&mut self, config: &ServiceConfig, item: &HeadItem)
         requires sound { IsSound config.now self.old }
         requires runs { closing_by (setting_of config.now) (kept_of self.old) ≡ None }
@@ -160,6 +160,7 @@ impl Parts {
             → kept_of self.new ≡ noting_since (setting_of config.now) (behind_plain (kept_of self.old) end h) }
         ensures sound { IsSound config.now self.new }
     {
+        let _ = config;
         self.input.pass_head();
         let rest = self.whole_rest(item);
         self.exchange = Some(Exchange {

@@ -32,7 +32,7 @@ enum Search {
     /// None is searched for: the bytes are a body's.
     Off,
 
-    /// A head may come next, and no byte was looked at. One that is whole when it is asked for is read at once.
+    /// A head may come next, and nothing is known of the bytes. One that is whole when it is asked for is read at once.
     Due,
 
     /// All bytes were searched.
@@ -49,7 +49,8 @@ struct Scan {
 /// The bytes of the input that were taken and not passed yet.
 ///
 /// A head is searched for only where one may come next, so that no byte of a body is. What was found is kept, and
-/// so is how far the search has come: a head that comes byte by byte costs what it costs in one piece.
+/// so is how far the search has come: a head that comes byte by byte costs what it costs in one piece. Behind the first
+/// head the search waits until the next one is asked for.
 #[derive(Drop)]
 pub struct Input {
     /// The head that was asked for, with the empty lines before it, where it couldn't be handed out.
@@ -151,7 +152,7 @@ impl Input {
         Ok(count)
     }
 
-    /// Lets the next head be searched for where it is asked for.
+    /// Lets the next head be searched for when it is asked for.
     pub fn await_head(&mut self)
         ensures unread { self.new.unread ≡ self.old.unread }
         ensures scanned { IsFound self.new }
@@ -207,7 +208,7 @@ impl Input {
         )
     }
 
-    /// Passes the head that is there. No other is searched for.
+    /// Passes the head that is there, which a search has found or is still to find. No other is searched for.
     pub fn pass_head(&mut self)
         requires { IsWhole self.old }
         ensures { IsPassedHead self.old self.new }
@@ -410,7 +411,8 @@ fn read_behind_blank_lines(
     read_head_into(alloc, item, room, &head)
 }
 
-// Whether the bytes have a whole head. It is asked of a search that is due only where no head is asked for.
+// Whether the bytes have a whole head, where the search is due: no call asks, since a search is due only where none
+// depends on the answer.
 #[cold]
 fn has_head(bytes: &[u8]) -> bool
     ensures { result ≡ is_coming_in (Some (scan_of bytes.now)) }

@@ -89,7 +89,8 @@ impl Parts {
         }
     }
 
-    /// Searches for the next head where one may come, and notes since when the connection closes.
+    /// Searches for the next head where one may come, or lets that be done when it is asked for, and notes since when the
+    /// connection closes.
     pub fn settle(&mut self, config: &ServiceConfig)
         requires { MayBeSearched self.old }
         ensures { IsSettled (setting_of config.now) (kept_of self.old) self.new }

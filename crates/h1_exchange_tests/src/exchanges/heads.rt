@@ -325,7 +325,7 @@ pub static ROWS: [Row; 19] = [
         state: "open",
     },
     Row {
-        name: "heads behind the first: whole, behind an empty line and in pieces, and none",
+        name: "heads behind the first: whole, in pieces, behind empty lines, and none",
         config: "5000 5000 0 1 32768",
         steps: &[
             (Plain("tick 0"), Plain("done")),
@@ -344,11 +344,16 @@ pub static ROWS: [Row; 19] = [
             (With("read", "P/1.1\r\n\r\n"), Plain("took 9")),
             (Plain("next"), Plain("head GET /c 1.1 none keep-alive -")),
             (Plain("answer 200 0 -"), Plain("done")),
-            (With("read", "GET /d\r\n\r\n"), Plain("took 10")),
+            (
+                With("read", "\r\nGET /d HTTP/1.1\r\n\r\nGET /e\r\n\r\n"),
+                Plain("took 31"),
+            ),
+            (Plain("next"), Plain("head GET /d 1.1 none keep-alive -")),
+            (Plain("answer 200 0 -"), Plain("done")),
             (Plain("next"), Plain("fault malformed")),
         ],
         misplaced: None,
-        buffered: "HTTP/1.1 200 OK\r\ncontent-length: 0\r\ndate: Thu, 01 Jan 1970 00:00:00 GMT\r\n\r\nHTTP/1.1 200 OK\r\ncontent-length: 0\r\ndate: Thu, 01 Jan 1970 00:00:00 GMT\r\n\r\nHTTP/1.1 200 OK\r\ncontent-length: 0\r\ndate: Thu, 01 Jan 1970 00:00:00 GMT\r\n\r\nHTTP/1.1 400 Bad Request\r\ncontent-length: 0\r\nconnection: close\r\ndate: Thu, 01 Jan 1970 00:00:00 GMT\r\n\r\n",
+        buffered: "HTTP/1.1 200 OK\r\ncontent-length: 0\r\ndate: Thu, 01 Jan 1970 00:00:00 GMT\r\n\r\nHTTP/1.1 200 OK\r\ncontent-length: 0\r\ndate: Thu, 01 Jan 1970 00:00:00 GMT\r\n\r\nHTTP/1.1 200 OK\r\ncontent-length: 0\r\ndate: Thu, 01 Jan 1970 00:00:00 GMT\r\n\r\nHTTP/1.1 200 OK\r\ncontent-length: 0\r\ndate: Thu, 01 Jan 1970 00:00:00 GMT\r\n\r\nHTTP/1.1 400 Bad Request\r\ncontent-length: 0\r\nconnection: close\r\ndate: Thu, 01 Jan 1970 00:00:00 GMT\r\n\r\n",
         state: "malformed",
     },
 ];

@@ -29,3 +29,10 @@ returns-in-Err-read_parts_over-clause-fault c =
           (causes_whole c.in-Ok.head (take n c.as_slice.result.now) c.parse_front.new.fields c.in-Some.spans c.read_parts_over.result
           cut c.in-Some.ensures.found c.read_parts_over.ensures.refused))) ne,
     )
+
+pub returns-in-Err-read_parts_over-clause-cause : goal.returns-in-Err-read_parts_over-clause-cause
+returns-in-Err-read_parts_over-clause-cause c =
+    let n = c.in-Some.spans.len in
+    let cut : take n c.as_slice.result.now ≡ c.in-Ok.head = ap (take n) c.as_slice.ensures ∙ sym c.in-Ok.ensures.front in
+    λ ne. (rw c.in-Err-read_parts_over.is at (causes_whole c.in-Ok.head (take n c.as_slice.result.now) c.parse_front.new.fields c.in-Some.spans
+    c.read_parts_over.result cut c.in-Some.ensures.found c.read_parts_over.ensures.refused)) ne

@@ -1,5 +1,6 @@
 use Rattle.std.proofs.Common.{◌≡◌, true, false, None, ◌∙◌, subst}
 use Rattle.std.specs.Prelude.{IfOk, IfErr, OnErr}
+use Rattle.h1_decode.proofs.FrontLemmas.{begins_piece}
 use Rattle.h1_decode.specs.Refusal.{UnlessNoMemory, fault_of}
 use Rattle.h1_decode.specs.declared.decoder.HeadItem.{HeadItem}
 use Rattle.h1_dispatch.specs.Incoming.{Incoming, due_in, IsHeadOf, IsWhole, IsNextHead, IsNextFault}
@@ -67,4 +68,4 @@ returns-in-Err-clause-fault c = λ ne.
     (_, found_head c.cut_head_into.new.front _ _ c.cut_head_into.ensures.bytes read.0, read.1)
 
 pub returns-in-Err-clause-whole : goal.returns-in-Err-clause-whole
-returns-in-Err-clause-whole c = found_whole _ _ c.in-Err.ensures.whole.1
+returns-in-Err-clause-whole c = found_whole _ _ (begins_piece _ c.in-Err.ensures.there).1
