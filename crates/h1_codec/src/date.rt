@@ -1,6 +1,7 @@
 //! The date line of an answer.
-ghost use Rattle.std.specs.Prelude.{◌≡◌, ◌/◌, ◌<◌, ◌++◌, length, codes, OnOk, OnErr};
+ghost use Rattle.std.specs.Prelude.{◌≡◌, ◌/◌, ◌*◌, ◌<◌, ◌++◌, length, codes, OnOk, OnErr};
 ghost use Rattle.httpdate.specs.Date.{unix_secs};
+ghost use Rattle.h1_model.specs.Limits.{MAX_MOMENT};
 ghost use Rattle.h1_model.specs.AnswerText.{date_line, name_text};
 ghost use Rattle.h1_codec.specs.DateText.{date_and_end};
 
@@ -45,7 +46,7 @@ impl DateLine {
 
     /// Makes it the line of a moment, in milliseconds since the start of 1970. Within a second it stays.
     pub fn set(&mut self, now: u64)
-        requires { now < 253402300800000 }
+        requires { now < MAX_MOMENT }
         ensures { self.new ≡ now / 1000 }
     {
         let second = now / 1000;
@@ -71,7 +72,7 @@ fn first_line() -> [u8; LINE_LEN]
 }
 
 fn line_of(second: u64) -> [u8; LINE_LEN]
-    requires { second < 253402300800 }
+    requires { second * 1000 < MAX_MOMENT }
     ensures { result ≡ date_and_end second }
 {
     let date = date_at(second);
@@ -81,7 +82,7 @@ fn line_of(second: u64) -> [u8; LINE_LEN]
 }
 
 fn date_at(second: u64) -> HttpDate
-    requires { second < 253402300800 }
+    requires { second * 1000 < MAX_MOMENT }
     ensures { unix_secs result ≡ second }
 {
     match HttpDate::from_unix_secs(second) {
@@ -93,7 +94,7 @@ fn date_at(second: u64) -> HttpDate
 /// Puts the date line of a moment, in milliseconds since the start of 1970 and before the year 10000 (RFC 7231,
 /// section 7.1.1.2). Where memory is wanting `dst` holds what it held.
 pub fn write_date_header(now: u64, dst: &mut BytesMut, camel_case: bool) -> Result<(), NoMemory>
-    requires { now < 253402300800000 }
+    requires { now < MAX_MOMENT }
     ensures ok { OnOk result (dst.new.items ≡ dst.old.items ++ date_line camel_case now) }
     ensures err { OnErr result (dst.new.items ≡ dst.old.items) }
 {

@@ -1,5 +1,6 @@
 //! Texts that hang on nothing but a moment.
 ghost use Rattle.std.specs.Prelude.{◌≡◌, ◌++◌, ◌/◌, ◌<◌, List, ℕ, OnOk, OnErr, codes, false};
+ghost use Rattle.h1_model.specs.Limits.{MAX_MOMENT};
 ghost use Rattle.h1_model.specs.AnswerText.{interim_text, bad_request_text, too_large_text, timeout_text, date_line};
 
 use crate::DateLine;
@@ -18,7 +19,7 @@ pub fn put_interim(out: &mut BytesMut) -> Result<(), NoMemory>
 /// Puts the answer to a head that is malformed (RFC 7231, section 6.5.1); `now` is in milliseconds since the
 /// start of 1970. Where memory is wanting `out` holds what it held.
 pub fn put_bad_request(out: &mut BytesMut, date: &mut DateLine, now: u64) -> Result<(), NoMemory>
-    requires { now < 253402300800000 }
+    requires { now < MAX_MOMENT }
     ensures ok { OnOk result (out.new.items ≡ out.old.items ++ bad_request_text now) }
     ensures err { OnErr result (out.new.items ≡ out.old.items) }
 {
@@ -33,7 +34,7 @@ pub fn put_bad_request(out: &mut BytesMut, date: &mut DateLine, now: u64) -> Res
 /// Puts the answer to a head that is too large (RFC 6585, section 5); `now` is in milliseconds since the start
 /// of 1970. Where memory is wanting `out` holds what it held.
 pub fn put_too_large(out: &mut BytesMut, date: &mut DateLine, now: u64) -> Result<(), NoMemory>
-    requires { now < 253402300800000 }
+    requires { now < MAX_MOMENT }
     ensures ok { OnOk result (out.new.items ≡ out.old.items ++ too_large_text now) }
     ensures err { OnErr result (out.new.items ≡ out.old.items) }
 {
@@ -48,7 +49,7 @@ pub fn put_too_large(out: &mut BytesMut, date: &mut DateLine, now: u64) -> Resul
 /// Puts the answer to a request that is too slow (RFC 7231, section 6.5.7); `now` is in milliseconds since the
 /// start of 1970. Where memory is wanting `out` holds what it held.
 pub fn put_timeout(out: &mut BytesMut, date: &mut DateLine, now: u64) -> Result<(), NoMemory>
-    requires { now < 253402300800000 }
+    requires { now < MAX_MOMENT }
     ensures ok { OnOk result (out.new.items ≡ out.old.items ++ timeout_text now) }
     ensures err { OnErr result (out.new.items ≡ out.old.items) }
 {
@@ -67,7 +68,7 @@ fn put_refusal(
     date: &mut DateLine,
     now: u64,
 ) -> Result<(), NoMemory>
-    requires { now < 253402300800000 }
+    requires { now < MAX_MOMENT }
     ensures ok { OnOk result (out.new.items ≡ out.old.items ++ (lines.now ++ (date_line false now ++ codes "\r\n"))) }
     ensures err { OnErr result (out.new.items ≡ out.old.items) }
 {

@@ -2,6 +2,7 @@
 ghost use Rattle.std.specs.Prelude.{◌≡◌, ℕ, [], ◌++◌, ◌/◌, ◌<◌, ◌≤◌, ◌+◌, ◌∷◌, length, codes, decimal, OnOk, OnErr, IsTrue, true, if◌then◌else◌};
 ghost use Rattle.http.specs.StatusCode.{code_digits};
 ghost use Rattle.httparse.specs.Ascii.{crlf_bytes};
+ghost use Rattle.h1_model.specs.Limits.{MAX_MOMENT};
 ghost use Rattle.h1_model.specs.Answer as answers;
 ghost use Rattle.h1_model.specs.AnswerText as texts;
 ghost use Rattle.h1_model.specs.AnswerText.{content_length_line, date_line, head_text};
@@ -35,7 +36,7 @@ pub fn put_answer_head(
     date: &mut DateLine,
     now: u64,
 ) -> Result<(), NoMemory>
-    requires { now < 253402300800000 }
+    requires { now < MAX_MOMENT }
     ensures ok { OnOk result (out.new.items ≡ out.old.items ++ head_text asked.minor (answer_of head.now)
         (answers.shape_of asked (answer_of head.now) (size_of size)) (size_of size) (model_type connection) now) }
     ensures err { OnErr result (out.new.items ≡ out.old.items) }

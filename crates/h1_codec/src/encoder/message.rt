@@ -3,6 +3,7 @@ ghost use Rattle.std.specs.Prelude.{◌≡◌, ◌<◌, ◌++◌, ◌↔◌, ℕ
 ghost use Rattle.http.specs.declared.version.Version.{Version as SomeVersion};
 ghost use Rattle.http_bodies.specs.declared.body.size.BodySize.{BodySize as Size};
 ghost use Rattle.http_types.specs.declared.message.ConnectionType.{ConnectionType as Kind};
+ghost use Rattle.h1_model.specs.Limits.{MAX_MOMENT};
 ghost use Rattle.h1_model.specs.Answer as answers;
 ghost use Rattle.h1_codec.specs.Encoding.{of_length, first_encoding, encoded, behind, is_complete, end_of, ended, missing_of};
 ghost use Rattle.h1_codec.specs.Meaning.{model_shape};
@@ -41,7 +42,7 @@ pub trait EncodeHead {
         date: &mut DateLine,
         now: u64,
     ) -> Result<(), EncodeError>
-        requires { now < 253402300800000 }
+        requires { now < MAX_MOMENT }
         ensures ok { OnOk result (dst.new.items ≡ dst.old.items ++ text self.now stream version length conn_type now) }
         ensures version { (result ≡ Err EncodeError.Version) ↔ (has_text self.now ≡ false) }
         ensures no_short { (n : ℕ) → ¬ (result ≡ Err (EncodeError.Short n)) }
@@ -156,7 +157,7 @@ impl<T: EncodeHead> MessageEncoder<T> {
         conn_type: ConnectionType,
         now: u64,
     ) -> Result<(), EncodeError>
-        requires { now < 253402300800000 }
+        requires { now < MAX_MOMENT }
         ensures text { OnOk result (dst.new.items ≡ dst.old.items ++ T.text message.now stream version length conn_type now) }
         ensures begins { OnOk result (self.new ≡ (if head then of_length 0 else first_encoding (T.shape message.now stream version length))) }
         ensures version { (result ≡ Err EncodeError.Version) ↔ (T.has_text message.now ≡ false) }

@@ -1,6 +1,7 @@
 // What is to be written to the peer.
 ghost use Rattle.std.specs.Prelude.{◌≡◌, ◌<◌, ◌≤◌, ◌++◌, ◌==◌, [], length, take, drop, IfOk, OnOk, OnErr, IsOk};
 ghost use Rattle.h1_codec.specs.Meaning.{answer_of, size_of, model_type, model_shape};
+ghost use Rattle.h1_model.specs.Limits.{MAX_MOMENT};
 ghost use Rattle.h1_model.specs.Answer as answers;
 ghost use Rattle.h1_model.specs.AnswerText.{head_text, sent_end, interim_text, timeout_text};
 ghost use Rattle.h1_model.specs.Text.{fault_answer};
@@ -101,7 +102,7 @@ impl Output {
         connection: ConnectionType,
         moment: u64,
     ) -> Result<(), NoMemory>
-        requires { moment < 253402300800000 }
+        requires { moment < MAX_MOMENT }
         ensures ok { OnOk result (self.new ≡ self.old ++ head_text asked.minor (answer_of head.now)
             (answers.shape_of asked (answer_of head.now) (size_of size)) (size_of size) (model_type connection) moment) }
         ensures err { OnErr result (self.new ≡ self.old) }
@@ -151,7 +152,7 @@ impl Output {
 
     /// The answer to a head that is none.
     pub fn put_fault(&mut self, fault: HeadFault, moment: u64) -> Result<(), NoMemory>
-        requires { moment < 253402300800000 }
+        requires { moment < MAX_MOMENT }
         ensures ok { OnOk result (self.new ≡ self.old ++ fault_answer (fault_of fault) moment) }
         ensures err { OnErr result (self.new ≡ self.old) }
     {
@@ -163,7 +164,7 @@ impl Output {
 
     /// The answer to a head that doesn't come.
     pub fn put_timeout(&mut self, moment: u64) -> Result<(), NoMemory>
-        requires { moment < 253402300800000 }
+        requires { moment < MAX_MOMENT }
         ensures ok { OnOk result (self.new ≡ self.old ++ timeout_text moment) }
         ensures err { OnErr result (self.new ≡ self.old) }
     {

@@ -1,5 +1,6 @@
 // What a tick does to the parts.
 ghost use Rattle.std.specs.Prelude.{◌≡◌, ◌<◌, ◌&&◌, ◌⊎◌, false, Some, IsSome, IfOk, OnOk, OnErr, IsOk};
+ghost use Rattle.h1_model.specs.Limits.{MAX_MOMENT};
 ghost use Rattle.h1_model.specs.End as ends;
 ghost use Rattle.h1_model.specs.Event as on;
 ghost use Rattle.h1_machine.specs.Kept.{is_answered, is_nothing, of_exchange};
@@ -31,7 +32,7 @@ impl Parts {
     /// A moment has come, in milliseconds after the start of 1970.
     pub fn tick(&mut self, config: &ServiceConfig, moment: u64) -> Result<Expiry, NoMemory>
         requires sound { IsSound config.now self.old }
-        requires before { moment < 253402300800000 }
+        requires before { moment < MAX_MOMENT }
         ensures ok { IfOk result (λ expiry. Steps config.now self.old (on.tick moment) (expiry_of expiry) self.new) }
         ensures sound { OnOk result (IsSound config.now self.new) }
         ensures no_memory_needed { IsQuietTick (setting_of config.now) (kept_of self.old) moment → IsOk result }
@@ -51,7 +52,7 @@ impl Parts {
         first: u64,
         moment: u64,
     ) -> Result<Expiry, NoMemory>
-        requires { moment < 253402300800000 }
+        requires { moment < MAX_MOMENT }
         ensures ok { IfOk result (λ expiry. record { outcome = expiry_of expiry; kept = kept_of self.new }
             ≡ expiring (setting_of config.now) (kept_of self.old) (closing_by (setting_of config.now) (kept_of self.old)) first moment) }
         ensures input { self.new.input ≡ self.old.input }
