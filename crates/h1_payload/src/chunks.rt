@@ -142,7 +142,8 @@ impl ChunkReader {
         Ok(bytes)
     }
 
-    /// Passes all bytes, and keeps those of trailer lines.
+    /// Passes all bytes, and keeps those of trailer lines. It is out of the way of pulls that give bytes.
+    #[inline(never)]
     fn wait(&mut self, unread: &mut BytesMut, scan: Scan, place: Place) -> Result<(), NoMemory>
         requires within { IsWithin (length unread.old.items) scan }
         requires room { HasRoom (place_of place) (self.old.section ++ slice_range unread.old.items scan.from scan.to) }
@@ -159,7 +160,8 @@ impl ChunkReader {
         Ok(())
     }
 
-    /// Passes the body's end, which is at an index, and gives the trailers, if there are some.
+    /// Passes the body's end, which is at an index, and gives the trailers, if there are some. It is out of the way too.
+    #[inline(never)]
     fn finish(&self, unread: &mut BytesMut, scan: Scan, at: usize) -> Result<Pulled, NoMemory>
         requires within { IsWithin (length unread.old.items) scan }
         requires end { at ≤ length unread.old.items }
