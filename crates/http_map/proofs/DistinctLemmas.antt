@@ -14,19 +14,19 @@ use Rattle.http_map.proofs.LineLemmas.{apart_turned, get_all-lacks}
 -- what holds of all names still does after an edit
 module _ (P : List ℕ → Type 0) (name : List ℕ) where
   module _ (value : FieldValue) where
-    all-append : (m : Entries) → P name → AllByRecursion P (keys m) → AllByRecursion P (keys (append m name value))
+    pub all-append : (m : Entries) → P name → AllByRecursion P (keys m) → AllByRecursion P (keys (append m name value))
     all-append [] is all = (is, tt)
     all-append (e ∷ m) is all =
         elim (bytes_eq name e.0) as (λ b. AllByRecursion P (keys (if b then (e.0, e.1 ++ value ∷ []) ∷ m else e ∷ append m name value)))
         [ true ↦ all | false ↦ (all.0, all-append m is all.1) ]
 
-    all-insert : (m : Entries) → P name → AllByRecursion P (keys m) → AllByRecursion P (keys (insert m name value))
+    pub all-insert : (m : Entries) → P name → AllByRecursion P (keys m) → AllByRecursion P (keys (insert m name value))
     all-insert [] is all = (is, tt)
     all-insert (e ∷ m) is all =
         elim (bytes_eq name e.0) as (λ b. AllByRecursion P (keys (if b then (e.0, value ∷ []) ∷ m else e ∷ insert m name value)))
         [ true ↦ all | false ↦ (all.0, all-insert m is all.1) ]
 
-  all-remove : (m : Entries) → AllByRecursion P (keys m) → AllByRecursion P (keys (remove m name))
+  pub all-remove : (m : Entries) → AllByRecursion P (keys m) → AllByRecursion P (keys (remove m name))
   all-remove [] all = tt
   all-remove (e ∷ m) all =
       elim (bytes_eq name e.0) as (λ b. AllByRecursion P (keys (if b then m else e ∷ remove m name)))
@@ -36,7 +36,7 @@ all-filled_first : (P : List ℕ → Type 0) (name : List ℕ) (vs : List FieldV
 all-filled_first P name [] m is all = all
 all-filled_first P name (v ∷ vs) m is all = (is, all)
 
-all-Retains : (P : List ℕ → Type 0) (answers : List ℕ → FieldValue → Bool → Type 0) (m kept : Entries) → Retains answers m kept → AllByRecursion P (keys m) → AllByRecursion P (keys kept)
+pub all-Retains : (P : List ℕ → Type 0) (answers : List ℕ → FieldValue → Bool → Type 0) (m kept : Entries) → Retains answers m kept → AllByRecursion P (keys m) → AllByRecursion P (keys kept)
 all-Retains P answers [] kept h all = rw h tt
 all-Retains P answers (e ∷ m) kept h all = rw h.4 (all-filled_first P e.0 h.0 h.1 all.0 (all-Retains P answers m h.1 h.3 all.1))
 

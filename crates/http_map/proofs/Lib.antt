@@ -8,4 +8,5 @@ pub mod MapLemmas
 pub mod NumberLemmas
 pub mod OwnedLemmas
 pub mod RetainLemmas
+pub mod SeenLemmas
 pub mod TableLemmas

@@ -12,6 +12,7 @@ mod few;
 mod iter;
 mod line;
 mod many;
+mod seen;
 
 use crate::NoMemory;
 use crate::any_case::AnyCase;
@@ -19,8 +20,9 @@ use crate::removed::Removed;
 use crate::values::Values;
 use http_header::{HeaderName, HeaderValue};
 pub(crate) use iter::{NamesIntoIter, NamesIter};
-use line::Line;
+use line::{Line, mark_of_name};
 use many::Hashed;
+use seen::Seen;
 use std::alloc::{AllocError, Global};
 use std::fmt;
 use std::marker::Model;
@@ -29,13 +31,14 @@ use std::marker::Model;
 const MOST_FEW: usize = 32;
 
 /// Names, each with its values, in the order of their first insertion. Few stand in one list, each with
-/// a mark by which it is found; from the
-/// 33rd on they are hashed.
+/// a mark by which it is found; from the 33rd on they are hashed.
 ///
 /// A contract sees them as the list of names with their values.
 #[derive(Drop)]
 pub(crate) struct Names {
     table: Table,
+    // The marks of the names in the list, and perhaps of names that were there.
+    seen: Seen,
 }
 
 #[derive(Drop)]
@@ -54,7 +57,7 @@ impl Model for Names {
 
     ghost view = { λ names. listed names.table };
 
-    ghost invariant = { λ names. IsTable names.table };
+    ghost invariant = { λ names. IsTable names.seen.bits names.table };
 }
 
 impl Table {
@@ -82,6 +85,7 @@ impl Names {
     {
         Names {
             table: Table::Few(Vec::new(alloc)),
+            seen: Seen::none(),
         }
     }
 
@@ -95,7 +99,10 @@ impl Names {
         } else {
             Table::Many(many::with_capacity(alloc, capacity)?)
         };
-        Ok(Names { table })
+        Ok(Names {
+            table,
+            seen: Seen::none(),
+        })
     }
 
     pub(crate) fn allocator(&self) -> Global {
@@ -123,7 +130,7 @@ impl Names {
         ensures lacks { IfNone result (Lacks self.now (lowercase bytes.now)) }
     {
         match &self.table {
-            Table::Few(lines) => few::find(lines.as_slice(), bytes),
+            Table::Few(lines) => few::find(lines.as_slice(), self.seen, bytes),
             Table::Many(names) => many::find(names.as_ref(), bytes),
         }
     }
@@ -134,7 +141,7 @@ impl Names {
     {
         match &self.table {
             Table::Few(lines) => {
-                let index = few::find(lines.as_slice(), bytes)?;
+                let index = few::find(lines.as_slice(), self.seen, bytes)?;
                 Some(lines[index].values())
             }
             Table::Many(names) => names.as_ref().get(AnyCase { bytes }),
@@ -181,6 +188,7 @@ impl Names {
     pub(crate) fn clear(&mut self)
         ensures { self.new ≡ [] }
     {
+        self.seen = Seen::none();
         match &mut self.table {
             Table::Few(lines) => lines.clear(),
             Table::Many(names) => names.as_mut().clear(),
@@ -205,7 +213,9 @@ impl Names {
         let Table::Few(lines) = &self.table else {
             return Ok(());
         };
-        if lines.len() < MOST_FEW || few::find(lines.as_slice(), name.as_bytes()).is_some() {
+        if lines.len() < MOST_FEW
+            || few::find(lines.as_slice(), self.seen, name.as_bytes()).is_some()
+        {
             return Ok(());
         }
         let names = few::hashed(*lines.allocator(), lines.as_slice())?;
@@ -220,15 +230,25 @@ impl Names {
         ensures err { OnErr result (self.new ≡ self.old) }
     {
         if let Table::Few(lines) = &mut self.table {
-            if let Some(mark) = few::mark_of_new(lines, &key) {
+            if let Some(mark) = few::mark_of_new(lines, self.seen, &key) {
+                self.seen = self.seen.with(mark);
                 lines.push_reserved(Line::marked(mark, key, Values::one(value)));
                 return Ok(());
             }
         }
+        self.append_rest(key, value)
+    }
+
+    // The same for any name: a function of its own, so that both are moved to the call only here.
+    #[inline(always)]
+    fn append_rest(&mut self, key: HeaderName, value: HeaderValue) -> Result<(), NoMemory>
+        ensures ok { OnOk result (self.new ≡ append self.old key value) }
+        ensures err { OnErr result (self.new ≡ self.old) }
+    {
         self.append_apart(key, value)
     }
 
-    // The same for any name. It is out of the way of those that come last among few, where there is room.
+    // The same, out of the way of the names that come last among few, where there is room.
     #[inline(never)]
     fn append_apart(&mut self, key: HeaderName, value: HeaderValue) -> Result<(), NoMemory>
         ensures ok { OnOk result (self.new ≡ append self.old key value) }
@@ -236,7 +256,11 @@ impl Names {
     {
         self.make_way_for(&key)?;
         match &mut self.table {
-            Table::Few(lines) => few::append_value(lines, key, value),
+            Table::Few(lines) => {
+                let mark = mark_of_name(key.as_bytes());
+                self.seen = self.seen.with(mark);
+                few::append_value(lines, mark, key, value)
+            }
             Table::Many(names) => many::append_value(names.as_mut(), key, value),
         }
     }
@@ -254,7 +278,11 @@ impl Names {
     {
         self.make_way_for(&name)?;
         match &mut self.table {
-            Table::Few(lines) => few::insert_value(lines, name, value),
+            Table::Few(lines) => {
+                let mark = mark_of_name(name.as_bytes());
+                self.seen = self.seen.with(mark);
+                few::insert_value(lines, mark, name, value)
+            }
             Table::Many(names) => many::insert_value(names.as_mut(), name, value),
         }
     }
@@ -266,7 +294,7 @@ impl Names {
         ensures gone { get_all self.new (lowercase bytes.now) ≡ [] }
     {
         match &mut self.table {
-            Table::Few(lines) => few::remove_values(lines, bytes),
+            Table::Few(lines) => few::remove_values(lines, self.seen, bytes),
             Table::Many(names) => many::remove_values(names.as_mut(), bytes),
         }
     }
@@ -291,7 +319,10 @@ impl Clone for Names {
             Table::Few(lines) => Table::Few(lines.clone()?),
             Table::Many(names) => Table::Many(names.clone()?),
         };
-        Ok(Names { table })
+        Ok(Names {
+            table,
+            seen: self.seen,
+        })
     }
 }
 

@@ -3,12 +3,13 @@ ghost use Rattle.std.specs.Prelude.{◌≡◌, ◌<◌, ℕ, List, [], ◌∷◌
 ghost use Rattle.std.specs.List.{IsDistinct};
 ghost use Rattle.http_header.specs.Token.{lowercase};
 ghost use Rattle.http_map.specs.HeaderMap.{keys, contains_key, get_all, insert, append, remove};
-ghost use Rattle.http_map.specs.Lines.{StandsFirstAt, Lacks, name_mark};
+ghost use Rattle.http_map.specs.Lines.{StandsFirstAt, Lacks, IsSeen, name_mark};
 ghost use Rattle.http_map.specs.Retain.{MayAnswer, KeepsValues, Retains};
 
 use super::MOST_FEW;
 use super::line::{Line, mark_of, mark_of_name};
 use super::many::Hashed;
+use super::seen::Seen;
 use crate::NoMemory;
 use crate::removed::Removed;
 use crate::values::Values;
@@ -18,12 +19,17 @@ use std::alloc::Global;
 use std::mem;
 
 // Where the name stands that has these bytes in lower case.
-pub(super) fn find(lines: &[Line], bytes: &[u8]) -> Option<usize>
+pub(super) fn find(lines: &[Line], seen: Seen, bytes: &[u8]) -> Option<usize>
+    requires { IsSeen seen.bits (keys lines.now) }
     ensures found { IfSome result (StandsFirstAt lines.now (lowercase bytes.now)) }
     ensures within { IfSome result (λ i. i < length lines.now) }
     ensures lacks { IfNone result (Lacks lines.now (lowercase bytes.now)) }
 {
-    find_marked(lines, mark_of(bytes), bytes)
+    let mark = mark_of(bytes);
+    if !seen.may_have(mark) {
+        return None;
+    }
+    find_marked(lines, mark, bytes)
 }
 
 // The same, where the mark is made already.
@@ -44,10 +50,11 @@ fn find_marked(lines: &[Line], mark: u64, bytes: &[u8]) -> Option<usize>
     None
 }
 
-// The mark of a name that comes last in the room that there is: no line has its mark, and so none the name.
-// It looks at marks alone.
+// The mark of a name that comes last in the room that there is, where that is known without a look at a line: its
+// mark was never seen, nor was that of another name that is the same by 64, and so no line has the name.
 #[inline(always)]
-pub(super) fn mark_of_new(lines: &Vec<Line>, name: &HeaderName) -> Option<u64>
+pub(super) fn mark_of_new(lines: &Vec<Line>, seen: Seen, name: &HeaderName) -> Option<u64>
+    requires { IsSeen seen.bits (keys lines.now.items) }
     ensures mark { IfSome result (λ mark. mark ≡ name_mark name.now) }
     ensures room { OnSome result (vec_len lines.now < vec_capacity lines.now) }
     ensures lacks { OnSome result (Lacks lines.now.items name.now) }
@@ -57,38 +64,24 @@ pub(super) fn mark_of_new(lines: &Vec<Line>, name: &HeaderName) -> Option<u64>
         return None;
     }
     let mark = mark_of_name(name.as_bytes());
-    if lacks_mark(lines.as_slice(), mark) {
-        Some(mark)
-    } else {
-        None
+    if seen.may_have(mark) {
+        return None;
     }
-}
-
-// Whether no line has the mark.
-#[inline(always)]
-fn lacks_mark(lines: &[Line], mark: u64) -> bool
-    ensures { IsTrue result → (name : List ℕ) → mark ≡ name_mark name → Lacks lines.now name }
-{
-    for line in lines {
-        if line.has_mark(mark) {
-            return false;
-        }
-    }
-    true
+    Some(mark)
 }
 
 // Adds the value after those of the name.
 pub(super) fn append_value(
     lines: &mut Vec<Line>,
+    mark: u64,
     key: HeaderName,
     value: HeaderValue,
 ) -> Result<(), NoMemory>
+    requires { mark ≡ name_mark key }
     ensures ok { OnOk result (lines.new.items ≡ append lines.old.items key value) }
     ensures err { OnErr result (lines.new.items ≡ lines.old.items) }
 {
-    let bytes = key.as_bytes();
-    let mark = mark_of_name(bytes);
-    match find_marked(lines.as_slice(), mark, bytes) {
+    match find_marked(lines.as_slice(), mark, key.as_bytes()) {
         Some(i) => add_value(lines, i, value),
         None => {
             lines.push(Line::marked(mark, key, Values::one(value)))?;
@@ -111,32 +104,35 @@ fn add_value(lines: &mut Vec<Line>, index: usize, value: HeaderValue) -> Result<
 // Puts the value in place of those of the name, and gives them.
 pub(super) fn insert_value(
     lines: &mut Vec<Line>,
+    mark: u64,
     name: HeaderName,
     value: HeaderValue,
 ) -> Result<Removed, NoMemory>
+    requires { mark ≡ name_mark name }
     ensures ok { OnOk result (lines.new.items ≡ insert lines.old.items name value) }
     ensures removed { IfOk result (λ values. values ≡ get_all lines.old.items name) }
     ensures err { OnErr result (lines.new.items ≡ lines.old.items) }
     ensures no_memory_needed { contains_key lines.old.items name ≡ true → IsOk result }
 {
-    match find(lines.as_slice(), name.as_bytes()) {
+    match find_marked(lines.as_slice(), mark, name.as_bytes()) {
         Some(i) => {
-            let old = mem::replace(&mut lines[i], Line::new(name, Values::one(value)));
+            let old = mem::replace(&mut lines[i], Line::marked(mark, name, Values::one(value)));
             Ok(old.into_pair().1.into_iter())
         }
         None => {
-            lines.push(Line::new(name, Values::one(value)))?;
+            lines.push(Line::marked(mark, name, Values::one(value)))?;
             Ok(Removed::none())
         }
     }
 }
 
 // Takes the name out, and gives the values that it had.
-pub(super) fn remove_values(lines: &mut Vec<Line>, bytes: &[u8]) -> Removed
+pub(super) fn remove_values(lines: &mut Vec<Line>, seen: Seen, bytes: &[u8]) -> Removed
+    requires { IsSeen seen.bits (keys lines.old.items) }
     ensures removed { result ≡ get_all lines.old.items (lowercase bytes.now) }
     ensures after { lines.new.items ≡ remove lines.old.items (lowercase bytes.now) }
 {
-    match find(lines.as_slice(), bytes) {
+    match find(lines.as_slice(), seen, bytes) {
         Some(i) => lines.remove(i).into_pair().1.into_iter(),
         None => Removed::none(),
     }

@@ -1,5 +1,5 @@
 //! A name with its values, and the mark by which it is found among few.
-ghost use Rattle.std.specs.Prelude.{◌≡◌, ◌<◌, ◌^◌, ℕ, List, false, ◌∷◌, ◌++◌, [], get_or, bytes_eq, OnOk, OnErr, IsTrue, length, if◌then◌else◌};
+ghost use Rattle.std.specs.Prelude.{◌≡◌, ◌+◌, ◌*◌, ◌%◌, ◌<◌, ◌^◌, ℕ, List, false, ◌∷◌, ◌++◌, [], get_or, bytes_eq, OnOk, OnErr, IsTrue, length, if◌then◌else◌};
 ghost use Rattle.std.specs.Borrow.{sem};
 ghost use Rattle.http_header.specs.Token.{lowercase};
 ghost use Rattle.http_map.specs.Lines.{name_mark};
@@ -13,8 +13,7 @@ use indexmap::Equivalent;
 use std::alloc::{AllocError, Global};
 use std::marker::Model;
 
-/// One name and all its values. The mark is made of a few bytes of the name: where marks differ,
-/// names do.
+/// One name and all its values. The mark is made of the name: where marks differ, names do.
 ///
 /// A contract sees it as the name and the values.
 #[derive(Debug, Drop)]
@@ -48,28 +47,21 @@ fn low_byte(bytes: &[u8], i: usize) -> u64
     }
 }
 
-/// The mark of the name that has these bytes in lower case: its first byte and its last two.
+/// The mark of the name that has these bytes in lower case: eight times its length and its last byte but one.
+/// It is chosen so that of the names that heads have few are the same by 64.
 pub(crate) fn mark_of(bytes: &[u8]) -> u64
     ensures { result ≡ name_mark (lowercase bytes.now) }
 {
     let len = bytes.len();
-    let first = low_byte(bytes, 0);
-    let last_but_one = low_byte(bytes, len.saturating_sub(2));
-    let last = low_byte(bytes, len.saturating_sub(1));
-    (first * 256 + last_but_one) * 256 + last
+    mark_from(len, low_byte(bytes, len.saturating_sub(2)))
 }
 
-// The byte at the index, and 0 past the end.
+// The mark of a name of that length with that byte.
 #[inline(always)]
-fn byte_at(bytes: &[u8], i: usize) -> u64
-    ensures value { result ≡ get_or bytes.now i 0 }
-    ensures small { result < 256 }
+fn mark_from(len: usize, byte: u64) -> u64
+    ensures { result ≡ (len * 8 % 2 ^ 64 + byte) % 2 ^ 64 }
 {
-    if i < bytes.len() {
-        u64::from(bytes[i])
-    } else {
-        0
-    }
+    (len as u64).wrapping_mul(8).wrapping_add(byte)
 }
 
 /// The mark of the name that has these bytes, which are in lower case already.
@@ -81,49 +73,30 @@ pub(crate) fn mark_of_name(bytes: &[u8]) -> u64
     if len < 2 {
         return mark_of_short(bytes);
     }
-    let first = byte_at(bytes, 0);
-    let last_but_one = byte_at(bytes, len - 2);
-    let last = byte_at(bytes, len - 1);
-    (first * 256 + last_but_one) * 256 + last
+    mark_from(len, u64::from(bytes[len - 2]))
 }
 
-// The same for any bytes.
+// The same where there are fewer than two.
 #[inline(never)]
 fn mark_of_short(bytes: &[u8]) -> u64
+    requires { length bytes.now < 2 }
     ensures { result ≡ name_mark bytes.now }
 {
-    let len = bytes.len();
-    let first = byte_at(bytes, 0);
-    let last_but_one = byte_at(bytes, len.saturating_sub(2));
-    let last = byte_at(bytes, len.saturating_sub(1));
-    (first * 256 + last_but_one) * 256 + last
+    match bytes.first() {
+        Some(byte) => mark_from(bytes.len(), u64::from(*byte)),
+        None => 0,
+    }
 }
 
 impl Line {
     ghost use Rattle.http_map.specs.NamesLends.{line_lends_values};
 
-    pub(crate) fn new(name: HeaderName, values: Values) -> Line
-        ensures { result ≡ (name, values) }
-    {
-        let mark = mark_of_name(name.as_bytes());
-        Line { mark, name, values }
-    }
-
-    /// A line whose mark is made already.
+    /// A line of a name whose mark this is.
     pub(crate) fn marked(mark: u64, name: HeaderName, values: Values) -> Line
         requires { mark ≡ name_mark name }
         ensures { result ≡ (name, values) }
     {
         Line { mark, name, values }
-    }
-
-    /// Whether the name has this mark: if not, it is no name that has it.
-    #[inline(always)]
-    pub(crate) fn has_mark(&self, mark: u64) -> bool
-        ensures { result ≡ false → (name : List ℕ) → mark ≡ name_mark name
-            → bytes_eq name self.now.0 ≡ false }
-    {
-        self.mark == mark
     }
 
     /// Whether these bytes are the name, in any case.

@@ -20,7 +20,7 @@ returns-in-Some-clause-ok c =
     let m = c.args.lines.now.items in
     let same : lowercase c.as_bytes.result.now ≡ name = ap lowercase c.as_bytes.ensures.value ∙ c.as_bytes.ensures.valid.1 in
     let found = subst (λ l. StandsFirstAt l name c.in-Some.i) c.as_slice.ensures.value (subst (λ n. StandsFirstAt c.as_slice.result.now n c.in-Some.i) same c.in-Some.ensures.found) in
-    let line : c.replace-old.new.dest ≡ (name, c.args.value ∷ []) = c.replace-old.ensures.after ∙ c.new.ensures ∙ ap (λ vs. (name, vs)) c.one.ensures in
+    let line : c.replace-old.new.dest ≡ (name, c.args.value ∷ []) = c.replace-old.ensures.after ∙ c.marked.ensures ∙ ap (λ vs. (name, vs)) c.one.ensures in
     ap (slice_set m c.in-Some.i) line ∙ sym (insert-stands name c.args.value m c.in-Some.i found)
 
 pub returns-in-Some-clause-removed : goal.returns-in-Some-clause-removed
@@ -37,7 +37,7 @@ returns-in_ok-push-in-None-clause-ok c =
     let m = c.args.lines.now.items in
     let same : lowercase c.as_bytes.result.now ≡ name = ap lowercase c.as_bytes.ensures.value ∙ c.as_bytes.ensures.valid.1 in
     let lacks = subst (λ l. Lacks l name) c.as_slice.ensures.value (subst (λ n. Lacks c.as_slice.result.now n) same c.in-None.ensures.lacks) in
-    let line : c.new-in-None.result ≡ (name, c.args.value ∷ []) = c.new-in-None.ensures ∙ ap (λ vs. (name, vs)) c.one-in-None.ensures in
+    let line : c.marked-in-None.result ≡ (name, c.args.value ∷ []) = c.marked-in-None.ensures ∙ ap (λ vs. (name, vs)) c.one-in-None.ensures in
     c.in_ok-push-in-None.ensures.items ∙ ap (λ e. m ++ e ∷ []) line ∙ sym (insert-lacks name c.args.value m lacks)
 
 pub returns-in_ok-push-in-None-clause-removed : goal.returns-in_ok-push-in-None-clause-removed
