@@ -16,7 +16,7 @@ use std::marker::Model;
 /// One name and all its values. The mark is made of the name: where marks differ, names do.
 ///
 /// A contract sees it as the name and the values.
-#[derive(Debug, Drop)]
+#[derive(Debug)]
 pub(crate) struct Line {
     mark: u64,
     name: HeaderName,
@@ -33,6 +33,18 @@ impl Model for Line {
     ghost view = { λ line. (line.name, line.values) };
 
     ghost invariant = { λ line. line.mark ≡ name_mark line.name };
+}
+
+// Inlined, so that a list that is cleared drops each line where it stands and moves none to a call.
+impl Drop for Line {
+    #[inline(always)]
+    fn drop(self) {
+        let Line {
+            mark: _,
+            name: _name,
+            values: _values,
+        } = self;
+    }
 }
 
 // The byte at the index in lower case, and 0 past the end.
