@@ -76,6 +76,14 @@ impl HeadItem {
     }
 }
 
+impl Clone for HeadItem {
+    ghost is_clone = { λ item copy. copy ≡ item };
+
+    fn clone(&self) -> Result<HeadItem, NoMemory> {
+        self.copy()
+    }
+}
+
 /// Room for the places of a head's header lines. Kept from head to head, it is cleared once, when it is
 /// made. What one head leaves in it says nothing of the next.
 #[derive(Debug, Drop)]

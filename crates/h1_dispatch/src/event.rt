@@ -179,6 +179,14 @@ impl Event {
     }
 }
 
+impl Clone for Event {
+    ghost is_clone = { λ event copy. copy ≡ event };
+
+    fn clone(&self) -> Result<Event, NoMemory> {
+        self.copy()
+    }
+}
+
 impl Outcome {
     /// An equal outcome. Bytes are shared, not copied.
     pub fn copy(&self) -> Result<Outcome, NoMemory>
@@ -199,5 +207,13 @@ impl Outcome {
             Outcome::Abandoned => Outcome::Abandoned,
             Outcome::Done => Outcome::Done,
         })
+    }
+}
+
+impl Clone for Outcome {
+    ghost is_clone = { λ outcome copy. copy ≡ outcome };
+
+    fn clone(&self) -> Result<Outcome, NoMemory> {
+        self.copy()
     }
 }

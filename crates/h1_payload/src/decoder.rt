@@ -113,6 +113,14 @@ impl PayloadDecoder {
     }
 }
 
+impl Clone for PayloadDecoder {
+    ghost is_clone = { λ decoder copy. copy ≡ decoder };
+
+    fn clone(&self) -> Result<PayloadDecoder, NoMemory> {
+        self.copy()
+    }
+}
+
 /// What is answered to what was pulled.
 fn item_of(answer: Pulled) -> Result<Option<PayloadItem>, DecodeError>
     ensures { result ≡ item_of answer }

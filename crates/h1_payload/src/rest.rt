@@ -158,6 +158,14 @@ impl Rest {
     }
 }
 
+impl Clone for Rest {
+    ghost is_clone = { λ rest copy. copy ≡ rest };
+
+    fn clone(&self) -> Result<Rest, NoMemory> {
+        self.copy()
+    }
+}
+
 // What kind of chunks are left.
 fn kind_of_chunks(reader: &ChunkReader) -> RestKind
     ensures { IsKind result (chunks_rest reader.now.place reader.now.section) }

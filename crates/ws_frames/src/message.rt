@@ -33,6 +33,14 @@ impl Item {
     }
 }
 
+impl Clone for Item {
+    ghost is_clone = { λ item copy. copy ≡ item };
+
+    fn clone(&self) -> Result<Item, NoMemory> {
+        self.copy()
+    }
+}
+
 /// What was received. A text is not tested for UTF-8.
 #[derive(Debug, PartialEq, Eq, Drop)]
 pub enum Frame {
@@ -63,6 +71,14 @@ impl Frame {
             Frame::Pong(payload) => Ok(Frame::Pong(payload.clone()?)),
             Frame::Close(reason) => Ok(Frame::Close(copy_reason(reason)?)),
         }
+    }
+}
+
+impl Clone for Frame {
+    ghost is_clone = { λ frame copy. IsFrameCopy copy frame };
+
+    fn clone(&self) -> Result<Frame, NoMemory> {
+        self.copy()
     }
 }
 
@@ -99,5 +115,13 @@ impl Message {
             Message::Close(reason) => Ok(Message::Close(copy_reason(reason)?)),
             Message::Nop => Ok(Message::Nop),
         }
+    }
+}
+
+impl Clone for Message {
+    ghost is_clone = { λ message copy. IsMessageCopy copy message };
+
+    fn clone(&self) -> Result<Message, NoMemory> {
+        self.copy()
     }
 }

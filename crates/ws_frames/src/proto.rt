@@ -176,6 +176,14 @@ impl CloseReason {
     }
 }
 
+impl Clone for CloseReason {
+    ghost is_clone = { λ reason copy. IsReasonCopy (Some copy) (Some reason) };
+
+    fn clone(&self) -> Result<CloseReason, NoMemory> {
+        self.copy()
+    }
+}
+
 /// An equal reason, if there is one.
 pub(crate) fn copy_reason(reason: &Option<CloseReason>) -> Result<Option<CloseReason>, NoMemory>
     ensures { IfOk result (λ copy. IsReasonCopy copy reason.now) }

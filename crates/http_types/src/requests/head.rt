@@ -177,6 +177,14 @@ impl RequestHead {
     }
 }
 
+impl Clone for RequestHead {
+    ghost is_clone = { λ head copy. copy ≡ head };
+
+    fn clone(&self) -> Result<RequestHead, NoMemory> {
+        self.copy()
+    }
+}
+
 impl Head for RequestHead {
     ghost use Rattle.http_types.specs.RequestHead.{cleared_request};
 

@@ -214,6 +214,14 @@ impl ResponseHead {
     }
 }
 
+impl Clone for ResponseHead {
+    ghost is_clone = { λ head copy. copy ≡ head };
+
+    fn clone(&self) -> Result<ResponseHead, NoMemory> {
+        self.copy()
+    }
+}
+
 impl Head for ResponseHead {
     ghost use Rattle.http_types.specs.ResponseHead.{cleared_response};
 

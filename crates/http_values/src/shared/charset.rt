@@ -133,6 +133,14 @@ impl Charset {
     }
 }
 
+impl Clone for Charset {
+    ghost is_clone = { λ set copy. SameCharset set copy };
+
+    fn clone(&self) -> Result<Charset, AllocError> {
+        self.copy()
+    }
+}
+
 // The set of ISO 8859 or of ASCII that the text names.
 fn latin(text: &str) -> Option<Charset>
     ensures { MatchOption result (IsNoneOf text.now latin_labels) (λ set. IsKnown set × IsNamed text.now (charset_text set)) }

@@ -45,6 +45,14 @@ impl ExtendedValue {
     }
 }
 
+impl Clone for ExtendedValue {
+    ghost is_clone = { λ value copy. SameCharset value.charset copy.charset × SameTag value.language_tag copy.language_tag × (copy.value.items ≡ value.value.items) };
+
+    fn clone(&self) -> Result<ExtendedValue, AllocError> {
+        self.copy()
+    }
+}
+
 // What stands before the first quote and after it.
 fn first_cut(s: &str) -> Option<(&str, &str)>
     ensures { MatchOption result (HasNoQuote s.now) (λ x. IsFirstCut s.now x.0.now x.1.now) }

@@ -238,6 +238,14 @@ impl LanguageTag {
     }
 }
 
+impl Clone for LanguageTag {
+    ghost is_clone = { λ tag copy. tag_text copy ≡ tag_text tag };
+
+    fn clone(&self) -> Result<LanguageTag, AllocError> {
+        self.copy()
+    }
+}
+
 impl FromText for LanguageTag {
     ghost reads = { λ text tag. IsLanguageTag text × (tag_text tag ≡ text) };
 

@@ -259,6 +259,14 @@ impl Mime {
     }
 }
 
+impl Clone for Mime {
+    ghost is_clone = { λ mime copy. SameMime mime copy };
+
+    fn clone(&self) -> Result<Mime, AllocError> {
+        self.copy()
+    }
+}
+
 impl FromText for Mime {
     ghost reads = { SaysMime };
 
