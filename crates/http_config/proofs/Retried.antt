@@ -1,5 +1,5 @@
 -- Known bytes over calls that moved none, and then one that did.
-use Rattle.std.specs.Prelude.{◌≡◌, ◌++◌, [], ℕ, List, None, Some, Option}
+use Rattle.std.specs.Prelude.{◌++◌, [], ℕ, List, None, Some, Option}
 use Rattle.std.proofs.Common.{refl, sym, ap, ◌∙◌, append-nil}
 use Rattle.std.specs.Io.KnownBytes.{Keeps, Appends, Consumes}
 
