@@ -191,7 +191,7 @@ fn events_are_driven(rt: HostRuntime) -> Result<(), Fail> {
 
 // Whether the copy of an outcome is these bytes.
 fn is_copied(outcome: &Outcome, want: &[u8]) -> Result<bool, NoMemory> {
-    let copy = outcome.copy()?;
+    let copy = outcome.clone()?;
     Ok(matches!(&copy, Outcome::Bytes(bytes) if bytes.as_slice() == want))
 }
 
@@ -199,14 +199,14 @@ fn is_copied(outcome: &Outcome, want: &[u8]) -> Result<bool, NoMemory> {
 fn outcomes_are_copied(rt: HostRuntime) -> Result<(), Fail> {
     let bytes = Outcome::Bytes(Bytes::from_static(b"ab"));
     assert!(rt; is_copied(&bytes, b"ab")?);
-    let pulled = Outcome::Pending.copy()?;
+    let pulled = Outcome::Pending.clone()?;
     assert!(rt; matches!(pulled, Outcome::Pending));
     Ok(())
 }
 
 // Whether the copy of an event is an answer of this status.
 fn is_answer_of(event: &Event, status: StatusCode) -> Result<bool, NoMemory> {
-    let copy = event.copy()?;
+    let copy = event.clone()?;
     Ok(matches!(&copy, Event::Answer(head, _) if head.get().status == status))
 }
 

@@ -254,7 +254,7 @@ fn a_copy_reads_on_by_itself(rt: HostRuntime) -> Result<(), Fail> {
         Ok(None) => {}
         _ => assert!(rt; false),
     }
-    let copy = decoder.copy()?;
+    let copy = decoder.clone()?;
     let log = told(alloc, copy, &[b"m: 9\r\n\r\n"])?;
     assert!(rt; log.as_slice() == b"x-sum=9;.".as_slice());
     let log = told(alloc, decoder, &[b"i:\r\n\r\n"])?;
@@ -262,7 +262,7 @@ fn a_copy_reads_on_by_itself(rt: HostRuntime) -> Result<(), Fail> {
 
     let rest = Rest::whole(BodyKind::Length(2));
     let mut unread = BytesMut::copy_from_slice(alloc, b"ab")?;
-    match rest.copy()?.pull(&mut unread, false)? {
+    match rest.clone()?.pull(&mut unread, false)? {
         Pulled::Bytes(bytes) => assert!(rt; bytes.as_slice() == b"ab".as_slice()),
         _ => assert!(rt; false),
     }

@@ -64,7 +64,7 @@ static SIMPLE: [(&[u8], &[u8], &[(&str, &[u8])]); 2] = [
 
 // Whether the head, and its copy, say this.
 fn both_say(item: &HeadItem, target: &[u8], pairs: &[(&str, &[u8])]) -> Result<bool, NoMemory> {
-    let copy = item.copy()?;
+    let copy = item.clone()?;
     Ok(says(item, target, pairs) && says(&copy, target, pairs))
 }
 

@@ -23,7 +23,7 @@ fn get(alloc: Global) -> Result<RequestHead, Fail> {
 
 // The path of a copy, and whether it has the header.
 fn has_copy(head: &RequestHead, path: &str) -> Result<bool, NoMemory> {
-    let copy = head.copy()?;
+    let copy = head.clone()?;
     Ok(copy.uri.path() == path && copy.headers().contains_key("Host"))
 }
 
@@ -84,7 +84,7 @@ fn own_head(alloc: Global) -> Result<ResponseHead, Fail> {
 
 // Whether a copy has this reason, and one header.
 fn copies(head: &ResponseHead, reason: &str) -> Result<bool, NoMemory> {
-    let copy = head.copy()?;
+    let copy = head.clone()?;
     Ok(copy.reason() == reason && copy.headers().len() == 1)
 }
 

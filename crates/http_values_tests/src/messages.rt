@@ -84,7 +84,7 @@ fn a_message_without_a_content_type_tells_none(rt: HostRuntime) -> Result<(), Fa
 fn the_first_content_type_counts(rt: HostRuntime) -> Result<(), Fail> {
     let mime = first_of_two(rt.alloc())?;
     assert!(rt; is_page(&mime));
-    let copy = mime.copy()?;
+    let copy = mime.clone()?;
     assert!(rt; is_page(&copy));
     Ok(())
 }

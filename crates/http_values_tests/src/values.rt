@@ -144,7 +144,7 @@ fn charsets_are_read_without_case(rt: HostRuntime) -> Result<(), Fail> {
         let set = Charset::from_text(rt.alloc(), text)?;
         let printed = set.to_string(rt.alloc())?;
         assert_eq!(rt; printed.as_str(), label);
-        let copy = set.copy()?.to_string(rt.alloc())?;
+        let copy = set.clone()?.to_string(rt.alloc())?;
         assert_eq!(rt; copy.as_str(), label);
     }
     assert!(rt; matches!(Charset::from_text(rt.alloc(), "KOI8-r")?, Charset::Koi8_R));

@@ -10,7 +10,7 @@ fn bye(alloc: Global) -> Result<CloseReason, Fail> {
 }
 
 fn is_copied(message: &Message) -> bool {
-    match message.copy() {
+    match message.clone() {
         Ok(copy) => copy == *message,
         Err(_) => false,
     }
@@ -39,7 +39,7 @@ fn messages_are_copied(rt: HostRuntime) -> Result<(), Fail> {
 }
 
 fn is_frame_copied(frame: &Frame) -> bool {
-    match frame.copy() {
+    match frame.clone() {
         Ok(copy) => copy == *frame,
         Err(_) => false,
     }
