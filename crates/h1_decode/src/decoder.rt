@@ -64,7 +64,7 @@ impl HeadItem {
         }
     }
 
-    /// An equal head.
+    /// An equal head, as `clone` gives it too.
     pub fn copy(&self) -> Result<HeadItem, NoMemory>
         ensures { IfOk result (λ copy. copy ≡ self.now) }
     {

@@ -154,7 +154,7 @@ pub enum End {
 }
 
 impl Event {
-    /// An equal event. The bytes of a read or of a chunk are shared, not copied.
+    /// An equal event, as `clone` gives it too. The bytes of a read or of a chunk are shared, not copied.
     pub fn copy(&self) -> Result<Event, NoMemory>
         ensures { IfOk result (λ copy. copy ≡ self.now) }
     {
@@ -188,7 +188,7 @@ impl Clone for Event {
 }
 
 impl Outcome {
-    /// An equal outcome. Bytes are shared, not copied.
+    /// An equal outcome, as `clone` gives it too. Bytes are shared, not copied.
     pub fn copy(&self) -> Result<Outcome, NoMemory>
         ensures { IfOk result (λ copy. copy ≡ self.now) }
     {

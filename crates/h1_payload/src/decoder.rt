@@ -72,7 +72,7 @@ impl PayloadDecoder {
         }
     }
 
-    /// A decoder of the same body, at the same place.
+    /// A decoder of the same body, at the same place, as `clone` gives it too.
     pub fn copy(&self) -> Result<PayloadDecoder, NoMemory>
         ensures { IfOk result (λ copy. copy ≡ self.now) }
     {

@@ -83,7 +83,7 @@ impl Rest {
         Rest { left }
     }
 
-    /// An equal rest.
+    /// An equal rest, as `clone` gives it too.
     pub fn copy(&self) -> Result<Rest, NoMemory>
         ensures { IfOk result (λ copy. copy ≡ self.now) }
     {

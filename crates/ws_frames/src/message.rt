@@ -20,7 +20,7 @@ pub enum Item {
 }
 
 impl Item {
-    /// An equal fragment.
+    /// An equal fragment, as `clone` gives it too.
     pub fn copy(&self) -> Result<Item, NoMemory>
         ensures { IfOk result (λ copy. copy ≡ self.now) }
     {
@@ -59,7 +59,7 @@ pub enum Frame {
 }
 
 impl Frame {
-    /// An equal frame.
+    /// An equal frame, as `clone` gives it too.
     pub fn copy(&self) -> Result<Frame, NoMemory>
         ensures { IfOk result (λ copy. IsFrameCopy copy self.now) }
     {
@@ -102,7 +102,7 @@ pub enum Message {
 }
 
 impl Message {
-    /// An equal message.
+    /// An equal message, as `clone` gives it too.
     pub fn copy(&self) -> Result<Message, NoMemory>
         ensures { IfOk result (λ copy. IsMessageCopy copy self.now) }
     {

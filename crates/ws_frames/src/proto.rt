@@ -165,7 +165,7 @@ pub struct CloseReason {
 }
 
 impl CloseReason {
-    /// An equal reason.
+    /// An equal reason, as `clone` gives it too.
     pub fn copy(&self) -> Result<CloseReason, NoMemory>
         ensures { IfOk result (λ copy. IsReasonCopy (Some copy) (Some self.now)) }
     {

@@ -162,7 +162,7 @@ impl RequestHead {
         self.flags.expect = true;
     }
 
-    /// An equal head.
+    /// An equal head, as `clone` gives it too.
     pub fn copy(&self) -> Result<RequestHead, NoMemory>
         ensures { IfOk result (λ copy. copy ≡ self.now) }
     {

@@ -183,7 +183,7 @@ impl ResponseHead {
         self.reason.is_none() && self.flags == Flags::EMPTY && self.headers.is_empty()
     }
 
-    /// An equal head.
+    /// An equal head, as `clone` gives it too.
     pub fn copy(&self) -> Result<ResponseHead, NoMemory>
         ensures { IfOk result (λ copy. copy ≡ self.now) }
     {

@@ -99,7 +99,7 @@ impl Charset {
         }
     }
 
-    /// An equal set.
+    /// An equal set, as `clone` gives it too.
     pub fn copy(&self) -> Result<Charset, AllocError>
         ensures { IfOk result (λ copy. SameCharset self.now copy) }
     {

@@ -27,7 +27,7 @@ pub struct ExtendedValue {
 }
 
 impl ExtendedValue {
-    /// An equal value.
+    /// An equal value, as `clone` gives it too.
     pub fn copy(&self) -> Result<ExtendedValue, AllocError>
         ensures charset { IfOk result (λ copy. SameCharset self.now.charset copy.charset) }
         ensures tag { IfOk result (λ copy. SameTag self.now.language_tag copy.language_tag) }

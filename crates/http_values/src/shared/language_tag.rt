@@ -228,7 +228,7 @@ impl LanguageTag {
         self.text.as_str()
     }
 
-    /// An equal tag.
+    /// An equal tag, as `clone` gives it too.
     pub fn copy(&self) -> Result<LanguageTag, AllocError>
         ensures { IfOk result (λ copy. tag_text copy ≡ tag_text self.now) }
     {

@@ -213,7 +213,7 @@ fn copied(params: &Vec<Parameter>) -> Result<Vec<Parameter>, AllocError>
 }
 
 impl Mime {
-    /// An equal media type, of the same text.
+    /// An equal media type, of the same text, as `clone` gives it too.
     pub fn copy(&self) -> Result<Mime, AllocError>
         ensures { IfOk result (λ copy. SameMime self.now copy) }
     {
