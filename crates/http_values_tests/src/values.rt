@@ -235,6 +235,16 @@ fn extended_values_are_cut_at_two_quotes(rt: HostRuntime) -> Result<(), Fail> {
 }
 
 #[test]
+fn extended_values_are_cloned(rt: HostRuntime) -> Result<(), Fail> {
+    for text in ["UTF-8'en'%C2%A3%20rates", "UTF-8''it%27s"] {
+        let value = parse_extended_value(rt.alloc(), text)?;
+        let printed = value.clone()?.to_string(rt.alloc())?;
+        assert_eq!(rt; printed.as_str(), text);
+    }
+    Ok(())
+}
+
+#[test]
 fn media_types_have_parameters(rt: HostRuntime) -> Result<(), Fail> {
     let rows: [(&str, &str, &str, &str); 5] = [
         ("text/plain; charset=utf-8", "text", "plain", "utf-8"),
