@@ -3,8 +3,8 @@ use crate::checksum::Checksum;
 use crate::error::BenchError;
 use crate::work::{MOMENT, Place, begin, repeated};
 use bytes::Bytes;
-use h1_dispatch::{Connection, Pulled};
-use http_bodies::BodySize;
+use h1_connection::{Connection, Pulled};
+use http_framing::BodySize;
 use http_map::HeaderValue;
 use http_map::names::{CACHE_CONTROL, CONTENT_TYPE, ETAG, SERVER, VARY};
 use http_types::{NoMemory, ResponseHead, ServiceConfigBuilder, StatusCode};
@@ -278,9 +278,9 @@ fn send(connection: &mut Connection, bytes: &[u8]) -> Result<(), BenchError> {
 }
 
 fn end(connection: &mut Connection) -> Result<(), BenchError> {
-    if !connection.can_end_body() {
+    if !connection.can_end_answer() {
         return Err(BenchError::Misplaced);
     }
-    connection.end_body()?;
+    connection.end_answer()?;
     Ok(())
 }

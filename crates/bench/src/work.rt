@@ -3,8 +3,8 @@ use crate::checksum::Checksum;
 use crate::error::BenchError;
 use bytes::Bytes;
 use h1_decode::{HeadItem, HeadRoom, HeadScan, request_head, scan_head};
-use h1_dispatch::{Boxed, Connection, Event, NextKind, Outcome};
-use http_bodies::BodySize;
+use h1_connection::{Boxed, Connection, Event, NextKind, Outcome};
+use http_framing::BodySize;
 use http_types::{NoMemory, ResponseHead, ServiceConfigBuilder, StatusCode};
 use std::alloc::Global;
 

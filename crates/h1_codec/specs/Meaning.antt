@@ -3,8 +3,8 @@ use Rattle.std.specs.Prelude.{ℕ, List, map, flat_map, if◌then◌else◌}
 use Rattle.http.specs.declared.version.Version.{Version}
 use Rattle.http_types.specs.ResponseHead.{ResponseParts}
 use Rattle.http_types.specs.Version.{is_below_http11}
-use Rattle.http_bodies.specs.declared.body.size.BodySize.{BodySize}
-use Rattle.http_bodies.specs.declared.body.size.BodySize.TheVariants.{None as NoBody, Sized, Stream}
+use Rattle.http_framing.specs.declared.body.size.BodySize.{BodySize}
+use Rattle.http_framing.specs.declared.body.size.BodySize.TheVariants.{None as NoBody, Sized, Stream}
 use Rattle.http_types.specs.declared.message.ConnectionType.{ConnectionType}
 use Rattle.http_types.specs.declared.message.ConnectionType.TheVariants.{Close, KeepAlive, Upgrade}
 use Rattle.http_map.specs.HeaderMap.{Entry, Entries}

@@ -1,7 +1,7 @@
 -- The head of an answer, as a `MessageEncoder` is told what it needs of the request.
 use Rattle.std.specs.Prelude.{ℕ, Bool, false, List}
 use Rattle.http.specs.declared.version.Version.{Version}
-use Rattle.http_bodies.specs.declared.body.size.BodySize.{BodySize}
+use Rattle.http_framing.specs.declared.body.size.BodySize.{BodySize}
 use Rattle.http_types.specs.ResponseHead.{ResponseParts}
 use Rattle.http_types.specs.declared.message.ConnectionType.{ConnectionType}
 use Rattle.h1_model.specs.Request as model

@@ -6,7 +6,7 @@ ghost use Rattle.h1_codec.specs.Meaning.{answer_of, headers_of, size_of, model_t
 
 use crate::Asked;
 use crate::shape::{Shape, shape_of};
-use http_bodies::BodySize;
+use http_framing::BodySize;
 use http_types::header::CONTENT_LENGTH;
 use http_types::{ConnectionType, HeaderMap, ResponseHead, StatusCode};
 

@@ -14,7 +14,7 @@ use crate::date::DateLine;
 use crate::headers::put_headers;
 use crate::shape::{Shape, is_bodiless, shape_of};
 use bytes::BytesMut;
-use http_bodies::BodySize;
+use http_framing::BodySize;
 use http_types::{ConnectionType, NoMemory, ResponseHead, StatusCode};
 
 // What a head has beside its own headers and a reason of its own, but for rare lengths of its body.

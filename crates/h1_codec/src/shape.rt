@@ -4,7 +4,7 @@ ghost use Rattle.h1_model.specs.Answer as answers;
 ghost use Rattle.h1_codec.specs.Meaning.{answer_of, size_of, model_shape};
 
 use crate::Asked;
-use http_bodies::BodySize;
+use http_framing::BodySize;
 use http_types::{ResponseHead, StatusCode};
 
 /// How an answer's body goes out (RFC 7230, section 3.3.3).

@@ -16,7 +16,7 @@ use Rattle.h1_model.specs.LengthTable.{body_kind}
 use Rattle.h1_model.specs.Request.{Head, BodyKind, head_is, faulty}
 use Rattle.h1_model.specs.RequestHead.{IsReading, IsHeadOf, IsTarget, IsHeaderField, header_of}
 use Rattle.h1_decode.specs.declared.decoder.HeadItem.{HeadItem}
-use Rattle.http_bodies.specs.Kinds.{kind_of}
+use Rattle.http_framing.specs.Kinds.{kind_of}
 use Rattle.h1_decode.specs.HeadItem.{SaysHead}
 use Rattle.h1_decode.specs.Lines.{HasName, HasValue, line_header}
 use Rattle.h1_decode.specs.ReadParts.{parts_at, headers_of, head_of, AreParts, RefusesParts}

@@ -7,7 +7,7 @@ use Rattle.http_types.specs.declared.message.ConnectionType.TheVariants.{Close, 
 use Rattle.http_types.specs.declared.message.Flags.{Flags}
 use Rattle.http_types.specs.Flags.{no_flags, with_type}
 use Rattle.http_types.specs.RequestHead.{request_flags}
-use Rattle.http_bodies.specs.Kinds.{kind_of}
+use Rattle.http_framing.specs.Kinds.{kind_of}
 use Rattle.http_uri.specs.Uri.{Spells}
 use Rattle.h1_decode.specs.declared.decoder.HeadItem.{HeadItem}
 use Rattle.h1_decode.specs.HeadMap.{header_map}

@@ -6,7 +6,7 @@ ghost use Rattle.h1_model.specs.Request.{Head, head_is, has_body};
 ghost use Rattle.h1_model.specs.RequestHead.{IsReading};
 
 use crate::decoder::HeadItem;
-use http_bodies::BodyKind;
+use http_framing::BodyKind;
 use http_types::{ConnectionType, Version};
 
 impl HeadItem {
@@ -54,7 +54,7 @@ impl HeadItem {
     }
 
     /// Whether the client waits for leave to send the body (RFC 7231, section 5.1.1).
-    pub fn expects_leave(&self) -> bool
+    pub fn expects_continue(&self) -> bool
         ensures { (h : Head) → SaysHead self.now h → result ≡ h.expects }
     {
         self.head.expect()

@@ -1,7 +1,7 @@
 //! What the head of a request says (RFC 7230, section 3).
 ghost use Rattle.std.specs.Prelude.{◌≡◌, ◌↔◌, ◌<◌, ◌≤◌, ◌⊎◌, ◌++◌, [], None, IsTrue, false, length, map, take, codes, IfSome, IfNone, nat_lt, if◌then◌else◌, OnOk, OnErr, IfOk, IfErr, All};
 ghost use Rattle.http_header.specs.Token.{IsToken};
-ghost use Rattle.http_bodies.specs.Kinds.{kind_of};
+ghost use Rattle.http_framing.specs.Kinds.{kind_of};
 ghost use Rattle.http.specs.declared.version.TheConstants.Version.{HTTP_11};
 ghost use Rattle.http_types.specs.Flags.{no_flags};
 ghost use Rattle.http_types.specs.RequestHead.{request_flags};
@@ -20,7 +20,7 @@ use crate::lines::{read_lines, share};
 use crate::scan::line_end_len;
 use bytes::{Bytes, BytesMut};
 use http::method::MethodError;
-use http_bodies::BodyKind;
+use http_framing::BodyKind;
 use http_types::{Method, NoMemory, ParseError, RequestHead, Uri, Version};
 use http_uri::UriError;
 use httparse::spans::{EMPTY_HEADER_SPAN, HeaderSpan, RequestSpans, Span, parse_request};

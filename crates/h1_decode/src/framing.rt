@@ -6,10 +6,10 @@ ghost use Rattle.http_types.specs.Flags.{no_flags};
 ghost use Rattle.http_types.specs.RequestHead.{request_flags, HasRequestFlags};
 ghost use Rattle.h1_model.specs.Request.{Header};
 ghost use Rattle.h1_decode.specs.Framing.{TellsLines, subject_of, stated, coded, kind_of_lines, kind_of_length, flags_by};
-ghost use Rattle.http_bodies.specs.Kinds.{kind_of};
+ghost use Rattle.http_framing.specs.Kinds.{kind_of};
 
 use crate::value::{connection_type, content_length, is_word};
-use http_bodies::BodyKind;
+use http_framing::BodyKind;
 use http_types::{ConnectionType, RequestHead};
 
 /// What the Content-Length lines state.

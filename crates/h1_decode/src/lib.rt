@@ -30,5 +30,5 @@ mod value;
 pub use decoder::{
     HeadItem, HeadRoom, cut_head_into, read_head_into, request_head, request_head_in,
 };
-pub use http_bodies::BodyKind;
+pub use http_framing::BodyKind;
 pub use scan::{HeadScan, HeadScanner, scan_head};

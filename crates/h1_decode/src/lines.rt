@@ -6,14 +6,14 @@ ghost use Rattle.http_header.specs.Token.{lowercase};
 ghost use Rattle.httparse.specs.Spans.{IsHeaderWithin, IsWithin, header_bytes, span_bytes};
 ghost use Rattle.h1_decode.specs.Framing.{TellsLines};
 ghost use Rattle.h1_model.specs.LengthTable.{body_kind};
-ghost use Rattle.http_bodies.specs.Kinds.{kind_of};
+ghost use Rattle.http_framing.specs.Kinds.{kind_of};
 ghost use Rattle.h1_decode.specs.HeadMap.{header_map};
 ghost use Rattle.h1_decode.specs.Lines.{HasName, HasValue, line_header, RefusesLinesOf};
 ghost use Rattle.h1_decode.specs.Refusal.{IsHeaderUnlessNoMemory};
 
 use crate::framing::Framing;
 use bytes::Bytes;
-use http_bodies::BodyKind;
+use http_framing::BodyKind;
 use http_header::HeaderNameError;
 use http_types::{HeaderMap, HeaderName, HeaderValue, ParseError};
 use httparse::spans::{HeaderSpan, Span};

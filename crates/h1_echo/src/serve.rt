@@ -2,8 +2,8 @@
 ghost use Rattle.std.specs.Prelude.{◌≡◌};
 ghost use Rattle.h1_echo.specs.declared.serve.ServeError.TheVariants as serve_error;
 
-use h1_dispatch::{Connection, End, NextHead, Pulled, ReadFromError};
-use http_bodies::BodySize;
+use h1_connection::{Connection, End, NextHead, Pulled, ReadFromError};
+use http_framing::BodySize;
 use http_types::{NoMemory, ResponseHead, ServiceConfig, Sink, Source, StatusCode};
 use std::alloc::Global;
 use thiserror::Error;
@@ -67,8 +67,8 @@ fn echo<S: Source, K: Sink>(
     input: &mut S,
     output: &mut K,
 ) -> Result<(), ServeError> {
-    if connection.can_go_on() {
-        connection.go_on()?;
+    if connection.can_continue() {
+        connection.send_continue()?;
     }
     if connection.can_answer() {
         let head = ResponseHead::new(alloc, StatusCode::OK);
@@ -89,8 +89,8 @@ fn echo<S: Source, K: Sink>(
             Pulled::Trailers(_) | Pulled::End | Pulled::Broken(_) => {}
         }
     }
-    if connection.can_end_body() {
-        connection.end_body()?;
+    if connection.can_end_answer() {
+        connection.end_answer()?;
     }
     Ok(())
 }

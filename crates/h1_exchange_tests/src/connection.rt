@@ -1,10 +1,10 @@
 //! The calls of a connection.
 use bytes::Bytes;
 use h1_decode::{HeadItem, HeadRoom};
-use h1_dispatch::{
+use h1_connection::{
     Boxed, Connection, DriveError, Event, NextHead, NextKind, Outcome, ReadFromError, drive,
 };
-use http_bodies::BodySize;
+use http_framing::BodySize;
 use http_types::{NoMemory, ResponseHead, ServiceConfigBuilder, StatusCode, SureSource};
 use std::alloc::{AllocError, Global};
 use std::test::Fail;
@@ -64,8 +64,8 @@ fn answer_in_pieces(connection: &mut Connection, head: &ResponseHead) -> Result<
             connection.chunk_bytes(Bytes::from_static(piece))?;
         }
     }
-    if connection.can_end_body() {
-        connection.end_body()?;
+    if connection.can_end_answer() {
+        connection.end_answer()?;
     }
     Ok(())
 }

@@ -9,10 +9,10 @@ use Rattle.h1_model.specs.Limits.{MAX_FRAME_HEAD}
 use Rattle.h1_model.specs.Parse.{Message}
 use Rattle.h1_model.specs.Event.{Event, Outcome}
 use Rattle.h1_model.specs.Event as on
-use Rattle.h1_model.specs.Sums.{Step, is_drop, request, since_head, answered, is_complete, was_pulled, was_dropped, was_told_to_go_on}
+use Rattle.h1_model.specs.Sums.{Step, is_drop, request, since_head, answered, is_complete, was_pulled, was_dropped, had_continue}
 use Rattle.h1_model.specs.Sums as sums
 use Rattle.h1_model.specs.Past.{ParsedStep, steps}
-use Rattle.h1_model.specs.Allowed.{is_over, gives_up, is_unanswered, expects_go_on, asks_raw, is_allowed}
+use Rattle.h1_model.specs.Allowed.{is_over, gives_up, is_unanswered, request_expects, asks_raw, is_allowed}
 use Rattle.h1_model.specs.Allowed as model
 use Rattle.h1_model.proofs.PastLemmas.{Legal}
 use Rattle.h1_machine.specs.Kept.{Exchange, of_exchange, is_open}
@@ -162,8 +162,8 @@ running_of setting past on.drain l = refl
 running_of setting past on.next l = ap not (open_of setting past l)
 running_of setting past on.pull l = λ i. upgraded_of setting past l i || body_left_of setting past l i
 running_of setting past on.drop_body l = λ i. not (upgraded_of setting past l i) && body_left_of setting past l i
-running_of setting past on.go_on l =
-    asks_of setting past (λ x. x.expects && not x.was_told_to_go_on) expects_go_on (not (was_told_to_go_on (steps past))) l (λ m h. refl)
+running_of setting past on.send_continue l =
+    asks_of setting past (λ x. x.expects && not x.had_continue) request_expects (not (had_continue (steps past))) l (λ m h. refl)
 running_of setting past (on.answer head size) l = waits_of setting past l
 running_of setting past (on.chunk bytes) l = ap (λ b. b && model.has_room setting (steps past)) (answering_of setting past l)
 running_of setting past on.body_end l = answering_of setting past l

@@ -107,7 +107,7 @@ answer_known setting before head size parse m h l c ok =
     elim (cases_Bool (is_at_once size)) [
       | inl once ↦
           let s : Completes before x =
-          record { quiet = q; completes = once; tick = refl; drain = refl; drop = refl; go_on = refl; over = refl } in
+          record { quiet = q; completes = once; tick = refl; drain = refl; drop = refl; send_continue = refl; over = refl } in
           let complete : is_complete (x.step ∷ t) ≡ true = complete-more x.step t refl ∙ ap (λ b. b || is_complete t) once in
           let reply : reply_of setting (x.step ∷ t) h (answer_of (x.step ∷ t)) ≡ answered kind =
           ap (reply_of setting (x.step ∷ t) h) answer

@@ -117,7 +117,7 @@ end_known setting before parse m h a l c answer_is incomplete =
     let alone : end ≡ short = ap (option_or short) (λ i. option_or (none.0 i) (none.1 i)) ∙ option_or-none short in
     let put = record k { buffered = text; failed = end; exchange = Some old } in
     let q : Quiet before x.step = record { taken = refl; eof = refl; accepted = refl; pull = refl; head = refl; bytes = refl; frames = refl } in
-    let s : Completes before x = record { quiet = q; completes = refl; tick = refl; drain = refl; drop = refl; go_on = refl; over = refl } in
+    let s : Completes before x = record { quiet = q; completes = refl; tick = refl; drain = refl; drop = refl; send_continue = refl; over = refl } in
     let complete : is_complete (x.step ∷ t) ≡ true = complete-more x.step t refl in
     let answer : answer_of (x.step ∷ t) ≡ Some a = answered-more x.step t refl ∙ answer_is in
     let reply : reply_of setting (x.step ∷ t) h (answer_of (x.step ∷ t)) ≡ answered kind =

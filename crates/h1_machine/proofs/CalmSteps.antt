@@ -11,7 +11,7 @@ use Rattle.h1_model.specs.Parse.{Message}
 use Rattle.h1_model.specs.End.{End}
 use Rattle.h1_model.specs.Event.{Event, Outcome}
 use Rattle.h1_model.specs.Event as on
-use Rattle.h1_model.specs.Sums.{Step, Answered, step_taken, taken, is_eof, is_drain, is_drop, is_pull, is_go_on, is_body_end, is_body_error, tick_of, head_of, request, since_head, answered, answered_by, completes, came_since_head, is_complete, was_pulled, chunk_len, answer_len, under_way_behind, is_sending, has_ended, is_draining, accepted_limit}
+use Rattle.h1_model.specs.Sums.{Step, Answered, step_taken, taken, is_eof, is_drain, is_drop, is_pull, is_continue, is_body_end, is_body_error, tick_of, head_of, request, since_head, answered, answered_by, completes, came_since_head, is_complete, was_pulled, chunk_len, answer_len, under_way_behind, is_sending, has_ended, is_draining, accepted_limit}
 use Rattle.h1_model.specs.Past.{ParsedStep, steps, parse_of, current, passed}
 use Rattle.h1_model.specs.Text.{buffered}
 use Rattle.h1_model.specs.Closing.{told_end, told, body_end_of}
@@ -34,7 +34,7 @@ pub record IsAside (e : Event) : Type 0 where
   pub tick : tick_of e ≡ None
   pub drain : is_drain e ≡ false
   pub drop : is_drop e ≡ false
-  pub go_on : is_go_on e ≡ false
+  pub send_continue : is_continue e ≡ false
   pub body_end : is_body_end e ≡ false
   pub body_error : is_body_error e ≡ false
   pub completes : completes e ≡ false
@@ -52,7 +52,7 @@ Marks = Option ℕ × Bool × Bool × Bool × Bool × Bool × Bool × ℕ
 
 -- of each event
 abbrev marks : Event → Marks
-marks e = (tick_of e, is_drain e, is_drop e, is_go_on e, is_body_end e, is_body_error e, completes e, chunk_len e)
+marks e = (tick_of e, is_drain e, is_drop e, is_continue e, is_body_end e, is_body_error e, completes e, chunk_len e)
 
 -- an event of which they see nothing
 unmarked : (e : Event) → ((d : Bool) → answered_by e d ≡ None) → ((u : Bool) (o : Outcome) → under_way_behind u e o ≡ u)
@@ -63,7 +63,7 @@ unmarked e answers sends none = record {
   tick = ap (λ (m : Marks). m.0) none;
   drain = ap (λ (m : Marks). m.1) none;
   drop = ap (λ (m : Marks). m.2) none;
-  go_on = ap (λ (m : Marks). m.3) none;
+  send_continue = ap (λ (m : Marks). m.3) none;
   body_end = ap (λ (m : Marks). m.4) none;
   body_error = ap (λ (m : Marks). m.5) none;
   completes = ap (λ (m : Marks). m.6) none;
@@ -163,14 +163,14 @@ exchange-aside setting before x m n h none c =
     let reply = sym (reply-aside setting s t h none c) in
     let pulled = sym (came-more is_pull s t none) in
     let dropped = sym (since-other is_drop s t none c.drop) in
-    let told_on = sym (since-other is_go_on s t none c.go_on) in
+    let told_on = sym (since-other is_continue s t none c.send_continue) in
     let done = or_comm (list_any (λ u. tells_done u.event u.outcome) (since_head t)) (tells_done s.event s.outcome)
     ∙ sym (ap (list_any (λ u. tells_done u.event u.outcome)) (since_head-more s t none)) in
     λ i. record (exchange_with setting (x ∷ before) n h) {
       reply = reply i;
       was_pulled = pulled i;
       was_dropped = dropped i;
-      was_told_to_go_on = told_on i;
+      had_continue = told_on i;
       body_is_done = done i;
     }
 

@@ -7,7 +7,7 @@ use Rattle.h1_model.specs.Request.{ConnectionType, Head}
 use Rattle.h1_model.specs.Setting.{Setting}
 use Rattle.h1_model.specs.Parse.{Message, next_start}
 use Rattle.h1_model.specs.End.{End}
-use Rattle.h1_model.specs.Sums.{Step, taken, tick_of, is_drain, has_ended, accepted, first_tick, last_tick, request, answered as answer_of, completes, is_complete, was_dropped, was_told_to_go_on, is_drop, is_go_on, is_sending, is_receiving}
+use Rattle.h1_model.specs.Sums.{Step, taken, tick_of, is_drain, has_ended, accepted, first_tick, last_tick, request, answered as answer_of, completes, is_complete, was_dropped, had_continue, is_drop, is_continue, is_sending, is_receiving}
 use Rattle.h1_model.specs.Past.{ParsedStep, steps, current, passed}
 use Rattle.h1_model.specs.Text.{buffered}
 use Rattle.h1_model.specs.Closing.{told, body_end_of}
@@ -90,7 +90,7 @@ pub record Completes (before : List ParsedStep) (x : ParsedStep) : Type 0 where
   pub tick : tick_of x.step.event ≡ None
   pub drain : is_drain x.step.event ≡ false
   pub drop : is_drop x.step.event ≡ false
-  pub go_on : is_go_on x.step.event ≡ false
+  pub send_continue : is_continue x.step.event ≡ false
   pub over : is_over_by x.step.outcome ≡ false
 
 -- The state behind it, whatever the answer was before.
@@ -120,10 +120,10 @@ kept-completes setting x before m h kind was buffer end l s c incomplete plain r
       clock = record k.clock { completed = k.clock.last };
     } in
     let dropped = ap (λ b. b || was_dropped t) s.drop in
-    let told = ap (λ b. b || was_told_to_go_on t) s.go_on in
+    let told = ap (λ b. b || had_continue t) s.send_continue in
     let exchange : exchange_of setting (x ∷ before) (current (x ∷ before)) (request (x.step ∷ t)) ≡ Some (record old { reply = answered kind; rest = rest }) =
     exchange-quiet setting x before m h l s.quiet c
-    ∙ (λ i. Some (record old { rest = rest; reply = reply i; was_dropped = dropped i; was_told_to_go_on = told i })) in
+    ∙ (λ i. Some (record old { rest = rest; reply = reply i; was_dropped = dropped i; had_continue = told i })) in
     ap bare (completing_parts kind (record old { reply = was }) put p (passes_rest setting x before m h l s.quiet c s.completes incomplete plain))
     ∙ same_bare now (kept_of setting (x ∷ before)) refl (sym (ended-quiet x before s.quiet)) (sym (ap (λ b. b || k.is_draining) s.drain))
     (sym (ap (λ b. b || k.is_over) s.over)) (sym exchange) (sym buffer_is) (sym sending_is) (sym (clock-completes x.step t s.completes s.tick)) (sym end_is)

@@ -8,10 +8,10 @@ use Rattle.h1_model.specs.Answer.{Asked, asked_of, Shape, shape_none, shape_chun
 use Rattle.h1_model.specs.AnswerText.{sent_piece, interim_text}
 use Rattle.h1_model.specs.Parse.{Message}
 use Rattle.h1_model.specs.Event as on
-use Rattle.h1_model.specs.Sums.{Step, request, Answered, answered as answer_of, is_answering, is_complete, is_upgraded, was_told_to_go_on, answer_len}
+use Rattle.h1_model.specs.Sums.{Step, request, Answered, answered as answer_of, is_answering, is_complete, is_upgraded, had_continue, answer_len}
 use Rattle.h1_model.specs.Past.{ParsedStep, steps}
 use Rattle.h1_model.specs.Text.{chunk_sent, step_text}
-use Rattle.h1_model.specs.Allowed.{has_body_left, is_unanswered, expects_go_on, has_room}
+use Rattle.h1_model.specs.Allowed.{has_body_left, is_unanswered, request_expects, has_room}
 use Rattle.h1_model.specs.OutcomeTable.{outcome_of}
 use Rattle.h1_model.proofs.PastLemmas.{Legal}
 use Rattle.h1_model.proofs.StepLemmas.{Quiet, allowed_open}
@@ -76,50 +76,50 @@ drop_changes setting before x l e = at_step setting before x on.drop_body on.don
 -- ---- telling a client to go on
 
 -- its outcome
-go_on_done : (setting : Setting) (before : List ParsedStep) → outcome_of setting before on.go_on ≡ on.done
+continue_done : (setting : Setting) (before : List ParsedStep) → outcome_of setting before on.send_continue ≡ on.done
 unfolding outcome_of
-go_on_done setting before = refl
+continue_done setting before = refl
 
 -- its text
-go_on_text : (setting : Setting) (before : List Step) → step_text setting before on.go_on on.done ≡ interim_text
+continue_text : (setting : Setting) (before : List Step) → step_text setting before on.send_continue on.done ≡ interim_text
 unfolding step_text
-go_on_text setting before = refl
+continue_text setting before = refl
 
 -- its step
-go_on_made : (setting : Setting) (before : List ParsedStep) (parse : List Message) → Legal setting (made on.go_on on.done parse ∷ before)
-    → Changes setting before (made on.go_on on.done parse)
-go_on_made setting before parse l = elim (current_of setting before l.3) [
+continue_made : (setting : Setting) (before : List ParsedStep) (parse : List Message) → Legal setting (made on.send_continue on.done parse ∷ before)
+    → Changes setting before (made on.send_continue on.done parse)
+continue_made setting before parse l = elim (current_of setting before l.3) [
   | inl none ↦
       let t = steps before in
-      let ok = allowed_open setting before on.go_on refl l.1 in
-      let waits = (and_parts (is_unanswered t) (expects_go_on (request t)) (and_parts (is_unanswered t && expects_go_on (request t)) (not (was_told_to_go_on t)) ok).0).0 in
+      let ok = allowed_open setting before on.send_continue refl l.1 in
+      let waits = (and_parts (is_unanswered t) (request_expects (request t)) (and_parts (is_unanswered t && request_expects (request t)) (not (had_continue t)) ok).0).0 in
       absurd (no_request t none.request_is (open_request t waits).0)
   | inr (m, h, c) ↦
       let t = steps before in
-      let x = made on.go_on on.done parse in
+      let x = made on.send_continue on.done parse in
       let k = kept_of setting before in
       let old = exchange_with setting before m h in
-      let act : Exchange → Kept → Kept = λ x k. record k { buffered = k.buffered ++ interim_text; exchange = Some (record x { was_told_to_go_on = true }) } in
+      let act : Exchange → Kept → Kept = λ x k. record k { buffered = k.buffered ++ interim_text; exchange = Some (record x { had_continue = true }) } in
       let q : Quiet before x.step = record { taken = refl; eof = refl; accepted = refl; pull = refl; head = refl; bytes = refl; frames = refl } in
       let rest = rest-quiet setting x before m h.body l q refl in
       let reply = reply-stays setting x before h q refl refl refl in
       let exchange = exchange-quiet setting x before m h l q c
-      ∙ (λ i. Some (record old { rest = rest i; reply = reply i; was_told_to_go_on = true })) in
+      ∙ (λ i. Some (record old { rest = rest i; reply = reply i; had_continue = true })) in
       record {
         change = doing_with act (with_exchange k (Some old));
         changes = ap (doing_with act) (sym (kept_current setting before m h c));
         answers = refl;
-        parts = kept-quiet setting x before (Some (record old { was_told_to_go_on = true })) (k.buffered ++ interim_text) k.is_sending k.clock k.failed l q refl exchange
-            (buffered-more setting x.step before l.3 refl ∙ ap (λ l. k.buffered ++ l) (go_on_text setting t)) (is_sending-cons x.step t)
+        parts = kept-quiet setting x before (Some (record old { had_continue = true })) (k.buffered ++ interim_text) k.is_sending k.clock k.failed l q refl exchange
+            (buffered-more setting x.step before l.3 refl ∙ ap (λ l. k.buffered ++ l) (continue_text setting t)) (is_sending-cons x.step t)
             (clock-quiet x.step t refl refl) (told-stays x.step t refl refl (short-stays x.step t refl refl refl refl));
         since = refl;
       }
 ]
 
 -- what it changes
-pub go_on_changes : (setting : Setting) (before : List ParsedStep) (x : ParsedStep) → Legal setting (x ∷ before) → x.step.event ≡ on.go_on
+pub continue_changes : (setting : Setting) (before : List ParsedStep) (x : ParsedStep) → Legal setting (x ∷ before) → x.step.event ≡ on.send_continue
     → Changes setting before x
-go_on_changes setting before x l e = at_step setting before x on.go_on on.done l e (go_on_done setting before) (go_on_made setting before)
+continue_changes setting before x l e = at_step setting before x on.send_continue on.done l e (continue_done setting before) (continue_made setting before)
 
 -- ---- a body that is going out
 

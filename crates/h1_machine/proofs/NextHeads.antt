@@ -12,7 +12,7 @@ use Rattle.h1_model.specs.Setting.{Setting}
 use Rattle.h1_model.specs.Parse.{Input, Message, next_start, IsBodyOf, IsBodyAfter, IsMessageAt}
 use Rattle.h1_model.specs.End as ends
 use Rattle.h1_model.specs.Event as on
-use Rattle.h1_model.specs.Sums.{Step, taken, is_body_end, is_body_error, request, answered, is_complete, is_open, is_upgraded, accepted, is_receiving, is_pull, is_drop, is_go_on, has_ended, answer_len}
+use Rattle.h1_model.specs.Sums.{Step, taken, is_body_end, is_body_error, request, answered, is_complete, is_open, is_upgraded, accepted, is_receiving, is_pull, is_drop, is_continue, has_ended, answer_len}
 use Rattle.h1_model.specs.Past.{ParsedStep, steps, input_of, parse_of, head_count, current, upcoming, passed}
 use Rattle.h1_model.specs.Text.{step_text, buffered}
 use Rattle.h1_model.specs.Closing.{end_where, told, is_short, body_end_of, closing}
@@ -146,7 +146,7 @@ head_exchange setting before parse m h w =
     let reply : reply_of setting (s ∷ t) h (answered (s ∷ t)) ≡ unanswered = ap (reply_of setting (s ∷ t) h) (answered-head s t h refl) in
     let pulled = ap (list_any (λ u. is_pull u.event)) nothing in
     let dropped = ap (list_any (λ u. is_drop u.event)) nothing in
-    let told_on = ap (list_any (λ u. is_go_on u.event)) nothing in
+    let told_on = ap (list_any (λ u. is_continue u.event)) nothing in
     let done = ap (list_any (λ u. tells_done u.event u.outcome)) nothing in
     (λ i. exchange_of setting (x ∷ before) (here i) (asked i))
     ∙ (λ i. Some (record (exchange_with setting (x ∷ before) m h) {
@@ -154,7 +154,7 @@ head_exchange setting before parse m h w =
       reply = reply i;
       was_pulled = pulled i;
       was_dropped = dropped i;
-      was_told_to_go_on = told_on i;
+      had_continue = told_on i;
       body_is_done = done i;
     }))
 

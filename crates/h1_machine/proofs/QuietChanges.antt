@@ -12,7 +12,7 @@ use Rattle.h1_model.specs.FrameText.{send_error}
 use Rattle.h1_model.specs.End as ends
 use Rattle.h1_model.specs.Event.{Event}
 use Rattle.h1_model.specs.Event as on
-use Rattle.h1_model.specs.Sums.{Step, step_written, is_drop, is_go_on, is_body_end, is_body_error, is_draining, request, Answered, answered_by, answered as answer_of, completes, is_complete, was_dropped, was_told_to_go_on, chunk_len, answer_len, under_way_behind, is_sending}
+use Rattle.h1_model.specs.Sums.{Step, step_written, is_drop, is_continue, is_body_end, is_body_error, is_draining, request, Answered, answered_by, answered as answer_of, completes, is_complete, was_dropped, had_continue, chunk_len, answer_len, under_way_behind, is_sending}
 use Rattle.h1_model.specs.Past.{ParsedStep, steps, current}
 use Rattle.h1_model.specs.Text.{step_text, message_text, buffered}
 use Rattle.h1_model.specs.Closing.{told_end, told, body_end_of}
@@ -39,7 +39,7 @@ pub record IsApart (e : Event) : Type 0 where
   pub completes : completes e ≡ false
   pub body_end : is_body_end e ≡ false
   pub drop : is_drop e ≡ false
-  pub go_on : is_go_on e ≡ false
+  pub send_continue : is_continue e ≡ false
 
 -- the answer as it is kept, by how far it is
 reply_by : (setting : Setting) (s : Step) (before : List Step) (h : Head) (a : Option Answered) → is_complete (s ∷ before) ≡ is_complete before
@@ -71,13 +71,13 @@ exchange-apart setting x before l q a = elim (current_of setting before l.3) [
       let rest = rest-quiet setting x before m h.body l q a.completes in
       let reply = reply-stays setting x before h q a.completes (a.answers (is_draining t)) a.chunk in
       let dropped = ap (λ b. b || was_dropped t) a.drop in
-      let told = ap (λ b. b || was_told_to_go_on t) a.go_on in
+      let told = ap (λ b. b || had_continue t) a.send_continue in
       exchange-quiet setting x before m h l q c
       ∙ (λ i. Some (record (exchange_with setting before m h) {
         rest = rest i;
         reply = reply i;
         was_dropped = dropped i;
-        was_told_to_go_on = told i;
+        had_continue = told i;
       }))
       ∙ sym (λ i. exchange_of setting before (c.current_is i) (c.request_is i))
 ]
@@ -115,7 +115,7 @@ drain_made setting before parse l =
     let x = made on.drain on.done parse in
     let k = kept_of setting before in
     let q : Quiet before x.step = record { taken = refl; eof = refl; accepted = refl; pull = refl; head = refl; bytes = refl; frames = refl } in
-    let a : IsApart on.drain = record { answers = λ d. refl; chunk = refl; completes = refl; body_end = refl; drop = refl; go_on = refl } in
+    let a : IsApart on.drain = record { answers = λ d. refl; chunk = refl; completes = refl; body_end = refl; drop = refl; send_continue = refl } in
     record {
       change = doing (record k { is_draining = true });
       changes = refl;
@@ -151,7 +151,7 @@ error_made setting before parse l =
     let t = steps before in
     let k = kept_of setting before in
     let q : Quiet before x.step = record { taken = refl; eof = refl; accepted = refl; pull = refl; head = refl; bytes = refl; frames = refl } in
-    let a : IsApart on.body_error = record { answers = λ d. refl; chunk = refl; completes = refl; body_end = refl; drop = refl; go_on = refl } in
+    let a : IsApart on.body_error = record { answers = λ d. refl; chunk = refl; completes = refl; body_end = refl; drop = refl; send_continue = refl } in
     let none = (untold setting before (running setting before on.body_error refl l.1)).0 in
     let end : option_or (told (x.step ∷ t)) (body_end_of (x.step ∷ t)) ≡ Some ends.body =
     ap (λ o. option_or o (body_end_of (x.step ∷ t))) (told-cons x.step t ∙ none) in
@@ -192,7 +192,7 @@ write_made setting before n parse l =
     let x = made (on.write n) (on.gave given) parse in
     let k = kept_of setting before in
     let q : Quiet before x.step = record { taken = refl; eof = refl; accepted = refl; pull = refl; head = refl; bytes = refl; frames = refl } in
-    let a : IsApart (on.write n) = record { answers = λ d. refl; chunk = refl; completes = refl; body_end = refl; drop = refl; go_on = refl } in
+    let a : IsApart (on.write n) = record { answers = λ d. refl; chunk = refl; completes = refl; body_end = refl; drop = refl; send_continue = refl } in
     record {
       change = record { outcome = on.gave (take n k.buffered); kept = record k { buffered = drop n k.buffered } };
       changes = refl;
@@ -234,7 +234,7 @@ failed_under_way before frames.nop error = refl
 
 -- it has no part in an answer
 send_apart : (m : Message) → IsApart (on.send m)
-send_apart m = record { answers = λ d. refl; chunk = refl; completes = refl; body_end = refl; drop = refl; go_on = refl }
+send_apart m = record { answers = λ d. refl; chunk = refl; completes = refl; body_end = refl; drop = refl; send_continue = refl }
 
 -- by the rule that the message would break
 send_made : (setting : Setting) (before : List ParsedStep) (m : Message) (error : Option ProtocolError) (parse : List parsed.Message)

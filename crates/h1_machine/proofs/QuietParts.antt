@@ -14,7 +14,7 @@ use Rattle.h1_model.specs.End as ends
 use Rattle.h1_model.specs.End.{End}
 use Rattle.h1_model.specs.Event.{Event, Outcome}
 use Rattle.h1_model.specs.Event as on
-use Rattle.h1_model.specs.Sums.{Step, taken, is_drain, is_drop, is_pull, is_go_on, is_body_end, is_body_error, has_ended, is_draining, accepted, tick_of, first_tick, last_tick, head_of, request, since_head, answered_by, answered as answer_of, completes, came_since_head, is_complete, was_pulled, was_dropped, was_told_to_go_on, completed_at, chunk_len, answer_len, is_sending, received_behind, is_receiving}
+use Rattle.h1_model.specs.Sums.{Step, taken, is_drain, is_drop, is_pull, is_continue, is_body_end, is_body_error, has_ended, is_draining, accepted, tick_of, first_tick, last_tick, head_of, request, since_head, answered_by, answered as answer_of, completes, came_since_head, is_complete, was_pulled, was_dropped, had_continue, completed_at, chunk_len, answer_len, is_sending, received_behind, is_receiving}
 use Rattle.h1_model.specs.Past.{ParsedStep, steps, parse_of, current, step_frames, message_passed, passed}
 use Rattle.h1_model.specs.Text.{buffered}
 use Rattle.h1_model.specs.Closing.{end_where, told_end, told, is_short, body_end_of}
@@ -153,7 +153,7 @@ with_step setting before x m h =
       rest = rest_of (x ∷ before) m h.body;
       reply = reply_of setting (x.step ∷ steps before) h (answer_of (x.step ∷ steps before));
       was_dropped = is_drop x.step.event || was_dropped (steps before);
-      was_told_to_go_on = is_go_on x.step.event || was_told_to_go_on (steps before);
+      had_continue = is_continue x.step.event || had_continue (steps before);
     }
 
 -- the last request behind the step
@@ -166,7 +166,7 @@ exchange-quiet setting x before m h l q c =
     let pulled : was_pulled (x.step ∷ steps before) ≡ was_pulled (steps before) =
     came-more is_pull x.step (steps before) q.head ∙ ap (λ b. b || was_pulled (steps before)) q.pull in
     let dropped = came-more is_drop x.step (steps before) q.head in
-    let told = came-more is_go_on x.step (steps before) q.head in
+    let told = came-more is_continue x.step (steps before) q.head in
     let done : list_any (λ s. tells_done s.event s.outcome) (since_head (x.step ∷ steps before)) ≡ list_any (λ s. tells_done s.event s.outcome) (since_head (steps before)) =
     any-more tells_done x.step (steps before) q.head
     ∙ ap (λ b. b || list_any (λ s. tells_done s.event s.outcome) (since_head (steps before))) (undone x.step.event x.step.outcome q.pull) in
@@ -174,7 +174,7 @@ exchange-quiet setting x before m h l q c =
     ∙ (λ i. Some (record (exchange_with setting (x ∷ before) m h) {
       was_pulled = pulled i;
       was_dropped = dropped i;
-      was_told_to_go_on = told i;
+      had_continue = told i;
       body_is_done = done i;
     }))
 

@@ -12,7 +12,7 @@ use Rattle.h1_machine.proofs.Kernel.{step_of}
 use Rattle.h1_machine.proofs.ReadChanges.{read_changes}
 use Rattle.h1_machine.proofs.EofChanges.{eof_changes}
 use Rattle.h1_machine.proofs.QuietChanges.{drain_changes, body_error_changes, write_changes, send_changes}
-use Rattle.h1_machine.proofs.ExchangeChanges.{drop_changes, go_on_changes, chunk_changes}
+use Rattle.h1_machine.proofs.ExchangeChanges.{drop_changes, continue_changes, chunk_changes}
 use Rattle.h1_machine.proofs.AnswerChanges.{answer_changes}
 use Rattle.h1_machine.proofs.BodyEndChanges.{body_end_changes}
 use Rattle.h1_machine.proofs.TickChanges.{tick_changes}
@@ -29,7 +29,7 @@ event_changes setting before x on.drain l e = drain_changes setting before x l e
 event_changes setting before x on.next l e = next_changes setting before x l e
 event_changes setting before x on.pull l e = pull_changes setting before x l e
 event_changes setting before x on.drop_body l e = drop_changes setting before x l e
-event_changes setting before x on.go_on l e = go_on_changes setting before x l e
+event_changes setting before x on.send_continue l e = continue_changes setting before x l e
 event_changes setting before x (on.answer head size) l e = answer_changes setting before x head size l e
 event_changes setting before x (on.chunk bytes) l e = chunk_changes setting before x bytes l e
 event_changes setting before x on.body_end l e = body_end_changes setting before x l e

@@ -146,7 +146,7 @@ tick_kept setting before o buffer end =
 
 -- it has no part in an answer
 tick_apart : (ms : ℕ) → IsApart (on.tick ms)
-tick_apart ms = record { answers = λ d. refl; chunk = refl; completes = refl; body_end = refl; drop = refl; go_on = refl }
+tick_apart ms = record { answers = λ d. refl; chunk = refl; completes = refl; body_end = refl; drop = refl; send_continue = refl }
 
 -- a tick with this outcome, if the parts say so
 tick_made : (setting : Setting) (before : List ParsedStep) (ms : ℕ) (o : Outcome) (buffer : List ℕ) (end : Option End) (parse : List Message)

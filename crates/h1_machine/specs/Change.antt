@@ -122,8 +122,8 @@ IsChange setting k on.drain c = c ≡ doing (record k { is_draining = true })
 IsChange setting k on.next c = IsNext setting k (closing_by setting k) c
 IsChange setting k on.pull c = IsPulling k k.exchange c
 IsChange setting k on.drop_body c = c ≡ doing_with (λ x k. record k { exchange = Some (record x { was_dropped = true }) }) k
-IsChange setting k on.go_on c =
-    c ≡ doing_with (λ x k. record k { buffered = k.buffered ++ interim_text; exchange = Some (record x { was_told_to_go_on = true }) }) k
+IsChange setting k on.send_continue c =
+    c ≡ doing_with (λ x k. record k { buffered = k.buffered ++ interim_text; exchange = Some (record x { had_continue = true }) }) k
 IsChange setting k (on.answer head size) c = c ≡ doing_with (answering setting head size) k
 IsChange setting k (on.chunk bytes) c = c ≡ doing_with (sending_piece bytes) k
 IsChange setting k on.body_end c = c ≡ doing_with ending_body k

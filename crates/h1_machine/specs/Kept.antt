@@ -40,7 +40,7 @@ pub record Exchange : Type 0 where
   pub reply : Reply
   pub was_pulled : Bool
   pub was_dropped : Bool
-  pub was_told_to_go_on : Bool
+  pub had_continue : Bool
   -- a pull told the end or the fault of the body
   pub body_is_done : Bool
 
@@ -125,7 +125,7 @@ new_exchange rest h =
       reply = unanswered;
       was_pulled = false;
       was_dropped = false;
-      was_told_to_go_on = false;
+      had_continue = false;
       body_is_done = false;
     }
 

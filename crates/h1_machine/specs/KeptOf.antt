@@ -10,7 +10,7 @@ use Rattle.h1_model.specs.Answer.{asked_of, shape_of, type_of}
 use Rattle.h1_model.specs.Parse.{Message, next_start}
 use Rattle.h1_model.specs.Event.{Event, Outcome}
 use Rattle.h1_model.specs.Event as on
-use Rattle.h1_model.specs.Sums.{Step, Answered, taken, accepted, request, answered as answer_of, answer_len, since_head, is_complete, is_open, is_receiving, is_sending, has_ended, is_draining, was_pulled, was_dropped, was_told_to_go_on, first_tick, last_tick, completed_at}
+use Rattle.h1_model.specs.Sums.{Step, Answered, taken, accepted, request, answered as answer_of, answer_len, since_head, is_complete, is_open, is_receiving, is_sending, has_ended, is_draining, was_pulled, was_dropped, had_continue, first_tick, last_tick, completed_at}
 use Rattle.h1_model.specs.Past.{ParsedStep, steps, current, upcoming, passed}
 use Rattle.h1_model.specs.Text.{buffered}
 use Rattle.h1_model.specs.Closing.{told, body_end_of, closing_since}
@@ -82,7 +82,7 @@ exchange_with setting past m h =
       reply = reply_of setting trace h (answer_of trace);
       was_pulled = was_pulled trace;
       was_dropped = was_dropped trace;
-      was_told_to_go_on = was_told_to_go_on trace;
+      had_continue = had_continue trace;
       body_is_done = list_any (λ s. tells_done s.event s.outcome) (since_head trace);
     }
 

@@ -1,7 +1,7 @@
 -- All that is promised of an answer, by what came next.
 use Rattle.std.proofs.Common.{◌≡◌, ℕ, ◌↔◌, List, ◌++◌, drop, slice_range, inl, inr, refl, sym, subst, arith}
 use Rattle.std.specs.Prelude.{Option, Some, None, Result, Ok, Err, IfOk, IfErr, IfSome, OnOk}
-use Rattle.http_bodies.specs.AnyPieces.{GoesOn, in_front}
+use Rattle.http_framing.specs.AnyPieces.{GoesOn, in_front}
 use Rattle.http_types.specs.declared.error.ParseError.{ParseError}
 use Rattle.http_types.specs.declared.error.ParseError.TheVariants.{TooLarge}
 use Rattle.h1_model.specs.Request.{faulty}

@@ -1,7 +1,7 @@
 -- Behind an answer a decoder goes on in what is left.
 use Rattle.std.proofs.Common.{◌≡◌, ℕ, List, ◌++◌, sym, ap, ◌∙◌, subst, arith, length-append}
 use Rattle.std.proofs.lemmas.List.{take-append-le, drop-append-le}
-use Rattle.http_bodies.specs.AnyPieces.{GoesOn}
+use Rattle.http_framing.specs.AnyPieces.{GoesOn}
 use Rattle.h1_model.specs.HeadPiece.{AreBlankLines, HasNoHeadPiece}
 use Rattle.h1_model.proofs.HeadPieceLemmas.{head_piece_append, slice_range-append}
 use Rattle.h1_decode.specs.HeadPosition.{HeadPosition, IsSeenIn}

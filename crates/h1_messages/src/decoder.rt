@@ -1,7 +1,7 @@
 //! The decoder of messages.
 ghost use Rattle.std.specs.Prelude.{◌≡◌, ◌↔◌, ℕ, List, ◌++◌, Ok, Err, None, length, IfOk, IfErr, OnOk, OnErr, IfSome};
 ghost use Rattle.http_config.specs.declared.hold_size.TheConstants.{DEFAULT_HOLD_SIZE};
-ghost use Rattle.http_bodies.specs.AnyPieces.{GoesOn, in_front};
+ghost use Rattle.http_framing.specs.AnyPieces.{GoesOn, in_front};
 ghost use Rattle.h1_model.specs.Request.{faulty};
 ghost use Rattle.h1_model.specs.RequestHead.{IsReading};
 ghost use Rattle.h1_decode.specs.Refusal.{UnlessNoMemory, Refuses, fault_of};
@@ -11,7 +11,7 @@ use crate::next::{Next, find_next};
 use crate::payload_type::PayloadType;
 use bytes::{Bytes, BytesMut};
 use h1_decode::{HeadItem, HeadScanner, request_head};
-use http_bodies::Decoder;
+use http_framing::Decoder;
 use http_config::DEFAULT_HOLD_SIZE;
 use http_types::ParseError;
 use std::alloc::Global;

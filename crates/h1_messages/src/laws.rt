@@ -1,7 +1,7 @@
 //! Laws of heads that are read in pieces.
 ghost use Rattle.std.specs.Prelude.{◌≡◌, ℕ, List, [], ◌++◌};
 ghost use Rattle.h1_model.specs.Request.{Fault};
-ghost use Rattle.http_bodies.specs.AnyPieces.{Fed, AreFed, LastReads, all_told, all_came};
+ghost use Rattle.http_framing.specs.AnyPieces.{Fed, AreFed, LastReads, all_told, all_came};
 ghost use Rattle.h1_messages.specs.Heads.{Search, HasSeen, Item, Stop, refused, Heads, Stops, SayTheSame, AreHeads, Reads, given};
 
 /// Fed in any pieces, a decoder that has seen nothing gives the heads of all bytes, one behind the other.

@@ -1,10 +1,10 @@
 //! What reads the body of a message.
 ghost use Rattle.std.specs.Prelude.{◌≡◌};
-ghost use Rattle.http_bodies.specs.Kinds.{kind_of};
+ghost use Rattle.http_framing.specs.Kinds.{kind_of};
 ghost use Rattle.h1_messages.specs.Heads.{payload_of};
 
 use h1_payload::PayloadDecoder;
-use http_bodies::BodyKind;
+use http_framing::BodyKind;
 
 /// What reads the body behind a head, which begins with the next byte.
 #[derive(Debug, Drop)]

@@ -14,7 +14,7 @@ use Rattle.h1_model.specs.End as ends
 use Rattle.h1_model.specs.End.{End}
 use Rattle.h1_model.specs.Event.{Event, Outcome}
 use Rattle.h1_model.specs.Event as on
-use Rattle.h1_model.specs.Sums.{Step, request, answered, answered_by, chunk_len, accepted_limit, head_of, is_go_on, completes, is_open, is_answering, is_upgraded, is_sending, was_told_to_go_on, now}
+use Rattle.h1_model.specs.Sums.{Step, request, answered, answered_by, chunk_len, accepted_limit, head_of, is_continue, completes, is_open, is_answering, is_upgraded, is_sending, had_continue, now}
 use Rattle.h1_model.specs.Past.{ParsedStep, steps, parse_of, current, upcoming, held}
 use Rattle.h1_model.specs.Text.{step_text}
 use Rattle.h1_model.specs.Closing.{told, fault_end, closing}
@@ -27,7 +27,7 @@ use Rattle.h1_model.proofs.HeldSteps.{pull_no_head}
 use Rattle.h1_model.proofs.HandedTrace.{told-here, told_closes}
 use Rattle.h1_model.proofs.HandedSteps.{Sound, nothing, running, failed}
 use Rattle.h1_model.proofs.ExchangeReplies.{answer_grown, accept_grown, piece_grown, end_grown, sent_grown}
-use Rattle.h1_model.proofs.ExchangeSteps.{Newest, NewestIs, Spoken, Goes, quiet_goes, refusal_goes, reply_goes, go_on_goes, head_goes}
+use Rattle.h1_model.proofs.ExchangeSteps.{Newest, NewestIs, Spoken, Goes, quiet_goes, refusal_goes, reply_goes, continue_goes, head_goes}
 
 -- ---- where the connection is open
 
@@ -57,18 +57,18 @@ unrefused setting past event outcome es r opens spoken goes =
 -- such an event, with an outcome that is no head
 silent : (setting : Setting) (before : List Step) (event : Event) (outcome : Outcome) (es : List Exchange) (r : Option Refusal)
     → head_of outcome ≡ None → accepted_limit event outcome ≡ None → ((drained : Bool) → answered_by event drained ≡ None)
-    → chunk_len event ≡ 0 → is_go_on event ≡ false → completes event ≡ false
+    → chunk_len event ≡ 0 → is_continue event ≡ false → completes event ≡ false
     → ((e : Exchange) → changed_by before event outcome e ≡ e)
     → step_text setting before event outcome ≡ [] → refused_by before event outcome ≡ None
     → Spoken setting before es r → Goes setting before event outcome es r
-silent setting before event outcome es r head plain answer chunk go_on complete change says refuses spoken =
+silent setting before event outcome es r head plain answer chunk send_continue complete change says refuses spoken =
     quiet_goes setting before event outcome es r
     (record {
       head = head;
       plain = plain;
       answer = answer;
       chunk = chunk;
-      go_on = go_on;
+      send_continue = send_continue;
       complete = complete;
       change = change;
     })
@@ -87,7 +87,7 @@ fault_goes setting before fault es spoken =
       plain = refl;
       answer = λ d. refl;
       chunk = refl;
-      go_on = refl;
+      send_continue = refl;
       complete = refl;
       change = λ e. refl;
     })
@@ -163,7 +163,7 @@ slow_goes setting past ms es sound opens none spoken =
       plain = refl;
       answer = λ d. refl;
       chunk = refl;
-      go_on = refl;
+      send_continue = refl;
       complete = refl;
       change = λ e. refl;
     })
@@ -233,10 +233,10 @@ end_goes setting before (e ∷ es) answering spoken =
     (end_grown setting before e.head e.reply n.asked answering n.reply_is) spoken
 
 -- a client is told to go on
-told_goes : (setting : Setting) (before : List Step) (es : List Exchange) → is_unanswered before ≡ true → was_told_to_go_on before ≡ false
-    → Spoken setting before es None → Goes setting before on.go_on on.done es None
+told_goes : (setting : Setting) (before : List Step) (es : List Exchange) → is_unanswered before ≡ true → had_continue before ≡ false
+    → Spoken setting before es None → Goes setting before on.send_continue on.done es None
 told_goes setting before [] free once spoken = no_request before _ free spoken.newest.0
-told_goes setting before (e ∷ es) free once spoken = go_on_goes setting before e es free once spoken
+told_goes setting before (e ∷ es) free once spoken = continue_goes setting before e es free once spoken
 
 -- a WebSocket, by what is wrong with the handshake
 accept_goes : (setting : Setting) (before : List Step) (limit : ℕ) (wrong : Option HandshakeError) (es : List Exchange)
@@ -280,9 +280,9 @@ event_goes setting past on.pull es r ok sound spoken =
     refl refl spoken
 event_goes setting past on.drop_body es r ok sound spoken =
     silent setting (steps past) on.drop_body on.done es r refl refl (λ d. refl) refl refl refl (λ e. refl) refl refl spoken
-event_goes setting past on.go_on es r ok sound spoken =
-    let test = and_parts _ _ (allowed_open setting past on.go_on refl ok) in
-    unrefused setting past on.go_on on.done es r (stays_open setting past on.go_on refl ok) spoken
+event_goes setting past on.send_continue es r ok sound spoken =
+    let test = and_parts _ _ (allowed_open setting past on.send_continue refl ok) in
+    unrefused setting past on.send_continue on.done es r (stays_open setting past on.send_continue refl ok) spoken
     (told_goes setting (steps past) es (and_parts _ _ test.0).0 (not-true _ test.1))
 event_goes setting past (on.answer head size) es r ok sound spoken =
     unrefused setting past (on.answer head size) on.done es r (stays_open setting past (on.answer head size) refl ok) spoken

@@ -9,7 +9,7 @@ use Rattle.h1_model.specs.Request.{Head}
 use Rattle.h1_model.specs.Setting.{Setting}
 use Rattle.h1_model.specs.Event.{Event, Outcome}
 use Rattle.h1_model.specs.Event as on
-use Rattle.h1_model.specs.Sums.{Step, request, answered_by, answered, answer_len, chunk_len, accepted_limit, accepted, head_of, is_go_on, completes, was_told_to_go_on, is_open, is_draining}
+use Rattle.h1_model.specs.Sums.{Step, request, answered_by, answered, answer_len, chunk_len, accepted_limit, accepted, head_of, is_continue, completes, had_continue, is_open, is_draining}
 use Rattle.h1_model.specs.Closing.{told}
 use Rattle.h1_model.specs.Text.{step_text, text}
 use Rattle.h1_model.specs.Allowed.{is_unanswered}
@@ -27,7 +27,7 @@ use Rattle.h1_model.proofs.ExchangeReplies.{ReplyIs, whole_reply, reply_still, f
 -- the newest exchange is that of the last head
 pub record Newest (trace : List Step) (e : Exchange) : Type 0 where
   pub asked : request trace ≡ Some e.head
-  pub told_is : was_told_to_go_on trace ≡ e.was_told
+  pub told_is : had_continue trace ≡ e.was_told
   pub reply_is : ReplyIs trace e.reply
 
 -- or there was no head yet
@@ -86,7 +86,7 @@ pub record Leaves (before : List Step) (s : Step) : Type 0 where
   pub plain : accepted_limit s.event s.outcome ≡ None
   pub answer : (drained : Bool) → answered_by s.event drained ≡ None
   pub chunk : chunk_len s.event ≡ 0
-  pub go_on : is_go_on s.event ≡ false
+  pub send_continue : is_continue s.event ≡ false
   pub complete : completes s.event ≡ false
   pub change : (e : Exchange) → changed_by before s.event s.outcome e ≡ e
 
@@ -110,7 +110,7 @@ leaves_newest before s [] x n = (
 )
 leaves_newest before s (e ∷ es) x n = record {
   asked = request-more s before x.head ∙ n.asked;
-  told_is = since_still is_go_on s before x.head x.go_on ∙ n.told_is;
+  told_is = since_still is_continue s before x.head x.send_continue ∙ n.told_is;
   reply_is = reply_still s before e.reply x.head x.plain x.answer x.chunk x.complete n.reply_is;
 }
 
@@ -171,7 +171,7 @@ says_more setting s before e new es says grows =
 
 -- a reply that changes
 pub reply_goes : (setting : Setting) (s : Step) (before : List Step) (e : Exchange) (es : List Exchange) (reply : Reply)
-    → head_of s.outcome ≡ None → is_go_on s.event ≡ false → Grown setting before s e.head e.reply reply
+    → head_of s.outcome ≡ None → is_continue s.event ≡ false → Grown setting before s e.head e.reply reply
     → Spoken setting before (e ∷ es) None → Spoken setting (s ∷ before) (record e { reply = reply } ∷ es) None
 reply_goes setting s before e es reply none other g spoken =
     let given = option_to_list (answered_by s.event (is_draining before)) in
@@ -181,7 +181,7 @@ reply_goes setting s before e es reply none other g spoken =
       slow = λ moment x. no_refusal moment _ x;
       newest = record {
         asked = request-more s before none ∙ spoken.newest.asked;
-        told_is = since_still is_go_on s before none other ∙ spoken.newest.told_is;
+        told_is = since_still is_continue s before none other ∙ spoken.newest.told_is;
         reply_is = g.knows;
       };
       has = ap (λ l. l ++ answers_in es) g.adds ∙ append_assoc given (answer_in e.reply) (answers_in es)
@@ -190,14 +190,14 @@ reply_goes setting s before e es reply none other g spoken =
     }
 
 -- a client that is told to go on
-pub go_on_goes : (setting : Setting) (before : List Step) (e : Exchange) (es : List Exchange) → is_unanswered before ≡ true
-    → was_told_to_go_on before ≡ false → Spoken setting before (e ∷ es) None → Goes setting before on.go_on on.done (e ∷ es) None
+pub continue_goes : (setting : Setting) (before : List Step) (e : Exchange) (es : List Exchange) → is_unanswered before ≡ true
+    → had_continue before ≡ false → Spoken setting before (e ∷ es) None → Goes setting before on.send_continue on.done (e ∷ es) None
 unfolding changed_by refused_by step_text
-go_on_goes setting before e es free untold spoken =
-    let s = step on.go_on on.done in
+continue_goes setting before e es free untold spoken =
+    let s = step on.send_continue on.done in
     let n = spoken.newest in
     let new : Exchange = record e { was_told = true } in
-    let told_now : was_told_to_go_on (s ∷ before) ≡ true = ap (list_any (λ t. is_go_on t.event)) (since_head-more s before refl) in
+    let told_now : had_continue (s ∷ before) ≡ true = ap (list_any (λ t. is_continue t.event)) (since_head-more s before refl) in
     record {
       says = says_more setting s before e new es spoken.says
           (told_grows setting e (sym n.told_is ∙ untold) (free_reply before e.reply free n.reply_is));
@@ -246,7 +246,7 @@ head_goes setting before h es shut spoken =
       slow = λ moment x. no_refusal moment _ x;
       newest = record {
         asked = request-head s before h refl;
-        told_is = ap (list_any (λ t. is_go_on t.event)) (since_head-head s before h refl);
+        told_is = ap (list_any (λ t. is_continue t.event)) (since_head-head s before h refl);
         reply_is = (
           refl,
           accepted-cons s before ∙ not_upgraded before es shut spoken.newest,

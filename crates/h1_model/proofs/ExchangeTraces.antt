@@ -52,7 +52,7 @@ spoken setting trace x =
 -- a step leaves the head of the newest exchange
 changed_head : (before : List Step) (event : Event) (outcome : Outcome) (e : Exchange) → (changed_by before event outcome e).head ≡ e.head
 unfolding changed_by
-changed_head before on.go_on on.done e = refl
+changed_head before on.send_continue on.done e = refl
 changed_head before (on.answer head size) on.done e = refl
 changed_head before (on.chunk bytes) on.done e = refl
 changed_head before on.body_end on.done e = refl

@@ -264,7 +264,7 @@ step_case setting before on.eof o ok x =
 step_case setting before on.next o ok x = next_case setting before o (closing setting before) refl ok x
 step_case setting before on.pull o ok x = pulls (record { event = refl; allowed = allowed_open setting before on.pull refl ok; outcome = x })
 step_case setting before on.drop_body o ok x = other (still on.drop_body o on.done x refl refl refl refl refl)
-step_case setting before on.go_on o ok x = other (still on.go_on o on.done x refl refl refl refl refl)
+step_case setting before on.send_continue o ok x = other (still on.send_continue o on.done x refl refl refl refl refl)
 step_case setting before (on.answer head size) o ok x = other (still (on.answer head size) o on.done x refl refl refl refl refl)
 step_case setting before (on.chunk bytes) o ok x = other (still (on.chunk bytes) o on.done x refl refl refl refl refl)
 step_case setting before on.body_end o ok x = other (still on.body_end o on.done x refl refl refl refl refl)

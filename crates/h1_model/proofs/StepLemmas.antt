@@ -244,7 +244,7 @@ step_case setting before on.eof o ok x =
 step_case setting before on.next o ok x = next_case setting before o (closing setting before) x
 step_case setting before on.pull o ok x = pulls (record { event = refl; outcome = x })
 step_case setting before on.drop_body o ok x = silent setting before on.drop_body o on.done x (refl, refl, refl) refl refl refl refl
-step_case setting before on.go_on o ok x = silent setting before on.go_on o on.done x (refl, refl, refl) refl refl refl refl
+step_case setting before on.send_continue o ok x = silent setting before on.send_continue o on.done x (refl, refl, refl) refl refl refl refl
 step_case setting before (on.answer head size) o ok x =
     silent setting before (on.answer head size) o on.done x (refl, refl, refl) refl refl refl refl
 step_case setting before (on.chunk bytes) o ok x = silent setting before (on.chunk bytes) o on.done x (refl, refl, refl) refl refl refl refl

@@ -5,7 +5,7 @@ use Rattle.h1_model.specs.Request.{Head, has_body, is_raw_kind}
 use Rattle.h1_model.specs.Setting.{Setting}
 use Rattle.h1_model.specs.Event.{Event, Outcome}
 use Rattle.h1_model.specs.Event as on
-use Rattle.h1_model.specs.Sums.{Step, request, since_head, answered, is_open, is_upgraded, is_answering, has_ended, is_draining, was_pulled, was_dropped, was_told_to_go_on, now}
+use Rattle.h1_model.specs.Sums.{Step, request, since_head, answered, is_open, is_upgraded, is_answering, has_ended, is_draining, was_pulled, was_dropped, had_continue, now}
 use Rattle.h1_model.specs.Limits.{MAX_FRAME_HEAD, MAX_MOMENT}
 use Rattle.h1_model.specs.Past.{ParsedStep, steps}
 use Rattle.h1_model.specs.Text.{buffered}
@@ -37,9 +37,9 @@ has_body_left trace (Some h) =
 abbrev pub is_unanswered : List Step → Bool
 is_unanswered trace = is_open trace && is_none (answered trace) && not (is_upgraded trace)
 
-abbrev pub expects_go_on : Option Head → Bool
-expects_go_on None = false
-expects_go_on (Some h) = h.expects
+abbrev pub request_expects : Option Head → Bool
+request_expects None = false
+request_expects (Some h) = h.expects
 
 abbrev pub asks_raw : Option Head → Bool
 asks_raw None = false
@@ -61,8 +61,8 @@ is_allowed_running setting trace on.drain = not (is_draining trace)
 is_allowed_running setting trace on.next = not (is_open trace)
 is_allowed_running setting trace on.pull = is_upgraded trace || has_body_left trace (request trace)
 is_allowed_running setting trace on.drop_body = not (is_upgraded trace) && has_body_left trace (request trace)
-is_allowed_running setting trace on.go_on =
-    is_unanswered trace && expects_go_on (request trace) && not (was_told_to_go_on trace)
+is_allowed_running setting trace on.send_continue =
+    is_unanswered trace && request_expects (request trace) && not (had_continue trace)
 is_allowed_running setting trace (on.answer head size) = is_unanswered trace
 is_allowed_running setting trace (on.chunk bytes) = is_answering trace && has_room setting trace
 is_allowed_running setting trace on.body_end = is_answering trace

@@ -11,7 +11,7 @@ use Rattle.h1_model.specs.End.{End}
 -- waits, is told to go on.
 pub data Event : Type 0 where
   read : List ℕ → Event
-  eof next pull drop_body go_on : Event
+  eof next pull drop_body send_continue : Event
   -- a request is answered; the answer's body comes in pieces, and ends or fails
   answer : AnswerHead → BodySize → Event
   chunk : List ℕ → Event

@@ -52,9 +52,9 @@ abbrev pub is_pull : Event → Bool
 is_pull on.pull = true
 is_pull _ = false
 
-abbrev pub is_go_on : Event → Bool
-is_go_on on.go_on = true
-is_go_on _ = false
+abbrev pub is_continue : Event → Bool
+is_continue on.send_continue = true
+is_continue _ = false
 
 abbrev pub is_body_end : Event → Bool
 is_body_end on.body_end = true
@@ -159,8 +159,8 @@ was_pulled steps = came_since_head is_pull steps
 abbrev pub was_dropped : List Step → Bool
 was_dropped steps = came_since_head is_drop steps
 
-abbrev pub was_told_to_go_on : List Step → Bool
-was_told_to_go_on steps = came_since_head is_go_on steps
+abbrev pub had_continue : List Step → Bool
+had_continue steps = came_since_head is_continue steps
 
 -- a request was handed out and its answer isn't complete; a WebSocket stays open
 abbrev pub is_open : List Step → Bool

@@ -56,7 +56,7 @@ unfoldable pub step_text : Setting → List Step → Event → Outcome → List 
 step_text setting before (on.answer head size) on.done = answer_text setting before head size (request before)
 step_text setting before (on.chunk bytes) on.done = chunk_sent (answer_len before) bytes (request before) (answered before)
 step_text setting before on.body_end on.done = end_sent (request before) (answered before)
-step_text setting before on.go_on on.done = interim_text
+step_text setting before on.send_continue on.done = interim_text
 step_text setting before (on.accept limit) on.done = accept_text setting before (request before)
 step_text setting before (on.send m) on.done = message_text m
 step_text setting before on.next (on.fault f) = fault_answer f (now before)

@@ -7,10 +7,10 @@ use Rattle.h1_model.specs.Event.{Outcome}
 use Rattle.h1_machine.specs.Kept.{Rest}
 use Rattle.h1_machine.specs.Pull as pulls
 use Rattle.h1_machine.specs.Pull.{IsPull}
-use Rattle.http_bodies.specs.AnyPieces.{GoesOn, in_front}
+use Rattle.http_framing.specs.AnyPieces.{GoesOn, in_front}
 use Rattle.h1_payload.specs.Answers.{is_fault}
 use Rattle.h1_payload.specs.Fitting.{Fits, GivesSome}
-use Rattle.http_bodies.specs.Kinds.{kind_of}
+use Rattle.http_framing.specs.Kinds.{kind_of}
 use Rattle.h1_payload.specs.Rests.{IsPulled}
 use Rattle.h1_payload.specs.Decoding.{Decoding, Payload, reading_of, IsReadAs, Reads, ReadsBy, given, item_of, HasSome, IsDecodedBy, IsDecoded, IsWaiting, IsRefused}
 use Rattle.h1_payload.specs.declared.item.DecodeError.{DecodeError}
@@ -19,8 +19,8 @@ use Rattle.h1_payload.specs.declared.item.PayloadItem.{PayloadItem}
 use Rattle.h1_payload.specs.declared.item.PayloadItem.TheVariants as items
 use Rattle.h1_payload.specs.declared.pulled.Pulled.{Pulled}
 use Rattle.h1_payload.specs.declared.pulled.Pulled.TheVariants as pulled
-use Rattle.http_bodies.specs.declared.body.kind.BodyKind.{BodyKind}
-use Rattle.http_bodies.specs.declared.body.kind.BodyKind.TheVariants as kind
+use Rattle.http_framing.specs.declared.body.kind.BodyKind.{BodyKind}
+use Rattle.http_framing.specs.declared.body.kind.BodyKind.TheVariants as kind
 use Rattle.h1_payload.proofs.Fitting.{a_pull, still_fits}
 use Rattle.h1_payload.proofs.Gives.{pull_gives_some, map_some}
 use Rattle.h1_payload.proofs.GoingOn.{front_of, pull_goes_on}

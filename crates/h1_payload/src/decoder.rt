@@ -4,16 +4,16 @@ ghost use Rattle.h1_chunks.specs.Place.{start};
 ghost use Rattle.h1_machine.specs.Pull.{IsPull};
 ghost use Rattle.h1_machine.specs.Pull as pulls;
 ghost use Rattle.h1_machine.specs.Kept.{no_rest, raw_rest, fixed_rest, chunks_rest, whole_rest};
-ghost use Rattle.http_bodies.specs.AnyPieces.{GoesOn, in_front};
+ghost use Rattle.http_framing.specs.AnyPieces.{GoesOn, in_front};
 ghost use Rattle.h1_payload.specs.Decoding.{Payload, Reads, given, item_of, HasSome, IsDecoded, IsWaiting, IsRefused};
-ghost use Rattle.http_bodies.specs.Kinds.{kind_of};
+ghost use Rattle.http_framing.specs.Kinds.{kind_of};
 ghost use Rattle.h1_payload.specs.Rests.{IsLight};
 
 use crate::item::{DecodeError, PayloadItem};
 use crate::pulled::Pulled;
 use crate::rest::Rest;
 use bytes::BytesMut;
-use http_bodies::{BodyKind, Decoder};
+use http_framing::{BodyKind, Decoder};
 use http_map::NoMemory;
 use std::marker::Model;
 

@@ -7,7 +7,7 @@ ghost use Rattle.h1_machine.specs.Pull.{IsPull};
 ghost use Rattle.h1_chunks.specs.ChunkedText.{ChunkedText, IsChunkedText, chunked_text};
 ghost use Rattle.h1_chunks.specs.Place.{start};
 ghost use Rattle.h1_machine.specs.Kept.{fixed_rest, chunks_rest};
-ghost use Rattle.http_bodies.specs.AnyPieces.{Fed, AreFed, LastReads, all_told, all_came};
+ghost use Rattle.http_framing.specs.AnyPieces.{Fed, AreFed, LastReads, all_told, all_came};
 ghost use Rattle.h1_payload.specs.Decoding.{Decoding, Payload, Reads, given, chunked_payload, length_payload};
 ghost use Rattle.h1_payload.specs.declared.item.PayloadItem.{PayloadItem};
 ghost use Rattle.h1_payload.specs.Fitting.{Fits, GivesSome};

@@ -45,7 +45,7 @@ mod trailers;
 
 pub use chunked_state::ChunkedState;
 pub use decoder::PayloadDecoder;
-pub use http_bodies::BodyKind;
+pub use http_framing::BodyKind;
 pub use item::{DecodeError, PayloadItem};
 pub use pulled::{BodyFault, Pulled};
 pub use rest::{Rest, RestKind};

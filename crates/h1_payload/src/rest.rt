@@ -4,14 +4,14 @@ ghost use Rattle.h1_machine.specs.Body.{pass_rest};
 ghost use Rattle.h1_machine.specs.Kept.{no_rest, raw_rest, fixed_rest, chunks_rest, whole_rest, rest_in, is_nothing};
 ghost use Rattle.h1_machine.specs.Pull.{pull_fixed, pull_raw, IsPull};
 ghost use Rattle.h1_machine.specs.Pull as pulls;
-ghost use Rattle.http_bodies.specs.Kinds.{kind_of};
+ghost use Rattle.http_framing.specs.Kinds.{kind_of};
 ghost use Rattle.h1_payload.specs.Kinds.{IsKind};
 ghost use Rattle.h1_payload.specs.Rests.{rest_of, IsPulled, IsLight};
 
 use crate::chunks::ChunkReader;
 use crate::pulled::{BodyFault, Pulled};
 use bytes::BytesMut;
-use http_bodies::BodyKind;
+use http_framing::BodyKind;
 use http_map::NoMemory;
 use std::marker::Model;
 

@@ -3,10 +3,10 @@ use Rattle.std.proofs.Common.{◌≡◌, ◌<◌, ◌≤◌, ◌⊎◌, inl, inr
 use Rattle.std.specs.Prelude.{IfSome}
 use Rattle.std.specs.Io.KnownBytes.{Appends, Consumes, IsAtEnd}
 use Rattle.http_config.specs.Config.{Settings}
-use Rattle.h1_dispatch.specs.Run.{IsWhole, IsMisplaced, AreAllowed, IsFirstRefused}
-use Rattle.h1_dispatch.proofs.LawLemmas.{none_refused, first_refused, not_whole}
-use Rattle.h1_dispatch.specs.declared.event.Event.{Event}
-use Rattle.h1_dispatch.specs.declared.trace.Trace.{Trace}
+use Rattle.h1_connection.specs.Run.{IsWhole, IsMisplaced, AreAllowed, IsFirstRefused}
+use Rattle.h1_connection.proofs.LawLemmas.{none_refused, first_refused, not_whole}
+use Rattle.h1_connection.specs.declared.event.Event.{Event}
+use Rattle.h1_connection.specs.declared.trace.Trace.{Trace}
 use Rattle.h1_replay.specs.Script.{script_of}
 use Rattle.h1_replay.specs.Run.{MAX_INPUT, IsReplay, IsDone, IsBadLine, IsStopped, IsStoppedText, ReadsWhole, IsAnswer, done, usage, bad_line, misplaced, read_fault, too_long, no_memory, IsScript, IsGood, IsRefused, IsRefusal, IsRefusedWith}
 

@@ -1,6 +1,6 @@
 -- The events of a script, line by line.
 use Rattle.std.proofs.Common.{◌≡◌, ℕ, ◌+◌, List, [], ◌∷◌, ◌++◌, length, Some, None, Result, Ok, Err, refl, sym, ap, ◌∙◌, append_assoc, arith, length-append}
-use Rattle.h1_dispatch.specs.declared.event.Event.{Event}
+use Rattle.h1_connection.specs.declared.event.Event.{Event}
 use Rattle.h1_replay.specs.Script.{words_of, event_of, events_of, with_event}
 
 -- these events, and then those of later lines

@@ -4,8 +4,8 @@ use Rattle.http.specs.declared.version.TheConstants.Version.{HTTP_11}
 use Rattle.http_map.specs.HeaderMap.{Pair, append}
 use Rattle.http_types.specs.ResponseHead.{ResponseParts}
 use Rattle.http_types.specs.declared.message.Flags.{Flags}
-use Rattle.h1_dispatch.specs.declared.event.Event.{Event}
-use Rattle.h1_dispatch.specs.declared.event.Event.TheVariants.{Answer}
+use Rattle.h1_connection.specs.declared.event.Event.{Event}
+use Rattle.h1_connection.specs.declared.event.Event.TheVariants.{Answer}
 use Rattle.h1_replay.specs.Word.{◌>>=◌, status_of, size_of, marks_of, reason_of, header_of}
 use Rattle.h1_replay.specs.declared.marks.Marks.{Marks}
 

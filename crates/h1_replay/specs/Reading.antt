@@ -2,7 +2,7 @@
 use Rattle.std.specs.Prelude.{ℕ, ◌≡◌, ⊤, List, Vec, String, string_bytes, Option, Some, None, Result, Ok, Err}
 use Rattle.std.specs.declared.alloc.Global.{Global}
 use Rattle.http_config.specs.Config.{Settings}
-use Rattle.h1_dispatch.specs.declared.event.Event.{Event}
+use Rattle.h1_connection.specs.declared.event.Event.{Event}
 use Rattle.h1_replay.specs.declared.word.LineError.{LineError}
 use Rattle.h1_replay.specs.declared.word.LineError.TheVariants as line
 use Rattle.h1_replay.specs.declared.script.Script.{Script}

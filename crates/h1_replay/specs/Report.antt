@@ -8,19 +8,19 @@ use Rattle.http_types.specs.ConnectionType.{IsTypeOf}
 use Rattle.http_types.specs.RequestHead.{request_flags}
 use Rattle.http_types.specs.declared.message.ConnectionType.{ConnectionType}
 use Rattle.http_types.specs.declared.message.ConnectionType.TheVariants.{Close, KeepAlive, Upgrade}
-use Rattle.http_bodies.specs.declared.body.kind.BodyKind.{BodyKind}
-use Rattle.http_bodies.specs.declared.body.kind.BodyKind.TheVariants as body
+use Rattle.http_framing.specs.declared.body.kind.BodyKind.{BodyKind}
+use Rattle.http_framing.specs.declared.body.kind.BodyKind.TheVariants as body
 use Rattle.h1_decode.specs.declared.decoder.HeadItem.{HeadItem}
-use Rattle.h1_dispatch.specs.declared.event.End.{End}
-use Rattle.h1_dispatch.specs.declared.event.End.TheVariants as ends
-use Rattle.h1_dispatch.specs.declared.event.HeadFault.{HeadFault}
-use Rattle.h1_dispatch.specs.declared.event.HeadFault.TheVariants as faults
-use Rattle.h1_dispatch.specs.declared.event.Outcome.{Outcome}
-use Rattle.h1_dispatch.specs.declared.event.Outcome.TheVariants.{Took, Head, Bytes, Trailers, BodyEnd, Pending, Closed, Fault, Broken, Gave, Expired, Abandoned, Done}
-use Rattle.h1_dispatch.specs.declared.event.PayloadError.{PayloadError}
-use Rattle.h1_dispatch.specs.declared.event.PayloadError.TheVariants.{Incomplete, EncodingCorrupted}
-use Rattle.h1_dispatch.specs.declared.trace.Step.{Step}
-use Rattle.h1_dispatch.specs.declared.trace.Trace.{Trace}
+use Rattle.h1_connection.specs.declared.event.End.{End}
+use Rattle.h1_connection.specs.declared.event.End.TheVariants as ends
+use Rattle.h1_connection.specs.declared.event.HeadFault.{HeadFault}
+use Rattle.h1_connection.specs.declared.event.HeadFault.TheVariants as faults
+use Rattle.h1_connection.specs.declared.event.Outcome.{Outcome}
+use Rattle.h1_connection.specs.declared.event.Outcome.TheVariants.{Took, Head, Bytes, Trailers, BodyEnd, Pending, Closed, Fault, Broken, Gave, Expired, Abandoned, Done}
+use Rattle.h1_connection.specs.declared.event.PayloadError.{PayloadError}
+use Rattle.h1_connection.specs.declared.event.PayloadError.TheVariants.{Incomplete, EncodingCorrupted}
+use Rattle.h1_connection.specs.declared.trace.Step.{Step}
+use Rattle.h1_connection.specs.declared.trace.Trace.{Trace}
 
 -- ---- words
 

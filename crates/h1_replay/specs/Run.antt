@@ -3,9 +3,9 @@ use Rattle.std.specs.Prelude.{ℕ, ◌≡◌, ◌++◌, ◌<◌, ◌≤◌, ◌�
 use Rattle.std.specs.Io.KnownBytes.{Appends, Consumes, Keeps, IsAtEnd}
 use Rattle.http_config.specs.Causes.{Rose}
 use Rattle.http_config.specs.Config.{Settings}
-use Rattle.h1_dispatch.specs.Run.{IsWhole, IsMisplaced, AreAllowed, IsFirstRefused}
-use Rattle.h1_dispatch.specs.declared.event.Event.{Event}
-use Rattle.h1_dispatch.specs.declared.trace.Trace.{Trace}
+use Rattle.h1_connection.specs.Run.{IsWhole, IsMisplaced, AreAllowed, IsFirstRefused}
+use Rattle.h1_connection.specs.declared.event.Event.{Event}
+use Rattle.h1_connection.specs.declared.trace.Trace.{Trace}
 use Rattle.h1_replay.specs.Report.{IsReport}
 use Rattle.h1_replay.specs.Script.{script_of}
 

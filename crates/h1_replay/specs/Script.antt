@@ -5,8 +5,8 @@ use Rattle.std.specs.Str.{bytes_eq}
 use Rattle.http_config.specs.Config.{Settings, default_settings}
 use Rattle.http_config.specs.KeepAlive.{normalized}
 use Rattle.http_config.specs.declared.hold_size.TheConstants.{MIN_HOLD_SIZE, MAX_HOLD_SIZE, DEFAULT_HOLD_SIZE}
-use Rattle.h1_dispatch.specs.declared.event.Event.{Event}
-use Rattle.h1_dispatch.specs.declared.event.Event.TheVariants.{Read, Eof, Next, Pull, DropBody, Continue, Chunk, BodyEnd, BodyError, Write, Tick, Drain}
+use Rattle.h1_connection.specs.declared.event.Event.{Event}
+use Rattle.h1_connection.specs.declared.event.Event.TheVariants.{Read, Eof, Next, Pull, DropBody, Continue, Chunk, BodyEnd, BodyError, Write, Tick, Drain}
 use Rattle.h1_replay.specs.Answer.{answer_of}
 use Rattle.h1_replay.specs.Pieces.{only_of}
 use Rattle.h1_replay.specs.Word.{◌>>=◌, number_of, bytes_of, flag_of, keep_alive_of}

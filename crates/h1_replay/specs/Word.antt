@@ -11,8 +11,8 @@ use Rattle.http_header.specs.Token.{is_value_byte, lowercase}
 use Rattle.http_map.specs.HeaderMap.{Pair}
 use Rattle.http_config.specs.declared.keep_alive.KeepAlive.{KeepAlive}
 use Rattle.http_config.specs.declared.keep_alive.KeepAlive.TheVariants.{Timeout, Os, Disabled}
-use Rattle.http_bodies.specs.declared.body.size.BodySize.{BodySize}
-use Rattle.http_bodies.specs.declared.body.size.BodySize.TheVariants as size
+use Rattle.http_framing.specs.declared.body.size.BodySize.{BodySize}
+use Rattle.http_framing.specs.declared.body.size.BodySize.TheVariants as size
 use Rattle.h1_replay.specs.Pieces.{only_of}
 use Rattle.h1_replay.specs.declared.marks.Marks.{Marks}
 

@@ -8,7 +8,7 @@ use crate::marks::Marks;
 use crate::pieces::Pieces;
 use crate::word::{LineError, bytes, size, status, text};
 use bytes::Bytes;
-use h1_dispatch::{Boxed, Event};
+use h1_connection::{Boxed, Event};
 use http_header::HeaderNameError;
 use http_map::{HeaderName, HeaderValue};
 use http_types::{ConnectionType, ResponseHead, StatusCode};

@@ -6,7 +6,7 @@ ghost use Rattle.h1_replay.specs.Reply.{status_of_reply, text_of_reply, IsReplyT
 use crate::report::report_of;
 use crate::script::{ScriptError, read_script};
 use crate::text::put_number;
-use h1_dispatch::{DriveError, Trace, drive};
+use h1_connection::{DriveError, Trace, drive};
 use http_types::NoMemory;
 use std::alloc::{AllocError, Global};
 

@@ -1,13 +1,13 @@
 //! The report of a trace.
 ghost use Rattle.std.specs.Prelude.{◌≡◌, ◌++◌, OnOk, IfOk};
 ghost use Rattle.http_map.specs.HeaderMap.{pairs};
-ghost use Rattle.h1_dispatch.specs.Steps.{outcome_of};
+ghost use Rattle.h1_connection.specs.Steps.{outcome_of};
 ghost use Rattle.h1_replay.specs.Report.{hex_word, end_word, fault_word, broken_word, body_word, type_word, expect_word, IsVersionWord, spaced, IsRequestPart, IsBodyPart, pair_words, IsHeadLine, IsOutcomeLine, AreStepLines, is_abandoned, state_word, last_lines, IsReport};
 ghost use Rattle.h1_replay.specs.Text.{Adds};
 
 use crate::text::{put_hex, put_number};
 use h1_decode::{BodyKind, HeadItem};
-use h1_dispatch::{End, HeadFault, Noted, PayloadError, Steps, Trace};
+use h1_connection::{End, HeadFault, Noted, PayloadError, Steps, Trace};
 use http_types::{ConnectionType, HeaderMap, NoMemory, Version};
 use std::alloc::Global;
 

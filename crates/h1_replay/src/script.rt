@@ -7,7 +7,7 @@ ghost use Rattle.h1_replay.specs.Reading.{Reads, ReadsEvents, ReadsScript};
 use crate::answer::answer;
 use crate::pieces::Pieces;
 use crate::word::{LineError, bytes, flag, keep_alive, number};
-use h1_dispatch::Event;
+use h1_connection::Event;
 use http_config::{
     DEFAULT_HOLD_SIZE, MAX_HOLD_SIZE, MIN_HOLD_SIZE, ServiceConfig, ServiceConfigBuilder,
 };

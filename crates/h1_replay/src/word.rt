@@ -5,7 +5,7 @@ ghost use Rattle.h1_replay.specs.Reading.{Reads, ReadsItems, ReadsText};
 
 use bytes::Bytes;
 use hex::FromHexError;
-use http_bodies::BodySize;
+use http_framing::BodySize;
 use http_types::{KeepAlive, NoMemory, StatusCode};
 use std::alloc::Global;
 use thiserror::Error;

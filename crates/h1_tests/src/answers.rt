@@ -5,7 +5,7 @@ use h1_codec::{
     put_bad_request, put_end, put_interim, put_piece, put_timeout, put_too_large, shape_of,
     type_of, write_content_length, write_date_header,
 };
-use http_bodies::BodySize;
+use http_framing::BodySize;
 use http_types::header::{HeaderName, value_of_bytes};
 use http_types::{ConnectionType, NoMemory, ResponseHead, StatusCode, Version};
 use std::alloc::Global;

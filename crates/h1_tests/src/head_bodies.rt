@@ -163,7 +163,7 @@ fn says(item: &HeadItem, body: BodyKind, ctype: ConnectionType, expects: bool) -
         && item.head.connection_type() == ctype
         && item.connection_type() == ctype
         && item.head.expect() == expects
-        && item.expects_leave() == expects
+        && item.expects_continue() == expects
 }
 
 fn all_say(rt: &impl Abort, alloc: Global, rows: &[Row]) -> Result<(), Fail> {

@@ -1,7 +1,7 @@
 -- What a codec answers goes on from what the bytes say.
 use Rattle.std.proofs.Common.{◌≡◌, ℕ, Bool, List, ◌++◌, drop, Option, Some, None, Result, Ok, Err, IfOk, sym, ap, ◌∙◌, subst}
 use Rattle.std.proofs.lemmas.List.{drop-append-le}
-use Rattle.http_bodies.specs.AnyPieces.{GoesOn, in_front}
+use Rattle.http_framing.specs.AnyPieces.{GoesOn, in_front}
 use Rattle.h1_model.specs.FrameText.{is_under_way}
 use Rattle.h1_model.proofs.FrameLemmas.{whole_stays, whole_fits}
 use Rattle.ws_frames.specs.declared.error.ProtocolError.{ProtocolError}

@@ -3,7 +3,7 @@ use crate::codec::Codec;
 use crate::error::ProtocolError;
 use crate::message::{Frame, Message};
 use bytes::BytesMut;
-use http_bodies::{Decoder, Encoder};
+use http_framing::{Decoder, Encoder};
 use rand_core::Rng;
 
 impl<R> Decoder for Codec<R> {

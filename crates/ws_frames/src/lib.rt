@@ -4,7 +4,7 @@
 //! [`Parser`] does the same frame by frame and keeps no state. Both answer what the definitions of `h1_model` say of all
 //! bytes, in whatever pieces these come. A payload that is read shares the memory of the buffer, its mask taken off
 //! where it lies, and no memory is asked for because of a length that a peer declares. A codec is also a `Decoder` and an
-//! `Encoder<Message>` of `http_bodies`.
+//! `Encoder<Message>` of `http_framing`.
 //!
 //! A server reads the text `Hello` in two pieces, and sends it back:
 //!

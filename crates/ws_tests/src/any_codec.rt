@@ -1,6 +1,6 @@
 //! A codec behind the traits of decoders and encoders, with the memory of the buffer's allocator.
 use bytes::{Bytes, BytesMut};
-use http_bodies::{Decoder, Encoder};
+use http_framing::{Decoder, Encoder};
 use std::test::Fail;
 use ws_frames::{CloseCode, CloseReason, Codec, Frame, Message};
 

@@ -1,7 +1,7 @@
 //! A message's head and body, encoded one after the other.
 ghost use Rattle.std.specs.Prelude.{◌≡◌, ◌<◌, ◌++◌, ◌↔◌, ℕ, List, Bool, true, false, [], OnOk, OnErr, IfOk, IsOk, Err, if◌then◌else◌};
 ghost use Rattle.http.specs.declared.version.Version.{Version as SomeVersion};
-ghost use Rattle.http_bodies.specs.declared.body.size.BodySize.{BodySize as Size};
+ghost use Rattle.http_framing.specs.declared.body.size.BodySize.{BodySize as Size};
 ghost use Rattle.http_types.specs.declared.message.ConnectionType.{ConnectionType as Kind};
 ghost use Rattle.h1_model.specs.Limits.{MAX_MOMENT};
 ghost use Rattle.h1_model.specs.Answer as answers;
@@ -12,7 +12,7 @@ ghost use Rattle.h1_codec.specs.Written.{asked_by, answer_shape, answer_text};
 use super::TransferEncoding;
 use crate::{Asked, DateLine, EncodeError, Shape, put_answer_head, shape_of};
 use bytes::BytesMut;
-use http_bodies::BodySize;
+use http_framing::BodySize;
 use http_types::{ConnectionType, NoMemory, ResponseHead, Version};
 use std::marker::{Model, PhantomData};
 

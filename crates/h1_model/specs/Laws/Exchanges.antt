@@ -96,7 +96,7 @@ with_sent m reply = reply
 
 -- what a step makes of the exchange of the last head, behind the steps before
 unfoldable pub changed_by : List Step → Event → Outcome → Exchange → Exchange
-changed_by before on.go_on on.done e = record e { was_told = true }
+changed_by before on.send_continue on.done e = record e { was_told = true }
 changed_by before (on.answer head size) on.done e =
     record e { reply = newly_given (record { head = head; size = size; drained = is_draining before }) (now before) }
 changed_by before (on.chunk bytes) on.done e = record e { reply = with_piece bytes e.reply }

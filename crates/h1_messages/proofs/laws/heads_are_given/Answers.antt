@@ -1,6 +1,6 @@
 use Rattle.std.proofs.Common.{[], ◌++◌}
-use Rattle.http_bodies.specs.AnyPieces.{all_came}
-use Rattle.http_bodies.proofs.AnyPieces.{pieces_are_whole}
+use Rattle.http_framing.specs.AnyPieces.{all_came}
+use Rattle.http_framing.proofs.AnyPieces.{pieces_are_whole}
 use Rattle.h1_messages.specs.Heads.{Reads, given}
 use Rattle.h1_messages.proofs.laws.heads_are_given.Goals as goal
 

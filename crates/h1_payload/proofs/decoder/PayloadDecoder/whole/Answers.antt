@@ -1,6 +1,6 @@
 use Rattle.std.proofs.Common.{sym, subst}
 use Rattle.h1_payload.specs.Fitting.{Fits}
-use Rattle.http_bodies.specs.Kinds.{kind_of}
+use Rattle.http_framing.specs.Kinds.{kind_of}
 use Rattle.h1_payload.proofs.Decodes.{kind_zero}
 use Rattle.h1_payload.proofs.Fitting.{whole_fits}
 use Rattle.h1_payload.proofs.decoder.PayloadDecoder.whole.Goals as goal

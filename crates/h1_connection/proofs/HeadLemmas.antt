@@ -1,0 +1,300 @@
+-- The machine's steps where the next head is asked for.
+use Rattle.std.proofs.lemmas.List.{length-take, length-drop}
+use Rattle.std.proofs.Common.{◌≡◌, ℕ, zero, suc, ◌-◌, ◌≤◌, Bool, true, false, List, [], ◌∷◌, length, drop, Option, Some, None, inl, refl, sym, ap, ◌∙◌, subst, arith}
+use Rattle.std.specs.Prelude.{option_map, is_some, slice_range, ◌==◌, ◌||◌, not}
+use Rattle.http_config.specs.Config.{Settings}
+use Rattle.h1_model.specs.HeadPiece.{IsHeadPiece}
+use Rattle.h1_model.specs.Request as model
+use Rattle.h1_model.specs.Request.{Head, Reading, head_is, faulty, too_large}
+use Rattle.h1_model.specs.RequestHead.{IsReading, IsReadingWithin}
+use Rattle.h1_model.specs.Setting.{Setting}
+use Rattle.h1_model.specs.Event as on
+use Rattle.h1_model.specs.End as ends
+use Rattle.h1_machine.specs.Kept as machine
+use Rattle.h1_machine.specs.Kept.{Kept, Change, is_free, is_frames, is_answered, now, rest_in, whole_rest}
+use Rattle.h1_machine.specs.Local.{closing_by, answered_end_of}
+use Rattle.h1_machine.specs.Change.{IsChange, IsNext, IsUpcoming, noting_since, behind_head, without_head}
+use Rattle.h1_decode.specs.HeadItem.{SaysHead, version_of, type_of}
+use Rattle.h1_codec.specs.Meaning.{minor_of, model_type}
+use Rattle.h1_model.specs.Answer.{Asked, asked_of}
+use Rattle.http_types.specs.declared.message.ConnectionType.{ConnectionType}
+use Rattle.h1_decode.specs.declared.decoder.HeadItem.{HeadItem}
+use Rattle.h1_decode.specs.declared.scan.HeadScan.{HeadScan}
+use Rattle.h1_decode.specs.declared.scan.HeadScan.TheVariants.{Open, Piece}
+use Rattle.h1_connection.specs.Incoming.{Incoming, is_coming_in, IsFoundIn, IsHeadIn, IsHeadOf, IsPassedIn, IsPassedHead}
+use Rattle.h1_connection.specs.Meaning.{setting_of, end_of, fault_of}
+use Rattle.h1_connection.specs.Parts.{kept_of, exchange_of, reply_of, IsNoted, IsSound, IsSettled, Steps}
+use Rattle.h1_connection.specs.Heads.{IsAsked, plain_exchange, behind_plain, refused, IsHeld, IsNexted}
+use Rattle.h1_connection.specs.declared.connection.exchange.Exchange.{Exchange}
+use Rattle.h1_connection.specs.declared.connection.exchange.Reply.{Reply}
+use Rattle.h1_connection.specs.declared.connection.exchange.Reply.TheVariants.{Unanswered}
+use Rattle.h1_connection.specs.declared.connection.heads.NextHead.{NextHead}
+use Rattle.h1_connection.specs.declared.connection.heads.NextHead.TheVariants as next
+use Rattle.h1_connection.specs.declared.connection.parts.Parts.{Parts}
+use Rattle.h1_connection.specs.declared.connection.request.Request.{Request}
+use Rattle.h1_connection.specs.declared.event.End.{End}
+use Rattle.h1_connection.specs.declared.event.HeadFault.{HeadFault}
+use Rattle.h1_connection.proofs.ClosingLemmas.{handed_runs}
+use Rattle.h1_connection.proofs.StepLemmas.{noted_same, quiet_step, settled_step, settled_sound}
+use Rattle.h1_connection.proofs.UpgradeLemmas.{head_step}
+
+-- ---- a next one that doesn't close
+
+next_change : (set : Setting) (k : Kept) (coming : Bool) (c : Change) → closing_by set k ≡ None → k.is_coming ≡ coming
+    → IsUpcoming set k coming c → IsChange set k on.next c
+next_change set k coming c running is x =
+    subst (λ (o : Option ends.End). IsNext set k o c) (sym running)
+    (subst (λ (b : Bool). IsUpcoming set k b c) (sym is) x)
+
+-- where no head is found, none is coming
+none_coming : (i : Incoming) (piece : Option HeadScan) → IsHeadIn i piece None → is_coming_in piece ≡ false
+none_coming i None is = refl
+none_coming i (Some Open) is = refl
+none_coming i (Some (Piece start end)) is = absurd (cc is.1)
+
+pub not_coming : (i : Incoming) → IsHeadOf i None → is_coming_in i.piece ≡ false
+not_coming i is = none_coming i i.piece is
+
+-- ---- the connection's end
+
+pub closed_sound : (s : Settings) (p : Parts) → IsSound s p → IsSound s (record p { is_over = true })
+unfolding closing_by
+closed_sound s p sound = record { moment = sound.moment; searched = sound.searched; scanned = sound.scanned; noted = sound.noted }
+
+pub closed_steps : (s : Settings) (p : Parts) (end : End) → IsSound s p → option_map end_of (Some end) ≡ closing_by (setting_of s) (kept_of p)
+    → Steps s p on.next (on.closed (end_of end)) (record p { is_over = true })
+closed_steps s p end sound closes =
+    let q : Parts = record p { is_over = true } in
+    let c : Change = record { outcome = on.closed (end_of end); kept = kept_of q } in
+    quiet_step s p q on.next (on.closed (end_of end)) (subst (λ (o : Option ends.End). IsNext (setting_of s) (kept_of p) o c) closes refl)
+    (closed_sound s p sound)
+
+-- ---- nothing, or too much
+
+without_pending : (set : Setting) (k : Kept) (full : Bool) → (length k.unread == set.hold_size) ≡ full → full ≡ false
+    → without_head set k ≡ record { outcome = on.pending; kept = k }
+without_pending set k true is none = absurd (cc none)
+without_pending set k false is none = rw is refl
+
+without_full : (set : Setting) (k : Kept) (full : Bool) → (length k.unread == set.hold_size) ≡ full → full ≡ true
+    → without_head set k ≡ behind_head k 0 (faulty too_large)
+without_full set k false is none = absurd (cc none)
+without_full set k true is none = rw is refl
+
+pub pending_steps : (s : Settings) (p : Parts) → IsSound s p → closing_by (setting_of s) (kept_of p) ≡ None → IsHeadOf p.input None
+    → (length p.input.unread == s.h1_hold_size) ≡ false → Steps s p on.next on.pending p
+pending_steps s p sound runs none room =
+    quiet_step s p p on.next on.pending
+    (next_change (setting_of s) (kept_of p) false (record { outcome = on.pending; kept = kept_of p }) runs (not_coming p.input none)
+    (sym (without_pending (setting_of s) (kept_of p) false room refl))) sound
+
+-- a fault is settled as any change is
+fault_steps : (s : Settings) (p q : Parts) (fault : HeadFault)
+    → IsChange (setting_of s) (kept_of p) on.next (record { outcome = on.fault (fault_of fault); kept = refused fault (kept_of p) })
+    → IsSettled (setting_of s) (refused fault (kept_of p)) q → Steps s p on.next (on.fault (fault_of fault)) q
+fault_steps s p q fault changes settled =
+    settled_step s p q on.next (on.fault (fault_of fault)) (refused fault (kept_of p)) (refused fault (kept_of p)) (kept_of p).is_coming changes refl settled
+
+pub full_steps : (s : Settings) (p q : Parts) (fault : HeadFault) → fault_of fault ≡ too_large → closing_by (setting_of s) (kept_of p) ≡ None → IsHeadOf p.input None
+    → (length p.input.unread == s.h1_hold_size) ≡ true → IsSettled (setting_of s) (refused fault (kept_of p)) q
+    → Steps s p on.next (on.fault (fault_of fault)) q
+full_steps s p q fault large runs none full settled =
+    fault_steps s p q fault
+    (next_change (setting_of s) (kept_of p) false (record { outcome = on.fault (fault_of fault); kept = refused fault (kept_of p) }) runs (not_coming p.input none)
+    ((λ i. behind_head (kept_of p) 0 (faulty (large i))) ∙ sym (without_full (setting_of s) (kept_of p) true full refl))) settled
+
+pub refused_sound : (s : Settings) (p q : Parts) (fault : HeadFault) → IsSound s p → IsSettled (setting_of s) (refused fault (kept_of p)) q → IsSound s q
+refused_sound s p q fault sound settled = settled_sound s (refused fault (kept_of p)) q sound.moment settled
+
+-- ---- a head that was found
+
+-- where it stands
+record Stands (i : Incoming) (head : List ℕ) : Type 0 where
+  pub start : ℕ
+  pub end : ℕ
+  pub piece : i.piece ≡ Some (Piece start end)
+  pub here : IsHeadPiece i.unread start end
+  pub head_is : head ≡ slice_range i.unread start end
+
+stands_in : (i : Incoming) (piece : Option HeadScan) (head : List ℕ) → i.piece ≡ piece → IsHeadIn i piece (Some head) → Stands i head
+stands_in i None head is found = absurd (cc found)
+stands_in i (Some Open) head is found = absurd (cc found)
+stands_in i (Some (Piece start end)) head is found = record { start = start; end = end; piece = is; here = found.0; head_is = cc found.1 }
+
+found_at : (i : Incoming) (head : List ℕ) → IsHeadOf i (Some head) → Stands i head
+found_at i head found = stands_in i i.piece head refl found
+
+-- one is whole then
+pub found_whole : (i : Incoming) (head : List ℕ) → IsHeadOf i (Some head) → is_coming_in i.piece ≡ true
+found_whole i head found = ap is_coming_in (found_at i head found).piece
+
+-- a part is no longer than the whole
+slice_fits : (bytes : List ℕ) (start end : ℕ) → length (slice_range bytes start end) ≤ length bytes
+slice_fits bytes start end = omega (arith, length-take (end - start) (drop start bytes), length-drop start bytes)
+
+within : (s : Settings) (p : Parts) (head : List ℕ) (start end : ℕ) (what : Reading) → head ≡ slice_range p.input.unread start end → IsHeld s p → IsReading head what
+    → IsReadingWithin s.h1_hold_size (slice_range p.input.unread start end) what
+within s p head start end what is held reading =
+    let fits : length (slice_range p.input.unread start end) ≤ s.h1_hold_size = omega (arith, slice_fits p.input.unread start end, held) in
+    inl (fits, subst (λ (bytes : List ℕ). IsReading bytes what) is reading)
+
+-- a fault of it
+pub found_steps : (s : Settings) (p q : Parts) (head : List ℕ) (fault : HeadFault) → closing_by (setting_of s) (kept_of p) ≡ None → IsHeadOf p.input (Some head)
+    → IsReading head (faulty (fault_of fault)) → IsSettled (setting_of s) (refused fault (kept_of p)) q → IsHeld s p
+    → Steps s p on.next (on.fault (fault_of fault)) q
+found_steps s p q head fault runs found reading settled held =
+    let at = found_at p.input head found in
+    let what = faulty (fault_of fault) in
+    fault_steps s p q fault
+    (next_change (setting_of s) (kept_of p) true (record { outcome = on.fault (fault_of fault); kept = refused fault (kept_of p) }) runs (found_whole p.input head found)
+    (at.start, at.end, what, at.here, within s p head at.start at.end what at.head_is held reading, refl)) settled
+
+-- the head itself
+pub head_steps : (s : Settings) (p q : Parts) (head : List ℕ) (item : HeadItem) (h : Head) → closing_by (setting_of s) (kept_of p) ≡ None → IsHeadOf p.input (Some head)
+    → IsReading head (head_is h) → SaysHead item h
+    → ((piece : List ℕ) (h : Head) (start end : ℕ) → IsReading piece (head_is h) → SaysHead item h → p.input.piece ≡ Some (Piece start end)
+    → kept_of q ≡ noting_since (setting_of s) (behind_plain (kept_of p) end h))
+    → IsHeld s p → IsNexted s p (next.Head item) q
+head_steps s p q head item h runs found reading says handed held =
+    let at = found_at p.input head found in (
+      h,
+      says,
+      λ u. head_step u (setting_of s) (kept_of p) (kept_of q) h at.start at.end runs (found_whole p.input head found) at.here
+          (within s p head at.start at.end (head_is h) at.head_is held reading)
+          (handed head h at.start at.end reading says at.piece),
+    )
+
+-- ---- what is kept of its request
+
+pub plain_same : (x : Exchange) (h : Head) (rest : machine.Rest) (request : Request) → IsAsked h request
+    → x ≡ record { request = request; rest = rest; reply = Unanswered; was_pulled = false; was_dropped = false; had_continue = false; body_is_done = false }
+    → exchange_of x ≡ plain_exchange rest h
+plain_same x h rest request asked is =
+    ap (λ (y : Exchange). exchange_of y) is
+    ∙ (λ i. record {
+      asked = asked.asked i;
+      has_body = asked.body i;
+      expects = asked.expects i;
+      refusal = None;
+      accept_key = [];
+      rest = rest;
+      reply = machine.unanswered;
+      was_pulled = false;
+      was_dropped = false;
+      had_continue = false;
+      body_is_done = false;
+    })
+
+-- the input behind the head
+pub passed_at : (i after : Incoming) (start end : ℕ) → i.piece ≡ Some (Piece start end) → IsPassedHead i after → after ≡ record { unread = drop end i.unread; piece = None }
+passed_at i after start end is passed = subst (λ (o : Option HeadScan). IsPassedIn i o after) is passed
+
+passed_none : (i after : Incoming) (piece : Option HeadScan) → IsPassedIn i piece after → after.piece ≡ None
+passed_none i after None passed = absurd passed
+passed_none i after (Some Open) passed = absurd passed
+passed_none i after (Some (Piece start end)) passed = ap (λ (j : Incoming). j.piece) passed
+
+pub passed_unsearched : (i after : Incoming) → IsPassedHead i after → after.piece ≡ None
+passed_unsearched i after passed = passed_none i after i.piece passed
+
+-- the parts behind a head
+abbrev pub handed : Parts → Incoming → Exchange → Parts
+handed p after x = record p { input = after; exchange = Some x }
+
+-- what is left of its body isn't read as frames
+in_plain : (ended : Bool) (unread : List ℕ) (rest : machine.Rest) → is_frames rest ≡ false → is_frames (rest_in ended unread rest) ≡ false
+in_plain true [] machine.no_rest plain = refl
+in_plain true [] machine.raw_rest plain = refl
+in_plain true [] (machine.fixed_rest n) plain = refl
+in_plain true [] (machine.chunks_rest place section) plain = refl
+in_plain true [] (machine.frames_rest under_way limit) plain = plain
+in_plain true (b ∷ unread) rest plain = plain
+in_plain false unread rest plain = plain
+
+whole_plain : (body : model.BodyKind) → is_frames (whole_rest body) ≡ false
+whole_plain model.no_body = refl
+whole_plain (model.fixed_body n) = refl
+whole_plain model.chunked_body = refl
+whole_plain model.raw_body = refl
+
+rest_plain : (ended : Bool) (unread : List ℕ) (body : model.BodyKind) (rest : machine.Rest) → rest ≡ rest_in ended unread (whole_rest body) → is_frames rest ≡ false
+rest_plain ended unread body rest is = ap is_frames is ∙ in_plain ended unread (whole_rest body) (whole_plain body)
+
+-- so its request is open, and nothing closes
+handed_open : (set : Setting) (p : Parts) (after : Incoming) (x : Exchange) → closing_by set (kept_of p) ≡ None → x.reply ≡ Unanswered → is_frames x.rest ≡ false
+    → closing_by set (kept_of (handed p after x)) ≡ None
+handed_open set p after x runs waits plain =
+    handed_runs set (kept_of p) (kept_of (handed p after x)) runs refl refl
+    (ap (λ (r : Reply). answered_end_of (exchange_of x) (reply_of r)) waits)
+    (ap (λ (r : Reply). is_frames x.rest || not (is_answered (reply_of r))) waits ∙ ap (λ (f : Bool). f || true) plain) plain
+
+handed_noted : (set : Setting) (p : Parts) (after : Incoming) (x : Exchange) → closing_by set (kept_of p) ≡ None → x.reply ≡ Unanswered → is_frames x.rest ≡ false
+    → IsNoted set (kept_of (handed p after x))
+handed_noted set p after x runs waits plain = λ is.
+    let none = handed_open set p after x runs waits plain in
+    absurd (let no : false ≡ true = sym (ap is_some none) ∙ is in cc no)
+
+pub handed_kept : (set : Setting) (p : Parts) (after : Incoming) (x : Exchange) (h : Head) (request : Request) (rest : machine.Rest) (start end : ℕ)
+    → closing_by set (kept_of p) ≡ None → p.input.piece ≡ Some (Piece start end) → IsPassedHead p.input after → IsAsked h request
+    → rest ≡ rest_in p.has_ended after.unread (whole_rest h.body)
+    → x ≡ record { request = request; rest = rest; reply = Unanswered; was_pulled = false; was_dropped = false; had_continue = false; body_is_done = false }
+    → kept_of (handed p after x) ≡ noting_since set (behind_plain (kept_of p) end h)
+handed_kept set p after x h request rest start end runs piece passed asked rest_is x_is =
+    let input = passed_at p.input after start end piece passed in
+    let unread : after.unread ≡ drop end p.input.unread = ap (λ (i : Incoming). i.unread) input in
+    let exchange : exchange_of x ≡ plain_exchange (rest_in p.has_ended (drop end p.input.unread) (whole_rest h.body)) h =
+    plain_same x h rest request asked x_is ∙ ap (λ (r : machine.Rest). plain_exchange r h) (rest_is ∙ ap (λ (b : List ℕ). rest_in p.has_ended b (whole_rest h.body)) unread) in
+    let plain : is_frames x.rest ≡ false = ap (λ (y : Exchange). is_frames y.rest) x_is ∙ rest_plain p.has_ended after.unread h.body rest rest_is in
+    let waits : x.reply ≡ Unanswered = ap (λ (y : Exchange). y.reply) x_is in
+    sym (noted_same set (kept_of (handed p after x)) (handed_noted set p after x runs waits plain))
+    ∙ (λ i. noting_since set (record (kept_of p) { unread = unread i; is_coming = is_coming_in (input i).piece; exchange = Some (exchange i) }))
+
+pub handed_sound : (s : Settings) (p : Parts) (after : Incoming) (x : Exchange) (body : model.BodyKind) → IsSound s p → closing_by (setting_of s) (kept_of p) ≡ None
+    → IsPassedHead p.input after → x.reply ≡ Unanswered → x.rest ≡ rest_in p.has_ended after.unread (whole_rest body) → IsSound s (handed p after x)
+handed_sound s p after x body sound runs passed waits rest_is =
+    let none : after.piece ≡ None = passed_unsearched p.input after passed in
+    let free : is_free (kept_of (handed p after x)) ≡ false = ap (λ (r : Reply). is_free (kept_of (handed p after (record x { reply = r })))) waits in
+    record {
+      moment = sound.moment;
+      searched = ap is_some none ∙ sym free;
+      scanned = subst (λ (o : Option HeadScan). IsFoundIn after.unread o) (sym none) tt;
+      noted = handed_noted (setting_of s) p after x runs waits (rest_plain p.has_ended after.unread body x.rest rest_is);
+    }
+
+-- ---- what is kept of a request is what its head asks
+
+-- a version has its number back
+minor_same : (m : ℕ) → m ≤ 1 → minor_of (version_of m) ≡ m
+minor_same zero small = refl
+minor_same (suc zero) small = refl
+minor_same (suc (suc m)) small = absurd (omega (arith, small))
+
+-- and a connection type
+type_same : (t : model.ConnectionType) → model_type (type_of t) ≡ t
+type_same model.close = refl
+type_same model.keep_alive = refl
+type_same model.upgrade = refl
+
+pub asked_by : (piece : List ℕ) (item : HeadItem) (h : Head) (a : Asked) (is_head is_raw : Bool) (kind : ConnectionType) → IsReading piece (head_is h) → SaysHead item h
+    → a ≡ record { minor = minor_of item.head.version; is_head = is_head; is_raw = is_raw; connection = model_type kind }
+    → is_head ≡ (asked_of h).is_head → is_raw ≡ (asked_of h).is_raw → kind ≡ type_of (asked_of h).connection → a ≡ asked_of h
+asked_by piece item h a is_head is_raw kind reading says is head raw connection =
+    let small : h.minor ≤ 1 = omega (arith, reading.1.minor_is, reading.1.reads.0.minor) in
+    is ∙ (λ i. record {
+      minor = (ap minor_of says.version ∙ minor_same h.minor small) i;
+      is_head = head i;
+      is_raw = raw i;
+      connection = (ap model_type connection ∙ type_same (asked_of h).connection) i;
+    })
+
+-- where the input stayed, all is said of the parts as they were
+pub next_same : (s : Settings) (p : Parts) (i : Incoming) (q : Parts) (answer : NextHead) → i ≡ p.input
+    → (IsHeld s (record p { input = i }) → IsNexted s (record p { input = i }) answer q) → IsHeld s p → IsNexted s p answer q
+next_same s p i q answer same nexted = subst (λ (j : Incoming). IsHeld s (record p { input = j }) → IsNexted s (record p { input = j }) answer q) same nexted
+
+pub runs_same : (s : Settings) (p : Parts) (i : Incoming) → i ≡ p.input → closing_by (setting_of s) (kept_of p) ≡ None
+    → closing_by (setting_of s) (kept_of (record p { input = i })) ≡ None
+runs_same s p i same runs = subst (λ (j : Incoming). closing_by (setting_of s) (kept_of (record p { input = j })) ≡ None) (sym same) runs
+
+pub found_same : (p : Parts) (i : Incoming) (head : List ℕ) → i ≡ p.input → IsHeadOf p.input (Some head) → IsHeadOf i (Some head)
+found_same p i head same found = subst (λ (j : Incoming). IsHeadOf j (Some head)) (sym same) found

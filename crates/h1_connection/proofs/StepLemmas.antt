@@ -1,0 +1,226 @@
+-- The machine's steps of a connection's parts.
+use Rattle.std.proofs.Common.{◌≡◌, ℕ, ◌<◌, Bool, true, false, List, [], Option, Some, None, refl, sym, ap, ◌∙◌, subst, lit<}
+use Rattle.std.specs.Prelude.{is_some, if◌then◌else◌}
+use Rattle.std.specs.Option.{option_or}
+use Rattle.http_config.specs.Config.{Settings}
+use Rattle.h1_model.specs.Limits.{MAX_MOMENT}
+use Rattle.h1_model.specs.Setting.{Setting}
+use Rattle.h1_model.specs.Event as on
+use Rattle.h1_machine.specs.Kept.{Kept, is_free, now}
+use Rattle.h1_machine.specs.Local.{closing_by}
+use Rattle.h1_machine.specs.Body.{passing}
+use Rattle.h1_machine.specs.Change.{IsChange, IsComing, noting_since}
+use Rattle.h1_decode.specs.declared.scan.HeadScan.{HeadScan}
+use Rattle.h1_decode.specs.declared.scan.HeadScan.TheVariants.{Open, Piece}
+use Rattle.h1_connection.specs.Incoming.{Incoming, is_coming_in, IsFoundIn, IsFound}
+use Rattle.h1_connection.specs.Meaning.{setting_of}
+use Rattle.h1_connection.specs.Parts.{kept_of, passed_by, MayBeSearched, IsNoted, IsSound, IsSearchedFor, IsSettled, Steps}
+use Rattle.h1_connection.specs.declared.connection.clock.Clock.{Clock}
+use Rattle.h1_connection.specs.declared.connection.exchange.Exchange.{Exchange}
+use Rattle.h1_connection.specs.declared.connection.exchange.Reply.{Reply}
+use Rattle.h1_connection.specs.declared.connection.exchange.Reply.TheVariants.{Unanswered, Sending, Answered}
+use Rattle.h1_connection.specs.declared.connection.parts.Parts.{Parts}
+use Rattle.h1_connection.proofs.PassingLemmas.{passing_free}
+
+-- ---- since when the connection closes
+
+-- where it is noted it stays
+stays : (since : Option (Option ℕ)) (last : Option ℕ) (closes : Bool) → (closes ≡ true → is_some since ≡ true)
+    → option_or since (if closes then Some last else None) ≡ since
+stays (Some x) last closes noted = refl
+stays None last true noted = absurd (cc (noted refl))
+stays None last false noted = refl
+
+pub noted_same : (set : Setting) (k : Kept) → IsNoted set k → noting_since set k ≡ k
+noted_same set k noted = λ i. record k { closing_since = stays k.closing_since k.clock.last (is_some (closing_by set k)) noted i }
+
+-- and it is noted then
+is_noted : (since : Option (Option ℕ)) (last : Option ℕ) (closes : Bool) → closes ≡ true → is_some (option_or since (if closes then Some last else None)) ≡ true
+is_noted (Some x) last closes is = refl
+is_noted None last true is = refl
+is_noted None last false is = absurd (cc is)
+
+pub noting_notes : (set : Setting) (k : Kept) → IsNoted set (noting_since set k)
+unfolding closing_by
+noting_notes set k = λ is. is_noted k.closing_since k.clock.last (is_some (closing_by set k)) is
+
+-- ---- whether a head is coming
+
+coming_found : (bytes : List ℕ) (piece : Option HeadScan) → IsFoundIn bytes piece → IsComing (is_some piece) bytes (is_coming_in piece)
+coming_found bytes None found = refl
+coming_found bytes (Some Open) found = found
+coming_found bytes (Some (Piece start end)) found = (start, end, found)
+
+coming_free : (i : Incoming) (free : Bool) → is_some i.piece ≡ free → IsFound i → IsComing free i.unread (is_coming_in i.piece)
+coming_free i free is found = subst (λ (b : Bool). IsComing b i.unread (is_coming_in i.piece)) is (coming_found i.unread i.piece found)
+
+-- ---- a step
+
+-- that leaves where heads are searched for, and whether the connection closes
+pub quiet_step : (s : Settings) (p q : Parts) (event : on.Event) (out : on.Outcome)
+    → IsChange (setting_of s) (kept_of p) event (record { outcome = out; kept = kept_of q }) → IsSound s q → Steps s p event out q
+quiet_step s p q event out changes sound =
+    record {
+      change = record { outcome = out; kept = kept_of q };
+      coming = is_coming_in q.input.piece;
+      changes = changes;
+      answers = refl;
+      comes = coming_free q.input (is_free (kept_of q)) sound.searched sound.scanned;
+      keeps = sym (noted_same (setting_of s) (kept_of q) sound.noted);
+    }
+
+-- that is brought up to date
+pub settled_step : (s : Settings) (p q : Parts) (event : on.Event) (out : on.Outcome) (c k : Kept) (b : Bool)
+    → IsChange (setting_of s) (kept_of p) event (record { outcome = out; kept = c })
+    → k ≡ record c { is_coming = b }
+    → IsSettled (setting_of s) k q → Steps s p event out q
+settled_step s p q event out c k b changes like settled =
+    let coming = is_coming_in q.input.piece in
+    let unread : q.input.unread ≡ c.unread = ap (λ (k : Kept). k.unread) settled.kept ∙ ap (λ (k : Kept). k.unread) like in
+    let free : is_some q.input.piece ≡ is_free c = settled.searched ∙ ap (λ (k : Kept). is_free k) like in
+    record {
+      change = record { outcome = out; kept = c };
+      coming = coming;
+      changes = changes;
+      answers = refl;
+      comes = subst (λ (bytes : List ℕ). IsComing (is_free c) bytes coming) unread (coming_free q.input (is_free c) free settled.scanned);
+      keeps = settled.kept ∙ ap (λ (k : Kept). noting_since (setting_of s) (record k { is_coming = coming })) like;
+    }
+
+-- the parts are sound then
+pub settled_sound : (s : Settings) (k : Kept) (q : Parts) → now k < MAX_MOMENT → IsSettled (setting_of s) k q → IsSound s q
+settled_sound s k q moment settled =
+    let coming = is_coming_in q.input.piece in
+    record {
+      moment = subst (λ (k : Kept). now k < MAX_MOMENT) (sym settled.kept) moment;
+      searched = settled.searched ∙ sym (ap (λ (k : Kept). is_free k) settled.kept);
+      scanned = settled.scanned;
+      noted = subst (λ (k : Kept). IsNoted (setting_of s) k) (sym settled.kept) (noting_notes (setting_of s) (record k { is_coming = coming }));
+    }
+
+-- ---- bringing up to date
+
+-- a search, and then a note
+pub settled_of : (set : Setting) (p m q : Parts) → IsSearchedFor p m → kept_of q ≡ noting_since set (kept_of m) → q.input ≡ m.input → IsSettled set (kept_of p) q
+settled_of set p m q searched kept input =
+    let coming = is_coming_in m.input.piece in
+    let parts : kept_of m ≡ record (kept_of p) { is_coming = coming } =
+    ap (λ (r : Parts). kept_of r) searched.parts ∙ (λ i. record (kept_of p) { unread = searched.unread i; is_coming = coming }) in
+    record {
+      kept = kept ∙ ap (λ (k : Kept). noting_since set k) parts
+          ∙ (λ i. noting_since set (record (kept_of p) { is_coming = is_coming_in (sym input i).piece }));
+      searched = ap (λ (i : Incoming). is_some i.piece) input ∙ searched.searched;
+      scanned = subst (λ (i : Incoming). IsFound i) (sym input) searched.scanned;
+    }
+
+-- a note alone, where it was searched already
+pub settled_noted : (set : Setting) (m q : Parts) → kept_of q ≡ noting_since set (kept_of m) → q.input ≡ m.input
+    → is_some m.input.piece ≡ is_free (kept_of m) → IsFound m.input → IsSettled set (kept_of m) q
+settled_noted set m q kept input searched scanned =
+    record {
+      kept = kept ∙ (λ i. noting_since set (record (kept_of m) { is_coming = is_coming_in (sym input i).piece }));
+      searched = ap (λ (i : Incoming). is_some i.piece) input ∙ searched;
+      scanned = subst (λ (i : Incoming). IsFound i) (sym input) scanned;
+    }
+
+-- where nothing is found it may be searched
+pub may_of : (m : Parts) → (is_some m.input.piece ≡ true → is_free (kept_of m) ≡ true) → MayBeSearched m
+may_of m free = λ busy. nothing m.input.piece free busy
+  where
+    nothing : (piece : Option HeadScan) → (is_some piece ≡ true → is_free (kept_of m) ≡ true) → is_free (kept_of m) ≡ false → piece ≡ None
+    nothing None free busy = refl
+    nothing (Some x) free busy = absurd (cc (free refl, busy))
+
+-- ---- passing
+
+-- an exchange by its reply
+passed_reply : (p : Parts) (x : Exchange) (r : Reply)
+    → kept_of (record p {
+      exchange = Some (record x { reply = r; rest = (passed_by p.has_ended (record x { reply = r }) p.input.unread).rest });
+      input = record p.input { unread = (passed_by p.has_ended (record x { reply = r }) p.input.unread).unread };
+    })
+    ≡ passing (kept_of (record p { exchange = Some (record x { reply = r }) }))
+unfolding passing
+passed_reply p x Unanswered = refl
+passed_reply p x (Sending s) = refl
+passed_reply p x (Answered connection) = refl
+
+pub passed_some : (p : Parts) (x : Exchange)
+    → kept_of (record p {
+      exchange = Some (record x { rest = (passed_by p.has_ended x p.input.unread).rest });
+      input = record p.input { unread = (passed_by p.has_ended x p.input.unread).unread };
+    })
+    ≡ passing (kept_of (record p { exchange = Some x }))
+passed_some p x = passed_reply p x x.reply
+
+pub passed_none : (p : Parts) → kept_of (record p { exchange = None }) ≡ passing (kept_of (record p { exchange = None }))
+unfolding passing
+passed_none p = refl
+
+-- a search that may be done may be done behind it
+pub passed_may : (p m : Parts) → kept_of m ≡ passing (kept_of p) → m.input.piece ≡ p.input.piece → MayBeSearched p → MayBeSearched m
+passed_may p m same piece may = λ busy. piece ∙ may (still (is_free (kept_of p)) refl busy)
+  where
+    still : (free : Bool) → is_free (kept_of p) ≡ free → is_free (kept_of m) ≡ false → is_free (kept_of p) ≡ false
+    still false is busy = is
+    still true is busy = absurd (cc (sym busy ∙ ap (λ (k : Kept). is_free k) same ∙ ap (λ (k : Kept). is_free k) (passing_free (kept_of p) is) ∙ is))
+
+-- the body of an exchange that is there
+pub pass_some : (p : Parts) (x y : Exchange) (after : Incoming) → p.exchange ≡ Some x
+    → y ≡ record x { rest = (passed_by p.has_ended x p.input.unread).rest }
+    → after ≡ record p.input { unread = (passed_by p.has_ended x p.input.unread).unread }
+    → kept_of (record p { exchange = Some y; input = after }) ≡ passing (kept_of p)
+pass_some p x y after there y_is after_is =
+    (λ i. kept_of (record p { exchange = Some (y_is i); input = after_is i })) ∙ passed_some p x
+    ∙ ap (λ (e : Option Exchange). passing (kept_of (record p { exchange = e }))) (sym there)
+
+pub pass_none : (p : Parts) → p.exchange ≡ None → kept_of p ≡ passing (kept_of p)
+pass_none p none =
+    ap (λ (e : Option Exchange). kept_of (record p { exchange = e })) none ∙ passed_none p
+    ∙ ap (λ (e : Option Exchange). passing (kept_of (record p { exchange = e }))) (sym none)
+
+-- ---- a new connection
+
+fresh_sound : (s : Settings) (bytes : List ℕ) → IsFoundIn [] (Some Open)
+    → IsSound s (record {
+      input = record { unread = []; piece = Some Open };
+      has_ended = false;
+      is_draining = false;
+      is_over = false;
+      exchange = None;
+      output = bytes;
+      clock = record { first = None; last = None; completed = None };
+      failed = None;
+      closing_since = None;
+    })
+unfolding closing_by
+fresh_sound s bytes none = record { moment = lit< tt; searched = refl; scanned = none; noted = λ is. absurd (cc is) }
+
+pub new_sound : (s : Settings) (i : Incoming) (bytes : List ℕ) (k : Clock) → i ≡ record { unread = []; piece = Some Open } → IsFound i
+    → k ≡ record { first = None; last = None; completed = None }
+    → IsSound s (record {
+      input = i;
+      has_ended = false;
+      is_draining = false;
+      is_over = false;
+      exchange = None;
+      output = bytes;
+      clock = k;
+      failed = None;
+      closing_since = None;
+    })
+new_sound s i bytes k input found clock =
+    let made : Incoming → Clock → Parts = λ j t. record {
+      input = j;
+      has_ended = false;
+      is_draining = false;
+      is_over = false;
+      exchange = None;
+      output = bytes;
+      clock = t;
+      failed = None;
+      closing_since = None;
+    } in
+    subst (λ (t : Clock). IsSound s (made i t)) (sym clock)
+    (subst (λ (j : Incoming). IsSound s (made j (record { first = None; last = None; completed = None }))) (sym input)
+    (fresh_sound s bytes (subst (λ (j : Incoming). IsFound j) input found)))

@@ -1,0 +1,16 @@
+use Rattle.h1_connection.proofs.ResultLemmas.{on_map}
+use Rattle.h1_connection.proofs.GoesOnLemmas.{still_sound, same_state, goes_on, allowed_parts, answer_waits}
+use Rattle.h1_connection.proofs.connection.Connection.answer.Goals as goal
+
+pub invariant_of-self : goal.invariant_of-self
+invariant_of-self c = still_sound c.answer.result _ _ _ c.self.invariant c.answer.ensures.sound c.answer.ensures.err
+
+pub returns-clause-stands : goal.returns-clause-stands
+returns-clause-stands c =
+    on_map c.answer.result _ _ (λ steps. goes_on _ _ _ _ _ _ tt (λ h e. cc e) c.self.view_is c.requires steps) c.answer.ensures.ok
+
+pub returns-clause-err : goal.returns-clause-err
+returns-clause-err c = same_state c.answer.result _ _ _ _ c.self.view_is c.answer.ensures.err
+
+pub answer-requires-clause-waits : goal.answer-requires-clause-waits
+answer-requires-clause-waits c = answer_waits c.self.inside.config _ _ _ (allowed_parts _ _ _ _ c.self.view_is c.requires)

@@ -1,0 +1,13 @@
+use Rattle.h1_connection.proofs.ResultLemmas.{on_map}
+use Rattle.h1_connection.proofs.GoesOnLemmas.{still_sound, same_state, goes_on}
+use Rattle.h1_connection.proofs.connection.Connection.chunk.Goals as goal
+
+pub invariant_of-self : goal.invariant_of-self
+invariant_of-self c = still_sound c.chunk.result _ _ _ c.self.invariant c.chunk.ensures.sound c.chunk.ensures.err
+
+pub returns-clause-stands : goal.returns-clause-stands
+returns-clause-stands c =
+    on_map c.chunk.result _ _ (λ steps. goes_on _ _ _ _ _ _ tt (λ h e. cc e) c.self.view_is c.requires steps) c.chunk.ensures.ok
+
+pub returns-clause-err : goal.returns-clause-err
+returns-clause-err c = same_state c.chunk.result _ _ _ _ c.self.view_is c.chunk.ensures.err

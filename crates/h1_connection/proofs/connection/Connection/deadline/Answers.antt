@@ -1,0 +1,13 @@
+use Rattle.std.proofs.Common.{ℕ, Option, ◌∙◌, sym, ap, subst}
+use Rattle.h1_model.specs.Deadline.{IsDeadline}
+use Rattle.h1_machine.specs.Deadline.{deadline_by}
+use Rattle.h1_connection.specs.Meaning.{setting_of}
+use Rattle.h1_connection.specs.State.{State}
+use Rattle.h1_connection.proofs.DeadlineLemmas.{deadline_traced}
+use Rattle.h1_connection.proofs.connection.Connection.deadline.Goals as goal
+
+pub returns-clause-traced : goal.returns-clause-traced
+returns-clause-traced c = λ trace stands.
+    subst (λ (o : Option ℕ). IsDeadline (setting_of c.args.self.now.settings) trace o)
+    (sym (c.deadline.ensures ∙ ap (λ (s : State). deadline_by (setting_of s.settings) s.kept) c.self.view_is))
+    (deadline_traced c.args.self.now trace stands)

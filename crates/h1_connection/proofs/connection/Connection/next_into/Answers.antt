@@ -1,0 +1,25 @@
+use Rattle.std.proofs.Common.{subst}
+use Rattle.std.specs.Prelude.{IfOk, OnErr}
+use Rattle.h1_connection.specs.State.{State}
+use Rattle.h1_connection.specs.Heads.{with_head, KeepsItem, LosesAtMostHeaders}
+use Rattle.h1_connection.proofs.ResultLemmas.{ok_map}
+use Rattle.h1_connection.proofs.GoesOnLemmas.{still_sound, same_state, head_goes_on}
+use Rattle.h1_connection.proofs.connection.Connection.next_into.Goals as goal
+
+pub invariant_of-self : goal.invariant_of-self
+invariant_of-self c = still_sound c.next_into.result _ _ _ c.self.invariant c.next_into.ensures.sound c.next_into.ensures.err
+
+pub returns-clause-stands : goal.returns-clause-stands
+returns-clause-stands c =
+    ok_map c.next_into.result _ _ (λ kind nexted. head_goes_on _ _ _ _ (with_head c.next_into.new.item kind) c.self.view_is c.requires nexted) c.next_into.ensures.ok
+
+pub returns-clause-err : goal.returns-clause-err
+returns-clause-err c = same_state c.next_into.result _ _ _ _ c.self.view_is c.next_into.ensures.err
+
+pub returns-clause-item : goal.returns-clause-item
+returns-clause-item c =
+    subst (λ (s : State). IfOk c.next_into.result (λ kind. KeepsItem s.kept.is_coming kind c.args.item.now c.next_into.new.item)) c.self.view_is c.next_into.ensures.item
+
+pub returns-clause-kept_item : goal.returns-clause-kept_item
+returns-clause-kept_item c =
+    subst (λ (s : State). OnErr c.next_into.result (LosesAtMostHeaders s.kept.is_coming c.args.item.now c.next_into.new.item)) c.self.view_is c.next_into.ensures.kept_item

@@ -1,0 +1,39 @@
+use Rattle.std.proofs.Common.{ℕ, ◌++◌, ◌∙◌, sym, ap}
+use Rattle.h1_codec.specs.Meaning.{answer_of, size_of, model_type}
+use Rattle.h1_model.specs.Setting.{keeps}
+use Rattle.http_config.specs.declared.keep_alive.KeepAlive.{KeepAlive}
+use Rattle.h1_connection.specs.Meaning.{setting_of, keep_alive_of}
+use Rattle.h1_connection.proofs.AnswerLemmas.{text_by, no_answer, waiting_unsearched, at_once_steps, complete_sound, later_steps_by, later_sound_by}
+use Rattle.h1_connection.proofs.connection.parts.Parts.answer.Goals as goal
+
+pub complete-requires : goal.complete-requires
+complete-requires c = waiting_unsearched c.args.config.now c.args.self.now _ (sym c.asked.ensures ∙ c.in-Some.is) c.requires.waits c.requires.sound
+
+pub returns-in_default-clause-ok : goal.returns-in_default-clause-ok
+returns-in_default-clause-ok c = no_answer c.args.config.now c.args.self.now _ _ (sym c.asked.ensures ∙ c.in_default.is) c.requires.sound
+
+pub returns-then-is_at_once-clause-ok : goal.returns-then-is_at_once-clause-ok
+returns-then-is_at_once-clause-ok c =
+    at_once_steps c.args.config.now c.args.self.now _ c.in-Some.asked (answer_of c.args.head.now) (size_of c.args.size) c.type_of-connection.result _
+    (sym c.asked.ensures ∙ c.in-Some.is) (sym c.is_at_once.ensures ∙ c.if-is_at_once.true)
+    (c.type_of-connection.ensures (setting_of c.args.config.now) (sym (c.keeps.ensures ∙ ap (λ (k : KeepAlive). keeps (keep_alive_of k)) c.keep_alive.ensures.value)))
+    (c.in_ok-put_head.ensures.ok
+    ∙ ap (λ (m : ℕ). c.args.self.now.output ++ text_by c.in-Some.asked (answer_of c.args.head.now) (size_of c.args.size) (model_type c.type_of-connection.result) m) c.now.ensures)
+    c.complete.ensures
+
+pub returns-then-is_at_once-clause-sound : goal.returns-then-is_at_once-clause-sound
+returns-then-is_at_once-clause-sound c = complete_sound c.args.config.now (record c.args.self.now { output = c.put_head.new.self }) _ _ c.requires.sound.moment c.complete.ensures
+
+pub returns-else-is_at_once-clause-ok : goal.returns-else-is_at_once-clause-ok
+returns-else-is_at_once-clause-ok c =
+    later_steps_by c.args.config.now c.args.self.now _ c.in-Some.asked (answer_of c.args.head.now) (size_of c.args.size) _ _
+    (sym c.asked.ensures ∙ c.in-Some.is) c.requires.waits (sym c.is_at_once.ensures ∙ c.if-is_at_once.false)
+    (c.type_of-connection.ensures (setting_of c.args.config.now) (sym (c.keeps.ensures ∙ ap (λ (k : KeepAlive). keeps (keep_alive_of k)) c.keep_alive.ensures.value)))
+    c.shape_of-shape.ensures c.stated.ensures
+    (c.in_ok-put_head.ensures.ok
+    ∙ ap (λ (m : ℕ). c.args.self.now.output ++ text_by c.in-Some.asked (answer_of c.args.head.now) (size_of c.args.size) (model_type c.type_of-connection.result) m) c.now.ensures)
+    c.requires.sound c.set_reply.ensures
+
+pub returns-else-is_at_once-clause-sound : goal.returns-else-is_at_once-clause-sound
+returns-else-is_at_once-clause-sound c =
+    later_sound_by c.args.config.now c.args.self.now _ c.in-Some.asked _ _ (sym c.asked.ensures ∙ c.in-Some.is) c.requires.waits c.requires.sound c.set_reply.ensures

@@ -1,0 +1,29 @@
+use Rattle.std.proofs.Common.{◌∙◌, sym}
+use Rattle.std.proofs.lemmas.Bool.{false≢true}
+use Rattle.h1_connection.proofs.AnswerLemmas.{unsent_end, unasked, no_end, sending_unsearched, ended_steps, ended_sound, short_parts_piece}
+use Rattle.h1_connection.proofs.connection.parts.Parts.end_answer.Goals as goal
+
+pub complete-requires : goal.complete-requires
+complete-requires c =
+    short_parts_piece c.args.self.now _ _ c.note_short.ensures.parts
+    (sending_unsearched c.args.config.now c.args.self.now _ _ (sym c.asked.ensures ∙ c.in-Some.is) (sym c.sending.ensures ∙ c.in-Some-sending.is) c.requires)
+
+pub returns-in_default-clause-ok : goal.returns-in_default-clause-ok
+returns-in_default-clause-ok c = no_end c.args.config.now c.args.self.now (unasked _ (sym c.asked.ensures ∙ c.in_default.is)) c.requires
+
+pub returns-in_default-sending-clause-ok : goal.returns-in_default-sending-clause-ok
+returns-in_default-sending-clause-ok c = no_end c.args.config.now c.args.self.now (sym c.sending.ensures ∙ c.in_default-sending.is) c.requires
+
+pub returns-clause-ok : goal.returns-clause-ok
+returns-clause-ok c =
+    ended_steps c.args.config.now c.args.self.now _ _ c.in-Some.asked c.in-Some-sending.sending _ (sym c.asked.ensures ∙ c.in-Some.is) (sym c.sending.ensures ∙ c.in-Some-sending.is)
+    c.in_ok-put_end.ensures.ok c.note_short.ensures.failed c.note_short.ensures.parts c.complete.ensures
+
+pub returns-clause-sound : goal.returns-clause-sound
+returns-clause-sound c =
+    ended_sound c.args.config.now c.args.self.now _ _ c.in-Some-sending.sending _ c.requires c.note_short.ensures.parts c.complete.ensures
+
+pub returns-in_err-put_end-clause-no_memory_needed : goal.returns-in_err-put_end-clause-no_memory_needed
+returns-in_err-put_end-clause-no_memory_needed c = λ none.
+    absurd (false≢true (c.in_err-put_end.ensures.no_memory_needed
+    (unsent_end c.args.self.now c.in-Some.asked c.in-Some-sending.sending (sym c.asked.ensures ∙ c.in-Some.is) (sym c.sending.ensures ∙ c.in-Some-sending.is) none)))

@@ -1,0 +1,13 @@
+use Rattle.std.proofs.Common.{refl, ◌∙◌, ap}
+use Rattle.h1_model.specs.Request as model
+use Rattle.h1_machine.specs.Kept.{rest_in, whole_rest}
+use Rattle.h1_connection.proofs.HeadLemmas.{handed_kept, handed_sound}
+use Rattle.h1_connection.proofs.connection.parts.Parts.hand_out.Goals as goal
+
+pub returns-clause-handed : goal.returns-clause-handed
+returns-clause-handed c = λ piece h start end reading says at.
+    handed_kept _ c.args.self.now _ _ h _ _ start end c.requires.runs at c.pass_head.ensures (c.request_of.ensures piece h reading says)
+    (c.whole_rest-rest.ensures ∙ ap (λ (b : model.BodyKind). rest_in c.args.self.now.has_ended c.pass_head.new.self.unread (whole_rest b)) says.body) refl
+
+pub returns-clause-sound : goal.returns-clause-sound
+returns-clause-sound c = handed_sound c.args.config.now c.args.self.now _ _ _ c.requires.sound c.requires.runs c.pass_head.ensures refl c.whole_rest-rest.ensures

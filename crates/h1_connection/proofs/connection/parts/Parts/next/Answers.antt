@@ -1,0 +1,20 @@
+use Rattle.std.proofs.Common.{subst}
+use Rattle.h1_connection.specs.Heads.{with_head, IsNexted}
+use Rattle.h1_connection.specs.declared.connection.heads.NextKind.{NextKind}
+use Rattle.h1_connection.proofs.connection.parts.Parts.next.Goals as goal
+
+pub returns-in-Head-clause-ok : goal.returns-in-Head-clause-ok
+returns-in-Head-clause-ok c = λ held.
+    subst (λ (k : NextKind). IsNexted c.args.config.now c.args.self.now (with_head c.next_into.new.item k) c.next_into.new.self) c.in-Head.is (c.in_ok-next_into.ensures.ok held)
+
+pub returns-in-Fault-clause-ok : goal.returns-in-Fault-clause-ok
+returns-in-Fault-clause-ok c = λ held.
+    subst (λ (k : NextKind). IsNexted c.args.config.now c.args.self.now (with_head c.next_into.new.item k) c.next_into.new.self) c.in-Fault.is (c.in_ok-next_into.ensures.ok held)
+
+pub returns-in-Pending-clause-ok : goal.returns-in-Pending-clause-ok
+returns-in-Pending-clause-ok c = λ held.
+    subst (λ (k : NextKind). IsNexted c.args.config.now c.args.self.now (with_head c.next_into.new.item k) c.next_into.new.self) c.in-Pending.is (c.in_ok-next_into.ensures.ok held)
+
+pub returns-in-Closed-clause-ok : goal.returns-in-Closed-clause-ok
+returns-in-Closed-clause-ok c = λ held.
+    subst (λ (k : NextKind). IsNexted c.args.config.now c.args.self.now (with_head c.next_into.new.item k) c.next_into.new.self) c.in-Closed.is (c.in_ok-next_into.ensures.ok held)

@@ -1,0 +1,8 @@
+use Rattle.h1_connection.proofs.StepLemmas.{pass_some, pass_none}
+use Rattle.h1_connection.proofs.connection.parts.Parts.pass_body.Goals as goal
+
+pub returns-in-Some-clause-kept : goal.returns-in-Some-clause-kept
+returns-in-Some-clause-kept c = pass_some c.args.self.now _ _ _ c.in-Some.is c.pass.ensures.exchange c.pass.ensures.input
+
+pub returns-in_default-clause-kept : goal.returns-in_default-clause-kept
+returns-in_default-clause-kept c = pass_none c.args.self.now c.in_default.is

@@ -1,0 +1,23 @@
+use Rattle.std.proofs.Common.{ℕ, ◌-◌, ◌≤◌, length, subst}
+use Rattle.h1_connection.proofs.EventLemmas.{read_may, read_sound, came_steps}
+use Rattle.h1_connection.proofs.StepLemmas.{passed_may}
+use Rattle.h1_connection.proofs.connection.parts.Parts.read_from.Goals as goal
+
+pub settle-requires : goal.settle-requires
+settle-requires g c =
+    passed_may _ _ c.pass_body.ensures.kept c.pass_body.ensures.input (read_may c.args.config.now c.args.self.now c.read_from.new.self c.requires c.in_ok-came.ensures.searched)
+
+pub returns-clause-ok : goal.returns-clause-ok
+returns-clause-ok g c =
+    let came = c.in_ok-came.ensures.read in
+    let room =
+    subst (λ (h : ℕ). c.in_ok-came.came ≤ h - length c.args.self.now.input.unread) c.h1_hold_size.ensures.value c.in_ok-came.ensures.room in (
+      came.0,
+      came.1,
+      came.3,
+      came_steps c.args.config.now c.args.self.now _ _ c.read_from.new.self came.0 c.in_ok-came.came c.if-came-eq0.false came.1 room came.2 c.pass_body.ensures.kept
+          c.settle.ensures,
+    )
+
+pub returns-clause-sound : goal.returns-clause-sound
+returns-clause-sound g c = read_sound c.args.config.now c.args.self.now _ _ c.read_from.new.self c.requires c.pass_body.ensures.kept c.settle.ensures

@@ -1,0 +1,13 @@
+use Rattle.std.proofs.Common.{◌∙◌, ap, not}
+use Rattle.h1_connection.proofs.EventLemmas.{none_told, told_steps, told_sound_by}
+use Rattle.h1_connection.proofs.connection.parts.Parts.send_continue.Goals as goal
+
+pub returns-then-is_none-clause-ok : goal.returns-then-is_none-clause-ok
+returns-then-is_none-clause-ok c = none_told c.args.config.now c.args.self.now c.requires (c.is_none.ensures ∙ ap not c.if-is_none.true)
+
+pub returns-clause-ok : goal.returns-clause-ok
+returns-clause-ok c =
+    told_steps c.args.config.now c.args.self.now _ _ c.requires (c.is_none.ensures ∙ ap not c.if-is_none.false) c.in_ok-put_interim.ensures.ok c.set_had_continue.ensures
+
+pub returns-clause-sound : goal.returns-clause-sound
+returns-clause-sound c = told_sound_by c.args.config.now c.args.self.now _ _ c.requires c.set_had_continue.ensures

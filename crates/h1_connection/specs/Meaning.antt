@@ -1,0 +1,96 @@
+-- What a connection's types mean in the model.
+use Rattle.std.specs.Prelude.{◌≡◌, List}
+use Rattle.http_config.specs.Config.{Settings}
+use Rattle.http_config.specs.declared.keep_alive.KeepAlive.{KeepAlive as Policy}
+use Rattle.http_config.specs.declared.keep_alive.KeepAlive.TheVariants.{Timeout, Os, Disabled}
+use Rattle.h1_model.specs.Request as model
+use Rattle.h1_model.specs.Setting.{Setting, KeepAlive, timeout, by_system, disabled}
+use Rattle.h1_model.specs.End as ends
+use Rattle.h1_model.specs.Event as on
+use Rattle.h1_codec.specs.Meaning.{size_of, answer_of}
+use Rattle.h1_decode.specs.HeadItem.{SaysHead}
+use Rattle.h1_decode.specs.HeadMap.{header_map}
+use Rattle.h1_connection.specs.declared.event.End.{End}
+use Rattle.h1_connection.specs.declared.event.End.TheVariants.{Malformed, TooLarge, SlowRequestTimeout, KeepAliveExpired, Body, BodyShort, Asked, BrokenBody, UnreadBody, Drained, HalfClosed, InputEnded}
+use Rattle.h1_connection.specs.declared.event.HeadFault.{HeadFault}
+use Rattle.h1_connection.specs.declared.event.HeadFault.TheVariants as faults
+use Rattle.h1_connection.specs.declared.event.PayloadError.{PayloadError}
+use Rattle.h1_connection.specs.declared.event.PayloadError.TheVariants.{Incomplete, EncodingCorrupted}
+use Rattle.h1_connection.specs.declared.event.Event.{Event}
+use Rattle.h1_connection.specs.declared.event.Event.TheVariants.{Read, Eof, Next, Pull, DropBody, Continue, Answer, Chunk, BodyEnd, BodyError, Write, Tick, Drain}
+use Rattle.h1_connection.specs.declared.event.Outcome.{Outcome}
+use Rattle.h1_connection.specs.declared.event.Outcome.TheVariants as out
+
+-- ---- the setting
+
+abbrev pub keep_alive_of : Policy → KeepAlive
+keep_alive_of (Timeout milliseconds) = timeout milliseconds
+keep_alive_of Os = by_system
+keep_alive_of Disabled = disabled
+
+abbrev pub setting_of : Settings → Setting
+setting_of settings =
+    record {
+      keep_alive = keep_alive_of settings.keep_alive;
+      request_timeout = settings.client_request_timeout;
+      disconnect_timeout = settings.client_disconnect_timeout;
+      allows_half_closed = settings.h1_allow_half_closed;
+      write_buffer = settings.h1_write_buffer_size;
+      hold_size = settings.h1_hold_size;
+    }
+
+-- ---- events and outcomes
+
+abbrev pub event_of : Event → on.Event
+event_of (Read bytes) = on.read bytes
+event_of Eof = on.eof
+event_of Next = on.next
+event_of Pull = on.pull
+event_of DropBody = on.drop_body
+event_of Continue = on.send_continue
+event_of (Answer head size) = on.answer (answer_of head) (size_of size)
+event_of (Chunk bytes) = on.chunk bytes
+event_of BodyEnd = on.body_end
+event_of BodyError = on.body_error
+event_of (Write limit) = on.write limit
+event_of (Tick moment) = on.tick moment
+event_of Drain = on.drain
+
+abbrev pub end_of : End → ends.End
+end_of Malformed = ends.malformed
+end_of TooLarge = ends.too_large
+end_of SlowRequestTimeout = ends.slow_request
+end_of KeepAliveExpired = ends.keep_alive_expired
+end_of Body = ends.body
+end_of BodyShort = ends.body_short
+end_of Asked = ends.asked
+end_of BrokenBody = ends.broken_body
+end_of UnreadBody = ends.unread_body
+end_of Drained = ends.drained
+end_of HalfClosed = ends.half_closed
+end_of InputEnded = ends.input_ended
+
+abbrev pub fault_of : HeadFault → model.Fault
+fault_of faults.Malformed = model.malformed
+fault_of faults.TooLarge = model.too_large
+
+abbrev pub body_fault_of : PayloadError → on.BodyFault
+body_fault_of Incomplete = on.incomplete
+body_fault_of EncodingCorrupted = on.corrupted
+
+-- The outcome says what the model's does. Of a head and of trailers this is a relation, since a map keeps its lines
+-- name by name.
+abbrev pub SaysOutcome : Outcome → on.Outcome → Type 0
+SaysOutcome (out.Took count) outcome = outcome ≡ on.took count
+SaysOutcome (out.Head item) outcome = (head : model.Head) × SaysHead item head × (outcome ≡ on.head head)
+SaysOutcome (out.Bytes bytes) outcome = outcome ≡ on.bytes bytes
+SaysOutcome (out.Trailers map) outcome = (lines : List model.Header) × (map ≡ header_map lines) × (outcome ≡ on.trailers lines)
+SaysOutcome out.BodyEnd outcome = outcome ≡ on.body_ended
+SaysOutcome out.Pending outcome = outcome ≡ on.pending
+SaysOutcome (out.Closed end) outcome = outcome ≡ on.closed (end_of end)
+SaysOutcome (out.Fault fault) outcome = outcome ≡ on.fault (fault_of fault)
+SaysOutcome (out.Broken error) outcome = outcome ≡ on.broken_by (body_fault_of error)
+SaysOutcome (out.Gave bytes) outcome = outcome ≡ on.gave bytes
+SaysOutcome (out.Expired end) outcome = outcome ≡ on.expired (end_of end)
+SaysOutcome out.Abandoned outcome = outcome ≡ on.abandoned
+SaysOutcome out.Done outcome = outcome ≡ on.done

@@ -1,0 +1,64 @@
+-- A connection as its contracts see it: its settings, and what the machine keeps.
+use Rattle.std.specs.Prelude.{◌≡◌, ℕ, List, [], ◌∷◌, length, take, IsTrue, ⊤}
+use Rattle.http_config.specs.Config.{Settings}
+use Rattle.h1_model.specs.Event as on
+use Rattle.h1_model.specs.Sums as sums
+use Rattle.h1_model.specs.Trace.{IsOutcome}
+use Rattle.h1_machine.specs.Kept.{Kept, fresh}
+use Rattle.h1_machine.specs.Local.{allowed_by}
+use Rattle.h1_machine.specs.StandsFor.{StandsFor}
+use Rattle.h1_connection.specs.Meaning.{setting_of}
+use Rattle.h1_connection.specs.Heads.{NeedsNoMemory}
+use Rattle.h1_connection.specs.Pulls.{IsLightPull}
+use Rattle.h1_connection.specs.Ticks.{IsQuietTick}
+use Rattle.h1_connection.specs.Unsent.{SendsNoPiece, SendsNoEnd}
+use Rattle.h1_connection.specs.Upgrade.{Upgrade, with_upgrade}
+
+pub record State : Type 0 where
+  pub settings : Settings
+  pub kept : Kept
+
+-- a connection to which nothing came
+abbrev pub fresh_state : Settings → State
+fresh_state settings = record { settings = settings; kept = fresh }
+
+-- the event is allowed
+abbrev pub IsAllowed : State → on.Event → Type 0
+IsAllowed state event = IsTrue (allowed_by (setting_of state.settings) state.kept event)
+
+-- the connection stands for the trace, with what an upgrade would need of the last request
+abbrev pub Stands : State → List sums.Step → Type 0
+Stands state trace = (u : Upgrade) × StandsFor (setting_of state.settings) (with_upgrade u state.kept) trace
+
+-- Behind each trace that the connection stands for, the table's outcome is such a one, and the connection stands for
+-- the longer trace.
+abbrev pub GoesOn : State → on.Event → (on.Outcome → Type 0) → State → Type 0
+GoesOn state event Says after =
+    (trace : List sums.Step) → Stands state trace
+    → (out : on.Outcome) × Says out × IsOutcome (setting_of state.settings) trace event out
+    × Stands after (record { event = event; outcome = out } ∷ trace)
+
+-- The event takes no memory: the input's end, a drop, a drain, an answer's body that fails; a next one that closes, or
+-- finds no head and room for more bytes; a pull that tells the end or a fault, or gives nothing; a piece or an end of
+-- which nothing goes out; a write of nothing; a tick but one that answers a head that doesn't come.
+abbrev pub TakesNoMemory : State → on.Event → Type 0
+TakesNoMemory state on.eof = ⊤
+TakesNoMemory state on.drop_body = ⊤
+TakesNoMemory state on.body_error = ⊤
+TakesNoMemory state on.drain = ⊤
+TakesNoMemory state on.next = NeedsNoMemory (setting_of state.settings) state.kept
+TakesNoMemory state on.pull = IsLightPull state.kept
+TakesNoMemory state (on.chunk bytes) = SendsNoPiece state.kept bytes
+TakesNoMemory state on.body_end = SendsNoEnd state.kept
+TakesNoMemory state (on.write limit) = length (take limit state.kept.buffered) ≡ 0
+TakesNoMemory state (on.tick ms) = IsQuietTick (setting_of state.settings) state.kept ms
+TakesNoMemory state event = ⊥
+
+-- the outcome is this one
+abbrev pub Is : on.Outcome → on.Outcome → Type 0
+Is outcome out = out ≡ outcome
+
+-- Bytes that came from a source: they are the event of their read, which took them all. Of none there is no event.
+abbrev pub ReadsIn : State → List ℕ → State → Type 0
+ReadsIn state [] after = after ≡ state
+ReadsIn state (b ∷ bytes) after = GoesOn state (on.read (b ∷ bytes)) (Is (on.took (length (b ∷ bytes)))) after

@@ -1,0 +1,333 @@
+//! One connection: what it keeps between two events, and its answer to each.
+ghost use Rattle.std.specs.Prelude.{◌≡◌, ◌≢◌, ◌<◌, ◌≤◌, ◌↔◌, ℕ, List, [], true, false, length, take, min, option_map, unwrap_or, IsTrue, IfOk, IfErr, IsOk, OnOk, OnErr, IsErrOf};
+ghost use Rattle.std.specs.Io.KnownBytes.{Consumes, Keeps, IsAtEnd};
+ghost use Rattle.http_config.specs.Causes.{Rose};
+ghost use Rattle.h1_codec.specs.Meaning.{answer_of, size_of};
+ghost use Rattle.h1_model.specs.Closing.{closing};
+ghost use Rattle.h1_model.specs.Past.{ParsedStep};
+ghost use Rattle.h1_model.specs.Sums as sums;
+ghost use Rattle.h1_model.specs.Text.{buffered};
+ghost use Rattle.h1_model.specs.Trace as traces;
+ghost use Rattle.h1_model.specs.Event as on;
+ghost use Rattle.h1_machine.specs.Local.{closing_by, allowed_by};
+ghost use Rattle.h1_payload.specs.Rests.{SaysPulled};
+ghost use Rattle.h1_connection.specs.Meaning.{setting_of, event_of, end_of};
+ghost use Rattle.h1_connection.specs.Heads.{SaysNext, NeedsNoMemory, with_head, KeepsItem, LosesAtMostHeaders};
+ghost use Rattle.h1_connection.specs.Pulls.{IsLightPull};
+ghost use Rattle.h1_connection.specs.Unsent.{SendsNoPiece, SendsNoEnd};
+ghost use Rattle.h1_connection.specs.Ticks.{expiry_of, IsQuietTick};
+ghost use Rattle.h1_connection.specs.State.{fresh_state, IsAllowed, Stands, GoesOn, ReadsIn, Is};
+
+use crate::connection::clock::Clock;
+pub use crate::connection::heads::{NextHead, NextKind};
+use crate::connection::input::Input;
+use crate::connection::output::Output;
+use crate::connection::parts::Parts;
+pub use crate::connection::ticks::Expiry;
+use crate::{End, Event, ReadFromError};
+use bytes::Bytes;
+use h1_decode::{HeadItem, HeadRoom};
+use h1_payload::Pulled;
+use http_framing::BodySize;
+use http_types::{NoMemory, ResponseHead, ServiceConfig, Source};
+use std::alloc::Global;
+use std::marker::Model;
+
+mod allowed;
+mod answers;
+mod bodies;
+mod clock;
+mod closing;
+mod deadlines;
+mod exchange;
+mod filling;
+mod heads;
+mod input;
+mod output;
+mod parts;
+mod questions;
+mod request;
+mod show;
+mod steps;
+mod ticks;
+
+/// The most bytes that one read from a source asks for. The memory of what is read is taken in blocks of so many bytes.
+pub const READ_SIZE: usize = 8192;
+
+/// The server's side of one HTTP/1 connection (RFC 7230), which reads nothing and writes nothing itself.
+///
+/// Each event has a call of its own, which may be made where `allowed` says so. What it answers is what the tables
+/// over all that happened say. After an error, which is want of memory but for a source's, all is as before.
+///
+/// A clause sees it as its settings and what the machine keeps.
+#[derive(Drop)]
+pub struct Connection {
+    alloc: Global,
+    config: ServiceConfig,
+    parts: Parts,
+}
+
+impl Model for Connection {
+    ghost use Rattle.h1_connection.specs.State.{State};
+    ghost use Rattle.h1_connection.specs.Parts.{kept_of, IsSound};
+
+    ghost Value = { State };
+
+    ghost view = { λ c. record { settings = c.config; kept = kept_of c.parts } };
+
+    ghost invariant = { λ c. IsSound c.config c.parts };
+}
+
+impl Connection {
+    /// A connection to which nothing has come yet. It takes no memory before the first bytes are read.
+    pub fn new(alloc: Global, config: ServiceConfig) -> Connection
+        ensures { result ≡ fresh_state config }
+    {
+        Connection {
+            alloc,
+            config,
+            parts: Parts::new(alloc),
+        }
+    }
+
+    /// Whether the event may come next.
+    pub fn allowed(&self, event: &Event) -> bool
+        ensures value { result ≡ allowed_by (setting_of self.now.settings) self.now.kept (event_of event.now) }
+        ensures traced { (trace : List sums.Step) → Stands self.now trace
+            → IsTrue result ↔ traces.IsAllowed (setting_of self.now.settings) trace (event_of event.now) }
+    {
+        self.parts.allowed(&self.config, event)
+    }
+
+    /// Why the connection is to end, where it is: the first reason that holds.
+    pub fn closing(&self) -> Option<End>
+        ensures value { option_map end_of result ≡ closing_by (setting_of self.now.settings) self.now.kept }
+        ensures traced { (trace : List sums.Step) (past : List ParsedStep) → Stands self.now trace
+            → traces.IsPastOf (setting_of self.now.settings) trace past → option_map end_of result ≡ closing (setting_of self.now.settings) past }
+    {
+        self.parts.closing(&self.config)
+    }
+
+    /// How many bytes wait to be written to the peer.
+    pub fn buffered(&self) -> usize
+        ensures value { result ≡ length self.now.kept.buffered }
+        ensures traced { (trace : List sums.Step) → Stands self.now trace → result ≡ length (buffered (setting_of self.now.settings) trace) }
+    {
+        self.parts.output.len()
+    }
+
+    /// How many bytes of the input are held: those that were taken and not passed.
+    pub fn held(&self) -> usize
+        ensures value { result ≡ length self.now.kept.unread }
+        ensures limit { (trace : List sums.Step) → Stands self.now trace → result ≤ self.now.settings.h1_hold_size }
+    {
+        self.parts.input.len()
+    }
+
+    /// Takes bytes that were read from the peer, from the first on, and says how many there was room for.
+    pub fn read(&mut self, bytes: &[u8]) -> Result<usize, NoMemory>
+        requires { IsAllowed self.old (on.read bytes.now) }
+        ensures stands { IfOk result (λ count. GoesOn self.old (on.read bytes.now) (Is (on.took count)) self.new) }
+        ensures settings { self.new.settings ≡ self.old.settings }
+        ensures err { OnErr result (self.new ≡ self.old) }
+    {
+        self.parts.read(&self.config, bytes)
+    }
+
+    /// Reads bytes from the source, straight into the memory where they are held, and says how many: the read of exactly
+    /// those bytes, of which all are taken. It asks once, for at most `READ_SIZE` bytes, and for no fewer than 1024 where
+    /// as many may be held. 0 says that the source has ended, and changes nothing: `eof` tells it to the connection.
+    ///
+    /// `ReadFromError::Full` comes where as many bytes are held as may be, `Failed` where the source failed, and else
+    /// `NoMemory`. The source was asked where it failed alone.
+    pub fn read_from<S: Source>(&mut self, source: &mut S) -> Result<usize, ReadFromError>
+        requires { IsAllowed self.old (on.read []) }
+        ensures stands { IfOk result (λ count. (bytes : List ℕ) × (length bytes ≡ count) × Consumes (S.left source.old) (S.left source.new) bytes
+            × ReadsIn self.old bytes self.new) }
+        ensures settings { self.new.settings ≡ self.old.settings }
+        ensures bound { IfOk result (λ count. count ≤ READ_SIZE) }
+        ensures end { IfOk result (λ count. count ≡ 0 → (self.new ≡ self.old) × IsAtEnd (S.left source.new)) }
+        ensures full { IsErrOf result ReadFromError.Full ↔ self.old.settings.h1_hold_size ≤ length self.old.kept.unread }
+        ensures failed { IsErrOf result ReadFromError.Failed → Rose (S.faults source.old) (S.faults source.new) }
+        ensures left { IsErrOf result ReadFromError.Failed → Keeps (S.left source.old) (S.left source.new) }
+        ensures unasked { IfErr result (λ e. e ≢ ReadFromError.Failed → source.new ≡ source.old) }
+        ensures faults { S.faults source.old ≤ S.faults source.new }
+        ensures err { OnErr result (self.new ≡ self.old) }
+    {
+        self.parts.read_from(&self.config, source)
+    }
+
+    /// The peer sends no more bytes. It takes no memory.
+    pub fn eof(&mut self)
+        requires { IsAllowed self.old on.eof }
+        ensures stands { GoesOn self.old on.eof (Is on.done) self.new }
+        ensures settings { self.new.settings ≡ self.old.settings }
+    {
+        self.parts.eof(&self.config)
+    }
+
+    /// Hands out the next request's head, or that the connection has ended. It takes no memory where it closes, and
+    /// where no head is there and room for more bytes.
+    pub fn next(&mut self) -> Result<NextHead, NoMemory>
+        requires { IsAllowed self.old on.next }
+        ensures stands { IfOk result (λ next. GoesOn self.old on.next (SaysNext next) self.new) }
+        ensures settings { self.new.settings ≡ self.old.settings }
+        ensures no_memory_needed { NeedsNoMemory (setting_of self.old.settings) self.old.kept → IsOk result }
+        ensures err { OnErr result (self.new ≡ self.old) }
+    {
+        self.parts.next(self.alloc, &self.config)
+    }
+
+    /// The same, with a head that is written over `item`, whose map keeps its memory, and with room that the caller
+    /// keeps from head to head. Where no head comes, `item` is what it was; but where a head was found and is none, it
+    /// has lost its headers, and after want of memory it may have.
+    pub fn next_into(
+        &mut self,
+        item: &mut HeadItem,
+        room: &mut HeadRoom,
+    ) -> Result<NextKind, NoMemory>
+        requires { IsAllowed self.old on.next }
+        ensures stands { IfOk result (λ kind. GoesOn self.old on.next (SaysNext (with_head item.new kind)) self.new) }
+        ensures settings { self.new.settings ≡ self.old.settings }
+        ensures item { IfOk result (λ kind. KeepsItem self.old.kept.is_coming kind item.old item.new) }
+        ensures no_memory_needed { NeedsNoMemory (setting_of self.old.settings) self.old.kept → IsOk result }
+        ensures err { OnErr result (self.new ≡ self.old) }
+        ensures kept_item { OnErr result (LosesAtMostHeaders self.old.kept.is_coming item.old item.new) }
+    {
+        self.parts.next_into(self.alloc, &self.config, item, room)
+    }
+
+    /// Takes what comes next of the open request's body: a piece that shares the memory of what was read, or its
+    /// trailers, or its end. It takes no memory where it tells the end or a fault, or where nothing is there and no
+    /// trailer has begun.
+    pub fn pull(&mut self) -> Result<Pulled, NoMemory>
+        requires { IsAllowed self.old on.pull }
+        ensures stands { IfOk result (λ answer. GoesOn self.old on.pull (SaysPulled answer) self.new) }
+        ensures settings { self.new.settings ≡ self.old.settings }
+        ensures no_memory_needed { IsLightPull self.old.kept → IsOk result }
+        ensures err { OnErr result (self.new ≡ self.old) }
+    {
+        self.parts.pull(&self.config)
+    }
+
+    /// The rest of the open request's body isn't wanted. It takes no memory.
+    pub fn drop_body(&mut self)
+        requires { IsAllowed self.old on.drop_body }
+        ensures stands { GoesOn self.old on.drop_body (Is on.done) self.new }
+        ensures settings { self.new.settings ≡ self.old.settings }
+    {
+        self.parts.drop_body(&self.config)
+    }
+
+    /// Tells the client of the open request to go on, which waits for leave to send its body (RFC 7231, section 5.1.1).
+    pub fn send_continue(&mut self) -> Result<(), NoMemory>
+        requires { IsAllowed self.old on.send_continue }
+        ensures stands { OnOk result (GoesOn self.old on.send_continue (Is on.done) self.new) }
+        ensures settings { self.new.settings ≡ self.old.settings }
+        ensures err { OnErr result (self.new ≡ self.old) }
+    {
+        self.parts.send_continue(&self.config)
+    }
+
+    /// Answers the open request with this head, and with a body of this size.
+    pub fn answer(&mut self, head: &ResponseHead, size: BodySize) -> Result<(), NoMemory>
+        requires { IsAllowed self.old (on.answer (answer_of head.now) (size_of size)) }
+        ensures stands { OnOk result (GoesOn self.old (on.answer (answer_of head.now) (size_of size)) (Is on.done) self.new) }
+        ensures settings { self.new.settings ≡ self.old.settings }
+        ensures err { OnErr result (self.new ≡ self.old) }
+    {
+        self.parts.answer(&self.config, head, size)
+    }
+
+    /// The next bytes of the answer's body. Where none of them goes out, it takes no memory.
+    pub fn chunk(&mut self, bytes: &[u8]) -> Result<(), NoMemory>
+        requires { IsAllowed self.old (on.chunk bytes.now) }
+        ensures stands { OnOk result (GoesOn self.old (on.chunk bytes.now) (Is on.done) self.new) }
+        ensures settings { self.new.settings ≡ self.old.settings }
+        ensures no_memory_needed { SendsNoPiece self.old.kept bytes.now → IsOk result }
+        ensures err { OnErr result (self.new ≡ self.old) }
+    {
+        self.parts.chunk(&self.config, bytes)
+    }
+
+    /// The next bytes of the answer's body, in memory that may be shared. They are still copied, as `chunk` copies them.
+    pub fn chunk_bytes(&mut self, bytes: Bytes) -> Result<(), NoMemory>
+        requires { IsAllowed self.old (on.chunk bytes) }
+        ensures stands { OnOk result (GoesOn self.old (on.chunk bytes) (Is on.done) self.new) }
+        ensures settings { self.new.settings ≡ self.old.settings }
+        ensures no_memory_needed { SendsNoPiece self.old.kept bytes → IsOk result }
+        ensures err { OnErr result (self.new ≡ self.old) }
+    {
+        self.chunk(bytes.as_slice())
+    }
+
+    /// The answer's body is whole. Where its end isn't written, it takes no memory.
+    pub fn end_answer(&mut self) -> Result<(), NoMemory>
+        requires { IsAllowed self.old on.body_end }
+        ensures stands { OnOk result (GoesOn self.old on.body_end (Is on.done) self.new) }
+        ensures settings { self.new.settings ≡ self.old.settings }
+        ensures no_memory_needed { SendsNoEnd self.old.kept → IsOk result }
+        ensures err { OnErr result (self.new ≡ self.old) }
+    {
+        self.parts.end_answer(&self.config)
+    }
+
+    /// The answer's body can't be completed: the connection closes. It takes no memory.
+    pub fn fail_answer(&mut self)
+        requires { IsAllowed self.old on.body_error }
+        ensures stands { GoesOn self.old on.body_error (Is on.done) self.new }
+        ensures settings { self.new.settings ≡ self.old.settings }
+    {
+        self.parts.fail_answer(&self.config)
+    }
+
+    /// The bytes that wait to be written to the peer, oldest first.
+    pub fn front(&self) -> &[u8]
+        ensures value { result.now ≡ self.now.kept.buffered }
+        ensures traced { (trace : List sums.Step) → Stands self.now trace → result.now ≡ buffered (setting_of self.now.settings) trace }
+    {
+        self.parts.output.as_slice()
+    }
+
+    /// The first bytes of `front` were written: the write of so many, whose bytes nobody asks for. It takes no memory.
+    pub fn advance(&mut self, count: usize)
+        requires allowed { IsAllowed self.old (on.write count) }
+        requires fits { count ≤ length self.old.kept.buffered }
+        ensures stands { GoesOn self.old (on.write count) (Is (on.gave (take count self.old.kept.buffered))) self.new }
+        ensures settings { self.new.settings ≡ self.old.settings }
+    {
+        self.parts.advance(&self.config, count)
+    }
+
+    /// Gives the first bytes that wait to be written, at most so many. Where there is none it takes no memory.
+    pub fn write(&mut self, limit: usize) -> Result<Bytes, NoMemory>
+        requires { IsAllowed self.old (on.write limit) }
+        ensures stands { IfOk result (λ bytes. GoesOn self.old (on.write limit) (Is (on.gave bytes)) self.new) }
+        ensures settings { self.new.settings ≡ self.old.settings }
+        ensures no_memory_needed { length (take limit self.old.kept.buffered) ≡ 0 → IsOk result }
+        ensures err { OnErr result (self.new ≡ self.old) }
+    {
+        self.parts.give(&self.config, limit)
+    }
+
+    /// A moment has come, in milliseconds after the start of 1970. Memory is taken only where the first head didn't
+    /// come in time, which is answered.
+    pub fn tick(&mut self, moment: u64) -> Result<Expiry, NoMemory>
+        requires { IsAllowed self.old (on.tick moment) }
+        ensures stands { IfOk result (λ expiry. GoesOn self.old (on.tick moment) (Is (expiry_of expiry)) self.new) }
+        ensures settings { self.new.settings ≡ self.old.settings }
+        ensures no_memory_needed { IsQuietTick (setting_of self.old.settings) self.old.kept moment → IsOk result }
+        ensures err { OnErr result (self.new ≡ self.old) }
+    {
+        self.parts.tick(&self.config, moment)
+    }
+
+    /// The connection is to end once no request is open. It takes no memory.
+    pub fn drain(&mut self)
+        requires { IsAllowed self.old on.drain }
+        ensures stands { GoesOn self.old on.drain (Is on.done) self.new }
+        ensures settings { self.new.settings ≡ self.old.settings }
+    {
+        self.parts.drain(&self.config)
+    }
+}

@@ -1,0 +1,209 @@
+// Which events may come next.
+ghost use Rattle.std.specs.Prelude.{◌≡◌, ◌&&◌, ◌||◌, not, is_some, ℕ, List};
+ghost use Rattle.h1_model.specs.Answer.{AnswerHead, BodySize};
+ghost use Rattle.h1_model.specs.Event as on;
+ghost use Rattle.h1_machine.specs.Kept.{of_exchange, is_frames, is_unanswered, is_answered, is_upgraded};
+ghost use Rattle.h1_machine.specs.Local.{closing_by, allowed_by, has_body_left, waits_for_answer, is_answering, is_moment};
+ghost use Rattle.h1_connection.specs.Meaning.{setting_of, event_of};
+ghost use Rattle.h1_connection.specs.Parts.{kept_of, reply_of, IsNoted};
+
+use crate::Event;
+use crate::connection::exchange::Exchange;
+use crate::connection::parts::Parts;
+use http_types::ServiceConfig;
+
+/// The first millisecond of the year 10000.
+pub const MOMENTS_END: u64 = 253_402_300_800_000;
+
+impl Parts {
+    /// Whether the event may come next.
+    pub fn allowed(&self, config: &ServiceConfig, event: &Event) -> bool
+        requires { IsNoted (setting_of config.now) (kept_of self.now) }
+        ensures { result ≡ allowed_by (setting_of config.now) (kept_of self.now) (event_of event.now) }
+    {
+        match event {
+            Event::Read(_) => self.can_read(config),
+            Event::Eof => self.can_read(config),
+            Event::Next => self.can_next(config),
+            Event::Pull => self.can_pull(config),
+            Event::DropBody => self.can_pull(config),
+            Event::Continue => self.can_continue(config),
+            Event::Answer(_, _) => self.can_answer(config),
+            Event::Chunk(_) => self.can_chunk(config),
+            Event::BodyEnd => self.can_end_answer(config),
+            Event::BodyError => self.can_end_answer(config),
+            Event::Write(_) => self.can_write(config),
+            Event::Tick(moment) => self.can_tick(config, *moment),
+            Event::Drain => self.can_drain(config),
+        }
+    }
+
+    // The connection is neither over nor closes.
+    fn is_running(&self, config: &ServiceConfig) -> bool
+        requires { IsNoted (setting_of config.now) (kept_of self.now) }
+        ensures { result ≡ (not self.now.is_over && not (is_some (closing_by (setting_of config.now) (kept_of self.now)))) }
+    {
+        !self.is_over && self.noted_closing(config).is_none()
+    }
+
+    #[tactic(auto, unfolding(h1_machine::specs::Local::allowed_by))]
+    pub fn can_read(&self, config: &ServiceConfig) -> bool
+        requires { IsNoted (setting_of config.now) (kept_of self.now) }
+        ensures read { (bytes : List ℕ) → result ≡ allowed_by (setting_of config.now) (kept_of self.now) (on.read bytes) }
+        ensures eof { result ≡ allowed_by (setting_of config.now) (kept_of self.now) on.eof }
+    {
+        self.is_running(config) && !self.has_ended
+    }
+
+    #[tactic(auto, unfolding(h1_machine::specs::Local::allowed_by))]
+    pub fn can_next(&self, config: &ServiceConfig) -> bool
+        requires { IsNoted (setting_of config.now) (kept_of self.now) }
+        ensures { result ≡ allowed_by (setting_of config.now) (kept_of self.now) on.next }
+    {
+        let is_open = self.is_open();
+        let closes = self.noted_closing(config).is_some();
+        !self.is_over && (closes || !is_open)
+    }
+
+    #[tactic(auto, unfolding(h1_machine::specs::Local::allowed_by))]
+    pub fn can_pull(&self, config: &ServiceConfig) -> bool
+        requires { IsNoted (setting_of config.now) (kept_of self.now) }
+        ensures pull { result ≡ allowed_by (setting_of config.now) (kept_of self.now) on.pull }
+        ensures drops { result ≡ allowed_by (setting_of config.now) (kept_of self.now) on.drop_body }
+    {
+        let is_left = self.has_body_left();
+        self.is_running(config) && is_left
+    }
+
+    #[tactic(auto, unfolding(h1_machine::specs::Local::allowed_by))]
+    pub fn can_continue(&self, config: &ServiceConfig) -> bool
+        requires { IsNoted (setting_of config.now) (kept_of self.now) }
+        ensures { result ≡ allowed_by (setting_of config.now) (kept_of self.now) on.send_continue }
+    {
+        let waits = self.waits_for_continue();
+        self.is_running(config) && waits
+    }
+
+    #[tactic(auto, unfolding(h1_machine::specs::Local::allowed_by))]
+    pub fn can_answer(&self, config: &ServiceConfig) -> bool
+        requires { IsNoted (setting_of config.now) (kept_of self.now) }
+        ensures { (head : AnswerHead) (size : BodySize) → result ≡ allowed_by (setting_of config.now) (kept_of self.now) (on.answer head size) }
+    {
+        let waits = self.waits_for_answer();
+        self.is_running(config) && waits
+    }
+
+    #[tactic(auto, unfolding(h1_machine::specs::Local::allowed_by))]
+    pub fn can_chunk(&self, config: &ServiceConfig) -> bool
+        requires { IsNoted (setting_of config.now) (kept_of self.now) }
+        ensures { (bytes : List ℕ) → result ≡ allowed_by (setting_of config.now) (kept_of self.now) (on.chunk bytes) }
+    {
+        let has_room = self.output.len() < config.h1_write_buffer_size();
+        let is_answering = self.is_answering();
+        self.is_running(config) && is_answering && has_room
+    }
+
+    #[tactic(auto, unfolding(h1_machine::specs::Local::allowed_by))]
+    pub fn can_end_answer(&self, config: &ServiceConfig) -> bool
+        requires { IsNoted (setting_of config.now) (kept_of self.now) }
+        ensures ends { result ≡ allowed_by (setting_of config.now) (kept_of self.now) on.body_end }
+        ensures fails { result ≡ allowed_by (setting_of config.now) (kept_of self.now) on.body_error }
+    {
+        let is_answering = self.is_answering();
+        self.is_running(config) && is_answering
+    }
+
+    // `config` is named by the clause alone.
+    #[tactic(auto, unfolding(h1_machine::specs::Local::allowed_by))]
+    pub fn can_write(&self, config: &ServiceConfig) -> bool
+        ensures { (limit : ℕ) → result ≡ allowed_by (setting_of config.now) (kept_of self.now) (on.write limit) }
+    {
+        let _ = config;
+        !self.is_over
+    }
+
+    // The same, of a moment, which never goes back.
+    #[tactic(auto, unfolding(h1_machine::specs::Local::allowed_by))]
+    pub fn can_tick(&self, config: &ServiceConfig, moment: u64) -> bool
+        ensures { result ≡ allowed_by (setting_of config.now) (kept_of self.now) (on.tick moment) }
+    {
+        let _ = config;
+        !self.is_over && self.clock.now() <= moment && moment < MOMENTS_END
+    }
+
+    #[tactic(auto, unfolding(h1_machine::specs::Local::allowed_by))]
+    pub fn can_drain(&self, config: &ServiceConfig) -> bool
+        requires { IsNoted (setting_of config.now) (kept_of self.now) }
+        ensures { result ≡ allowed_by (setting_of config.now) (kept_of self.now) on.drain }
+    {
+        self.is_running(config) && !self.is_draining
+    }
+
+    // The open request has a body whose end, fault or drop hasn't come.
+    fn has_body_left(&self) -> bool
+        ensures pull { result ≡ (is_upgraded (kept_of self.now) || has_body_left (kept_of self.now)) }
+        ensures drops { result ≡ (not (is_upgraded (kept_of self.now)) && has_body_left (kept_of self.now)) }
+    {
+        match &self.exchange {
+            Some(exchange) => exchange.has_body_left(),
+            None => false,
+        }
+    }
+
+    // The open request has no answer.
+    fn waits_for_answer(&self) -> bool
+        ensures { result ≡ waits_for_answer (kept_of self.now) }
+    {
+        match &self.exchange {
+            Some(exchange) => exchange.waits_for_answer(),
+            None => false,
+        }
+    }
+
+    // Nor was its client, which waits to be told to go on, told so.
+    fn waits_for_continue(&self) -> bool
+        ensures { result ≡ (waits_for_answer (kept_of self.now) && of_exchange (λ x. x.expects && not x.had_continue) (kept_of self.now)) }
+    {
+        match &self.exchange {
+            Some(exchange) => {
+                let waits = exchange.waits_for_answer();
+                waits && exchange.request.expects && !exchange.had_continue
+            }
+            None => false,
+        }
+    }
+
+    // An answer is handed in and isn't complete.
+    fn is_answering(&self) -> bool
+        ensures { result ≡ is_answering (kept_of self.now) }
+    {
+        match &self.exchange {
+            Some(exchange) => exchange.reply.is_sending(),
+            None => false,
+        }
+    }
+}
+
+impl Exchange {
+    // There is a body whose end, fault or drop hasn't come, and the answer isn't complete.
+    fn has_body_left(&self) -> bool
+        ensures pull { result ≡ (is_frames self.now.rest || (self.now.request.has_body && not (self.now.body_is_done || self.now.was_dropped)
+            && (is_frames self.now.rest || not (is_answered (reply_of self.now.reply))))) }
+        ensures drops { result ≡ (not (is_frames self.now.rest) && (self.now.request.has_body && not (self.now.body_is_done || self.now.was_dropped)
+            && (is_frames self.now.rest || not (is_answered (reply_of self.now.reply))))) }
+    {
+        // Called for its clause alone: a request's body is never read as frames.
+        let _kind = self.rest.kind();
+        let is_left = self.request.has_body && !(self.body_is_done || self.was_dropped);
+        is_left && !self.reply.is_answered()
+    }
+
+    // There is no answer.
+    fn waits_for_answer(&self) -> bool
+        ensures { result ≡ (is_unanswered (reply_of self.now.reply) && not (is_frames self.now.rest)) }
+    {
+        // Called for its clause alone: a request's body is never read as frames.
+        let _kind = self.rest.kind();
+        self.reply.is_unanswered()
+    }
+}

@@ -1,0 +1,62 @@
+// What a pull does to the parts.
+ghost use Rattle.std.specs.Prelude.{◌≡◌, ◌||◌, true, false, None, IfOk, IsOk, OnErr, OnOk};
+ghost use Rattle.h1_model.specs.Event as on;
+ghost use Rattle.h1_machine.specs.Kept.{is_frames, is_answered, is_open};
+ghost use Rattle.h1_machine.specs.Pull.{IsPull};
+ghost use Rattle.h1_machine.specs.Pull as pulls;
+ghost use Rattle.h1_payload.specs.Rests.{SaysPulled, IsLight};
+ghost use Rattle.h1_connection.specs.Parts.{kept_of, reply_of, IsSound, Steps};
+ghost use Rattle.h1_connection.specs.Pulls.{tells_done, IsPulledFrom, IsPullOf, IsLightPull};
+
+use crate::connection::exchange::Exchange;
+use crate::connection::input::Input;
+use crate::connection::parts::Parts;
+use h1_payload::Pulled;
+use http_types::{NoMemory, ServiceConfig};
+
+impl Parts {
+    /// Takes what comes next of the open request's body.
+    pub fn pull(&mut self, config: &ServiceConfig) -> Result<Pulled, NoMemory>
+        requires sound { IsSound config.now self.old }
+        requires open { is_open (kept_of self.old) ≡ true }
+        ensures ok { IfOk result (λ answer. (p : pulls.Pulled) → IsPullOf (kept_of self.old) p
+            → SaysPulled answer p.outcome × Steps config.now self.old on.pull p.outcome self.new) }
+        ensures sound { OnOk result (IsSound config.now self.new) }
+        ensures no_memory_needed { IsLightPull (kept_of self.old) → IsOk result }
+        ensures err { OnErr result (self.new ≡ self.old) }
+    {
+        let Some(exchange) = &mut self.exchange else {
+            return Ok(Pulled::Pending);
+        };
+        exchange.pull(&mut self.input, self.has_ended)
+    }
+}
+
+impl Exchange {
+    /// Takes what comes next of the body.
+    pub fn pull(&mut self, input: &mut Input, has_ended: bool) -> Result<Pulled, NoMemory>
+        requires { input.old.piece ≡ None }
+        ensures pulled { IfOk result (λ answer. (p : pulls.Pulled) → IsPull has_ended self.old.rest input.old.unread p
+            → IsPulledFrom self.old p answer self.new input.new) }
+        ensures parts { OnOk result (self.new ≡ record self.old { rest = self.new.rest; was_pulled = true; body_is_done = self.new.body_is_done }) }
+        ensures no_frames { OnOk result ((is_frames self.old.rest ≡ false) × (is_frames self.new.rest ≡ false)) }
+        ensures piece { input.new.piece ≡ None }
+        ensures no_memory_needed { (p : pulls.Pulled) → IsPull has_ended self.old.rest input.old.unread p → IsLight self.old.rest p.outcome p.rest → IsOk result }
+        ensures err { OnErr result ((self.new ≡ self.old) × (input.new ≡ input.old)) }
+    {
+        // Called twice for its clause alone: a request's body is never read as frames.
+        let _before = self.rest.kind();
+        let pulled = input.pull(&mut self.rest, has_ended)?;
+        let _after = self.rest.kind();
+        self.was_pulled = true;
+        self.body_is_done = self.body_is_done || tells_done(&pulled);
+        Ok(pulled)
+    }
+}
+
+// Whether the end or the fault of the body is told.
+fn tells_done(pulled: &Pulled) -> bool
+    ensures { result ≡ tells_done pulled.now }
+{
+    matches!(pulled, Pulled::End | Pulled::Broken(_))
+}

@@ -1,0 +1,224 @@
+// What the next head does to the parts.
+ghost use Rattle.std.specs.Prelude.{◌≡◌, ◌≢◌, ◌==◌, ℕ, List, true, false, None, Some, length, IfOk, IsOk, OnOk, OnErr};
+ghost use Rattle.http_framing.specs.Kinds.{kind_of};
+ghost use Rattle.h1_decode.specs.HeadItem.{SaysHead, without_headers};
+ghost use Rattle.h1_decode.specs.declared.scan.HeadScan.TheVariants.{Piece};
+ghost use Rattle.h1_model.specs.Request.{Head, head_is};
+ghost use Rattle.h1_model.specs.RequestHead.{IsReading};
+ghost use Rattle.h1_model.specs.Event as on;
+ghost use Rattle.h1_machine.specs.Kept.{rest_in, whole_rest};
+ghost use Rattle.h1_machine.specs.Local.{closing_by};
+ghost use Rattle.h1_machine.specs.Change.{noting_since};
+ghost use Rattle.h1_model.specs.Closing.{fault_end};
+ghost use Rattle.h1_decode.specs.Refusal as decode;
+ghost use Rattle.h1_connection.specs.Incoming.{IsWhole, IsHeadOf};
+ghost use Rattle.h1_connection.specs.Meaning.{setting_of, end_of, fault_of};
+ghost use Rattle.h1_connection.specs.Parts.{kept_of, IsSettled, IsSound, Steps};
+ghost use Rattle.h1_connection.specs.Heads.{refused, behind_plain, with_head, IsAsked, IsHeld, IsNexted, IsWaited, KeepsItem, LosesAtMostHeaders, NeedsNoMemory};
+
+use crate::connection::exchange::{Exchange, Reply};
+use crate::connection::parts::Parts;
+use crate::connection::request::Request;
+use crate::{End, HeadFault};
+use h1_codec::Asked;
+use h1_decode::{HeadItem, HeadRoom};
+use h1_payload::Rest;
+use http_types::{NoMemory, ParseError, ServiceConfig};
+use std::alloc::{AllocError, Global};
+
+/// What comes where the next head is asked for.
+#[derive(Debug, Drop)]
+pub enum NextHead {
+    /// The head of the next request, which is open from now on.
+    Head(HeadItem),
+
+    /// The next head is none. An answer that says so is to be written, and the connection ends.
+    Fault(HeadFault),
+
+    /// There is no whole head before more bytes are read.
+    Pending,
+
+    /// The connection has ended, for this reason. No event is allowed any more.
+    Closed(End),
+}
+
+/// What comes where the next head is asked for and written over another one: a `NextHead` without its head.
+#[derive(Clone, Copy, Debug, PartialEq, Eq)]
+pub enum NextKind {
+    /// The head of the next request, which is open from now on.
+    Head,
+
+    /// The next head is none. An answer that says so is to be written, and the connection ends.
+    Fault(HeadFault),
+
+    /// There is no whole head before more bytes are read.
+    Pending,
+
+    /// The connection has ended, for this reason. No event is allowed any more.
+    Closed(End),
+}
+
+impl Parts {
+    /// Hands out the connection's end where it is to end, and else the next head.
+    pub fn next(&mut self, alloc: Global, config: &ServiceConfig) -> Result<NextHead, NoMemory>
+        requires { IsSound config.now self.old }
+        ensures ok { IfOk result (λ next. IsHeld config.now self.old → IsNexted config.now self.old next self.new) }
+        ensures sound { OnOk result (IsSound config.now self.new) }
+        ensures no_memory_needed { NeedsNoMemory (setting_of config.now) (kept_of self.old) → IsOk result }
+        ensures err { OnErr result (self.new ≡ self.old) }
+    {
+        let mut item = HeadItem::new(alloc);
+        match self.next_into(alloc, config, &mut item, &mut HeadRoom::new())? {
+            NextKind::Head => Ok(NextHead::Head(item)),
+            NextKind::Fault(fault) => Ok(NextHead::Fault(fault)),
+            NextKind::Pending => Ok(NextHead::Pending),
+            NextKind::Closed(end) => Ok(NextHead::Closed(end)),
+        }
+    }
+
+    /// The same, with a head that is written over `item`.
+    pub fn next_into(
+        &mut self,
+        alloc: Global,
+        config: &ServiceConfig,
+        item: &mut HeadItem,
+        room: &mut HeadRoom,
+    ) -> Result<NextKind, NoMemory>
+        requires { IsSound config.now self.old }
+        ensures ok { IfOk result (λ kind. IsHeld config.now self.old → IsNexted config.now self.old (with_head item.new kind) self.new) }
+        ensures sound { OnOk result (IsSound config.now self.new) }
+        ensures item { IfOk result (λ kind. KeepsItem (kept_of self.old).is_coming kind item.old item.new) }
+        ensures no_memory_needed { NeedsNoMemory (setting_of config.now) (kept_of self.old) → IsOk result }
+        ensures err { OnErr result (self.new ≡ self.old) }
+        ensures kept_item { OnErr result (LosesAtMostHeaders (kept_of self.old).is_coming item.old item.new) }
+    {
+        if let Some(end) = self.noted_closing(config) {
+            self.is_over = true;
+            return Ok(NextKind::Closed(end));
+        }
+        match self.input.read_head(alloc, item, room) {
+            Ok(true) => {
+                self.hand_out(config, item);
+                Ok(NextKind::Head)
+            }
+            Ok(false) => self.go_without(config),
+            Err(error) => Ok(NextKind::Fault(self.refuse_by(config, error)?)),
+        }
+    }
+
+    // No whole head is there: no more bytes can be taken for one, which is answered as a fault, or more may come.
+    fn go_without(&mut self, config: &ServiceConfig) -> Result<NextKind, NoMemory>
+        requires sound { IsSound config.now self.old }
+        requires runs { closing_by (setting_of config.now) (kept_of self.old) ≡ None }
+        requires none { IsHeadOf self.old.input None }
+        ensures ok { IfOk result (λ kind. IsWaited config.now self.old kind self.new) }
+        ensures sound { OnOk result (IsSound config.now self.new) }
+        ensures no_memory_needed { (length self.old.input.unread == config.now.h1_hold_size) ≡ false → IsOk result }
+        ensures err { OnErr result (self.new ≡ self.old) }
+    {
+        if self.input.len() == config.h1_hold_size() {
+            self.refuse(config, HeadFault::TooLarge)?;
+            return Ok(NextKind::Fault(HeadFault::TooLarge));
+        }
+        Ok(NextKind::Pending)
+    }
+
+    // The head that was found is none, for this reason, unless memory was wanted: that is answered.
+    fn refuse_by(
+        &mut self,
+        config: &ServiceConfig,
+        error: ParseError,
+    ) -> Result<HeadFault, NoMemory>
+        requires { IsSound config.now self.old }
+        ensures cause { IfOk result (λ fault. (error ≢ ParseError.NoMemory) × (fault_of fault ≡ decode.fault_of error)) }
+        ensures ok { IfOk result (λ fault. IsSettled (setting_of config.now) (refused fault (kept_of self.old)) self.new) }
+        ensures err { OnErr result (self.new ≡ self.old) }
+    {
+        let fault = fault_by(error)?;
+        self.refuse(config, fault)?;
+        Ok(fault)
+    }
+
+    // The next head is none: that is answered, and the connection closes.
+    fn refuse(&mut self, config: &ServiceConfig, fault: HeadFault) -> Result<(), NoMemory>
+        requires { IsSound config.now self.old }
+        ensures ok { OnOk result (IsSettled (setting_of config.now) (refused fault (kept_of self.old)) self.new) }
+        ensures err { OnErr result (self.new ≡ self.old) }
+    {
+        self.output.put_fault(fault, self.clock.now())?;
+        self.failed = Some(end_by(fault));
+        self.note(config);
+        Ok(())
+    }
+
+    // The head is handed out: its request is open, and nothing closes behind it. `config` is named by the clauses alone.
+    fn hand_out(&mut self, config: &ServiceConfig, item: &HeadItem)
+        requires sound { IsSound config.now self.old }
+        requires runs { closing_by (setting_of config.now) (kept_of self.old) ≡ None }
+        requires whole { IsWhole self.old.input }
+        ensures handed { (piece : List ℕ) (h : Head) (start end : ℕ) → IsReading piece (head_is h) → SaysHead item.now h → self.old.input.piece ≡ Some (Piece start end)
+            → kept_of self.new ≡ noting_since (setting_of config.now) (behind_plain (kept_of self.old) end h) }
+        ensures sound { IsSound config.now self.new }
+    {
+        let _ = config;
+        self.input.pass_head();
+        let rest = self.whole_rest(item);
+        self.exchange = Some(Exchange {
+            request: request_of(item),
+            rest,
+            reply: Reply::Unanswered,
+            was_pulled: false,
+            was_dropped: false,
+            had_continue: false,
+            body_is_done: false,
+        });
+    }
+
+    // All of the body of this head. Where the input has ended, one up to its end has ended if no byte is there.
+    fn whole_rest(&self, item: &HeadItem) -> Rest
+        ensures { result ≡ rest_in self.now.has_ended self.now.input.unread (whole_rest (kind_of item.now.body)) }
+    {
+        let mut rest = Rest::whole(item.body);
+        if self.has_ended {
+            self.input.end(&mut rest);
+        }
+        rest
+    }
+}
+
+// What is kept of a request with this head.
+fn request_of(item: &HeadItem) -> Request
+    ensures { (piece : List ℕ) (h : Head) → IsReading piece (head_is h) → SaysHead item.now h → IsAsked h result }
+{
+    Request {
+        asked: Asked::new(
+            item.head.version,
+            item.is_head(),
+            item.is_raw(),
+            item.connection_type(),
+        ),
+        has_body: item.has_body(),
+        expects: item.expects_continue(),
+    }
+}
+
+// The fault that an error names, unless memory was wanted.
+fn fault_by(error: ParseError) -> Result<HeadFault, NoMemory>
+    ensures { IfOk result (λ fault. (error ≢ ParseError.NoMemory) × (fault_of fault ≡ decode.fault_of error)) }
+{
+    match error {
+        ParseError::NoMemory => Err(AllocError),
+        ParseError::TooLarge => Ok(HeadFault::TooLarge),
+        _ => Ok(HeadFault::Malformed),
+    }
+}
+
+// Why the connection closes behind it.
+fn end_by(fault: HeadFault) -> End
+    ensures { end_of result ≡ fault_end (fault_of fault) }
+{
+    match fault {
+        HeadFault::Malformed => End::Malformed,
+        HeadFault::TooLarge => End::TooLarge,
+    }
+}

@@ -1,0 +1,452 @@
+// What a connection holds of its input: the bytes that were read and not passed, and the search for a head among them.
+ghost use Rattle.std.specs.Prelude.{◌≡◌, ◌≢◌, ◌≤◌, ◌-◌, ◌++◌, ◌⊎◌, ◌↔◌, ℕ, List, [], Some, None, length, take, drop, slice_range, min, true, false, is_some, IfOk, IfErr, IsOk, OnOk, OnErr, IsErrOf};
+ghost use Rattle.std.specs.Io.KnownBytes.{Consumes, Keeps, IsAtEnd};
+ghost use Rattle.http_config.specs.Causes.{Rose};
+ghost use Rattle.h1_decode.specs.HeadItem.{SaysHead, without_headers};
+ghost use Rattle.h1_decode.specs.Refusal.{UnlessNoMemory, fault_of};
+ghost use Rattle.h1_decode.specs.HeadPosition.{HasScanned};
+ghost use Rattle.h1_model.specs.Request.{Head, head_is, faulty};
+ghost use Rattle.h1_model.specs.RequestHead.{IsReading};
+ghost use Rattle.h1_machine.specs.Kept.{rest_in};
+ghost use Rattle.h1_machine.specs.Body.{pass_rest};
+ghost use Rattle.h1_machine.specs.Pull.{IsPull};
+ghost use Rattle.h1_machine.specs.Pull as pulls;
+ghost use Rattle.h1_payload.specs.Rests.{IsPulled, IsLight};
+ghost use Rattle.h1_connection.specs.Incoming.{is_coming_in, scan_of, IsFound, IsWhole, IsHeadOf, IsNextHead, IsNextFault, IsPassedHead, IsSearched, IsCutNoted, incoming, due_in, CanGoOn, GoesOnIn, HasSearched, IsCaughtUp};
+
+use crate::ReadFromError;
+use crate::connection::READ_SIZE;
+use crate::connection::filling::{make_room, read_behind};
+use bytes::{Bytes, BytesMut};
+use h1_decode::{
+    HeadItem, HeadRoom, HeadScan, HeadScanner, cut_head_into, read_head_into, scan_head,
+};
+use h1_payload::{Pulled, Rest};
+use http_types::{NoMemory, ParseError, Source};
+use std::alloc::Global;
+use std::marker::Model;
+
+/// How far the search for the next head is.
+#[derive(Clone, Copy)]
+enum Search {
+    /// None is searched for: the bytes are a body's.
+    Off,
+
+    /// A head may come next, and nothing is known of the bytes. One that is whole when it is asked for is read at once.
+    Due,
+
+    /// All bytes were searched.
+    Done(Scan),
+}
+
+/// How far a search has come, and what it has found.
+#[derive(Clone, Copy)]
+struct Scan {
+    scanner: HeadScanner,
+    piece: HeadScan,
+}
+
+/// The bytes of the input that were taken and not passed yet.
+///
+/// A head is searched for only where one may come next, so that no byte of a body is. What was found is kept, and
+/// so is how far the search has come: a head that comes byte by byte costs what it costs in one piece. Behind the first
+/// head the search waits until the next one is asked for.
+#[derive(Drop)]
+pub struct Input {
+    /// The head that was asked for, with the empty lines before it, where it couldn't be handed out.
+    head_bytes: Bytes,
+    bytes: BytesMut,
+    search: Search,
+}
+
+impl Model for Input {
+    ghost use Rattle.h1_connection.specs.Incoming.{Incoming, incoming, IsSearched};
+
+    ghost Value = { Incoming };
+
+    ghost view = { λ input. incoming input.head_bytes input.bytes.items input.search };
+
+    ghost invariant = { λ input. IsSearched input.head_bytes input.bytes.items input.search };
+}
+
+impl Input {
+    /// No bytes, and no memory taken. A head is searched for.
+    pub fn new(alloc: Global) -> Input
+        ensures value { result ≡ record { unread = []; piece = Some HeadScan.Open } }
+        ensures scanned { IsFound result }
+    {
+        Input {
+            head_bytes: Bytes::new(),
+            bytes: BytesMut::new(alloc),
+            search: Search::Done(Scan {
+                scanner: HeadScanner::new(),
+                piece: HeadScan::Open,
+            }),
+        }
+    }
+
+    /// How many bytes are held.
+    pub fn len(&self) -> usize
+        ensures { result ≡ length self.now.unread }
+    {
+        self.head_bytes.len() + self.bytes.len()
+    }
+
+    /// Whether a whole head is there.
+    pub fn is_coming(&self) -> bool
+        ensures { result ≡ is_coming_in self.now.piece }
+    {
+        match &self.search {
+            Search::Off => false,
+            Search::Due => has_head(self.bytes.as_slice()),
+            Search::Done(scan) => scan.piece != HeadScan::Open,
+        }
+    }
+
+    /// Takes the bytes that there is room for up to the limit, and says how many.
+    pub fn take(&mut self, bytes: &[u8], limit: usize) -> Result<usize, NoMemory>
+        ensures count { IfOk result (λ count. count ≡ min (length bytes.now) (limit - length self.old.unread)) }
+        ensures ok { IfOk result (λ count. self.new.unread ≡ self.old.unread ++ take count bytes.now) }
+        ensures scanned { OnOk result (IsFound self.new) }
+        ensures searched { OnOk result (is_some self.new.piece ≡ is_some self.old.piece) }
+        ensures err { OnErr result (self.new ≡ self.old) }
+    {
+        let held = self.head_bytes.len() + self.bytes.len();
+        let count = bytes.len().min(limit.saturating_sub(held));
+        make_room(&mut self.bytes, count)?;
+        self.bytes.extend_reserved(&bytes[..count]);
+        self.search = continued(self.search, self.bytes.as_slice());
+        Ok(count)
+    }
+
+    /// Reads bytes from the source, at most as many as there is room for up to the limit, and at most `READ_SIZE`.
+    /// Where none is left there, all stays as it is.
+    pub fn read_from<S: Source>(
+        &mut self,
+        source: &mut S,
+        limit: usize,
+    ) -> Result<usize, ReadFromError>
+        ensures read { IfOk result (λ count. (bytes : List ℕ) × (length bytes ≡ count) × (self.new.unread ≡ self.old.unread ++ bytes)
+            × Consumes (S.left source.old) (S.left source.new) bytes) }
+        ensures room { IfOk result (λ count. count ≤ limit - length self.old.unread) }
+        ensures bound { IfOk result (λ count. count ≤ READ_SIZE) }
+        ensures end { IfOk result (λ count. count ≡ 0 → (self.new ≡ self.old) × IsAtEnd (S.left source.new)) }
+        ensures scanned { OnOk result (IsFound self.new) }
+        ensures searched { OnOk result (is_some self.new.piece ≡ is_some self.old.piece) }
+        ensures full { IsErrOf result ReadFromError.Full ↔ limit ≤ length self.old.unread }
+        ensures failed { IsErrOf result ReadFromError.Failed → Rose (S.faults source.old) (S.faults source.new) }
+        ensures left { IsErrOf result ReadFromError.Failed → Keeps (S.left source.old) (S.left source.new) }
+        ensures unasked { IfErr result (λ e. e ≢ ReadFromError.Failed → source.new ≡ source.old) }
+        ensures faults { S.faults source.old ≤ S.faults source.new }
+        ensures err { OnErr result (self.new ≡ self.old) }
+    {
+        let room = limit.saturating_sub(self.head_bytes.len() + self.bytes.len());
+        if room == 0 {
+            return Err(ReadFromError::Full);
+        }
+        let count = read_behind(&mut self.bytes, source, room.min(READ_SIZE))?;
+        if count == 0 {
+            return Ok(0);
+        }
+        self.search = continued(self.search, self.bytes.as_slice());
+        Ok(count)
+    }
+
+    /// Lets the next head be searched for when it is asked for.
+    pub fn await_head(&mut self)
+        ensures unread { self.new.unread ≡ self.old.unread }
+        ensures scanned { IsFound self.new }
+        ensures searched { is_some self.new.piece ≡ true }
+    {
+        if let Search::Off = self.search {
+            self.search = Search::Due;
+        }
+    }
+
+    /// Searches for the next head, if it isn't done yet.
+    pub fn search(&mut self)
+        ensures unread { self.new.unread ≡ self.old.unread }
+        ensures scanned { IsFound self.new }
+        ensures searched { is_some self.new.piece ≡ true }
+    {
+        self.await_head();
+        self.search = caught_up(self.search, self.bytes.as_slice());
+    }
+
+    /// Reads the next head over another one, and says whether it is there. It shares the memory of its bytes, which stay.
+    /// Where none is there the other one stays too; after an error it is as it was, but without headers.
+    pub fn read_head(
+        &mut self,
+        alloc: Global,
+        item: &mut HeadItem,
+        room: &mut HeadRoom,
+    ) -> Result<bool, ParseError>
+        ensures same { self.new ≡ self.old }
+        ensures head { IfOk result (λ is_there. is_there ≡ true → IsNextHead self.old item.new) }
+        ensures none { IfOk result (λ is_there. is_there ≡ false → IsHeadOf self.old None × (item.new ≡ item.old)) }
+        ensures fault { IfErr result (λ e. UnlessNoMemory e (IsNextFault self.old (fault_of e))) }
+        ensures whole { OnErr result (IsWhole self.old) }
+        ensures err { OnErr result (item.new ≡ without_headers item.old) }
+    {
+        if let Search::Due = self.search {
+            return read_due(
+                alloc,
+                item,
+                room,
+                &mut self.head_bytes,
+                &mut self.bytes,
+                &mut self.search,
+            );
+        }
+        read_found(
+            alloc,
+            item,
+            room,
+            &mut self.head_bytes,
+            &mut self.bytes,
+            &self.search,
+        )
+    }
+
+    /// Passes the head that is there, which a search has found or is still to find. No other is searched for.
+    pub fn pass_head(&mut self)
+        requires { IsWhole self.old }
+        ensures { IsPassedHead self.old self.new }
+    {
+        let Search::Done(scan) = caught_up(self.search, self.bytes.as_slice()) else {
+            return;
+        };
+        let HeadScan::Piece(_, end) = scan.piece else {
+            return;
+        };
+        self.search = Search::Off;
+        pass(&mut self.head_bytes, &mut self.bytes, end);
+    }
+
+    /// Takes what comes next of a body.
+    pub fn pull(&mut self, rest: &mut Rest, has_ended: bool) -> Result<Pulled, NoMemory>
+        requires { self.old.piece ≡ None }
+        ensures pulled { IfOk result (λ answer. (p : pulls.Pulled) → IsPull has_ended rest.old self.old.unread p
+            → IsPulled p answer rest.new self.new.unread) }
+        ensures piece { self.new.piece ≡ None }
+        ensures no_memory_needed { (p : pulls.Pulled) → IsPull has_ended rest.old self.old.unread p → IsLight rest.old p.outcome p.rest → IsOk result }
+        ensures err { OnErr result ((self.new ≡ self.old) × (rest.new ≡ rest.old)) }
+    {
+        let _ = &self.search;
+        rest.pull(&mut self.bytes, has_ended)
+    }
+
+    /// Passes over what is left of a body.
+    pub fn pass(&mut self, rest: &mut Rest, has_ended: bool)
+        requires { self.old.piece ≡ None }
+        ensures rest { rest.new ≡ (pass_rest has_ended rest.old self.old.unread).rest }
+        ensures unread { self.new ≡ record { unread = (pass_rest has_ended rest.old self.old.unread).unread; piece = None } }
+    {
+        let _ = &self.search;
+        rest.pass(&mut self.bytes, has_ended);
+    }
+
+    /// With the input a raw body ends of which no byte is left.
+    pub fn end(&self, rest: &mut Rest)
+        ensures { rest.new ≡ rest_in true self.now.unread rest.old }
+    {
+        if self.head_bytes.is_empty() {
+            rest.end_input(&self.bytes);
+        }
+    }
+}
+
+// Reads the head with which the bytes begin, and says whether there is one. It is parsed at once, so that none of its
+// bytes is looked at twice; where that finds none, the bytes are searched, and no further ones are parsed in vain.
+fn read_due(
+    alloc: Global,
+    item: &mut HeadItem,
+    room: &mut HeadRoom,
+    head_bytes: &mut Bytes,
+    bytes: &mut BytesMut,
+    search: &mut Search,
+) -> Result<bool, ParseError>
+    requires empty { head_bytes.old ≡ [] }
+    requires due { search.old ≡ Search.Due }
+    ensures same { incoming head_bytes.new bytes.new.items search.new ≡ due_in bytes.old.items }
+    ensures searched { IsSearched head_bytes.new bytes.new.items search.new }
+    ensures head { IfOk result (λ is_there. is_there ≡ true → IsNextHead (due_in bytes.old.items) item.new) }
+    ensures none { IfOk result (λ is_there. is_there ≡ false → IsHeadOf (due_in bytes.old.items) None × (item.new ≡ item.old)) }
+    ensures fault { IfErr result (λ e. UnlessNoMemory e (IsNextFault (due_in bytes.old.items) (fault_of e))) }
+    ensures whole { OnErr result (IsWhole (due_in bytes.old.items)) }
+    ensures err { OnErr result (item.new ≡ without_headers item.old) }
+{
+    match cut_head_into(alloc, item, room, bytes, head_bytes) {
+        Ok(true) => {
+            note_cut(head_bytes, search);
+            Ok(true)
+        }
+        Ok(false) => {
+            *search = searched(HeadScanner::new(), bytes.as_slice());
+            read_found(alloc, item, room, head_bytes, bytes, search)
+        }
+        Err(error) => {
+            note_cut(head_bytes, search);
+            Err(error)
+        }
+    }
+}
+
+// A head that was cut off unsearched is what a search finds.
+fn note_cut(head_bytes: &Bytes, search: &mut Search)
+    requires { search.old ≡ Search.Due }
+    ensures { IsCutNoted head_bytes.now search.new }
+{
+    if head_bytes.is_empty() {
+        return;
+    }
+    *search = Search::Done(Scan {
+        scanner: HeadScanner::new(),
+        piece: HeadScan::Piece(0, head_bytes.len()),
+    });
+}
+
+// Reads the head that the search has found, and says whether there is one. It is cut off first, where that isn't done yet.
+fn read_found(
+    alloc: Global,
+    item: &mut HeadItem,
+    room: &mut HeadRoom,
+    head_bytes: &mut Bytes,
+    bytes: &mut BytesMut,
+    search: &Search,
+) -> Result<bool, ParseError>
+    requires searched { IsSearched head_bytes.old bytes.old.items search.now }
+    requires done { search.now ≢ Search.Due }
+    ensures all { head_bytes.new ++ bytes.new.items ≡ head_bytes.old ++ bytes.old.items }
+    ensures searched { IsSearched head_bytes.new bytes.new.items search.now }
+    ensures head { IfOk result (λ is_there. is_there ≡ true → IsNextHead (incoming head_bytes.old bytes.old.items search.now) item.new) }
+    ensures none { IfOk result (λ is_there. is_there ≡ false → IsHeadOf (incoming head_bytes.old bytes.old.items search.now) None × (item.new ≡ item.old)) }
+    ensures fault { IfErr result (λ e. UnlessNoMemory e (IsNextFault (incoming head_bytes.old bytes.old.items search.now) (fault_of e))) }
+    ensures whole { OnErr result (IsWhole (incoming head_bytes.old bytes.old.items search.now)) }
+    ensures err { OnErr result (item.new ≡ without_headers item.old) }
+{
+    let Search::Done(scan) = search else {
+        return Ok(false);
+    };
+    let HeadScan::Piece(start, end) = scan.piece else {
+        return Ok(false);
+    };
+    let Ok(()) = cut(head_bytes, bytes, end) else {
+        item.head.headers.clear();
+        return Err(ParseError::NoMemory);
+    };
+    match read_piece(alloc, item, room, head_bytes, start) {
+        Ok(()) => Ok(true),
+        Err(error) => Err(error),
+    }
+}
+
+// Cuts the first bytes off up to the head's end, where that isn't done yet. They stay in their memory.
+fn cut(head_bytes: &mut Bytes, bytes: &mut BytesMut, end: usize) -> Result<(), NoMemory>
+    requires fits { end ≤ length (head_bytes.old ++ bytes.old.items) }
+    requires whole { (head_bytes.old ≡ []) ⊎ (length head_bytes.old ≡ end) }
+    ensures head_bytes { OnOk result (head_bytes.new ≡ take end (head_bytes.old ++ bytes.old.items)) }
+    ensures all { head_bytes.new ++ bytes.new.items ≡ head_bytes.old ++ bytes.old.items }
+    ensures err { OnErr result ((head_bytes.new ≡ head_bytes.old) × (bytes.new.items ≡ bytes.old.items)) }
+{
+    if head_bytes.is_empty() {
+        *head_bytes = bytes.freeze_to(end)?;
+    }
+    Ok(())
+}
+
+// Lets the first bytes go up to the head's end, whether they were cut off or not.
+fn pass(head_bytes: &mut Bytes, bytes: &mut BytesMut, end: usize)
+    requires fits { end ≤ length (head_bytes.old ++ bytes.old.items) }
+    requires whole { (head_bytes.old ≡ []) ⊎ (length head_bytes.old ≡ end) }
+    ensures head_bytes { head_bytes.new ≡ [] }
+    ensures bytes { bytes.new.items ≡ drop end (head_bytes.old ++ bytes.old.items) }
+{
+    if head_bytes.is_empty() {
+        bytes.advance(end);
+    }
+    *head_bytes = Bytes::new();
+    if bytes.is_empty() {
+        bytes.clear();
+    }
+}
+
+// Reads the head that begins there, and fills the rest of the bytes.
+fn read_piece(
+    alloc: Global,
+    item: &mut HeadItem,
+    room: &mut HeadRoom,
+    bytes: &Bytes,
+    start: usize,
+) -> Result<(), ParseError>
+    requires { start ≤ length bytes.now }
+    ensures head { OnOk result ((h : Head) × IsReading (slice_range bytes.now start (length bytes.now)) (head_is h) × SaysHead item.new h) }
+    ensures fault { IfErr result (λ e. UnlessNoMemory e (IsReading (slice_range bytes.now start (length bytes.now)) (faulty (fault_of e)))) }
+    ensures err { OnErr result (item.new ≡ without_headers item.old) }
+{
+    if start > 0 {
+        return read_behind_blank_lines(alloc, item, room, bytes, start);
+    }
+    read_head_into(alloc, item, room, bytes)
+}
+
+// The same where empty lines stand before it. It is out of the way of those that nothing stands before.
+#[inline(never)]
+fn read_behind_blank_lines(
+    alloc: Global,
+    item: &mut HeadItem,
+    room: &mut HeadRoom,
+    bytes: &Bytes,
+    start: usize,
+) -> Result<(), ParseError>
+    requires { start ≤ length bytes.now }
+    ensures head { OnOk result ((h : Head) × IsReading (slice_range bytes.now start (length bytes.now)) (head_is h) × SaysHead item.new h) }
+    ensures fault { IfErr result (λ e. UnlessNoMemory e (IsReading (slice_range bytes.now start (length bytes.now)) (faulty (fault_of e)))) }
+    ensures err { OnErr result (item.new ≡ without_headers item.old) }
+{
+    let Ok(head) = bytes.slice(start..bytes.len()) else {
+        item.head.headers.clear();
+        return Err(ParseError::NoMemory);
+    };
+    read_head_into(alloc, item, room, &head)
+}
+
+// Whether the bytes have a whole head, where the search is due: no call asks, since a search is due only where none
+// depends on the answer.
+#[cold]
+fn has_head(bytes: &[u8]) -> bool
+    ensures { result ≡ is_coming_in (Some (scan_of bytes.now)) }
+{
+    scan_head(bytes) != HeadScan::Open
+}
+
+// The search behind more bytes. A head that was found stays the next, and a search that is due stays so.
+fn continued(search: Search, bytes: &[u8]) -> Search
+    requires { CanGoOn search bytes.now }
+    ensures { GoesOnIn search bytes.now result }
+{
+    match search {
+        Search::Done(scan) if scan.piece == HeadScan::Open => searched(scan.scanner, bytes),
+        _ => search,
+    }
+}
+
+// The search, done where it was due.
+fn caught_up(search: Search, bytes: &[u8]) -> Search
+    ensures { IsCaughtUp search bytes.now result }
+{
+    match search {
+        Search::Due => searched(HeadScanner::new(), bytes),
+        _ => search,
+    }
+}
+
+// The search that has seen all the bytes.
+fn searched(scanner: HeadScanner, bytes: &[u8]) -> Search
+    requires { HasScanned scanner bytes.now }
+    ensures { HasSearched bytes.now result }
+{
+    let mut scanner = scanner;
+    let piece = scanner.scan(bytes);
+    Search::Done(Scan { scanner, piece })
+}

@@ -1,0 +1,106 @@
+// The conditions of the calls, each asked for itself.
+ghost use Rattle.std.specs.Prelude.{◌≡◌, ◌-◌, ℕ, List, length};
+ghost use Rattle.h1_model.specs.Answer.{AnswerHead, BodySize};
+ghost use Rattle.h1_model.specs.Deadline.{IsDeadline};
+ghost use Rattle.h1_model.specs.Sums as sums;
+ghost use Rattle.h1_model.specs.Event as on;
+ghost use Rattle.h1_machine.specs.Local.{allowed_by};
+ghost use Rattle.h1_machine.specs.Deadline.{deadline_by};
+ghost use Rattle.h1_connection.specs.Meaning.{setting_of};
+ghost use Rattle.h1_connection.specs.State.{Stands};
+
+use crate::connection::Connection;
+
+impl Connection {
+    /// Whether bytes may be read, or the input may end.
+    pub fn can_read(&self) -> bool
+        ensures read { (bytes : List ℕ) → result ≡ allowed_by (setting_of self.now.settings) self.now.kept (on.read bytes) }
+        ensures eof { result ≡ allowed_by (setting_of self.now.settings) self.now.kept on.eof }
+    {
+        self.parts.can_read(&self.config)
+    }
+
+    /// Whether the next head may be asked for.
+    pub fn can_next(&self) -> bool
+        ensures { result ≡ allowed_by (setting_of self.now.settings) self.now.kept on.next }
+    {
+        self.parts.can_next(&self.config)
+    }
+
+    /// Whether more of a body may be asked for, or its rest dropped.
+    pub fn can_pull(&self) -> bool
+        ensures pull { result ≡ allowed_by (setting_of self.now.settings) self.now.kept on.pull }
+        ensures drops { result ≡ allowed_by (setting_of self.now.settings) self.now.kept on.drop_body }
+    {
+        self.parts.can_pull(&self.config)
+    }
+
+    /// Whether the open request's client waits to be told to go on.
+    pub fn can_continue(&self) -> bool
+        ensures { result ≡ allowed_by (setting_of self.now.settings) self.now.kept on.send_continue }
+    {
+        self.parts.can_continue(&self.config)
+    }
+
+    /// Whether the open request may be answered.
+    pub fn can_answer(&self) -> bool
+        ensures { (head : AnswerHead) (size : BodySize) → result ≡ allowed_by (setting_of self.now.settings) self.now.kept (on.answer head size) }
+    {
+        self.parts.can_answer(&self.config)
+    }
+
+    /// Whether a piece of the answer's body may be handed in.
+    pub fn can_chunk(&self) -> bool
+        ensures { (bytes : List ℕ) → result ≡ allowed_by (setting_of self.now.settings) self.now.kept (on.chunk bytes) }
+    {
+        self.parts.can_chunk(&self.config)
+    }
+
+    /// Whether the answer's body may end or fail.
+    pub fn can_end_answer(&self) -> bool
+        ensures ends { result ≡ allowed_by (setting_of self.now.settings) self.now.kept on.body_end }
+        ensures fails { result ≡ allowed_by (setting_of self.now.settings) self.now.kept on.body_error }
+    {
+        self.parts.can_end_answer(&self.config)
+    }
+
+    /// Whether bytes may be written: all the time but behind the connection's end.
+    pub fn can_write(&self) -> bool
+        ensures { (limit : ℕ) → result ≡ allowed_by (setting_of self.now.settings) self.now.kept (on.write limit) }
+    {
+        self.parts.can_write(&self.config)
+    }
+
+    /// Whether this moment may come.
+    pub fn can_tick(&self, moment: u64) -> bool
+        ensures { result ≡ allowed_by (setting_of self.now.settings) self.now.kept (on.tick moment) }
+    {
+        self.parts.can_tick(&self.config, moment)
+    }
+
+    /// Whether the connection may be drained.
+    pub fn can_drain(&self) -> bool
+        ensures { result ≡ allowed_by (setting_of self.now.settings) self.now.kept on.drain }
+    {
+        self.parts.can_drain(&self.config)
+    }
+
+    /// The least moment whose tick would tell that a time has run out, in milliseconds after the start of 1970; none where
+    /// no tick would. Who drives the connection may sleep until then.
+    pub fn deadline(&self) -> Option<u64>
+        ensures value { result ≡ deadline_by (setting_of self.now.settings) self.now.kept }
+        ensures traced { (trace : List sums.Step) → Stands self.now trace → IsDeadline (setting_of self.now.settings) trace result }
+    {
+        self.parts.deadline(&self.config)
+    }
+
+    /// How many bytes may be put behind those that wait to be written before pieces of a body have to wait: while it is
+    /// above 0 there is room for one.
+    pub fn room(&self) -> usize
+        ensures { result ≡ self.now.settings.h1_write_buffer_size - length self.now.kept.buffered }
+    {
+        self.config
+            .h1_write_buffer_size()
+            .saturating_sub(self.parts.output.len())
+    }
+}

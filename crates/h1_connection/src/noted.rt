@@ -1,0 +1,50 @@
+//! Outcomes as a trace keeps them.
+ghost use Rattle.std.specs.Prelude.{◌≡◌, IfOk};
+ghost use Rattle.h1_connection.specs.Steps.{outcome_of};
+
+use crate::{Boxed, End, HeadFault, Outcome, PayloadError};
+use bytes::Bytes;
+use h1_decode::HeadItem;
+use http_types::{HeaderMap, NoMemory};
+use std::alloc::Global;
+
+/// An `Outcome` as a trace keeps it, variant by variant: what is large lies in a block of its own.
+#[derive(Debug, Drop)]
+pub enum Noted {
+    Took(usize),
+    Head(Boxed<HeadItem>),
+    Bytes(Bytes),
+    Trailers(Boxed<HeaderMap>),
+    BodyEnd,
+    Pending,
+    Closed(End),
+    Fault(HeadFault),
+    Broken(PayloadError),
+    Gave(Bytes),
+    Expired(End),
+    Abandoned,
+    Done,
+}
+
+impl Noted {
+    /// Notes an outcome.
+    pub(crate) fn new(alloc: Global, outcome: Outcome) -> Result<Noted, NoMemory>
+        ensures { IfOk result (λ noted. outcome_of noted ≡ outcome) }
+    {
+        Ok(match outcome {
+            Outcome::Took(count) => Noted::Took(count),
+            Outcome::Head(item) => Noted::Head(Boxed::new(alloc, item)?),
+            Outcome::Bytes(bytes) => Noted::Bytes(bytes),
+            Outcome::Trailers(trailers) => Noted::Trailers(Boxed::new(alloc, trailers)?),
+            Outcome::BodyEnd => Noted::BodyEnd,
+            Outcome::Pending => Noted::Pending,
+            Outcome::Closed(end) => Noted::Closed(end),
+            Outcome::Fault(fault) => Noted::Fault(fault),
+            Outcome::Broken(error) => Noted::Broken(error),
+            Outcome::Gave(bytes) => Noted::Gave(bytes),
+            Outcome::Expired(end) => Noted::Expired(end),
+            Outcome::Abandoned => Noted::Abandoned,
+            Outcome::Done => Noted::Done,
+        })
+    }
+}

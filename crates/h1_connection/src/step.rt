@@ -1,0 +1,117 @@
+// Events as values: each is taken in by the call of its kind.
+ghost use Rattle.std.specs.Prelude.{◌≡◌, IfOk, IsOk, OnErr};
+ghost use Rattle.h1_model.specs.Event as on;
+ghost use Rattle.h1_payload.specs.Rests.{SaysPulled};
+ghost use Rattle.h1_connection.specs.Meaning.{event_of, SaysOutcome};
+ghost use Rattle.h1_connection.specs.Heads.{SaysNext};
+ghost use Rattle.h1_connection.specs.Ticks.{expiry_of};
+ghost use Rattle.h1_connection.specs.State.{IsAllowed, GoesOn, TakesNoMemory};
+
+use crate::connection::{Connection, Expiry, NextHead};
+use crate::{Event, Outcome, PayloadError};
+use h1_payload::{BodyFault, Pulled};
+use http_types::NoMemory;
+
+impl Connection {
+    /// Takes in an event that is allowed, and answers it as the tables do. After want of memory the connection is as
+    /// before.
+    pub fn step(&mut self, event: &Event) -> Result<Outcome, NoMemory>
+        requires { IsAllowed self.old (event_of event.now) }
+        ensures stands { IfOk result (λ outcome. GoesOn self.old (event_of event.now) (SaysOutcome outcome) self.new) }
+        ensures settings { self.new.settings ≡ self.old.settings }
+        ensures no_memory_needed { TakesNoMemory self.old (event_of event.now) → IsOk result }
+        ensures err { OnErr result (self.new ≡ self.old) }
+    {
+        match event {
+            Event::Read(bytes) => {
+                let count = self.read(bytes.as_slice())?;
+                Ok(Outcome::Took(count))
+            }
+            Event::Eof => {
+                self.eof();
+                Ok(Outcome::Done)
+            }
+            Event::Next => {
+                let next = self.next()?;
+                Ok(outcome_of_next(next))
+            }
+            Event::Pull => {
+                let pulled = self.pull()?;
+                Ok(outcome_of_pull(pulled))
+            }
+            Event::DropBody => {
+                self.drop_body();
+                Ok(Outcome::Done)
+            }
+            Event::Continue => {
+                self.send_continue()?;
+                Ok(Outcome::Done)
+            }
+            Event::Answer(head, size) => {
+                self.answer(head.get(), *size)?;
+                Ok(Outcome::Done)
+            }
+            Event::Chunk(bytes) => {
+                self.chunk(bytes.as_slice())?;
+                Ok(Outcome::Done)
+            }
+            Event::BodyEnd => {
+                self.end_answer()?;
+                Ok(Outcome::Done)
+            }
+            Event::BodyError => {
+                self.fail_answer();
+                Ok(Outcome::Done)
+            }
+            Event::Write(limit) => {
+                let bytes = self.write(*limit)?;
+                Ok(Outcome::Gave(bytes))
+            }
+            Event::Tick(moment) => {
+                let expiry = self.tick(*moment)?;
+                Ok(outcome_of_tick(expiry))
+            }
+            Event::Drain => {
+                self.drain();
+                Ok(Outcome::Done)
+            }
+        }
+    }
+}
+
+// The outcome of an event that asks for the next head.
+fn outcome_of_next(next: NextHead) -> Outcome
+    ensures { (out : on.Outcome) → SaysNext next out → SaysOutcome result out }
+{
+    match next {
+        NextHead::Head(item) => Outcome::Head(item),
+        NextHead::Fault(fault) => Outcome::Fault(fault),
+        NextHead::Pending => Outcome::Pending,
+        NextHead::Closed(end) => Outcome::Closed(end),
+    }
+}
+
+// The outcome of a pull.
+fn outcome_of_pull(pulled: Pulled) -> Outcome
+    ensures { (out : on.Outcome) → SaysPulled pulled out → SaysOutcome result out }
+{
+    match pulled {
+        Pulled::Bytes(bytes) => Outcome::Bytes(bytes),
+        Pulled::Trailers(trailers) => Outcome::Trailers(trailers),
+        Pulled::End => Outcome::BodyEnd,
+        Pulled::Broken(BodyFault::Corrupted) => Outcome::Broken(PayloadError::EncodingCorrupted),
+        Pulled::Broken(BodyFault::Incomplete) => Outcome::Broken(PayloadError::Incomplete),
+        Pulled::Pending => Outcome::Pending,
+    }
+}
+
+// The outcome of a tick.
+fn outcome_of_tick(expiry: Expiry) -> Outcome
+    ensures { (out : on.Outcome) → out ≡ expiry_of expiry → SaysOutcome result out }
+{
+    match expiry {
+        Expiry::None => Outcome::Done,
+        Expiry::Expired(end) => Outcome::Expired(end),
+        Expiry::Abandoned => Outcome::Abandoned,
+    }
+}

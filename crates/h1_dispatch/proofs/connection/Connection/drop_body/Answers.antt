@@ -1,8 +1,0 @@
-use Rattle.h1_dispatch.proofs.GoesOnLemmas.{goes_on}
-use Rattle.h1_dispatch.proofs.connection.Connection.drop_body.Goals as goal
-
-pub invariant_of-self : goal.invariant_of-self
-invariant_of-self c = c.drop_body.ensures.sound
-
-pub returns-clause-stands : goal.returns-clause-stands
-returns-clause-stands c = goes_on _ _ _ _ _ _ tt (λ h e. cc e) c.self.view_is c.requires c.drop_body.ensures.ok

@@ -1,9 +1,0 @@
-use Rattle.h1_dispatch.proofs.HeadLemmas.{asked_by}
-use Rattle.h1_dispatch.proofs.connection.heads.request_of.Goals as goal
-
-pub returns : goal.returns
-returns c = λ piece h reading says. record {
-  asked = asked_by piece c.args.item.now h _ _ _ _ reading says c.new.ensures (c.is_head.ensures h says) (c.is_raw.ensures h says) (c.connection_type.ensures piece h reading says);
-  body = c.has_body.ensures h says;
-  expects = c.expects_leave.ensures h says;
-}

@@ -1,8 +1,0 @@
-use Rattle.h1_dispatch.proofs.EventLemmas.{dropped_steps, dropped_sound}
-use Rattle.h1_dispatch.proofs.connection.parts.Parts.drop_body.Goals as goal
-
-pub returns-clause-ok : goal.returns-clause-ok
-returns-clause-ok c = dropped_steps c.args.config.now c.args.self.now _ _ c.requires c.set_dropped.ensures c.note.ensures.kept c.note.ensures.input
-
-pub returns-clause-sound : goal.returns-clause-sound
-returns-clause-sound c = dropped_sound c.args.config.now c.args.self.now _ _ c.requires c.set_dropped.ensures c.note.ensures.kept c.note.ensures.input

@@ -1,6 +1,0 @@
-use Rattle.h1_dispatch.proofs.TickLemmas.{closing_change}
-use Rattle.h1_dispatch.proofs.connection.parts.Parts.expire.Goals as goal
-
-pub returns-then-is_some-clause-ok : goal.returns-then-is_some-clause-ok
-returns-then-is_some-clause-ok c =
-    closing_change c.args.config.now c.args.self.now _ _ _ _ _ _ c.closing.ensures c.is_some.ensures c.if-is_some.true c.abandon.ensures.changes

@@ -1,0 +1,52 @@
+//! Items from bytes, and items into bytes.
+ghost use Rattle.std.specs.Prelude.{◌≡◌, ◌++◌, ℕ, List, IfOk, OnOk, OnErr};
+ghost use Rattle.http_framing.specs.AnyPieces.{GoesOn, in_front, Fed, AreFed, LastReads, all_told, all_came};
+
+use bytes::BytesMut;
+
+/// Makes items of bytes that come in pieces.
+///
+/// What bytes say to a decoder, from where it stands, is a relation that each decoder defines. An answer goes on from
+/// it: whatever follows the rest, the new decoder reads it as the old one does behind all bytes, but for the item.
+pub trait Decoder {
+    /// What is answered.
+    type Item: Drop;
+
+    /// Why nothing is.
+    type Error: Drop;
+
+    /// What bytes can say.
+    ghost Said: { Type 0 };
+
+    /// From where the decoder stands, the bytes say this.
+    ghost reads: { Self → List ℕ → Said → Type 0 };
+
+    /// What is said, with an item in front.
+    ghost given: { Self.Item → Said → Said };
+
+    /// The next item of the bytes, once it is there. What it passed is taken off the buffer's front.
+    fn decode(&mut self, src: &mut BytesMut) -> Result<Option<Self::Item>, Self::Error>
+        ensures { IfOk result (λ answer. GoesOn reads given self.old src.old.items (in_front reads given answer) self.new src.new.items) };
+}
+
+/// Makes bytes of items.
+pub trait Encoder<I> {
+    /// Why an item could not be written.
+    type Error: Drop;
+
+    /// From where the encoder stands, the item is written as this text, and this is the encoder behind it.
+    ghost writes: { Self → I → List ℕ → Self → Type 0 };
+
+    /// Writes the item behind what the buffer holds, or nothing.
+    fn encode(&mut self, item: I, dst: &mut BytesMut) -> Result<(), Self::Error>
+        ensures ok { OnOk result ((text : List ℕ) × (dst.new.items ≡ dst.old.items ++ text) × writes self.old item text self.new) }
+        ensures err { OnErr result (dst.new.items ≡ dst.old.items) };
+}
+
+/// A decoder that is called again and again, with any pieces of bytes in between, gives what all the bytes say: what is
+/// read behind the last call is, with all items in front, read by the first decoder from all bytes.
+pub fn pieces_make_a_whole<T: Decoder>()
+    ensures { (d : T) (left : List ℕ) (calls : List (Fed T T.Item)) (z : List ℕ) (r : T.Said)
+        → AreFed T.reads T.given d left calls → LastReads T.reads T.given d left calls z r
+        → T.reads d (left ++ (all_came calls ++ z)) (all_told T.reads T.given calls r) }
+{}
