@@ -1,7 +1,7 @@
 -- The machine's steps where the next head is asked for.
 use Rattle.std.proofs.lemmas.List.{length-take, length-drop}
 use Rattle.std.proofs.Common.{◌≡◌, ℕ, zero, suc, ◌-◌, ◌≤◌, Bool, true, false, List, [], ◌∷◌, length, drop, Option, Some, None, inl, refl, sym, ap, ◌∙◌, subst, arith}
-use Rattle.std.specs.Prelude.{option_map, is_some, slice_range, ◌==◌, ◌||◌, not}
+use Rattle.std.specs.Prelude.{option_map, is_some, slice_range, ◌==◌, ◌||◌, not, if◌then◌else◌}
 use Rattle.http_config.specs.Config.{Settings}
 use Rattle.h1_model.specs.HeadPiece.{IsHeadPiece}
 use Rattle.h1_model.specs.Request as model
@@ -213,7 +213,11 @@ in_plain false unread rest plain = plain
 
 whole_plain : (body : model.BodyKind) → is_frames (whole_rest body) ≡ false
 whole_plain model.no_body = refl
-whole_plain (model.fixed_body n) = refl
+whole_plain (model.fixed_body n) = by_test (n == 0)
+  where
+    by_test : (b : Bool) → is_frames (if b then machine.no_rest else machine.fixed_rest n) ≡ false
+    by_test true = refl
+    by_test false = refl
 whole_plain model.chunked_body = refl
 whole_plain model.raw_body = refl
 
