@@ -1,0 +1,8 @@
+//! Bodies of messages: the traits of what gives chunks, the values that are bodies, and what gathers a body's bytes. It
+//! re-exports `http_framing`.
+#![tactic(auto)]
+
+mod body;
+
+pub use body::{BodyFault, ByteStream, MessageBody};
+pub use http_framing::{BodyKind, BodySize, Decoder, Encoder, pieces_make_a_whole};
