@@ -1,0 +1,2 @@
+//! Trial.
+#![tactic(auto)]
