@@ -1,2 +1,6 @@
 pub mod AnswerLemmas
 pub mod AnswerGrowth
+pub mod ResponseDecisions
+pub mod AnswerDecisions
+pub mod AnswerExistence
+pub mod AnswerMoved

@@ -1,4 +1,5 @@
 //! Trial.
 #![tactic(auto)]
 
+pub mod answer_head;
 pub mod answers;
