@@ -11,3 +11,4 @@ pub mod RequestText
 pub mod NameGroups
 pub mod PlainExchange
 pub mod PlainTraces
+pub mod Traces
