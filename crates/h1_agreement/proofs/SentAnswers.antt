@@ -29,7 +29,7 @@ use Rattle.h1_client_model.specs.AnswerTable.{body_to}
 use Rattle.h1_client_model.specs.AnswerReading.{Answer, AnswerReading, answer_is, IsTextOf, IsAnswerReading}
 use Rattle.h1_client_model.specs.AnswerParse.{so_far, body_input, AnswerMessage, IsAnswerAt, left_waiting, AreAnswersFrom}
 use Rattle.h1_client_model.specs.WrittenHead.{IsReadBack}
-use Rattle.h1_agreement.specs.SentAnswer.{IsBodyText, SentAnswer, IsSent, sent_text, methods_of, IsReadAs, AreReadAs}
+use Rattle.h1_agreement.specs.SentAnswer.{AreCounted, IsBodyText, SentAnswer, IsSent, sent_text, methods_of, IsReadAs, AreReadAs}
 use Rattle.h1_agreement.proofs.LineFeeds.{feeds, feeds-response}
 use Rattle.h1_agreement.proofs.HeadText.{response_is_piece}
 
@@ -189,10 +189,7 @@ no_head front s e piece =
     let none : drop (length front) (front ++ []) ≡ [] = drop_at front [] (length front) refl in
     absurd (omega (arith, ends_blank_long _ piece.ends, length-take (e - s) (drop s (drop (length front) (front ++ []))), length-drop s (drop (length front) (front ++ [])), ap length none))
 
--- where a status of this test lets a request wait on, no answer that was sent has such a status
-abbrev pub AreCounted : (ℕ → Bool) → List SentAnswer → Type 0
-AreCounted waits ss = AllByRecursion (λ s. waits s.answer.status ≡ false) ss
-
+-- the answers from a place on, and that they are read as they were sent
 pub record Reads (waits : ℕ → Bool) (bytes : List ℕ) (place : ℕ) (ss : List SentAnswer) (extra : List (List ℕ)) : Type 0 where
   pub messages : List AnswerMessage
   pub are : AreAnswersFrom waits (so_far bytes) place (methods_of ss ++ extra) messages

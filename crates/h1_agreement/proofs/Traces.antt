@@ -14,10 +14,10 @@ use Rattle.h1_model.specs.Trace.{IsTrace}
 use Rattle.h1_model.specs.Laws.Exchanges.{Reply, no_reply, answer_given, session, is_whole, Exchange, reply_text, exchange_text, exchanges, exchanges_text, refusal, refusal_text}
 use Rattle.h1_model.proofs.ExchangeTraces.{spoken}
 use Rattle.h1_client_model.specs.AnswerParse.{so_far, AnswerMessage, AreAnswersFrom}
-use Rattle.h1_agreement.specs.SentAnswer.{SentAnswer, IsSent, sent_text, methods_of, AreReadAs, sent_answer, sent_by, all_sent}
+use Rattle.h1_agreement.specs.SentAnswer.{SentAnswer, IsSent, sent_text, methods_of, AreReadAs, sent_answer, sent_by, all_sent, AreCounted, CountsAnswers, methods_asked, answers_sent}
 use Rattle.h1_client_model.specs.PlainExchange.{IsPlainHead, IsSelfFramed, IsFramedReply, IsPlain, IsUninterrupted}
 use Rattle.h1_client_model.proofs.AnswerLemmas.{answers_unique}
-use Rattle.h1_agreement.proofs.SentAnswers.{AreCounted, Reads, all_read}
+use Rattle.h1_agreement.proofs.SentAnswers.{Reads, all_read}
 use Rattle.h1_agreement.proofs.PlainTraces.{IsNoSession, IsQuiet, Quiet, quiet_trace}
 use Rattle.h1_agreement.proofs.PlainExchange.{plain_sent}
 
@@ -52,10 +52,6 @@ record IsFramed (setting : Setting) (e : Exchange) : Type 0 where
 -- and which has an answer, and it is whole
 abbrev IsReady : Setting → Exchange → Type 0
 IsReady setting e = IsFramed setting e × (is_whole e.reply ≡ true)
-
--- a status from 200 on lets no request wait
-abbrev pub CountsAnswers : (ℕ → Bool) → Type 0
-CountsAnswers waits = (status : ℕ) → 200 ≤ status → waits status ≡ false
 
 -- what an exchange writes is the text of these answers
 record Says (waits : ℕ → Bool) (setting : Setting) (h : Head) (reply : Reply) (ss : List SentAnswer) : Type 0 where
@@ -193,15 +189,11 @@ all_framed setting (e ∷ es) plain quiet none = (
   all_framed setting es plain.1 quiet.1 none.1,
 )
 
--- the methods of the requests of a trace, in their order
-abbrev methods : List Step → List (List ℕ)
-methods trace = map (λ e. e.head.method) (reverse (exchanges trace))
-
 -- what a client reads of a trace
 pub ends_agree : (waits : ℕ → Bool) (setting : Setting) (trace : List Step) → CountsAnswers waits → IsTrace setting trace → IsUninterrupted trace
     → AllByRecursion (IsPlain setting) (exchanges trace)
-    → (ms : List AnswerMessage) × AreAnswersFrom waits (so_far (text setting trace)) 0 (map (λ e. e.head.method) (reverse (exchanges trace))) ms
-    × AreReadAs (text setting trace) ms (all_sent setting (reverse (exchanges trace)))
+    → (ms : List AnswerMessage) × AreAnswersFrom waits (so_far (text setting trace)) 0 (methods_asked trace) ms
+    × AreReadAs (text setting trace) ms (answers_sent setting trace)
 ends_agree waits setting trace counts traced still plain =
     let es = exchanges trace in
     let q = quiet_trace setting trace traced still (each_head es plain) in
@@ -210,7 +202,7 @@ ends_agree waits setting trace counts traced still plain =
     spoke.says ∙ ap (λ r. exchanges_text setting es ++ refusal_text r) q.none_refused ∙ append-nil (exchanges_text setting es) in
     let a = all_agree waits setting es counts (all_framed setting es plain q.quiet q.no_sessions) spoke.whole in (
       a.messages,
-      subst (λ t. AreAnswersFrom waits (so_far t) 0 (methods trace) a.messages) (sym words) a.are,
+      subst (λ t. AreAnswersFrom waits (so_far t) 0 (methods_asked trace) a.messages) (sym words) a.are,
       subst (λ t. AreReadAs t a.messages (all_sent setting (reverse es))) (sym words) a.read,
     )
   where
@@ -221,9 +213,9 @@ ends_agree waits setting trace counts traced still plain =
 -- and it reads nothing else
 pub ends_agree_alone : (waits : ℕ → Bool) (setting : Setting) (trace : List Step) (ms : List AnswerMessage) → CountsAnswers waits → IsTrace setting trace → IsUninterrupted trace
     → AllByRecursion (IsPlain setting) (exchanges trace)
-    → AreAnswersFrom waits (so_far (text setting trace)) 0 (map (λ e. e.head.method) (reverse (exchanges trace))) ms
-    → AreReadAs (text setting trace) ms (all_sent setting (reverse (exchanges trace)))
+    → AreAnswersFrom waits (so_far (text setting trace)) 0 (methods_asked trace) ms
+    → AreReadAs (text setting trace) ms (answers_sent setting trace)
 ends_agree_alone waits setting trace ms counts traced still plain are =
     let a = ends_agree waits setting trace counts traced still plain in
-    let same = answers_unique waits (so_far (text setting trace)) 0 (methods trace) ms a.0 are a.1 in
-    subst (λ l. AreReadAs (text setting trace) l (all_sent setting (reverse (exchanges trace)))) (sym same) a.2
+    let same = answers_unique waits (so_far (text setting trace)) 0 (methods_asked trace) ms a.0 are a.1 in
+    subst (λ l. AreReadAs (text setting trace) l (answers_sent setting trace)) (sym same) a.2

@@ -1,13 +1,15 @@
 -- Answers that were sent one after another, and what a client reads of them.
-use Rattle.std.specs.Prelude.{◌≡◌, ℕ, ◌≤◌, false, List, [], ◌∷◌, ◌++◌, length, map, flat_map, Option, Some, ⊤}
+use Rattle.std.specs.Prelude.{◌≡◌, ℕ, ◌≤◌, Bool, false, List, [], ◌∷◌, ◌++◌, length, map, reverse, flat_map, Option, Some, ⊤}
+use Rattle.std.specs.List.{AllByRecursion}
 use Rattle.h1_chunks.specs.ChunkedText.{ChunkedText, IsChunkedText, chunked_text, content}
 use Rattle.h1_model.specs.Limits.{MAX_HEADER_LINES}
 use Rattle.h1_model.specs.Request.{Head, BodyKind, no_body, fixed_body, chunked_body, raw_body}
 use Rattle.h1_model.specs.Setting.{Setting}
 use Rattle.h1_model.specs.Answer.{asked_of}
+use Rattle.h1_model.specs.Sums.{Step}
 use Rattle.h1_model.specs.Parse.{next_start, trailers_of}
 use Rattle.h1_model.specs.Handed.{body_bytes}
-use Rattle.h1_model.specs.Laws.Exchanges.{AnswerGiven, Reply, answer_given, Exchange, body_text}
+use Rattle.h1_model.specs.Laws.Exchanges.{AnswerGiven, Reply, answer_given, Exchange, body_text, exchanges}
 use Rattle.h1_client_model.specs.AnswerTable.{answer_kind, answer_body, answer_connection, body_to}
 use Rattle.h1_client_model.specs.AnswerReading.{Answer, answer_is}
 use Rattle.h1_client_model.specs.AnswerParse.{AnswerMessage}
@@ -63,6 +65,16 @@ AreReadAs bytes [] [] = ⊤
 AreReadAs bytes (m ∷ ms) (s ∷ ss) = IsReadAs bytes m s × AreReadAs bytes ms ss
 AreReadAs bytes ms ss = ⊥
 
+-- ---- which answers count
+
+-- no status of an answer is one after which its request still waits
+abbrev pub AreCounted : (ℕ → Bool) → List SentAnswer → Type 0
+AreCounted waits ss = AllByRecursion (λ s. waits s.answer.status ≡ false) ss
+
+-- a request may wait on after a status below 200 alone
+abbrev pub CountsAnswers : (ℕ → Bool) → Type 0
+CountsAnswers waits = (status : ℕ) → 200 ≤ status → waits status ≡ false
+
 -- ---- the answers of a trace
 
 -- an answer to this request, as a connection of this setting sends it
@@ -97,3 +109,10 @@ sent_by setting e = by_reply e.reply
 -- the answers of exchanges, in their order
 abbrev pub all_sent : Setting → List Exchange → List SentAnswer
 all_sent setting es = flat_map (sent_by setting) es
+
+-- the methods of the requests of a trace, and its answers, in their order
+abbrev pub methods_asked : List Step → List (List ℕ)
+methods_asked trace = map (λ e. e.head.method) (reverse (exchanges trace))
+
+abbrev pub answers_sent : Setting → List Step → List SentAnswer
+answers_sent setting trace = all_sent setting (reverse (exchanges trace))
