@@ -4,3 +4,4 @@ pub mod ResponseDecisions
 pub mod AnswerDecisions
 pub mod AnswerExistence
 pub mod AnswerMoved
+pub mod ExampleLemmas
