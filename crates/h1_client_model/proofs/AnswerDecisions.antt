@@ -1,18 +1,18 @@
 -- Each piece has a reading as an answer.
-use Rattle.std.proofs.Common.{◌≡◌, ℕ, ◌≤◌, Bool, true, false, List, [], length, map, Option, Some, None, refl, sym, ap, ◌∙◌, subst, inl, inr}
+use Rattle.std.proofs.Common.{◌≡◌, ℕ, ◌≤◌, Bool, true, false, List, [], length, map, Option, Some, None, refl, sym, ◌∙◌, subst, inl, inr}
 use Rattle.std.specs.List.{AllByRecursion}
 use Rattle.std.proofs.lemmas.Bool.{cases_lt}
 use Rattle.httparse.specs.Grammar.{ResponseHead, ReadsResponse, Field, field_value, status_code, reason_phrase}
 use Rattle.httparse.proofs.GrammarLemmas.{response_unique}
-use Rattle.http_header.specs.Token.{IsToken, is_token_byte, is_value_byte}
+use Rattle.http_header.specs.Token.{is_token_byte, is_value_byte}
 use Rattle.h1_model.specs.Limits.{MAX_HEADER_LINES}
 use Rattle.h1_model.specs.HeadPiece.{header_lines}
 use Rattle.h1_model.specs.Request.{BodyKind, too_large, malformed}
 use Rattle.h1_model.specs.RequestHead.{IsHeaderField, header_of}
-use Rattle.h1_model.proofs.Decisions.{dec_like, dec_both, dec_either, dec_pass, dec_below, dec_most, dec_by_recursion}
+use Rattle.h1_model.proofs.Decisions.{dec_like, dec_both, dec_pass, dec_below, dec_most, dec_by_recursion}
 use Rattle.h1_client_model.specs.AnswerTable.{answer_kind, answer_connection}
 use Rattle.h1_client_model.specs.LaxText.{unpadded}
-use Rattle.h1_client_model.specs.AnswerReading.{Answer, AnswerReading, answer_is, refused, IsTextOf, HasNoText, IsAnswerOf, IsAnswerReading, IsAnswerReadingWithin}
+use Rattle.h1_client_model.specs.AnswerReading.{Answer, AnswerReading, answer_is, refused, IsTextOf, IsAnswerOf, IsAnswerReading, IsAnswerReadingWithin}
 use Rattle.h1_client_model.proofs.ResponseDecisions.{response_decided}
 
 -- a field line's name and value

@@ -12,7 +12,7 @@ use Rattle.h1_model.proofs.BodyGrowth.{fixed_whole, fixed_part}
 use Rattle.h1_model.proofs.MessageGrowth.{piece_end, piece_long}
 use Rattle.h1_client_model.specs.AnswerTable.{body_to}
 use Rattle.h1_client_model.specs.AnswerReading.{AnswerReading, answer_is, refused}
-use Rattle.h1_client_model.specs.AnswerParse.{Received, body_input, AnswerMessage, IsAnswerBody, IsAnswerAt, left_waiting, AreAnswersFrom, AreAnswersIn}
+use Rattle.h1_client_model.specs.AnswerParse.{Received, body_input, AnswerMessage, IsAnswerBody, IsAnswerAt, left_waiting, AreAnswersFrom}
 use Rattle.h1_client_model.proofs.AnswerDecisions.{answer_within_of}
 
 -- ---- bodies

@@ -84,9 +84,11 @@ answers_grow waits bytes more ended limit place (method ∷ methods) extra (m �
     let left = left_waiting waits m.reading method methods in
     let methods_left : left_waiting waits n.reading method (methods ++ extra) ≡ left ++ extra =
     ap (λ k. left_waiting waits k method (methods ++ extra)) (sym first.reading) ∙ left_waiting-append waits m.reading method methods extra in
-    let there = subst (λ l. MatchOption (next_start n.body) (ns ≡ []) (λ next. AreAnswersFrom waits (received (bytes ++ more) ended limit) next l ns)) methods_left y.1 in
-    (first, rest_grows waits bytes more ended limit left extra (next_start m.body) (next_start n.body) ms ns same
-    (λ next. answers_grow waits bytes more ended limit next left extra ms ns) x.1 there)
+    let there = subst (λ l. MatchOption (next_start n.body) (ns ≡ []) (λ next. AreAnswersFrom waits (received (bytes ++ more) ended limit) next l ns)) methods_left y.1 in (
+      first,
+      rest_grows waits bytes more ended limit left extra (next_start m.body) (next_start n.body) ms ns same
+          (λ next. answers_grow waits bytes more ended limit next left extra ms ns) x.1 there,
+    )
 
 -- the answers of what was received grow
 pub answers_stay : (waits : ℕ → Bool) (r s : Received) (more : List ℕ) (methods extra : List (List ℕ)) (ms ns : List AnswerMessage)

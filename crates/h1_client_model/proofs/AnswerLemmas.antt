@@ -1,5 +1,5 @@
 -- Answers are read in one way.
-use Rattle.std.proofs.Common.{◌≡◌, ℕ, ◌+◌, Bool, true, false, List, [], ◌∷◌, drop, map, slice_range, Option, Some, None, MatchOption, refl, sym, ap, ◌∙◌, subst, subst₂, inl, inr, arith}
+use Rattle.std.proofs.Common.{◌≡◌, ℕ, ◌+◌, Bool, false, List, [], ◌∷◌, drop, map, slice_range, Option, Some, None, MatchOption, refl, sym, ap, ◌∙◌, subst, subst₂, inl, inr, arith}
 use Rattle.httparse.specs.Grammar.{ResponseHead, status_code, reason_phrase}
 use Rattle.httparse.proofs.GrammarLemmas.{response_unique}
 use Rattle.h1_model.specs.Request.{BodyKind, Head, head_is, keep_alive, malformed, too_large}

@@ -157,7 +157,7 @@ answers_moved waits len bytes ended limit place (method ∷ methods) (m ∷ ms) 
     let rest = moved_rest waits len bytes ended limit left (next_start m.body) ms (λ next y. answers_moved waits len bytes ended limit next left ms within y) x.1 in (
       moved_at len bytes ended limit place method m within x.0,
       subst (λ o. MatchOption o (map (moved_answer len) ms ≡ []) (λ next. AreAnswersFrom waits (received bytes ended limit) next left (map (moved_answer len) ms)))
-      (sym (moved_next len m.body)) rest,
+          (sym (moved_next len m.body)) rest,
     )
 
 -- the answers of the rest, counted from the front

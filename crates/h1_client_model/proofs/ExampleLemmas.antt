@@ -1,13 +1,12 @@
 -- What worked examples of answers stand on: parts whose classes of bytes are tests that compute.
-use Rattle.std.proofs.Common.{◌≡◌, ℕ, zero, suc, ◌≤◌, Bool, true, false, ◌&&◌, List, [], ◌∷◌, ◌++◌, length, map, codes, Some, None, Option, nat_lt, nat_le, ◌==◌, refl, sym, ap, ◌∙◌, subst, arith}
+use Rattle.std.proofs.Common.{◌≡◌, ℕ, ◌≤◌, Bool, true, false, ◌&&◌, List, [], ◌∷◌, ◌++◌, length, map, Some, Option, nat_lt, nat_le, ◌==◌, refl, sym, ap, ◌∙◌, arith}
 use Rattle.std.specs.List.{list_all, AllByRecursion}
 use Rattle.std.specs.Char.{is_ascii_digit}
 use Rattle.std.proofs.lemmas.Bool.{and_parts, ltb-true, leb-true, eqb-true, false≢true}
 use Rattle.std.proofs.lemmas.List.Sums.{AllPass-from_list_all}
 use Rattle.std.proofs.lemmas.List.Elements.{All-from_recursion, All-head, All-tail}
 use Rattle.std.specs.Prelude.{IsTrue}
-use Rattle.httparse.specs.Grammar.{ResponseHead, IsResponseHead, ReadsResponse, Field, IsField, IsToken, AllPass, LineEnd, crlf, lf, is_token, is_token_byte, is_value_byte, print_end, print_version, print_reason, print_section, print_response, reason_phrase, status_code, field_value}
-use Rattle.httparse.proofs.GrammarLemmas.{print_response-append}
+use Rattle.httparse.specs.Grammar.{ResponseHead, IsResponseHead, Field, IsField, AllPass, crlf, is_token, is_token_byte, is_value_byte, print_response, reason_phrase, status_code, field_value}
 use Rattle.http_header.specs.FieldName.{is_field_name}
 use Rattle.http_header.specs.Token.{is_value_byte as is_field_byte}
 use Rattle.http_header.proofs.TokenLemmas.{IsFieldName-from_test}
@@ -101,22 +100,30 @@ plain_text piece a h e high y =
 
 -- ---- a text that the grammar refuses
 
+-- the first byte of a text, and the others
+first_byte : (a b : ℕ) (x y : List ℕ) → a ∷ x ≡ b ∷ y → a ≡ b
+first_byte a b x y e = cc
+
+other_bytes : (a b : ℕ) (x y : List ℕ) → a ∷ x ≡ b ∷ y → x ≡ y
+other_bytes a b x y e = cc
+
+-- a byte isn't one that passes the test and one that fails it
+both_tests : (test : ℕ → Bool) (a b : ℕ) → test a ≡ false → test b ≡ true → b ≡ a → ⊥
+both_tests test a b fails passes same = false≢true (sym fails ∙ ap test (sym same) ∙ passes)
+
 -- a word of bytes that pass a test doesn't end at a colon where a blank stands, if both fail it
-no_word : (test : ℕ → Bool) → test 32 ≡ false → test 58 ≡ false → (front word rest more : List ℕ) → list_all test front ≡ true → AllPass test word
-    → word ++ 58 ∷ rest ≡ front ++ 32 ∷ more → ⊥
-no_word test blank colon [] [] rest more passes all e = cc
-no_word test blank colon [] (b ∷ word) rest more passes all e =
-    let here : b ≡ 32 = cc in
-    let pass : test b ≡ true = All-head (λ x. IsTrue (test x)) b word all in
-    false≢true (sym blank ∙ ap test (sym here) ∙ pass)
-no_word test blank colon (f ∷ front) [] rest more passes all e =
-    let here : f ≡ 58 = cc in
-    false≢true (sym colon ∙ ap test (sym here) ∙ (and_parts (test f) (list_all test front) passes).0)
-no_word test blank colon (f ∷ front) (b ∷ word) rest more passes all e =
-    let others : word ++ 58 ∷ rest ≡ front ++ 32 ∷ more = cc in
-    no_word test blank colon front word rest more (and_parts (test f) (list_all test front) passes).1 (All-tail (λ x. IsTrue (test x)) b word all) others
+no_word : (test : ℕ → Bool) (blank colon : ℕ) → test blank ≡ false → test colon ≡ false → ¬ (colon ≡ blank) → (front word rest more : List ℕ)
+    → list_all test front ≡ true → AllPass test word → word ++ colon ∷ rest ≡ front ++ blank ∷ more → ⊥
+no_word test blank colon no_blank no_colon differ [] [] rest more passes all e = differ (first_byte colon blank rest more e)
+no_word test blank colon no_blank no_colon differ [] (b ∷ word) rest more passes all e =
+    both_tests test blank b no_blank (All-head (λ x. IsTrue (test x)) b word all) (first_byte b blank (word ++ colon ∷ rest) more e)
+no_word test blank colon no_blank no_colon differ (f ∷ front) [] rest more passes all e =
+    both_tests test colon f no_colon (and_parts (test f) (list_all test front) passes).0 (sym (first_byte colon f rest (front ++ blank ∷ more) e))
+no_word test blank colon no_blank no_colon differ (f ∷ front) (b ∷ word) rest more passes all e =
+    no_word test blank colon no_blank no_colon differ front word rest more (and_parts (test f) (list_all test front) passes).1
+    (All-tail (λ x. IsTrue (test x)) b word all) (other_bytes b f (word ++ colon ∷ rest) (front ++ blank ∷ more) e)
 
 -- so no name does
 pub no_name : (front name rest more : List ℕ) → list_all is_token_byte front ≡ true → AllPass is_token_byte name → name ++ 58 ∷ rest ≡ front ++ 32 ∷ more → ⊥
 unfolding is_token_byte
-no_name front name rest more tokens all e = no_word is_token_byte refl refl front name rest more tokens all e
+no_name front name rest more tokens all e = no_word is_token_byte 32 58 refl refl (λ same. omega arith) front name rest more tokens all e

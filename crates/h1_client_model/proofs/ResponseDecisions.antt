@@ -1,11 +1,11 @@
 -- Whether a text is that of a response head is decided, by cutting it in all ways.
-use Rattle.std.proofs.Common.{◌≡◌, ℕ, zero, suc, ◌+◌, ◌-◌, ◌<◌, ◌≤◌, ◌⊎◌, Bool, true, false, List, [], ◌∷◌, ◌++◌, length, All, refl, sym, ap, ap₂, ◌∙◌, subst, inl, inr, arith, append_assoc, append-nil, length-append, Option, Some, None}
+use Rattle.std.proofs.Common.{◌≡◌, ℕ, zero, suc, ◌+◌, ◌-◌, ◌<◌, ◌≤◌, ◌⊎◌, true, List, [], ◌∷◌, ◌++◌, length, All, refl, sym, ap, ap₂, ◌∙◌, subst, inl, inr, arith, append_assoc, append-nil, length-append, Option, Some, None}
 use Rattle.std.proofs.lemmas.List.Elements.{All-nil, All-cons, All-head, All-tail}
 use Rattle.std.specs.List.{flat_map}
 use Rattle.std.specs.Char.{is_ascii_digit}
 use Rattle.httparse.specs.Grammar.{AllPass, is_token_byte, is_value_byte, LineEnd, crlf, lf, print_end, print_blank, print_version, Field, print_field, IsField, print_section, print_reason, reason_phrase, ResponseHead, IsResponseHead, print_response, ReadsResponse}
 use Rattle.httparse.proofs.GrammarLemmas.{print_response-append}
-use Rattle.h1_model.proofs.Decisions.{dec_like, dec_both, dec_pass, dec_either, dec_below, dec_same, dec_front, dec_bytes, dec_cut, HasCut}
+use Rattle.h1_model.proofs.Decisions.{dec_like, dec_both, dec_pass, dec_either, dec_below, dec_same, dec_bytes, dec_cut, HasCut}
 
 -- ---- a line end
 
@@ -73,9 +73,12 @@ line_decided text =
     from : (name rest : List ℕ) → text ≡ name ++ rest → IsNamed name rest → IsLine text
     from name rest e x =
         let v = x.1.3.1 in
-        let f : Field = record { name = name; raw = v.0; end = v.3.1.0 } in
-        (f, record { name = x.0; raw = v.3.0 }, e ∙ ap (λ (t : List ℕ). name ++ t) (x.1.2 ∙ ap₂ (λ (a b : List ℕ). a ++ b) x.1.3.0 (v.2 ∙ ap (λ (t : List ℕ). v.0 ++ t) v.3.1.1))
-        ∙ sym (append_assoc name (58 ∷ v.0) (print_end v.3.1.0)))
+        let f : Field = record { name = name; raw = v.0; end = v.3.1.0 } in (
+          f,
+          record { name = x.0; raw = v.3.0 },
+          e ∙ ap (λ (t : List ℕ). name ++ t) (x.1.2 ∙ ap₂ (λ (a b : List ℕ). a ++ b) x.1.3.0 (v.2 ∙ ap (λ (t : List ℕ). v.0 ++ t) v.3.1.1))
+              ∙ sym (append_assoc name (58 ∷ v.0) (print_end v.3.1.0)),
+        )
 
     into : (f : Field) → IsField f → text ≡ print_field f → HasCut IsNamed text
     into f is e =
@@ -92,9 +95,12 @@ section_from zero text x = ([], x.0, All-nil IsField, x.1)
 section_from (suc n) text (inl x) = ([], x.0, All-nil IsField, x.1)
 section_from (suc n) text (inr x) =
     let f = x.3.0 in
-    let others = section_from n x.1 x.3.1 in
-    (f.0 ∷ others.0, others.1, All-cons IsField f.0 others.0 f.1 others.2,
-    x.2 ∙ ap₂ (λ (a b : List ℕ). a ++ b) f.2 others.3 ∙ sym (append_assoc (print_field f.0) (flat_map print_field others.0) (print_end others.1)))
+    let others = section_from n x.1 x.3.1 in (
+      f.0 ∷ others.0,
+      others.1,
+      All-cons IsField f.0 others.0 f.1 others.2,
+      x.2 ∙ ap₂ (λ (a b : List ℕ). a ++ b) f.2 others.3 ∙ sym (append_assoc (print_field f.0) (flat_map print_field others.0) (print_end others.1)),
+    )
 
 -- and into them
 section_into : (fields : List Field) (last : LineEnd) (text : List ℕ) → All IsField fields → text ≡ print_section fields last
@@ -242,13 +248,23 @@ line_into text h none x =
       whole ∙ sym (append_assoc (print_version h.minor) (32 ∷ []) code),
       (
         (h.minor, x.0.minor, refl),
-        (h.digits, reason, refl, (
-          x.0.digits,
-          (print_reason h.reason, ended, refl, (
-            (h.reason, x.0.reason, refl),
-            (print_end h.line_end, section, refl, ((h.line_end, refl), (h.fields, h.last, x.0.fields, refl))),
-          )),
-        )),
+        (
+          h.digits,
+          reason,
+          refl,
+          (
+            x.0.digits,
+            (
+              print_reason h.reason,
+              ended,
+              refl,
+              (
+                (h.reason, x.0.reason, refl),
+                (print_end h.line_end, section, refl, ((h.line_end, refl), (h.fields, h.last, x.0.fields, refl))),
+              ),
+            ),
+          ),
+        ),
       ),
     )
 

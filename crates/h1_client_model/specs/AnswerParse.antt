@@ -1,6 +1,6 @@
 -- What a client reads: answers one after another, each with its body, and each to the method of its own request
 -- (RFC 7230, sections 3.3 and 5.6).
-use Rattle.std.specs.Prelude.{◌≡◌, ℕ, ◌+◌, Bool, true, false, not, ◌&&◌, List, [], ◌∷◌, drop, slice_range, nat_le, nat_lt, ◌==◌, if◌then◌else◌, Option, None, MatchOption}
+use Rattle.std.specs.Prelude.{◌≡◌, ℕ, ◌+◌, Bool, false, not, ◌&&◌, List, [], ◌∷◌, drop, slice_range, nat_le, nat_lt, ◌==◌, if◌then◌else◌, Option, None, MatchOption}
 use Rattle.h1_model.specs.HeadPiece.{IsHeadPiece, HasNoHeadPiece}
 use Rattle.h1_model.specs.Parse.{Input, Body, no_content, next_start, IsBodyOf}
 use Rattle.h1_client_model.specs.AnswerTable.{body_to}

@@ -1,6 +1,6 @@
 -- How the header lines of an answer frame its body, as its client reads them (RFC 7230, section 3.3.3), and what they
 -- say of the connection (section 6.1). Each is a function of the status, the version and the whole list of lines.
-use Rattle.std.specs.Prelude.{ℕ, Bool, true, false, not, ◌&&◌, ◌||◌, List, [], ◌∷◌, codes, bytes_eq, nat_lt, ◌==◌, if◌then◌else◌, Option, Some, None}
+use Rattle.std.specs.Prelude.{ℕ, Bool, false, not, ◌&&◌, ◌||◌, List, [], ◌∷◌, codes, bytes_eq, nat_lt, ◌==◌, if◌then◌else◌, Option, Some, None}
 use Rattle.h1_model.specs.Request.{Header, ConnectionType, close, BodyKind, no_body, fixed_body, chunked_body, raw_body}
 use Rattle.h1_model.specs.LengthTable.{values_of, says, stated_length, is_length_refused, connection_of}
 

@@ -1,6 +1,6 @@
 -- The laxer copy of an answer's head: some servers put blanks between a field's name and its colon, which the grammar
 -- refuses (RFC 7230, section 3.2.4). A client takes them away and reads once more.
-use Rattle.std.specs.Prelude.{ℕ, Bool, true, false, List, [], ◌∷◌, ◌++◌, reverse, ◌==◌, if◌then◌else◌}
+use Rattle.std.specs.Prelude.{ℕ, List, [], ◌∷◌, ◌++◌, reverse, ◌==◌, if◌then◌else◌}
 use Rattle.httparse.specs.Ascii.{line_feed, colon}
 use Rattle.httparse.specs.Grammar.{skip_ows}
 

@@ -1,5 +1,5 @@
 -- Exchanges in which two ends agree: plain requests, and answers that say where they end (RFC 7230, section 3.3.3).
-use Rattle.std.specs.Prelude.{◌≡◌, ◌⊎◌, ℕ, ◌<◌, ◌≤◌, ◌^◌, Bool, true, false, List, [], ◌∷◌, length, take, flat_map, codes, bytes_eq, if◌then◌else◌, ⊤}
+use Rattle.std.specs.Prelude.{◌≡◌, ◌⊎◌, ℕ, ◌<◌, ◌≤◌, ◌^◌, true, false, List, [], ◌∷◌, length, take, flat_map, codes, bytes_eq, if◌then◌else◌, ⊤}
 use Rattle.std.specs.List.{AllByRecursion}
 use Rattle.h1_model.specs.Request.{Header, Head, Fault}
 use Rattle.h1_model.specs.Limits.{MAX_HEADER_LINES}

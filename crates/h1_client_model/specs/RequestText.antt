@@ -1,5 +1,5 @@
 -- The text of a request as a client writes it (RFC 7230, sections 3.1.1 and 3.3), and what it says.
-use Rattle.std.specs.Prelude.{◌≡◌, ℕ, ◌<◌, ◌≤◌, ◌^◌, Bool, false, List, [], ◌∷◌, ◌++◌, length, filter, flat_map, codes, bytes_eq, None, IsUtf8, ◌==◌, if◌then◌else◌, ⊤}
+use Rattle.std.specs.Prelude.{◌≡◌, ℕ, ◌<◌, ◌^◌, Bool, false, List, [], ◌∷◌, ◌++◌, length, filter, flat_map, codes, bytes_eq, None, IsUtf8, ◌==◌, if◌then◌else◌, ⊤}
 use Rattle.std.specs.List.{AllByRecursion}
 use Rattle.http_header.specs.Token.{IsToken}
 use Rattle.httparse.specs.Ascii.{space, crlf_bytes}

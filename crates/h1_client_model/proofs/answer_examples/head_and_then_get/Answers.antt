@@ -1,4 +1,4 @@
-use Rattle.std.proofs.Common.{false, List, [], ◌∷◌, codes, refl, arith, inl, Some, lit≤}
+use Rattle.std.proofs.Common.{false, [], ◌∷◌, codes, refl, arith, inl, Some, lit≤}
 use Rattle.httparse.specs.Grammar.{Field, crlf, is_token_byte, print_response, trim_ows}
 use Rattle.h1_model.specs.Request.{no_body, fixed_body, keep_alive}
 use Rattle.h1_model.specs.HeadPiece.{IsHeadPiece}

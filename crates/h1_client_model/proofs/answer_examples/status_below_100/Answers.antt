@@ -1,5 +1,5 @@
-use Rattle.std.proofs.Common.{◌≡◌, ℕ, ◌≤◌, true, [], ◌∷◌, ◌++◌, codes, refl, arith, inl, inr, None, subst, ap}
-use Rattle.httparse.specs.Grammar.{ResponseHead, IsResponseHead, ReadsResponse, print_response, status_code}
+use Rattle.std.proofs.Common.{◌≤◌, [], codes, refl, arith, inl, inr, None, subst}
+use Rattle.httparse.specs.Grammar.{ResponseHead, ReadsResponse, print_response, status_code}
 use Rattle.httparse.proofs.GrammarLemmas.{response_unique}
 use Rattle.h1_model.specs.HeadPiece.{IsHeadPiece}
 use Rattle.h1_model.proofs.ExampleLemmas.{plain_piece}

@@ -2,7 +2,7 @@ use Rattle.std.proofs.Common.{false, [], codes, refl, arith, inl, Some, lit≤}
 use Rattle.httparse.specs.Grammar.{print_response}
 use Rattle.h1_model.specs.Request.{raw_body, close}
 use Rattle.h1_model.specs.HeadPiece.{IsHeadPiece}
-use Rattle.h1_model.proofs.ExampleLemmas.{plain_piece, nothing_behind}
+use Rattle.h1_model.proofs.ExampleLemmas.{plain_piece}
 use Rattle.h1_client_model.specs.AnswerReading.{Answer, IsTextOf}
 use Rattle.h1_client_model.proofs.ExampleLemmas.{plain_tree, plain_text}
 use Rattle.h1_client_model.proofs.answer_examples.up_to_the_end.Goals as goal
