@@ -12,3 +12,4 @@ pub mod NameGroups
 pub mod PlainExchange
 pub mod PlainTraces
 pub mod Traces
+pub mod GivenRequests

@@ -108,12 +108,13 @@ framed_kind r (size_of n) kind now fit x =
 
 -- ---- the head
 
-pub request_reads_back : (r : AskedHead) (size : BodySize) (kind : ConnectionType) (now : ℕ) → IsPlainRequest r (asked_shape size) size kind now → fits size
-    → IsHeadOf (request_text r (asked_shape size) size kind now) (head_said r (asked_shape size) size kind now)
-request_reads_back r size kind now x fit =
+-- the text is that of the head, without empty lines in front
+pub request_back : (r : AskedHead) (size : BodySize) (kind : ConnectionType) (now : ℕ) → IsPlainRequest r (asked_shape size) size kind now → fits size
+    → (back : IsHeadOf (request_text r (asked_shape size) size kind now) (head_said r (asked_shape size) size kind now)) × (back.text.blank ≡ [])
+request_back r size kind now x fit =
     let lines = request_lines r (asked_shape size) size kind now in
     let h = tree r lines in
-    record {
+    (record {
       text = h;
       reads = (
         record {
@@ -133,4 +134,9 @@ request_reads_back r size kind now x fit =
       body_is = framed_kind r size kind now fit x;
       connection_is = refl;
       expects_is = refl;
-    }
+    }, refl)
+
+-- the head is read back
+pub request_reads_back : (r : AskedHead) (size : BodySize) (kind : ConnectionType) (now : ℕ) → IsPlainRequest r (asked_shape size) size kind now → fits size
+    → IsHeadOf (request_text r (asked_shape size) size kind now) (head_said r (asked_shape size) size kind now)
+request_reads_back r size kind now x fit = (request_back r size kind now x fit).0

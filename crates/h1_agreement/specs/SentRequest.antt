@@ -5,6 +5,8 @@ use Rattle.h1_model.specs.RequestHead.{IsHeadOf}
 use Rattle.h1_model.specs.Limits.{MAX_HEADER_LINES}
 use Rattle.h1_model.specs.Parse.{Message, next_start, trailers_of}
 use Rattle.h1_model.specs.Handed.{body_bytes}
+use Rattle.h1_client_model.specs.PlainExchange.{carried_by}
+use Rattle.h1_client_model.specs.RequestText.{RequestGiven, asked_shape, head_said, given_request_text, body_sent}
 use Rattle.h1_agreement.specs.SentAnswer.{IsBodyText}
 
 -- a request as it was sent: the texts of its head and of its body, what the head says, and the bytes that the body carries
@@ -21,6 +23,16 @@ pub record IsAsked (hold_size : ℕ) (s : SentRequest) : Type 0 where
   pub few : length s.says.headers ≤ MAX_HEADER_LINES
   pub fits : length s.head ≤ hold_size
   pub body : IsBodyText s.says.body s.body s.bytes
+
+-- a request as its client sends it
+abbrev pub sent_request : RequestGiven → SentRequest
+sent_request g =
+    let shape = asked_shape g.size in record {
+      head = given_request_text g;
+      body = body_sent shape g.pieces;
+      says = head_said g.head shape g.size g.kind g.moment;
+      bytes = carried_by shape g.pieces;
+    }
 
 -- all texts, one after another
 abbrev pub asked_text : List SentRequest → List ℕ

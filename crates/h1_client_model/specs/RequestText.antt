@@ -1,5 +1,5 @@
 -- The text of a request as a client writes it (RFC 7230, sections 3.1.1 and 3.3), and what it says.
-use Rattle.std.specs.Prelude.{◌≡◌, ℕ, ◌<◌, ◌^◌, Bool, false, List, [], ◌∷◌, ◌++◌, length, filter, flat_map, codes, bytes_eq, None, IsUtf8, ◌==◌, if◌then◌else◌, ⊤}
+use Rattle.std.specs.Prelude.{◌≡◌, ℕ, ◌<◌, ◌≤◌, ◌^◌, Bool, false, List, [], ◌∷◌, ◌++◌, length, take, filter, flat_map, codes, bytes_eq, None, IsUtf8, ◌==◌, if◌then◌else◌, ⊤}
 use Rattle.std.specs.List.{AllByRecursion}
 use Rattle.http_header.specs.Token.{IsToken}
 use Rattle.httparse.specs.Ascii.{space, crlf_bytes}
@@ -8,7 +8,9 @@ use Rattle.h1_model.specs.Request.{Header, ConnectionType, BodyKind, no_body, fi
 use Rattle.h1_model.specs.RequestHead.{IsTarget}
 use Rattle.h1_model.specs.LengthTable.{values_of, connection_of, expects_continue}
 use Rattle.h1_model.specs.Answer.{AnswerHead, BodySize, size_none, size_of, size_stream, Shape, shape_none, shape_length, shape_chunked}
-use Rattle.h1_model.specs.AnswerText.{header_text, by_name, is_sent}
+use Rattle.h1_model.specs.AnswerText.{header_text, by_name, is_sent, chunk_text, last_chunk}
+use Rattle.h1_model.specs.Limits.{MAX_HEADER_LINES}
+use Rattle.h1_client_model.specs.PlainExchange.{joined}
 use Rattle.h1_client_model.specs.WrittenHead.{written_lines, IsCleanLine}
 
 -- a request's head as a client gives it: HTTP/1.minor, and whether names are written in camel case
@@ -83,3 +85,36 @@ pub record IsPlainRequest (r : AskedHead) (shape : Shape) (size : BodySize) (kin
   pub utf8 : IsUtf8 r.target
   pub no_upgrade : values_of (codes "upgrade") (filter (is_sent (as_answer r) shape) (by_name r.headers)) ≡ []
   pub lines : AllByRecursion (IsCleanLine r.in_camel_case) (request_lines r shape size kind now)
+
+-- ---- a whole request
+
+-- a request as a client sends it: its head, the size of its body, what it asks of the connection, the moment, in
+-- milliseconds since 1970, and the pieces of its body
+pub record RequestGiven : Type 0 where
+  pub head : AskedHead
+  pub size : BodySize
+  pub kind : ConnectionType
+  pub moment : ℕ
+  pub pieces : List (List ℕ)
+
+abbrev pub given_request_text : RequestGiven → List ℕ
+given_request_text g = request_text g.head (asked_shape g.size) g.size g.kind g.moment
+
+abbrev pub given_request_lines : RequestGiven → List Header
+given_request_lines g = request_lines g.head (asked_shape g.size) g.size g.kind g.moment
+
+-- the text of a body of this shape, and its end
+abbrev pub body_sent : Shape → List (List ℕ) → List ℕ
+body_sent (shape_length n) pieces = take n (joined pieces)
+body_sent shape_chunked pieces = flat_map chunk_text pieces ++ last_chunk
+body_sent _ pieces = []
+
+-- The request is plain, a stated length is that of its pieces, each piece has fewer than 2 ^ 64 bytes, and its head has
+-- at most 96 lines and no more bytes than a server holds.
+pub record IsPlainGiven (hold_size : ℕ) (g : RequestGiven) : Type 0 where
+  pub head : IsPlainRequest g.head (asked_shape g.size) g.size g.kind g.moment
+  pub fits : fits g.size
+  pub came : (n : ℕ) → g.size ≡ size_of n → length (joined g.pieces) ≡ n
+  pub short : AllByRecursion (λ (piece : List ℕ). length piece < 2 ^ 64) g.pieces
+  pub few : length (given_request_lines g) ≤ MAX_HEADER_LINES
+  pub held : length (given_request_text g) ≤ hold_size
