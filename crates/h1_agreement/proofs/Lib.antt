@@ -1,0 +1,15 @@
+pub mod LineFeeds
+pub mod HeadText
+pub mod WrittenHead
+pub mod SentAnswers
+pub mod SentRequests
+pub mod Framing
+pub mod FrameMasked
+pub mod LegalMessages
+pub mod WrittenPieces
+pub mod RequestText
+pub mod NameGroups
+pub mod PlainExchange
+pub mod PlainTraces
+pub mod Traces
+pub mod GivenRequests
