@@ -2,8 +2,8 @@
 use http_types::{HeaderValue, NoMemory, ParseError};
 use http_values::{
     Charset, ContentEncoding, ExtendedValue, FromText, HttpDate, LanguageTag, Mime, Quality,
-    QualityItem, ReadError, fmt_comma_delimited, from_comma_delimited, from_one_raw_str, http_percent_encode, parse_extended_value,
-    q,
+    QualityItem, ReadError, fmt_comma_delimited, from_comma_delimited, from_one_raw_str,
+    http_percent_encode, parse_extended_value, q,
 };
 use std::alloc::{AllocError, Global};
 use std::fmt::{self, Display};
@@ -69,7 +69,11 @@ pub fn item(alloc: Global, case: &Case<'_>, found: &mut Vec<u8>) -> Result<bool,
     Ok(true)
 }
 
-fn put_item(alloc: Global, read: &QualityItem<String>, found: &mut Vec<u8>) -> Result<(), NoMemory> {
+fn put_item(
+    alloc: Global,
+    read: &QualityItem<String>,
+    found: &mut Vec<u8>,
+) -> Result<(), NoMemory> {
     put_quoted(found, read.item.as_bytes())?;
     put_text(found, " ")?;
     put_decimal(found, u64::from(read.quality.thousandths()))?;
@@ -218,7 +222,12 @@ pub fn media_type(alloc: Global, case: &Case<'_>, found: &mut Vec<u8>) -> Result
 }
 
 /// The parts of a media type.
-pub fn put_mime(alloc: Global, mime: &Mime, name: &str, found: &mut Vec<u8>) -> Result<(), NoMemory> {
+pub fn put_mime(
+    alloc: Global,
+    mime: &Mime,
+    name: &str,
+    found: &mut Vec<u8>,
+) -> Result<(), NoMemory> {
     put_quoted(found, mime.type_().as_bytes())?;
     put_text(found, " ")?;
     put_quoted(found, mime.subtype().as_bytes())?;
@@ -232,7 +241,11 @@ pub fn put_mime(alloc: Global, mime: &Mime, name: &str, found: &mut Vec<u8>) -> 
 }
 
 /// The value's text, in quotes.
-pub fn put_printed<T: Display>(alloc: Global, value: &T, found: &mut Vec<u8>) -> Result<(), NoMemory> {
+pub fn put_printed<T: Display>(
+    alloc: Global,
+    value: &T,
+    found: &mut Vec<u8>,
+) -> Result<(), NoMemory> {
     let text = value.to_string(alloc)?;
     put_quoted(found, text.as_bytes())
 }

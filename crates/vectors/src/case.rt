@@ -129,7 +129,11 @@ pub fn read_joined(alloc: Global, cursor: &mut Cursor<'_>) -> Result<Vec<u8>, Ca
 const MAX_REPEATS: usize = 1_000_000;
 
 // One quoted text, as often as it says.
-fn read_piece(alloc: Global, cursor: &mut Cursor<'_>, bytes: &mut Vec<u8>) -> Result<(), CaseError> {
+fn read_piece(
+    alloc: Global,
+    cursor: &mut Cursor<'_>,
+    bytes: &mut Vec<u8>,
+) -> Result<(), CaseError> {
     let piece = read_quoted(alloc, cursor)?;
     let mut times = 1;
     if cursor.passes(b'*') {

@@ -55,12 +55,7 @@ fn put_next(
     }
 }
 
-fn put_bytes(
-    alloc: Global,
-    bytes: &[u8],
-    form: Form,
-    text: &mut Vec<u8>,
-) -> Result<(), NoMemory> {
+fn put_bytes(alloc: Global, bytes: &[u8], form: Form, text: &mut Vec<u8>) -> Result<(), NoMemory> {
     match form {
         Form::Quoted => put_quoted(text, bytes),
         Form::Hex if bytes.is_empty() => put(text, b'-'),

@@ -67,7 +67,11 @@ impl<'a> Cursor<'a> {
             match self.peek() {
                 Some(digit) if digit.is_ascii_digit() => {
                     let so_far = value.unwrap_or(0);
-                    value = Some(so_far.checked_mul(10)?.checked_add(usize::from(digit - b'0'))?);
+                    value = Some(
+                        so_far
+                            .checked_mul(10)?
+                            .checked_add(usize::from(digit - b'0'))?,
+                    );
                     self.next();
                 }
                 _ => return value,

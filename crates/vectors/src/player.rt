@@ -82,7 +82,12 @@ fn is_expected(alloc: Global, found: &[u8], expected: &[u8]) -> Result<bool, NoM
     }
 }
 
-fn report_line(name: &str, number: u32, found: &[u8], report: &mut Vec<u8>) -> Result<(), NoMemory> {
+fn report_line(
+    name: &str,
+    number: u32,
+    found: &[u8],
+    report: &mut Vec<u8>,
+) -> Result<(), NoMemory> {
     report.extend_from_slice(name.as_bytes())?;
     put(report, b':')?;
     report.extend_from_slice(itoa::Buffer::new().format(number).as_bytes())?;
