@@ -67,7 +67,7 @@ fn put_bytes(alloc: Global, bytes: &[u8], form: Form, text: &mut Vec<u8>) -> Res
 }
 
 /// The most times that a text in brackets is repeated.
-const MAX_REPEATS: usize = 1000;
+const MAX_REPEATS: usize = 1_000_000;
 
 // What stands up to the closing bracket, as often as the number after it says.
 fn put_repeated(

@@ -1,9 +1,9 @@
 //! The calls of a connection.
 use bytes::Bytes;
-use h1_decode::{HeadItem, HeadRoom};
 use h1_connection::{
     Boxed, Connection, DriveError, Event, NextHead, NextKind, Outcome, ReadFromError, drive,
 };
+use h1_decode::{HeadItem, HeadRoom};
 use http_framing::BodySize;
 use http_types::{NoMemory, ResponseHead, ServiceConfigBuilder, StatusCode, SureSource};
 use std::alloc::{AllocError, Global};
