@@ -28,8 +28,8 @@ pub trait MessageBody: Drop {
         ensures registered { OnPending result (IsArmed cx.new) }
         ensures kept { Keeps cx.old cx.new };
 
-    /// All bytes at once, if the body has them: what polling would give. Else the body itself.
+    /// All bytes at once, if the body has them: what polling would give. Else the body, which still gives the same.
     fn try_into_bytes(self, alloc: Global) -> Result<Bytes, Self>
         ensures all { IfOk result (λ bytes. AreAll (whole [] (gives self).coming) bytes) }
-        ensures same { IfErr result (λ body. body ≡ self) };
+        ensures same { IfErr result (λ body. gives body ≡ gives self) };
 }
