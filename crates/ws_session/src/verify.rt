@@ -4,12 +4,12 @@ ghost use Rattle.http_header.specs.Token.{lowercase};
 ghost use Rattle.h1_model.specs.Request.{Head};
 ghost use Rattle.h1_model.specs.LengthTable.{values_of};
 ghost use Rattle.h1_model.specs.Handshake.{handshake_error, first_has_word, version_error, accept_key_of};
-ghost use Rattle.ws_session.specs.declared.handshake.HandshakeFault.TheVariants as faults;
-ghost use Rattle.ws_session.specs.Upgrade.{SaysUpgrade, IsFirst, IsFoundByBeginnings, Verified, is_spoken};
+ghost use Rattle.ws_session.specs.declared.verify.HandshakeFault.TheVariants as faults;
+ghost use Rattle.ws_session.specs.Upgrade.{SaysUpgrade, head_said, IsFirst, IsFoundByBeginnings, Verified, is_spoken};
 
 use crate::NoMemory;
 use crate::word::has_word;
-use http_types::{HeaderValue, RequestHead};
+use http_types::{Cause, HeaderValue, Kind, RequestHead};
 use thiserror::Error;
 use ws_frames::hash_key;
 
@@ -63,11 +63,35 @@ impl From<NoMemory> for HandshakeFault {
     }
 }
 
+impl From<HandshakeError> for http_types::Error {
+    ghost use Rattle.std.specs.Prelude.{◌≡◌};
+    ghost use Rattle.ws_session.specs.Causes.{of_handshake};
+
+    ghost from_gives = { λ cause error. error ≡ of_handshake };
+
+    fn from(_cause: HandshakeError) -> http_types::Error {
+        http_types::Error {
+            kind: Kind::Ws,
+            cause: Some(Cause::Handshake),
+        }
+    }
+}
+
 /// Whether a request asks for an upgrade to WebSocket as it has to, or the first check that fails: the method is GET; the
 /// first `Upgrade` value is readable and has `websocket` in it; the first `Connection` value is readable and has `upgrade`
 /// in it; there is a `Sec-WebSocket-Version` value, and the first is 13, 8 or 7; and there is a `Sec-WebSocket-Key` value
-/// (RFC 6455, section 4.2.1). Takes no memory.
+/// (RFC 6455, section 4.2.1). That holds of a request that was read, by its head, and of one made by hand, by its own
+/// method and headers. Takes no memory.
 pub fn verify_handshake(req: &RequestHead) -> Result<(), HandshakeError>
+    ensures read { (h : Head) → SaysUpgrade req.now h → Verified result (handshake_error h) }
+    ensures own { Verified result (handshake_error (head_said req.now)) }
+{
+    let _valid = req.headers.len();
+    check_all(req)
+}
+
+/// The checks, in order.
+fn check_all(req: &RequestHead) -> Result<(), HandshakeError>
     ensures { (h : Head) → SaysUpgrade req.now h → Verified result (handshake_error h) }
 {
     if req.method.as_str() != "GET" {
@@ -92,6 +116,15 @@ pub fn verify_handshake(req: &RequestHead) -> Result<(), HandshakeError>
 /// The answer to the key of a request: of several keys the first counts, and without one the answer is that to an empty
 /// key (RFC 6455, section 4.2.2). Takes no memory.
 pub fn accept_key_of(req: &RequestHead) -> [u8; 28]
+    ensures read { (h : Head) → SaysUpgrade req.now h → result ≡ accept_key_of h }
+    ensures own { result ≡ accept_key_of (head_said req.now) }
+{
+    let _valid = req.headers.len();
+    answer_key(req)
+}
+
+/// The answer to the first key.
+fn answer_key(req: &RequestHead) -> [u8; 28]
     ensures { (h : Head) → SaysUpgrade req.now h → result ≡ accept_key_of h }
 {
     match first_value(req, "sec-websocket-key") {

@@ -4,7 +4,7 @@ use Rattle.h1_model.specs.Handshake as model
 use Rattle.h1_model.specs.Handshake.{version_error}
 use Rattle.ws_session.specs.Upgrade.{is_spoken}
 use Rattle.ws_session.proofs.CheckLemmas.{spoken, unspoken, fails}
-use Rattle.ws_session.proofs.handshake.verify_version.Goals as goal
+use Rattle.ws_session.proofs.verify.verify_version.Goals as goal
 
 pub returns-in_default : goal.returns-in_default
 returns-in_default c = λ h says. fails _ model.no_version_header _ (ap version_error (c.in_default.ensures h says)) refl

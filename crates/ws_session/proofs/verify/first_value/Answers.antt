@@ -4,7 +4,7 @@ use Rattle.http_header.specs.Token.{lowercase}
 use Rattle.http_map.specs.HeaderMap.{get_all}
 use Rattle.h1_model.specs.LengthTable.{values_of}
 use Rattle.ws_session.proofs.CheckLemmas.{first_of}
-use Rattle.ws_session.proofs.handshake.first_value.Goals as goal
+use Rattle.ws_session.proofs.verify.first_value.Goals as goal
 
 pub returns : goal.returns
 returns c = λ h says.

@@ -2,7 +2,7 @@
 use Rattle.std.proofs.Common.{refl, ap, ◌∙◌}
 use Rattle.h1_model.specs.Handshake.{has_word}
 use Rattle.ws_session.proofs.CheckLemmas.{has_first}
-use Rattle.ws_session.proofs.handshake.first_has_word.Goals as goal
+use Rattle.ws_session.proofs.verify.first_has_word.Goals as goal
 
 pub returns-in-Ok : goal.returns-in-Ok
 returns-in-Ok c = λ h says.
