@@ -6,3 +6,4 @@ pub mod HeaderLines
 pub mod HeadText
 pub mod WrittenPieces
 pub mod BodyText
+pub mod AcceptText

@@ -41,3 +41,9 @@ pairs_text camel with_framing (p ∷ ps) = pair_text camel with_framing p ++ pai
 -- one of the pairs is a date
 abbrev pub has_date : List Pair → Bool
 has_date ps = list_any (λ p. bytes_eq p.0 (codes "date")) ps
+
+-- the head of an upgrade, up to the answer to the key (RFC 6455, section 4.2.2)
+abbrev pub accept_start : ℕ → List ℕ
+accept_start minor =
+    codes "HTTP/1." ++ ((48 + minor)
+    ∷ codes " 101 Switching Protocols\r\nconnection: upgrade\r\nupgrade: websocket\r\nsec-websocket-accept: ")

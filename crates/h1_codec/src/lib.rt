@@ -21,6 +21,7 @@
 //! and what writes nothing wants none. What is written of a body in chunks is read again as its bytes (`laws`).
 #![tactic(auto)]
 
+mod accept;
 mod asked;
 mod body;
 mod camel;
@@ -35,6 +36,7 @@ mod headers;
 pub mod laws;
 mod shape;
 
+pub use accept::put_accept;
 pub use asked::Asked;
 pub use body::{put_end, put_piece};
 pub use connection_type::type_of;

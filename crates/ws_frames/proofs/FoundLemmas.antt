@@ -1,8 +1,8 @@
 -- What is found of a frame whose header is known is what the definitions say is taken.
-use Rattle.std.proofs.Common.{◌⊎◌, inl, inr, ◌≡◌, ℕ, ◌+◌, ◌-◌, ◌<◌, ◌≤◌, Bool, true, false, cond, ◌&&◌, List, [], length, take, drop, nat_lt, ◌≢◌, refl, sym, ap, ◌∙◌, arith, drop-drop, le-ltb}
+use Rattle.std.proofs.Common.{◌⊎◌, inl, inr, ◌≡◌, ℕ, ◌+◌, ◌-◌, ◌<◌, ◌≤◌, Bool, true, false, cond, ◌&&◌, List, [], length, take, drop, nat_lt, ◌≢◌, None, refl, sym, ap, ◌∙◌, arith, drop-drop, le-ltb}
 use Rattle.std.proofs.lemmas.Bool.{lt-ltb}
 use Rattle.h1_model.specs.Frame.{overflow, invalid_length}
-use Rattle.h1_model.specs.FrameText.{Opcode, continuation_opcode, text_opcode, binary_opcode, close_opcode, ping_opcode, pong_opcode, unknown_opcode, length_bytes, mask_bytes, FrameHeader, unmask, payload_of, is_control}
+use Rattle.h1_model.specs.FrameText.{Opcode, opcode_error, continuation_opcode, text_opcode, binary_opcode, close_opcode, ping_opcode, pong_opcode, unknown_opcode, length_bytes, mask_bytes, FrameHeader, unmask, payload_of, is_control}
 use Rattle.h1_model.specs.Limits.{MAX_FRAME, MAX_CONTROL_PAYLOAD}
 use Rattle.h1_model.specs.Laws.FrameSize.{frame_length}
 use Rattle.ws_frames.specs.declared.proto.OpCode.{OpCode}
@@ -82,6 +82,7 @@ long_close_lies server max header bytes may there small long is =
       taken = long_found max header bytes may there small long close_opcode is refl ∙ (λ i. takes true close_opcode (none i) (as_long i));
       within = omega (arith, there);
       masked = λ _. omega (arith, long);
+      meaning = λ e. cc;
     }
 
 -- a Ping or a Pong that is too long is refused
@@ -105,6 +106,16 @@ long_refused server max header bytes readable may there small long code is which
         → RefusedAt (errors.InvalidLength header.payload_length) (frame_length header) bytes (parsed_header max header bytes)
     which_one (inl e) = refused ping_opcode (opcode_is server header codes.Ping readable (sym is ∙ e)) refl refl
     which_one (inr e) = refused pong_opcode (opcode_is server header codes.Pong readable (sym is ∙ e)) refl refl
+
+-- an opcode that breaks no rule has a meaning
+has_meaning : (op : Opcode) → opcode_error op ≡ None → code_of op ≢ codes.Bad
+has_meaning continuation_opcode none = λ e. cc
+has_meaning text_opcode none = λ e. cc
+has_meaning binary_opcode none = λ e. cc
+has_meaning close_opcode none = λ e. cc
+has_meaning ping_opcode none = λ e. cc
+has_meaning pong_opcode none = λ e. cc
+has_meaning (unknown_opcode n) none = λ e. cc
 
 -- the payload is where it is looked for
 payload_found : (server : Bool) (header : FrameHeader) (bytes : List ℕ) → IsReadable server header
@@ -150,6 +161,7 @@ plain_lies server max header bytes readable may there small plain =
       masked = λ (e : server ≡ true).
           let four : cond server 4 0 ≡ 4 = ap (λ (m : Bool). mask_len m) e in
           omega (arith, lens, mask, four);
+      meaning = has_meaning header.start.opcode readable.opcode;
     }
 
 -- an opcode of no control frame

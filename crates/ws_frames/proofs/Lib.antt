@@ -1,5 +1,6 @@
 pub mod MaskLemmas
 pub mod ParsedFronts
+pub mod EarlyFronts
 pub mod HeaderLemmas
 pub mod OpcodeLemmas
 pub mod FoundLemmas

@@ -61,7 +61,7 @@ body_judged u header body enough =
     (frame_length header) (left_of_and (is_control op) (nat_lt MAX_CONTROL_PAYLOAD header.payload_length))
 
 -- a test of two numbers, and of the two with d added
-same_test : (a b d : ℕ) → nat_lt a b ≡ nat_lt (d + a) (d + b)
+pub same_test : (a b d : ℕ) → nat_lt a b ≡ nat_lt (d + a) (d + b)
 same_test a b d = go (nat_lt a b) refl
   where
     go : (t : Bool) → nat_lt a b ≡ t → nat_lt a b ≡ nat_lt (d + a) (d + b)
@@ -73,7 +73,7 @@ same_test a b d = go (nat_lt a b) refl
         e ∙ sym (le-ltb (d + a) (d + b) (omega arith))
 
 -- a frame whose header is known, and which may be whole
-enough_judged : (server u wide : Bool) (max_size : ℕ) (header : FrameHeader) (body : List ℕ) (short : Bool)
+pub enough_judged : (server u wide : Bool) (max_size : ℕ) (header : FrameHeader) (body : List ℕ) (short : Bool)
     → (short ≡ false → mask_bytes header.start + header.payload_length ≤ length body)
     → cond short partial (cond wide (breaks overflow) (front_of_judged (frame_length header) (judged_frame u header.start (payload_of header body))))
     ≡ front_of_parsed u (cond short waits (cond wide (refuses overflow (frame_length header)) (parsed_body header body)))

@@ -6,12 +6,17 @@ use Rattle.h1_model.specs.Frame as model
 use Rattle.h1_model.specs.FrameText.{big_endian, is_close_code, description_of}
 use Rattle.ws_frames.specs.declared.error.ProtocolError.{ProtocolError}
 use Rattle.ws_frames.specs.declared.proto.CloseReason.{CloseReason}
-use Rattle.ws_frames.specs.Protocol.{close_number}
+use Rattle.ws_frames.specs.Protocol.{close_number, close_code}
 use Rattle.ws_frames.specs.Refusal.{refusal, error_of}
 
 -- what a reason says
 abbrev pub reason_says : CloseReason → model.CloseReason
 reason_says reason = record { code = close_number reason.code; description = option_map string_bytes reason.description }
+
+-- the code of a reason is the one that its number names
+abbrev pub HasName : Option CloseReason → Type 0
+HasName None = Unit {0}
+HasName (Some reason) = reason.code ≡ close_code (close_number reason.code)
 
 -- an error for a broken rule
 abbrev pub ErrorSays : ProtocolError → Result model.Frame model.ProtocolError → Type 0

@@ -1,5 +1,5 @@
 -- What a codec reads.
-use Rattle.std.specs.Prelude.{◌≡◌, ℕ, ◌+◌, Bool, true, false, List, ◌++◌, take, drop, if◌then◌else◌, option_map, Result, Ok, Err}
+use Rattle.std.specs.Prelude.{◌≡◌, ℕ, ◌+◌, Bool, true, false, List, ◌++◌, take, drop, if◌then◌else◌, Option, Some, None, option_map, Result, Ok, Err}
 use Rattle.h1_model.specs.Frame as model
 use Rattle.h1_model.specs.FrameText.{close_frame, Opcode, continuation_opcode, text_opcode, binary_opcode, close_opcode, ping_opcode, pong_opcode, unknown_opcode, opcode_of, opcode_number}
 use Rattle.ws_frames.specs.Protocol.{code_of}
@@ -11,8 +11,8 @@ use Rattle.ws_frames.specs.declared.message.Frame.{Frame}
 use Rattle.ws_frames.specs.declared.message.Frame.TheVariants as frames
 use Rattle.ws_frames.specs.declared.kind.Kind.{Kind}
 use Rattle.ws_frames.specs.declared.kind.Kind.TheVariants as kinds
-use Rattle.ws_frames.specs.Refusal.{error_of, left_after}
-use Rattle.ws_frames.specs.Close.{reason_says, ErrorSays}
+use Rattle.ws_frames.specs.Refusal.{error_of}
+use Rattle.ws_frames.specs.Close.{reason_says, HasName, ErrorSays}
 
 -- a fragment
 abbrev pub item_says : Item → model.Frame
@@ -29,6 +29,21 @@ frame_says (frames.Continuation item) = item_says item
 frame_says (frames.Ping payload) = model.ping payload
 frame_says (frames.Pong payload) = model.pong payload
 frame_says (frames.Close reason) = model.close (option_map reason_says reason)
+
+-- a Close has the code that its number names
+abbrev pub IsNamed : Frame → Type 0
+IsNamed (frames.Close reason) = HasName reason
+IsNamed _ = Unit {0}
+
+-- the same of a frame that may be there
+abbrev pub IsNamedIfThere : Option Frame → Type 0
+IsNamedIfThere None = Unit {0}
+IsNamedIfThere (Some frame) = IsNamed frame
+
+-- and of one that was taken, beside whether a message is under way behind it
+abbrev pub IsTakenNamed : Option (Frame × Bool) → Type 0
+IsTakenNamed None = Unit {0}
+IsTakenNamed (Some p) = IsNamed p.0
 
 -- the frame of a kind with this payload
 abbrev pub kind_frame : Kind → List ℕ → Result model.Frame model.ProtocolError
@@ -72,7 +87,7 @@ KindSays (Err e) judged = (payload : List ℕ) → ErrorSays e (judged payload)
 abbrev pub with_payload : ℕ → List ℕ → ℕ → List ℕ → List ℕ
 with_payload from payload len bytes = take from bytes ++ (payload ++ drop (from + len) bytes)
 
--- the frame that was taken, its payload read by what is judged of it
+-- the frame that was taken, its payload read by what is judged of it; after an error the bytes are as they were
 abbrev pub TakenFrame : Result Frame ProtocolError → Result model.Frame model.ProtocolError → ℕ → List ℕ → List ℕ → Type 0
 TakenFrame (Ok frame) judged len old new = (judged ≡ Ok (frame_says frame)) × (new ≡ drop len old)
-TakenFrame (Err e) judged len old new = (e ≡ error_of judged) × (new ≡ left_after judged len old)
+TakenFrame (Err e) judged len old new = (e ≡ error_of judged) × (new ≡ old)

@@ -6,7 +6,7 @@ use Rattle.ws_frames.specs.declared.error.ProtocolError.{ProtocolError}
 use Rattle.ws_frames.specs.declared.error.ProtocolError.TheVariants as errors
 use Rattle.ws_frames.specs.declared.message.Frame.{Frame}
 use Rattle.ws_frames.specs.declared.codec.Codec.{Codec}
-use Rattle.ws_frames.specs.Refusal.{refusal, error_of, left_after}
+use Rattle.ws_frames.specs.Refusal.{refusal, error_of}
 use Rattle.ws_frames.specs.Parsed.{late_reader, Parsed, waits, refuses, takes, parsed}
 use Rattle.ws_frames.specs.Codec.{frame_says}
 
@@ -62,8 +62,8 @@ Decoded server max_size under_way bytes (Err e) after rest =
     (after ≡ under_way)
     × Failed (front_frame (late_reader server max_size) under_way bytes) e (cost (parsed server max_size bytes)) bytes rest
 
--- the same of a frame that was found, which is taken or breaks a rule
+-- a frame that was found, which is taken or stays for an error
 abbrev pub JudgedTaken : Bool → Result model.Frame model.ProtocolError → ℕ → List ℕ → Result (Frame × Bool) ProtocolError → List ℕ → Type 0
 JudgedTaken under_way judged len old (Ok p) new =
     (judged ≡ Ok (frame_says p.0)) × (new ≡ drop len old) × (p.1 ≡ is_under_way under_way (frame_says p.0))
-JudgedTaken under_way judged len old (Err e) new = (e ≡ error_of judged) × (new ≡ left_after judged len old)
+JudgedTaken under_way judged len old (Err e) new = (e ≡ error_of judged) × (new ≡ old)

@@ -1,9 +1,10 @@
 -- What the functions that read a frame's header answer.
-use Rattle.std.specs.Prelude.{◌≡◌, ℕ, ◌+◌, ◌-◌, ◌*◌, ◌≤◌, Bool, true, List, length, take, drop, nat_lt, slice_index, if◌then◌else◌, Option, Some, None, Result, Ok, Err}
+use Rattle.std.specs.Prelude.{◌≡◌, ◌≢◌, ℕ, ◌+◌, ◌-◌, ◌*◌, ◌≤◌, Bool, true, List, length, take, drop, nat_lt, slice_index, if◌then◌else◌, Option, Some, None, Result, Ok, Err}
 use Rattle.h1_model.specs.Frame as model
 use Rattle.h1_model.specs.FrameText.{Opcode, opcode_error, FrameStart, FrameHeader, length_bytes, mask_bytes, payload_length_of, unmask}
 use Rattle.ws_frames.specs.declared.error.ProtocolError.{ProtocolError}
 use Rattle.ws_frames.specs.declared.proto.OpCode.{OpCode}
+use Rattle.ws_frames.specs.declared.proto.OpCode.TheVariants as codes
 use Rattle.ws_frames.specs.declared.frame.header.Header.{Header}
 use Rattle.ws_frames.specs.declared.frame.header.Found.{Found}
 use Rattle.ws_frames.specs.declared.frame.header.Found.TheVariants as found
@@ -54,11 +55,12 @@ pub record IsReadable (server : Bool) (header : FrameHeader) : Type 0 where
   pub opcode : opcode_error header.start.opcode ≡ None
   pub lens : header.header_length ≡ 2 + length_bytes header.start + mask_bytes header.start
 
--- a frame lies there, of this payload
+-- a frame lies there, of this payload and an opcode that has a meaning
 pub record LiesAt (server finished : Bool) (op : OpCode) (header_len payload_len : ℕ) (bytes : List ℕ) (what : Parsed) : Type 0 where
   pub taken : what ≡ takes finished (opcode_written op) (payload_at server header_len payload_len bytes) (header_len + payload_len)
   pub within : header_len + payload_len ≤ length bytes
   pub masked : server ≡ true → 4 ≤ header_len
+  pub meaning : op ≢ codes.Bad
 
 -- a refusal of these bytes
 pub record RefusedAt (e : ProtocolError) (dropped : ℕ) (bytes : List ℕ) (what : Parsed) : Type 0 where

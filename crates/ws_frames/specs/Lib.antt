@@ -7,6 +7,7 @@ pub mod Header
 pub mod Close
 pub mod Written
 pub mod Codec
+pub mod Fronts
 pub mod CodecState
 pub mod ParserState
 pub mod Pieces

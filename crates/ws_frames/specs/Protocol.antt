@@ -1,5 +1,5 @@
 -- What opcodes, close codes and broken rules stand for.
-use Rattle.std.specs.Prelude.{ℕ, ◌==◌, if◌then◌else◌}
+use Rattle.std.specs.Prelude.{ℕ, ◌==◌, List, codes, if◌then◌else◌}
 use Rattle.h1_model.specs.FrameText as model
 use Rattle.ws_frames.specs.declared.proto.OpCode.{OpCode}
 use Rattle.ws_frames.specs.declared.proto.OpCode.TheVariants.{Continue, Text, Binary, Close, Ping, Pong, Bad}
@@ -25,6 +25,16 @@ opcode_written Close = model.close_opcode
 opcode_written Ping = model.ping_opcode
 opcode_written Pong = model.pong_opcode
 opcode_written Bad = model.close_opcode
+
+-- the name of an opcode, as it is printed
+abbrev pub opcode_text : OpCode → List ℕ
+opcode_text Continue = codes "CONTINUE"
+opcode_text Text = codes "TEXT"
+opcode_text Binary = codes "BINARY"
+opcode_text Close = codes "CLOSE"
+opcode_text Ping = codes "PING"
+opcode_text Pong = codes "PONG"
+opcode_text Bad = codes "BAD"
 
 -- the number of a close code (section 7.4)
 abbrev pub close_number : CloseCode → ℕ

@@ -1,5 +1,5 @@
 -- What the errors of reading say.
-use Rattle.std.specs.Prelude.{ℕ, List, drop, Option, Some, None, Result, Ok, Err}
+use Rattle.std.specs.Prelude.{Option, Some, None, Result, Ok, Err}
 use Rattle.h1_model.specs.Frame as model
 use Rattle.h1_model.specs.FrameText.{opcode_of}
 use Rattle.ws_frames.specs.declared.error.ProtocolError.{ProtocolError}
@@ -28,8 +28,3 @@ error_for None = errors.NoMemory
 abbrev pub error_of : Result model.Frame model.ProtocolError → ProtocolError
 error_of (Err rule) = refusal rule
 error_of (Ok frame) = errors.NoMemory
-
--- what is left of the bytes behind that error: a frame for which there was no memory stays
-abbrev pub left_after : Result model.Frame model.ProtocolError → ℕ → List ℕ → List ℕ
-left_after (Err rule) len bytes = drop len bytes
-left_after (Ok frame) len bytes = bytes

@@ -1,6 +1,7 @@
 //! Frames from bytes, and messages into bytes.
-ghost use Rattle.std.specs.Prelude.{◌≡◌, ◌++◌, true, false, OnOk, OnErr, IfErr};
+ghost use Rattle.std.specs.Prelude.{◌≡◌, ◌++◌, true, false, IfOk, OnOk, OnErr, IfErr};
 ghost use Rattle.rand_core.specs.Steps.{stream_of, steps_u32};
+ghost use Rattle.ws_frames.specs.Codec.{IsNamedIfThere};
 ghost use Rattle.ws_frames.specs.CodecState.{codec_server, codec_limit, codec_reading, codec_sending, codec_words, with_limit, with_reading, Decoded};
 ghost use Rattle.ws_frames.specs.Protocol.{opcode_written};
 ghost use Rattle.ws_frames.specs.Sent.{mask_drawn, words_left, with_sending, with_words};
@@ -11,7 +12,7 @@ use crate::frame::header::{Found, find_frame};
 use crate::frame::text::{put_frame, reserve_frame};
 use crate::message::Frame;
 use crate::proto::OpCode;
-use crate::take::take_judged;
+use crate::take::{drop_frame, take_judged};
 use bytes::BytesMut;
 use rand_core::utils::NextWord;
 use rand_core::{Rng, utils};
@@ -104,13 +105,15 @@ impl<R: Drop> Codec<R> {
 }
 
 impl<R> Codec<R> {
-    /// The next frame, once it is whole. A frame above the limit is refused once it is whole, and dropped. Memory is taken
-    /// for a frame alone that breaks no rule; where it ran out, codec and buffer are as before.
+    /// The next frame, once it is whole. A frame above the limit is refused once it is whole, and dropped, as is any whole
+    /// frame that breaks a rule. Memory is taken for a frame alone that breaks no rule; where it ran out, codec and buffer
+    /// are as before.
     pub fn decode(
         &mut self,
         alloc: Global,
         src: &mut BytesMut,
     ) -> Result<Option<Frame>, ProtocolError>
+        ensures named { IfOk result IsNamedIfThere }
         ensures frame { Decoded (codec_server self.old) (codec_limit self.old) (codec_reading self.old) src.old.items result (codec_reading self.new) src.new.items }
         ensures others { self.new ≡ with_reading (codec_reading self.new) self.old }
     {
@@ -134,7 +137,13 @@ impl<R> Codec<R> {
                         self.reading = reading;
                         Ok(Some(frame))
                     }
-                    Err(error) => Err(error),
+                    Err(error) => match error {
+                        ProtocolError::NoMemory => Err(ProtocolError::NoMemory),
+                        error => {
+                            drop_frame(src, header_len, payload_len);
+                            Err(error)
+                        }
+                    },
                 }
             }
         }

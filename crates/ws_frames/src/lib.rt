@@ -4,7 +4,8 @@
 //! [`Parser`] does the same frame by frame and keeps no state. Both answer what the definitions of `h1_model` say of all
 //! bytes, in whatever pieces these come. A payload that is read shares the memory of the buffer, its mask taken off
 //! where it lies, and no memory is asked for because of a length that a peer declares. A codec is also a `Decoder` and an
-//! `Encoder<Message>` of `http_framing`.
+//! `Encoder<Message>` of `http_framing`. [`take_front`] takes one frame for whoever keeps the bytes and the place within a
+//! message: it judges a size as soon as its length is there, and leaves all bytes where a rule is broken.
 //!
 //! A server reads the text `Hello` in two pieces, and sends it back:
 //!
@@ -24,6 +25,7 @@ mod codec;
 mod error;
 mod frame;
 mod framing;
+mod front;
 mod kind;
 mod laws;
 mod mask;
@@ -36,6 +38,7 @@ mod take;
 
 pub use codec::{Codec, NoWords};
 pub use error::ProtocolError;
+pub use front::{take_front, waits_for_frame};
 pub use laws::{close_codes_keep_their_numbers, masking_goes_on, opcodes_keep_their_numbers};
 pub use mask::{apply_mask, apply_mask_fast32, mask_from};
 pub use message::{Frame, Item, Message};

@@ -1,9 +1,9 @@
 //! Frames read and written one by one, with no state.
 ghost use Rattle.std.specs.Prelude.{◌≡◌, ◌<◌, ℕ, ◌++◌, length, true, Err, IfOk, OnOk, OnErr, option_map};
 ghost use Rattle.h1_model.specs.FrameText.{close_frame, close_opcode, close_payload};
-ghost use Rattle.ws_frames.specs.Close.{reason_says, CloseSays, lossy_reason};
+ghost use Rattle.ws_frames.specs.Close.{reason_says, CloseSays, HasName, lossy_reason};
 ghost use Rattle.ws_frames.specs.Header.{declared};
-ghost use Rattle.ws_frames.specs.ParserState.{ParseSays};
+ghost use Rattle.ws_frames.specs.ParserState.{ParseSays, IsPlain};
 ghost use Rattle.ws_frames.specs.Parsed.{late_reader, head_front, parsed};
 ghost use Rattle.ws_frames.specs.Protocol.{opcode_written};
 ghost use Rattle.ws_frames.specs.Written.{written};
@@ -24,15 +24,16 @@ use std::alloc::Global;
 pub struct Parser;
 
 impl Parser {
-    /// The frame at the front, once it is whole: whether it is the last of its message, its opcode, and its payload, if
-    /// that isn't empty. A frame above the limit is refused once it is whole, and dropped. A Close with more than 125
+    /// The frame at the front, once it is whole: whether it is the last of its message, its opcode, which is never `Bad`,
+    /// and its payload, if that isn't empty. A frame above the limit is refused once it is whole, and dropped. A Close with more than 125
     /// bytes is one without payload. Memory is taken for a whole frame alone; where it ran out, the buffer is as it was.
     pub fn parse(
         src: &mut BytesMut,
         server: bool,
         max_size: usize,
     ) -> Result<Option<(bool, OpCode, Option<BytesMut>)>, ProtocolError>
-        ensures { ParseSays result src.old.items src.new.items (parsed server max_size src.old.items) }
+        ensures says { ParseSays result src.old.items src.new.items (parsed server max_size src.old.items) }
+        ensures plain { IfOk result IsPlain }
     {
         match find_frame(src.as_slice(), server, max_size) {
             Found::Waits => Ok(None),
@@ -63,6 +64,7 @@ impl Parser {
         payload: &[u8],
     ) -> Result<Option<CloseReason>, ProtocolError>
         ensures says { CloseSays result (close_frame payload.now) }
+        ensures named { IfOk result HasName }
         ensures memory { result ≡ Err ProtocolError.NoMemory → 2 < length payload.now }
     {
         read_close(alloc, payload)
@@ -75,6 +77,7 @@ impl Parser {
         payload: &[u8],
     ) -> Result<Option<CloseReason>, NoMemory>
         ensures reason { IfOk result (λ reason. option_map reason_says reason ≡ lossy_reason payload.now) }
+        ensures named { IfOk result HasName }
         ensures memory { OnErr result (2 < length payload.now) }
     {
         read_any_close(alloc, payload)

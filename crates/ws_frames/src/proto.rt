@@ -3,7 +3,7 @@ ghost use Rattle.std.specs.Prelude.{◌≡◌, Some, None, IfOk, option_map, str
 ghost use Rattle.h1_model.specs.FrameText.{opcode_of, opcode_number};
 ghost use Rattle.h1_model.specs.Handshake.{accept_key, base64};
 ghost use Rattle.ws_frames.specs.Copies.{IsReasonCopy};
-ghost use Rattle.ws_frames.specs.Protocol.{code_of, opcode_written, close_number, close_code};
+ghost use Rattle.ws_frames.specs.Protocol.{code_of, opcode_written, opcode_text, close_number, close_code};
 
 use crate::NoMemory;
 use base64::engine::general_purpose::STANDARD;
@@ -62,6 +62,8 @@ impl From<OpCode> for u8 {
 }
 
 impl Display for OpCode {
+    ghost output = { λ op. Some (opcode_text op) };
+
     fn fmt<W: Write>(&self, f: &mut Formatter<W>) -> fmt::Result {
         f.write_str(match self {
             OpCode::Continue => "CONTINUE",

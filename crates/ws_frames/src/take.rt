@@ -1,11 +1,11 @@
 //! Frames are taken from the front of a buffer; their payloads stay where they lie.
 ghost use Rattle.std.specs.Prelude.{◌≡◌, ◌+◌, ◌-◌, ◌≤◌, true, length, take, drop, IfOk, OnOk, OnErr};
 ghost use Rattle.h1_model.specs.FrameText.{close_frame};
-ghost use Rattle.ws_frames.specs.Codec.{kind_frame, with_payload, TakenFrame};
+ghost use Rattle.ws_frames.specs.Codec.{kind_frame, with_payload, TakenFrame, IsNamed};
 ghost use Rattle.ws_frames.specs.CodecState.{JudgedTaken};
 ghost use Rattle.ws_frames.specs.Header.{payload_at};
 ghost use Rattle.ws_frames.specs.Judged.{judged_taken};
-ghost use Rattle.ws_frames.specs.ParserState.{data_of};
+ghost use Rattle.ws_frames.specs.ParserState.{data_of, HasBytes};
 ghost use Rattle.ws_frames.specs.Protocol.{opcode_written};
 
 use crate::NoMemory;
@@ -18,8 +18,7 @@ use crate::proto::OpCode;
 use bytes::{Bytes, BytesMut};
 use std::alloc::Global;
 
-/// The frame of this kind at the front, behind a header of so many bytes. Where memory ran out, the buffer is as it was;
-/// after another error the frame is gone.
+/// The frame of this kind at the front, behind a header of so many bytes. After an error the buffer is as it was.
 pub(crate) fn take_frame(
     alloc: Global,
     src: &mut BytesMut,
@@ -30,7 +29,8 @@ pub(crate) fn take_frame(
 ) -> Result<Frame, ProtocolError>
     requires within { header_len + payload_len ≤ length src.old.items }
     requires masked { server ≡ true → 4 ≤ header_len }
-    ensures { TakenFrame result (kind_frame kind (payload_at server header_len payload_len src.old.items)) (header_len + payload_len) src.old.items src.new.items }
+    ensures taken { TakenFrame result (kind_frame kind (payload_at server header_len payload_len src.old.items)) (header_len + payload_len) src.old.items src.new.items }
+    ensures named { IfOk result IsNamed }
 {
     if kind == Kind::Close {
         return take_close(alloc, src, server, header_len, payload_len);
@@ -41,7 +41,7 @@ pub(crate) fn take_frame(
     }
 }
 
-/// The Close at the front.
+/// The Close at the front. After an error its mask is on again.
 fn take_close(
     alloc: Global,
     src: &mut BytesMut,
@@ -51,7 +51,8 @@ fn take_close(
 ) -> Result<Frame, ProtocolError>
     requires within { header_len + payload_len ≤ length src.old.items }
     requires masked { server ≡ true → 4 ≤ header_len }
-    ensures { TakenFrame result (close_frame (payload_at server header_len payload_len src.old.items)) (header_len + payload_len) src.old.items src.new.items }
+    ensures taken { TakenFrame result (close_frame (payload_at server header_len payload_len src.old.items)) (header_len + payload_len) src.old.items src.new.items }
+    ensures named { IfOk result IsNamed }
 {
     let frame_len = frame_len(src, header_len, payload_len);
     toggle_mask(src, server, header_len, payload_len);
@@ -60,16 +61,10 @@ fn take_close(
             src.advance(frame_len);
             Ok(Frame::Close(reason))
         }
-        Err(error) => match error {
-            ProtocolError::NoMemory => {
-                toggle_mask(src, server, header_len, payload_len);
-                Err(ProtocolError::NoMemory)
-            }
-            error => {
-                src.advance(frame_len);
-                Err(error)
-            }
-        },
+        Err(error) => {
+            toggle_mask(src, server, header_len, payload_len);
+            Err(error)
+        }
     }
 }
 
@@ -130,7 +125,16 @@ fn frame_len(src: &BytesMut, header_len: usize, payload_len: usize) -> usize
     header_len + payload_len
 }
 
-/// The frame at the front, judged by its place among fragments, and whether a message is under way behind it.
+/// Drops the frame at the front.
+pub(crate) fn drop_frame(src: &mut BytesMut, header_len: usize, payload_len: usize)
+    requires { header_len + payload_len ≤ length src.old.items }
+    ensures { src.new.items ≡ drop (header_len + payload_len) src.old.items }
+{
+    src.advance(frame_len(src, header_len, payload_len));
+}
+
+/// The frame at the front, judged by its place among fragments, and whether a message is under way behind it. After an
+/// error the buffer is as it was.
 pub(crate) fn take_judged(
     alloc: Global,
     src: &mut BytesMut,
@@ -142,18 +146,16 @@ pub(crate) fn take_judged(
 ) -> Result<(Frame, bool), ProtocolError>
     requires within { header_len + payload_len ≤ length src.old.items }
     requires masked { server ≡ true → 4 ≤ header_len }
-    ensures { JudgedTaken under_way (judged_taken under_way found.0 (opcode_written found.1) (payload_at server header_len payload_len src.old.items))
+    ensures taken { JudgedTaken under_way (judged_taken under_way found.0 (opcode_written found.1) (payload_at server header_len payload_len src.old.items))
         (header_len + payload_len) src.old.items result src.new.items }
+    ensures named { IfOk result (λ taken. IsNamed taken.0) }
 {
     match kind_of(under_way, found.0, found.1) {
         Ok(kind) => match take_frame(alloc, src, server, kind, header_len, payload_len) {
             Ok(frame) => Ok((frame, goes_on(under_way, kind))),
             Err(error) => Err(error),
         },
-        Err(error) => {
-            src.advance(frame_len(src, header_len, payload_len));
-            Err(error)
-        }
+        Err(error) => Err(error),
     }
 }
 
@@ -167,6 +169,7 @@ pub(crate) fn take_data(
     requires within { header_len + payload_len ≤ length src.old.items }
     requires masked { server ≡ true → 4 ≤ header_len }
     ensures payload { IfOk result (λ payload. data_of payload ≡ payload_at server header_len payload_len src.old.items) }
+    ensures bytes { IfOk result HasBytes }
     ensures rest { OnOk result (src.new.items ≡ drop (header_len + payload_len) src.old.items) }
     ensures err { OnErr result (src.new.items ≡ src.old.items) }
 {
@@ -186,7 +189,8 @@ pub(crate) fn take_data(
 
 /// The bytes, if there are some.
 fn unless_empty(bytes: BytesMut) -> Option<BytesMut>
-    ensures { data_of result ≡ bytes.items }
+    ensures same { data_of result ≡ bytes.items }
+    ensures bytes { HasBytes result }
 {
     if bytes.is_empty() { None } else { Some(bytes) }
 }

@@ -2,7 +2,7 @@
 ghost use Rattle.std.specs.Prelude.{◌≡◌, ◌<◌, length, Err, IfOk, OnErr, option_map, string_bytes};
 ghost use Rattle.std.specs.Str.Lossy.{utf8_lossy};
 ghost use Rattle.h1_model.specs.FrameText.{is_close_code, description_of, close_frame};
-ghost use Rattle.ws_frames.specs.Close.{reason_says, CloseSays, reason_frame, lossy_reason};
+ghost use Rattle.ws_frames.specs.Close.{reason_says, CloseSays, HasName, reason_frame, lossy_reason};
 
 use crate::NoMemory;
 use crate::error::ProtocolError;
@@ -15,6 +15,7 @@ pub(crate) fn read_close(
     payload: &[u8],
 ) -> Result<Option<CloseReason>, ProtocolError>
     ensures says { CloseSays result (close_frame payload.now) }
+    ensures named { IfOk result HasName }
     ensures memory { result ≡ Err ProtocolError.NoMemory → 2 < length payload.now }
 {
     match payload {
@@ -31,6 +32,7 @@ fn read_reason(
     text: &[u8],
 ) -> Result<Option<CloseReason>, ProtocolError>
     ensures says { CloseSays result (reason_frame number text.now) }
+    ensures named { IfOk result HasName }
     ensures memory { result ≡ Err ProtocolError.NoMemory → 0 < length text.now }
 {
     if !is_close_code(number) {
@@ -69,6 +71,7 @@ fn describe(alloc: Global, text: &str) -> Result<Option<String>, NoMemory>
 /// The reason that a payload gives, whatever its code; U+FFFD stands for what is no UTF-8. There is none below two bytes.
 pub(crate) fn read_any_close(alloc: Global, payload: &[u8]) -> Result<Option<CloseReason>, NoMemory>
     ensures reason { IfOk result (λ reason. option_map reason_says reason ≡ lossy_reason payload.now) }
+    ensures named { IfOk result HasName }
     ensures memory { OnErr result (2 < length payload.now) }
 {
     match payload {

@@ -1,6 +1,7 @@
 //! What stands in front of a payload (RFC 6455, section 5.2).
 ghost use Rattle.std.specs.Prelude.{◌≡◌, ℕ, ◌+◌, ◌%◌, ◌^◌, ◌<◌, ◌≤◌, Bool, length, IfSome};
 ghost use Rattle.h1_model.specs.FrameText.{opcode_of, opcode_error, frame_start, start_error};
+ghost use Rattle.ws_frames.specs.Fronts.{early, EarlySays};
 ghost use Rattle.ws_frames.specs.Header.{start_read, length_there, head_read, declared, FoundSays, HeaderSays, spelled_at};
 ghost use Rattle.ws_frames.specs.Parsed.{late_reader, head_front, parsed};
 
@@ -50,6 +51,30 @@ pub(crate) fn find_frame(src: &[u8], server: bool, max_size: usize) -> Found
         Ok(None) => Found::Waits,
         Err(error) => Found::Refuses(error, 0),
     }
+}
+
+/// What is taken from the front of the bytes, where a payload above the limit is refused as soon as its length is there.
+pub(crate) fn find_front(src: &[u8], server: bool, limit: usize) -> Found
+    ensures { FoundSays server src.now result (early server limit src.now) }
+{
+    match read_header(src, server) {
+        Ok(Some(header)) => find_within(src, limit, header),
+        Ok(None) => Found::Waits,
+        Err(error) => Found::Refuses(error, 0),
+    }
+}
+
+/// The same of a frame with this header. One that is longer than all bytes isn't there yet, however long it is.
+fn find_within(src: &[u8], limit: usize, header: Header) -> Found
+    ensures { (server : Bool) → EarlySays server limit src.now header result }
+{
+    if header.payload_len > limit as u64 {
+        return Found::Refuses(ProtocolError::Overflow, 0);
+    }
+    if header.payload_len > src.len() as u64 {
+        return Found::Waits;
+    }
+    find_payload(src, limit, header)
 }
 
 /// What is taken of a frame with this header.

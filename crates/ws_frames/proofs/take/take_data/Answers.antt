@@ -11,7 +11,7 @@ returns-in-Err-clause-err c =
 
 pub returns-in-Ok-clause-payload : goal.returns-in-Ok-clause-payload
 returns-in-Ok-clause-payload c =
-    c.unless_empty.ensures ∙ c.advance.ensures.items ∙ ap (drop c.args.header_len) c.in-Ok.ensures.front
+    c.unless_empty.ensures.same ∙ c.advance.ensures.items ∙ ap (drop c.args.header_len) c.in-Ok.ensures.front
     ∙ payload_frozen c.args.server c.args.header_len c.args.payload_len c.frame_len-frame_len.result c.args.src.now.items c.toggle_mask.new.src.items
     c.requires.within c.frame_len-frame_len.ensures c.toggle_mask.ensures.items
 

@@ -19,7 +19,7 @@ returns-in-Ok-true-clause-searched c = noted_searched _ _ _ c.cut_head_into.ensu
 pub returns-in-Ok-true-clause-head : goal.returns-in-Ok-true-clause-head
 returns-in-Ok-true-clause-head c = λ _.
     let read = c.in-Ok-true.ensures.head c.in-Ok-true.field-0-test in
-    (_, found_head c.cut_head_into.new.head_bytes _ _ c.cut_head_into.ensures.bytes read.0, read.1)
+    (_, found_head c.cut_head_into.new.front _ _ c.cut_head_into.ensures.bytes read.0, read.1)
 
 -- ---- none was, and the bytes were searched
 
@@ -29,7 +29,7 @@ read_found-requires-clause-searched c =
 
 pub returns-in-Ok-false-clause-same : goal.returns-in-Ok-false-clause-same
 returns-in-Ok-false-clause-same c =
-    same_incoming c.cut_head_into.new.head_bytes c.cut_head_into.new.buffer.items c.read_found.new.head_bytes c.read_found.new.bytes.items c.searched.result c.read_found.ensures.all
+    same_incoming c.cut_head_into.new.front c.cut_head_into.new.buffer.items c.read_found.new.head_bytes c.read_found.new.bytes.items c.searched.result c.read_found.ensures.all
     ∙ uncut_same _ _ _ c.cut_head_into.ensures.bytes _ _ (c.in-Ok-false.ensures.none c.in-Ok-false.field-0-test).0 c.as_slice.ensures c.searched.ensures
 
 pub returns-in-Ok-false-clause-head : goal.returns-in-Ok-false-clause-head
@@ -65,7 +65,7 @@ returns-in-Err-clause-searched c = noted_searched _ _ _ c.cut_head_into.ensures.
 pub returns-in-Err-clause-fault : goal.returns-in-Err-clause-fault
 returns-in-Err-clause-fault c = λ ne.
     let read = c.in-Err.ensures.fault ne in
-    (_, found_head c.cut_head_into.new.head_bytes _ _ c.cut_head_into.ensures.bytes read.0, read.1)
+    (_, found_head c.cut_head_into.new.front _ _ c.cut_head_into.ensures.bytes read.0, read.1)
 
 pub returns-in-Err-clause-whole : goal.returns-in-Err-clause-whole
 returns-in-Err-clause-whole c = found_whole _ _ (begins_piece _ c.in-Err.ensures.there).1

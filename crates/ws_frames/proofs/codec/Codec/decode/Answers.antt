@@ -1,12 +1,13 @@
 -- What is taken from the front of the bytes is the frame there.
 use Rattle.std.proofs.Common.{◌≡◌, ℕ, ◌+◌, List, drop, refl, sym, ap, ◌∙◌, subst}
 use Rattle.h1_model.specs.FrameText.{Front, front_of_judged}
+use Rattle.ws_frames.specs.declared.error.ProtocolError.TheVariants as errors
 use Rattle.ws_frames.specs.CodecState.{codec_server, codec_limit, codec_reading, cost, Failed}
 use Rattle.ws_frames.specs.Header.{payload_at}
 use Rattle.ws_frames.specs.Judged.{front_of_parsed}
 use Rattle.ws_frames.specs.Parsed.{Parsed, takes, parsed}
 use Rattle.ws_frames.specs.Protocol.{opcode_written}
-use Rattle.ws_frames.proofs.ErrorLemmas.{judged_fails}
+use Rattle.ws_frames.proofs.ErrorLemmas.{memory_fails, rule_fails}
 use Rattle.ws_frames.proofs.ParsedFronts.{front_is_parsed}
 use Rattle.ws_frames.proofs.codec.Codec.decode.Goals as goal
 
@@ -39,20 +40,37 @@ returns-in-Ok-clause-frame g c =
     let len = c.in-Takes.header_len + c.in-Takes.payload_len in
     let is = subst (λ (t : List ℕ). parsed server max t ≡ takes c.in-Takes.finished (opcode_written c.in-Takes.op)
     (payload_at server c.in-Takes.header_len c.in-Takes.payload_len t) len) c.as_slice.ensures c.in-Takes.ensures.taken in
-    let taken = c.in-Ok.ensures in
+    let taken = c.in-Ok.ensures.taken in
     (len, front_is_parsed server u max c.args.src.now.items ∙ ap (front_of_parsed u) is ∙ ap (front_of_judged len) taken.0, taken.1, taken.2)
 
-pub returns-in-Err-clause-frame : goal.returns-in-Err-clause-frame
-returns-in-Err-clause-frame g c =
+pub returns-in-NoMemory-clause-frame : goal.returns-in-NoMemory-clause-frame
+returns-in-NoMemory-clause-frame g c =
     let server = codec_server c.args.self.now in
     let max = codec_limit c.args.self.now in
     let u = codec_reading c.args.self.now in
+    let n = cost (parsed server max c.args.src.now.items) in
     let len = c.in-Takes.header_len + c.in-Takes.payload_len in
     let is = subst (λ (t : List ℕ). parsed server max t ≡ takes c.in-Takes.finished (opcode_written c.in-Takes.op)
     (payload_at server c.in-Takes.header_len c.in-Takes.payload_len t) len) c.as_slice.ensures c.in-Takes.ensures.taken in
     let front = front_is_parsed server u max c.args.src.now.items ∙ ap (front_of_parsed u) is in
-    let fails = judged_fails _ c.in-Err.error len (cost (parsed server max c.args.src.now.items)) c.args.src.now.items c.take_judged.new.src.items
-    (ap cost is) c.in-Err.ensures in (
+    let fails = memory_fails _ len n c.args.src.now.items c.take_judged.new.src.items
+    (sym c.in-NoMemory.is ∙ c.in-Err.ensures.taken.0) c.in-Err.ensures.taken.1 in (
       refl,
-      subst (λ (x : Front). Failed x c.in-Err.error (cost (parsed server max c.args.src.now.items)) c.args.src.now.items c.take_judged.new.src.items) (sym front) fails,
+      subst (λ (x : Front). Failed x errors.NoMemory n c.args.src.now.items c.take_judged.new.src.items) (sym front) fails,
+    )
+
+pub returns-in_default-clause-frame : goal.returns-in_default-clause-frame
+returns-in_default-clause-frame g c =
+    let server = codec_server c.args.self.now in
+    let max = codec_limit c.args.self.now in
+    let u = codec_reading c.args.self.now in
+    let n = cost (parsed server max c.args.src.now.items) in
+    let len = c.in-Takes.header_len + c.in-Takes.payload_len in
+    let is = subst (λ (t : List ℕ). parsed server max t ≡ takes c.in-Takes.finished (opcode_written c.in-Takes.op)
+    (payload_at server c.in-Takes.header_len c.in-Takes.payload_len t) len) c.as_slice.ensures c.in-Takes.ensures.taken in
+    let front = front_is_parsed server u max c.args.src.now.items ∙ ap (front_of_parsed u) is in
+    let fails = rule_fails _ c.in-Err.error len n c.args.src.now.items c.drop_frame.new.src.items c.in_default.not-NoMemory
+    c.in-Err.ensures.taken.0 (ap cost is) (c.drop_frame.ensures ∙ ap (drop len) c.in-Err.ensures.taken.1) in (
+      refl,
+      subst (λ (x : Front). Failed x c.in-Err.error n c.args.src.now.items c.drop_frame.new.src.items) (sym front) fails,
     )
