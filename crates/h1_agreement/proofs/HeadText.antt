@@ -1,6 +1,6 @@
 -- The text of a head is the head on the stream: no empty line stands in it but its last.
-use Rattle.std.proofs.Common.{◌≡◌, ℕ, zero, suc, ◌+◌, ◌<◌, ◌≤◌, Bool, List, [], ◌∷◌, ◌++◌, length, take, drop, filter, flat_map, get_or, slice_range, cond, true, false, All, Some, None, Option, refl, sym, ap, ◌∙◌, subst, arith, append_assoc, length-append, length-drop}
-use Rattle.std.specs.Prelude.{IsTrue, codes}
+use Rattle.std.proofs.Common.{◌≡◌, ℕ, ◌<◌, ◌≤◌, Bool, List, [], ◌∷◌, ◌++◌, length, take, drop, filter, flat_map, get_or, slice_range, cond, true, false, All, Some, None, Option, refl, sym, ap, ◌∙◌, subst, arith, append_assoc, length-append, length-drop}
+use Rattle.std.specs.Prelude.{IsTrue}
 use Rattle.std.specs.Char.{is_ascii_digit}
 use Rattle.std.proofs.Math.Seq.{take-append_seam}
 use Rattle.std.proofs.lemmas.Bool.{eq-eqb, false≢true}

@@ -13,3 +13,4 @@ pub mod PlainExchange
 pub mod PlainTraces
 pub mod Traces
 pub mod GivenRequests
+pub mod OrdinaryHeads

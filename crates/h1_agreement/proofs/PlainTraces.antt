@@ -1,6 +1,6 @@
 -- A trace without interruptions has no refusal, no client in it was told to go on, and no plain request got a WebSocket.
 use Rattle.std.proofs.Common.{◌≡◌, ℕ, Bool, true, false, not, cond, List, [], ◌∷◌, map, Option, Some, None, refl, sym, ap, ◌∙◌, subst}
-use Rattle.std.specs.Prelude.{bytes_eq, codes, option_map, option_and_then, unwrap_or}
+use Rattle.std.specs.Prelude.{bytes_eq, codes, option_map, unwrap_or}
 use Rattle.std.specs.List.{AllByRecursion, cons_option}
 use Rattle.std.specs.Option.{option_or}
 use Rattle.h1_model.specs.Request.{Head, Fault}
@@ -12,10 +12,10 @@ use Rattle.h1_model.specs.Event.{Event, Outcome}
 use Rattle.h1_model.specs.Event as on
 use Rattle.h1_model.specs.End as ends
 use Rattle.h1_model.specs.Sums.{Step, request, head_of}
-use Rattle.h1_model.specs.Past.{ParsedStep, steps}
+use Rattle.h1_model.specs.Past.{steps}
 use Rattle.h1_model.specs.OutcomeTable.{accept_outcome, outcome_of}
 use Rattle.h1_model.specs.Trace.{IsOutcome, IsTrace}
-use Rattle.h1_model.specs.Laws.Exchanges.{Reply, no_reply, answer_given, session, Exchange, with_piece, with_end, with_sent, changed_by, newest_changed, with_head, exchanges_behind, exchanges, Refusal, refused_by, refusal, heads}
+use Rattle.h1_model.specs.Laws.Exchanges.{Reply, no_reply, answer_given, session, Exchange, with_piece, with_end, with_sent, changed_by, newest_changed, with_head, exchanges, refused_by, refusal, heads}
 use Rattle.h1_model.proofs.ExchangeSteps.{NewestIs}
 use Rattle.h1_model.proofs.ExchangeTraces.{spoken, exchange_heads}
 use Rattle.h1_client_model.specs.PlainExchange.{IsPlainHead, IsUninterrupted}
@@ -152,8 +152,8 @@ quiet_heads setting (s ∷ before) traced x plain =
     let plain_heads : AllByRecursion IsPlainHead (map (λ e. e.head) es) = subst (AllByRecursion IsPlainHead) (sym (exchange_heads before)) earlier in
     let refuses : (e : Exchange) (more : List Exchange) → es ≡ e ∷ more → (limit : ℕ) → s.event ≡ on.accept limit → s.outcome ≡ on.done → ⊥ =
     λ e more is limit event outcome.
-        not_accepted setting before e.head limit (newest_head before es e more spoke.newest is) (first_head IsPlainHead es e more is plain_heads).no_upgrade
-        (subst (IsOutcome setting before (on.accept limit)) outcome (subst (λ v. IsOutcome setting before v s.outcome) event traced.1)) in
+    not_accepted setting before e.head limit (newest_head before es e more spoke.newest is) (first_head IsPlainHead es e more is plain_heads).no_upgrade
+    (subst (IsOutcome setting before (on.accept limit)) outcome (subst (λ v. IsOutcome setting before v s.outcome) event traced.1)) in
     record {
       none_refused = ap (λ r. option_or r (refused_by before s.event s.outcome)) q.none_refused ∙ no_refusal before s.event s.outcome x.no_fault.0 x.in_time.0;
       quiet = all_stay IsQuiet (head_of s.outcome) change es (λ h. refl) (λ e more is. stays_quiet before s.event s.outcome e x.no_continue.0) q.quiet;

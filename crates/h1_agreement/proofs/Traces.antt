@@ -1,5 +1,5 @@
 -- What a connection writes is read by a client as its answers.
-use Rattle.std.proofs.Common.{◌≡◌, ℕ, ◌≤◌, Bool, true, false, cond, List, [], ◌∷◌, ◌++◌, length, map, reverse, flat_map, drop, All, Option, Some, None, refl, sym, ap, ap₂, ◌∙◌, subst, append-nil, append_assoc}
+use Rattle.std.proofs.Common.{◌≡◌, ℕ, Bool, true, false, List, [], ◌∷◌, ◌++◌, map, reverse, flat_map, drop, All, refl, sym, ap, ap₂, ◌∙◌, subst, append-nil, append_assoc}
 use Rattle.std.specs.List.{AllByRecursion}
 use Rattle.std.proofs.lemmas.Bool.{false≢true, cond-false}
 use Rattle.std.proofs.lemmas.List.{reverse-append, map-append}
@@ -11,14 +11,14 @@ use Rattle.h1_model.specs.AnswerText.{interim_text}
 use Rattle.h1_model.specs.Sums.{Step}
 use Rattle.h1_model.specs.Text.{text}
 use Rattle.h1_model.specs.Trace.{IsTrace}
-use Rattle.h1_model.specs.Laws.Exchanges.{Reply, no_reply, answer_given, session, is_whole, Exchange, reply_text, exchange_text, exchanges, exchanges_text, refusal, refusal_text}
+use Rattle.h1_model.specs.Laws.Exchanges.{Reply, no_reply, answer_given, session, is_whole, Exchange, reply_text, exchange_text, exchanges, exchanges_text, refusal_text}
 use Rattle.h1_model.proofs.ExchangeTraces.{spoken}
 use Rattle.h1_client_model.specs.AnswerParse.{so_far, AnswerMessage, AreAnswersFrom}
 use Rattle.h1_agreement.specs.SentAnswer.{SentAnswer, IsSent, sent_text, methods_of, AreReadAs, sent_answer, sent_by, all_sent, AreCounted, CountsAnswers, methods_asked, answers_sent}
-use Rattle.h1_client_model.specs.PlainExchange.{IsPlainHead, IsSelfFramed, IsFramedReply, IsPlain, IsUninterrupted}
+use Rattle.h1_client_model.specs.PlainExchange.{IsPlainHead, IsFramedReply, IsPlain, IsUninterrupted}
 use Rattle.h1_client_model.proofs.AnswerLemmas.{answers_unique}
-use Rattle.h1_agreement.proofs.SentAnswers.{Reads, all_read}
-use Rattle.h1_agreement.proofs.PlainTraces.{IsNoSession, IsQuiet, Quiet, quiet_trace}
+use Rattle.h1_agreement.proofs.SentAnswers.{all_read}
+use Rattle.h1_agreement.proofs.PlainTraces.{IsNoSession, IsQuiet, quiet_trace}
 use Rattle.h1_agreement.proofs.PlainExchange.{plain_sent}
 
 -- ---- lists

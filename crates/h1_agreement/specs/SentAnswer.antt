@@ -1,5 +1,5 @@
 -- Answers that were sent one after another, and what a client reads of them.
-use Rattle.std.specs.Prelude.{◌≡◌, ℕ, ◌≤◌, Bool, false, List, [], ◌∷◌, ◌++◌, length, map, reverse, flat_map, Option, Some, ⊤}
+use Rattle.std.specs.Prelude.{◌≡◌, ℕ, ◌≤◌, Bool, false, List, [], ◌∷◌, ◌++◌, length, map, reverse, flat_map, Some, ⊤}
 use Rattle.std.specs.List.{AllByRecursion}
 use Rattle.h1_chunks.specs.ChunkedText.{ChunkedText, IsChunkedText, chunked_text, content}
 use Rattle.h1_model.specs.Limits.{MAX_HEADER_LINES}
