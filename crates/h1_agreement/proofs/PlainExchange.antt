@@ -81,7 +81,7 @@ record Framed (minor status : ℕ) (lines : List Header) (head : Bool) (text car
   is : answer_kind minor status lines ≡ Some kind
   body : IsBodyText (cond head no_body kind) text carried
 
--- nothing behind HEAD
+-- nothing follows HEAD
 nothing : List ℕ
 nothing = []
 

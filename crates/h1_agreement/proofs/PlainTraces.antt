@@ -1,4 +1,4 @@
--- A trace without interruptions has no refusal, no client in it was told to go on, and no plain request got a WebSocket.
+-- A trace without interruptions has no refusal, no client in it got a 100 Continue, and no plain request got a WebSocket.
 use Rattle.std.proofs.Common.{◌≡◌, ℕ, Bool, true, false, not, cond, List, [], ◌∷◌, map, Option, Some, None, refl, sym, ap, ◌∙◌, subst}
 use Rattle.std.specs.Prelude.{bytes_eq, codes, option_map, unwrap_or}
 use Rattle.std.specs.List.{AllByRecursion, cons_option}
@@ -25,7 +25,7 @@ abbrev pub IsNoSession : Reply → Type 0
 IsNoSession (session s) = ⊥
 IsNoSession _ = Unit {0}
 
--- nobody was told to go on
+-- the client got no 100 Continue
 abbrev pub IsQuiet : Exchange → Type 0
 IsQuiet e = e.was_told ≡ false
 
@@ -39,7 +39,7 @@ no_refusal before on.next (on.fault f) sound in_time = absurd (sound f refl)
 no_refusal before (on.tick ms) (on.expired ends.slow_request) sound in_time = absurd (in_time refl)
 no_refusal before _ _ sound in_time = refl
 
--- a client isn't told to go on
+-- a client gets none
 stays_quiet : (before : List Step) (event : Event) (outcome : Outcome) (e : Exchange) → ¬ (event ≡ on.send_continue) → IsQuiet e
     → IsQuiet (changed_by before event outcome e)
 unfolding changed_by

@@ -1,4 +1,4 @@
--- Answers that were sent one behind the other are read as they were sent.
+-- Answers that were sent one after another are read as they were sent.
 use Rattle.std.proofs.Common.{◌≡◌, ℕ, ◌+◌, ◌≤◌, Bool, List, [], ◌∷◌, ◌++◌, length, take, drop, map, slice_range, Some, None, MatchOption, refl, sym, ap, ◌∙◌, subst, arith, append-nil, append_assoc, length-append, false, ◌-◌, inl}
 use Rattle.std.specs.List.{AllByRecursion}
 use Rattle.std.proofs.lemmas.Bool.{cond-false}

@@ -42,7 +42,7 @@ recursion-reverse P (x ∷ xs) a = subst (AllByRecursion P) (sym (reverse-cons x
 
 -- ---- an exchange
 
--- a plain request, whose client wasn't told to go on, and which has an answer, if it has one, that says where it ends
+-- a plain request, whose client got no 100 Continue, and which has an answer, if it has one, that says where it ends
 record IsFramed (setting : Setting) (e : Exchange) : Type 0 where
   version : e.head.minor ≡ 1
   reply : IsFramedReply setting e.head e.reply
@@ -78,7 +78,7 @@ reply_says waits setting h (answer_given a) counts eleven framed none whole =
     }
 reply_says waits setting h (session x) counts eleven framed none whole = absurd none
 
--- a client that wasn't told to go on gets the reply alone
+-- a client that got none gets the reply alone
 quiet_text : (setting : Setting) (e : Exchange) → IsQuiet e → exchange_text setting e ≡ reply_text setting e.head e.reply
 quiet_text setting e quiet = ap (λ t. t ++ reply_text setting e.head e.reply) (cond-false e.was_told interim_text [] quiet)
 

@@ -6,7 +6,7 @@
 //!
 //! # Answers
 //!
-//! [`answers::two_ends`] is the law: take any trace of a connection in which no client is told to go on, no head is
+//! [`answers::two_ends`] is the law: take any trace of a connection in which no client gets a 100 Continue, no head is
 //! refused and no request is given up as too slow, whose requests are plain and whose answers say where they end. Then a
 //! client that reads all that the connection writes reads exactly its answers, in order, each to its own request: version,
 //! status, reason, header lines, all bytes of the body, and the body's end. The last request may still lack its answer.

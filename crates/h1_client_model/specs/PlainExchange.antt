@@ -79,7 +79,7 @@ pub record IsPlain (setting : Setting) (e : Exchange) : Type 0 where
 
 -- ---- traces
 
--- no client was told to go on, no head was refused, and no request was given up as too slow
+-- no client got a 100 Continue, no head was refused, and no request was given up as too slow
 pub record IsUninterrupted (trace : List Step) : Type 0 where
   pub no_continue : AllByRecursion (λ s. ¬ (s.event ≡ on.send_continue)) trace
   pub no_fault : AllByRecursion (λ s. (f : Fault) → ¬ (s.outcome ≡ on.fault f)) trace
