@@ -107,7 +107,7 @@ module _ (front text rest : List ℕ) where
 -- ---- one answer
 
 module _ (front rest : List ℕ) (s : SentAnswer) (sent : IsSent s) where
-  abbrev bytes : List ℕ
+  abbrev pub bytes : List ℕ
   bytes = front ++ (s.head ++ (s.body ++ rest))
 
   text_is : s.head ≡ print_response sent.back.head
@@ -156,16 +156,16 @@ module _ (front rest : List ℕ) (s : SentAnswer) (sent : IsSent s) where
   regrouped : (front ++ s.head) ++ (s.body ++ rest) ≡ bytes
   regrouped = append_assoc front s.head (s.body ++ rest)
 
-  stands : Stands bytes (body_to s.method s.answer.body) (length front + length s.head) (length front + length s.head + length s.body) s.bytes
+  pub stands : Stands bytes (body_to s.method s.answer.body) (length front + length s.head) (length front + length s.head + length s.body) s.bytes
   stands =
       subst (λ n. Stands bytes (body_to s.method s.answer.body) n (n + length s.body) s.bytes) body_place
       (subst (λ t. Stands t (body_to s.method s.answer.body) (length (front ++ s.head)) (length (front ++ s.head) + length s.body) s.bytes) regrouped
       (body_stands (front ++ s.head) s.body rest (body_to s.method s.answer.body) s.bytes sent.body))
 
-  abbrev message : AnswerMessage
+  abbrev pub message : AnswerMessage
   message = record { reading = answer_is s.answer; body_start = length front + length s.head; body = stands.body }
 
-  answer_at : IsAnswerAt (so_far bytes) (length front) s.method message
+  pub answer_at : IsAnswerAt (so_far bytes) (length front) s.method message
   answer_at = record {
     start = 0;
     end = length s.head;
@@ -175,7 +175,7 @@ module _ (front rest : List ℕ) (s : SentAnswer) (sent : IsSent s) where
     body = stands.is;
   }
 
-  read_as : IsReadAs bytes message s
+  pub read_as : IsReadAs bytes message s
   read_as = record { head = refl; carried = stands.carries; end = _; ended = stands.ends; trailers = stands.plain }
 
 -- ---- all answers

@@ -1,13 +1,15 @@
 //! Worked examples: ordinary heads meet what the laws ask of them.
 
-ghost use Rattle.std.specs.Prelude.{[], ◌∷◌, codes, true, false};
+ghost use Rattle.std.specs.Prelude.{◌≡◌, [], ◌∷◌, codes, true, false};
 ghost use Rattle.h1_model.specs.Request.{Head, no_body, keep_alive};
 ghost use Rattle.h1_model.specs.Answer.{size_none, size_of, size_stream, shape_none};
 ghost use Rattle.h1_model.specs.AnswerText.{head_text};
 ghost use Rattle.h1_model.specs.Laws.ExampleTraces.{ok, usual, get_head};
+ghost use Rattle.h1_client_model.specs.AnswerParse.{is_interim};
 ghost use Rattle.h1_client_model.specs.WrittenHead.{written_lines, IsReadBack};
 ghost use Rattle.h1_client_model.specs.PlainExchange.{IsPlainHead, IsSelfFramed};
 ghost use Rattle.h1_client_model.specs.RequestText.{IsPlainGiven};
+ghost use Rattle.h1_agreement.specs.SentAnswer.{CountsAnswers};
 
 /// The head of an empty answer at the first moment is read back as it is written.
 pub fn an_ordinary_head_is_read_back()
@@ -77,4 +79,10 @@ pub fn an_ordinary_post_is_plain()
           moment = 0;
           pieces = codes "a" ∷ codes "bc" ∷ [];
         }) }
+{}
+
+/// 1xx but 101 are statuses after which a request waits on, and 100 is one of them.
+pub fn interim_statuses()
+    ensures counts { CountsAnswers is_interim }
+    ensures continues { is_interim 100 ≡ true }
 {}

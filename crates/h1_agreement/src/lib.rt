@@ -13,6 +13,9 @@
 //! The header lines are those that are written: the answer's own, name by name, without the framing and connection lines
 //! that a connection drops, and with those that it adds.
 //!
+//! Where clients get a 100 Continue while they send a body, [`answers::two_ends_with_interim_answers`] says the same of a
+//! client whose requests wait on after interim answers: it reads the 100 in front of the answer.
+//!
 //! # Requests
 //!
 //! [`requests::two_ends_of_requests`] is the same of the requests that a client writes, and the parse of a server.
@@ -24,8 +27,7 @@
 //!
 //! # Not promised
 //!
-//! Requests that ask for another protocol, bodies that only the end of the input ends, and interim answers that are
-//! written. That a head is read back is a premise of a plain exchange; [`heads::written_heads_are_read_back`] says of
+//! Requests that ask for another protocol, and bodies that only the end of the input ends. That a head is read back is a premise of a plain exchange; [`heads::written_heads_are_read_back`] says of
 //! which parts it holds, and [`examples`] has ordinary ones.
 #![tactic(auto)]
 
