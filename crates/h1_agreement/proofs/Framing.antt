@@ -1,5 +1,5 @@
 -- The lines of a written head frame the body that was written.
-use Rattle.std.proofs.Common.{◌≡◌, ℕ, zero, suc, ◌+◌, ◌-◌, ◌^◌, ◌<◌, ◌≤◌, Bool, true, false, not, ◌&&◌, ◌||◌, List, [], ◌∷◌, ◌++◌, length, reverse, map, filter, cond, eqb, leb, ltb, All, refl, sym, ap, ap₂, ◌∙◌, subst, inl, inr, arith, le-leb, lt-ltb, append-nil}
+use Rattle.std.proofs.Common.{◌≡◌, ℕ, ◌^◌, ◌<◌, Bool, true, false, not, ◌&&◌, ◌||◌, List, [], ◌∷◌, ◌++◌, length, reverse, map, filter, cond, eqb, refl, sym, ap, ap₂, ◌∙◌, subst, arith, le-leb, lt-ltb, append-nil}
 use Rattle.std.specs.Prelude.{IsTrue, codes, Some, None, Option, decimal, nat_lt, bytes_eq}
 use Rattle.std.specs.List.{list_all}
 use Rattle.std.specs.Char.{is_ascii_digit}
@@ -8,17 +8,17 @@ use Rattle.std.proofs.lemmas.Fmt.{decimal_is_IsNumeral}
 use Rattle.std.proofs.lemmas.Bool.{false≢true, cond-true, cond-false, or_right}
 use Rattle.std.proofs.lemmas.Str.Parse.{digit_from_value}
 use Rattle.std.proofs.lemmas.List.{map-append}
-use Rattle.std.proofs.lemmas.List.Elements.{All-head, All-tail, All-nil, All-cons, filter-append}
+use Rattle.std.proofs.lemmas.List.Elements.{All-head, All-nil, All-cons, filter-append}
 use Rattle.std.proofs.lemmas.Bool.Decides.{nat_tests}
 use Rattle.httparse.specs.Grammar.{AllPass, is_ows, skip_ows, trim_ows}
 use Rattle.httparse.proofs.TrimLemmas.{AllPass-reverse}
 use Rattle.std.proofs.lemmas.List.{reverse-reverse}
 use Rattle.h1_model.specs.Request.{Header, ConnectionType, close, keep_alive, upgrade, BodyKind, no_body, fixed_body, chunked_body, raw_body}
-use Rattle.h1_model.specs.LengthTable.{values_of, says, length_value, stated_length, is_length_refused}
-use Rattle.h1_model.specs.Answer.{AnswerHead, BodySize, size_none, size_of, size_stream, Shape, shape_none, shape_chunked, shape_raw, shape_length, is_bodiless, has_header, is_raw}
-use Rattle.h1_model.specs.AnswerText.{by_name, is_sent, date_of}
-use Rattle.h1_client_model.specs.AnswerTable.{is_answer_coding_refused, comes_in_chunks, is_answer_refused, stated_body, has_no_content, answer_body, answer_kind}
-use Rattle.h1_client_model.specs.WrittenHead.{line_of, stream_lines, size_lines, framing_lines, connection_lines, date_lines, written_lines}
+use Rattle.h1_model.specs.LengthTable.{values_of, length_value, stated_length, is_length_refused}
+use Rattle.h1_model.specs.Answer.{AnswerHead, BodySize, size_of, Shape, shape_length, is_bodiless, has_header, is_raw}
+use Rattle.h1_model.specs.AnswerText.{by_name, is_sent}
+use Rattle.h1_client_model.specs.AnswerTable.{is_answer_coding_refused, comes_in_chunks, stated_body, has_no_content, answer_kind}
+use Rattle.h1_client_model.specs.WrittenHead.{line_of, framing_lines, connection_lines, date_lines, written_lines}
 
 -- ---- a length that is written is read
 

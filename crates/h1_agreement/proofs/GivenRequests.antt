@@ -1,14 +1,14 @@
 -- A plain request is sent so that its server reads where its body ends.
-use Rattle.std.proofs.Common.{◌≡◌, ℕ, ◌<◌, ◌≤◌, ◌^◌, Bool, true, false, List, [], ◌∷◌, ◌++◌, length, take, map, cond, eqb, refl, sym, ap, ◌∙◌, subst, inl, inr, arith, length-take-le, None}
+use Rattle.std.proofs.Common.{◌≡◌, ℕ, false, List, [], ◌∷◌, length, map, eqb, refl, sym, subst, inl, inr, arith, length-take-le, None}
 use Rattle.std.specs.List.{AllByRecursion}
 use Rattle.std.proofs.lemmas.Bool.{cond-true, cond-false, cases_eq, eq-eqb, ne_eqb}
-use Rattle.h1_model.specs.Answer.{BodySize, size_none, size_of, size_stream, Shape, shape_none, shape_length, shape_chunked}
+use Rattle.h1_model.specs.Answer.{BodySize, size_none, size_of, size_stream, Shape, shape_none, shape_length}
 use Rattle.h1_model.specs.Parse.{Message, AreMessages}
 use Rattle.h1_model.proofs.MessageLemmas.{messages_unique}
 use Rattle.h1_client_model.specs.PlainExchange.{joined, carried_by}
 use Rattle.h1_client_model.specs.RequestText.{RequestGiven, asked_shape, kind_of_shape, body_sent, IsPlainGiven}
 use Rattle.h1_agreement.specs.SentAnswer.{IsBodyText}
-use Rattle.h1_agreement.specs.SentRequest.{SentRequest, IsAsked, sent_request, asked_text, AreServedAs}
+use Rattle.h1_agreement.specs.SentRequest.{IsAsked, sent_request, asked_text, AreServedAs}
 use Rattle.h1_agreement.proofs.WrittenPieces.{AreShort, written_body}
 use Rattle.h1_agreement.proofs.RequestText.{request_back}
 use Rattle.h1_agreement.proofs.SentRequests.{asked_is_served}

@@ -1,6 +1,6 @@
 -- The text of a head is the head on the stream: no empty line stands in it but its last.
-use Rattle.std.proofs.Common.{◌≡◌, ℕ, zero, suc, ◌+◌, ◌<◌, ◌≤◌, Bool, List, [], ◌∷◌, ◌++◌, length, take, drop, filter, flat_map, get_or, slice_range, cond, true, false, All, Some, None, Option, refl, sym, ap, ◌∙◌, subst, arith, append_assoc, length-append, length-drop}
-use Rattle.std.specs.Prelude.{IsTrue, codes}
+use Rattle.std.proofs.Common.{◌≡◌, ℕ, ◌<◌, ◌≤◌, Bool, List, [], ◌∷◌, ◌++◌, length, take, drop, filter, flat_map, get_or, slice_range, cond, true, false, All, Some, None, Option, refl, sym, ap, ◌∙◌, subst, arith, append_assoc, length-append, length-drop}
+use Rattle.std.specs.Prelude.{IsTrue}
 use Rattle.std.specs.Char.{is_ascii_digit}
 use Rattle.std.proofs.Math.Seq.{take-append_seam}
 use Rattle.std.proofs.lemmas.Bool.{eq-eqb, false≢true}
@@ -14,7 +14,7 @@ use Rattle.h1_agreement.proofs.LineFeeds.{is_feed, feeds, feeds-append, feeds-no
 
 -- ---- where the text can end with an empty line
 
--- behind each empty line that follows a line feed there are at most n bytes of the text
+-- after each empty line that follows a line feed there are at most n bytes of the text
 abbrev EndsLate : List ℕ → ℕ → Type 0
 EndsLate text n =
     (before : List ℕ) (end : LineEnd) (after : List ℕ) → text ≡ before ++ (line_feed ∷ print_end end ++ after) → length after ≤ n
@@ -26,7 +26,7 @@ late_byte b text n other late [] end after is =
     absurd (false≢true (sym other ∙ eq-eqb b line_feed here))
 late_byte b text n other late (x ∷ before) end after is = late before end after (ap (drop 1) is)
 
--- a text without line feeds has none at its front, and none behind that
+-- a text without line feeds has none at its front, and none after that
 feedless : (b : ℕ) (text : List ℕ) → feeds (b ∷ text) ≡ 0 → (is_feed b ≡ false) × (feeds text ≡ 0)
 feedless b text none = by_byte (is_feed b) refl none
   where
@@ -64,7 +64,7 @@ rest_alike lf lf rest after is = omega (arith, ap length is)
 rest_alike crlf lf rest after is = let no : 13 ≡ 10 = ap (λ xs. get_or xs 0 0) is in absurd (omega (arith, no))
 rest_alike lf crlf rest after is = let no : 10 ≡ 13 = ap (λ xs. get_or xs 0 0) is in absurd (omega (arith, no))
 
--- behind the last line end stands what follows the empty line
+-- after the last line end stands what follows the empty line
 late_last_feed : (last : LineEnd) (rest : List ℕ) → EndsLate (line_feed ∷ print_end last ++ rest) (length rest)
 late_last_feed last rest [] end after is = rest_alike last end rest after (ap (drop 1) is)
 late_last_feed last rest (x ∷ before) end after is =
@@ -98,11 +98,11 @@ token_begins (b ∷ name) rest token (lf, text, is) =
 abbrev line_of : Field → List ℕ
 line_of f = f.name ++ colon ∷ f.raw
 
--- and the lines behind it
+-- and the lines after it
 line_then : (f : Field) (fields later : List ℕ) → line_of f ++ (print_end f.end ++ (fields ++ later)) ≡ print_field f ++ fields ++ later
 line_then f fields later = sym (append_assoc (print_field f) fields later ∙ append_assoc (line_of f) (print_end f.end) (fields ++ later))
 
--- behind a line end and the lines that follow it
+-- after a line end and the lines that follow it
 late_section : (end : LineEnd) (fields : List Field) (last : LineEnd) (rest : List ℕ) → All IsField fields
     → EndsLate (print_end end ++ (flat_map print_field fields ++ (print_end last ++ rest))) (length rest)
 late_section end [] last rest valid = late_last end last rest
@@ -150,7 +150,7 @@ module _ (line : List ℕ) (end : LineEnd) (fields : List Field) (last : LineEnd
       ∙ ap (λ (t : List ℕ). line ++ t) (append_assoc (print_end end) (flat_map print_field fields ++ print_end last) rest
       ∙ ap (λ (t : List ℕ). print_end end ++ t) (append_assoc (flat_map print_field fields) (print_end last) rest))
 
-  -- an empty line behind a line feed ends no earlier than the head
+  -- an empty line after a line feed ends no earlier than the head
   late : EndsLate (text_of line end fields last ++ rest) (length rest)
   late =
       subst (λ (t : List ℕ). EndsLate t (length rest)) (sym grouped)

@@ -1,6 +1,5 @@
 -- Legal messages are read as they were sent.
 use Rattle.std.proofs.Common.{◌≡◌, ℕ, ◌+◌, ◌<◌, ◌≤◌, ◌^◌, Bool, true, List, [], ◌∷◌, ◌++◌, length, drop, map, None, refl, sym, ap, ◌∙◌, subst, arith, length-append, append_assoc}
-use Rattle.std.specs.List.{AllByRecursion}
 use Rattle.std.proofs.lemmas.List.{drop_at}
 use Rattle.h1_model.specs.Frame.{Frame}
 use Rattle.h1_model.specs.FrameText.{Reader, front_frame, whole, is_under_way, PlacedFrame, ReadsFrames}

@@ -11,5 +11,8 @@ pub mod RequestText
 pub mod NameGroups
 pub mod PlainExchange
 pub mod PlainTraces
+pub mod InterimAnswers
 pub mod Traces
 pub mod GivenRequests
+pub mod OrdinaryHeads
+pub mod InterimTraces

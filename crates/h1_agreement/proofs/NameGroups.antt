@@ -2,7 +2,7 @@
 use Rattle.std.proofs.Common.{◌≡◌, ℕ, Bool, true, false, List, [], ◌∷◌, ◌++◌, map, filter, flat_map, cond, refl, sym, ap, ◌∙◌}
 use Rattle.std.specs.Prelude.{bytes_eq, fold}
 use Rattle.std.specs.List.{AllByRecursion}
-use Rattle.std.proofs.lemmas.Bool.{cond-true, cond-false, cases_Bool, true≢false}
+use Rattle.std.proofs.lemmas.Bool.{cond-true, cond-false}
 use Rattle.h1_model.specs.Request.{Header}
 use Rattle.h1_model.specs.LengthTable.{values_of}
 use Rattle.h1_model.specs.AnswerText.{appended, by_name}

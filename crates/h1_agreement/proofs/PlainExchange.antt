@@ -1,21 +1,21 @@
 -- A plain answer is one that says where it ends.
-use Rattle.std.proofs.Common.{◌≡◌, ◌⊎◌, ℕ, zero, suc, ◌+◌, ◌-◌, ◌^◌, ◌<◌, ◌≤◌, Bool, true, false, not, ◌&&◌, ◌||◌, List, [], ◌∷◌, ◌++◌, length, take, map, reverse, flat_map, filter, cond, eqb, leb, ltb, refl, sym, ap, ap₂, ◌∙◌, subst, inl, inr, arith, append-nil, append_assoc, length-append, length-take-le, le-leb, lt-ltb, le-ltb, Option, Some, None}
-use Rattle.std.specs.Prelude.{codes, bytes_eq, decimal, nat_lt, ◌==◌}
-use Rattle.std.proofs.lemmas.Bool.{false≢true, cond-true, cond-false, or_right, cases_eq, cases_lt}
+use Rattle.std.proofs.Common.{◌≡◌, ◌⊎◌, ℕ, zero, suc, ◌+◌, ◌-◌, ◌^◌, ◌<◌, ◌≤◌, Bool, true, false, not, ◌&&◌, ◌||◌, List, [], ◌∷◌, ◌++◌, length, take, flat_map, filter, cond, eqb, refl, sym, ap, ap₂, ◌∙◌, subst, inl, inr, arith, append-nil, length-take-le, lt-ltb, le-ltb, Some, None}
+use Rattle.std.specs.Prelude.{codes, decimal, nat_lt, ◌==◌}
+use Rattle.std.proofs.lemmas.Bool.{false≢true, cond-true, cond-false, cases_eq, cases_lt}
 use Rattle.std.proofs.lemmas.Bool.Decides.{nat_tests}
 use Rattle.std.proofs.Math.Seq.{take-append-add}
 use Rattle.std.proofs.lemmas.List.{take_all, take-append-le}
 use Rattle.httparse.specs.Grammar.{trim_ows}
 use Rattle.h1_model.specs.Request.{Header, Head, ConnectionType, BodyKind, no_body, fixed_body, chunked_body, raw_body}
 use Rattle.h1_model.specs.Setting.{Setting}
-use Rattle.h1_model.specs.LengthTable.{values_of, is_length_refused, stated_length, length_value}
-use Rattle.h1_model.specs.Answer.{AnswerHead, Asked, asked_of, BodySize, size_none, size_of, size_stream, Shape, shape_none, shape_length, shape_chunked, shape_raw, shape_of, stream_shape, sized_shape, switching_shape, is_bodiless, is_raw}
+use Rattle.h1_model.specs.LengthTable.{values_of}
+use Rattle.h1_model.specs.Answer.{AnswerHead, Asked, asked_of, BodySize, size_none, size_of, size_stream, Shape, shape_none, shape_length, shape_chunked, shape_raw, shape_of, sized_shape, is_bodiless, is_raw}
 use Rattle.std.proofs.lemmas.Bool.{eq-eqb, ne_eqb}
 use Rattle.h1_model.specs.Answer.{type_of, is_at_once}
 use Rattle.h1_client_model.specs.WrittenHead.{line_of, size_lines, written_lines}
-use Rattle.h1_model.specs.AnswerText.{by_name, is_sent, piece_text, sent_piece, sent_end, chunk_text, last_chunk}
+use Rattle.h1_model.specs.AnswerText.{by_name, is_sent, piece_text, sent_piece, chunk_text, last_chunk}
 use Rattle.h1_model.specs.Laws.Exchanges.{AnswerGiven, pieces_text, body_text}
-use Rattle.h1_client_model.specs.AnswerTable.{is_answer_coding_refused, comes_in_chunks, is_answer_refused, answer_body, answer_kind, body_to, has_no_content}
+use Rattle.h1_client_model.specs.AnswerTable.{is_answer_refused, answer_body, answer_kind, body_to, has_no_content}
 use Rattle.h1_client_model.specs.WrittenHead.{framing_lines}
 use Rattle.h1_agreement.specs.SentAnswer.{IsBodyText, IsSent, sent_answer}
 use Rattle.h1_client_model.specs.PlainExchange.{joined, given_shape, given_lines, carried_by, carried, IsSelfFramed}
@@ -31,15 +31,15 @@ take_none (y ∷ ys) = refl
 
 take_both : (n : ℕ) (xs ys : List ℕ) → take n (xs ++ ys) ≡ take n xs ++ take (n - length xs) ys
 take_both n xs ys = elim (cases_lt (length xs) n) [
-    | inr within ↦
-        let none : n - length xs ≡ 0 = omega arith in
-        take-append-le n xs ys within ∙ sym (append-nil (take n xs)) ∙ ap (λ (l : List ℕ). take n xs ++ l) (sym (take_none ys))
-        ∙ ap (λ m. take n xs ++ take m ys) (sym none)
-    | inl past ↦
-        let all : length xs + (n - length xs) ≡ n = omega arith in
-        ap (λ m. take m (xs ++ ys)) (sym all) ∙ take-append-add xs ys (n - length xs)
-        ∙ ap (λ (l : List ℕ). l ++ take (n - length xs) ys) (sym (take_all n xs (omega arith)))
-  ]
+  | inr within ↦
+      let none : n - length xs ≡ 0 = omega arith in
+      take-append-le n xs ys within ∙ sym (append-nil (take n xs)) ∙ ap (λ (l : List ℕ). take n xs ++ l) (sym (take_none ys))
+      ∙ ap (λ m. take n xs ++ take m ys) (sym none)
+  | inl past ↦
+      let all : length xs + (n - length xs) ≡ n = omega arith in
+      ap (λ m. take m (xs ++ ys)) (sym all) ∙ take-append-add xs ys (n - length xs)
+      ∙ ap (λ (l : List ℕ). l ++ take (n - length xs) ys) (sym (take_all n xs (omega arith)))
+]
 
 head_pieces : (asked : Asked) (shape : Shape) (before : ℕ) (pieces : List (List ℕ)) → asked.is_head ≡ true → pieces_text asked shape before pieces ≡ []
 unfolding pieces_text
@@ -81,7 +81,7 @@ record Framed (minor status : ℕ) (lines : List Header) (head : Bool) (text car
   is : answer_kind minor status lines ≡ Some kind
   body : IsBodyText (cond head no_body kind) text carried
 
--- nothing behind HEAD
+-- nothing follows HEAD
 nothing : List ℕ
 nothing = []
 

@@ -1,6 +1,6 @@
--- A trace without interruptions has no refusal, no client in it was told to go on, and no plain request got a WebSocket.
+-- A trace without interruptions has no refusal, no client in it got a 100 Continue, and no plain request got a WebSocket.
 use Rattle.std.proofs.Common.{◌≡◌, ℕ, Bool, true, false, not, cond, List, [], ◌∷◌, map, Option, Some, None, refl, sym, ap, ◌∙◌, subst}
-use Rattle.std.specs.Prelude.{bytes_eq, codes, option_map, option_and_then, unwrap_or}
+use Rattle.std.specs.Prelude.{bytes_eq, codes, option_map, unwrap_or}
 use Rattle.std.specs.List.{AllByRecursion, cons_option}
 use Rattle.std.specs.Option.{option_or}
 use Rattle.h1_model.specs.Request.{Head, Fault}
@@ -12,20 +12,20 @@ use Rattle.h1_model.specs.Event.{Event, Outcome}
 use Rattle.h1_model.specs.Event as on
 use Rattle.h1_model.specs.End as ends
 use Rattle.h1_model.specs.Sums.{Step, request, head_of}
-use Rattle.h1_model.specs.Past.{ParsedStep, steps}
+use Rattle.h1_model.specs.Past.{steps}
 use Rattle.h1_model.specs.OutcomeTable.{accept_outcome, outcome_of}
 use Rattle.h1_model.specs.Trace.{IsOutcome, IsTrace}
-use Rattle.h1_model.specs.Laws.Exchanges.{Reply, no_reply, answer_given, session, Exchange, with_piece, with_end, with_sent, changed_by, newest_changed, with_head, exchanges_behind, exchanges, Refusal, refused_by, refusal, heads}
+use Rattle.h1_model.specs.Laws.Exchanges.{Reply, no_reply, answer_given, session, Exchange, with_piece, with_end, with_sent, changed_by, newest_changed, with_head, exchanges, refused_by, refusal, heads}
 use Rattle.h1_model.proofs.ExchangeSteps.{NewestIs}
 use Rattle.h1_model.proofs.ExchangeTraces.{spoken, exchange_heads}
-use Rattle.h1_client_model.specs.PlainExchange.{IsPlainHead, IsUninterrupted}
+use Rattle.h1_client_model.specs.PlainExchange.{IsPlainHead, IsUnrefused}
 
 -- no WebSocket
 abbrev pub IsNoSession : Reply → Type 0
 IsNoSession (session s) = ⊥
 IsNoSession _ = Unit {0}
 
--- nobody was told to go on
+-- the client got no 100 Continue
 abbrev pub IsQuiet : Exchange → Type 0
 IsQuiet e = e.was_told ≡ false
 
@@ -39,7 +39,7 @@ no_refusal before on.next (on.fault f) sound in_time = absurd (sound f refl)
 no_refusal before (on.tick ms) (on.expired ends.slow_request) sound in_time = absurd (in_time refl)
 no_refusal before _ _ sound in_time = refl
 
--- a client isn't told to go on
+-- a client gets none
 stays_quiet : (before : List Step) (event : Event) (outcome : Outcome) (e : Exchange) → ¬ (event ≡ on.send_continue) → IsQuiet e
     → IsQuiet (changed_by before event outcome e)
 unfolding changed_by
@@ -111,9 +111,8 @@ not_accepted setting before h limit asked none x =
 -- ---- a trace
 
 -- what holds of the exchanges
-pub record Quiet (trace : List Step) : Type 0 where
+pub record Unrefused (trace : List Step) : Type 0 where
   pub none_refused : refusal trace ≡ None
-  pub quiet : AllByRecursion IsQuiet (exchanges trace)
   pub no_sessions : AllByRecursion (λ e. IsNoSession e.reply) (exchanges trace)
 
 -- a fact of all exchanges stays, if it stays at the newest and holds of a new one
@@ -139,34 +138,41 @@ earlier_heads P (Some h) hs all = all.1
 first_head : (P : Head → Type 0) (es : List Exchange) (e : Exchange) (more : List Exchange) → es ≡ e ∷ more → AllByRecursion P (map (λ x. x.head) es) → P e.head
 first_head P es e more is all = (subst (λ l. AllByRecursion P (map (λ x. x.head) l)) is all).0
 
-quiet_heads : (setting : Setting) (trace : List Step) → IsTrace setting trace → IsUninterrupted trace → AllByRecursion IsPlainHead (heads trace) → Quiet trace
+unrefused_heads : (setting : Setting) (trace : List Step) → IsTrace setting trace → IsUnrefused trace → AllByRecursion IsPlainHead (heads trace) → Unrefused trace
 unfolding refusal exchanges
-quiet_heads setting [] traced x plain = record { none_refused = refl; quiet = tt; no_sessions = tt }
-quiet_heads setting (s ∷ before) traced x plain =
+unrefused_heads setting [] traced x plain = record { none_refused = refl; no_sessions = tt }
+unrefused_heads setting (s ∷ before) traced x plain =
     let earlier = earlier_heads IsPlainHead (head_of s.outcome) (heads before) plain in
-    let still : IsUninterrupted before = record { no_continue = x.no_continue.1; no_fault = x.no_fault.1; in_time = x.in_time.1 } in
-    let q = quiet_heads setting before traced.2 still earlier in
+    let still : IsUnrefused before = record { no_fault = x.no_fault.1; in_time = x.in_time.1 } in
+    let q = unrefused_heads setting before traced.2 still earlier in
     let es = exchanges before in
     let spoke = spoken setting before traced.2 in
     let change = changed_by before s.event s.outcome in
     let plain_heads : AllByRecursion IsPlainHead (map (λ e. e.head) es) = subst (AllByRecursion IsPlainHead) (sym (exchange_heads before)) earlier in
     let refuses : (e : Exchange) (more : List Exchange) → es ≡ e ∷ more → (limit : ℕ) → s.event ≡ on.accept limit → s.outcome ≡ on.done → ⊥ =
     λ e more is limit event outcome.
-        not_accepted setting before e.head limit (newest_head before es e more spoke.newest is) (first_head IsPlainHead es e more is plain_heads).no_upgrade
-        (subst (IsOutcome setting before (on.accept limit)) outcome (subst (λ v. IsOutcome setting before v s.outcome) event traced.1)) in
+    not_accepted setting before e.head limit (newest_head before es e more spoke.newest is) (first_head IsPlainHead es e more is plain_heads).no_upgrade
+    (subst (IsOutcome setting before (on.accept limit)) outcome (subst (λ v. IsOutcome setting before v s.outcome) event traced.1)) in
     record {
       none_refused = ap (λ r. option_or r (refused_by before s.event s.outcome)) q.none_refused ∙ no_refusal before s.event s.outcome x.no_fault.0 x.in_time.0;
-      quiet = all_stay IsQuiet (head_of s.outcome) change es (λ h. refl) (λ e more is. stays_quiet before s.event s.outcome e x.no_continue.0) q.quiet;
       no_sessions = all_stay (λ e. IsNoSession e.reply) (head_of s.outcome) change es (λ h. tt)
           (λ e more is. no_session before s.event s.outcome e (refuses e more is)) q.no_sessions;
     }
 
 -- of a trace whose exchanges have plain heads
-pub quiet_trace : (setting : Setting) (trace : List Step) → IsTrace setting trace → IsUninterrupted trace
-    → AllByRecursion (λ e. IsPlainHead e.head) (exchanges trace) → Quiet trace
-quiet_trace setting trace traced x plain =
-    quiet_heads setting trace traced x (subst (AllByRecursion IsPlainHead) (exchange_heads trace) (each_head (exchanges trace) plain))
+pub unrefused_trace : (setting : Setting) (trace : List Step) → IsTrace setting trace → IsUnrefused trace
+    → AllByRecursion (λ e. IsPlainHead e.head) (exchanges trace) → Unrefused trace
+unrefused_trace setting trace traced x plain =
+    unrefused_heads setting trace traced x (subst (AllByRecursion IsPlainHead) (exchange_heads trace) (each_head (exchanges trace) plain))
   where
     each_head : (es : List Exchange) → AllByRecursion (λ e. IsPlainHead e.head) es → AllByRecursion IsPlainHead (map (λ e. e.head) es)
     each_head [] all = tt
     each_head (e ∷ es) all = (all.0, each_head es all.1)
+
+-- where no client got a 100 Continue, no exchange has one
+pub quiet_exchanges : (trace : List Step) → AllByRecursion (λ s. ¬ (s.event ≡ on.send_continue)) trace → AllByRecursion IsQuiet (exchanges trace)
+unfolding exchanges
+quiet_exchanges [] none = tt
+quiet_exchanges (s ∷ before) none =
+    all_stay IsQuiet (head_of s.outcome) (changed_by before s.event s.outcome) (exchanges before) (λ h. refl)
+    (λ e more is. stays_quiet before s.event s.outcome e none.0) (quiet_exchanges before none.1)

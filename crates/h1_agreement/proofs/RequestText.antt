@@ -1,17 +1,16 @@
 -- The text of a plain request's head is read back as it was written.
-use Rattle.std.proofs.Common.{◌≡◌, ℕ, ◌<◌, ◌≤◌, ◌^◌, Bool, true, false, not, ◌&&◌, ◌||◌, List, [], ◌∷◌, ◌++◌, map, flat_map, filter, cond, eqb, refl, sym, ap, ap₂, ◌∙◌, subst, inl, inr, arith, append_assoc, append-nil, lt-ltb, le-ltb, Option, Some, None}
-use Rattle.std.specs.Prelude.{codes, bytes_eq, decimal, nat_lt, unwrap_or, zero, suc}
-use Rattle.std.specs.List.{AllByRecursion}
+use Rattle.std.proofs.Common.{◌≡◌, ℕ, ◌<◌, ◌^◌, true, false, not, ◌&&◌, ◌||◌, List, [], ◌∷◌, ◌++◌, map, flat_map, cond, eqb, refl, sym, ap, ◌∙◌, subst, inl, inr, arith, append_assoc, append-nil, lt-ltb, le-ltb, Option, Some, None}
+use Rattle.std.specs.Prelude.{codes, nat_lt, unwrap_or, zero, suc}
 use Rattle.std.proofs.lemmas.Bool.{cond-true, cond-false, cases_eq, eq-eqb, ne_eqb}
 use Rattle.httparse.specs.Ascii.{crlf_bytes, space}
-use Rattle.httparse.specs.Grammar.{trim_ows, crlf, print_field, print_version, print_end, RequestHead, print_request, ReadsRequest}
-use Rattle.h1_model.specs.Request.{Header, ConnectionType, BodyKind, no_body, fixed_body, chunked_body, raw_body, Head}
-use Rattle.h1_model.specs.RequestHead.{IsHeadOf, header_of}
-use Rattle.h1_model.specs.LengthTable.{values_of, says, stated_length, length_value, is_length_refused, is_coding_refused, is_there, asks_websocket, lacks_length, plain_body, body_kind}
+use Rattle.httparse.specs.Grammar.{trim_ows, crlf, print_field, print_version, RequestHead, print_request}
+use Rattle.h1_model.specs.Request.{Header, ConnectionType, BodyKind, chunked_body, raw_body}
+use Rattle.h1_model.specs.RequestHead.{IsHeadOf}
+use Rattle.h1_model.specs.LengthTable.{values_of, says, stated_length, is_length_refused, is_coding_refused, is_there, plain_body, body_kind}
 use Rattle.std.specs.List.{list_any}
 use Rattle.h1_model.specs.Answer.{BodySize, size_none, size_of, size_stream, Shape, shape_none, shape_length, shape_chunked, is_raw}
-use Rattle.h1_model.specs.AnswerText.{header_text, by_name, is_sent}
-use Rattle.h1_client_model.specs.WrittenHead.{line_of, framing_lines, size_lines, IsCleanLine}
+use Rattle.h1_model.specs.AnswerText.{by_name}
+use Rattle.h1_client_model.specs.WrittenHead.{size_lines}
 use Rattle.h1_client_model.specs.RequestText.{AskedHead, as_answer, request_lines, request_text, kind_of_shape, head_said, asked_shape, fits, IsPlainRequest}
 use Rattle.h1_agreement.proofs.WrittenHead.{field_of, fields_text, fields_valid, fields_same, fields_are}
 use Rattle.h1_agreement.proofs.Framing.{framing_alone, no_length, no_coding, length_read}
@@ -113,28 +112,30 @@ pub request_back : (r : AskedHead) (size : BodySize) (kind : ConnectionType) (no
     → (back : IsHeadOf (request_text r (asked_shape size) size kind now) (head_said r (asked_shape size) size kind now)) × (back.text.blank ≡ [])
 request_back r size kind now x fit =
     let lines = request_lines r (asked_shape size) size kind now in
-    let h = tree r lines in
-    (record {
-      text = h;
-      reads = (
-        record {
-          method = x.token;
-          target = x.visible;
-          target_text = x.utf8;
-          minor = omega (arith, x.version);
-          fields = fields_valid r.in_camel_case lines x.lines;
-        },
-        text_is_tree r (asked_shape size) size kind now ∙ sym (append-nil (print_request h)),
-      );
-      method_is = (x.method, refl);
-      target_is = (x.target, refl);
-      minor_is = refl;
-      fields = fields_are r.in_camel_case lines x.lines;
-      headers_are = sym (fields_same r.in_camel_case lines x.lines);
-      body_is = framed_kind r size kind now fit x;
-      connection_is = refl;
-      expects_is = refl;
-    }, refl)
+    let h = tree r lines in (
+      record {
+        text = h;
+        reads = (
+          record {
+            method = x.token;
+            target = x.visible;
+            target_text = x.utf8;
+            minor = omega (arith, x.version);
+            fields = fields_valid r.in_camel_case lines x.lines;
+          },
+          text_is_tree r (asked_shape size) size kind now ∙ sym (append-nil (print_request h)),
+        );
+        method_is = (x.method, refl);
+        target_is = (x.target, refl);
+        minor_is = refl;
+        fields = fields_are r.in_camel_case lines x.lines;
+        headers_are = sym (fields_same r.in_camel_case lines x.lines);
+        body_is = framed_kind r size kind now fit x;
+        connection_is = refl;
+        expects_is = refl;
+      },
+      refl,
+    )
 
 -- the head is read back
 pub request_reads_back : (r : AskedHead) (size : BodySize) (kind : ConnectionType) (now : ℕ) → IsPlainRequest r (asked_shape size) size kind now → fits size

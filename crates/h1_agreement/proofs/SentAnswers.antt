@@ -1,34 +1,31 @@
--- Answers that were sent one behind the other are read as they were sent.
-use Rattle.std.proofs.Common.{◌≡◌, ℕ, ◌+◌, ◌<◌, ◌≤◌, Bool, List, [], ◌∷◌, ◌++◌, length, take, drop, map, slice_range, Option, Some, None, MatchOption, refl, sym, ap, ap₂, ◌∙◌, subst, arith, append-nil, append_assoc, length-append, false, ◌-◌, inl}
+-- Answers that were sent one after another are read as they were sent.
+use Rattle.std.proofs.Common.{◌≡◌, ℕ, ◌+◌, ◌≤◌, Bool, List, [], ◌∷◌, ◌++◌, length, take, drop, map, slice_range, Some, None, MatchOption, refl, sym, ap, ◌∙◌, subst, arith, append-nil, append_assoc, length-append, false, ◌-◌, inl}
 use Rattle.std.specs.List.{AllByRecursion}
 use Rattle.std.proofs.lemmas.Bool.{cond-false}
 use Rattle.std.proofs.Math.Seq.{take-append_seam}
 use Rattle.std.proofs.lemmas.List.{drop_at, length-map}
 use Rattle.std.proofs.lemmas.Slice.{between_is}
 use Rattle.httparse.specs.Grammar.{print_response, print_blank}
-use Rattle.h1_chunks.specs.ChunkedText.{ChunkedText, chunked_text, content}
-use Rattle.h1_chunks.specs.Chunked.{Chunked, whole, IsChunked, Spells}
-use Rattle.h1_chunks.specs.Runs.{Run, segment_runs, run_bytes}
-use Rattle.h1_chunks.proofs.Agreement.{runs_hold}
+use Rattle.h1_chunks.specs.ChunkedText.{ChunkedText, content}
+use Rattle.h1_chunks.specs.Chunked.{whole, IsChunked, Spells}
+use Rattle.h1_chunks.specs.Runs.{segment_runs, run_bytes}
 use Rattle.std.proofs.Common.{length-drop}
 use Rattle.std.proofs.lemmas.List.{length-take}
 use Rattle.h1_model.proofs.BlankLemmas.{ends_blank_long}
 use Rattle.h1_model.specs.HeadPiece.{IsHeadPiece, HasNoHeadPiece, header_lines}
 use Rattle.h1_model.specs.RequestHead.{header_of}
 use Rattle.h1_model.specs.Request.{BodyKind, no_body, fixed_body, chunked_body, raw_body}
-use Rattle.h1_model.specs.Parse.{Input, Body, content as body_content, ended_at, run_between, fixed_content, shifted, trailer_header, next_start, trailers_of, IsBodyOf}
+use Rattle.h1_model.specs.Parse.{Input, Body, content as body_content, ended_at, run_between, shifted, trailer_header, next_start, trailers_of, IsBodyOf}
 use Rattle.h1_model.specs.Handed.{body_bytes}
 use Rattle.h1_model.proofs.RunLemmas.{run_bytes_shifted, run_bytes_between}
 use Rattle.h1_model.proofs.BodyGrowth.{fixed_whole}
-use Rattle.h1_chunks.proofs.RunBytes.{body_is_walked}
 use Rattle.h1_chunks.proofs.Agreement.{runs_read}
 use Rattle.h1_chunks.proofs.Complete.{text_read}
 use Rattle.h1_chunks.specs.Place.{start}
 use Rattle.h1_chunks.specs.Reading.{read}
 use Rattle.h1_client_model.specs.AnswerTable.{body_to}
-use Rattle.h1_client_model.specs.AnswerReading.{Answer, AnswerReading, answer_is, IsTextOf, IsAnswerReading}
+use Rattle.h1_client_model.specs.AnswerReading.{answer_is, IsTextOf, IsAnswerReading}
 use Rattle.h1_client_model.specs.AnswerParse.{so_far, body_input, AnswerMessage, IsAnswerAt, left_waiting, AreAnswersFrom}
-use Rattle.h1_client_model.specs.WrittenHead.{IsReadBack}
 use Rattle.h1_agreement.specs.SentAnswer.{AreCounted, IsBodyText, SentAnswer, IsSent, sent_text, methods_of, IsReadAs, AreReadAs}
 use Rattle.h1_agreement.proofs.LineFeeds.{feeds, feeds-response}
 use Rattle.h1_agreement.proofs.HeadText.{response_is_piece}
@@ -110,7 +107,7 @@ module _ (front text rest : List ℕ) where
 -- ---- one answer
 
 module _ (front rest : List ℕ) (s : SentAnswer) (sent : IsSent s) where
-  abbrev bytes : List ℕ
+  abbrev pub bytes : List ℕ
   bytes = front ++ (s.head ++ (s.body ++ rest))
 
   text_is : s.head ≡ print_response sent.back.head
@@ -159,16 +156,16 @@ module _ (front rest : List ℕ) (s : SentAnswer) (sent : IsSent s) where
   regrouped : (front ++ s.head) ++ (s.body ++ rest) ≡ bytes
   regrouped = append_assoc front s.head (s.body ++ rest)
 
-  stands : Stands bytes (body_to s.method s.answer.body) (length front + length s.head) (length front + length s.head + length s.body) s.bytes
+  pub stands : Stands bytes (body_to s.method s.answer.body) (length front + length s.head) (length front + length s.head + length s.body) s.bytes
   stands =
       subst (λ n. Stands bytes (body_to s.method s.answer.body) n (n + length s.body) s.bytes) body_place
       (subst (λ t. Stands t (body_to s.method s.answer.body) (length (front ++ s.head)) (length (front ++ s.head) + length s.body) s.bytes) regrouped
       (body_stands (front ++ s.head) s.body rest (body_to s.method s.answer.body) s.bytes sent.body))
 
-  abbrev message : AnswerMessage
+  abbrev pub message : AnswerMessage
   message = record { reading = answer_is s.answer; body_start = length front + length s.head; body = stands.body }
 
-  answer_at : IsAnswerAt (so_far bytes) (length front) s.method message
+  pub answer_at : IsAnswerAt (so_far bytes) (length front) s.method message
   answer_at = record {
     start = 0;
     end = length s.head;
@@ -178,7 +175,7 @@ module _ (front rest : List ℕ) (s : SentAnswer) (sent : IsSent s) where
     body = stands.is;
   }
 
-  read_as : IsReadAs bytes message s
+  pub read_as : IsReadAs bytes message s
   read_as = record { head = refl; carried = stands.carries; end = _; ended = stands.ends; trailers = stands.plain }
 
 -- ---- all answers
@@ -217,7 +214,7 @@ all_read waits front (s ∷ ss) extra sent counted =
       are = (
         answer_at front more s sent.0,
         subst (λ o. MatchOption o (there.messages ≡ []) (λ n. AreAnswersFrom waits (so_far whole) n (left_waiting waits (answer_is s.answer) s.method (methods_of ss ++ extra)) there.messages))
-        (sym (stands front more s sent.0).ends) here,
+            (sym (stands front more s sent.0).ends) here,
       );
       read = (read_as front more s sent.0, there.read);
     }

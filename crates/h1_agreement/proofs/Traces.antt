@@ -1,5 +1,5 @@
 -- What a connection writes is read by a client as its answers.
-use Rattle.std.proofs.Common.{◌≡◌, ℕ, ◌≤◌, Bool, true, false, cond, List, [], ◌∷◌, ◌++◌, length, map, reverse, flat_map, drop, All, Option, Some, None, refl, sym, ap, ap₂, ◌∙◌, subst, append-nil, append_assoc}
+use Rattle.std.proofs.Common.{◌≡◌, ℕ, Bool, true, false, List, [], ◌∷◌, ◌++◌, map, reverse, flat_map, drop, All, refl, sym, ap, ap₂, ◌∙◌, subst, append-nil, append_assoc}
 use Rattle.std.specs.List.{AllByRecursion}
 use Rattle.std.proofs.lemmas.Bool.{false≢true, cond-false}
 use Rattle.std.proofs.lemmas.List.{reverse-append, map-append}
@@ -11,38 +11,38 @@ use Rattle.h1_model.specs.AnswerText.{interim_text}
 use Rattle.h1_model.specs.Sums.{Step}
 use Rattle.h1_model.specs.Text.{text}
 use Rattle.h1_model.specs.Trace.{IsTrace}
-use Rattle.h1_model.specs.Laws.Exchanges.{Reply, no_reply, answer_given, session, is_whole, Exchange, reply_text, exchange_text, exchanges, exchanges_text, refusal, refusal_text}
+use Rattle.h1_model.specs.Laws.Exchanges.{Reply, no_reply, answer_given, session, is_whole, Exchange, reply_text, exchange_text, exchanges, exchanges_text, refusal_text}
 use Rattle.h1_model.proofs.ExchangeTraces.{spoken}
 use Rattle.h1_client_model.specs.AnswerParse.{so_far, AnswerMessage, AreAnswersFrom}
 use Rattle.h1_agreement.specs.SentAnswer.{SentAnswer, IsSent, sent_text, methods_of, AreReadAs, sent_answer, sent_by, all_sent, AreCounted, CountsAnswers, methods_asked, answers_sent}
-use Rattle.h1_client_model.specs.PlainExchange.{IsPlainHead, IsSelfFramed, IsFramedReply, IsPlain, IsUninterrupted}
+use Rattle.h1_client_model.specs.PlainExchange.{IsPlainHead, IsFramedReply, IsPlain, IsUninterrupted}
 use Rattle.h1_client_model.proofs.AnswerLemmas.{answers_unique}
-use Rattle.h1_agreement.proofs.SentAnswers.{Reads, all_read}
-use Rattle.h1_agreement.proofs.PlainTraces.{IsNoSession, IsQuiet, Quiet, quiet_trace}
+use Rattle.h1_agreement.proofs.SentAnswers.{all_read}
+use Rattle.h1_agreement.proofs.PlainTraces.{IsNoSession, IsQuiet, unrefused_trace, quiet_exchanges}
 use Rattle.h1_agreement.proofs.PlainExchange.{plain_sent}
 
 -- ---- lists
 
-sent_text-append : (a b : List SentAnswer) → sent_text (a ++ b) ≡ sent_text a ++ sent_text b
+pub sent_text-append : (a b : List SentAnswer) → sent_text (a ++ b) ≡ sent_text a ++ sent_text b
 sent_text-append [] b = refl
 sent_text-append (s ∷ a) b =
     ap (λ t. s.head ++ (s.body ++ t)) (sent_text-append a b) ∙ ap (λ t. s.head ++ t) (sym (append_assoc s.body (sent_text a) (sent_text b)))
     ∙ sym (append_assoc s.head (s.body ++ sent_text a) (sent_text b))
 
-recursion-append : {A : Type 0} (P : A → Type 0) (xs ys : List A) → AllByRecursion P xs → AllByRecursion P ys → AllByRecursion P (xs ++ ys)
+pub recursion-append : {A : Type 0} (P : A → Type 0) (xs ys : List A) → AllByRecursion P xs → AllByRecursion P ys → AllByRecursion P (xs ++ ys)
 recursion-append P [] ys a b = b
 recursion-append P (x ∷ xs) ys a b = (a.0, recursion-append P xs ys a.1 b)
 
-reverse-cons : {A : Type 0} (x : A) (xs : List A) → reverse (x ∷ xs) ≡ reverse xs ++ x ∷ []
+pub reverse-cons : {A : Type 0} (x : A) (xs : List A) → reverse (x ∷ xs) ≡ reverse xs ++ x ∷ []
 reverse-cons x xs = reverse-append (x ∷ []) xs
 
-recursion-reverse : {A : Type 0} (P : A → Type 0) (xs : List A) → AllByRecursion P xs → AllByRecursion P (reverse xs)
+pub recursion-reverse : {A : Type 0} (P : A → Type 0) (xs : List A) → AllByRecursion P xs → AllByRecursion P (reverse xs)
 recursion-reverse P [] a = a
 recursion-reverse P (x ∷ xs) a = subst (AllByRecursion P) (sym (reverse-cons x xs)) (recursion-append P (reverse xs) (x ∷ []) (recursion-reverse P xs a.1) (a.0, tt))
 
 -- ---- an exchange
 
--- a plain request, whose client wasn't told to go on, and which has an answer, if it has one, that says where it ends
+-- a plain request, whose client got no 100 Continue, and which has an answer, if it has one, that says where it ends
 record IsFramed (setting : Setting) (e : Exchange) : Type 0 where
   version : e.head.minor ≡ 1
   reply : IsFramedReply setting e.head e.reply
@@ -54,18 +54,18 @@ abbrev IsReady : Setting → Exchange → Type 0
 IsReady setting e = IsFramed setting e × (is_whole e.reply ≡ true)
 
 -- what an exchange writes is the text of these answers
-record Says (waits : ℕ → Bool) (setting : Setting) (h : Head) (reply : Reply) (ss : List SentAnswer) : Type 0 where
-  words : reply_text setting h reply ≡ sent_text ss
-  methods : h.method ∷ [] ≡ methods_of ss
-  sent : AllByRecursion IsSent ss
-  counted : AreCounted waits ss
+pub record Says (waits : ℕ → Bool) (setting : Setting) (h : Head) (reply : Reply) (ss : List SentAnswer) : Type 0 where
+  pub words : reply_text setting h reply ≡ sent_text ss
+  pub methods : h.method ∷ [] ≡ methods_of ss
+  pub sent : AllByRecursion IsSent ss
+  pub counted : AreCounted waits ss
 
 -- an answer alone
-abbrev sents : Setting → Head → Reply → List SentAnswer
+abbrev pub sents : Setting → Head → Reply → List SentAnswer
 sents setting h (answer_given a) = sent_answer setting h a ∷ []
 sents setting h _ = []
 
-reply_says : (waits : ℕ → Bool) (setting : Setting) (h : Head) (reply : Reply) → CountsAnswers waits → h.minor ≡ 1 → IsFramedReply setting h reply
+pub reply_says : (waits : ℕ → Bool) (setting : Setting) (h : Head) (reply : Reply) → CountsAnswers waits → h.minor ≡ 1 → IsFramedReply setting h reply
     → IsNoSession reply → is_whole reply ≡ true → Says waits setting h reply (sents setting h reply)
 reply_says waits setting h no_reply counts eleven framed none whole = absurd (false≢true whole)
 reply_says waits setting h (answer_given a) counts eleven framed none whole =
@@ -78,11 +78,11 @@ reply_says waits setting h (answer_given a) counts eleven framed none whole =
     }
 reply_says waits setting h (session x) counts eleven framed none whole = absurd none
 
--- a client that wasn't told to go on gets the reply alone
+-- a client that got none gets the reply alone
 quiet_text : (setting : Setting) (e : Exchange) → IsQuiet e → exchange_text setting e ≡ reply_text setting e.head e.reply
 quiet_text setting e quiet = ap (λ t. t ++ reply_text setting e.head e.reply) (cond-false e.was_told interim_text [] quiet)
 
-same_sents : (setting : Setting) (e : Exchange) → sent_by setting e ≡ sents setting e.head e.reply
+pub same_sents : (setting : Setting) (e : Exchange) → sent_by setting e ≡ sents setting e.head e.reply
 same_sents setting e = by_reply e.reply
   where
     by_reply : (r : Reply) → sent_by setting (record { head = e.head; was_told = e.was_told; reply = r }) ≡ sents setting e.head r
@@ -196,11 +196,12 @@ pub ends_agree : (waits : ℕ → Bool) (setting : Setting) (trace : List Step) 
     × AreReadAs (text setting trace) ms (answers_sent setting trace)
 ends_agree waits setting trace counts traced still plain =
     let es = exchanges trace in
-    let q = quiet_trace setting trace traced still (each_head es plain) in
+    let q = unrefused_trace setting trace traced still.unrefused (each_head es plain) in
+    let quiet = quiet_exchanges trace still.no_continue in
     let spoke = spoken setting trace traced in
     let words : text setting trace ≡ flat_map (exchange_text setting) (reverse es) =
     spoke.says ∙ ap (λ r. exchanges_text setting es ++ refusal_text r) q.none_refused ∙ append-nil (exchanges_text setting es) in
-    let a = all_agree waits setting es counts (all_framed setting es plain q.quiet q.no_sessions) spoke.whole in (
+    let a = all_agree waits setting es counts (all_framed setting es plain quiet q.no_sessions) spoke.whole in (
       a.messages,
       subst (λ t. AreAnswersFrom waits (so_far t) 0 (methods_asked trace) a.messages) (sym words) a.are,
       subst (λ t. AreReadAs t a.messages (all_sent setting (reverse es))) (sym words) a.read,

@@ -1,6 +1,6 @@
 -- The text of an answer's head is a head of the grammar, and is read back as it was written.
-use Rattle.std.proofs.Common.{◌≡◌, ℕ, zero, suc, ◌+◌, ◌-◌, ◌*◌, ◌/◌, ◌%◌, ◌<◌, ◌≤◌, Bool, true, false, List, [], ◌∷◌, ◌++◌, map, flat_map, filter, cond, eqb, All, refl, sym, ap, ap₂, ◌∙◌, subst, arith, append_assoc, append-nil}
-use Rattle.std.specs.Prelude.{IsTrue, codes, Some, decimal, nat_lt}
+use Rattle.std.proofs.Common.{◌≡◌, ℕ, ◌+◌, ◌-◌, ◌*◌, ◌/◌, ◌%◌, ◌<◌, ◌≤◌, Bool, true, false, List, [], ◌∷◌, ◌++◌, map, flat_map, filter, cond, eqb, All, refl, sym, ap, ◌∙◌, subst, arith, append_assoc, append-nil}
+use Rattle.std.specs.Prelude.{IsTrue, codes, Some, decimal}
 use Rattle.std.specs.List.{AllByRecursion}
 use Rattle.std.specs.Char.{is_ascii_digit}
 use Rattle.std.proofs.lemmas.List.Elements.{All-nil, All-cons}
@@ -8,14 +8,13 @@ use Rattle.std.proofs.lemmas.List.Concat.{flat_map-append}
 use Rattle.std.proofs.lemmas.Bool.Decides.{nat_tests}
 use Rattle.http.specs.StatusCode.{IsStatusCode, code_digits}
 use Rattle.httparse.specs.Ascii.{crlf_bytes, colon, space}
-use Rattle.httparse.specs.Grammar.{AllPass, is_value_byte, crlf, Field, IsField, print_field, print_version, print_end, ResponseHead, IsResponseHead, ReadsResponse, print_response, status_code}
+use Rattle.httparse.specs.Grammar.{AllPass, is_value_byte, crlf, Field, IsField, print_field, ResponseHead, print_response, status_code}
 use Rattle.h1_model.specs.Request.{Header, ConnectionType, close, keep_alive, upgrade}
 use Rattle.h1_model.specs.RequestHead.{header_of, IsHeaderField}
 use Rattle.http_header.specs.FieldValue.{IsFieldValue}
 use Rattle.h1_model.specs.Answer.{AnswerHead, BodySize, size_none, size_of, size_stream, Shape, shape_none, shape_chunked, shape_raw, shape_length, is_bodiless, has_header}
 use Rattle.h1_model.specs.AnswerText.{name_text, line_text, header_text, by_name, is_sent, status_line, stream_line, size_line, framing_line, connection_line, date_line_unless, head_text}
 use Rattle.h1_client_model.specs.WrittenHead.{line_of, stream_lines, size_lines, framing_lines, connection_lines, date_lines, written_lines, written_reason, IsCleanLine, IsReadBack}
-use Rattle.h1_agreement.proofs.HeadText.{text_of}
 
 -- ---- the text, line by line
 

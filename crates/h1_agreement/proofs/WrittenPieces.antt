@@ -18,7 +18,6 @@ AreShort pieces = AllByRecursion (λ (piece : List ℕ). length piece < 2 ^ 64) 
 abbrev pub written : List (List ℕ) → List ℕ
 written pieces = flat_map chunk_text pieces ++ last_chunk
 
-
 -- the segments of the pieces that have bytes
 abbrev segments_of : List (List ℕ) → List Segment
 segments_of [] = []

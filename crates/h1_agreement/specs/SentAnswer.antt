@@ -1,9 +1,10 @@
 -- Answers that were sent one after another, and what a client reads of them.
-use Rattle.std.specs.Prelude.{◌≡◌, ℕ, ◌≤◌, Bool, false, List, [], ◌∷◌, ◌++◌, length, map, reverse, flat_map, Option, Some, ⊤}
+use Rattle.std.specs.Prelude.{◌≡◌, ℕ, ◌≤◌, Bool, false, codes, if◌then◌else◌, List, [], ◌∷◌, ◌++◌, length, map, reverse, flat_map, Some, ⊤}
 use Rattle.std.specs.List.{AllByRecursion}
 use Rattle.h1_chunks.specs.ChunkedText.{ChunkedText, IsChunkedText, chunked_text, content}
 use Rattle.h1_model.specs.Limits.{MAX_HEADER_LINES}
-use Rattle.h1_model.specs.Request.{Head, BodyKind, no_body, fixed_body, chunked_body, raw_body}
+use Rattle.h1_model.specs.AnswerText.{interim_text}
+use Rattle.h1_model.specs.Request.{Head, BodyKind, keep_alive, no_body, fixed_body, chunked_body, raw_body}
 use Rattle.h1_model.specs.Setting.{Setting}
 use Rattle.h1_model.specs.Answer.{asked_of}
 use Rattle.h1_model.specs.Sums.{Step}
@@ -116,3 +117,31 @@ methods_asked trace = map (λ e. e.head.method) (reverse (exchanges trace))
 
 abbrev pub answers_sent : Setting → List Step → List SentAnswer
 answers_sent setting trace = all_sent setting (reverse (exchanges trace))
+
+-- ---- with interim answers
+
+-- the answer that lets a client go on (RFC 7231, section 6.2.1), to a request of this method
+abbrev pub interim_sent : List ℕ → SentAnswer
+interim_sent method = record {
+  method = method;
+  head = interim_text;
+  body = [];
+  answer = record {
+    minor = 1;
+    status = 100;
+    reason = codes "Continue";
+    headers = [];
+    body = no_body;
+    connection = keep_alive;
+    is_lax = false;
+  };
+  bytes = [];
+}
+
+-- what an exchange sends: the interim answer, where its client was to go on, and then the answer
+abbrev pub sent_to : Setting → Exchange → List SentAnswer
+sent_to setting e = (if e.was_told then interim_sent e.head.method ∷ [] else []) ++ sent_by setting e
+
+-- what the exchanges of a trace send, in their order
+abbrev pub answers_with_interim : Setting → List Step → List SentAnswer
+answers_with_interim setting trace = flat_map (sent_to setting) (reverse (exchanges trace))

@@ -1,6 +1,6 @@
 //! Answers that a connection sends are read by its client.
 
-ghost use Rattle.std.specs.Prelude.{◌≡◌, ℕ, Bool, List};
+ghost use Rattle.std.specs.Prelude.{◌≡◌, ℕ, Bool, true, List};
 ghost use Rattle.std.specs.List.{AllByRecursion};
 ghost use Rattle.h1_model.specs.Request.{Head};
 ghost use Rattle.h1_model.specs.Setting.{Setting};
@@ -9,8 +9,8 @@ ghost use Rattle.h1_model.specs.Text.{text};
 ghost use Rattle.h1_model.specs.Trace.{IsTrace};
 ghost use Rattle.h1_model.specs.Laws.Exchanges.{AnswerGiven, exchanges};
 ghost use Rattle.h1_client_model.specs.AnswerParse.{so_far, AnswerMessage, AreAnswersIn, AreTheAnswers};
-ghost use Rattle.h1_client_model.specs.PlainExchange.{IsSelfFramed, IsPlain, IsUninterrupted};
-ghost use Rattle.h1_agreement.specs.SentAnswer.{SentAnswer, IsSent, sent_answer, sent_text, methods_of, AreReadAs, AreCounted, CountsAnswers, methods_asked, answers_sent};
+ghost use Rattle.h1_client_model.specs.PlainExchange.{IsSelfFramed, IsPlain, IsUnrefused, IsUninterrupted};
+ghost use Rattle.h1_agreement.specs.SentAnswer.{SentAnswer, IsSent, sent_answer, sent_text, methods_of, AreReadAs, AreCounted, CountsAnswers, methods_asked, answers_sent, answers_with_interim};
 
 /// An answer that says where it ends is sent so that its head is read back and frames the body that was written.
 pub fn plain_answers_are_sent()
@@ -44,4 +44,17 @@ pub fn two_ends_where_requests_wait()
         → IsTrace setting trace → IsUninterrupted trace → AllByRecursion (IsPlain setting) (exchanges trace)
         → AreAnswersIn waits (so_far (text setting trace)) (methods_asked trace) ms
         → AreReadAs (text setting trace) ms (answers_sent setting trace) }
+{}
+
+/// And where clients get a 100 Continue while they send a body, their client reads it in front of the answer, and each
+/// answer is still that of its own request.
+pub fn two_ends_with_interim_answers()
+    ensures there_are { (waits : ℕ → Bool) (setting : Setting) (trace : List Step) → CountsAnswers waits → waits 100 ≡ true
+        → IsTrace setting trace → IsUnrefused trace → AllByRecursion (IsPlain setting) (exchanges trace)
+        → (ms : List AnswerMessage) × AreAnswersIn waits (so_far (text setting trace)) (methods_asked trace) ms
+        × AreReadAs (text setting trace) ms (answers_with_interim setting trace) }
+    ensures no_others { (waits : ℕ → Bool) (setting : Setting) (trace : List Step) (ms : List AnswerMessage) → CountsAnswers waits
+        → waits 100 ≡ true → IsTrace setting trace → IsUnrefused trace → AllByRecursion (IsPlain setting) (exchanges trace)
+        → AreAnswersIn waits (so_far (text setting trace)) (methods_asked trace) ms
+        → AreReadAs (text setting trace) ms (answers_with_interim setting trace) }
 {}

@@ -79,8 +79,12 @@ pub record IsPlain (setting : Setting) (e : Exchange) : Type 0 where
 
 -- ---- traces
 
--- no client was told to go on, no head was refused, and no request was given up as too slow
-pub record IsUninterrupted (trace : List Step) : Type 0 where
-  pub no_continue : AllByRecursion (λ s. ¬ (s.event ≡ on.send_continue)) trace
+-- no head was refused, and no request was given up as too slow
+pub record IsUnrefused (trace : List Step) : Type 0 where
   pub no_fault : AllByRecursion (λ s. (f : Fault) → ¬ (s.outcome ≡ on.fault f)) trace
   pub in_time : AllByRecursion (λ s. ¬ (s.outcome ≡ on.expired ends.slow_request)) trace
+
+-- nor did a client get a 100 Continue
+pub record IsUninterrupted (trace : List Step) : Type 0 where
+  pub unrefused : IsUnrefused trace
+  pub no_continue : AllByRecursion (λ s. ¬ (s.event ≡ on.send_continue)) trace
