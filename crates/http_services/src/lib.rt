@@ -19,5 +19,5 @@ pub use http_bodies::{
 pub use lending::Lending;
 pub use payload::{Payload, payload_of_bytes};
 pub use service::Service;
-pub use services::{ExpectHandler, FnService, Handler, UpgradeHandler};
+pub use services::{CountedService, ExpectHandler, FnService, Handler, PlainService, UpgradeHandler};
 pub use source::{BoxedPayloadStream, PayloadSource, PayloadStream, PlainSource};
