@@ -1,5 +1,5 @@
 -- What a source of a payload gives.
-use Rattle.std.specs.Prelude.{◌≡◌, ◌≤◌, ℕ, Option, Some, None, List, [], ◌∷◌, ⊤, Result, Ok, Err}
+use Rattle.std.specs.Prelude.{◌≡◌, ◌≤◌, ℕ, Bool, true, Option, Some, None, List, [], ◌∷◌, ⊤, Result, Ok, Err}
 use Rattle.futures.specs.declared.task.Poll.TheVariants.{Ready, Pending}
 use Rattle.http_config.specs.Causes.{Rose}
 use Rattle.http_types.specs.declared.error.PayloadError.{PayloadError}
@@ -11,9 +11,11 @@ use Rattle.http_services.specs.Queue.{Pull}
 abbrev pub Fed : Type 0
 Fed = Result (List ℕ) PayloadError
 
--- what is still to come before the end, if that is known, and the counts of faults and of Pending answers
+-- what is still to come before the end, if that is known, whether it may be out of memory, and the counts of faults and
+-- of Pending answers
 pub record Feeding : Type 0 where
   pub coming : Option (List Fed)
+  pub takes_memory : Bool
   pub faults : ℕ
   pub waits : ℕ
 
@@ -46,8 +48,17 @@ FeedFaults before now (Ready (Some (Err e))) = (before ≤ now) × (¬ (e ≡ er
 FeedFaults before now (Ready None) = before ≤ now
 FeedFaults before now Pending = before ≤ now
 
+-- only what takes memory may be out of it
+abbrev pub FeedLacks : Bool → Pull → Type 0
+FeedLacks takes (Ready (Some (Ok piece))) = ⊤
+FeedLacks takes (Ready (Some (Err e))) = e ≡ error.NoMemory → takes ≡ true
+FeedLacks takes (Ready None) = ⊤
+FeedLacks takes Pending = ⊤
+
 pub record FeedSays (old new : Feeding) (result : Pull) : Type 0 where
   pub gives : old.coming ≡ led_by (fed result) new.coming
   pub ends : FeedEnds old.coming result
+  pub lacks : FeedLacks old.takes_memory result
+  pub takes_memory : new.takes_memory ≡ old.takes_memory
   pub faults : FeedFaults old.faults new.faults result
   pub waits : Waits old.waits new.waits result

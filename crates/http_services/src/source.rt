@@ -11,7 +11,8 @@ use http_types::PayloadError;
 
 /// What gives the chunks of a payload.
 pub trait PayloadSource: Drop {
-    /// What is still to come, if that is known, and how often the source failed and was pending.
+    /// What is still to come, if that is known, whether the source may be out of memory, and how often it failed and was
+    /// pending.
     ghost feeds: { Self → Feeding };
 
     /// The next chunk, or nothing at the end. A pending source wakes the task once it is to be polled again.
@@ -45,9 +46,9 @@ pub trait PlainSource: Drop {
 }
 
 impl<T: PlainSource> PayloadSource for Counted<T> {
-    ghost use Rattle.std.specs.Prelude.{None};
+    ghost use Rattle.std.specs.Prelude.{None, true};
 
-    ghost feeds = { λ s. record { coming = None; faults = s.faults; waits = s.waits } };
+    ghost feeds = { λ s. record { coming = None; takes_memory = true; faults = s.faults; waits = s.waits } };
 
     fn poll_next(&mut self, cx: &mut Context<'_>) -> Poll<Option<Result<Bytes, PayloadError>>> {
         match self.inner.poll_next(cx) {
