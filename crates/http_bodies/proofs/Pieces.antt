@@ -56,6 +56,8 @@ pub as_body_says : (kind : BodySize) (before now : ℕ) (old new : Streaming) (n
 as_body_says kind before now old new n is_woken result passes waits = record {
   gives = ap passing passes.gives ∙ passed_over n (gave result) new.coming (has_no_empty result passes.bytes);
   ends = rw passes.gives (ends_too new.coming result n passes.ends);
+  lacks = passes.lacks;
+  takes_memory = passes.takes_memory;
   faults = passes.faults;
   waits = waits
 }

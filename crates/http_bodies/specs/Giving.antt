@@ -1,5 +1,5 @@
 -- What a body, or a stream of pieces, gives.
-use Rattle.std.specs.Prelude.{◌≡◌, ◌≤◌, ℕ, Option, Some, None, List, [], ◌∷◌, ⊤, Result, Ok, Err}
+use Rattle.std.specs.Prelude.{◌≡◌, ◌≤◌, ℕ, Bool, true, Option, Some, None, List, [], ◌∷◌, ⊤, Result, Ok, Err}
 use Rattle.futures.specs.declared.task.Poll.{Poll}
 use Rattle.futures.specs.declared.task.Poll.TheVariants.{Ready, Pending}
 use Rattle.http_config.specs.Causes.{Rose}
@@ -13,16 +13,19 @@ pub data Given : Type 0 where
   chunk : List ℕ → Given
   fault : ℕ → Given
 
--- a body: its size, what is still to come before the end, if that is known, and its counts of faults and of Pending answers
+-- a body: its size, what is still to come before the end, if that is known, whether it may be out of memory, and its
+-- counts of faults and of Pending answers
 pub record Giving : Type 0 where
   pub size : BodySize
   pub coming : Option (List Given)
+  pub takes_memory : Bool
   pub faults : ℕ
   pub waits : ℕ
 
 -- a stream of pieces: the same, but for the size
 pub record Streaming : Type 0 where
   pub coming : Option (List Given)
+  pub takes_memory : Bool
   pub faults : ℕ
   pub waits : ℕ
 
@@ -52,10 +55,20 @@ FaultsBy before now (Ready (Some (Err NoMemory))) = before ≤ now
 FaultsBy before now (Ready None) = before ≤ now
 FaultsBy before now Pending = before ≤ now
 
+-- only what takes memory may be out of it
+abbrev pub LacksBy : Bool → Piece → Type 0
+LacksBy takes (Ready (Some (Ok piece))) = ⊤
+LacksBy takes (Ready (Some (Err (Body n)))) = ⊤
+LacksBy takes (Ready (Some (Err NoMemory))) = takes ≡ true
+LacksBy takes (Ready None) = ⊤
+LacksBy takes Pending = ⊤
+
 -- a poll of a body
 pub record PieceSays (old new : Giving) (result : Piece) : Type 0 where
   pub gives : old.coming ≡ led_by (gave result) new.coming
   pub ends : EndsAt old.coming result
+  pub lacks : LacksBy old.takes_memory result
+  pub takes_memory : new.takes_memory ≡ old.takes_memory
   pub faults : FaultsBy old.faults new.faults result
   pub waits : Waits old.waits new.waits result
 
@@ -63,5 +76,7 @@ pub record PieceSays (old new : Giving) (result : Piece) : Type 0 where
 pub record StreamSays (old new : Streaming) (result : Piece) : Type 0 where
   pub gives : old.coming ≡ led_by (gave result) new.coming
   pub ends : EndsAt old.coming result
+  pub lacks : LacksBy old.takes_memory result
+  pub takes_memory : new.takes_memory ≡ old.takes_memory
   pub faults : FaultsBy old.faults new.faults result
   pub waits : Waits old.waits new.waits result

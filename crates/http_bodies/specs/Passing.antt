@@ -5,7 +5,7 @@ use Rattle.futures.specs.Poll.{OnPending}
 use Rattle.http_config.specs.Causes.{Rose}
 use Rattle.http_framing.specs.declared.body.size.BodySize.{BodySize}
 use Rattle.http_bodies.specs.Told.{led_by}
-use Rattle.http_bodies.specs.Giving.{Given, chunk, fault, Giving, Streaming, Piece, gave, EndsAt, FaultsBy}
+use Rattle.http_bodies.specs.Giving.{Given, chunk, fault, Giving, Streaming, Piece, gave, EndsAt, LacksBy, FaultsBy}
 
 -- a body over a stream: the stream, and how often the body itself was pending
 pub record Over (S : Type 0) : Type 0 where
@@ -34,7 +34,7 @@ passing (Some coming) = Some (without_empty coming)
 
 -- the body that a stream makes
 abbrev pub as_body : BodySize → ℕ → Streaming → Giving
-as_body size waits stream = record { size = size; coming = passing stream.coming; faults = stream.faults; waits = waits }
+as_body size waits stream = record { size = size; coming = passing stream.coming; takes_memory = stream.takes_memory; faults = stream.faults; waits = waits }
 
 -- so many empty pieces
 abbrev pub empties : ℕ → List Given
@@ -53,6 +53,8 @@ HasBytes Pending = ⊤
 pub record Passes (old new : Streaming) (n : ℕ) (is_woken : Bool) (result : Piece) : Type 0 where
   pub gives : old.coming ≡ led_by (empties n ++ gave result) new.coming
   pub ends : EndsAt new.coming result
+  pub lacks : LacksBy old.takes_memory result
+  pub takes_memory : new.takes_memory ≡ old.takes_memory
   pub bytes : HasBytes result
   pub faults : FaultsBy old.faults new.faults result
   pub pending : OnPending result (Rose old.waits new.waits ⊎ ((n ≡ 64) × (is_woken ≡ true)))

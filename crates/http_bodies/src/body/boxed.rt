@@ -23,23 +23,23 @@ pub enum AnyBody<E> {
 /// A body of any kind.
 pub type BoxBody = AnyBody<Box<dyn ErasedBody>>;
 
-impl AnyBody<Box<dyn ErasedBody>> {
+impl<E> AnyBody<E> {
     /// No body.
-    pub fn none() -> BoxBody
+    pub fn none() -> AnyBody<E>
         ensures { result ≡ any.None }
     {
         AnyBody::None
     }
 
     /// A body of these bytes.
-    pub fn new(bytes: Bytes) -> BoxBody
+    pub fn new(bytes: Bytes) -> AnyBody<E>
         ensures { result ≡ any.Bytes bytes }
     {
         AnyBody::Bytes(bytes)
     }
 
-    /// A body of its own type, in a box.
-    pub fn from_stream(body: Box<dyn ErasedBody>) -> BoxBody
+    /// A body of the other kind. For a `BoxBody` this is any body, in a box.
+    pub fn from_stream(body: E) -> AnyBody<E>
         ensures { result ≡ any.Other body }
     {
         AnyBody::Other(body)

@@ -10,7 +10,8 @@ use futures::task::{Context, Poll};
 
 /// A stream of pieces, of which a body can be made: by `BodyStream`, or by `SizedStream`.
 pub trait ByteStream: Drop {
-    /// What is still to come, if that is known, and how often the stream failed and was pending.
+    /// What is still to come, if that is known, whether the stream may be out of memory, and how often it failed and was
+    /// pending.
     ghost streams: { Self → Streaming };
 
     /// The next piece, which may be empty, or nothing at the end. A pending stream wakes the task once it is to be

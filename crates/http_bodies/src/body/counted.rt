@@ -38,9 +38,9 @@ impl<T> Counted<T> {
 }
 
 impl<T: PlainStream> ByteStream for Counted<T> {
-    ghost use Rattle.std.specs.Prelude.{None};
+    ghost use Rattle.std.specs.Prelude.{None, true};
 
-    ghost streams = { λ s. record { coming = None; faults = s.faults; waits = s.waits } };
+    ghost streams = { λ s. record { coming = None; takes_memory = true; faults = s.faults; waits = s.waits } };
 
     fn poll_next(&mut self, cx: &mut Context<'_>) -> Poll<Option<Result<Bytes, BodyFault>>> {
         match self.inner.poll_next(cx) {

@@ -1,4 +1,7 @@
 //! One of two bodies.
+ghost use Rattle.std.specs.Prelude.{◌≡◌};
+ghost use Rattle.http_bodies.specs.declared.body.either.EitherBody.TheVariants.{Left, Right};
+
 use crate::{BodyFault, BoxBody, MessageBody};
 use bytes::Bytes;
 use futures::task::{Context, Poll};
@@ -20,19 +23,14 @@ pub enum EitherBody<L, R = BoxBody> {
     },
 }
 
-ghost use Rattle.std.specs.Prelude.{◌≡◌};
-ghost use Rattle.http_bodies.specs.declared.body.either.EitherBody.TheVariants.{Left, Right};
-
-impl<L> EitherBody<L, BoxBody> {
-    /// The left one, beside a boxed body.
-    pub fn new(body: L) -> EitherBody<L, BoxBody>
+impl<L, R> EitherBody<L, R> {
+    /// The left one: `left` by another name.
+    pub fn new(body: L) -> EitherBody<L, R>
         ensures { result ≡ Left body }
     {
         EitherBody::Left { body }
     }
-}
 
-impl<L, R> EitherBody<L, R> {
     /// The left one.
     pub fn left(body: L) -> EitherBody<L, R>
         ensures { result ≡ Left body }

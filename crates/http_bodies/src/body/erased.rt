@@ -12,7 +12,8 @@ use std::alloc::Global;
 
 /// A body that may stand in a box whose type says no more: a `MessageBody` but for what takes it whole.
 pub trait ErasedBody: Drop {
-    /// Its size, what is still to come, if that is known, and how often it failed and was pending.
+    /// Its size, what is still to come, if that is known, whether it may be out of memory, and how often it failed and
+    /// was pending.
     ghost erased: { Self → Giving };
 
     /// How large the body is, in bytes.

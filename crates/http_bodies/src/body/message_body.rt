@@ -13,8 +13,8 @@ use std::alloc::Global;
 
 /// The body of a message: chunks, and then the end or a fault.
 pub trait MessageBody: Drop {
-    /// Its size, what is still to come, if that is known, and how often it failed and was pending. A body that keeps no
-    /// count has the constant 0 if it never fails, or is never pending.
+    /// Its size, what is still to come, if that is known, whether it may be out of memory, and how often it failed and
+    /// was pending. A body that keeps no count has the constant 0 if it never fails, or is never pending.
     ghost gives: { Self → Giving };
 
     /// How large the body is, in bytes.

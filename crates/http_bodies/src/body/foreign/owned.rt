@@ -1,7 +1,7 @@
 //! Bytes and texts that have an allocation of their own, which is shared and not copied.
 ghost use Rattle.std.specs.Prelude.{◌≡◌, IfOk, IfErr};
 ghost use Rattle.std.specs.String.{string_bytes};
-ghost use Rattle.http_bodies.specs.Values.{holds};
+ghost use Rattle.http_bodies.specs.Values.{holds_owned};
 
 use crate::{BodyFault, MessageBody};
 use bytes::{Bytes, BytesMut};
@@ -36,7 +36,7 @@ fn share_text(text: String) -> Result<Bytes, String>
 }
 
 impl MessageBody for BytesMut {
-    ghost gives = { λ bytes. holds bytes.items };
+    ghost gives = { λ bytes. holds_owned bytes.items };
 
     fn size(&self) -> BodySize {
         BodySize::Sized(self.len() as u64)
@@ -64,7 +64,7 @@ impl MessageBody for BytesMut {
 }
 
 impl MessageBody for Vec<u8> {
-    ghost gives = { λ bytes. holds bytes.items };
+    ghost gives = { λ bytes. holds_owned bytes.items };
 
     fn size(&self) -> BodySize {
         BodySize::Sized(self.len() as u64)
@@ -89,7 +89,7 @@ impl MessageBody for Vec<u8> {
 }
 
 impl MessageBody for String {
-    ghost gives = { λ text. holds (string_bytes text) };
+    ghost gives = { λ text. holds_owned (string_bytes text) };
 
     fn size(&self) -> BodySize {
         BodySize::Sized(self.len() as u64)
@@ -116,7 +116,7 @@ impl MessageBody for String {
 impl MessageBody for CowSlice<'static, u8> {
     ghost use Rattle.std.specs.Cow.{cow_slice_items};
 
-    ghost gives = { λ bytes. holds (cow_slice_items bytes) };
+    ghost gives = { λ bytes. holds_owned (cow_slice_items bytes) };
 
     fn size(&self) -> BodySize {
         BodySize::Sized(self.len() as u64)
@@ -149,7 +149,7 @@ impl MessageBody for CowSlice<'static, u8> {
 impl MessageBody for CowStr<'static> {
     ghost use Rattle.std.specs.Cow.{cow_str_bytes};
 
-    ghost gives = { λ text. holds (cow_str_bytes text) };
+    ghost gives = { λ text. holds_owned (cow_str_bytes text) };
 
     fn size(&self) -> BodySize {
         BodySize::Sized(self.len() as u64)

@@ -9,5 +9,6 @@ loop-preserved g c =
       gives = one_more _ _ _ _ _ c.loop.invariant.gives says.gives (search rules);
       faults = search rules;
       waits = search rules;
+      takes_memory = search rules;
       kept = search rules
     }

@@ -9,5 +9,6 @@ invariant-loop g l = record {
   gives : (g.S.ByteStream.streams l.fn.stream).coming ≡ led_by (empties l.counter) (g.S.ByteStream.streams l.stream).coming;
   faults : (g.S.ByteStream.streams l.fn.stream).faults ≤ (g.S.ByteStream.streams l.stream).faults;
   waits : (g.S.ByteStream.streams l.fn.stream).waits ≡ (g.S.ByteStream.streams l.stream).waits;
+  takes_memory : (g.S.ByteStream.streams l.stream).takes_memory ≡ (g.S.ByteStream.streams l.fn.stream).takes_memory;
   kept : Keeps l.fn.cx l.cx
 }
