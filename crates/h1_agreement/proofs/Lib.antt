@@ -14,5 +14,6 @@ pub mod PlainTraces
 pub mod InterimAnswers
 pub mod Traces
 pub mod GivenRequests
+pub mod CleanNames
 pub mod OrdinaryHeads
 pub mod InterimTraces
