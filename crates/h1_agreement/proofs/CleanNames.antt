@@ -1,16 +1,15 @@
 -- Names of headers, also in camel case, are read back as they are.
-use Rattle.std.proofs.Common.{◌≡◌, ℕ, suc, ◌+◌, ◌-◌, ◌<◌, ◌≤◌, Bool, true, false, cond, not, ◌&&◌, ◌||◌, List, [], ◌∷◌, length, map, eqb, refl, sym, ap, ◌∙◌, subst, arith}
+use Rattle.std.proofs.Common.{◌≡◌, ℕ, suc, ◌-◌, Bool, true, false, cond, ◌&&◌, List, [], ◌∷◌, length, refl, ap, ◌∙◌, arith}
 use Rattle.std.specs.Prelude.{IsTrue, nat_le, ◌==◌}
-use Rattle.std.specs.List.{AllByRecursion, list_any}
+use Rattle.std.specs.List.{AllByRecursion}
 use Rattle.std.specs.Char.{to_ascii_lowercase, is_ascii_alphanumeric}
-use Rattle.std.proofs.lemmas.Bool.{cases_Bool, or_left}
+use Rattle.std.proofs.lemmas.Bool.{or_left}
 use Rattle.std.proofs.lemmas.Bool.Decides.{nat_tests}
 use Rattle.std.proofs.lemmas.List.Elements.{All-nil, All-cons, All-head, All-tail}
-use Rattle.httparse.specs.Grammar.{AllPass, is_token_byte, IsToken, trim_ows}
+use Rattle.httparse.specs.Grammar.{AllPass, is_token_byte, trim_ows}
 use Rattle.http_header.specs.Token.{is_token_byte as is_name_byte, lowercase}
-use Rattle.http_header.specs.FieldName.{IsFieldName}
 use Rattle.h1_model.specs.Request.{Header}
-use Rattle.h1_model.specs.AnswerText.{raised, camel_rest, camel_case, name_text}
+use Rattle.h1_model.specs.AnswerText.{raised, camel_rest, name_text}
 use Rattle.h1_client_model.specs.WrittenHead.{IsCleanLine, IsCleanHeader}
 
 -- ---- bytes
