@@ -22,7 +22,7 @@ use Rattle.h1_client_model.specs.WrittenHead.{line_of, framing_lines, connection
 
 -- ---- a length that is written is read
 
-digits_pass : (ds : List ℕ) → AllDigits 10 ds → AllPass is_ascii_digit ds
+pub digits_pass : (ds : List ℕ) → AllDigits 10 ds → AllPass is_ascii_digit ds
 digits_pass [] all = All-nil (λ b. IsTrue (is_ascii_digit b))
 digits_pass (c ∷ cs) all =
     All-cons (λ b. IsTrue (is_ascii_digit b)) c cs (let k = digit_from_value c all.0 in λ i. le-leb 48 c k.0 i && le-leb c 57 k.1 i) (digits_pass cs all.1)
@@ -38,7 +38,7 @@ skip_digits : (ds : List ℕ) → AllPass is_ascii_digit ds → skip_ows ds ≡ 
 skip_digits [] pass = refl
 skip_digits (b ∷ ds) pass = cond-false (is_ows b) _ _ (no_blank b (All-head (λ x. IsTrue (is_ascii_digit x)) b ds pass))
 
-trim_digits : (ds : List ℕ) → AllPass is_ascii_digit ds → trim_ows ds ≡ ds
+pub trim_digits : (ds : List ℕ) → AllPass is_ascii_digit ds → trim_ows ds ≡ ds
 unfolding trim_ows
 trim_digits ds pass =
     ap (λ l. reverse (skip_ows (reverse l))) (skip_digits ds pass)

@@ -14,5 +14,9 @@ pub mod PlainTraces
 pub mod InterimAnswers
 pub mod Traces
 pub mod GivenRequests
+pub mod CleanNames
+pub mod CleanDates
+pub mod CleanReasons
+pub mod CleanHeads
 pub mod OrdinaryHeads
 pub mod InterimTraces

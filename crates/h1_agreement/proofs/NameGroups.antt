@@ -8,7 +8,7 @@ use Rattle.h1_model.specs.LengthTable.{values_of}
 use Rattle.h1_model.specs.AnswerText.{appended, by_name}
 
 -- a fact of the elements of both parts is one of all
-all_both : {A : Type 0} (P : A → Type 0) (xs ys : List A) → AllByRecursion P xs → AllByRecursion P ys → AllByRecursion P (xs ++ ys)
+pub all_both : {A : Type 0} (P : A → Type 0) (xs ys : List A) → AllByRecursion P xs → AllByRecursion P ys → AllByRecursion P (xs ++ ys)
 all_both P [] ys a b = b
 all_both P (x ∷ xs) ys a b = (a.0, all_both P xs ys a.1 b)
 
@@ -39,7 +39,7 @@ module _ (P : Header → Type 0) where
   flat_all (g ∷ groups) all = all_both P g (flat_map (λ group. group) groups) all.0 (flat_all groups all.1)
 
   -- what holds of each header holds of each, name by name
-  by_name_all : (hs : List Header) → AllByRecursion P hs → AllByRecursion P (by_name hs)
+  pub by_name_all : (hs : List Header) → AllByRecursion P hs → AllByRecursion P (by_name hs)
   by_name_all hs all = flat_all (fold appended [] hs) (folded_all hs [] tt all)
 
 -- no header has the name

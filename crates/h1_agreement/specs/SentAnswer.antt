@@ -49,6 +49,7 @@ abbrev pub sent_text : List SentAnswer → List ℕ
 sent_text [] = []
 sent_text (s ∷ ss) = s.head ++ (s.body ++ sent_text ss)
 
+-- the methods of their requests
 abbrev pub methods_of : List SentAnswer → List (List ℕ)
 methods_of ss = map (λ s. s.method) ss
 

@@ -7,11 +7,12 @@ ghost use Rattle.httparse.specs.Grammar.{ResponseHead, print_response, IsRespons
 ghost use Rattle.h1_model.specs.Request.{ConnectionType};
 ghost use Rattle.h1_model.specs.HeadPiece.{IsHeadPiece};
 ghost use Rattle.h1_model.specs.RequestHead.{IsHeadOf};
+ghost use Rattle.h1_model.specs.Limits.{MAX_MOMENT};
 ghost use Rattle.h1_model.specs.LengthTable.{length_value};
 ghost use Rattle.h1_model.specs.Answer.{AnswerHead, Shape, BodySize};
 ghost use Rattle.h1_model.specs.AnswerText.{head_text};
-ghost use Rattle.h1_client_model.specs.WrittenHead.{written_lines, written_reason, IsCleanLine, IsReadBack};
-ghost use Rattle.h1_client_model.specs.RequestText.{AskedHead, request_text, head_said, asked_shape, fits, IsPlainRequest};
+ghost use Rattle.h1_client_model.specs.WrittenHead.{written_lines, written_reason, IsCleanLine, IsCleanHeader, IsCleanReason, IsReadBack};
+ghost use Rattle.h1_client_model.specs.RequestText.{AskedHead, request_lines, request_text, head_said, asked_shape, fits, IsPlainRequest};
 
 /// A head of the grammar without empty lines in front is the head on the stream, whatever follows.
 pub fn written_heads_are_pieces()
@@ -28,6 +29,18 @@ pub fn written_heads_are_read_back()
         → AllByRecursion (IsCleanLine answer.in_camel_case) (written_lines minor answer shape size kind now)
         → IsReadBack (head_text minor answer shape size kind now) minor answer.status (written_reason answer)
         (written_lines minor answer shape size kind now) }
+{}
+
+/// A head whose own headers and reason are clean is read back, whatever lines a writer adds; so a request's lines are clean.
+pub fn clean_heads_are_read_back()
+    ensures answer { (minor : ℕ) (answer : AnswerHead) (shape : Shape) (size : BodySize) (kind : ConnectionType) (now : ℕ)
+        → minor ≤ 1 → IsStatusCode answer.status → IsCleanReason answer.reason → AllByRecursion IsCleanHeader answer.headers
+        → fits size → now < MAX_MOMENT
+        → IsReadBack (head_text minor answer shape size kind now) minor answer.status (written_reason answer)
+        (written_lines minor answer shape size kind now) }
+    ensures request { (r : AskedHead) (shape : Shape) (size : BodySize) (kind : ConnectionType) (now : ℕ)
+        → AllByRecursion IsCleanHeader r.headers → fits size → now < MAX_MOMENT
+        → AllByRecursion (IsCleanLine r.in_camel_case) (request_lines r shape size kind now) }
 {}
 
 /// The head of a plain request is read back as it is written, with the kind of its body.

@@ -27,8 +27,10 @@
 //!
 //! # Not promised
 //!
-//! Requests that ask for another protocol, and bodies that only the end of the input ends. That a head is read back is a premise of a plain exchange; [`heads::written_heads_are_read_back`] says of
-//! which parts it holds, and [`examples`] has ordinary ones.
+//! Requests that ask for another protocol, and bodies that only the end of the input ends. That a head is read back is a
+//! premise of a plain exchange. [`heads::clean_heads_are_read_back`] says of which heads it holds: of those whose own
+//! headers are names in lower case with values that have no control byte and no blank at their ends; the lines that a
+//! writer adds, dates among them, never stand in its way. [`examples`] has ordinary heads.
 #![tactic(auto)]
 
 pub mod answers;

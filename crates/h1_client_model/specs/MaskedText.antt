@@ -15,6 +15,7 @@ abbrev pub print_masked : List ℕ → Bool → Opcode → List ℕ → List ℕ
 print_masked mask is_final opcode payload =
     first_byte is_final opcode ∷ masked_field (length_field (length payload)) ++ mask ++ unmask mask 0 payload
 
+-- each kind of frame
 abbrev pub masked_text : List ℕ → Frame → List ℕ
 masked_text mask (frames.text payload) = print_masked mask true text_opcode payload
 masked_text mask (frames.binary payload) = print_masked mask true binary_opcode payload

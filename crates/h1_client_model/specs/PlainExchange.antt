@@ -24,6 +24,7 @@ pub record IsPlainHead (h : Head) : Type 0 where
 
 -- ---- answers
 
+-- the pieces as one text
 abbrev pub joined : List (List ℕ) → List ℕ
 joined pieces = flat_map (λ piece. piece) pieces
 

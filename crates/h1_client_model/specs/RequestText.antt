@@ -34,6 +34,7 @@ as_answer r = record {
   headers = r.headers;
 }
 
+-- all lines, in the order in which they are written
 abbrev pub request_lines : AskedHead → Shape → BodySize → ConnectionType → ℕ → List Header
 request_lines r shape size kind now = written_lines r.minor (as_answer r) shape size kind now
 
@@ -97,6 +98,7 @@ pub record RequestGiven : Type 0 where
   pub moment : ℕ
   pub pieces : List (List ℕ)
 
+-- the text of its head, and the lines of it
 abbrev pub given_request_text : RequestGiven → List ℕ
 given_request_text g = request_text g.head (asked_shape g.size) g.size g.kind g.moment
 

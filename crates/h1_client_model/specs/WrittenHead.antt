@@ -1,5 +1,5 @@
 -- The lines of a head as they are written (RFC 7230, section 3.2), and that a text is read back as such a head.
-use Rattle.std.specs.Prelude.{◌≡◌, ℕ, Bool, List, [], ◌∷◌, ◌++◌, map, filter, codes, decimal, unwrap_or, ◌==◌, ◌/◌, if◌then◌else◌}
+use Rattle.std.specs.Prelude.{◌≡◌, ℕ, Bool, List, [], ◌∷◌, ◌++◌, map, filter, codes, decimal, Option, Some, None, ⊤, unwrap_or, ◌==◌, ◌/◌, if◌then◌else◌}
 use Rattle.std.specs.List.{AllByRecursion}
 use Rattle.http.specs.StatusCode as status
 use Rattle.http_header.specs.Token.{lowercase}
@@ -12,6 +12,7 @@ use Rattle.h1_model.specs.AnswerText.{name_text, by_name, is_sent, date_of}
 
 -- ---- which lines there are
 
+-- a header of this name and value
 abbrev pub line_of : List ℕ → List ℕ → Header
 line_of name value = record { name = name; value = value }
 
@@ -60,6 +61,19 @@ pub record IsCleanLine (camel : Bool) (h : Header) : Type 0 where
   pub lowers : lowercase (name_text camel h.name) ≡ h.name
   pub value : AllPass is_value_byte h.value
   pub trimmed : trim_ows (32 ∷ h.value) ≡ h.value
+
+-- A header of the types that heads are made of: its name is a token in lower case of at most 65535 bytes, and its value
+-- has no control byte but tabs. And no blank stands at the ends of its value, since a reader would leave it out.
+pub record IsCleanHeader (h : Header) : Type 0 where
+  pub name : IsFieldName h.name
+  pub lower : lowercase h.name ≡ h.name
+  pub value : AllPass is_value_byte h.value
+  pub trimmed : trim_ows h.value ≡ h.value
+
+-- a reason of the head's own, if it has one, has no control byte but tabs
+abbrev pub IsCleanReason : Option (List ℕ) → Type 0
+IsCleanReason None = ⊤
+IsCleanReason (Some reason) = AllPass is_value_byte reason
 
 -- The whole text is a head of the grammar, without empty lines in front, of this version, status, reason and these lines.
 pub record IsReadBack (text : List ℕ) (minor status : ℕ) (reason : List ℕ) (lines : List Header) : Type 0 where
