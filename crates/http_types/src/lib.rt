@@ -47,3 +47,4 @@ pub use http_uri::Uri;
 pub use message::{ConnectionType, Head, Message};
 pub use requests::{Request, RequestHead, RequestHeadType};
 pub use responses::{BadReason, BuildError, Response, ResponseBuilder, ResponseHead};
+pub use text::has_word;

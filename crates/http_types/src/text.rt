@@ -31,8 +31,8 @@ pub(crate) fn media_type(text: &str) -> &str
     }
 }
 
-// Whether the word stands somewhere in the text, whatever the case of both.
-pub(crate) fn has_word(text: &[u8], word: &[u8]) -> bool
+/// Whether the word stands somewhere in the text, whatever the case of both.
+pub fn has_word(text: &[u8], word: &[u8]) -> bool
     ensures { result ≡ has_word word.now text.now }
 {
     let mut rest = text;

@@ -1,14 +1,23 @@
--- A word within a text, from one place on.
-use Rattle.std.proofs.Common.{◌≡◌, ◌≢◌, ℕ, suc, ◌+◌, ◌<◌, ◌≤◌, Bool, true, false, ◌&&◌, ◌||◌, List, [], ◌∷◌, length, drop, get_or, codes, nat_eq, bytes_eq, refl, sym, ap, ◌∙◌, arith, drop-cons}
-use Rattle.std.proofs.Math.ListN.{drop_of_length-le}
-use Rattle.std.proofs.lemmas.Bool.{eqb-true}
+-- A word that is looked for without case is found as the definitions find it.
+use Rattle.std.proofs.Common.{◌≡◌, ℕ, Bool, true, false, ◌&&◌, ◌||◌, List, [], ◌∷◌, codes, bytes_eq, nat_eq, refl, sym, ap, ◌∙◌}
 use Rattle.std.specs.Char.{to_ascii_lowercase}
-use Rattle.http_map.proofs.CallerLemmas.{bytes_eq-itself, bytes_eq-other}
+use Rattle.http_header.specs.Token.{lowercase}
+use Rattle.http_types.specs.HttpMessage.{begins_with as http_begins, has_word as http_word}
 use Rattle.h1_model.specs.Handshake.{has_word}
-use Rattle.ws_session.specs.Upgrade.{begins_with, IsFoundByBeginnings}
+use Rattle.ws_session.specs.Upgrade.{IsFoundAlike}
+
+-- the text begins with the word, which is in lower case, whatever the case of the text
+abbrev pub begins_with : List ℕ → List ℕ → Bool
+begins_with [] text = true
+begins_with (w ∷ word) [] = false
+begins_with (w ∷ word) (t ∷ text) = bytes_eq (lowercase (t ∷ [])) (w ∷ []) && begins_with word text
+
+-- the definitions find this word in a text where the text, or a rest of it, begins with it
+abbrev pub IsFoundByBeginnings : List ℕ → Type 0
+IsFoundByBeginnings word = (t : ℕ) (text : List ℕ) → has_word word (t ∷ text) ≡ (begins_with word (t ∷ text) || has_word word text)
 
 -- the two words that requests have to have, case by case of how far the text goes
-pub websocket_is_found : IsFoundByBeginnings (codes "websocket")
+websocket_is_found : IsFoundByBeginnings (codes "websocket")
 unfolding has_word
 websocket_is_found t [] = refl
 websocket_is_found t (a ∷ []) = refl
@@ -20,7 +29,7 @@ websocket_is_found t (a ∷ b ∷ c ∷ d ∷ e ∷ f ∷ []) = refl
 websocket_is_found t (a ∷ b ∷ c ∷ d ∷ e ∷ f ∷ g ∷ []) = refl
 websocket_is_found t (a ∷ b ∷ c ∷ d ∷ e ∷ f ∷ g ∷ i ∷ text) = refl
 
-pub upgrade_is_found : IsFoundByBeginnings (codes "upgrade")
+upgrade_is_found : IsFoundByBeginnings (codes "upgrade")
 unfolding has_word
 upgrade_is_found t [] = refl
 upgrade_is_found t (a ∷ []) = refl
@@ -30,61 +39,33 @@ upgrade_is_found t (a ∷ b ∷ c ∷ d ∷ []) = refl
 upgrade_is_found t (a ∷ b ∷ c ∷ d ∷ e ∷ []) = refl
 upgrade_is_found t (a ∷ b ∷ c ∷ d ∷ e ∷ f ∷ text) = refl
 
--- one place further on
-next_of : (l : List ℕ) (at : ℕ) → at < length l → drop at l ≡ get_or l at 0 ∷ drop (at + 1) l
-next_of l at within =
-    let further : suc at ≡ at + 1 = omega arith in
-    drop-cons l at 0 within ∙ ap (λ (n : ℕ). get_or l at 0 ∷ drop n l) further
+-- one byte more
+one_more : (a b c : Bool) → b ≡ c → (a && b) ≡ ((a && true) && c)
+one_more true b c same = same
+one_more false b c same = refl
 
--- a word at this place, or further on
-pub word_from : (word text : List ℕ) (at : ℕ) → IsFoundByBeginnings word → at < length text
-    → has_word word (drop at text) ≡ (begins_with word (drop at text) || has_word word (drop (at + 1) text))
-word_from word text at found within =
-    let here = next_of text at within in
-    ap (has_word word) here ∙ found (get_or text at 0) (drop (at + 1) text)
-    ∙ ap (λ (l : List ℕ). begins_with word l || has_word word (drop (at + 1) text)) (sym here)
+-- a text begins with a word alike, byte by byte or as a whole
+begins_alike : (word text : List ℕ) → http_begins word text ≡ begins_with (lowercase word) text
+begins_alike [] [] = refl
+begins_alike [] (t ∷ text) = refl
+begins_alike (w ∷ word) [] = refl
+begins_alike (w ∷ word) (t ∷ text) =
+    one_more (nat_eq (to_ascii_lowercase t) (to_ascii_lowercase w)) (http_begins word text) (begins_with (lowercase word) text) (begins_alike word text)
 
-pub found_here : (word text : List ℕ) (at : ℕ) → IsFoundByBeginnings word → at < length text → begins_with word (drop at text) ≡ true → has_word word (drop at text) ≡ true
-found_here word text at found within is = word_from word text at found within ∙ ap (λ (b : Bool). b || has_word word (drop (at + 1) text)) is
+-- and so it is found alike
+found_alike : (word : List ℕ) → lowercase word ≡ word → IsFoundByBeginnings word → http_word word [] ≡ has_word word [] → IsFoundAlike word
+unfolding http_word
+found_alike word low found nowhere [] = nowhere
+found_alike word low found nowhere (t ∷ text) =
+    let first : http_begins word (t ∷ text) ≡ begins_with word (t ∷ text)
+    = begins_alike word (t ∷ text) ∙ ap (λ (w : List ℕ). begins_with w (t ∷ text)) low in
+    let others = found_alike word low found nowhere text in
+    (λ i. first i || others i) ∙ sym (found t text)
 
-pub found_further : (word text : List ℕ) (at : ℕ) → IsFoundByBeginnings word → at < length text → begins_with word (drop at text) ≡ false
-    → has_word word (drop at text) ≡ has_word word (drop (at + 1) text)
-found_further word text at found within is = word_from word text at found within ∙ ap (λ (b : Bool). b || has_word word (drop (at + 1) text)) is
+pub websocket_alike : IsFoundAlike (codes "websocket")
+unfolding http_word has_word
+websocket_alike = found_alike (codes "websocket") refl websocket_is_found refl
 
--- behind all places there is the empty word alone
-pub found_nowhere : (word text : List ℕ) (at : ℕ) → length text ≤ at → has_word word (drop at text) ≡ nat_eq (length word) 0
-unfolding has_word
-found_nowhere [] text at past = ap (has_word []) (drop_of_length-le text past)
-found_nowhere (w ∷ word) text at past = ap (has_word (w ∷ word)) (drop_of_length-le text past) ∙ go (nat_eq (length (w ∷ word)) 0) refl
-  where
-    go : (b : Bool) → nat_eq (length (w ∷ word)) 0 ≡ b → false ≡ nat_eq (length (w ∷ word)) 0
-    go true e =
-        let none : length (w ∷ word) ≡ 0 = eqb-true (length (w ∷ word)) 0 e in
-        absurd (omega (arith, none))
-    go false e = sym e
-
--- the word goes on, as the text does
-pub goes_on : (word text : List ℕ) (at : ℕ) → at < length word → at < length text → to_ascii_lowercase (get_or text at 0) ≡ get_or word at 0
-    → begins_with (drop at word) (drop at text) ≡ begins_with (drop (at + 1) word) (drop (at + 1) text)
-goes_on word text at in_word in_text same =
-    let rest = begins_with (drop (at + 1) word) (drop (at + 1) text) in
-    (λ i. begins_with (next_of word at in_word i) (next_of text at in_text i))
-    ∙ ap (λ (b : ℕ). bytes_eq (b ∷ []) (get_or word at 0 ∷ []) && rest) same
-    ∙ ap (λ (b : Bool). b && rest) (bytes_eq-itself (get_or word at 0 ∷ []))
-
--- another byte
-pub goes_wrong : (word text : List ℕ) (at : ℕ) → at < length word → at < length text → to_ascii_lowercase (get_or text at 0) ≢ get_or word at 0
-    → begins_with (drop at word) (drop at text) ≡ false
-goes_wrong word text at in_word in_text apart =
-    let rest = begins_with (drop (at + 1) word) (drop (at + 1) text) in
-    let other = bytes_eq-other (to_ascii_lowercase (get_or text at 0) ∷ []) (get_or word at 0 ∷ [])
-    (λ e. apart (ap (λ (l : List ℕ). get_or l 0 0) e)) in
-    (λ i. begins_with (next_of word at in_word i) (next_of text at in_text i)) ∙ ap (λ (b : Bool). b && rest) other
-
--- the text ends within the word
-pub ends_early : (word text : List ℕ) (at : ℕ) → at < length word → length text ≤ at → begins_with (drop at word) (drop at text) ≡ false
-ends_early word text at in_word past = λ i. begins_with (next_of word at in_word i) (drop_of_length-le text past i)
-
--- the word is there whole
-pub is_there : (word text : List ℕ) (at : ℕ) → length word ≤ at → begins_with (drop at word) (drop at text) ≡ true
-is_there word text at past = ap (λ (l : List ℕ). begins_with l (drop at text)) (drop_of_length-le word past)
+pub upgrade_alike : IsFoundAlike (codes "upgrade")
+unfolding http_word has_word
+upgrade_alike = found_alike (codes "upgrade") refl upgrade_is_found refl

@@ -1,9 +1,9 @@
 -- What a request says of an upgrade, and the checks that it fails (RFC 6455, section 4.2.1).
-use Rattle.std.specs.Prelude.{◌≡◌, ℕ, Bool, true, false, ◌&&◌, ◌||◌, List, [], ◌∷◌, map, flat_map, bytes_eq, codes, Option, Some, None, Result, Ok, Err}
+use Rattle.std.specs.Prelude.{◌≡◌, ℕ, Bool, false, ◌||◌, List, [], ◌∷◌, map, flat_map, bytes_eq, codes, Option, Some, None, Result, Ok, Err}
 use Rattle.std.specs.Borrow.{Bor}
-use Rattle.http_header.specs.Token.{lowercase}
 use Rattle.http_header.specs.FieldValue.{FieldValue}
 use Rattle.http_map.specs.HeaderMap.{Entry, get_all}
+use Rattle.http_types.specs.HttpMessage.{has_word}
 use Rattle.http_types.specs.declared.requests.head.RequestHead.{RequestHead}
 use Rattle.h1_model.specs.Request.{Header, Head, no_body, keep_alive}
 use Rattle.h1_model.specs.LengthTable.{values_of}
@@ -65,12 +65,6 @@ abbrev pub Verified : {T : Type 0} → Result T HandshakeError → Option model.
 Verified (Ok _) failing = failing ≡ None
 Verified (Err e) failing = FailsWith e failing
 
--- the text begins with the word, which is in lower case, whatever the case of the text
-abbrev pub begins_with : List ℕ → List ℕ → Bool
-begins_with [] text = true
-begins_with (w ∷ word) [] = false
-begins_with (w ∷ word) (t ∷ text) = bytes_eq (lowercase (t ∷ [])) (w ∷ []) && begins_with word text
-
--- the definitions find this word in a text where the text, or a rest of it, begins with it
-abbrev pub IsFoundByBeginnings : List ℕ → Type 0
-IsFoundByBeginnings word = (t : ℕ) (text : List ℕ) → model.has_word word (t ∷ text) ≡ (begins_with word (t ∷ text) || model.has_word word text)
+-- the word is found in a text as the definitions find it
+abbrev pub IsFoundAlike : List ℕ → Type 0
+IsFoundAlike word = (text : List ℕ) → has_word word text ≡ model.has_word word text

@@ -1,22 +1,34 @@
-//! The upgrade of a connection to WebSocket (RFC 6455, section 4.2).
+//! The upgrade of a connection to WebSocket (RFC 6455, section 4.2), and the frames behind it without a connection.
 //!
-//! [`verify_handshake`] says whether a request asks for it as it has to, and the first check that fails otherwise, and
-//! [`accept_key_of`] is the answer to its key. Both answer what the definitions of `h1_model` say of the head that the
-//! request was read from, and neither takes memory.
+//! [`verify_handshake`] says whether a request asks for the upgrade as it has to, and the first check that fails otherwise,
+//! and [`accept_key_of`] is the answer to its key; neither takes memory. [`handshake`] gives the whole answer, and
+//! [`error_response`] the one to a failed check. A [`Session`] reads the frames of bytes that are pushed in any pieces.
 //!
 //! ```text
-//! match verify_handshake(&item.head) {
-//!     Ok(()) => // answer 101 with `sec-websocket-accept: accept_key_of(&item.head)`
-//!     Err(error) => // 405 where the method isn't GET, else 400
-//! }
+//! let mut builder = match handshake(alloc, &item.head) {
+//!     Ok(builder) => builder,
+//!     Err(HandshakeFault::Refused(error)) => return error_response(alloc, error),
+//!     Err(HandshakeFault::NoMemory) => return Err(NoMemory),
+//! };
+//! let response = builder.finish()?;                      // 101, upgrade: websocket, sec-websocket-accept: ..
+//!
+//! let mut session = Session::new(alloc, true, 65536);
+//! session.push(b"\x81\x85\x37\xfa\x21\x3d\x7f\x9f")?;
+//! session.next()?;                                       // None: the frame isn't whole
+//! session.push(b"\x4d\x51\x58")?;
+//! session.next()?;                                       // Some(Frame::Text(b"Hello"))
 //! ```
+//!
+//! # Contract
+//!
+//! A request is judged by the head that it was read from, and also by its own method and headers. The frames of a session
+//! are those of all bytes that were pushed; a broken rule is answered again for good; want of memory changes nothing.
 #![tactic(auto)]
 
 mod answer;
 mod laws;
 mod session;
 mod verify;
-mod word;
 
 pub use answer::{error_response, handshake, handshake_response};
 pub use laws::heads_say_their_upgrade;

@@ -5,11 +5,10 @@ ghost use Rattle.h1_model.specs.Request.{Head};
 ghost use Rattle.h1_model.specs.LengthTable.{values_of};
 ghost use Rattle.h1_model.specs.Handshake.{handshake_error, first_has_word, version_error, accept_key_of};
 ghost use Rattle.ws_session.specs.declared.verify.HandshakeFault.TheVariants as faults;
-ghost use Rattle.ws_session.specs.Upgrade.{SaysUpgrade, head_said, IsFirst, IsFoundByBeginnings, Verified, is_spoken};
+ghost use Rattle.ws_session.specs.Upgrade.{SaysUpgrade, head_said, IsFirst, IsFoundAlike, Verified, is_spoken};
 
 use crate::NoMemory;
-use crate::word::has_word;
-use http_types::{Cause, HeaderValue, Kind, RequestHead};
+use http_types::{Cause, HeaderValue, Kind, RequestHead, has_word};
 use thiserror::Error;
 use ws_frames::hash_key;
 
@@ -144,7 +143,7 @@ fn first_value<'a>(req: &'a RequestHead, name: &'static str) -> Option<&'a Heade
 /// The first value of this name is readable and has the word.
 fn first_has_word(req: &RequestHead, name: &'static str, word: &[u8]) -> bool
     requires lowered { lowercase name.now ≡ name.now }
-    requires found { IsFoundByBeginnings word.now }
+    requires found { IsFoundAlike word.now }
     ensures { (h : Head) → SaysUpgrade req.now h → result ≡ first_has_word word.now (values_of name.now h.headers) }
 {
     let Some(value) = first_value(req, name) else {

@@ -12,6 +12,8 @@ mod copies;
 #[cfg(test)]
 mod reading;
 #[cfg(test)]
+mod sessions;
+#[cfg(test)]
 mod upgrades;
 #[cfg(test)]
 mod writing;

@@ -4,14 +4,14 @@ use Rattle.std.specs.Option.{option_or}
 use Rattle.h1_model.specs.Handshake as model
 use Rattle.h1_model.specs.Handshake.{key_error}
 use Rattle.ws_session.proofs.CheckLemmas.{is_get, has_websocket, has_upgrade, keys, wrong_method, wrong_upgrade, wrong_connection, right_so_far, wrong_version, fails, same_method, other_method}
-use Rattle.ws_session.proofs.WordLemmas.{websocket_is_found, upgrade_is_found}
+use Rattle.ws_session.proofs.WordLemmas.{websocket_alike, upgrade_alike}
 use Rattle.ws_session.proofs.verify.check_all.Goals as goal
 
 pub first_has_word-requires-clause-found : goal.first_has_word-requires-clause-found
-first_has_word-requires-clause-found c = websocket_is_found
+first_has_word-requires-clause-found c = websocket_alike
 
 pub first_has_word-requires-2-clause-found : goal.first_has_word-requires-2-clause-found
-first_has_word-requires-2-clause-found c = upgrade_is_found
+first_has_word-requires-2-clause-found c = upgrade_alike
 
 pub returns-then-ne : goal.returns-then-ne
 returns-then-ne c = λ h says.
