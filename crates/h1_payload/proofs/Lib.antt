@@ -13,3 +13,4 @@ pub mod Decodes
 pub mod Whole
 pub mod Gives
 pub mod DecoderAnswers
+pub mod Equal

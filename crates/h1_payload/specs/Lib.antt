@@ -10,3 +10,4 @@ pub mod Fitting
 pub mod Decoding
 pub mod States
 pub mod Kinds
+pub mod Sameness

@@ -6,6 +6,7 @@ ghost use Rattle.h1_chunks.specs.TakeNext.{take_next};
 ghost use Rattle.h1_payload.specs.Kinds.{is_broken_place};
 ghost use Rattle.h1_payload.specs.Places.{place_of};
 ghost use Rattle.h1_payload.specs.Readers.{HasRoom, IsTaken, NeedsNoMemory, IsEndTaken, IsPassedBy, IsNotPassedBy};
+ghost use Rattle.h1_payload.specs.Sameness.{place_numbers};
 ghost use Rattle.h1_payload.specs.Scans.{IsWithin};
 
 use crate::pass::pass_body;
@@ -58,6 +59,20 @@ impl ChunkReader {
             place: self.place,
             section: self.section.copy()?,
         })
+    }
+
+    /// Which place it is at, and what it counts, as numbers.
+    pub(crate) fn numbers(&self) -> [u64; 3]
+        ensures { result ≡ place_numbers self.now.place }
+    {
+        self.place.numbers()
+    }
+
+    /// The text of the trailer section so far.
+    pub(crate) fn section(&self) -> &[u8]
+        ensures { result.now ≡ self.now.section }
+    {
+        self.section.as_slice()
     }
 
     /// Whether a rule is broken.

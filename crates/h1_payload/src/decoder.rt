@@ -1,5 +1,5 @@
 //! The decoder of a message's body.
-ghost use Rattle.std.specs.Prelude.{◌≡◌, ◌≢◌, ◌==◌, true, false, [], Ok, Err, None, IfOk, if◌then◌else◌};
+ghost use Rattle.std.specs.Prelude.{◌≡◌, ◌≢◌, ◌==◌, true, false, [], ◌∷◌, Ok, Err, None, IfOk, if◌then◌else◌};
 ghost use Rattle.h1_chunks.specs.Place.{start};
 ghost use Rattle.h1_machine.specs.Pull.{IsPull};
 ghost use Rattle.h1_machine.specs.Pull as pulls;
@@ -8,6 +8,7 @@ ghost use Rattle.http_framing.specs.AnyPieces.{GoesOn, in_front};
 ghost use Rattle.h1_payload.specs.Decoding.{Payload, Reads, given, item_of, HasSome, IsDecoded, IsWaiting, IsRefused};
 ghost use Rattle.http_framing.specs.Kinds.{kind_of};
 ghost use Rattle.h1_payload.specs.Rests.{IsLight};
+ghost use Rattle.h1_payload.specs.Sameness.{flag, rest_numbers, are_equal};
 
 use crate::item::{DecodeError, PayloadItem};
 use crate::pulled::Pulled;
@@ -68,6 +69,25 @@ impl PayloadDecoder {
         }
     }
 
+    /// Where it stands, as numbers.
+    fn numbers(&self) -> [u64; 4]
+        ensures { result ≡ flag self.now.is_broken ∷ rest_numbers self.now.rest }
+    {
+        let broken = if self.is_broken { 1 } else { 0 };
+        let [kind, first, second] = self.rest.numbers();
+        [broken, kind, first, second]
+    }
+
+    /// Whether the other stands there too.
+    fn is_equal(&self, other: &PayloadDecoder) -> bool
+        ensures { result ≡ are_equal self.now other.now }
+    {
+        if self.numbers() != other.numbers() {
+            return false;
+        }
+        self.rest.section() == other.rest.section()
+    }
+
     /// A decoder of the same body, at the same place, as `clone` gives it too.
     pub fn copy(&self) -> Result<PayloadDecoder, NoMemory>
         ensures { IfOk result (λ copy. copy ≡ self.now) }
@@ -115,6 +135,30 @@ impl Clone for PayloadDecoder {
     fn clone(&self) -> Result<PayloadDecoder, NoMemory> {
         self.copy()
     }
+}
+
+impl PartialEq for PayloadDecoder {
+    ghost use Rattle.std.specs.Prelude.{◌↔◌};
+    ghost use Rattle.std.specs.Cmp.Rules.{comparing};
+    ghost use Rattle.std.proofs.Common.{rules};
+
+    ghost eq = { are_equal };
+
+    ghost laws = { Prim.search (comparing, rules) };
+
+    fn eq(&self, other: &PayloadDecoder) -> bool
+        ensures value { result ≡ are_equal self.now other.now }
+        ensures same { (result ≡ true) ↔ (self.now ≡ other.now) }
+    {
+        self.is_equal(other)
+    }
+}
+
+impl Eq for PayloadDecoder {
+    ghost use Rattle.std.specs.Cmp.Rules.{comparing};
+    ghost use Rattle.std.proofs.Common.{rules};
+
+    ghost laws = { Prim.search (comparing, rules) };
 }
 
 /// What is answered to what was pulled.

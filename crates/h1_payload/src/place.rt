@@ -2,6 +2,7 @@
 ghost use Rattle.std.specs.Prelude.{◌≡◌};
 ghost use Rattle.h1_chunks.specs.Place.{line_start, in_name, in_value, line_cr, expect, after_digits, size_step, extension_step, after_line, bytes_step, needs, with_room, section_step, step};
 ghost use Rattle.h1_payload.specs.Places.{line_of, place_of, is_quiet, is_section};
+ghost use Rattle.h1_payload.specs.Sameness.{section_numbers, place_numbers};
 
 use httparse::{is_header_name_token, is_header_value_token, is_space_or_tab};
 
@@ -64,7 +65,41 @@ pub(crate) enum Place {
     Broken,
 }
 
+impl Line {
+    /// The numbers of a section that is here, with so many lines and bytes to come.
+    fn numbers(self, lines: usize, room: usize) -> [u64; 3]
+        ensures { result ≡ section_numbers (line_of self) lines room }
+    {
+        let line = match self {
+            Line::Start => 7,
+            Line::Name => 8,
+            Line::Value => 9,
+            Line::Cr => 10,
+        };
+        [line, lines as u64, room as u64]
+    }
+}
+
 impl Place {
+    /// Which place it is, and what it counts, as numbers.
+    pub(crate) fn numbers(self) -> [u64; 3]
+        ensures { result ≡ place_numbers (place_of self) }
+    {
+        match self {
+            Place::Size(size) => [0, size, 0],
+            Place::Blanks(size) => [1, size, 0],
+            Place::Extension(size) => [2, size, 0],
+            Place::SizeCr(size) => [3, size, 0],
+            Place::Bytes(more) => [4, more, 0],
+            Place::BytesEnd => [5, 0, 0],
+            Place::BytesCr => [6, 0, 0],
+            Place::Section(line, lines, room) => line.numbers(lines, room),
+            Place::EndCr => [11, 0, 0],
+            Place::Done => [12, 0, 0],
+            Place::Broken => [13, 0, 0],
+        }
+    }
+
     /// In front of a body.
     pub(crate) const START: Place = Place::Size(0);
 

@@ -6,7 +6,8 @@ ghost use Rattle.h1_machine.specs.Pull.{pull_fixed, pull_raw, IsPull};
 ghost use Rattle.h1_machine.specs.Pull as pulls;
 ghost use Rattle.http_framing.specs.Kinds.{kind_of};
 ghost use Rattle.h1_payload.specs.Kinds.{IsKind};
-ghost use Rattle.h1_payload.specs.Rests.{rest_of, IsPulled, IsLight};
+ghost use Rattle.h1_payload.specs.Rests.{rest_of, section_of, IsPulled, IsLight};
+ghost use Rattle.h1_payload.specs.Sameness.{rest_numbers};
 
 use crate::chunks::ChunkReader;
 use crate::pulled::{BodyFault, Pulled};
@@ -103,6 +104,28 @@ impl Rest {
         match &self.left {
             Left::Nothing => true,
             _ => false,
+        }
+    }
+
+    /// What is left, as numbers.
+    pub(crate) fn numbers(&self) -> [u64; 3]
+        ensures { result ≡ rest_numbers self.now }
+    {
+        match &self.left {
+            Left::Nothing => [14, 0, 0],
+            Left::Raw => [15, 0, 0],
+            Left::Fixed(len) => [16, *len, 0],
+            Left::Chunks(reader) => reader.numbers(),
+        }
+    }
+
+    /// The text of a trailer section that hasn't ended.
+    pub(crate) fn section(&self) -> &[u8]
+        ensures { result.now ≡ section_of self.now }
+    {
+        match &self.left {
+            Left::Chunks(reader) => reader.section(),
+            _ => &[],
         }
     }
 
