@@ -1,5 +1,5 @@
 -- Ordinary heads and lines are read back as they are written.
-use Rattle.std.proofs.Common.{◌≡◌, false, true, ◌∷◌, ◌&&◌, length, refl, lit≤, lit<}
+use Rattle.std.proofs.Common.{◌≡◌, ◌<◌, ◌^◌, subst, [], false, true, ◌∷◌, ◌&&◌, length, refl, lit≤, lit<}
 use Rattle.std.specs.Prelude.{codes}
 use Rattle.std.specs.List.{list_all}
 use Rattle.std.specs.Fmt.{digits}
@@ -12,7 +12,8 @@ use Rattle.httparse.specs.Grammar.{is_token, is_token_byte, is_value_byte, trim_
 use Rattle.h1_model.specs.Request.{Header, keep_alive}
 use Rattle.h1_model.specs.Answer.{BodySize, size_of, size_stream, Shape, shape_none, shape_chunked, shape_length}
 use Rattle.h1_model.specs.AnswerText.{head_text, date_of, year_at, month_at, appended}
-use Rattle.h1_model.specs.Laws.ExampleTraces.{ok}
+use Rattle.h1_model.specs.Laws.ExampleTraces.{ok, usual, get_head}
+use Rattle.h1_client_model.specs.PlainExchange.{IsSelfFramed}
 use Rattle.h1_client_model.specs.WrittenHead.{line_of, written_lines, IsCleanLine, IsReadBack}
 use Rattle.h1_agreement.proofs.WrittenHead.{reads_back}
 
@@ -63,3 +64,20 @@ two_back = reads_back 1 ok (shape_length 2) (size_of 2) keep_alive 0 (lit≤ tt)
 pub stream_back : BackOf shape_chunked size_stream
 unfolding date_of year_at month_at appended digits
 stream_back = reads_back 1 ok shape_chunked size_stream keep_alive 0 (lit≤ tt) (lit≤ tt, lit< tt) (AllPass-from_list_all is_value_byte (codes "OK") refl) (clean_chunked, (clean_date, tt))
+
+-- an answer without a body says where it ends
+pub empty_plain : IsSelfFramed usual get_head (record { answered = record { head = ok; size = size_of 0; drained = false }; moment = 0; pieces = []; is_ended = false })
+unfolding appended
+empty_plain = record {
+  status = lit≤ tt;
+  no_length = λ same. refl;
+  no_coding = λ same. refl;
+  shape = refl;
+  size = λ e. cc;
+  fits = λ n e. let same : 0 ≡ n = cc in subst (λ k. k < 2 ^ 64) same (lit< tt);
+  came = λ get n e. cc;
+  short = tt;
+  whole = refl;
+  back = empty_back;
+  few = lit≤ tt;
+}

@@ -13,7 +13,9 @@ use Rattle.h1_model.specs.Text.{text}
 use Rattle.h1_model.specs.Trace.{IsTrace}
 use Rattle.h1_model.specs.Laws.Exchanges.{Reply, no_reply, answer_given, session, is_whole, Exchange, reply_text, exchange_text, exchanges, exchanges_text, refusal_text}
 use Rattle.h1_model.proofs.ExchangeTraces.{spoken}
-use Rattle.h1_client_model.specs.AnswerParse.{so_far, AnswerMessage, AreAnswersFrom}
+use Rattle.h1_client_model.specs.AnswerParse.{so_far, AnswerMessage, AreAnswersFrom, counts_each, AreTheAnswers}
+use Rattle.h1_client_model.specs.Laws.Growth.{AnswersGrow}
+use Rattle.h1_client_model.proofs.AnswerGrowth.{answers_stay}
 use Rattle.h1_agreement.specs.SentAnswer.{SentAnswer, IsSent, sent_text, methods_of, AreReadAs, sent_answer, sent_by, all_sent, AreCounted, CountsAnswers, methods_asked, answers_sent}
 use Rattle.h1_client_model.specs.PlainExchange.{IsPlainHead, IsFramedReply, IsPlain, IsUninterrupted}
 use Rattle.h1_client_model.proofs.AnswerLemmas.{answers_unique}
@@ -220,3 +222,13 @@ ends_agree_alone waits setting trace ms counts traced still plain are =
     let a = ends_agree waits setting trace counts traced still plain in
     let same = answers_unique waits (so_far (text setting trace)) 0 (methods_asked trace) ms a.0 are a.1 in
     subst (λ l. AreReadAs (text setting trace) l (answers_sent setting trace)) (sym same) a.2
+
+-- a client that got the first bytes, and asked the first requests, reads the beginning of them
+pub ends_agree_so_far : (setting : Setting) (trace : List Step) (front more : List ℕ) (asked extra : List (List ℕ)) (ms : List AnswerMessage)
+    → IsTrace setting trace → IsUninterrupted trace → AllByRecursion (IsPlain setting) (exchanges trace) → text setting trace ≡ front ++ more
+    → methods_asked trace ≡ asked ++ extra → AreTheAnswers front asked ms
+    → (ns : List AnswerMessage) × AreReadAs (text setting trace) ns (answers_sent setting trace) × AnswersGrow front (text setting trace) ms ns
+ends_agree_so_far setting trace front more asked extra ms traced still plain text_is methods_are are =
+    let a = ends_agree counts_each setting trace (λ status high. refl) traced still plain in
+    let all = subst (λ l. AreAnswersFrom counts_each (so_far (text setting trace)) 0 l a.0) methods_are a.1 in
+    (a.0, a.2, answers_stay counts_each (so_far front) (so_far (text setting trace)) more asked extra ms a.0 text_is refl refl are all)

@@ -1,6 +1,6 @@
 //! Answers that a connection sends are read by its client.
 
-ghost use Rattle.std.specs.Prelude.{◌≡◌, ℕ, Bool, true, List};
+ghost use Rattle.std.specs.Prelude.{◌≡◌, ℕ, Bool, true, List, ◌++◌};
 ghost use Rattle.std.specs.List.{AllByRecursion};
 ghost use Rattle.h1_model.specs.Request.{Head};
 ghost use Rattle.h1_model.specs.Setting.{Setting};
@@ -9,6 +9,7 @@ ghost use Rattle.h1_model.specs.Text.{text};
 ghost use Rattle.h1_model.specs.Trace.{IsTrace};
 ghost use Rattle.h1_model.specs.Laws.Exchanges.{AnswerGiven, exchanges};
 ghost use Rattle.h1_client_model.specs.AnswerParse.{so_far, AnswerMessage, AreAnswersIn, AreTheAnswers};
+ghost use Rattle.h1_client_model.specs.Laws.Growth.{AnswersGrow};
 ghost use Rattle.h1_client_model.specs.PlainExchange.{IsSelfFramed, IsPlain, IsUnrefused, IsUninterrupted};
 ghost use Rattle.h1_agreement.specs.SentAnswer.{SentAnswer, IsSent, sent_answer, sent_text, methods_of, AreReadAs, AreCounted, CountsAnswers, methods_asked, answers_sent, answers_with_interim};
 
@@ -34,7 +35,17 @@ pub fn two_ends()
         → AreReadAs (text setting trace) ms (answers_sent setting trace) }
 {}
 
-/// So does a client whose requests wait on after interim answers.
+/// A client that got only the first bytes yet, and asked only the first requests, reads the beginning of the answers: each
+/// that it reads keeps its head and its place, and has a beginning of its body.
+pub fn two_ends_so_far()
+    ensures { (setting : Setting) (trace : List Step) (front more : List ℕ) (asked extra : List (List ℕ)) (ms : List AnswerMessage)
+        → IsTrace setting trace → IsUninterrupted trace → AllByRecursion (IsPlain setting) (exchanges trace)
+        → text setting trace ≡ front ++ more → methods_asked trace ≡ asked ++ extra → AreTheAnswers front asked ms
+        → (ns : List AnswerMessage) × AreReadAs (text setting trace) ns (answers_sent setting trace)
+        × AnswersGrow front (text setting trace) ms ns }
+{}
+
+/// A client whose requests wait on after interim answers reads the same.
 pub fn two_ends_where_requests_wait()
     ensures there_are { (waits : ℕ → Bool) (setting : Setting) (trace : List Step) → CountsAnswers waits → IsTrace setting trace
         → IsUninterrupted trace → AllByRecursion (IsPlain setting) (exchanges trace)

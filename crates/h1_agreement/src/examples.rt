@@ -1,13 +1,18 @@
 //! Worked examples: ordinary heads meet what the laws ask of them.
 
-ghost use Rattle.std.specs.Prelude.{◌≡◌, [], ◌∷◌, codes, true, false};
+ghost use Rattle.std.specs.Prelude.{◌≡◌, List, [], ◌∷◌, codes, true, false};
+ghost use Rattle.std.specs.List.{AllByRecursion};
 ghost use Rattle.h1_model.specs.Request.{Head, no_body, keep_alive};
 ghost use Rattle.h1_model.specs.Answer.{size_none, size_of, size_stream, shape_none};
 ghost use Rattle.h1_model.specs.AnswerText.{head_text};
-ghost use Rattle.h1_model.specs.Laws.ExampleTraces.{ok, usual, get_head};
+ghost use Rattle.h1_model.specs.Event as on;
+ghost use Rattle.h1_model.specs.Sums.{Step};
+ghost use Rattle.h1_model.specs.Trace.{IsTrace};
+ghost use Rattle.h1_model.specs.Laws.Exchanges.{exchanges};
+ghost use Rattle.h1_model.specs.Laws.ExampleTraces.{step, ok, usual, get_head};
 ghost use Rattle.h1_client_model.specs.AnswerParse.{is_interim};
 ghost use Rattle.h1_client_model.specs.WrittenHead.{written_lines, IsReadBack};
-ghost use Rattle.h1_client_model.specs.PlainExchange.{IsPlainHead, IsSelfFramed};
+ghost use Rattle.h1_client_model.specs.PlainExchange.{IsPlainHead, IsSelfFramed, IsPlain, IsUninterrupted};
 ghost use Rattle.h1_client_model.specs.RequestText.{IsPlainGiven};
 ghost use Rattle.h1_agreement.specs.SentAnswer.{CountsAnswers};
 
@@ -85,4 +90,15 @@ pub fn an_ordinary_post_is_plain()
 pub fn interim_statuses()
     ensures counts { CountsAnswers is_interim }
     ensures continues { is_interim 100 ≡ true }
+{}
+
+/// A whole trace, one request from its bytes to those of its answer, meets all that the agreement of two ends asks.
+pub fn a_whole_trace_is_plain()
+    ensures { let trace : List Step = step (on.write 200)
+        (on.gave (codes "HTTP/1.1 200 OK\r\ncontent-length: 0\r\ndate: Thu, 01 Jan 1970 00:00:00 GMT\r\n\r\n"))
+        ∷ step (on.answer ok (size_of 0)) on.done
+        ∷ step on.next (on.head get_head)
+        ∷ step (on.read (codes "GET / HTTP/1.1\r\nhost: a\r\n\r\n")) (on.took 27)
+        ∷ step (on.tick 0) on.done ∷ [] in
+        IsTrace usual trace × IsUninterrupted trace × AllByRecursion (IsPlain usual) (exchanges trace) }
 {}

@@ -11,7 +11,8 @@
 //! client that reads all that the connection writes reads exactly its answers, in order, each to its own request: version,
 //! status, reason, header lines, all bytes of the body, and the body's end. The last request may still lack its answer.
 //! The header lines are those that are written: the answer's own, name by name, without the framing and connection lines
-//! that a connection drops, and with those that it adds.
+//! that a connection drops, and with those that it adds. A client that got only a part of the text yet reads the beginning
+//! of these answers ([`answers::two_ends_so_far`]).
 //!
 //! Where clients get a 100 Continue while they send a body, [`answers::two_ends_with_interim_answers`] says the same of a
 //! client whose requests wait on after interim answers: it reads the 100 in front of the answer.
