@@ -1,0 +1,148 @@
+//! The body of the open request, and the connection that it comes over.
+use crate::{HandleError, Limits};
+use bytes::Bytes;
+use h1_connection::{Connection, Pulled};
+use h1_net::{TimedSink, TimedSource};
+use http_types::{ConnectionType, HeaderMap, ResponseHead, ServiceConfig};
+use std::alloc::Global;
+
+/// What comes next of a request's body.
+#[derive(Debug, Drop)]
+pub enum Piece {
+    /// These bytes, of which there is one at least.
+    Bytes(Bytes),
+
+    /// The trailers, with which the body ends (RFC 7230, section 4.1.2).
+    Trailers(HeaderMap),
+
+    /// The body has ended.
+    End,
+}
+
+/// The body of the open request, and the connection that it comes over.
+#[derive(Drop)]
+pub struct Body<S, K> {
+    pub(crate) connection: Connection,
+    pub(crate) source: S,
+    pub(crate) sink: K,
+    pub(crate) limits: Limits,
+
+    // How many milliseconds the source was told to wait, where it was told.
+    pub(crate) waits: Option<u64>,
+
+    // When a byte moved last, by `uptime`.
+    pub(crate) moved: Option<u64>,
+
+    // The handler reads the open request's body.
+    pub(crate) is_wanted: bool,
+}
+
+impl<S: TimedSource, K: TimedSink> Body<S, K> {
+    /// A connection over this source and this sink, to which nothing has come yet.
+    pub fn new(
+        alloc: Global,
+        config: ServiceConfig,
+        limits: Limits,
+        source: S,
+        sink: K,
+    ) -> Body<S, K> {
+        let moved = source.uptime();
+        Body {
+            connection: Connection::new(alloc, config),
+            source,
+            sink,
+            limits,
+            waits: None,
+            moved,
+            is_wanted: false,
+        }
+    }
+
+    /// The source and the sink.
+    pub fn into_parts(self) -> (S, K) {
+        let Body {
+            connection: _,
+            source,
+            sink,
+            limits: _,
+            waits: _,
+            moved: _,
+            is_wanted: _,
+        } = self;
+        (source, sink)
+    }
+
+    /// The handler will read the body, also once its answer has begun: where the client waits for leave to send it, it
+    /// gets leave (RFC 7231, section 5.1.1). `read` says the same, so this is for a handler that begins its answer first.
+    pub fn want(&mut self) -> Result<(), HandleError> {
+        self.is_wanted = true;
+        if self.connection.can_continue() {
+            self.connection.send_continue()?;
+        }
+        Ok(())
+    }
+
+    /// What comes next of the body. It waits for it; all that waits to be written is written before. Where the request
+    /// has no body, or its end was given, it is `End`.
+    ///
+    /// `BrokenBody` where the body is none, `Stalled` where nothing comes for too long, `Lost` and `NoMemory`.
+    pub fn read(&mut self) -> Result<Piece, HandleError> {
+        self.want()?;
+        for _ in 0..u64::MAX {
+            if !self.connection.can_pull() {
+                return Ok(Piece::End);
+            }
+            match self.connection.pull()? {
+                Pulled::Bytes(bytes) => return Ok(Piece::Bytes(bytes)),
+                Pulled::Trailers(trailers) => return Ok(Piece::Trailers(trailers)),
+                Pulled::End => return Ok(Piece::End),
+                Pulled::Broken(_) => return Err(HandleError::BrokenBody),
+                Pulled::Pending => {
+                    self.flush()?;
+                    self.fill()?;
+                }
+            }
+        }
+        Err(HandleError::Stalled)
+    }
+
+    // Passes over a body that the handler doesn't read, where it is small enough and comes soon. Else the answer says
+    // that the connection ends with it: a client that isn't told so would send its next request into it.
+    pub(crate) fn settle(&mut self, head: &mut ResponseHead) -> Result<(), HandleError> {
+        if self.is_wanted || !self.connection.can_pull() {
+            return Ok(());
+        }
+        if self.connection.can_continue() || !self.pass_over()? {
+            head.set_connection_type(ConnectionType::Close);
+        }
+        Ok(())
+    }
+
+    // Whether the body was passed over.
+    fn pass_over(&mut self) -> Result<bool, HandleError> {
+        let mut left = self.limits.drop;
+        for _ in 0..u64::MAX {
+            if !self.connection.can_pull() {
+                return Ok(true);
+            }
+            match self.connection.pull()? {
+                Pulled::Bytes(bytes) => {
+                    let count = bytes.len() as u64;
+                    if count > left {
+                        return Ok(false);
+                    }
+                    left -= count;
+                }
+                Pulled::Trailers(_) | Pulled::End => return Ok(true),
+                Pulled::Broken(_) => return Ok(false),
+                Pulled::Pending => {
+                    self.flush()?;
+                    if !self.fill()? {
+                        return Ok(false);
+                    }
+                }
+            }
+        }
+        Ok(false)
+    }
+}

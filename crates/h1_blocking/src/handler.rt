@@ -1,0 +1,36 @@
+//! What a program has to say.
+use crate::{Answer, Body, HandleError, Incoming};
+use h1_net::{TimedSink, TimedSource};
+use http_types::NoMemory;
+use std::net::SocketAddr;
+
+/// What answers the requests of one connection, one after the other.
+pub trait Handler {
+    /// Answers one request. Where it returns without an answer, one of status 500 is sent, and of status 400 after
+    /// `BrokenBody`; where it returns inside an answer, that fails, and the connection ends.
+    fn handle<S: TimedSource, K: TimedSink>(
+        &mut self,
+        request: &Incoming<'_>,
+        body: &mut Body<S, K>,
+        answer: Answer,
+    ) -> Result<(), HandleError>;
+
+    /// Whether the server is to end. Then the connection takes no further request. It is asked at least once a second.
+    fn is_ending(&self) -> bool {
+        false
+    }
+}
+
+/// What makes a handler for each connection.
+pub trait Handlers {
+    /// The handler of one connection, which goes to a thread of its own.
+    type Handler: Handler + Send + Drop + 'static;
+
+    /// A handler for a connection with this peer.
+    fn handler(&mut self, peer: SocketAddr) -> Result<Self::Handler, NoMemory>;
+
+    /// Whether the server is to end. Then no further connection is accepted.
+    fn is_ending(&self) -> bool {
+        false
+    }
+}

@@ -1,0 +1,84 @@
+//! What is answered to which request.
+use h1_blocking::{Answer, Body, HandleError, Handler, Handlers, Incoming, Piece};
+use h1_net::{TimedSink, TimedSource};
+use http_framing::BodyKind;
+use http_types::{Method, NoMemory, ResponseHead, StatusCode};
+use std::alloc::Global;
+use std::net::SocketAddr;
+
+/// Makes the handlers of so many connections.
+#[derive(Drop)]
+pub struct Hellos {
+    alloc: Global,
+    left: u64,
+}
+
+/// Answers the requests of one connection.
+#[derive(Drop)]
+pub struct Hello {
+    alloc: Global,
+}
+
+impl Hellos {
+    pub fn new(alloc: Global, connections: u64) -> Hellos {
+        Hellos {
+            alloc,
+            left: connections,
+        }
+    }
+}
+
+impl Handlers for Hellos {
+    type Handler = Hello;
+
+    fn handler(&mut self, _peer: SocketAddr) -> Result<Hello, NoMemory> {
+        self.left = self.left.saturating_sub(1);
+        Ok(Hello { alloc: self.alloc })
+    }
+
+    fn is_ending(&self) -> bool {
+        self.left == 0
+    }
+}
+
+impl Handler for Hello {
+    fn handle<S: TimedSource, K: TimedSink>(
+        &mut self,
+        request: &Incoming<'_>,
+        body: &mut Body<S, K>,
+        answer: Answer,
+    ) -> Result<(), HandleError> {
+        let head = ResponseHead::new(self.alloc, StatusCode::OK);
+        let asked = request.head();
+        if asked.method == Method::POST && asked.uri.path() == "/echo" {
+            return echo(request, head, body, answer);
+        }
+        answer.whole(body, head, b"hello\n")
+    }
+}
+
+// Sends the request's body back, piece by piece as it comes.
+fn echo<S: TimedSource, K: TimedSink>(
+    request: &Incoming<'_>,
+    head: ResponseHead,
+    body: &mut Body<S, K>,
+    answer: Answer,
+) -> Result<(), HandleError> {
+    body.want()?;
+    let mut writer = match request.body() {
+        BodyKind::None => answer.sized(body, head, 0)?,
+        BodyKind::Length(length) => answer.sized(body, head, length)?,
+        BodyKind::Chunked | BodyKind::Raw => answer.stream(body, head)?,
+    };
+    for _ in 0..u64::MAX {
+        match body.read() {
+            Ok(Piece::Bytes(bytes)) => writer = writer.write(body, bytes.as_slice())?,
+            Ok(Piece::Trailers(_) | Piece::End) => break,
+            Err(error) => {
+                writer.fail(body);
+                return Err(error);
+            }
+        }
+    }
+    writer.end(body)
+}
