@@ -1,7 +1,7 @@
 -- Histories that grow, and lists that are still to come.
 use Rattle.std.proofs.Common.{◌≡◌, ◌≤◌, ℕ, Option, Some, None, List, [], ◌++◌, refl, sym, ap, ◌∙◌, append_assoc, append-nil, arith}
 use Rattle.http_config.specs.Causes.{Rose}
-use Rattle.http_bodies.specs.Told.{told_with, led_by, Grows}
+use Rattle.http_bodies.specs.Told.{led_by, Grows}
 
 -- two growths are one
 pub grown : {A : Type 0} (a b : List A) (old mid new : Option (List A)) → Grows old mid a → Grows mid new b → Grows old new (a ++ b)

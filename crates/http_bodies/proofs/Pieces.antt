@@ -59,5 +59,5 @@ as_body_says kind before now old new n is_woken result passes waits = record {
   lacks = passes.lacks;
   takes_memory = passes.takes_memory;
   faults = passes.faults;
-  waits = waits
+  waits = waits;
 }

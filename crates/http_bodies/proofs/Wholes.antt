@@ -1,10 +1,8 @@
 -- All of a body, chunk by chunk.
-use Rattle.std.proofs.Common.{◌≡◌, ◌<◌, ℕ, ◌+◌, true, false, Option, Some, None, List, [], ◌∷◌, ◌++◌, refl, sym, ap, ◌∙◌, append_assoc, append-nil, length, length-append, arith}
-use Rattle.http_bodies.specs.Told.{led_by, Tells}
-use Rattle.http_bodies.specs.Giving.{Given, chunk, fault}
-use Rattle.http_bodies.specs.Whole.{Whole, unknown, ends, fails, after, content, whole, AreAll}
-use Rattle.http_bodies.specs.Limit.{passes}
-use Rattle.http_bodies.specs.Gather.{HasTooMany, FailsWith}
+use Rattle.std.proofs.Common.{◌≡◌, ℕ, ◌+◌, Option, Some, None, List, [], ◌∷◌, ◌++◌, refl, sym, ap, ◌∙◌, append_assoc, length, length-append}
+use Rattle.http_bodies.specs.Told.{led_by}
+use Rattle.http_bodies.specs.Giving.{Given, chunk}
+use Rattle.http_bodies.specs.Whole.{Whole, unknown, ends, fails, after, content, whole}
 use Rattle.http_bodies.proofs.Histories.{led_by-more}
 
 after-more : (a b : List ℕ) (w : Whole) → after a (after b w) ≡ after (a ++ b) w

@@ -1,5 +1,5 @@
 -- A body over a stream: the stream's empty pieces are passed over.
-use Rattle.std.specs.Prelude.{◌≡◌, ◌<◌, ◌⊎◌, ℕ, suc, zero, Bool, true, Option, Some, None, List, [], ◌∷◌, ◌++◌, ⊤, length, Result, Ok, Err}
+use Rattle.std.specs.Prelude.{◌≡◌, ◌<◌, ◌⊎◌, ℕ, suc, zero, Bool, true, Option, Some, None, List, [], ◌∷◌, ◌++◌, ⊤, length, Ok, Err}
 use Rattle.futures.specs.declared.task.Poll.TheVariants.{Ready, Pending}
 use Rattle.futures.specs.Poll.{OnPending}
 use Rattle.http_config.specs.Causes.{Rose}

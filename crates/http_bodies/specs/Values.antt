@@ -1,5 +1,5 @@
 -- Values that are bodies: all their bytes are one chunk.
-use Rattle.std.specs.Prelude.{ℕ, true, false, Option, Some, None, List, [], ◌∷◌, length, Ok}
+use Rattle.std.specs.Prelude.{ℕ, true, false, Some, None, List, [], ◌∷◌, length, Ok}
 use Rattle.futures.specs.declared.task.Poll.TheVariants.{Ready}
 use Rattle.http_framing.specs.declared.body.size.BodySize.TheVariants as size
 use Rattle.http_bodies.specs.Giving.{Given, chunk, Giving, Piece}

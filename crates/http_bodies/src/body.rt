@@ -28,5 +28,5 @@ pub use limit::BodyLimitExceeded;
 pub use message_body::MessageBody;
 pub use none::None;
 pub use sized_stream::SizedStream;
-pub use utils::{ToBytesLimited, to_bytes, to_bytes_limited};
 pub use unlimited::ToBytes;
+pub use utils::{ToBytesLimited, to_bytes, to_bytes_limited};

@@ -5,7 +5,8 @@
 mod body;
 
 pub use body::{
-    AnyBody, BodyFault, BodyLimitExceeded, BodyStream, BoxBody, ByteStream, Counted, EitherBody, ErasedBody, MessageBody,
-    None, PlainStream, SizedStream, ToBytes, ToBytesLimited, to_bytes, to_bytes_limited,
+    AnyBody, BodyFault, BodyLimitExceeded, BodyStream, BoxBody, ByteStream, Counted, EitherBody,
+    ErasedBody, MessageBody, None, PlainStream, SizedStream, ToBytes, ToBytesLimited, to_bytes,
+    to_bytes_limited,
 };
 pub use http_framing::{BodyKind, BodySize, Decoder, Encoder, pieces_make_a_whole};

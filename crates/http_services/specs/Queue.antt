@@ -24,8 +24,16 @@ pub record Queue : Type 0 where
 
 abbrev pub new_queue : Bool → Queue
 new_queue ended = record {
-  chunks = []; error = None; ended = ended; trailers = None; failed = false; dropped = false; wish = true; put_back = 0;
-  receiver = false; feeder = false
+  chunks = [];
+  error = None;
+  ended = ended;
+  trailers = None;
+  failed = false;
+  dropped = false;
+  wish = true;
+  put_back = 0;
+  receiver = false;
+  feeder = false;
 }
 
 -- how many bytes wait

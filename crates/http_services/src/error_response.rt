@@ -11,7 +11,10 @@ use std::alloc::Global;
 
 /// The answer to an error: with the status 400 if a message could not be parsed, else with 500. Its body is the error's
 /// text, in a body of the type that the caller asks for: a `BoxBody`, for example.
-pub fn response_of_error<E: Drop>(alloc: Global, err: &Error) -> Result<Response<AnyBody<E>>, NoMemory>
+pub fn response_of_error<E: Drop>(
+    alloc: Global,
+    err: &Error,
+) -> Result<Response<AnyBody<E>>, NoMemory>
     ensures { IfOk result (λ response. (text : List ℕ) × (response ≡ record { head = fresh_response (status_of err.now.kind); body = any.Bytes text })) }
 {
     let status = match err.kind {

@@ -47,7 +47,12 @@ pub trait Service<Req>: Drop {
 
     /// The answer of a call. A pending call wakes the task once it is to be polled again; one that was answered is
     /// polled no more.
-    fn poll_call(&mut self, call: &mut Self::Call, lent: &mut Self::Lent, cx: &mut Context<'_>) -> Poll<Result<Self::Response, Self::Error>>
+    fn poll_call(
+        &mut self,
+        call: &mut Self::Call,
+        lent: &mut Self::Lent,
+        cx: &mut Context<'_>,
+    ) -> Poll<Result<Self::Response, Self::Error>>
         requires is_open { (calling call.old).is_open ≡ true }
         ensures says { AnswerSays (served self.old) (served self.new) result }
         ensures polls { PollSays echoes (calling call.old) (calling call.new) (Self.Lent.lent lent.old) (Self.Lent.lent lent.new) result }

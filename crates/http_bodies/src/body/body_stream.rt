@@ -45,7 +45,11 @@ impl<S: ByteStream> MessageBody for BodyStream<S> {
         BodySize::Stream
     }
 
-    fn poll_next(&mut self, _alloc: Global, cx: &mut Context<'_>) -> Poll<Option<Result<Bytes, BodyFault>>>
+    fn poll_next(
+        &mut self,
+        _alloc: Global,
+        cx: &mut Context<'_>,
+    ) -> Poll<Option<Result<Bytes, BodyFault>>>
         ensures says { PieceSays (as_body size.Stream self.old.waits (S.streams self.old.stream)) (as_body size.Stream self.new.waits (S.streams self.new.stream)) result }
         ensures passes { (n : ℕ) × Passes (S.streams self.old.stream) (S.streams self.new.stream) n cx.new.is_woken result }
         ensures registered { OnPending result (IsArmed cx.new) }

@@ -69,7 +69,11 @@ impl<E: ErasedBody> MessageBody for AnyBody<E> {
         }
     }
 
-    fn poll_next(&mut self, alloc: Global, cx: &mut Context<'_>) -> Poll<Option<Result<Bytes, BodyFault>>> {
+    fn poll_next(
+        &mut self,
+        alloc: Global,
+        cx: &mut Context<'_>,
+    ) -> Poll<Option<Result<Bytes, BodyFault>>> {
         match self {
             AnyBody::None => Poll::Ready(None),
             AnyBody::Bytes(bytes) => MessageBody::poll_next(bytes, alloc, cx),

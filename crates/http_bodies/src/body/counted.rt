@@ -33,7 +33,11 @@ impl<T> Counted<T> {
     pub fn new(inner: T) -> Counted<T>
         ensures { result ≡ record { inner = inner; faults = 0; waits = 0 } }
     {
-        Counted { inner, faults: 0, waits: 0 }
+        Counted {
+            inner,
+            faults: 0,
+            waits: 0,
+        }
     }
 }
 

@@ -58,7 +58,11 @@ impl<L: MessageBody, R: MessageBody> MessageBody for EitherBody<L, R> {
         }
     }
 
-    fn poll_next(&mut self, alloc: Global, cx: &mut Context<'_>) -> Poll<Option<Result<Bytes, BodyFault>>> {
+    fn poll_next(
+        &mut self,
+        alloc: Global,
+        cx: &mut Context<'_>,
+    ) -> Poll<Option<Result<Bytes, BodyFault>>> {
         match self {
             EitherBody::Left { body } => body.poll_next(alloc, cx),
             EitherBody::Right { body } => body.poll_next(alloc, cx),

@@ -21,7 +21,11 @@ pub trait ErasedBody: Drop {
         ensures { result ≡ (erased self.now).size };
 
     /// The next chunk, or nothing at the end.
-    fn poll_next(&mut self, alloc: Global, cx: &mut Context<'_>) -> Poll<Option<Result<Bytes, BodyFault>>>
+    fn poll_next(
+        &mut self,
+        alloc: Global,
+        cx: &mut Context<'_>,
+    ) -> Poll<Option<Result<Bytes, BodyFault>>>
         ensures says { PieceSays (erased self.old) (erased self.new) result }
         ensures registered { OnPending result (IsArmed cx.new) }
         ensures kept { Keeps cx.old cx.new };
@@ -34,7 +38,11 @@ impl ErasedBody for Box<dyn ErasedBody> {
         (**self).size()
     }
 
-    fn poll_next(&mut self, alloc: Global, cx: &mut Context<'_>) -> Poll<Option<Result<Bytes, BodyFault>>> {
+    fn poll_next(
+        &mut self,
+        alloc: Global,
+        cx: &mut Context<'_>,
+    ) -> Poll<Option<Result<Bytes, BodyFault>>> {
         (**self).poll_next(alloc, cx)
     }
 }
@@ -46,7 +54,11 @@ impl<B: MessageBody> ErasedBody for B {
         self.size()
     }
 
-    fn poll_next(&mut self, alloc: Global, cx: &mut Context<'_>) -> Poll<Option<Result<Bytes, BodyFault>>> {
+    fn poll_next(
+        &mut self,
+        alloc: Global,
+        cx: &mut Context<'_>,
+    ) -> Poll<Option<Result<Bytes, BodyFault>>> {
         self.poll_next(alloc, cx)
     }
 }

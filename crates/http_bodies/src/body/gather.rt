@@ -17,11 +17,20 @@ impl<B: MessageBody> Gatherer<B> {
         ensures { gathering_of result ≡ record { size = (B.gives body).size; limit = limit; got = []; body = body } }
     {
         let size = body.size();
-        Gatherer { alloc, body, size, limit, got: BytesMut::new(alloc) }
+        Gatherer {
+            alloc,
+            body,
+            size,
+            limit,
+            got: BytesMut::new(alloc),
+        }
     }
 
     // The bytes, once the body has ended.
-    pub(super) fn poll(&mut self, cx: &mut Context<'_>) -> Poll<Result<Result<Bytes, BodyFault>, BodyLimitExceeded>>
+    pub(super) fn poll(
+        &mut self,
+        cx: &mut Context<'_>,
+    ) -> Poll<Result<Result<Bytes, BodyFault>, BodyLimitExceeded>>
         ensures says { GatherSays (known B.gives (gathering_of self.old)) (known B.gives (gathering_of self.new)) cx.new.is_woken result }
         ensures limited { NeedsLimit self.old.limit result }
         ensures limit { self.new.limit ≡ self.old.limit }
@@ -57,7 +66,10 @@ impl<B: MessageBody> Gatherer<B> {
         }
     }
 
-    fn gather(&mut self, cx: &mut Context<'_>) -> Poll<Result<Result<Bytes, BodyFault>, BodyLimitExceeded>>
+    fn gather(
+        &mut self,
+        cx: &mut Context<'_>,
+    ) -> Poll<Result<Result<Bytes, BodyFault>, BodyLimitExceeded>>
         ensures says { Gathers (known B.gives (gathering_of self.old)) (known B.gives (gathering_of self.new)) cx.new.is_woken result }
         ensures limited { NeedsLimit self.old.limit result }
         ensures limit { self.new.limit ≡ self.old.limit }

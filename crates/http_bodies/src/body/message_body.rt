@@ -23,7 +23,11 @@ pub trait MessageBody: Drop {
 
     /// The next chunk, or nothing at the end. After `BodyFault::NoMemory` the same chunks are still to come. A pending
     /// body wakes the task once it is to be polled again.
-    fn poll_next(&mut self, alloc: Global, cx: &mut Context<'_>) -> Poll<Option<Result<Bytes, BodyFault>>>
+    fn poll_next(
+        &mut self,
+        alloc: Global,
+        cx: &mut Context<'_>,
+    ) -> Poll<Option<Result<Bytes, BodyFault>>>
         ensures says { PieceSays (gives self.old) (gives self.new) result }
         ensures registered { OnPending result (IsArmed cx.new) }
         ensures kept { Keeps cx.old cx.new };

@@ -37,7 +37,11 @@ impl MessageBody for None {
         BodySize::None
     }
 
-    fn poll_next(&mut self, _alloc: Global, _cx: &mut Context<'_>) -> Poll<Option<Result<Bytes, BodyFault>>>
+    fn poll_next(
+        &mut self,
+        _alloc: Global,
+        _cx: &mut Context<'_>,
+    ) -> Poll<Option<Result<Bytes, BodyFault>>>
         ensures ends { result ≡ Ready std.None }
         ensures kept { Keeps _cx.old _cx.new }
     {

@@ -9,7 +9,10 @@ use bytes::Bytes;
 use futures::task::{Context, Poll};
 
 // The next piece that has bytes. After 64 empty pieces the task is woken, and others have their turn.
-pub(crate) fn next_piece<S: ByteStream>(stream: &mut S, cx: &mut Context<'_>) -> Poll<Option<Result<Bytes, BodyFault>>>
+pub(crate) fn next_piece<S: ByteStream>(
+    stream: &mut S,
+    cx: &mut Context<'_>,
+) -> Poll<Option<Result<Bytes, BodyFault>>>
     ensures passes { (n : ℕ) × Passes (S.streams stream.old) (S.streams stream.new) n cx.new.is_woken result }
     ensures registered { OnPending result (IsArmed cx.new) }
     ensures kept { Keeps cx.old cx.new }

@@ -35,7 +35,11 @@ impl<S: ByteStream> SizedStream<S> {
     pub fn new(size: u64, stream: S) -> SizedStream<S>
         ensures { result ≡ record { size = size; stream = stream; waits = 0 } }
     {
-        SizedStream { size, stream, waits: 0 }
+        SizedStream {
+            size,
+            stream,
+            waits: 0,
+        }
     }
 }
 
@@ -46,7 +50,11 @@ impl<S: ByteStream> MessageBody for SizedStream<S> {
         BodySize::Sized(self.size)
     }
 
-    fn poll_next(&mut self, _alloc: Global, cx: &mut Context<'_>) -> Poll<Option<Result<Bytes, BodyFault>>>
+    fn poll_next(
+        &mut self,
+        _alloc: Global,
+        cx: &mut Context<'_>,
+    ) -> Poll<Option<Result<Bytes, BodyFault>>>
         ensures says { PieceSays (as_body (size.Sized self.old.size) self.old.waits (S.streams self.old.stream)) (as_body (size.Sized self.new.size) self.new.waits (S.streams self.new.stream)) result }
         ensures passes { (n : ℕ) × Passes (S.streams self.old.stream) (S.streams self.new.stream) n cx.new.is_woken result }
         ensures registered { OnPending result (IsArmed cx.new) }

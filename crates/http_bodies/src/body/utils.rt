@@ -16,7 +16,9 @@ use std::marker::Model;
 pub fn to_bytes<B: MessageBody>(alloc: Global, body: B) -> ToBytes<B>
     ensures { result ≡ record { size = (B.gives body).size; limit = None; got = []; body = body } }
 {
-    ToBytes { gatherer: Gatherer::new(alloc, body, Option::None) }
+    ToBytes {
+        gatherer: Gatherer::new(alloc, body, Option::None),
+    }
 }
 
 impl<B: MessageBody> ToBytes<B> {
@@ -52,13 +54,18 @@ impl<B> Model for ToBytesLimited<B> {
 pub fn to_bytes_limited<B: MessageBody>(alloc: Global, body: B, limit: usize) -> ToBytesLimited<B>
     ensures { result ≡ record { size = (B.gives body).size; limit = Some limit; got = []; body = body } }
 {
-    ToBytesLimited { gatherer: Gatherer::new(alloc, body, Option::Some(limit)) }
+    ToBytesLimited {
+        gatherer: Gatherer::new(alloc, body, Option::Some(limit)),
+    }
 }
 
 impl<B: MessageBody> ToBytesLimited<B> {
     /// The bytes, once the body has ended, or the body's fault. A body whose size is none or 0 isn't polled, nor one
     /// whose size is above the limit.
-    pub fn poll(&mut self, cx: &mut Context<'_>) -> Poll<Result<Result<Bytes, BodyFault>, BodyLimitExceeded>>
+    pub fn poll(
+        &mut self,
+        cx: &mut Context<'_>,
+    ) -> Poll<Result<Result<Bytes, BodyFault>, BodyLimitExceeded>>
         ensures says { GatherSays (known B.gives self.old) (known B.gives self.new) cx.new.is_woken result }
         ensures registered { OnPending result (IsArmed cx.new) }
         ensures kept { Keeps cx.old cx.new }

@@ -33,7 +33,12 @@ pub trait PlainService<Req>: Drop {
 
     /// The answer of a call. A pending call wakes the task once it is to be polled again. What is lent has no more bytes
     /// after it than it had before and than were put back: pulls and `unread_data` keep this.
-    fn poll_call(&mut self, call: &mut Self::Call, lent: &mut Self::Lent, cx: &mut Context<'_>) -> Poll<Result<Self::Response, Self::Error>>
+    fn poll_call(
+        &mut self,
+        call: &mut Self::Call,
+        lent: &mut Self::Lent,
+        cx: &mut Context<'_>,
+    ) -> Poll<Result<Self::Response, Self::Error>>
         ensures bound { LentBound (Self.Lent.lent lent.old) (Self.Lent.lent lent.new) }
         ensures registered { OnPending result (IsArmed cx.new) }
         ensures kept { Keeps cx.old cx.new };
@@ -57,7 +62,12 @@ impl<T> CountedService<T> {
     pub fn new(inner: T) -> CountedService<T>
         ensures { result ≡ record { inner = inner; faults = 0; ready_waits = 0; call_waits = 0 } }
     {
-        CountedService { inner, faults: 0, ready_waits: 0, call_waits: 0 }
+        CountedService {
+            inner,
+            faults: 0,
+            ready_waits: 0,
+            call_waits: 0,
+        }
     }
 }
 
@@ -65,8 +75,11 @@ impl<Req: Drop, T: PlainService<Req>> Service<Req> for CountedService<T> {
     ghost use Rattle.std.specs.Prelude.{None, true};
 
     type Response = T::Response;
+
     type Error = T::Error;
+
     type Call = T::Call;
+
     type Lent = T::Lent;
 
     ghost served = { λ s. record { called = None; answered = None; faults = s.faults; ready_waits = s.ready_waits; call_waits = s.call_waits } };
@@ -93,7 +106,12 @@ impl<Req: Drop, T: PlainService<Req>> Service<Req> for CountedService<T> {
         self.inner.call(req)
     }
 
-    fn poll_call(&mut self, call: &mut T::Call, lent: &mut T::Lent, cx: &mut Context<'_>) -> Poll<Result<T::Response, T::Error>> {
+    fn poll_call(
+        &mut self,
+        call: &mut T::Call,
+        lent: &mut T::Lent,
+        cx: &mut Context<'_>,
+    ) -> Poll<Result<T::Response, T::Error>> {
         match self.inner.poll_call(call, lent, cx) {
             Poll::Pending => {
                 self.call_waits = self.call_waits.saturating_add(1);

@@ -14,8 +14,11 @@ impl<Req: Drop> Service<Req> for ExpectHandler {
     ghost use Rattle.std.specs.Prelude.{Some, None, is_some};
 
     type Response = Req;
+
     type Error = Response<BoxBody>;
+
     type Call = Option<Req>;
+
     type Lent = ();
 
     ghost served = { λ _. record { called = None; answered = None; faults = 0; ready_waits = 0; call_waits = 0 } };
@@ -34,7 +37,12 @@ impl<Req: Drop> Service<Req> for ExpectHandler {
         Some(req)
     }
 
-    fn poll_call(&mut self, call: &mut Option<Req>, _lent: &mut (), _cx: &mut Context<'_>) -> Poll<Result<Req, Response<BoxBody>>> {
+    fn poll_call(
+        &mut self,
+        call: &mut Option<Req>,
+        _lent: &mut (),
+        _cx: &mut Context<'_>,
+    ) -> Poll<Result<Req, Response<BoxBody>>> {
         match call.take() {
             Some(req) => Poll::Ready(Ok(req)),
             None => unreachable!(),

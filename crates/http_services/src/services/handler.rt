@@ -32,7 +32,11 @@ impl<H, L> FnService<H, L> {
     pub fn new(handler: H) -> FnService<H, L>
         ensures { (result.handler ≡ handler) × (result.faults ≡ 0) }
     {
-        FnService { handler, faults: 0, lent: PhantomData }
+        FnService {
+            handler,
+            faults: 0,
+            lent: PhantomData,
+        }
     }
 }
 
@@ -40,8 +44,11 @@ impl<Req: Drop, H: Handler<Req>, L: Lending> Service<Req> for FnService<H, L> {
     ghost use Rattle.std.specs.Prelude.{None, is_some};
 
     type Response = H::Response;
+
     type Error = H::Error;
+
     type Call = Option<Req>;
+
     type Lent = L;
 
     ghost served = { λ s. record { called = None; answered = None; faults = s.faults; ready_waits = 0; call_waits = 0 } };
@@ -58,8 +65,15 @@ impl<Req: Drop, H: Handler<Req>, L: Lending> Service<Req> for FnService<H, L> {
         Some(req)
     }
 
-    fn poll_call(&mut self, call: &mut Option<Req>, _lent: &mut L, _cx: &mut Context<'_>) -> Poll<Result<H::Response, H::Error>> {
-        let Some(req) = call.take() else { unreachable!() };
+    fn poll_call(
+        &mut self,
+        call: &mut Option<Req>,
+        _lent: &mut L,
+        _cx: &mut Context<'_>,
+    ) -> Poll<Result<H::Response, H::Error>> {
+        let Some(req) = call.take() else {
+            unreachable!()
+        };
         match self.handler.handle(req) {
             Ok(answer) => Poll::Ready(Ok(answer)),
             Err(error) => {

@@ -20,7 +20,11 @@ impl<M> UpgradeHandler<M> {
     pub fn new() -> UpgradeHandler<M>
         ensures { (result.faults ≡ 0) × (result.waits ≡ 0) }
     {
-        UpgradeHandler { faults: 0, waits: 0, messages: PhantomData }
+        UpgradeHandler {
+            faults: 0,
+            waits: 0,
+            messages: PhantomData,
+        }
     }
 }
 
@@ -28,8 +32,11 @@ impl<Req: Drop, M: Drop> Service<Req> for UpgradeHandler<M> {
     ghost use Rattle.std.specs.Prelude.{None, true};
 
     type Response = M;
+
     type Error = Error;
+
     type Call = ();
+
     type Lent = ();
 
     ghost served = { λ s. record { called = None; answered = None; faults = s.faults; ready_waits = 0; call_waits = s.waits } };
@@ -45,12 +52,20 @@ impl<Req: Drop, M: Drop> Service<Req> for UpgradeHandler<M> {
     fn call(&mut self, _req: Req) {}
 
     // An error comes with a count that rises, so there is none once the count stands at its end.
-    fn poll_call(&mut self, _call: &mut (), _lent: &mut (), cx: &mut Context<'_>) -> Poll<Result<M, Error>> {
+    fn poll_call(
+        &mut self,
+        _call: &mut (),
+        _lent: &mut (),
+        cx: &mut Context<'_>,
+    ) -> Poll<Result<M, Error>> {
         if self.faults == u64::MAX {
             self.waits = self.waits.saturating_add(1);
             return cx.yield_now();
         }
         self.faults += 1;
-        Poll::Ready(Err(Error { kind: Kind::Ws, cause: None }))
+        Poll::Ready(Err(Error {
+            kind: Kind::Ws,
+            cause: None,
+        }))
     }
 }

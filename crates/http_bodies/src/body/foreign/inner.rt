@@ -18,7 +18,11 @@ impl MessageBody for Infallible {
         match *self {}
     }
 
-    fn poll_next(&mut self, _alloc: Global, _cx: &mut Context<'_>) -> Poll<Option<Result<Bytes, BodyFault>>> {
+    fn poll_next(
+        &mut self,
+        _alloc: Global,
+        _cx: &mut Context<'_>,
+    ) -> Poll<Option<Result<Bytes, BodyFault>>> {
         match *self {}
     }
 
@@ -37,7 +41,11 @@ impl<B: MessageBody> MessageBody for &mut B {
         (**self).size()
     }
 
-    fn poll_next(&mut self, alloc: Global, cx: &mut Context<'_>) -> Poll<Option<Result<Bytes, BodyFault>>> {
+    fn poll_next(
+        &mut self,
+        alloc: Global,
+        cx: &mut Context<'_>,
+    ) -> Poll<Option<Result<Bytes, BodyFault>>> {
         (**self).poll_next(alloc, cx)
     }
 
@@ -59,7 +67,11 @@ impl<B: MessageBody> MessageBody for Box<B> {
         (**self).size()
     }
 
-    fn poll_next(&mut self, alloc: Global, cx: &mut Context<'_>) -> Poll<Option<Result<Bytes, BodyFault>>> {
+    fn poll_next(
+        &mut self,
+        alloc: Global,
+        cx: &mut Context<'_>,
+    ) -> Poll<Option<Result<Bytes, BodyFault>>> {
         (**self).poll_next(alloc, cx)
     }
 

@@ -42,7 +42,11 @@ impl MessageBody for BytesMut {
         BodySize::Sized(self.len() as u64)
     }
 
-    fn poll_next(&mut self, alloc: Global, _cx: &mut Context<'_>) -> Poll<Option<Result<Bytes, BodyFault>>> {
+    fn poll_next(
+        &mut self,
+        alloc: Global,
+        _cx: &mut Context<'_>,
+    ) -> Poll<Option<Result<Bytes, BodyFault>>> {
         if self.is_empty() {
             return Poll::Ready(None);
         }
@@ -70,7 +74,11 @@ impl MessageBody for Vec<u8> {
         BodySize::Sized(self.len() as u64)
     }
 
-    fn poll_next(&mut self, alloc: Global, _cx: &mut Context<'_>) -> Poll<Option<Result<Bytes, BodyFault>>> {
+    fn poll_next(
+        &mut self,
+        alloc: Global,
+        _cx: &mut Context<'_>,
+    ) -> Poll<Option<Result<Bytes, BodyFault>>> {
         if self.is_empty() {
             return Poll::Ready(None);
         }
@@ -95,7 +103,11 @@ impl MessageBody for String {
         BodySize::Sized(self.len() as u64)
     }
 
-    fn poll_next(&mut self, alloc: Global, _cx: &mut Context<'_>) -> Poll<Option<Result<Bytes, BodyFault>>> {
+    fn poll_next(
+        &mut self,
+        alloc: Global,
+        _cx: &mut Context<'_>,
+    ) -> Poll<Option<Result<Bytes, BodyFault>>> {
         if self.is_empty() {
             return Poll::Ready(None);
         }
@@ -122,7 +134,11 @@ impl MessageBody for CowSlice<'static, u8> {
         BodySize::Sized(self.len() as u64)
     }
 
-    fn poll_next(&mut self, alloc: Global, _cx: &mut Context<'_>) -> Poll<Option<Result<Bytes, BodyFault>>> {
+    fn poll_next(
+        &mut self,
+        alloc: Global,
+        _cx: &mut Context<'_>,
+    ) -> Poll<Option<Result<Bytes, BodyFault>>> {
         if self.len() == 0 {
             return Poll::Ready(None);
         }
@@ -155,7 +171,11 @@ impl MessageBody for CowStr<'static> {
         BodySize::Sized(self.len() as u64)
     }
 
-    fn poll_next(&mut self, alloc: Global, _cx: &mut Context<'_>) -> Poll<Option<Result<Bytes, BodyFault>>> {
+    fn poll_next(
+        &mut self,
+        alloc: Global,
+        _cx: &mut Context<'_>,
+    ) -> Poll<Option<Result<Bytes, BodyFault>>> {
         if self.len() == 0 {
             return Poll::Ready(None);
         }

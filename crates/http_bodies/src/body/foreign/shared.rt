@@ -16,7 +16,11 @@ impl MessageBody for () {
         BodySize::ZERO
     }
 
-    fn poll_next(&mut self, _alloc: Global, _cx: &mut Context<'_>) -> Poll<Option<Result<Bytes, BodyFault>>>
+    fn poll_next(
+        &mut self,
+        _alloc: Global,
+        _cx: &mut Context<'_>,
+    ) -> Poll<Option<Result<Bytes, BodyFault>>>
         ensures ends { result ≡ at_once [] }
         ensures kept { Keeps _cx.old _cx.new }
     {
@@ -37,7 +41,11 @@ impl MessageBody for Bytes {
         BodySize::Sized(self.len() as u64)
     }
 
-    fn poll_next(&mut self, _alloc: Global, _cx: &mut Context<'_>) -> Poll<Option<Result<Bytes, BodyFault>>>
+    fn poll_next(
+        &mut self,
+        _alloc: Global,
+        _cx: &mut Context<'_>,
+    ) -> Poll<Option<Result<Bytes, BodyFault>>>
         ensures at_once { result ≡ at_once self.old }
         ensures rest { self.new ≡ [] }
         ensures kept { Keeps _cx.old _cx.new }
@@ -62,7 +70,11 @@ impl MessageBody for &'static [u8] {
         BodySize::Sized(self.len() as u64)
     }
 
-    fn poll_next(&mut self, _alloc: Global, _cx: &mut Context<'_>) -> Poll<Option<Result<Bytes, BodyFault>>>
+    fn poll_next(
+        &mut self,
+        _alloc: Global,
+        _cx: &mut Context<'_>,
+    ) -> Poll<Option<Result<Bytes, BodyFault>>>
         ensures at_once { result ≡ at_once self.old.now }
         ensures rest { self.new.now ≡ [] }
         ensures kept { Keeps _cx.old _cx.new }
@@ -89,7 +101,11 @@ impl MessageBody for &'static str {
         BodySize::Sized(self.len() as u64)
     }
 
-    fn poll_next(&mut self, _alloc: Global, _cx: &mut Context<'_>) -> Poll<Option<Result<Bytes, BodyFault>>>
+    fn poll_next(
+        &mut self,
+        _alloc: Global,
+        _cx: &mut Context<'_>,
+    ) -> Poll<Option<Result<Bytes, BodyFault>>>
         ensures at_once { result ≡ at_once self.old.now }
         ensures rest { self.new.now ≡ [] }
         ensures kept { Keeps _cx.old _cx.new }

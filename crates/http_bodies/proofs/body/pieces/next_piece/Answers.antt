@@ -1,4 +1,4 @@
-use Rattle.std.proofs.Common.{◌≡◌, rules}
+use Rattle.std.proofs.Common.{rules}
 use Rattle.http_bodies.proofs.Pieces.{one_more}
 use Rattle.http_bodies.proofs.body.pieces.next_piece.Goals as goal
 
@@ -10,5 +10,5 @@ loop-preserved g c =
       faults = search rules;
       waits = search rules;
       takes_memory = search rules;
-      kept = search rules
+      kept = search rules;
     }

@@ -10,5 +10,5 @@ invariant-loop g l = record {
   faults : (g.S.ByteStream.streams l.fn.stream).faults ≤ (g.S.ByteStream.streams l.stream).faults;
   waits : (g.S.ByteStream.streams l.fn.stream).waits ≡ (g.S.ByteStream.streams l.stream).waits;
   takes_memory : (g.S.ByteStream.streams l.stream).takes_memory ≡ (g.S.ByteStream.streams l.fn.stream).takes_memory;
-  kept : Keeps l.fn.cx l.cx
+  kept : Keeps l.fn.cx l.cx;
 }

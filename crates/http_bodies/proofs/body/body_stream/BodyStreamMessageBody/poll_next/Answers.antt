@@ -1,4 +1,4 @@
-use Rattle.std.proofs.Common.{◌≡◌, sym, rules}
+use Rattle.std.proofs.Common.{sym, rules}
 use Rattle.http_bodies.proofs.Pieces.{as_body_says}
 use Rattle.http_bodies.proofs.body.body_stream.BodyStreamMessageBody.poll_next.Goals as goal
 

@@ -1,4 +1,4 @@
-use Rattle.std.proofs.Common.{◌≡◌, ◌∙◌, rules}
+use Rattle.std.proofs.Common.{◌∙◌, rules}
 use Rattle.http_bodies.proofs.Wholes.{gathered, came_more}
 use Rattle.http_bodies.proofs.body.gatherer.Gatherer.gather.Goals as goal
 
@@ -12,5 +12,5 @@ loop-preserved g c =
       faults = search rules;
       waits = search rules;
       left = came_more _ _ _ _ _ c.loop.invariant.left says.gives;
-      kept = search rules
+      kept = search rules;
     }

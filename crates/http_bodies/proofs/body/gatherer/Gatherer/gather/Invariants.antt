@@ -1,4 +1,4 @@
-use Rattle.std.proofs.Common.{◌≡◌, ℕ, ◌≤◌, length, List}
+use Rattle.std.proofs.Common.{◌≡◌, ◌≤◌, length, List}
 use Rattle.futures.specs.Task.{Keeps}
 use Rattle.http_bodies.specs.Told.{led_by}
 use Rattle.http_bodies.specs.Giving.{Given}
@@ -13,5 +13,5 @@ invariant-loop g l = record {
   faults : (g.B.MessageBody.gives l.fn.self.body).faults ≤ (g.B.MessageBody.gives l.self.body).faults;
   waits : (g.B.MessageBody.gives l.self.body).waits ≡ (g.B.MessageBody.gives l.fn.self.body).waits;
   left : (came : List Given) × ((g.B.MessageBody.gives l.fn.self.body).coming ≡ led_by came (g.B.MessageBody.gives l.self.body).coming) × (length came ≡ l.counter);
-  kept : Keeps l.fn.cx l.cx
+  kept : Keeps l.fn.cx l.cx;
 }
