@@ -12,7 +12,7 @@ use Rattle.h1_model.specs.Handshake as checks
 use Rattle.h1_model.specs.Handshake.{handshake_error, accept_key_of}
 use Rattle.http_map.specs.HeaderMap.{Entries, get_all}
 use Rattle.ws_session.specs.Upgrade.{SaysUpgrade, FailsWith, error_of, value_bytes}
-use Rattle.ws_session.specs.declared.handshake.HandshakeError.{HandshakeError}
+use Rattle.ws_session.specs.declared.verify.HandshakeError.{HandshakeError}
 use Rattle.ws_session.proofs.ValueLemmas.{head_values}
 use Rattle.h1_model.specs.Event as on
 use Rattle.h1_model.specs.End as ends
@@ -234,7 +234,11 @@ in_plain false unread rest plain = plain
 
 whole_plain : (body : model.BodyKind) → is_frames (whole_rest body) ≡ false
 whole_plain model.no_body = refl
-whole_plain (model.fixed_body n) = refl
+whole_plain (model.fixed_body n) = by_test (n == 0)
+  where
+    by_test : (b : Bool) → is_frames (if b then machine.no_rest else machine.fixed_rest n) ≡ false
+    by_test true = refl
+    by_test false = refl
 whole_plain model.chunked_body = refl
 whole_plain model.raw_body = refl
 

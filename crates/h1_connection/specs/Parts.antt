@@ -8,8 +8,8 @@ use Rattle.h1_model.specs.Event as on
 use Rattle.h1_model.specs.Answer.{Asked}
 use Rattle.h1_codec.specs.Meaning.{model_type, model_shape}
 use Rattle.h1_model.specs.Handshake as checks
-use Rattle.ws_session.specs.declared.handshake.HandshakeError.{HandshakeError}
-use Rattle.ws_session.specs.declared.handshake.HandshakeError.TheVariants as handshake
+use Rattle.ws_session.specs.declared.verify.HandshakeError.{HandshakeError}
+use Rattle.ws_session.specs.declared.verify.HandshakeError.TheVariants as handshake
 use Rattle.h1_machine.specs.Kept as machine
 use Rattle.h1_machine.specs.Kept.{Kept, is_free, is_nothing, is_answered, now, rest_in, unanswered, sending, answered}
 use Rattle.h1_machine.specs.Local.{closing_by}

@@ -1,7 +1,7 @@
 -- What is left of a body of which nothing was read.
 use Rattle.std.proofs.Common.{◌≡◌, ℕ, zero, suc, ◌+◌, ◌-◌, ◌<◌, Bool, true, false, List, [], ◌∷◌, length, take, drop, slice_range, nat_lt, Some, None, refl, sym, ap, ◌∙◌, inl, inr, arith, length-drop, lt-ltb, le-ltb}
-use Rattle.std.specs.Prelude.{codes, bytes_eq, unwrap_or, if◌then◌else◌}
-use Rattle.std.proofs.lemmas.Bool.{cond-true, cond-false, cases_lt, le-leb, lt-leb}
+use Rattle.std.specs.Prelude.{codes, bytes_eq, unwrap_or, ◌==◌, if◌then◌else◌}
+use Rattle.std.proofs.lemmas.Bool.{cond-true, cond-false, cases_lt, le-leb, lt-leb, ne_eqb}
 use Rattle.h1_chunks.specs.Place.{start, done, after}
 use Rattle.h1_chunks.specs.Reading.{read}
 use Rattle.h1_chunks.specs.Chunked.{Chunked, whole, unfinished, not_chunked, IsChunked}
@@ -119,6 +119,10 @@ raw_new bytes true m (b ∷ u) e =
     cond-false _ _ _ (lt-leb (length bytes) m.body_start (omega (arith, ap length e, length-drop m.body_start bytes)))
 raw_new bytes false m u e = refl
 
+-- a length above 0 is some
+some_rest : (n : ℕ) → 0 < n → (if n == 0 then no_rest else fixed_rest n) ≡ fixed_rest n
+some_rest n some = cond-false (n == 0) no_rest (fixed_rest n) (ne_eqb n 0 (λ e. omega (arith, some, e)))
+
 -- each kind of body, at its start
 pub new_rest : (bytes : List ℕ) (ended : Bool) (size : ℕ) (receiving : Bool) (m : Message) (kind : BodyKind)
     → IsBodyOf (input bytes None ended size) kind m.body_start m.body → ((n : ℕ) → kind ≡ fixed_body n → 0 < n)
@@ -128,6 +132,7 @@ new_rest bytes ended size receiving m (fixed_body n) x some =
     let more = some n refl in
     let left : m.body_start + n - m.body_start ≡ n = omega arith in
     cond-false _ _ _ (lt-leb (m.body_start + n) m.body_start (omega arith)) ∙ ap fixed_rest left ∙ sym (in_fixed ended (drop m.body_start bytes) n)
+    ∙ ap (rest_in ended (drop m.body_start bytes)) (sym (some_rest n more))
 new_rest bytes ended size receiving m chunked_body x some =
     cond-false _ _ _ (chunks_unpassed bytes ended size m x.0 x.1 x.2 x.3) ∙ none_read bytes m.body_start ∙ sym (in_chunks ended (drop m.body_start bytes))
 new_rest bytes ended size receiving m raw_body x some =

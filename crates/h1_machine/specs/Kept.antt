@@ -1,5 +1,5 @@
 -- What a connection keeps: bounded parts, each a value of the model's.
-use Rattle.std.specs.Prelude.{ℕ, Bool, true, false, not, ◌&&◌, ◌||◌, List, [], if◌then◌else◌, Option, Some, None, unwrap_or}
+use Rattle.std.specs.Prelude.{ℕ, ◌==◌, Bool, true, false, not, ◌&&◌, ◌||◌, List, [], if◌then◌else◌, Option, Some, None, unwrap_or}
 use Rattle.h1_chunks.specs.Place.{Place, start}
 use Rattle.h1_model.specs.Request.{BodyKind, no_body, fixed_body, chunked_body, raw_body, ConnectionType, Head, has_body, is_raw_kind}
 use Rattle.h1_model.specs.Answer.{Asked, asked_of, Shape}
@@ -95,7 +95,7 @@ fresh =
 -- what is left of a body of which nothing was read
 abbrev pub whole_rest : BodyKind → Rest
 whole_rest no_body = no_rest
-whole_rest (fixed_body n) = fixed_rest n
+whole_rest (fixed_body n) = if n == 0 then no_rest else fixed_rest n
 whole_rest chunked_body = chunks_rest start []
 whole_rest raw_body = raw_rest
 

@@ -2,3 +2,4 @@ pub mod FirstBytes
 pub mod GoingOn
 pub mod Refusals
 pub mod ByNext
+pub mod DecoderAnswers

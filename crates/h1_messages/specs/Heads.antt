@@ -9,7 +9,7 @@ use Rattle.h1_model.specs.RequestHead.{IsReading}
 use Rattle.h1_machine.specs.Kept.{no_rest, fixed_rest, chunks_rest, raw_rest}
 use Rattle.h1_decode.specs.HeadItem.{SaysHead}
 use Rattle.h1_decode.specs.HeadPosition.{HeadPosition, IsSeenIn}
-use Rattle.h1_decode.specs.Refusal.{Refuses}
+use Rattle.h1_decode.specs.Refusal.{Refuses, fault_of}
 use Rattle.h1_decode.specs.declared.decoder.HeadItem.{HeadItem}
 use Rattle.h1_messages.specs.declared.payload_type.PayloadType.{PayloadType}
 use Rattle.h1_messages.specs.declared.payload_type.PayloadType.TheVariants as payload
@@ -104,3 +104,15 @@ Reads search bytes heads = HasSeen search bytes → AreHeads search.limit bytes 
 -- an answered head in front of what is said
 abbrev pub given : Item → Heads → Heads
 given item heads = record heads { items = item ∷ heads.items }
+
+-- no head yet
+abbrev pub no_heads : Heads
+no_heads = record { items = []; stop = waits }
+
+-- no head, and the next one is refused for the fault that the error names
+abbrev pub Breaks : ParseError → Heads → Type 0
+Breaks error heads = heads ≡ record { items = []; stop = refused (fault_of error) }
+
+-- an error changes nothing
+abbrev pub LeftAfter : ParseError → Search → List ℕ → Search → List ℕ → Type 0
+LeftAfter error old bytes new rest = (new ≡ old) × (rest ≡ bytes)

@@ -11,8 +11,8 @@ use crate::next::{Next, find_next};
 use crate::payload_type::PayloadType;
 use bytes::{Bytes, BytesMut};
 use h1_decode::{HeadItem, HeadScanner, request_head};
-use http_framing::Decoder;
 use http_config::DEFAULT_HOLD_SIZE;
+use http_framing::Decoder;
 use http_types::ParseError;
 use std::alloc::Global;
 use std::marker::{Model, PhantomData};
@@ -70,7 +70,8 @@ impl MessageDecoder<HeadItem> {
     /// error is `NoMemory`. An error changes nothing.
     ///
     /// Behind a `None` the next call goes on in the same bytes, with any others behind them, and looks only at these.
-    /// Where other bytes stand there in place of those that it has seen, the answer says nothing.
+    /// Where other bytes stand there in place of those that it has seen, the answer says nothing. Behind a head it has
+    /// seen nothing: whatever was taken of the bytes in between, as the body, the next call finds the next head.
     pub fn decode(
         &mut self,
         src: &mut BytesMut,
@@ -84,6 +85,7 @@ impl MessageDecoder<HeadItem> {
         ensures waits { result ≡ Ok None → src.new ≡ src.old }
         ensures limit { self.new.limit ≡ self.old.limit }
         ensures all_seen { result ≡ Ok None → self.new.position.scanned ≡ length src.new.items }
+        ensures anew { IfOk result (λ answer. IfSome answer (λ _. (bytes : List ℕ) → HasSeen self.new bytes)) }
         ensures seen { OnOk result (HasSeen self.old src.old.items → (more : List ℕ) → HasSeen self.new (src.new.items ++ more)) }
         ensures err { OnErr result ((self.new ≡ self.old) × (src.new ≡ src.old)) }
     {
@@ -118,6 +120,9 @@ fn read_item(alloc: Global, piece: &[u8]) -> Result<(HeadItem, PayloadType), Par
 }
 
 impl Decoder for MessageDecoder<HeadItem> {
+    ghost use Rattle.h1_messages.specs.Heads.{no_heads, Breaks, LeftAfter};
+    ghost use Rattle.http_types.specs.declared.error.ParseError.TheVariants as errors;
+
     type Item = (HeadItem, PayloadType);
 
     type Error = ParseError;
@@ -127,6 +132,16 @@ impl Decoder for MessageDecoder<HeadItem> {
     ghost reads = { Reads };
 
     ghost given = { given };
+
+    ghost nothing = { no_heads };
+
+    ghost breaks = { Breaks };
+
+    ghost lacks = { λ error. error ≡ errors.NoMemory };
+
+    ghost seen = { HasSeen };
+
+    ghost leaves = { LeftAfter };
 
     fn decode(
         &mut self,

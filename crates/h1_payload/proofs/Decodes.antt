@@ -2,7 +2,6 @@
 use Rattle.std.proofs.Common.{◌≡◌, ℕ, Bool, false, List, ◌++◌, refl, sym, ap, ◌∙◌, subst, subst₂, ◌<◌, length}
 use Rattle.std.specs.Prelude.{Option, Some, None, Result, Ok, Err, IfOk}
 use Rattle.http_map.specs.HeaderMap.{Entries}
-use Rattle.h1_model.specs.Request.{fixed_body}
 use Rattle.h1_model.specs.Event.{Outcome}
 use Rattle.h1_machine.specs.Kept.{Rest}
 use Rattle.h1_machine.specs.Pull as pulls
@@ -10,7 +9,6 @@ use Rattle.h1_machine.specs.Pull.{IsPull}
 use Rattle.http_framing.specs.AnyPieces.{GoesOn, in_front}
 use Rattle.h1_payload.specs.Answers.{is_fault}
 use Rattle.h1_payload.specs.Fitting.{Fits, GivesSome}
-use Rattle.http_framing.specs.Kinds.{kind_of}
 use Rattle.h1_payload.specs.Rests.{IsPulled}
 use Rattle.h1_payload.specs.Decoding.{Decoding, Payload, reading_of, IsReadAs, Reads, ReadsBy, given, item_of, HasSome, IsDecodedBy, IsDecoded, IsWaiting, IsRefused}
 use Rattle.h1_payload.specs.declared.item.DecodeError.{DecodeError}
@@ -19,8 +17,6 @@ use Rattle.h1_payload.specs.declared.item.PayloadItem.{PayloadItem}
 use Rattle.h1_payload.specs.declared.item.PayloadItem.TheVariants as items
 use Rattle.h1_payload.specs.declared.pulled.Pulled.{Pulled}
 use Rattle.h1_payload.specs.declared.pulled.Pulled.TheVariants as pulled
-use Rattle.http_framing.specs.declared.body.kind.BodyKind.{BodyKind}
-use Rattle.http_framing.specs.declared.body.kind.BodyKind.TheVariants as kind
 use Rattle.h1_payload.proofs.Fitting.{a_pull, still_fits}
 use Rattle.h1_payload.proofs.Gives.{pull_gives_some, map_some}
 use Rattle.h1_payload.proofs.GoingOn.{front_of, pull_goes_on}
@@ -126,10 +122,3 @@ answered old inside bytes rest left answer result fault view fits whole pulled i
     let named : Answered inside bytes result (record { rest = left; is_broken = fault }) rest =
     subst₂ (λ r b. Answered inside bytes r (record { rest = left; is_broken = b }) rest) (sym is) (sym wrong) here in
     subst (λ d. Answered d bytes result (record { rest = left; is_broken = fault }) rest) view named
-
--- no kind but a length of 0 is a body of no bytes
-pub kind_zero : (k : BodyKind) → kind_of k ≡ fixed_body 0 → k ≡ kind.Length 0
-kind_zero kind.None e = cc
-kind_zero (kind.Length n) e = let zero : n ≡ 0 = cc in ap kind.Length zero
-kind_zero kind.Chunked e = cc
-kind_zero kind.Raw e = cc

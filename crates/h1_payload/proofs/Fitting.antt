@@ -1,7 +1,7 @@
 -- A rest that fits has a pull, and fits behind it.
-use Rattle.std.proofs.Common.{◌≡◌, ℕ, zero, suc, ◌-◌, ◌<◌, leb, Bool, true, false, List, [], ◌∷◌, ◌++◌, length, map, refl, sym, ap, ◌∙◌, subst, subst₂, arith, append-nil, append_assoc}
+use Rattle.std.proofs.Common.{◌≡◌, ℕ, zero, suc, ◌-◌, ◌<◌, leb, Bool, true, false, List, [], ◌∷◌, ◌++◌, length, map, refl, sym, ap, ◌∙◌, subst, subst₂, arith, append-nil, append_assoc, ◌==◌}
 use Rattle.std.specs.List.{AllByRecursion}
-use Rattle.std.proofs.lemmas.Bool.{cond_both, leb-false}
+use Rattle.std.proofs.lemmas.Bool.{cond_both, cond-false, leb-false, ne_eqb}
 use Rattle.std.proofs.lemmas.List.{append_cancel_right}
 use Rattle.h1_chunks.specs.ChunkedText.{Trailer, IsTrailer, content, section_text}
 use Rattle.h1_chunks.specs.Place.{Place, start, broken, after}
@@ -153,13 +153,11 @@ still_fits is_ended (fixed_rest n) bytes p fits x = subst (λ (q : pulls.Pulled)
 still_fits is_ended (chunks_rest place section) bytes p fits x = chunks_fit is_ended place section bytes (take_next place bytes).next p fits refl x
 still_fits is_ended (frames_rest under_way limit) bytes p fits x = absurd fits
 
--- so does a whole body, but one of no bytes
-pub whole_fits : (kind : BodyKind) → (kind ≡ fixed_body 0 → ⊥) → Fits (whole_rest kind)
-whole_fits no_body other = tt
-whole_fits (fixed_body n) other = some n other
-  where
-    some : (n : ℕ) → (fixed_body n ≡ fixed_body 0 → ⊥) → 0 < n
-    some zero other = absurd (other refl)
-    some (suc n) other = omega arith
-whole_fits chunked_body other = lines_start
-whole_fits raw_body other = tt
+-- so does a whole body
+pub whole_fits : (kind : BodyKind) → Fits (whole_rest kind)
+whole_fits no_body = tt
+whole_fits (fixed_body zero) = tt
+whole_fits (fixed_body (suc n)) =
+    subst Fits (sym (cond-false (suc n == 0) no_rest (fixed_rest (suc n)) (ne_eqb (suc n) 0 (λ e. omega (arith, e))))) (omega arith)
+whole_fits chunked_body = lines_start
+whole_fits raw_body = tt

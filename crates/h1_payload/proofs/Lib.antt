@@ -12,3 +12,4 @@ pub mod Stopping
 pub mod Decodes
 pub mod Whole
 pub mod Gives
+pub mod DecoderAnswers

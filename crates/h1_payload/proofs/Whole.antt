@@ -1,5 +1,6 @@
 -- What a decoder is told by all bytes.
-use Rattle.std.proofs.Common.{◌≡◌, ℕ, leb, cond, Bool, true, false, List, [], ◌++◌, length, drop, map, refl, sym, ap, ◌∙◌, subst}
+use Rattle.std.proofs.Common.{◌≡◌, ℕ, zero, suc, leb, cond, Bool, true, false, List, [], ◌++◌, length, drop, map, refl, sym, ap, ◌∙◌, subst, arith, ◌==◌}
+use Rattle.std.proofs.lemmas.Bool.{cond-true, cond-false, le-leb, ne_eqb}
 use Rattle.std.specs.List.{AllByRecursion}
 use Rattle.h1_chunks.specs.ChunkedText.{Trailer, IsTrailer, ChunkedText, IsChunkedText, chunked_text, section_text}
 use Rattle.h1_chunks.specs.Place.{start}
@@ -8,7 +9,8 @@ use Rattle.h1_chunks.proofs.Complete.{text_read}
 use Rattle.h1_chunks.proofs.Trailers.{section_tells}
 use Rattle.http_map.specs.HeaderMap.{Entries}
 use Rattle.h1_model.specs.Parse.{trailer_header}
-use Rattle.h1_machine.specs.Kept.{Rest, no_rest, raw_rest, fixed_rest, chunks_rest, frames_rest}
+use Rattle.h1_model.specs.Request.{fixed_body}
+use Rattle.h1_machine.specs.Kept.{Rest, no_rest, raw_rest, fixed_rest, chunks_rest, frames_rest, whole_rest}
 use Rattle.http_framing.specs.AnyPieces.{Fed, AreFed, LastReads, all_told, all_came}
 use Rattle.http_framing.proofs.AnyPieces.{pieces_are_whole}
 use Rattle.h1_payload.specs.HeaderMaps.{header_map}
@@ -113,13 +115,22 @@ length_by n bytes p x =
     told_none (ends_before rest) entries y =
         same_trailers [] entries [] y (record { lines = []; valid = tt; spelled = refl; entries_are = refl })
 
-pub length_says : (n : ℕ) (bytes : List ℕ) (p : Payload) → Reads (record { rest = fixed_rest n; is_broken = false }) bytes p → p ≡ length_payload n bytes
-length_says n bytes p x = length_by n bytes p x
+-- a length of 0 says what no body does
+of_length : (n : ℕ) (bytes : List ℕ) → reading_of (whole_rest (fixed_body n)) bytes ≡ reading_of (fixed_rest n) bytes
+of_length zero bytes =
+    ap {B = Reading} (λ (e : Ending). record { body = []; trailers = []; ending = e })
+    (sym (cond-true (leb 0 (length bytes)) (ends_before bytes) goes_on (le-leb 0 (length bytes) (omega arith))))
+of_length (suc n) bytes =
+    ap (λ r. reading_of r bytes) (cond-false (suc n == 0) no_rest (fixed_rest (suc n)) (ne_eqb (suc n) 0 (λ e. omega (arith, e))))
+
+pub length_says : (n : ℕ) (bytes : List ℕ) (p : Payload) → Reads (record { rest = whole_rest (fixed_body n); is_broken = false }) bytes p
+    → p ≡ length_payload n bytes
+length_says n bytes p x = length_by n bytes p (subst (λ r. IsReadAs r p) (of_length n bytes) x)
 
 pub pieces_of_length : (n : ℕ) (calls : List (Fed Decoding PayloadItem)) (z : List ℕ) (p : Payload)
-    → AreFed Reads given (record { rest = fixed_rest n; is_broken = false }) [] calls
-    → LastReads Reads given (record { rest = fixed_rest n; is_broken = false }) [] calls z p
+    → AreFed Reads given (record { rest = whole_rest (fixed_body n); is_broken = false }) [] calls
+    → LastReads Reads given (record { rest = whole_rest (fixed_body n); is_broken = false }) [] calls z p
     → all_told Reads given calls p ≡ length_payload n (all_came calls ++ z)
 pieces_of_length n calls z p fed last =
     length_says n (all_came calls ++ z) (all_told Reads given calls p)
-    (pieces_are_whole Reads given (record { rest = fixed_rest n; is_broken = false }) [] calls z p fed last)
+    (pieces_are_whole Reads given (record { rest = whole_rest (fixed_body n); is_broken = false }) [] calls z p fed last)

@@ -113,6 +113,19 @@ IsWaiting d bytes = (p : Payload) → Reads d bytes p → p ≡ no_payload goes_
 abbrev pub IsRefused : Decoding → List ℕ → Type 0
 IsRefused d bytes = (z : List ℕ) (p : Payload) → Reads d (bytes ++ z) p → p ≡ no_payload is_broken
 
+-- no byte of the body yet, nor its end
+abbrev pub waiting_payload : Payload
+waiting_payload = no_payload goes_on
+
+-- the error says that the body is broken
+abbrev pub Breaks : DecodeError → Payload → Type 0
+Breaks error p = (error ≡ Invalid) × (p ≡ no_payload is_broken)
+
+-- after an error the bytes stay: a broken body stays broken, and where memory ran out the decoder is as before
+abbrev pub LeftAfter : DecodeError → Decoding → List ℕ → Decoding → List ℕ → Type 0
+LeftAfter Invalid old bytes new rest = (new.is_broken ≡ true) × (rest ≡ bytes)
+LeftAfter NoMemory old bytes new rest = (new ≡ old) × (rest ≡ bytes)
+
 -- what the text of a body in chunks says, in front of these bytes
 abbrev pub chunked_payload : ChunkedText → List ℕ → Payload
 chunked_payload t rest =

@@ -42,9 +42,6 @@ impl PayloadDecoder {
     pub fn length(x: u64) -> Self
         ensures { result ≡ record { rest = (if x == 0 then no_rest else fixed_rest x); is_broken = false } }
     {
-        if x == 0 {
-            return PayloadDecoder::whole(BodyKind::None);
-        }
         PayloadDecoder::whole(BodyKind::Length(x))
     }
 
@@ -63,7 +60,6 @@ impl PayloadDecoder {
     }
 
     fn whole(kind: BodyKind) -> Self
-        requires { ¬ (kind ≡ BodyKind.Length 0) }
         ensures { result ≡ record { rest = whole_rest (kind_of kind); is_broken = false } }
     {
         PayloadDecoder {
@@ -135,6 +131,10 @@ fn item_of(answer: Pulled) -> Result<Option<PayloadItem>, DecodeError>
 }
 
 impl Decoder for PayloadDecoder {
+    ghost use Rattle.std.specs.Prelude.{◌≡◌, ⊤};
+    ghost use Rattle.h1_payload.specs.Decoding.{waiting_payload, Breaks, LeftAfter};
+    ghost use Rattle.h1_payload.specs.declared.item.DecodeError.TheVariants as errors;
+
     type Item = PayloadItem;
 
     type Error = DecodeError;
@@ -144,6 +144,16 @@ impl Decoder for PayloadDecoder {
     ghost reads = { Reads };
 
     ghost given = { given };
+
+    ghost nothing = { waiting_payload };
+
+    ghost breaks = { Breaks };
+
+    ghost lacks = { λ error. error ≡ errors.NoMemory };
+
+    ghost seen = { λ _ _. ⊤ };
+
+    ghost leaves = { LeftAfter };
 
     fn decode(&mut self, src: &mut BytesMut) -> Result<Option<PayloadItem>, DecodeError> {
         PayloadDecoder::decode(self, src)

@@ -1,6 +1,8 @@
 //! What a payload decoder answers.
+ghost use Rattle.std.specs.Prelude.{◌≡◌, IfOk};
+
 use bytes::Bytes;
-use http_map::HeaderMap;
+use http_map::{HeaderMap, NoMemory};
 use thiserror::Error;
 
 /// A piece of a body.
@@ -14,6 +16,27 @@ pub enum PayloadItem {
 
     /// The body has ended.
     Eof,
+}
+
+impl PayloadItem {
+    /// An equal piece, as `clone` gives it too. A chunk's bytes are shared.
+    pub fn copy(&self) -> Result<PayloadItem, NoMemory>
+        ensures { IfOk result (λ copy. copy ≡ self.now) }
+    {
+        match self {
+            PayloadItem::Chunk(bytes) => Ok(PayloadItem::Chunk(bytes.clone()?)),
+            PayloadItem::Trailers(trailers) => Ok(PayloadItem::Trailers(trailers.copy()?)),
+            PayloadItem::Eof => Ok(PayloadItem::Eof),
+        }
+    }
+}
+
+impl Clone for PayloadItem {
+    ghost is_clone = { λ item copy. copy ≡ item };
+
+    fn clone(&self) -> Result<PayloadItem, NoMemory> {
+        self.copy()
+    }
 }
 
 /// Why bytes give no piece of a body.

@@ -6,15 +6,15 @@ ghost use Rattle.h1_machine.specs.Pull as pulls;
 ghost use Rattle.h1_machine.specs.Pull.{IsPull};
 ghost use Rattle.h1_chunks.specs.ChunkedText.{ChunkedText, IsChunkedText, chunked_text};
 ghost use Rattle.h1_chunks.specs.Place.{start};
-ghost use Rattle.h1_machine.specs.Kept.{fixed_rest, chunks_rest};
+ghost use Rattle.h1_machine.specs.Kept.{chunks_rest};
 ghost use Rattle.http_framing.specs.AnyPieces.{Fed, AreFed, LastReads, all_told, all_came};
 ghost use Rattle.h1_payload.specs.Decoding.{Decoding, Payload, Reads, given, chunked_payload, length_payload};
 ghost use Rattle.h1_payload.specs.declared.item.PayloadItem.{PayloadItem};
 ghost use Rattle.h1_payload.specs.Fitting.{Fits, GivesSome};
 
-/// A whole body fits, unless it is one of no bytes; and behind a pull what is left fits as well.
+/// A whole body fits, and behind a pull what is left fits as well.
 pub fn rests_fit()
-    ensures whole { (kind : BodyKind) → ¬ (kind ≡ fixed_body 0) → Fits (whole_rest kind) }
+    ensures whole { (kind : BodyKind) → Fits (whole_rest kind) }
     ensures pulled { (is_ended : Bool) (rest : Rest) (bytes : List ℕ) (p : pulls.Pulled) → Fits rest → IsPull is_ended rest bytes p → Fits p.rest }
 {}
 
@@ -47,7 +47,7 @@ pub fn chunks_are_given()
 /// behind them.
 pub fn a_length_is_given()
     ensures { (n : ℕ) (calls : List (Fed Decoding PayloadItem)) (z : List ℕ) (p : Payload)
-        → AreFed Reads given (record { rest = fixed_rest n; is_broken = false }) [] calls
-        → LastReads Reads given (record { rest = fixed_rest n; is_broken = false }) [] calls z p
+        → AreFed Reads given (record { rest = whole_rest (fixed_body n); is_broken = false }) [] calls
+        → LastReads Reads given (record { rest = whole_rest (fixed_body n); is_broken = false }) [] calls z p
         → all_told Reads given calls p ≡ length_payload n (all_came calls ++ z) }
 {}

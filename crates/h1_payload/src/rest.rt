@@ -70,12 +70,12 @@ impl Model for Rest {
 }
 
 impl Rest {
-    /// All of a body of this kind. It takes no memory.
+    /// All of a body of this kind: nothing is left of one of 0 bytes. It takes no memory.
     pub fn whole(kind: BodyKind) -> Rest
         ensures { result ≡ whole_rest (kind_of kind) }
     {
         let left = match kind {
-            BodyKind::None => Left::Nothing,
+            BodyKind::None | BodyKind::Length(0) => Left::Nothing,
             BodyKind::Length(len) => Left::Fixed(len),
             BodyKind::Chunked => Left::Chunks(ChunkReader::new()),
             BodyKind::Raw => Left::Raw,

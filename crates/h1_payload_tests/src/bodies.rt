@@ -10,8 +10,8 @@ use std::test::Fail;
 /// The most answers that are asked for behind a piece.
 const MAX_ANSWERS: u32 = 256;
 
-// What is told of the pieces: `[bytes]` for a chunk, `name=value;` for each trailer, `.` for the end, `!` for a body that is
-// broken, and what is left of the bytes behind these.
+// What a body gives: `[bytes]` for a chunk, `name=value;` for each trailer, `.` for the end, `!` for a body that is broken,
+// and then the bytes that are left.
 fn told(
     alloc: Global,
     mut decoder: PayloadDecoder,
@@ -64,120 +64,6 @@ fn log_item(log: &mut Vec<u8>, item: PayloadItem) -> Result<bool, AllocError> {
             Ok(true)
         }
     }
-}
-
-// What is told of the bytes, which come one by one.
-fn told_bytewise(
-    alloc: Global,
-    decoder: PayloadDecoder,
-    bytes: &[u8],
-) -> Result<Vec<u8>, AllocError> {
-    let mut pieces = Vec::new(alloc);
-    for i in 0..bytes.len() {
-        pieces.push(&bytes[i..i + 1])?;
-    }
-    told(alloc, decoder, &pieces)
-}
-
-#[test]
-fn chunks_are_read(rt: HostRuntime) -> Result<(), Fail> {
-    let rows: [(&[u8], &[u8]); 12] = [
-        (b"4\r\ndata\r\n0\r\n\r\n", b"[data]."),
-        (b"4\r\ndata\r\n0\r\n\r\nGET", b"[data].GET"),
-        (
-            b"4;name=value\r\ndata\r\n2 \t\r\n12\r\n0\r\n\r\n",
-            b"[data][12].",
-        ),
-        (b"00A\r\n0123456789\r\n\r\n\r\n", b"[0123456789]."),
-        (b"4\r\ndata\r\n0\r\nx-sum: 9\r\n\r\n", b"[data]x-sum=9;."),
-        (b"0\r\nA: 1\r\nb:2 \r\na:\r\n\r\n", b"a=1;a=;b=2;."),
-        (b"g", b"!g"),
-        (b"4\ndata", b"!4\ndata"),
-        (b"fffffffffffffffff", b"!fffffffffffffffff"),
-        (b"0\r\n x: 1\r\n\r\n", b"!0\r\n x: 1\r\n\r\n"),
-        (b"0\r\na b: 1\r\n\r\n", b"!0\r\na b: 1\r\n\r\n"),
-        (b"1\r\naX", b"[a]!X"),
-    ];
-    for (bytes, want) in rows {
-        let log = told(rt.alloc(), PayloadDecoder::chunked(), &[bytes])?;
-        assert!(rt; log.as_slice() == want);
-    }
-    Ok(())
-}
-
-#[test]
-fn chunks_are_read_byte_by_byte(rt: HostRuntime) -> Result<(), Fail> {
-    let rows: [(&[u8], &[u8]); 3] = [
-        (b"4\r\ndata\r\n0\r\n\r\nG", b"[d][a][t][a]..G"),
-        (
-            b"2;x\r\nab\r\n0\r\nx-sum: 9\r\nX-Sum:10\r\n\r\n",
-            b"[a][b]x-sum=9;x-sum=10;.",
-        ),
-        (b"1\r\naX", b"[a]!X"),
-    ];
-    for (bytes, want) in rows {
-        let log = told_bytewise(rt.alloc(), PayloadDecoder::chunked(), bytes)?;
-        assert!(rt; log.as_slice() == want);
-    }
-    Ok(())
-}
-
-#[test]
-fn other_bodies_are_read(rt: HostRuntime) -> Result<(), Fail> {
-    let pieces: [&[u8]; 2] = [b"ab", b"cd"];
-    let log = told(rt.alloc(), PayloadDecoder::length(3), &pieces)?;
-    assert!(rt; log.as_slice() == b"[ab][c].d".as_slice());
-    let log = told(rt.alloc(), PayloadDecoder::length(0), &pieces)?;
-    assert!(rt; log.as_slice() == b"..abcd".as_slice());
-    let log = told(rt.alloc(), PayloadDecoder::eof(), &pieces)?;
-    assert!(rt; log.as_slice() == b"[ab][cd]".as_slice());
-    Ok(())
-}
-
-// A body in chunks that has only this many times the trailer line.
-fn trailer_lines(alloc: Global, count: u32, line: &[u8]) -> Result<Vec<u8>, AllocError> {
-    let mut text = Vec::from_slice(alloc, b"0\r\n")?;
-    for _ in 0..count {
-        text.extend_from_slice(line)?;
-    }
-    text.extend_from_slice(b"\r\n")?;
-    Ok(text)
-}
-
-// What is told of a body with that many of these lines.
-fn told_of_lines(alloc: Global, count: u32, line: &[u8]) -> Result<Vec<u8>, AllocError> {
-    let text = trailer_lines(alloc, count, line)?;
-    told(alloc, PayloadDecoder::chunked(), &[text.as_slice()])
-}
-
-// A trailer line whose value has this many bytes.
-fn long_line(alloc: Global, len: usize) -> Result<Vec<u8>, AllocError> {
-    let mut value = Vec::new(alloc);
-    value.resize(len, b'v')?;
-    let mut line = Vec::from_slice(alloc, b"a:")?;
-    line.extend_from_slice(value.as_slice())?;
-    line.extend_from_slice(b"\r\n")?;
-    Ok(line)
-}
-
-#[test]
-fn sixty_four_lines_are_read(rt: HostRuntime) -> Result<(), Fail> {
-    let log = told_of_lines(rt.alloc(), 64, b"a:b\r\n")?;
-    assert!(rt; log.len() == 64 * 4 + 1);
-    let log = told_of_lines(rt.alloc(), 65, b"a:b\r\n")?;
-    assert!(rt; log.first() == Some(&b'!'));
-    Ok(())
-}
-
-#[test]
-fn a_line_of_8192_bytes_is_read(rt: HostRuntime) -> Result<(), Fail> {
-    let longest = long_line(rt.alloc(), 8188)?;
-    let log = told_of_lines(rt.alloc(), 1, longest.as_slice())?;
-    assert!(rt; log.len() == 2 + 8188 + 2);
-    let longer = long_line(rt.alloc(), 8189)?;
-    let log = told_of_lines(rt.alloc(), 1, longer.as_slice())?;
-    assert!(rt; log.first() == Some(&b'!'));
-    Ok(())
 }
 
 #[test]

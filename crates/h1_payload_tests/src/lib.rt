@@ -1,8 +1,6 @@
-//! Tests of bodies and of messages, through what `h1_payload` and `h1_messages` make public: vectors from outside, and
-//! that a call which may want memory has it where there is some.
+//! Tests of bodies, through what `h1_payload` makes public, that need code: pulls, steps of one byte, and copies. What is
+//! read of bytes are vectors of `message_vectors`.
 #![tactic(auto)]
 
 #[cfg(test)]
 mod bodies;
-#[cfg(test)]
-mod messages;

@@ -13,6 +13,10 @@ module _ {D I R : Type 0} (reads : D → List ℕ → R → Type 0) (given : I �
   in_front None r = r
   in_front (Some item) r = given item r
 
+-- whatever the bytes say from where the decoder stands, this holds of it
+abbrev pub OnlySays : {D R : Type 0} → (D → List ℕ → R → Type 0) → D → List ℕ → (R → Type 0) → Type 0
+OnlySays {D} {R} reads d bytes P = (said : R) → reads d bytes said → P said
+
 -- a call of a decoder: the bytes that had come since the one before, the answer, and the decoder and bytes it left
 pub record Fed (D I : Type 0) : Type 0 where
   pub came : List ℕ

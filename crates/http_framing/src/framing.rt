@@ -1,13 +1,14 @@
 //! Items from bytes, and items into bytes.
-ghost use Rattle.std.specs.Prelude.{◌≡◌, ◌++◌, ℕ, List, IfOk, OnOk, OnErr};
-ghost use Rattle.http_framing.specs.AnyPieces.{GoesOn, in_front, Fed, AreFed, LastReads, all_told, all_came};
+ghost use Rattle.std.specs.Prelude.{◌≡◌, ◌++◌, ℕ, List, Ok, None, IfOk, IfErr, OnOk, OnErr};
+ghost use Rattle.http_framing.specs.AnyPieces.{GoesOn, OnlySays, in_front, Fed, AreFed, LastReads, all_told, all_came};
 
 use bytes::BytesMut;
 
 /// Makes items of bytes that come in pieces.
 ///
 /// What bytes say to a decoder, from where it stands, is a relation that each decoder defines. An answer goes on from
-/// it: whatever follows the rest, the new decoder reads it as the old one does behind all bytes, but for the item.
+/// it: whatever follows the rest, the new decoder reads it as the old one does behind all bytes, but for the item. No
+/// item is answered exactly where the bytes hold none, and an error where they are refused, or where memory ran out.
 pub trait Decoder {
     /// What is answered.
     type Item: Drop;
@@ -24,9 +25,31 @@ pub trait Decoder {
     /// What is said, with an item in front.
     ghost given: { Self.Item → Said → Said };
 
+    /// What is said where the bytes hold no item yet, and nothing is wrong with them.
+    ghost nothing: { Said };
+
+    /// What is said where this error refuses the bytes.
+    ghost breaks: { Self.Error → Said → Type 0 };
+
+    /// The error says that memory ran out.
+    ghost lacks: { Self.Error → Type 0 };
+
+    /// The bytes begin with those that the decoder has looked at and not taken: these it may be given.
+    ghost seen: { Self → List ℕ → Type 0 };
+
+    /// After this error, decoder and bytes that were so are left so.
+    ghost leaves: { Self.Error → Self → List ℕ → Self → List ℕ → Type 0 };
+
     /// The next item of the bytes, once it is there. What it passed is taken off the buffer's front.
+    ///
+    /// Where the bytes are others than those that an earlier call left, `None` and an error say nothing of them.
     fn decode(&mut self, src: &mut BytesMut) -> Result<Option<Self::Item>, Self::Error>
-        ensures { IfOk result (λ answer. GoesOn reads given self.old src.old.items (in_front reads given answer) self.new src.new.items) };
+        ensures goes_on { IfOk result (λ answer. GoesOn reads given self.old src.old.items (in_front reads given answer) self.new src.new.items) }
+        ensures waiting { result ≡ Ok None → seen self.old src.old.items → OnlySays reads self.old src.old.items (λ said. said ≡ nothing) }
+        ensures refused { IfErr result (λ e. ¬ (lacks e) → seen self.old src.old.items → OnlySays reads self.old src.old.items (breaks e)) }
+        ensures lacking { IfErr result (λ e. lacks e → (self.new ≡ self.old) × (src.new.items ≡ src.old.items)) }
+        ensures left { IfErr result (λ e. leaves e self.old src.old.items self.new src.new.items) }
+        ensures seen { OnOk result (seen self.old src.old.items → (more : List ℕ) → seen self.new (src.new.items ++ more)) };
 }
 
 /// Makes bytes of items.

@@ -11,3 +11,4 @@ pub mod TakeLemmas
 pub mod PieceLemmas
 pub mod PlaceLemmas
 pub mod ErrorLemmas
+pub mod AnswerLemmas

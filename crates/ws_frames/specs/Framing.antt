@@ -1,15 +1,17 @@
 -- What bytes say to a codec, and the text that one writes.
-use Rattle.std.specs.Prelude.{◌≡◌, ℕ, List, ◌∷◌, Option, None}
+use Rattle.std.specs.Prelude.{◌≡◌, ℕ, List, [], ◌∷◌, Option, Some, None}
 use Rattle.rand_core.specs.Stream.{Stream}
 use Rattle.h1_model.specs.Frame as model
-use Rattle.h1_model.specs.FrameText.{send_error}
+use Rattle.h1_model.specs.FrameText.{front_frame, send_error}
+use Rattle.ws_frames.specs.declared.error.ProtocolError.{ProtocolError}
 use Rattle.ws_frames.specs.declared.message.Frame.{Frame}
 use Rattle.ws_frames.specs.declared.message.Message.{Message}
 use Rattle.ws_frames.specs.declared.codec.Codec.{Codec}
-use Rattle.ws_frames.specs.Parsed.{late_reader}
+use Rattle.ws_frames.specs.Parsed.{late_reader, parsed}
+use Rattle.ws_frames.specs.Refusal.{refusal}
 use Rattle.ws_frames.specs.Pieces.{AreFrames}
 use Rattle.ws_frames.specs.Codec.{frame_says}
-use Rattle.ws_frames.specs.CodecState.{codec_server, codec_limit, codec_reading, codec_sending, codec_words}
+use Rattle.ws_frames.specs.CodecState.{codec_server, codec_limit, codec_reading, codec_sending, codec_words, cost, Failed}
 use Rattle.ws_frames.specs.Sent.{message_says, message_written, mask_drawn, sending_after, words_after, with_sending}
 
 -- frames, and the rule that what stands behind them breaks, or none
@@ -25,6 +27,21 @@ Reads codec bytes said =
 -- a frame in front of what is said
 abbrev pub given : Frame → Frames → Frames
 given frame said = record said { frames = frame_says frame ∷ said.frames }
+
+-- no frame yet, and no broken rule
+abbrev pub no_frames : Frames
+no_frames = record { frames = []; fail = None }
+
+-- no frame, and the rule that the error names is broken
+abbrev pub Breaks : ProtocolError → Frames → Type 0
+Breaks error said = (rule : model.ProtocolError) × (said.frames ≡ []) × (said.fail ≡ Some rule) × (error ≡ refusal rule)
+
+-- after an error the codec is as before; a frame that breaks a rule is dropped, if it is whole, and nothing else
+abbrev pub LeftAfter : {R : Type 0} → ProtocolError → Codec R → List ℕ → Codec R → List ℕ → Type 0
+LeftAfter error old bytes new rest =
+    (new ≡ old)
+    × Failed (front_frame (late_reader (codec_server old) (codec_limit old)) (codec_reading old) bytes) error
+    (cost (parsed (codec_server old) (codec_limit old) bytes)) bytes rest
 
 -- from where the codec stands a message may be sent, has this text, and leaves the codec so
 abbrev pub Writes : {R : Type 0} → (R → Stream) → Codec R → Message → List ℕ → Codec R → Type 0

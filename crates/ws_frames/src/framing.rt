@@ -7,7 +7,9 @@ use http_framing::{Decoder, Encoder};
 use rand_core::Rng;
 
 impl<R> Decoder for Codec<R> {
-    ghost use Rattle.ws_frames.specs.Framing.{Frames, Reads, given};
+    ghost use Rattle.std.specs.Prelude.{◌≡◌, ⊤};
+    ghost use Rattle.ws_frames.specs.Framing.{Frames, Reads, given, no_frames, Breaks, LeftAfter};
+    ghost use Rattle.ws_frames.specs.declared.error.ProtocolError.TheVariants as errors;
 
     type Item = Frame;
 
@@ -18,6 +20,16 @@ impl<R> Decoder for Codec<R> {
     ghost reads = { Reads };
 
     ghost given = { given };
+
+    ghost nothing = { no_frames };
+
+    ghost breaks = { Breaks };
+
+    ghost lacks = { λ error. error ≡ errors.NoMemory };
+
+    ghost seen = { λ _ _. ⊤ };
+
+    ghost leaves = { LeftAfter };
 
     fn decode(&mut self, src: &mut BytesMut) -> Result<Option<Frame>, ProtocolError> {
         let alloc = *src.allocator();

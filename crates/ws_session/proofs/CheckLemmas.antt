@@ -8,7 +8,7 @@ use Rattle.h1_model.specs.Request.{Head}
 use Rattle.h1_model.specs.LengthTable.{values_of}
 use Rattle.h1_model.specs.Handshake as model
 use Rattle.h1_model.specs.Handshake.{handshake_error, has_word, first_has_word, version_error, key_error, key_of}
-use Rattle.ws_session.specs.declared.handshake.HandshakeError.{HandshakeError}
+use Rattle.ws_session.specs.declared.verify.HandshakeError.{HandshakeError}
 use Rattle.ws_session.specs.Upgrade.{value_bytes, IsFirst, is_spoken, error_of, FailsWith}
 
 -- the first value of a map is the first of a head

@@ -1,1 +1,4 @@
 pub mod Upgrade
+pub mod Session
+pub mod Answers
+pub mod Causes

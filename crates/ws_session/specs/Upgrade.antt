@@ -1,15 +1,15 @@
 -- What a request says of an upgrade, and the checks that it fails (RFC 6455, section 4.2.1).
-use Rattle.std.specs.Prelude.{◌≡◌, ℕ, Bool, true, false, ◌&&◌, ◌||◌, List, [], ◌∷◌, map, bytes_eq, codes, Option, Some, None, Result, Ok, Err}
+use Rattle.std.specs.Prelude.{◌≡◌, ℕ, Bool, true, false, ◌&&◌, ◌||◌, List, [], ◌∷◌, map, flat_map, bytes_eq, codes, Option, Some, None, Result, Ok, Err}
 use Rattle.std.specs.Borrow.{Bor}
 use Rattle.http_header.specs.Token.{lowercase}
 use Rattle.http_header.specs.FieldValue.{FieldValue}
-use Rattle.http_map.specs.HeaderMap.{get_all}
+use Rattle.http_map.specs.HeaderMap.{Entry, get_all}
 use Rattle.http_types.specs.declared.requests.head.RequestHead.{RequestHead}
-use Rattle.h1_model.specs.Request.{Head}
+use Rattle.h1_model.specs.Request.{Header, Head, no_body, keep_alive}
 use Rattle.h1_model.specs.LengthTable.{values_of}
 use Rattle.h1_model.specs.Handshake as model
-use Rattle.ws_session.specs.declared.handshake.HandshakeError.{HandshakeError}
-use Rattle.ws_session.specs.declared.handshake.HandshakeError.TheVariants.{GetMethodRequired, NoWebsocketUpgrade, NoConnectionUpgrade, NoVersionHeader, UnsupportedVersion, BadWebsocketKey}
+use Rattle.ws_session.specs.declared.verify.HandshakeError.{HandshakeError}
+use Rattle.ws_session.specs.declared.verify.HandshakeError.TheVariants.{GetMethodRequired, NoWebsocketUpgrade, NoConnectionUpgrade, NoVersionHeader, UnsupportedVersion, BadWebsocketKey}
 
 -- the bytes of values
 abbrev pub value_bytes : List FieldValue → List (List ℕ)
@@ -19,6 +19,23 @@ value_bytes values = map (λ v. v.bytes) values
 pub record SaysUpgrade (request : RequestHead) (h : Head) : Type 0 where
   pub method : request.method ≡ h.method
   pub values : (name : List ℕ) → value_bytes (get_all request.headers name) ≡ values_of name h.headers
+
+-- the lines under a name of a map
+abbrev pub lines_of : Entry → List Header
+lines_of entry = map (λ value. record { name = entry.0; value = value.bytes }) entry.1
+
+-- The head that a request says by itself, also one that was made by hand: its method, and its headers name by name. No
+-- check looks at the other parts.
+abbrev pub head_said : RequestHead → Head
+head_said request = record {
+  method = request.method;
+  target = [];
+  minor = 1;
+  headers = flat_map lines_of request.headers;
+  body = no_body;
+  connection = keep_alive;
+  expects = false;
+}
 
 -- the first value, if there is one
 abbrev pub IsFirst : Option (Bor FieldValue) → List (List ℕ) → Type 0

@@ -12,12 +12,16 @@
 //! ```
 #![tactic(auto)]
 
-mod handshake;
+mod answer;
 mod laws;
+mod session;
+mod verify;
 mod word;
 
-pub use handshake::{HandshakeError, HandshakeFault, accept_key_of, verify_handshake};
+pub use answer::{error_response, handshake, handshake_response};
 pub use laws::heads_say_their_upgrade;
+pub use session::Session;
+pub use verify::{HandshakeError, HandshakeFault, accept_key_of, verify_handshake};
 
 /// The allocator had no memory.
 pub type NoMemory = std::alloc::AllocError;

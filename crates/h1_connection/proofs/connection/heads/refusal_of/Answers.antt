@@ -9,8 +9,8 @@ returns-then-not-is_raw c = λ h says. no_refusal h (sym (c.is_raw.ensures h say
 
 pub returns-in-Ok : goal.returns-in-Ok
 returns-in-Ok c = λ h says.
-    sym (raw_refusal h (sym (c.is_raw.ensures h says) ∙ c.if-not-is_raw.false) ∙ c.in-Ok.ensures h (says_upgrade c.args.item.now h says))
+    sym (raw_refusal h (sym (c.is_raw.ensures h says) ∙ c.if-not-is_raw.false) ∙ c.in-Ok.ensures.read h (says_upgrade c.args.item.now h says))
 
 pub returns-in-Err : goal.returns-in-Err
 returns-in-Err c = λ h says.
-    fails_with c.in-Err.error _ (c.in-Err.ensures h (says_upgrade c.args.item.now h says)) ∙ sym (raw_refusal h (sym (c.is_raw.ensures h says) ∙ c.if-not-is_raw.false))
+    fails_with c.in-Err.error _ (c.in-Err.ensures.read h (says_upgrade c.args.item.now h says)) ∙ sym (raw_refusal h (sym (c.is_raw.ensures h says) ∙ c.if-not-is_raw.false))

@@ -1,4 +1,5 @@
 use Rattle.std.proofs.Common.{false, refl, ◌∙◌, ap}
+use Rattle.http_framing.specs.Kinds.{kind_of}
 use Rattle.h1_connection.specs.declared.connection.exchange.Reply.TheVariants.{Unanswered}
 use Rattle.h1_model.specs.Request as model
 use Rattle.h1_machine.specs.Kept.{rest_in, whole_rest}
@@ -11,7 +12,7 @@ returns-clause-handed c = λ piece h start end reading says at.
     (c.whole_rest-rest.ensures ∙ ap (λ (b : model.BodyKind). rest_in c.args.self.now.has_ended c.pass_head.new.self.unread (whole_rest b)) says.body) refl
 
 pub returns-clause-sound : goal.returns-clause-sound
-returns-clause-sound c = handed_sound c.args.config.now c.args.self.now _ _ _ c.requires.sound c.requires.runs c.pass_head.ensures refl c.whole_rest-rest.ensures
+returns-clause-sound c = handed_sound c.args.config.now c.args.self.now _ _ (kind_of c.args.item.now.body) c.requires.sound c.requires.runs c.pass_head.ensures refl c.whole_rest-rest.ensures
 
 pub returns-clause-opened : goal.returns-clause-opened
 returns-clause-opened c =
@@ -23,4 +24,4 @@ returns-clause-opened c =
       was_dropped = false;
       had_continue = false;
       body_is_done = false;
-    }) _ c.requires.runs refl c.whole_rest-rest.ensures
+    }) (kind_of c.args.item.now.body) c.requires.runs refl c.whole_rest-rest.ensures

@@ -1,0 +1,2 @@
+pub mod SentAnswer
+pub mod SentRequest

@@ -1,0 +1,54 @@
+-- Requests that were sent one after another, and what a server reads of them.
+use Rattle.std.specs.Prelude.{◌≡◌, ℕ, ◌≤◌, List, [], ◌∷◌, ◌++◌, length, Some, ⊤}
+use Rattle.h1_model.specs.Request.{Head, head_is}
+use Rattle.h1_model.specs.RequestHead.{IsHeadOf}
+use Rattle.h1_model.specs.Limits.{MAX_HEADER_LINES}
+use Rattle.h1_model.specs.Parse.{Message, next_start, trailers_of}
+use Rattle.h1_model.specs.Handed.{body_bytes}
+use Rattle.h1_client_model.specs.PlainExchange.{carried_by}
+use Rattle.h1_client_model.specs.RequestText.{RequestGiven, asked_shape, head_said, given_request_text, body_sent}
+use Rattle.h1_agreement.specs.SentAnswer.{IsBodyText}
+
+-- a request as it was sent: the texts of its head and of its body, what the head says, and the bytes that the body carries
+pub record SentRequest : Type 0 where
+  pub head : List ℕ
+  pub body : List ℕ
+  pub says : Head
+  pub bytes : List ℕ
+
+-- the head is read back, within 96 lines and the server's hold size, and its lines frame the body that was written
+pub record IsAsked (hold_size : ℕ) (s : SentRequest) : Type 0 where
+  pub back : IsHeadOf s.head s.says
+  pub blank : back.text.blank ≡ []
+  pub few : length s.says.headers ≤ MAX_HEADER_LINES
+  pub fits : length s.head ≤ hold_size
+  pub body : IsBodyText s.says.body s.body s.bytes
+
+-- a request as its client sends it
+abbrev pub sent_request : RequestGiven → SentRequest
+sent_request g =
+    let shape = asked_shape g.size in record {
+      head = given_request_text g;
+      body = body_sent shape g.pieces;
+      says = head_said g.head shape g.size g.kind g.moment;
+      bytes = carried_by shape g.pieces;
+    }
+
+-- all texts, one after another
+abbrev pub asked_text : List SentRequest → List ℕ
+asked_text [] = []
+asked_text (s ∷ ss) = s.head ++ (s.body ++ asked_text ss)
+
+-- the request is read as it was sent: its head, all bytes of its body, its end, and no trailers
+pub record IsServedAs (bytes : List ℕ) (m : Message) (s : SentRequest) : Type 0 where
+  pub head : m.reading ≡ head_is s.says
+  pub carried : body_bytes bytes m.body ≡ s.bytes
+  pub end : ℕ
+  pub ended : next_start m.body ≡ Some end
+  pub trailers : trailers_of m.body ≡ []
+
+-- so are all, in their order, and there are no others
+abbrev pub AreServedAs : List ℕ → List Message → List SentRequest → Type 0
+AreServedAs bytes [] [] = ⊤
+AreServedAs bytes (m ∷ ms) (s ∷ ss) = IsServedAs bytes m s × AreServedAs bytes ms ss
+AreServedAs bytes ms ss = ⊥

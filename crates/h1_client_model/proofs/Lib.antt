@@ -1,0 +1,7 @@
+pub mod AnswerLemmas
+pub mod AnswerGrowth
+pub mod ResponseDecisions
+pub mod AnswerDecisions
+pub mod AnswerExistence
+pub mod AnswerMoved
+pub mod ExampleLemmas

@@ -1,0 +1,3 @@
+-- Words that the laws alone use: who reads the definitions needs none of them.
+pub mod Growth
+pub mod Moved

@@ -1,0 +1,10 @@
+pub mod AnswerTable
+pub mod LaxText
+pub mod AnswerReading
+pub mod AnswerParse
+pub mod WrittenHead
+pub mod PlainExchange
+pub mod RequestText
+pub mod MaskedText
+pub mod LegalMessages
+pub mod Laws

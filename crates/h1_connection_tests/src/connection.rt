@@ -1,0 +1,219 @@
+//! The calls of a connection.
+use bytes::Bytes;
+use h1_connection::{
+    Boxed, Connection, DriveError, Event, NextHead, NextKind, Outcome, ReadFromError, drive,
+};
+use h1_decode::{HeadItem, HeadRoom};
+use http_framing::BodySize;
+use http_types::{NoMemory, ResponseHead, ServiceConfigBuilder, StatusCode, SureSource};
+use std::alloc::{AllocError, Global};
+use std::test::Fail;
+
+const TWO_REQUESTS: &[u8] = b"GET /a HTTP/1.1\r\nhost: b\r\n\r\nGET /c HTTP/1.1\r\nhost: d\r\n\r\n";
+
+// Asks for the next head: its target, where there is one.
+fn target(connection: &mut Connection) -> Result<Option<Bytes>, NoMemory> {
+    if !connection.can_next() {
+        return Ok(None);
+    }
+    match connection.next()? {
+        NextHead::Head(item) => Ok(Some(item.target)),
+        _ => Ok(None),
+    }
+}
+
+// Whether a request is taken whole, and handed out with its target.
+fn is_taken(connection: &mut Connection) -> Result<bool, NoMemory> {
+    if !connection.can_read() {
+        return Ok(false);
+    }
+    let taken = connection.read(b"GET /a HTTP/1.1\r\nhost: b\r\n\r\n")?;
+    let target = target(connection)?;
+    Ok(taken == 28 && matches!(&target, Some(bytes) if bytes.as_slice() == b"/a".as_slice()))
+}
+
+// Whether the open request can be answered, with a text that begins so.
+fn is_answered(
+    connection: &mut Connection,
+    head: &ResponseHead,
+    text: &[u8],
+) -> Result<bool, NoMemory> {
+    if !connection.can_answer() {
+        return Ok(false);
+    }
+    connection.answer(head, BodySize::ZERO)?;
+    Ok(connection.front().starts_with(text))
+}
+
+#[test]
+fn a_request_is_answered(rt: HostRuntime) -> Result<(), Fail> {
+    let mut connection = Connection::new(rt.alloc(), ServiceConfigBuilder::new().build());
+    assert!(rt; is_taken(&mut connection)?);
+    let head = ResponseHead::new(rt.alloc(), StatusCode::OK);
+    assert!(rt; is_answered(&mut connection, &head, b"HTTP/1.1 200 OK\r\n")?);
+    Ok(())
+}
+
+// Answers the open request with a body of two pieces, whose memory may be shared.
+fn answer_in_pieces(connection: &mut Connection, head: &ResponseHead) -> Result<(), NoMemory> {
+    if connection.can_answer() {
+        connection.answer(head, BodySize::Sized(3))?;
+    }
+    for piece in [b"ab".as_slice(), b"c".as_slice()] {
+        if connection.can_chunk() {
+            connection.chunk_bytes(Bytes::from_static(piece))?;
+        }
+    }
+    if connection.can_end_answer() {
+        connection.end_answer()?;
+    }
+    Ok(())
+}
+
+// Reads what a source has, and writes the next head over the last one: whether it is of this target. It is answered.
+fn is_served(
+    alloc: Global,
+    connection: &mut Connection,
+    source: &mut SureSource,
+    item: &mut HeadItem,
+    target: &[u8],
+) -> Result<bool, ReadFromError> {
+    if connection.can_read() {
+        connection.read_from(source)?;
+    }
+    if !connection.can_next() {
+        return Ok(false);
+    }
+    let kind = connection.next_into(item, &mut HeadRoom::new())?;
+    answer_in_pieces(connection, &ResponseHead::new(alloc, StatusCode::OK))?;
+    Ok(kind == NextKind::Head && item.target.as_slice() == target)
+}
+
+// Whether two requests of one source are served, the first with all pieces of its answer.
+fn are_served(
+    alloc: Global,
+    connection: &mut Connection,
+    item: &mut HeadItem,
+) -> Result<bool, ReadFromError> {
+    let mut source = SureSource::new(Bytes::from_static(TWO_REQUESTS));
+    let first = is_served(alloc, connection, &mut source, item, b"/a")?;
+    let is_written = connection.front().ends_with(b"\r\n\r\nabc");
+    let second = is_served(alloc, connection, &mut source, item, b"/c")?;
+    Ok(first && is_written && second)
+}
+
+#[test]
+fn heads_from_a_source_are_written_over_one_another(rt: HostRuntime) -> Result<(), Fail> {
+    let alloc = rt.alloc();
+    let mut connection = Connection::new(alloc, ServiceConfigBuilder::new().build());
+    let mut item = HeadItem::new(alloc);
+    assert!(rt; are_served(alloc, &mut connection, &mut item)?);
+    Ok(())
+}
+
+// Reads what may come, and prints the connection.
+fn printed(alloc: Global, connection: &mut Connection, text: &[u8]) -> Result<String, AllocError> {
+    if connection.can_read() {
+        connection.read(text)?;
+    }
+    format!(in alloc; "{connection:?}")
+}
+
+#[test]
+fn a_connection_prints_no_byte_that_it_holds(rt: HostRuntime) -> Result<(), Fail> {
+    let mut connection = Connection::new(rt.alloc(), ServiceConfigBuilder::new().build());
+    let text = printed(rt.alloc(), &mut connection, b"GET /")?;
+    assert!(rt;
+        text.as_str()
+            == "Connection { held: 5, buffered: 0, is_open: false, has_ended: false, \
+        is_draining: false, closing: None, is_over: false, .. }"
+    );
+    Ok(())
+}
+
+// Reads a byte, where it may come, and asks whether a head is whole by then.
+fn is_whole_with(connection: &mut Connection, byte: u8) -> Result<bool, NoMemory> {
+    if !connection.can_read() {
+        return Ok(false);
+    }
+    connection.read(&[byte])?;
+    let target = target(connection)?;
+    Ok(target.is_some())
+}
+
+// A head as long as a connection holds.
+fn longest(alloc: Global) -> Result<Vec<u8>, AllocError> {
+    let mut head = Vec::from_slice(alloc, b"GET / HTTP/1.1\r\nx: ")?;
+    head.resize(131_068, b'v')?;
+    head.extend_from_slice(b"\r\n\r\n")?;
+    Ok(head)
+}
+
+// Reads a head byte by byte, with a question after each: whether it is whole with the last, and not before.
+fn is_whole_at_last(connection: &mut Connection, head: &[u8]) -> Result<bool, NoMemory> {
+    let mut is_whole = false;
+    for byte in head {
+        if is_whole {
+            return Ok(false);
+        }
+        is_whole = is_whole_with(connection, *byte)?;
+    }
+    Ok(is_whole)
+}
+
+#[test]
+fn the_longest_head_is_handed_out(rt: HostRuntime) -> Result<(), Fail> {
+    let head = longest(rt.alloc())?;
+    let mut connection = Connection::new(rt.alloc(), ServiceConfigBuilder::new().build());
+    assert!(rt; is_whole_at_last(&mut connection, head.as_slice())?);
+    assert!(rt; connection.held() == 0);
+    Ok(())
+}
+
+// Whether events are answered by as many outcomes, the last one of which copies as it is.
+fn is_whole_run(alloc: Global, events: &[Event]) -> Result<bool, NoMemory> {
+    let config = ServiceConfigBuilder::new().build();
+    match drive(alloc, &config, events) {
+        Ok(trace) => Ok(trace.steps.len() == events.len()),
+        Err(DriveError::Misplaced(_, _)) => Ok(false),
+        Err(DriveError::NoMemory) => Err(AllocError),
+    }
+}
+
+#[test]
+fn events_are_driven(rt: HostRuntime) -> Result<(), Fail> {
+    let events = [Event::Eof, Event::Next];
+    assert!(rt; is_whole_run(rt.alloc(), &events)?);
+    let misplaced = [Event::Eof, Event::Eof];
+    assert!(rt; !is_whole_run(rt.alloc(), &misplaced)?);
+    Ok(())
+}
+
+// Whether the copy of an outcome is these bytes.
+fn is_copied(outcome: &Outcome, want: &[u8]) -> Result<bool, NoMemory> {
+    let copy = outcome.clone()?;
+    Ok(matches!(&copy, Outcome::Bytes(bytes) if bytes.as_slice() == want))
+}
+
+#[test]
+fn outcomes_are_copied(rt: HostRuntime) -> Result<(), Fail> {
+    let bytes = Outcome::Bytes(Bytes::from_static(b"ab"));
+    assert!(rt; is_copied(&bytes, b"ab")?);
+    let pulled = Outcome::Pending.clone()?;
+    assert!(rt; matches!(pulled, Outcome::Pending));
+    Ok(())
+}
+
+// Whether the copy of an event is an answer of this status.
+fn is_answer_of(event: &Event, status: StatusCode) -> Result<bool, NoMemory> {
+    let copy = event.clone()?;
+    Ok(matches!(&copy, Event::Answer(head, _) if head.get().status == status))
+}
+
+#[test]
+fn answers_are_copied(rt: HostRuntime) -> Result<(), Fail> {
+    let head = ResponseHead::new(rt.alloc(), StatusCode::NOT_FOUND);
+    let answer = Event::Answer(Boxed::new(rt.alloc(), head)?, BodySize::ZERO);
+    assert!(rt; is_answer_of(&answer, StatusCode::NOT_FOUND)?);
+    Ok(())
+}

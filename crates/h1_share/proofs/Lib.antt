@@ -1,0 +1,6 @@
+pub mod Counters
+pub mod Crossing
+pub mod Cursors
+pub mod Entries
+pub mod Filtered
+pub mod Seen

@@ -1,0 +1,4 @@
+pub mod Name
+pub mod Journal
+pub mod Views
+pub mod Cursors

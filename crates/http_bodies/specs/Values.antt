@@ -1,0 +1,23 @@
+-- Values that are bodies: all their bytes are one chunk.
+use Rattle.std.specs.Prelude.{ℕ, Option, Some, None, List, [], ◌∷◌, length, Ok}
+use Rattle.futures.specs.declared.task.Poll.TheVariants.{Ready}
+use Rattle.http_framing.specs.declared.body.size.BodySize.TheVariants as size
+use Rattle.http_bodies.specs.Giving.{Given, chunk, Giving, Piece}
+
+-- no bytes are no chunk
+abbrev pub one_chunk : List ℕ → List Given
+one_chunk [] = []
+one_chunk (x ∷ xs) = chunk (x ∷ xs) ∷ []
+
+-- a body that holds these bytes, and never fails nor waits
+abbrev pub holds : List ℕ → Giving
+holds bytes = record { size = size.Sized (length bytes); coming = Some (one_chunk bytes); faults = 0; waits = 0 }
+
+-- no body, of which no length is stated
+abbrev pub holds_none : Giving
+holds_none = record { size = size.None; coming = Some []; faults = 0; waits = 0 }
+
+-- the answer of a value that needs no memory for its chunk
+abbrev pub at_once : List ℕ → Piece
+at_once [] = Ready None
+at_once (x ∷ xs) = Ready (Some (Ok (x ∷ xs)))

@@ -1,0 +1,32 @@
+//! Bodies of messages.
+mod body_stream;
+mod boxed;
+mod byte_stream;
+mod counted;
+mod either;
+mod erased;
+mod fault;
+mod foreign;
+mod gather;
+mod gatherer;
+mod limit;
+mod message_body;
+mod none;
+mod pieces;
+mod sized_stream;
+mod unlimited;
+mod utils;
+
+pub use body_stream::BodyStream;
+pub use boxed::{AnyBody, BoxBody};
+pub use byte_stream::ByteStream;
+pub use counted::{Counted, PlainStream};
+pub use either::EitherBody;
+pub use erased::ErasedBody;
+pub use fault::BodyFault;
+pub use limit::BodyLimitExceeded;
+pub use message_body::MessageBody;
+pub use none::None;
+pub use sized_stream::SizedStream;
+pub use utils::{ToBytesLimited, to_bytes, to_bytes_limited};
+pub use unlimited::ToBytes;

@@ -1,0 +1,180 @@
+//! Bytes and texts that have an allocation of their own, which is shared and not copied.
+ghost use Rattle.std.specs.Prelude.{◌≡◌, IfOk, IfErr};
+ghost use Rattle.std.specs.String.{string_bytes};
+ghost use Rattle.http_bodies.specs.Values.{holds};
+
+use crate::{BodyFault, MessageBody};
+use bytes::{Bytes, BytesMut};
+use futures::task::{Context, Poll};
+use http_framing::BodySize;
+use std::alloc::Global;
+use std::borrow::{CowSlice, CowStr};
+
+// The bytes of a vector, shared; or the vector, if there is no memory to share it.
+fn share_vec(vec: Vec<u8>) -> Result<Bytes, Vec<u8>>
+    ensures all { IfOk result (λ bytes. bytes ≡ vec.items) }
+    ensures same { IfErr result (λ left. left.items ≡ vec.items) }
+{
+    match Bytes::from_vec(vec) {
+        Ok(bytes) => Ok(bytes),
+        Err(failed) => Err(failed.value),
+    }
+}
+
+// The bytes of a text, shared; or the text.
+fn share_text(text: String) -> Result<Bytes, String>
+    ensures all { IfOk result (λ bytes. bytes ≡ string_bytes text) }
+    ensures same { IfErr result (λ left. string_bytes left ≡ string_bytes text) }
+{
+    match Bytes::from_vec(text.into_bytes()) {
+        Ok(bytes) => Ok(bytes),
+        Err(failed) => match String::from_utf8(failed.value) {
+            Ok(text) => Err(text),
+            Err(_) => unreachable!(),
+        },
+    }
+}
+
+impl MessageBody for BytesMut {
+    ghost gives = { λ bytes. holds bytes.items };
+
+    fn size(&self) -> BodySize {
+        BodySize::Sized(self.len() as u64)
+    }
+
+    fn poll_next(&mut self, alloc: Global, _cx: &mut Context<'_>) -> Poll<Option<Result<Bytes, BodyFault>>> {
+        if self.is_empty() {
+            return Poll::Ready(None);
+        }
+        match std::mem::replace(self, BytesMut::new(alloc)).freeze() {
+            Ok(bytes) => Poll::Ready(Some(Ok(bytes))),
+            Err(failed) => {
+                *self = failed.value;
+                Poll::Ready(Some(Err(BodyFault::NoMemory)))
+            }
+        }
+    }
+
+    fn try_into_bytes(self, _alloc: Global) -> Result<Bytes, BytesMut> {
+        match self.freeze() {
+            Ok(bytes) => Ok(bytes),
+            Err(failed) => Err(failed.value),
+        }
+    }
+}
+
+impl MessageBody for Vec<u8> {
+    ghost gives = { λ bytes. holds bytes.items };
+
+    fn size(&self) -> BodySize {
+        BodySize::Sized(self.len() as u64)
+    }
+
+    fn poll_next(&mut self, alloc: Global, _cx: &mut Context<'_>) -> Poll<Option<Result<Bytes, BodyFault>>> {
+        if self.is_empty() {
+            return Poll::Ready(None);
+        }
+        match share_vec(std::mem::replace(self, Vec::new(alloc))) {
+            Ok(bytes) => Poll::Ready(Some(Ok(bytes))),
+            Err(same) => {
+                *self = same;
+                Poll::Ready(Some(Err(BodyFault::NoMemory)))
+            }
+        }
+    }
+
+    fn try_into_bytes(self, _alloc: Global) -> Result<Bytes, Vec<u8>> {
+        share_vec(self)
+    }
+}
+
+impl MessageBody for String {
+    ghost gives = { λ text. holds (string_bytes text) };
+
+    fn size(&self) -> BodySize {
+        BodySize::Sized(self.len() as u64)
+    }
+
+    fn poll_next(&mut self, alloc: Global, _cx: &mut Context<'_>) -> Poll<Option<Result<Bytes, BodyFault>>> {
+        if self.is_empty() {
+            return Poll::Ready(None);
+        }
+        match share_text(std::mem::replace(self, String::new(alloc))) {
+            Ok(bytes) => Poll::Ready(Some(Ok(bytes))),
+            Err(same) => {
+                *self = same;
+                Poll::Ready(Some(Err(BodyFault::NoMemory)))
+            }
+        }
+    }
+
+    fn try_into_bytes(self, _alloc: Global) -> Result<Bytes, String> {
+        share_text(self)
+    }
+}
+
+impl MessageBody for CowSlice<'static, u8> {
+    ghost use Rattle.std.specs.Cow.{cow_slice_items};
+
+    ghost gives = { λ bytes. holds (cow_slice_items bytes) };
+
+    fn size(&self) -> BodySize {
+        BodySize::Sized(self.len() as u64)
+    }
+
+    fn poll_next(&mut self, alloc: Global, _cx: &mut Context<'_>) -> Poll<Option<Result<Bytes, BodyFault>>> {
+        if self.len() == 0 {
+            return Poll::Ready(None);
+        }
+        match std::mem::replace(self, CowSlice::Borrowed(&[])).try_into_bytes(alloc) {
+            Ok(bytes) => Poll::Ready(Some(Ok(bytes))),
+            Err(same) => {
+                *self = same;
+                Poll::Ready(Some(Err(BodyFault::NoMemory)))
+            }
+        }
+    }
+
+    fn try_into_bytes(self, _alloc: Global) -> Result<Bytes, CowSlice<'static, u8>> {
+        match self {
+            CowSlice::Borrowed(bytes) => Ok(Bytes::from_static(bytes)),
+            CowSlice::Owned(vec) => match share_vec(vec) {
+                Ok(bytes) => Ok(bytes),
+                Err(same) => Err(CowSlice::Owned(same)),
+            },
+        }
+    }
+}
+
+impl MessageBody for CowStr<'static> {
+    ghost use Rattle.std.specs.Cow.{cow_str_bytes};
+
+    ghost gives = { λ text. holds (cow_str_bytes text) };
+
+    fn size(&self) -> BodySize {
+        BodySize::Sized(self.len() as u64)
+    }
+
+    fn poll_next(&mut self, alloc: Global, _cx: &mut Context<'_>) -> Poll<Option<Result<Bytes, BodyFault>>> {
+        if self.len() == 0 {
+            return Poll::Ready(None);
+        }
+        match std::mem::replace(self, CowStr::Borrowed("")).try_into_bytes(alloc) {
+            Ok(bytes) => Poll::Ready(Some(Ok(bytes))),
+            Err(same) => {
+                *self = same;
+                Poll::Ready(Some(Err(BodyFault::NoMemory)))
+            }
+        }
+    }
+
+    fn try_into_bytes(self, _alloc: Global) -> Result<Bytes, CowStr<'static>> {
+        match self {
+            CowStr::Borrowed(text) => Ok(Bytes::from_static(text.as_bytes())),
+            CowStr::Owned(text) => match share_text(text) {
+                Ok(bytes) => Ok(bytes),
+                Err(same) => Err(CowStr::Owned(same)),
+            },
+        }
+    }
+}

@@ -1,0 +1,28 @@
+//! What a server of static files has to know, without a file and without a socket: where a target's file lies, which of
+//! its bytes are asked for, whether the client has it already, of which type it is, and how a folder's page looks.
+//!
+//! # Example
+//!
+//! ```ignore
+//! let path = file_path(alloc, "/srv/www", "/a%20b/../c")?; // PathError::Outside
+//! let asked = asked_range("bytes=0-99", 1000); // Asked::Part { first: 0, last: 99 }
+//! ```
+//!
+//! # Contract
+//!
+//! A path is the folder's, and then plain names: no `..`, no NUL. A range is the one that RFC 7233 gives.
+#![tactic(auto)]
+
+mod conditions;
+mod error;
+mod listing;
+mod paths;
+mod ranges;
+mod types;
+
+pub use conditions::{etag, is_unchanged_since, lists_etag};
+pub use error::PathError;
+pub use listing::{Entry, folder_page, message_page};
+pub use paths::{file_path, place_of};
+pub use ranges::{Asked, asked_range};
+pub use types::content_type;

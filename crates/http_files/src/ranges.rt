@@ -1,0 +1,74 @@
+//! Which bytes of a file are asked for.
+ghost use Rattle.std.specs.Prelude.{◌≡◌};
+ghost use Rattle.http_files.specs.Ranges.{asked_of, from_first, last_bytes};
+
+/// Which bytes of a file are asked for.
+#[derive(Clone, Copy, Debug, PartialEq, Eq)]
+pub enum Asked {
+    /// All of them.
+    Whole,
+
+    /// From the first one to the last one, counted from 0.
+    Part(u64, u64),
+
+    /// Bytes that aren't there: the answer is 416 (RFC 7233, section 4.4).
+    Unsatisfiable,
+}
+
+/// Which bytes of a file of this length a `Range` asks for. Of several ranges, of another unit, and of a text that is
+/// none, the whole file is given (RFC 7233, section 3.1).
+pub fn asked_range(value: &str, length: u64) -> Asked {
+    let Some(spec) = value.strip_prefix("bytes=") else {
+        return Asked::Whole;
+    };
+    let Some((first, last)) = spec.split_once('-') else {
+        return Asked::Whole;
+    };
+    let (first, last) = (first.trim(), last.trim());
+    match (place_in(first), place_in(last)) {
+        (None, _) if !first.is_empty() => Asked::Whole,
+        (_, None) if !last.is_empty() => Asked::Whole,
+        (first, last) => asked_between(first, last, length),
+    }
+}
+
+// A number of digits alone. One that is too large is the greatest.
+fn place_in(text: &str) -> Option<u64> {
+    if text.is_empty() || !text.as_bytes().iter().all(|b| b.is_ascii_digit()) {
+        return None;
+    }
+    Some(text.parse().unwrap_or(u64::MAX))
+}
+
+// The bytes between two places; without the first, so many of the last ones.
+fn asked_between(first: Option<u64>, last: Option<u64>, length: u64) -> Asked
+    ensures { result ≡ asked_of first last length }
+{
+    match (first, last) {
+        (Some(first), last) => asked_from(first, last, length),
+        (None, Some(count)) => asked_last(count, length),
+        (None, None) => Asked::Whole,
+    }
+}
+
+fn asked_from(first: u64, last: Option<u64>, length: u64) -> Asked
+    ensures { result ≡ from_first first last length }
+{
+    match last {
+        Some(last) if last < first => Asked::Whole,
+        Some(last) if first < length => Asked::Part(first, last.min(length - 1)),
+        None if first < length => Asked::Part(first, length - 1),
+        _ => Asked::Unsatisfiable,
+    }
+}
+
+fn asked_last(count: u64, length: u64) -> Asked
+    ensures { result ≡ last_bytes count length }
+{
+    let count = count.min(length);
+    if count > 0 {
+        Asked::Part(length - count, length - 1)
+    } else {
+        Asked::Unsatisfiable
+    }
+}

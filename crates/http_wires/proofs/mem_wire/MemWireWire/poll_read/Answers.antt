@@ -1,0 +1,8 @@
+use Rattle.std.proofs.Common.{◌≡◌, sym, ◌∙◌, subst, true}
+use Rattle.std.proofs.lemmas.Bool.{false≢true}
+use Rattle.http_wires.specs.MemWires.{MemWiring, fails_next}
+use Rattle.http_wires.proofs.mem_wire.MemWireWire.poll_read.Goals as goal
+
+pub returns-in-Empty-clause-listed : goal.returns-in-Empty-clause-listed
+returns-in-Empty-clause-listed c = λ is.
+    absurd (false≢true (sym c.if-fails.false ∙ c.fails.ensures.listed ∙ subst (λ (w : MemWiring). fails_next w ≡ true) (sym c.self.view_is) is))

@@ -1,0 +1,10 @@
+pub mod Wiring
+pub mod Opening
+pub mod LeftAfter
+pub mod Left
+pub mod MemWires
+pub mod MemTold
+pub mod Parts
+pub mod Items
+pub mod Flushes
+pub mod Lends

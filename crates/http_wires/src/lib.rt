@@ -1,0 +1,36 @@
+//! Wires: streams of bytes in both directions that are polled, a wire in memory, and items over any wire. Clocks and
+//! doors stand beside them.
+//!
+//! # Example
+//!
+//! ```ignore
+//! let mut framed = Framed::new(alloc, MemWire::new(alloc, pieces, room, fail), codec);
+//! framed.write(message)?;                 // behind what is buffered
+//! framed.flush(cx)                        // Ready(Ok(())), once the wire took all
+//! framed.next_item(cx)                    // Ready(Some(Ok(item))), in whatever pieces it comes
+//! ```
+//!
+//! # Contract
+//!
+//! A wire tells what it received and sent, where that is known, and counts its faults and its Pending answers: so an
+//! answer has its cause in the counts. `Framed::next_item` gives the items that the codec's reading has of all bytes that
+//! were received, in whatever pieces they came, and loses none of them at an error. `Framed::flush` sends the front of
+//! what is buffered, and the rest stays. A poll takes at most 64 pieces, and is then pending with its task woken.
+//!
+//! # Cost
+//!
+//! A read copies its piece once. A write takes memory only where the buffer has no room, and a buffer that was flushed
+//! keeps its room.
+#![tactic(auto)]
+
+mod clock;
+mod door;
+mod framed;
+mod mem_wire;
+mod wire;
+
+pub use clock::Clock;
+pub use door::Door;
+pub use framed::{Framed, FramedError};
+pub use mem_wire::MemWire;
+pub use wire::Wire;

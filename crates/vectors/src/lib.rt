@@ -1,0 +1,36 @@
+//! Vectors: cases in clear text, each with a call's name, what goes in, and what has to come out.
+//!
+//! A file of vectors has one case a line. Blank lines and lines that begin with `#` are passed over.
+//!
+//! ```text
+//! # call, arguments, " = ", what is expected
+//! date "Sun Nov  6 08:49:37 1994" = 784111777 "Sun, 06 Nov 1994 08:49:37 GMT"
+//! head "GET / HTTP/1.1\r\n"+"x: y\r\n"*97+"\r\n" = too-large
+//! ```
+//!
+//! An argument is a word, or texts in double quotes, each perhaps repeated by `*` and a number, joined by `+`. In quotes
+//! `\r`, `\n`, `\t`, `\\`, `\"` and `\xHH` stand for one byte each. What is expected is compared as text, with
+//! joined and repeated quotes put into one; there `[ a="b"]*3` repeats what stands in the brackets. Whoever plays a case
+//! writes its answer in the same form: [`put_quoted`] does so for bytes.
+//!
+//! # Example
+//!
+//! A program implements [`Player`] for its calls, and gives itself to [`play_arguments`], which prints what differs and
+//! counts. Adding a vector is adding a line.
+#![tactic(auto)]
+
+mod case;
+mod clear;
+mod cursor;
+mod files;
+mod player;
+mod quoted;
+mod written;
+
+pub use case::{Case, CaseError, read_case, read_joined};
+pub use clear::{Form, put_clear};
+pub use cursor::Cursor;
+pub use files::play_arguments;
+pub use player::{Player, Tally, play_cases};
+pub use quoted::put_quoted;
+pub use written::{put_all, put_decimal, put_text};
