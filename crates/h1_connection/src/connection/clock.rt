@@ -1,7 +1,7 @@
 // The moments that a connection counts from, in milliseconds after the start of 1970.
 ghost use Rattle.std.specs.Prelude.{◌≡◌, unwrap_or, Some};
 ghost use Rattle.std.specs.Option.{option_or};
-ghost use Rattle.h1_model.specs.OutcomeTable.{has_run_out, is_kept_too_long};
+ghost use Rattle.h1_model.specs.OutcomeTable.{is_kept_too_long};
 ghost use Rattle.h1_connection.specs.Meaning.{keep_alive_of};
 
 use http_types::KeepAlive;
@@ -41,19 +41,6 @@ impl Clock {
             self.first = Some(moment);
         }
         self.last = Some(moment);
-    }
-}
-
-/// Whether a time of so many milliseconds has run out. One of 0 is off.
-pub fn has_run_out(wait: u64, since: u64, moment: u64) -> bool
-    ensures { result ≡ has_run_out wait since moment }
-{
-    if wait == 0 {
-        return false;
-    }
-    match since.checked_add(wait) {
-        Some(end) => end <= moment,
-        None => false,
     }
 }
 

@@ -163,6 +163,15 @@ impl Input {
         }
     }
 
+    /// Gives back the memory that is taken, where no byte is held in it.
+    pub fn give_back(&mut self)
+        ensures { self.new ≡ self.old }
+    {
+        if self.bytes.is_empty() {
+            self.bytes = BytesMut::new(*self.bytes.allocator());
+        }
+    }
+
     /// Searches for the next head, if it isn't done yet.
     pub fn search(&mut self)
         ensures unread { self.new.unread ≡ self.old.unread }

@@ -93,6 +93,15 @@ impl Output {
         }
     }
 
+    /// Gives back the memory that is taken, where there is no byte in it.
+    pub fn give_back(&mut self)
+        ensures { self.new ≡ self.old }
+    {
+        if self.bytes.is_empty() {
+            self.bytes = BytesMut::new(*self.bytes.allocator());
+        }
+    }
+
     /// The head of an answer.
     pub fn put_head(
         &mut self,

@@ -29,8 +29,32 @@ pub enum Expiry {
 }
 
 impl Parts {
-    /// A moment has come, in milliseconds after the start of 1970.
+    /// A moment has come, in milliseconds after the start of 1970. The memory of an idle connection is given back: one
+    /// that is busy takes memory anew once a tick at most.
     pub fn tick(&mut self, config: &ServiceConfig, moment: u64) -> Result<Expiry, NoMemory>
+        requires sound { IsSound config.now self.old }
+        requires before { moment < MAX_MOMENT }
+        ensures ok { IfOk result (λ expiry. Steps config.now self.old (on.tick moment) (expiry_of expiry) self.new) }
+        ensures sound { OnOk result (IsSound config.now self.new) }
+        ensures no_memory_needed { IsQuietTick (setting_of config.now) (kept_of self.old) moment → IsOk result }
+        ensures err { OnErr result (self.new ≡ self.old) }
+    {
+        self.give_back();
+        self.take_tick(config, moment)
+    }
+
+    // Where no request is under way, the memory in which no byte is held is given back.
+    fn give_back(&mut self)
+        ensures { self.new ≡ self.old }
+    {
+        if self.is_free() {
+            self.input.give_back();
+            self.output.give_back();
+        }
+    }
+
+    // What a tick tells, and what it changes.
+    fn take_tick(&mut self, config: &ServiceConfig, moment: u64) -> Result<Expiry, NoMemory>
         requires sound { IsSound config.now self.old }
         requires before { moment < MAX_MOMENT }
         ensures ok { IfOk result (λ expiry. Steps config.now self.old (on.tick moment) (expiry_of expiry) self.new) }

@@ -1,5 +1,6 @@
-use Rattle.std.proofs.Common.{refl, ◌∙◌, ap}
+use Rattle.std.proofs.Common.{false, refl, ◌∙◌, ap}
 use Rattle.http_framing.specs.Kinds.{kind_of}
+use Rattle.h1_connection.specs.declared.connection.exchange.Reply.TheVariants.{Unanswered}
 use Rattle.h1_model.specs.Request as model
 use Rattle.h1_machine.specs.Kept.{rest_in, whole_rest}
 use Rattle.h1_connection.proofs.HeadLemmas.{handed_kept, handed_sound, handed_opened}
@@ -14,4 +15,13 @@ pub returns-clause-sound : goal.returns-clause-sound
 returns-clause-sound c = handed_sound c.args.config.now c.args.self.now _ _ (kind_of c.args.item.now.body) c.requires.sound c.requires.runs c.pass_head.ensures refl c.whole_rest-rest.ensures
 
 pub returns-clause-opened : goal.returns-clause-opened
-returns-clause-opened c = handed_opened c.args.config.now c.args.self.now _ _ (kind_of c.args.item.now.body) c.requires.runs refl c.whole_rest-rest.ensures
+returns-clause-opened c =
+    handed_opened c.args.config.now c.args.self.now c.pass_head.new.self (record {
+      request = c.request_of.result;
+      rest = c.whole_rest-rest.result;
+      reply = Unanswered;
+      was_pulled = false;
+      was_dropped = false;
+      had_continue = false;
+      body_is_done = false;
+    }) (kind_of c.args.item.now.body) c.requires.runs refl c.whole_rest-rest.ensures

@@ -1,12 +1,25 @@
-use Rattle.h1_connection.proofs.TickLemmas.{tick_steps_by, tick_sound_by}
+use Rattle.std.proofs.Common.{sym, ◌∙◌, subst}
+use Rattle.std.specs.Prelude.{IfOk, IsOk}
+use Rattle.h1_model.specs.Event as on
+use Rattle.h1_connection.specs.Meaning.{setting_of}
+use Rattle.h1_connection.specs.Parts.{kept_of, IsSound, Steps}
+use Rattle.h1_connection.specs.Ticks.{expiry_of, IsQuietTick}
+use Rattle.h1_connection.specs.declared.connection.parts.Parts.{Parts}
+use Rattle.h1_connection.proofs.ResultLemmas.{err_map}
 use Rattle.h1_connection.proofs.connection.parts.Parts.tick.Goals as goal
+
+pub take_tick-requires-clause-sound : goal.take_tick-requires-clause-sound
+take_tick-requires-clause-sound c = subst (λ (p : Parts). IsSound c.args.config.now p) (sym c.give_back.ensures) c.requires.sound
 
 pub returns-clause-ok : goal.returns-clause-ok
 returns-clause-ok c =
-    tick_steps_by c.args.config.now c.args.self.now c.expire.new.self _ c.unwrap_or-first.result c.args.moment _ c.in_ok-expiry.expiry c.requires.sound c.unwrap_or-first.ensures c.in_ok-expiry.ensures.ok
-    c.expire.ensures.exchange c.expire.ensures.input c.advance.ensures c.note.ensures.kept c.note.ensures.input
+    subst (λ (p : Parts). IfOk c.take_tick.result (λ expiry. Steps c.args.config.now p (on.tick c.args.moment) (expiry_of expiry) c.take_tick.new.self)) c.give_back.ensures
+    c.take_tick.ensures.ok
 
-pub returns-clause-sound : goal.returns-clause-sound
-returns-clause-sound c =
-    tick_sound_by c.args.config.now c.args.self.now c.expire.new.self _ c.args.moment _ c.requires.before c.requires.sound
-    c.expire.ensures.exchange c.expire.ensures.input c.advance.ensures c.note.ensures.kept c.note.ensures.input
+pub returns-clause-no_memory_needed : goal.returns-clause-no_memory_needed
+returns-clause-no_memory_needed c =
+    subst (λ (p : Parts). IsQuietTick (setting_of c.args.config.now) (kept_of p) c.args.moment → IsOk c.take_tick.result) c.give_back.ensures
+    c.take_tick.ensures.no_memory_needed
+
+pub returns-clause-err : goal.returns-clause-err
+returns-clause-err c = err_map c.take_tick.result _ _ (λ e. e ∙ c.give_back.ensures) c.take_tick.ensures.err

@@ -1,0 +1,12 @@
+use Rattle.h1_connection.proofs.TickLemmas.{tick_steps_by, tick_sound_by}
+use Rattle.h1_connection.proofs.connection.parts.Parts.take_tick.Goals as goal
+
+pub returns-clause-ok : goal.returns-clause-ok
+returns-clause-ok c =
+    tick_steps_by c.args.config.now c.args.self.now c.expire.new.self _ c.unwrap_or-first.result c.args.moment _ c.in_ok-expiry.expiry c.requires.sound c.unwrap_or-first.ensures c.in_ok-expiry.ensures.ok
+    c.expire.ensures.exchange c.expire.ensures.input c.advance.ensures c.note.ensures.kept c.note.ensures.input
+
+pub returns-clause-sound : goal.returns-clause-sound
+returns-clause-sound c =
+    tick_sound_by c.args.config.now c.args.self.now c.expire.new.self _ c.args.moment _ c.requires.before c.requires.sound
+    c.expire.ensures.exchange c.expire.ensures.input c.advance.ensures c.note.ensures.kept c.note.ensures.input
