@@ -4,19 +4,16 @@ use Rattle.std.proofs.lemmas.Bool.{ltb-false, le-ltb}
 use Rattle.std.specs.Prelude.{nat_lt, ◌==◌, if◌then◌else◌}
 use Rattle.http_config.specs.Deadline.{deadline_of}
 use Rattle.h1_model.specs.Limits.{MAX_MOMENT}
-use Rattle.h1_model.specs.End as ends
 use Rattle.h1_model.specs.Setting.{Setting}
 use Rattle.h1_model.specs.Deadline.{timeout_at, still_comes, IsDeadline}
 use Rattle.h1_model.specs.Sums as sums
-use Rattle.h1_machine.specs.Kept.{Exchange, Kept, now}
+use Rattle.h1_machine.specs.Kept.{Kept, now}
 use Rattle.h1_machine.specs.Local.{closing_by}
 use Rattle.h1_machine.proofs.DeadlineLemmas.{deadline_of_trace}
 use Rattle.h1_machine.specs.Deadline.{times_out_at, deadline_by}
 use Rattle.h1_connection.specs.Meaning.{setting_of}
 use Rattle.h1_connection.specs.State.{State, Stands}
 use Rattle.h1_connection.specs.Ticks.{clipped}
-use Rattle.h1_connection.specs.Upgrade.{Upgrade, with_upgrade}
-use Rattle.h1_connection.proofs.UpgradeLemmas.{closing_same}
 
 -- one that passes its type never comes
 past_type : (now n : ℕ) (fits : Bool) → nat_lt n (2 ^ 64) ≡ fits → still_comes now (if fits then Some n else None) ≡ still_comes now (Some n)
@@ -58,21 +55,6 @@ running_deadline set k moment out result goes moment_is out_is result_is =
     result_is ∙ (λ i. still_comes (moment_is i) (out_is i)) ∙ still_clipped (now k) (times_out_at set k (closing_by set k))
     ∙ sym (ap (λ (b : Bool). if b then None else still_comes (now k) (times_out_at set k (closing_by set k))) goes)
 
--- with what an upgrade would need it is the same
-times_case : (u : Upgrade) (set : Setting) (k : Kept) (e : Option Exchange) (o : Option ends.End)
-    → times_out_at set (with_upgrade u (record k { exchange = e })) o ≡ times_out_at set (record k { exchange = e }) o
-times_case u set k None None = refl
-times_case u set k None (Some end) = refl
-times_case u set k (Some x) None = refl
-times_case u set k (Some x) (Some end) = refl
-
-deadline_same : (u : Upgrade) (set : Setting) (k : Kept) → deadline_by set (with_upgrade u k) ≡ deadline_by set k
-unfolding deadline_by
-deadline_same u set k =
-    ap (λ (o : Option ends.End). if k.is_over then None else still_comes (now k) (times_out_at set (with_upgrade u k) o)) (closing_same u set k)
-    ∙ ap (λ (t : Option ℕ). if k.is_over then None else still_comes (now k) t) (times_case u set k k.exchange (closing_by set k))
-
+-- it is the trace's
 pub deadline_traced : (at : State) (trace : List sums.Step) → Stands at trace → IsDeadline (setting_of at.settings) trace (deadline_by (setting_of at.settings) at.kept)
-deadline_traced at trace stands =
-    subst (λ (o : Option ℕ). IsDeadline (setting_of at.settings) trace o) (deadline_same stands.0 (setting_of at.settings) at.kept)
-    (deadline_of_trace (setting_of at.settings) (with_upgrade stands.0 at.kept) trace stands.1)
+deadline_traced at trace stands = deadline_of_trace (setting_of at.settings) at.kept trace stands

@@ -6,13 +6,14 @@ use Rattle.http_config.specs.Config.{Settings}
 use Rattle.h1_model.specs.Request.{ConnectionType}
 use Rattle.h1_model.specs.Setting.{Setting}
 use Rattle.h1_model.specs.Answer.{AnswerHead, BodySize, Shape, shape_of, type_of, is_at_once}
+use Rattle.h1_model.specs.AnswerText.{interim_text}
 use Rattle.h1_model.specs.Text.{answer_head_text}
 use Rattle.h1_model.specs.Event as on
 use Rattle.h1_model.specs.End.{End}
 use Rattle.h1_machine.specs.Kept.{Rest, no_rest, raw_rest, fixed_rest, chunks_rest, frames_rest, Reply, unanswered, sending, answered, Exchange, Kept, Change, is_frames, is_unanswered, is_sending_body, now}
 use Rattle.h1_machine.specs.Local.{closing_by, allowed_by, is_allowed_running, is_allowed_closing}
 use Rattle.h1_machine.specs.Reply.{stated, answering, completing, piece_sent, sending_piece}
-use Rattle.h1_machine.specs.Change.{IsStep, noting_since, doing_with}
+use Rattle.h1_machine.specs.Change.{IsStep, IsChange, noting_since, doing_with}
 use Rattle.h1_connection.specs.Meaning.{setting_of}
 use Rattle.h1_connection.specs.Parts.{kept_of, Steps}
 use Rattle.h1_connection.specs.Given.{next_allowed, HasOpened, IsSendingBody}
@@ -80,6 +81,10 @@ answer_given now s p q view allowed opened head size =
     runs_allowed (setting_of s) (kept_of q) (on.answer head size)
     (opened.over ∙ not_over (setting_of s) (kept_of p) on.next (allowed_parts now s p on.next view allowed)) opened.runs opened.waits
 
+-- one that waits for its answer may get it
+pub waits_given : (s : Settings) (q : Parts) → HasOpened (setting_of s) false (kept_of q) → (head : AnswerHead) (size : BodySize) → IsAllowed (state_of s q) (on.answer head size)
+waits_given s q opened head size = runs_allowed (setting_of s) (kept_of q) (on.answer head size) opened.over opened.runs opened.waits
+
 -- ---- what is open closes for the same reasons, whatever of its answer goes out
 
 closing_begun : (set : Setting) (k : Kept) (x : Exchange) (rest : Rest) (shape : Shape) (kind : ConnectionType) (n : ℕ) (bytes : List ℕ) (coming : Bool) (since : Option (Option ℕ))
@@ -101,6 +106,49 @@ closing_sent set k x raw_rest shape kind n m bytes coming since = refl
 closing_sent set k x (fixed_rest l) shape kind n m bytes coming since = refl
 closing_sent set k x (chunks_rest place section) shape kind n m bytes coming since = refl
 closing_sent set k x (frames_rest under_way limit) shape kind n m bytes coming since = refl
+
+closing_continued : (set : Setting) (k : Kept) (x : Exchange) (rest : Rest) (bytes : List ℕ) (coming : Bool) (since : Option (Option ℕ))
+    → closing_by set (record k { exchange = Some (record x { rest = rest; reply = unanswered; had_continue = true }); buffered = bytes; is_coming = coming; closing_since = since })
+    ≡ closing_by set (record k { exchange = Some (record x { rest = rest; reply = unanswered }) })
+unfolding closing_by
+closing_continued set k x no_rest bytes coming since = refl
+closing_continued set k x raw_rest bytes coming since = refl
+closing_continued set k x (fixed_rest n) bytes coming since = refl
+closing_continued set k x (chunks_rest place section) bytes coming since = refl
+closing_continued set k x (frames_rest under_way limit) bytes coming since = refl
+
+-- ---- leave to send a body
+
+continued_reply : (set : Setting) (k : Kept) (x : Exchange) (r : Reply) (c : Change) (later : Kept) (coming : Bool)
+    → (is_unanswered r && not (is_frames x.rest)) ≡ true → k.is_over ≡ false
+    → closing_by set (record k { exchange = Some (record x { reply = r }) }) ≡ None
+    → IsChange set (record k { exchange = Some (record x { reply = r }) }) on.send_continue c
+    → later ≡ noting_since set (record c.kept { is_coming = coming }) → HasOpened set false later
+continued_reply set k x (sending shape kind n) c later coming waits over runs is later_is = absurd (cc waits)
+continued_reply set k x (answered kind) c later coming waits over runs is later_is = absurd (cc waits)
+continued_reply set k x unanswered c later coming waits over runs is later_is =
+    let bytes = k.buffered ++ interim_text in
+    let made : Kept = record k { buffered = bytes; exchange = Some (record x { reply = unanswered; had_continue = true }) } in
+    let kept : c.kept ≡ made = ap (λ (d : Change). d.kept) is in
+    let same : later ≡ noting_since set (record made { is_coming = coming }) = later_is ∙ ap (λ (m : Kept). noting_since set (record m { is_coming = coming })) kept in
+    subst (λ (m : Kept). HasOpened set false m) (sym same)
+    (record { over = over; runs = closing_continued set k x x.rest bytes coming _ ∙ runs; waits = waits })
+
+continued_case : (set : Setting) (k : Kept) (e : Option Exchange) (out : on.Outcome) (later : Kept)
+    → IsTrue (allowed_by set (record k { exchange = e }) on.send_continue) → IsStep set (record k { exchange = e }) on.send_continue out later
+    → HasOpened set false later
+unfolding allowed_by
+continued_case set k None out later allowed step =
+    absurd (cc (runs_case k.is_over (closing_by set (record k { exchange = None })) false allowed).tested)
+continued_case set k (Some x) out later allowed step =
+    let run = runs_case k.is_over (closing_by set (record k { exchange = Some x })) _ allowed in
+    continued_reply set k x x.reply step.change later step.coming (first_true (is_unanswered x.reply && not (is_frames x.rest)) _ run.tested)
+    (over_case k.is_over _ allowed) run.runs step.changes step.keeps
+
+pub continue_opens : (now : State) (s : Settings) (p q : Parts) → state_of s p ≡ now → IsAllowed now on.send_continue
+    → Steps s p on.send_continue on.done q → HasOpened (setting_of s) false (kept_of q)
+continue_opens now s p q view allowed steps =
+    continued_case (setting_of s) (kept_of p) (kept_of p).exchange on.done (kept_of q) (allowed_parts now s p on.send_continue view allowed) steps
 
 -- ---- an answer with a body
 

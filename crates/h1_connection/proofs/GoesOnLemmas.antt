@@ -20,24 +20,18 @@ use Rattle.h1_machine.proofs.Stands.{closing_of_trace, allowed_of_trace, a_step_
 use Rattle.h1_machine.proofs.KeptBounds.{unread_bounded}
 use Rattle.h1_payload.specs.Rests.{SaysPulled}
 use Rattle.h1_payload.specs.declared.pulled.Pulled.{Pulled as Answer}
-use Rattle.h1_payload.specs.declared.pulled.Pulled.TheVariants as answers
 use Rattle.std.proofs.lemmas.Bool.{ltb-true}
 use Rattle.h1_model.specs.Answer.{AnswerHead, BodySize}
 use Rattle.h1_model.specs.Limits.{MAX_MOMENT}
 use Rattle.h1_connection.specs.Meaning.{setting_of, end_of, fault_of}
-use Rattle.h1_connection.specs.Upgrade.{Upgrade, with_upgrade_of, with_upgrade}
 use Rattle.h1_connection.specs.Parts.{kept_of, IsSound, Steps, StepsIn}
 use Rattle.h1_connection.specs.Pulls.{IsPullFrom, IsPullOf}
-use Rattle.h1_connection.specs.Ticks.{expiry_of}
-use Rattle.h1_connection.specs.Heads.{IsHeld, IsNexted, SaysNext, upgrade_of}
+use Rattle.h1_connection.specs.Heads.{IsHeld, IsNexted, SaysNext}
 use Rattle.h1_connection.specs.State.{State, IsAllowed, Stands, GoesOn, ReadsIn, Is}
 use Rattle.h1_connection.specs.declared.connection.heads.NextHead.{NextHead}
 use Rattle.h1_connection.specs.declared.connection.heads.NextHead.TheVariants as next
 use Rattle.h1_connection.specs.declared.connection.parts.Parts.{Parts}
-use Rattle.h1_connection.specs.declared.connection.ticks.Expiry.{Expiry}
-use Rattle.h1_connection.specs.declared.connection.ticks.Expiry.TheVariants as expiry
 use Rattle.h1_connection.proofs.ResultLemmas.{err_map}
-use Rattle.h1_connection.proofs.UpgradeLemmas.{IsPlain, IsHeadless, step_with, allowed_same, closing_same}
 
 -- ---- results
 
@@ -55,25 +49,17 @@ state_of s p = record { settings = s; kept = kept_of p }
 pub same_state : {A E : Type 0} (r : Result A E) (s : Settings) (p q : Parts) (now : State) → state_of s p ≡ now → OnErr r (q ≡ p) → OnErr r (state_of s q ≡ now)
 same_state r s p q now view same = err_map r (q ≡ p) (state_of s q ≡ now) (λ e. ap (λ (p : Parts). state_of s p) e ∙ view) same
 
-allowed_with : (u : Upgrade) (s : Settings) (k : Kept) (event : on.Event) → IsTrue (allowed_by (setting_of s) k event) → IsTrue (allowed_by (setting_of s) (with_upgrade u k) event)
-allowed_with u s k event allowed = subst IsTrue (sym (allowed_same u (setting_of s) k event)) allowed
-
-goes_from : (s : Settings) (p q : Parts) (event : on.Event) (out : on.Outcome) → IsPlain event → IsHeadless out → Steps s p event out q
+goes_from : (s : Settings) (p q : Parts) (event : on.Event) (out : on.Outcome) → Steps s p event out q
     → IsAllowed (state_of s p) event → GoesOn (state_of s p) event (Is out) (state_of s q)
-goes_from s p q event out plain headless steps allowed = λ trace stands.
-    let u = stands.0 in
+goes_from s p q event out steps allowed = λ trace stands.
     let set = setting_of s in
-    let k = with_upgrade u (kept_of p) in
-    let next = with_upgrade u (kept_of q) in
-    let step = step_with u set (kept_of p) (kept_of q) event out plain headless steps in
-    let ok = allowed_with u s (kept_of p) event allowed in
-    (out, refl, step_outcome set k next trace event out stands.1 ok step, (u, step_state set k next trace event out stands.1 ok step))
+    (out, refl, step_outcome set (kept_of p) (kept_of q) trace event out stands allowed steps, step_state set (kept_of p) (kept_of q) trace event out stands allowed steps)
 
 -- a step of the parts is one of the connection
-pub goes_on : (now : State) (s : Settings) (p q : Parts) (event : on.Event) (out : on.Outcome) → IsPlain event → IsHeadless out → state_of s p ≡ now
+pub goes_on : (now : State) (s : Settings) (p q : Parts) (event : on.Event) (out : on.Outcome) → state_of s p ≡ now
     → IsAllowed now event → Steps s p event out q → GoesOn now event (Is out) (state_of s q)
-goes_on now s p q event out plain headless view allowed steps =
-    subst (λ (m : State). IsAllowed m event → GoesOn m event (Is out) (state_of s q)) view (goes_from s p q event out plain headless steps) allowed
+goes_on now s p q event out view allowed steps =
+    subst (λ (m : State). IsAllowed m event → GoesOn m event (Is out) (state_of s q)) view (goes_from s p q event out steps) allowed
 
 -- what is said of the connection is said of its parts
 pub allowed_parts : (now : State) (s : Settings) (p : Parts) (event : on.Event) → state_of s p ≡ now → IsAllowed now event → IsAllowed (state_of s p) event
@@ -90,40 +76,22 @@ pub reads_in : (now : State) (s : Settings) (p q : Parts) (bytes : List ℕ) →
     → ReadsIn now bytes (state_of s q)
 reads_in now s p q [] view allowed same = ap (λ (p : Parts). state_of s p) same ∙ view
 reads_in now s p q (b ∷ bytes) view allowed steps =
-    goes_on now s p q (on.read (b ∷ bytes)) (on.took (length (b ∷ bytes))) tt (λ h e. cc e) view (any_read now (b ∷ bytes) allowed) steps
-
--- ---- ticks
-
-pub expiry_headless : (e : Expiry) → IsHeadless (expiry_of e)
-expiry_headless expiry.None = λ h is. cc is
-expiry_headless (expiry.Expired end) = λ h is. cc is
-expiry_headless expiry.Abandoned = λ h is. cc is
+    goes_on now s p q (on.read (b ∷ bytes)) (on.took (length (b ∷ bytes))) view (any_read now (b ∷ bytes) allowed) steps
 
 -- ---- the next head
 
 head_from : (s : Settings) (p q : Parts) (answer : NextHead) → (IsHeld s p → IsNexted s p answer q) → IsAllowed (state_of s p) on.next
     → GoesOn (state_of s p) on.next (SaysNext answer) (state_of s q)
 head_from s p q (next.Head item) nexted allowed = λ trace stands.
-    let u = stands.0 in
-    let set = setting_of s in
-    let n = nexted (unread_bounded set (with_upgrade u (kept_of p)) trace stands.1) in
-    let v = upgrade_of n.0 in
-    let ok = allowed_with u s (kept_of p) on.next allowed in
-    let step = n.2 u in (
-      on.head n.0,
-      (n.0, n.1, refl),
-      step_outcome set (with_upgrade u (kept_of p)) (with_upgrade v (kept_of q)) trace on.next (on.head n.0) stands.1 ok step,
-      (v, step_state set (with_upgrade u (kept_of p)) (with_upgrade v (kept_of q)) trace on.next (on.head n.0) stands.1 ok step),
-    )
+    let n = nexted (unread_bounded (setting_of s) (kept_of p) trace stands) in
+    let goes = goes_from s p q on.next (on.head n.0) n.2 allowed trace stands in
+    (goes.0, (n.0, n.1, goes.1), goes.2, goes.3)
 head_from s p q (next.Fault fault) nexted allowed = λ trace stands.
-    goes_from s p q on.next (on.fault (fault_of fault)) tt (λ h is. cc is)
-    (nexted (unread_bounded (setting_of s) (with_upgrade stands.0 (kept_of p)) trace stands.1)) allowed trace stands
+    goes_from s p q on.next (on.fault (fault_of fault)) (nexted (unread_bounded (setting_of s) (kept_of p) trace stands)) allowed trace stands
 head_from s p q next.Pending nexted allowed = λ trace stands.
-    goes_from s p q on.next on.pending tt (λ h is. cc is)
-    (nexted (unread_bounded (setting_of s) (with_upgrade stands.0 (kept_of p)) trace stands.1)) allowed trace stands
+    goes_from s p q on.next on.pending (nexted (unread_bounded (setting_of s) (kept_of p) trace stands)) allowed trace stands
 head_from s p q (next.Closed end) nexted allowed = λ trace stands.
-    goes_from s p q on.next (on.closed (end_of end)) tt (λ h is. cc is)
-    (nexted (unread_bounded (setting_of s) (with_upgrade stands.0 (kept_of p)) trace stands.1)) allowed trace stands
+    goes_from s p q on.next (on.closed (end_of end)) (nexted (unread_bounded (setting_of s) (kept_of p) trace stands)) allowed trace stands
 
 pub head_goes_on : (now : State) (s : Settings) (p q : Parts) (answer : NextHead) → state_of s p ≡ now → IsAllowed now on.next
     → (IsHeld s p → IsNexted s p answer q) → GoesOn now on.next (SaysNext answer) (state_of s q)
@@ -152,38 +120,28 @@ pub pull_open : (s : Settings) (p : Parts) → IsAllowed (state_of s p) on.pull 
 unfolding allowed_by
 pull_open s p allowed = open_exchange (kept_of p) (kept_of p).exchange (open_case (setting_of s) (kept_of p) p.is_over _ allowed)
 
-pulling_case : (u : Upgrade) (k : Kept) (e : Option Exchange) (c : Change) → is_open (record k { exchange = e }) ≡ true
-    → IsPulling (with_upgrade u (record k { exchange = e })) (option_map (with_upgrade_of u) e) c → (p : Pulled) × IsPullFrom k e p
-pulling_case u k None c opened pulling = absurd (cc opened)
-pulling_case u k (Some x) c opened pulling = (pulling.0, pulling.1)
+pulling_case : (k : Kept) (e : Option Exchange) (c : Change) → is_open (record k { exchange = e }) ≡ true
+    → IsPulling (record k { exchange = e }) e c → (p : Pulled) × IsPullFrom k e p
+pulling_case k None c opened pulling = absurd (cc opened)
+pulling_case k (Some x) c opened pulling = (pulling.0, pulling.1)
 
 pull_from : (s : Settings) (p q : Parts) (answer : Answer)
     → ((r : Pulled) → IsPullOf (kept_of p) r → SaysPulled answer r.outcome × Steps s p on.pull r.outcome q)
-    → ((r : Pulled) → SaysPulled answer r.outcome → IsHeadless r.outcome)
     → IsAllowed (state_of s p) on.pull → GoesOn (state_of s p) on.pull (SaysPulled answer) (state_of s q)
-pull_from s p q answer pulled headless allowed = λ trace stands.
-    let u = stands.0 in
+pull_from s p q answer pulled allowed = λ trace stands.
     let set = setting_of s in
-    let k = with_upgrade u (kept_of p) in
-    let there = a_step_is_there set k trace on.pull stands.1 (allowed_with u s (kept_of p) on.pull allowed) in
-    let r = pulling_case u (kept_of p) (kept_of p).exchange there.2.change (pull_open s p allowed) there.2.changes in
+    let there = a_step_is_there set (kept_of p) trace on.pull stands allowed in
+    let r = pulling_case (kept_of p) (kept_of p).exchange there.2.change (pull_open s p allowed) there.2.changes in
     let x = pulled r.0 r.1 in
-    let goes = goes_from s p q on.pull r.0.outcome tt (headless r.0 x.0) x.1 allowed trace stands in
+    let goes = goes_from s p q on.pull r.0.outcome x.1 allowed trace stands in
     (goes.0, subst (λ (o : on.Outcome). SaysPulled answer o) (sym goes.1) x.0, goes.2, goes.3)
-
-says_headless : (answer : Answer) (o : on.Outcome) → SaysPulled answer o → IsHeadless o
-says_headless (answers.Bytes bytes) o is = λ h e. cc (is, e)
-says_headless (answers.Trailers map) o is = λ h e. cc (is.1, e)
-says_headless answers.End o is = λ h e. cc (is, e)
-says_headless (answers.Broken fault) o is = λ h e. cc (is, e)
-says_headless answers.Pending o is = λ h e. cc (is, e)
 
 pub pull_goes_on : (now : State) (s : Settings) (p q : Parts) (answer : Answer) → state_of s p ≡ now → IsAllowed now on.pull
     → ((r : Pulled) → IsPullOf (kept_of p) r → SaysPulled answer r.outcome × Steps s p on.pull r.outcome q)
     → GoesOn now on.pull (SaysPulled answer) (state_of s q)
 pull_goes_on now s p q answer view allowed pulled =
     subst (λ (m : State). IsAllowed m on.pull → GoesOn m on.pull (SaysPulled answer) (state_of s q)) view
-    (pull_from s p q answer pulled (λ r says. says_headless answer r.outcome says)) allowed
+    (pull_from s p q answer pulled) allowed
 
 -- ---- answers
 
@@ -215,30 +173,25 @@ tick_before s p ms allowed = before_case p.is_over (is_some (closing_by (setting
 -- whether an event is allowed
 pub allowed_traced : (now : State) (event : on.Event) (trace : List sums.Step) → Stands now trace
     → IsTrue (allowed_by (setting_of now.settings) now.kept event) ↔ traces.IsAllowed (setting_of now.settings) trace event
-allowed_traced now event trace stands =
-    subst (λ (b : Bool). IsTrue b ↔ traces.IsAllowed (setting_of now.settings) trace event) (allowed_same stands.0 (setting_of now.settings) now.kept event)
-    (allowed_of_trace (setting_of now.settings) (with_upgrade stands.0 now.kept) trace event stands.1)
+allowed_traced now event trace stands = allowed_of_trace (setting_of now.settings) now.kept trace event stands
 
 -- why it closes
 pub closing_traced : (now : State) (trace : List sums.Step) (past : List ParsedStep) → Stands now trace → IsPastOf (setting_of now.settings) trace past
     → closing_by (setting_of now.settings) now.kept ≡ closing (setting_of now.settings) past
-closing_traced now trace past stands is_past =
-    sym (closing_same stands.0 (setting_of now.settings) now.kept)
-    ∙ closing_of_trace (setting_of now.settings) (with_upgrade stands.0 now.kept) trace past stands.1 is_past
+closing_traced now trace past stands is_past = closing_of_trace (setting_of now.settings) now.kept trace past stands is_past
 
 -- what is to be written
 pub buffered_traced : (now : State) (trace : List sums.Step) → Stands now trace → now.kept.buffered ≡ buffered (setting_of now.settings) trace
 buffered_traced now trace stands =
-    ap (λ (k : Kept). k.buffered) stands.1.parts ∙ ap (λ (t : List sums.Step). buffered (setting_of now.settings) t) stands.1.of_trace.same
+    ap (λ (k : Kept). k.buffered) stands.parts ∙ ap (λ (t : List sums.Step). buffered (setting_of now.settings) t) stands.of_trace.same
 
 -- what is held
 pub held_traced : (now : State) (trace : List sums.Step) → Stands now trace → length now.kept.unread ≤ (setting_of now.settings).hold_size
-held_traced now trace stands = unread_bounded (setting_of now.settings) (with_upgrade stands.0 now.kept) trace stands.1
+held_traced now trace stands = unread_bounded (setting_of now.settings) now.kept trace stands
 
 pub held_by_trace : (now : State) (trace : List sums.Step) (past : List ParsedStep) → Stands now trace → IsPastOf (setting_of now.settings) trace past
     → length now.kept.unread ≡ held past
 held_by_trace now trace past stands is_past =
-    let set = setting_of now.settings in
-    let was = stands.1.past in
-    ap (λ (k : Kept). length k.unread) stands.1.parts ∙ length-drop (passed was) (taken (steps was))
-    ∙ ap held (past_of_unique set trace was past stands.1.of_trace is_past)
+    let was = stands.past in
+    ap (λ (k : Kept). length k.unread) stands.parts ∙ length-drop (passed was) (taken (steps was))
+    ∙ ap held (past_of_unique (setting_of now.settings) trace was past stands.of_trace is_past)

@@ -1,19 +1,25 @@
 -- The machine's steps where the next head is asked for.
 use Rattle.std.proofs.lemmas.List.{length-take, length-drop}
 use Rattle.std.proofs.Common.{◌≡◌, ℕ, zero, suc, ◌-◌, ◌≤◌, Bool, true, false, ◌&&◌, List, [], ◌∷◌, length, drop, Option, Some, None, inl, refl, sym, ap, ◌∙◌, subst, arith}
-use Rattle.std.specs.Prelude.{option_map, is_some, slice_range, ◌==◌, ◌||◌, not}
+use Rattle.std.specs.Prelude.{option_map, is_some, slice_range, ◌==◌, ◌||◌, not, if◌then◌else◌}
 use Rattle.http_config.specs.Config.{Settings}
 use Rattle.h1_model.specs.HeadPiece.{IsHeadPiece}
 use Rattle.h1_model.specs.Request as model
 use Rattle.h1_model.specs.Request.{Head, Reading, head_is, faulty, too_large}
 use Rattle.h1_model.specs.RequestHead.{IsReading, IsReadingWithin}
 use Rattle.h1_model.specs.Setting.{Setting}
+use Rattle.h1_model.specs.Handshake as checks
+use Rattle.h1_model.specs.Handshake.{handshake_error, accept_key_of}
+use Rattle.http_map.specs.HeaderMap.{Entries, get_all}
+use Rattle.ws_session.specs.Upgrade.{SaysUpgrade, FailsWith, error_of, value_bytes}
+use Rattle.ws_session.specs.declared.handshake.HandshakeError.{HandshakeError}
+use Rattle.ws_session.proofs.ValueLemmas.{head_values}
 use Rattle.h1_model.specs.Event as on
 use Rattle.h1_model.specs.End as ends
 use Rattle.h1_machine.specs.Kept as machine
-use Rattle.h1_machine.specs.Kept.{Kept, Change, is_free, is_frames, is_answered, is_unanswered, now, rest_in, whole_rest}
+use Rattle.h1_machine.specs.Kept.{Kept, Change, is_free, is_frames, is_answered, is_unanswered, now, rest_in, whole_rest, new_exchange, refusal_of, key_answer_of}
 use Rattle.h1_machine.specs.Local.{closing_by, answered_end_of}
-use Rattle.h1_machine.specs.Change.{IsChange, IsNext, IsUpcoming, noting_since, behind_head, without_head}
+use Rattle.h1_machine.specs.Change.{IsStep, IsChange, IsNext, IsUpcoming, noting_since, behind_head, without_head}
 use Rattle.h1_decode.specs.HeadItem.{SaysHead, version_of, type_of}
 use Rattle.h1_codec.specs.Meaning.{minor_of, model_type}
 use Rattle.h1_model.specs.Answer.{Asked, asked_of}
@@ -23,9 +29,9 @@ use Rattle.h1_decode.specs.declared.scan.HeadScan.{HeadScan}
 use Rattle.h1_decode.specs.declared.scan.HeadScan.TheVariants.{Open, Piece}
 use Rattle.h1_connection.specs.Incoming.{Incoming, is_coming_in, IsFoundIn, IsHeadIn, IsHeadOf, IsPassedIn, IsPassedHead}
 use Rattle.h1_connection.specs.Meaning.{setting_of, end_of, fault_of}
-use Rattle.h1_connection.specs.Parts.{kept_of, exchange_of, reply_of, IsNoted, IsSound, IsSettled, Steps}
+use Rattle.h1_connection.specs.Parts.{failing_of, kept_of, exchange_of, reply_of, IsNoted, IsSound, IsSettled, Steps}
 use Rattle.h1_connection.specs.Given.{HasOpened}
-use Rattle.h1_connection.specs.Heads.{IsAsked, plain_exchange, behind_plain, refused, IsHeld, IsNexted}
+use Rattle.h1_connection.specs.Heads.{IsAsked, after_head, refused, IsHeld, IsNexted}
 use Rattle.h1_connection.specs.declared.connection.exchange.Exchange.{Exchange}
 use Rattle.h1_connection.specs.declared.connection.exchange.Reply.{Reply}
 use Rattle.h1_connection.specs.declared.connection.exchange.Reply.TheVariants.{Unanswered}
@@ -37,7 +43,6 @@ use Rattle.h1_connection.specs.declared.event.End.{End}
 use Rattle.h1_connection.specs.declared.event.HeadFault.{HeadFault}
 use Rattle.h1_connection.proofs.ClosingLemmas.{handed_runs}
 use Rattle.h1_connection.proofs.StepLemmas.{noted_same, quiet_step, settled_step, settled_sound}
-use Rattle.h1_connection.proofs.UpgradeLemmas.{head_step}
 
 -- ---- a next one that doesn't close
 
@@ -46,6 +51,21 @@ next_change : (set : Setting) (k : Kept) (coming : Bool) (c : Change) → closin
 next_change set k coming c running is x =
     subst (λ (o : Option ends.End). IsNext set k o c) (sym running)
     (subst (λ (b : Bool). IsUpcoming set k b c) (sym is) x)
+
+-- one that hands out a head
+head_step : (set : Setting) (k later : Kept) (h : Head) (start end : ℕ) → closing_by set k ≡ None → k.is_coming ≡ true
+    → IsHeadPiece k.unread start end → IsReadingWithin set.hold_size (slice_range k.unread start end) (head_is h)
+    → later ≡ noting_since set (after_head k end h) → IsStep set k on.next (on.head h) later
+head_step set k later h start end runs coming here reading later_is =
+    let c : Change = behind_head k end (head_is h) in
+    record {
+      change = c;
+      coming = false;
+      changes = next_change set k true c runs coming (start, end, head_is h, here, reading, refl);
+      answers = refl;
+      comes = refl;
+      keeps = later_is;
+    }
 
 -- where no head is found, none is coming
 none_coming : (i : Incoming) (piece : Option HeadScan) → IsHeadIn i piece None → is_coming_in piece ≡ false
@@ -154,13 +174,13 @@ found_steps s p q head fault runs found reading settled held =
 pub head_steps : (s : Settings) (p q : Parts) (head : List ℕ) (item : HeadItem) (h : Head) → closing_by (setting_of s) (kept_of p) ≡ None → IsHeadOf p.input (Some head)
     → IsReading head (head_is h) → SaysHead item h
     → ((piece : List ℕ) (h : Head) (start end : ℕ) → IsReading piece (head_is h) → SaysHead item h → p.input.piece ≡ Some (Piece start end)
-    → kept_of q ≡ noting_since (setting_of s) (behind_plain (kept_of p) end h))
+    → kept_of q ≡ noting_since (setting_of s) (after_head (kept_of p) end h))
     → IsHeld s p → IsNexted s p (next.Head item) q
 head_steps s p q head item h runs found reading says handed held =
     let at = found_at p.input head found in (
       h,
       says,
-      λ u. head_step u (setting_of s) (kept_of p) (kept_of q) h at.start at.end runs (found_whole p.input head found) at.here
+      head_step (setting_of s) (kept_of p) (kept_of q) h at.start at.end runs (found_whole p.input head found) at.here
           (within s p head at.start at.end (head_is h) at.head_is held reading)
           (handed head h at.start at.end reading says at.piece),
     )
@@ -169,15 +189,15 @@ head_steps s p q head item h runs found reading says handed held =
 
 pub plain_same : (x : Exchange) (h : Head) (rest : machine.Rest) (request : Request) → IsAsked h request
     → x ≡ record { request = request; rest = rest; reply = Unanswered; was_pulled = false; was_dropped = false; had_continue = false; body_is_done = false }
-    → exchange_of x ≡ plain_exchange rest h
+    → exchange_of x ≡ new_exchange rest h
 plain_same x h rest request asked is =
     ap (λ (y : Exchange). exchange_of y) is
     ∙ (λ i. record {
       asked = asked.asked i;
       has_body = asked.body i;
       expects = asked.expects i;
-      refusal = None;
-      accept_key = [];
+      refusal = asked.refusal i;
+      accept_key = asked.accept_key i;
       rest = rest;
       reply = machine.unanswered;
       was_pulled = false;
@@ -250,12 +270,12 @@ pub handed_kept : (set : Setting) (p : Parts) (after : Incoming) (x : Exchange) 
     → closing_by set (kept_of p) ≡ None → p.input.piece ≡ Some (Piece start end) → IsPassedHead p.input after → IsAsked h request
     → rest ≡ rest_in p.has_ended after.unread (whole_rest h.body)
     → x ≡ record { request = request; rest = rest; reply = Unanswered; was_pulled = false; was_dropped = false; had_continue = false; body_is_done = false }
-    → kept_of (handed p after x) ≡ noting_since set (behind_plain (kept_of p) end h)
+    → kept_of (handed p after x) ≡ noting_since set (after_head (kept_of p) end h)
 handed_kept set p after x h request rest start end runs piece passed asked rest_is x_is =
     let input = passed_at p.input after start end piece passed in
     let unread : after.unread ≡ drop end p.input.unread = ap (λ (i : Incoming). i.unread) input in
-    let exchange : exchange_of x ≡ plain_exchange (rest_in p.has_ended (drop end p.input.unread) (whole_rest h.body)) h =
-    plain_same x h rest request asked x_is ∙ ap (λ (r : machine.Rest). plain_exchange r h) (rest_is ∙ ap (λ (b : List ℕ). rest_in p.has_ended b (whole_rest h.body)) unread) in
+    let exchange : exchange_of x ≡ new_exchange (rest_in p.has_ended (drop end p.input.unread) (whole_rest h.body)) h =
+    plain_same x h rest request asked x_is ∙ ap (λ (r : machine.Rest). new_exchange r h) (rest_is ∙ ap (λ (b : List ℕ). rest_in p.has_ended b (whole_rest h.body)) unread) in
     let plain : is_frames x.rest ≡ false = ap (λ (y : Exchange). is_frames y.rest) x_is ∙ rest_plain p.has_ended after.unread h.body rest rest_is in
     let waits : x.reply ≡ Unanswered = ap (λ (y : Exchange). y.reply) x_is in
     sym (noted_same set (kept_of (handed p after x)) (handed_noted set p after x runs waits plain))
@@ -310,3 +330,40 @@ runs_same s p i same runs = subst (λ (j : Incoming). closing_by (setting_of s) 
 
 pub found_same : (p : Parts) (i : Incoming) (head : List ℕ) → i ≡ p.input → IsHeadOf p.input (Some head) → IsHeadOf i (Some head)
 found_same p i head same found = subst (λ (j : Incoming). IsHeadOf j (Some head)) (sym same) found
+
+-- ---- what an upgrade needs of it
+
+-- an error has its check back
+failing_same : (e : checks.HandshakeError) → failing_of (error_of e) ≡ e
+failing_same checks.get_method_required = refl
+failing_same checks.no_websocket_upgrade = refl
+failing_same checks.no_connection_upgrade = refl
+failing_same checks.no_version_header = refl
+failing_same checks.unsupported_version = refl
+failing_same checks.bad_websocket_key = refl
+
+-- the first check that fails
+pub fails_with : (e : HandshakeError) (failing : Option checks.HandshakeError) → FailsWith e failing → Some (failing_of e) ≡ failing
+fails_with e None fails = absurd fails
+fails_with e (Some check) fails = ap (λ (f : HandshakeError). Some (failing_of f)) fails ∙ ap (λ (f : checks.HandshakeError). Some f) (failing_same check)
+
+-- a head that was read says of an upgrade what it says
+pub says_upgrade : (item : HeadItem) (h : Head) → SaysHead item h → SaysUpgrade item.head h
+says_upgrade item h says =
+    record {
+      method = says.method;
+      values = λ name. ap (λ (entries : Entries). value_bytes (get_all entries name)) says.headers ∙ head_values name h.headers;
+    }
+
+-- a request that isn't raw has none, and a raw one its own
+pub no_refusal : (h : Head) → (asked_of h).is_raw ≡ false → None ≡ refusal_of h
+no_refusal h raw = sym (ap (λ (b : Bool). if b then handshake_error h else None) raw)
+
+pub raw_refusal : (h : Head) → (asked_of h).is_raw ≡ true → refusal_of h ≡ handshake_error h
+raw_refusal h raw = ap (λ (b : Bool). if b then handshake_error h else None) raw
+
+pub no_key : (h : Head) → (asked_of h).is_raw ≡ false → [] ≡ key_answer_of h
+no_key h raw = sym (ap (λ (b : Bool). if b then accept_key_of h else []) raw)
+
+pub raw_key : (h : Head) → (asked_of h).is_raw ≡ true → key_answer_of h ≡ accept_key_of h
+raw_key h raw = ap (λ (b : Bool). if b then accept_key_of h else []) raw

@@ -1,7 +1,6 @@
 pub mod PassingLemmas
 pub mod StepLemmas
 pub mod EventLemmas
-pub mod UpgradeLemmas
 pub mod TickLemmas
 pub mod AnswerLemmas
 pub mod PullLemmas

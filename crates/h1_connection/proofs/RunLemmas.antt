@@ -1,5 +1,5 @@
 -- A run that grows by a step, behind the trace that the connection stands for.
-use Rattle.std.proofs.Common.{◌≡◌, ℕ, ◌+◌, ◌<◌, ◌≤◌, false, List, [], ◌∷◌, ◌++◌, length, get_or, map, take, reverse, Some, None, refl, sym, ap, ◌∙◌, subst, arith, length-append}
+use Rattle.std.proofs.Common.{◌≡◌, ℕ, ◌+◌, ◌<◌, ◌≤◌, false, List, [], ◌∷◌, ◌++◌, length, get_or, map, take, reverse, Some, refl, sym, ap, ◌∙◌, subst, arith, length-append}
 use Rattle.std.proofs.lemmas.List.{map-append, take_more, take_all}
 use Rattle.std.proofs.lemmas.Grind.{reverse_onto}
 use Rattle.std.specs.Prelude.{option_map, slice_get}
@@ -12,8 +12,6 @@ use Rattle.h1_model.proofs.HandedParsed.{handed_prefix}
 use Rattle.h1_machine.specs.Local.{closing_by, allowed_by}
 use Rattle.h1_model.specs.Trace as traces
 use Rattle.h1_machine.proofs.Stands.{fresh_stands, misplaced_of_trace}
-use Rattle.h1_connection.specs.Upgrade.{Upgrade, with_upgrade}
-use Rattle.h1_connection.proofs.UpgradeLemmas.{allowed_same}
 use Rattle.h1_connection.proofs.GoesOnLemmas.{buffered_traced, closing_traced}
 use Rattle.h1_connection.specs.Meaning.{setting_of, event_of, end_of, SaysOutcome}
 use Rattle.h1_connection.specs.State.{State, fresh_state, Stands, GoesOn}
@@ -41,10 +39,6 @@ says_more now after event P outcome says goes = λ trace stands.
 
 -- ---- a run
 
--- nothing of an upgrade
-abbrev no_upgrade : Upgrade
-no_upgrade = record { refusal = None; accept_key = [] }
-
 -- what a loop over the events has done before the one at the index
 pub record IsDrivenTo (settings : Settings) (events : List Event) (index : ℕ) (steps : List Step) (now : State) : Type 0 where
   pub settings_are : now.settings ≡ settings
@@ -59,7 +53,7 @@ pub driven_new : (settings : Settings) (events : List Event) (steps : List Step)
 driven_new settings events steps now empty is =
     subst (λ (k : State). IsDrivenTo settings events 0 steps k) (sym is)
     (subst (λ (l : List Step). IsDrivenTo settings events 0 l (fresh_state settings)) (sym empty)
-    (record { settings_are = refl; events_are = refl; model = []; stands = (no_upgrade, fresh_stands (setting_of settings)); says = tt }))
+    (record { settings_are = refl; events_are = refl; model = []; stands = fresh_stands (setting_of settings); says = tt }))
 
 -- one more step on both sides
 say_more : (ss : List Step) (ts : List sums.Step) (s : Step) (t : sums.Step) → SaySteps ss ts → SaysStep s t → SaySteps (ss ++ s ∷ []) (ts ++ t ∷ [])
@@ -128,15 +122,14 @@ pub run_of : (settings : Settings) (events : List Event) (index : ℕ) (steps : 
 run_of settings events index steps now trace x steps_are buffered_are closing_is =
     let set = setting_of settings in
     let at : State = record { settings = settings; kept = now.kept } in
-    let stands = x.stands.1 in
     record {
-      traced = stands.traced;
+      traced = x.stands.traced;
       says = subst (λ (l : List Step). SaySteps l (reverse x.model)) (sym steps_are) x.says;
       events_are = ap (λ (l : List Step). map (λ (s : Step). s.event) l) steps_are ∙ x.events_are;
-      handed = λ parse parsed. handed_prefix set x.model parse stands.traced parsed;
+      handed = λ parse parsed. handed_prefix set x.model parse x.stands.traced parsed;
       text_is =
           ap (λ (l : List ℕ). written x.model ++ l) (buffered_are ∙ buffered_traced at x.model x.stands)
-          ∙ written_buffered set x.model stands.traced;
+          ∙ written_buffered set x.model x.stands.traced;
       closing_is = λ past is_past.
           closing_is ∙ ap (λ (s : Settings). closing_by (setting_of s) now.kept) x.settings_are ∙ closing_traced at x.model past x.stands is_past;
     }
@@ -154,9 +147,7 @@ whole_of settings events index steps now trace x steps_are buffered_are closing_
 -- an event that isn't allowed is misplaced
 refused_at : (at : State) (model : List sums.Step) (event : on.Event) (stands : Stands at model) → allowed_by (setting_of at.settings) at.kept event ≡ false
     → traces.IsMisplaced (setting_of at.settings) model event
-refused_at at model event stands refused =
-    (misplaced_of_trace (setting_of at.settings) (with_upgrade stands.0 at.kept) model event stands.1).0
-    (allowed_same stands.0 (setting_of at.settings) at.kept event ∙ refused)
+refused_at at model event stands refused = (misplaced_of_trace (setting_of at.settings) at.kept model event stands).0 refused
 
 pub misplaced_of : (settings : Settings) (events : List Event) (index : ℕ) (steps : List Step) (now : State) (trace : Trace) (event : Event)
     → IsDrivenTo settings events index steps now

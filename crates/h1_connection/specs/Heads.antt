@@ -1,18 +1,17 @@
 -- What comes where the next head is asked for.
-use Rattle.std.specs.Prelude.{◌≡◌, ℕ, ◌≤◌, ◌==◌, ◌⊎◌, Bool, true, false, if◌then◌else◌, [], length, drop, Some, None, IsSome, ⊤}
+use Rattle.std.specs.Prelude.{◌≡◌, ℕ, ◌≤◌, ◌==◌, ◌⊎◌, Bool, true, false, if◌then◌else◌, length, drop, Some, None, IsSome, option_map, ⊤}
 use Rattle.http_config.specs.Config.{Settings}
 use Rattle.h1_model.specs.Request.{Head, has_body, faulty}
 use Rattle.h1_model.specs.Setting.{Setting}
 use Rattle.h1_model.specs.Answer.{asked_of}
 use Rattle.h1_model.specs.Event as on
-use Rattle.h1_machine.specs.Kept.{Rest, Exchange, Kept, new_exchange, rest_in, whole_rest, refusal_of, key_answer_of}
+use Rattle.h1_machine.specs.Kept.{Kept, new_exchange, rest_in, whole_rest, refusal_of, key_answer_of}
 use Rattle.h1_machine.specs.Local.{closing_by}
-use Rattle.h1_machine.specs.Change.{IsStep, behind_head}
+use Rattle.h1_machine.specs.Change.{behind_head}
 use Rattle.h1_decode.specs.HeadItem.{SaysHead, without_headers}
 use Rattle.h1_decode.specs.declared.decoder.HeadItem.{HeadItem}
 use Rattle.h1_connection.specs.Meaning.{setting_of, end_of, fault_of}
-use Rattle.h1_connection.specs.Upgrade.{Upgrade, with_upgrade}
-use Rattle.h1_connection.specs.Parts.{kept_of, Steps}
+use Rattle.h1_connection.specs.Parts.{failing_of, key_bytes, kept_of, Steps}
 use Rattle.h1_connection.specs.declared.connection.heads.NextHead.{NextHead}
 use Rattle.h1_connection.specs.declared.connection.heads.NextHead.TheVariants as next
 use Rattle.h1_connection.specs.declared.connection.heads.NextKind.{NextKind}
@@ -21,27 +20,21 @@ use Rattle.h1_connection.specs.declared.connection.parts.Parts.{Parts}
 use Rattle.h1_connection.specs.declared.connection.request.Request.{Request}
 use Rattle.h1_connection.specs.declared.event.HeadFault.{HeadFault}
 
--- what is kept of a request with this head
+-- what is kept of a request with this head: what its answer needs of it, and where it is raw, what an upgrade does
 pub record IsAsked (h : Head) (request : Request) : Type 0 where
   pub asked : request.asked ≡ asked_of h
   pub body : request.has_body ≡ has_body h.body
   pub expects : request.expects ≡ h.expects
+  pub refusal : option_map failing_of request.refusal ≡ refusal_of h
+  pub accept_key : key_bytes request.accept_key ≡ key_answer_of h
 
--- what an upgrade would need of it
-abbrev pub upgrade_of : Head → Upgrade
-upgrade_of h = record { refusal = refusal_of h; accept_key = key_answer_of h }
-
--- a request that was handed out, without these
-abbrev pub plain_exchange : Rest → Head → Exchange
-plain_exchange rest h = record (new_exchange rest h) { refusal = None; accept_key = [] }
-
--- what is kept behind its head
-abbrev pub behind_plain : Kept → ℕ → Head → Kept
-behind_plain k end h =
+-- what is kept after its head
+abbrev pub after_head : Kept → ℕ → Head → Kept
+after_head k end h =
     record k {
       unread = drop end k.unread;
       is_coming = false;
-      exchange = Some (plain_exchange (rest_in k.has_ended (drop end k.unread) (whole_rest h.body)) h);
+      exchange = Some (new_exchange (rest_in k.has_ended (drop end k.unread) (whole_rest h.body)) h);
     }
 
 -- what is kept behind a head that is none
@@ -52,14 +45,9 @@ refused fault k = (behind_head k 0 (faulty (fault_of fault))).kept
 abbrev pub IsHeld : Settings → Parts → Type 0
 IsHeld settings p = length p.input.unread ≤ settings.h1_hold_size
 
--- the head leads from these parts to those, whatever an upgrade would have needed of the last request
-abbrev pub HeadSteps : Settings → Parts → Head → Parts → Type 0
-HeadSteps settings p h q =
-    (u : Upgrade) → IsStep (setting_of settings) (with_upgrade u (kept_of p)) on.next (on.head h) (with_upgrade (upgrade_of h) (kept_of q))
-
 -- what comes is the machine's
 abbrev pub IsNexted : Settings → Parts → NextHead → Parts → Type 0
-IsNexted settings p (next.Head item) q = (h : Head) × SaysHead item h × HeadSteps settings p h q
+IsNexted settings p (next.Head item) q = (h : Head) × SaysHead item h × Steps settings p on.next (on.head h) q
 IsNexted settings p (next.Fault fault) q = Steps settings p on.next (on.fault (fault_of fault)) q
 IsNexted settings p next.Pending q = Steps settings p on.next on.pending q
 IsNexted settings p (next.Closed end) q = Steps settings p on.next (on.closed (end_of end)) q

@@ -4,7 +4,6 @@ pub mod Parts
 pub mod Ticks
 pub mod Pulls
 pub mod Unsent
-pub mod Upgrade
 pub mod Heads
 pub mod Given
 pub mod State

@@ -7,6 +7,9 @@ use Rattle.h1_model.specs.Setting.{Setting}
 use Rattle.h1_model.specs.Event as on
 use Rattle.h1_model.specs.Answer.{Asked}
 use Rattle.h1_codec.specs.Meaning.{model_type, model_shape}
+use Rattle.h1_model.specs.Handshake as checks
+use Rattle.ws_session.specs.declared.handshake.HandshakeError.{HandshakeError}
+use Rattle.ws_session.specs.declared.handshake.HandshakeError.TheVariants as handshake
 use Rattle.h1_machine.specs.Kept as machine
 use Rattle.h1_machine.specs.Kept.{Kept, is_free, is_nothing, is_answered, now, rest_in, unanswered, sending, answered}
 use Rattle.h1_machine.specs.Local.{closing_by}
@@ -30,15 +33,28 @@ reply_of Unanswered = unanswered
 reply_of (GoesOut s) = sending (model_shape s.shape) (model_type s.connection) s.missing
 reply_of (Answered connection) = answered (model_type connection)
 
--- why an upgrade of the request would be refused, and the answer to its key, aren't kept yet
+-- why an upgrade to WebSocket is refused
+abbrev pub failing_of : HandshakeError → checks.HandshakeError
+failing_of handshake.GetMethodRequired = checks.get_method_required
+failing_of handshake.NoWebsocketUpgrade = checks.no_websocket_upgrade
+failing_of handshake.NoConnectionUpgrade = checks.no_connection_upgrade
+failing_of handshake.NoVersionHeader = checks.no_version_header
+failing_of handshake.UnsupportedVersion = checks.unsupported_version
+failing_of handshake.BadWebsocketKey = checks.bad_websocket_key
+
+-- the answer to a key, of which nothing is kept where there can be no upgrade
+abbrev pub key_bytes : Option (List ℕ) → List ℕ
+key_bytes None = []
+key_bytes (Some key) = key
+
 abbrev pub exchange_of : Exchange → machine.Exchange
 exchange_of x =
     record {
       asked = x.request.asked;
       has_body = x.request.has_body;
       expects = x.request.expects;
-      refusal = None;
-      accept_key = [];
+      refusal = option_map failing_of x.request.refusal;
+      accept_key = key_bytes x.request.accept_key;
       rest = x.rest;
       reply = reply_of x.reply;
       was_pulled = x.was_pulled;

@@ -13,7 +13,6 @@ use Rattle.h1_connection.specs.Given.{next_allowed}
 use Rattle.h1_connection.specs.Pulls.{IsLightPull}
 use Rattle.h1_connection.specs.Ticks.{IsQuietTick}
 use Rattle.h1_connection.specs.Unsent.{SendsNoPiece, SendsNoEnd}
-use Rattle.h1_connection.specs.Upgrade.{Upgrade, with_upgrade}
 
 pub record State : Type 0 where
   pub settings : Settings
@@ -35,9 +34,9 @@ IsNextAllowed state = IsTrue (next_allowed (setting_of state.settings) state.kep
 abbrev pub HasWriteRoom : State → Type 0
 HasWriteRoom state = length state.kept.buffered < state.settings.h1_write_buffer_size
 
--- the connection stands for the trace, with what an upgrade would need of the last request
+-- the connection stands for the trace
 abbrev pub Stands : State → List sums.Step → Type 0
-Stands state trace = (u : Upgrade) × StandsFor (setting_of state.settings) (with_upgrade u state.kept) trace
+Stands state trace = StandsFor (setting_of state.settings) state.kept trace
 
 -- Behind each trace that the connection stands for, the table's outcome is such a one, and the connection stands for
 -- the longer trace.

@@ -242,9 +242,11 @@ impl Connection {
     }
 
     /// Tells the client of the open request to go on, which waits for leave to send its body (RFC 7231, section 5.1.1).
+    /// The request may still be answered.
     pub fn send_continue(&mut self) -> Result<(), NoMemory>
         requires can_continue { IsAllowed self.old on.send_continue }
         ensures stands { OnOk result (GoesOn self.old on.send_continue (Is on.done) self.new) }
+        ensures can_answer { OnOk result ((head : AnswerHead) (size : answers.BodySize) → IsAllowed self.new (on.answer head size)) }
         ensures settings { self.new.settings ≡ self.old.settings }
         ensures err { OnErr result (self.new ≡ self.old) }
     {

@@ -1,21 +1,21 @@
 // What the next head does to the parts.
-ghost use Rattle.std.specs.Prelude.{◌≡◌, ◌≢◌, ◌==◌, ℕ, List, true, false, None, Some, length, IfOk, IsOk, OnOk, OnErr};
+ghost use Rattle.std.specs.Prelude.{◌≡◌, ◌≢◌, ◌==◌, ℕ, List, true, false, None, Some, length, option_map, IfOk, IsOk, OnOk, OnErr};
 ghost use Rattle.http_framing.specs.Kinds.{kind_of};
 ghost use Rattle.h1_decode.specs.HeadItem.{SaysHead, without_headers};
 ghost use Rattle.h1_decode.specs.declared.scan.HeadScan.TheVariants.{Piece};
 ghost use Rattle.h1_model.specs.Request.{Head, head_is};
 ghost use Rattle.h1_model.specs.RequestHead.{IsReading};
 ghost use Rattle.h1_model.specs.Event as on;
-ghost use Rattle.h1_machine.specs.Kept.{rest_in, whole_rest};
+ghost use Rattle.h1_machine.specs.Kept.{rest_in, whole_rest, refusal_of, key_answer_of};
 ghost use Rattle.h1_machine.specs.Local.{closing_by};
 ghost use Rattle.h1_machine.specs.Change.{noting_since};
 ghost use Rattle.h1_model.specs.Closing.{fault_end};
 ghost use Rattle.h1_decode.specs.Refusal as decode;
 ghost use Rattle.h1_connection.specs.Incoming.{IsWhole, IsHeadOf};
 ghost use Rattle.h1_connection.specs.Meaning.{setting_of, end_of, fault_of};
-ghost use Rattle.h1_connection.specs.Parts.{kept_of, IsSettled, IsSound, Steps};
+ghost use Rattle.h1_connection.specs.Parts.{failing_of, key_bytes, kept_of, IsSettled, IsSound, Steps};
 ghost use Rattle.h1_connection.specs.Given.{is_head, is_head_kind, HasOpened};
-ghost use Rattle.h1_connection.specs.Heads.{refused, behind_plain, with_head, IsAsked, IsHeld, IsNexted, IsWaited, KeepsItem, LosesAtMostHeaders, NeedsNoMemory};
+ghost use Rattle.h1_connection.specs.Heads.{refused, after_head, with_head, IsAsked, IsHeld, IsNexted, IsWaited, KeepsItem, LosesAtMostHeaders, NeedsNoMemory};
 
 use crate::connection::exchange::{Exchange, Reply};
 use crate::connection::parts::Parts;
@@ -26,6 +26,7 @@ use h1_decode::{HeadItem, HeadRoom};
 use h1_payload::Rest;
 use http_types::{NoMemory, ParseError, ServiceConfig};
 use std::alloc::{AllocError, Global};
+use ws_session::{HandshakeError, accept_key_of, verify_handshake};
 
 /// What comes where the next head is asked for.
 #[derive(Debug, Drop)]
@@ -161,7 +162,7 @@ impl Parts {
         requires runs { closing_by (setting_of config.now) (kept_of self.old) ≡ None }
         requires whole { IsWhole self.old.input }
         ensures handed { (piece : List ℕ) (h : Head) (start end : ℕ) → IsReading piece (head_is h) → SaysHead item.now h → self.old.input.piece ≡ Some (Piece start end)
-            → kept_of self.new ≡ noting_since (setting_of config.now) (behind_plain (kept_of self.old) end h) }
+            → kept_of self.new ≡ noting_since (setting_of config.now) (after_head (kept_of self.old) end h) }
         ensures opened { HasOpened (setting_of config.now) self.old.is_over (kept_of self.new) }
         ensures sound { IsSound config.now self.new }
     {
@@ -204,7 +205,32 @@ fn request_of(item: &HeadItem) -> Request
         ),
         has_body: item.has_body(),
         expects: item.expects_continue(),
+        refusal: refusal_of(item),
+        accept_key: key_answer_of(item),
     }
+}
+
+// Why a raw request can't be upgraded to a WebSocket. For no other request is anything worked out.
+fn refusal_of(item: &HeadItem) -> Option<HandshakeError>
+    ensures { (h : Head) → SaysHead item.now h → option_map failing_of result ≡ refusal_of h }
+{
+    if !item.is_raw() {
+        return None;
+    }
+    match verify_handshake(&item.head) {
+        Ok(()) => None,
+        Err(error) => Some(error),
+    }
+}
+
+// The answer to the key of a raw request.
+fn key_answer_of(item: &HeadItem) -> Option<[u8; 28]>
+    ensures { (h : Head) → SaysHead item.now h → key_bytes result ≡ key_answer_of h }
+{
+    if !item.is_raw() {
+        return None;
+    }
+    Some(accept_key_of(&item.head))
 }
 
 // The fault that an error names, unless memory was wanted.

@@ -8,7 +8,7 @@ invariant_of-self c = still_sound c.chunk.result _ _ _ c.self.invariant c.chunk.
 
 pub returns-clause-stands : goal.returns-clause-stands
 returns-clause-stands c =
-    on_map c.chunk.result _ _ (λ steps. goes_on _ _ _ _ _ _ tt (λ h e. cc e) c.self.view_is c.requires.can_chunk steps) c.chunk.ensures.ok
+    on_map c.chunk.result _ _ (λ steps. goes_on _ _ _ _ _ _ c.self.view_is c.requires.can_chunk steps) c.chunk.ensures.ok
 
 pub returns-clause-err : goal.returns-clause-err
 returns-clause-err c = same_state c.chunk.result _ _ _ _ c.self.view_is c.chunk.ensures.err

@@ -1,4 +1,5 @@
-use Rattle.std.proofs.Common.{refl, ◌∙◌, ap}
+use Rattle.std.proofs.Common.{false, refl, ◌∙◌, ap}
+use Rattle.h1_connection.specs.declared.connection.exchange.Reply.TheVariants.{Unanswered}
 use Rattle.h1_model.specs.Request as model
 use Rattle.h1_machine.specs.Kept.{rest_in, whole_rest}
 use Rattle.h1_connection.proofs.HeadLemmas.{handed_kept, handed_sound, handed_opened}
@@ -13,4 +14,13 @@ pub returns-clause-sound : goal.returns-clause-sound
 returns-clause-sound c = handed_sound c.args.config.now c.args.self.now _ _ _ c.requires.sound c.requires.runs c.pass_head.ensures refl c.whole_rest-rest.ensures
 
 pub returns-clause-opened : goal.returns-clause-opened
-returns-clause-opened c = handed_opened c.args.config.now c.args.self.now _ _ _ c.requires.runs refl c.whole_rest-rest.ensures
+returns-clause-opened c =
+    handed_opened c.args.config.now c.args.self.now c.pass_head.new.self (record {
+      request = c.request_of.result;
+      rest = c.whole_rest-rest.result;
+      reply = Unanswered;
+      was_pulled = false;
+      was_dropped = false;
+      had_continue = false;
+      body_is_done = false;
+    }) _ c.requires.runs refl c.whole_rest-rest.ensures

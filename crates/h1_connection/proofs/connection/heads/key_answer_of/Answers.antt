@@ -1,0 +1,10 @@
+use Rattle.std.proofs.Common.{sym, ◌∙◌}
+use Rattle.h1_connection.proofs.HeadLemmas.{says_upgrade, no_key, raw_key}
+use Rattle.h1_connection.proofs.connection.heads.key_answer_of.Goals as goal
+
+pub returns-then-not-is_raw : goal.returns-then-not-is_raw
+returns-then-not-is_raw c = λ h says. no_key h (sym (c.is_raw.ensures h says) ∙ c.if-not-is_raw.true)
+
+pub returns : goal.returns
+returns c = λ h says.
+    c.accept_key_of.ensures h (says_upgrade c.args.item.now h says) ∙ sym (raw_key h (sym (c.is_raw.ensures h says) ∙ c.if-not-is_raw.false))
