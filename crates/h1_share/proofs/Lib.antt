@@ -1,3 +1,5 @@
+pub mod Answers
+pub mod Apart
 pub mod Counters
 pub mod Crossing
 pub mod Cursors

@@ -1,5 +1,5 @@
 //! The board: counters, and the journal of all calls.
-ghost use Rattle.std.specs.Prelude.{◌≡◌, ◌<◌, ◌≤◌, ◌+◌, ◌^◌, ◌&&◌, if◌then◌else◌, ℕ, List, [], ◌∷◌, ◌++◌, IfOk, IfErr, IfNone, IfSome, OnOk, OnErr, length, vec_len};
+ghost use Rattle.std.specs.Prelude.{◌≡◌, ◌==◌, ◌<◌, ◌≤◌, ◌+◌, ◌^◌, ◌&&◌, if◌then◌else◌, ℕ, List, [], ◌∷◌, ◌++◌, IfOk, IfErr, IfNone, IfSome, OnOk, OnErr, length, vec_len};
 ghost use Rattle.std.specs.BTreeMap as tree;
 ghost use Rattle.std.specs.Cmp.Lexicographic.{slice_cmp};
 ghost use Rattle.std.specs.Option.{unwrap_or};
@@ -95,6 +95,14 @@ impl<M: Ledger> Board<M> {
         ensures { result ≡ self.now.passes.made }
     {
         self.stock.made
+    }
+
+    /// Whether 65,536 passes were made, retired ones too, so that it makes no more.
+    pub fn is_full(&self) -> bool
+        ensures value { result ≡ (self.now.passes.next == 65536) }
+        ensures bound { self.now.passes.next ≤ 65536 }
+    {
+        self.stock.next == MAX_PASSES
     }
 
     /// A new pass. The first has the number 0, and each later one the next number, retired ones counted.
@@ -216,11 +224,7 @@ impl<M: Ledger> Board<M> {
         ensures some { IfSome result (λ number. Differs self.old.journal passes.now number) }
     {
         let Board { journal, stock, .. } = self;
-        compare::first_unlike(
-            journal.as_slice(),
-            passes,
-            stock.cursors.as_mut_slice(),
-        )
+        compare::first_unlike(journal.as_slice(), passes, stock.cursors.as_mut_slice())
     }
 }
 

@@ -30,6 +30,15 @@ pub struct Entry {
     pub reply: Reply,
 }
 
+impl Command {
+    // The same command.
+    pub(crate) fn copy(&self) -> Command
+        ensures { result ≡ self.now }
+    {
+        *self
+    }
+}
+
 impl Entry {
     // The same entry.
     pub(crate) fn copy(&self) -> Entry

@@ -65,11 +65,7 @@ fn set_out<M: Ledger>(passes: &[Pass<M>], cursors: &mut [Option<Cursor>])
 }
 
 // Moves the cursors over the journal's entries.
-fn walk<M: Ledger>(
-    journal: &[Entry],
-    passes: &[Pass<M>],
-    cursors: &mut [Option<Cursor>],
-) -> bool
+fn walk<M: Ledger>(journal: &[Entry], passes: &[Pass<M>], cursors: &mut [Option<Cursor>]) -> bool
     requires set_out { Stand [] passes.now cursors.old }
     ensures { IsTrue result → Stand journal.now passes.now cursors.new }
 {
