@@ -2,8 +2,8 @@
 use crate::checksum::Checksum;
 use crate::error::BenchError;
 use bytes::Bytes;
-use h1_decode::{HeadItem, HeadRoom, HeadScan, request_head, scan_head};
 use h1_connection::{Boxed, Connection, Event, NextKind, Outcome};
+use h1_decode::{HeadItem, HeadRoom, HeadScan, request_head, scan_head};
 use http_framing::BodySize;
 use http_types::{NoMemory, ResponseHead, ServiceConfigBuilder, StatusCode};
 use std::alloc::Global;

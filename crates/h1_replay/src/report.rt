@@ -6,8 +6,8 @@ ghost use Rattle.h1_replay.specs.Report.{hex_word, end_word, fault_word, broken_
 ghost use Rattle.h1_replay.specs.Text.{Adds};
 
 use crate::text::{put_hex, put_number};
-use h1_decode::{BodyKind, HeadItem};
 use h1_connection::{End, HeadFault, Noted, PayloadError, Steps, Trace};
+use h1_decode::{BodyKind, HeadItem};
 use http_types::{ConnectionType, HeaderMap, NoMemory, Version};
 use std::alloc::Global;
 
