@@ -1,0 +1,110 @@
+//! Services, called, and the answer to an error.
+use bytes::Bytes;
+use futures::task::{Context, Poll};
+use futures::test::MockTask;
+use http_services::{
+    BoxBody, CountedService, ExpectHandler, FnService, Handler, PlainService, Service, UpgradeHandler, h1,
+    response_of_error,
+};
+use http_types::{Error, Kind, PayloadError, StatusCode};
+use std::test::Fail;
+
+/// Halves even numbers.
+#[derive(Drop)]
+struct Halves;
+
+impl Handler<u32> for Halves {
+    type Response = u32;
+    type Error = ();
+
+    fn handle(&mut self, req: u32) -> Result<u32, ()> {
+        if req % 2 == 0 { Ok(req / 2) } else { Err(()) }
+    }
+}
+
+#[test]
+fn a_handler_answers_at_once(rt: HostRuntime) -> Result<(), Fail> {
+    let task = MockTask::new(&rt)?;
+    let mut halves: FnService<Halves, ()> = FnService::new(Halves);
+    let mut call = halves.call(8);
+    assert!(rt; matches!(task.enter(|cx| halves.poll_call(&mut call, &mut (), cx)), Poll::Ready(Ok(4))));
+    let mut call = halves.call(7);
+    assert!(rt; matches!(task.enter(|cx| halves.poll_call(&mut call, &mut (), cx)), Poll::Ready(Err(()))));
+    Ok(())
+}
+
+/// Counts the bytes of a request's body, one chunk in each poll.
+#[derive(Drop)]
+struct Length;
+
+impl PlainService<u32> for Length {
+    type Response = usize;
+    type Error = PayloadError;
+    type Call = usize;
+    type Lent = h1::Payload;
+
+    fn poll_ready(&mut self, _cx: &mut Context<'_>) -> Poll<Result<(), PayloadError>> {
+        Poll::Ready(Ok(()))
+    }
+
+    fn call(&mut self, _req: u32) -> usize {
+        0
+    }
+
+    fn poll_call(&mut self, call: &mut usize, lent: &mut h1::Payload, cx: &mut Context<'_>) -> Poll<Result<usize, PayloadError>> {
+        match lent.poll_next(cx) {
+            Poll::Ready(Some(Ok(piece))) => {
+                *call = call.saturating_add(piece.len());
+                cx.yield_now()
+            }
+            Poll::Ready(Some(Err(error))) => Poll::Ready(Err(error)),
+            Poll::Ready(None) => Poll::Ready(Ok(*call)),
+            Poll::Pending => Poll::Pending,
+        }
+    }
+}
+
+#[test]
+fn a_service_reads_what_it_is_lent(rt: HostRuntime) -> Result<(), Fail> {
+    let task = MockTask::new(&rt)?;
+    let mut service = CountedService::new(Length);
+    let mut queue = h1::Payload::create(rt.alloc(), true);
+    queue.sender().feed_data(Bytes::from_static(b"abc"))?;
+    let mut call = service.call(1);
+    assert!(rt; matches!(task.enter(|cx| service.poll_call(&mut call, &mut queue, cx)), Poll::Pending));
+    assert!(rt; matches!(task.enter(|cx| service.poll_call(&mut call, &mut queue, cx)), Poll::Ready(Ok(3))));
+    assert!(rt; service.call_waits == 1 && service.faults == 0);
+    Ok(())
+}
+
+#[test]
+fn requests_go_on_and_upgrades_do_not(rt: HostRuntime) -> Result<(), Fail> {
+    let task = MockTask::new(&rt)?;
+    let mut expect = ExpectHandler;
+    let polled = task.enter(|cx| {
+        let mut call = expect.call(7_u32);
+        expect.poll_call(&mut call, &mut (), cx)
+    });
+    assert!(rt; matches!(polled, Poll::Ready(Ok(7))));
+    let mut upgrade: UpgradeHandler<u8> = UpgradeHandler::new();
+    Service::<u32>::call(&mut upgrade, 7);
+    assert!(rt; matches!(task.enter(|cx| Service::<u32>::poll_call(&mut upgrade, &mut (), &mut (), cx)), Poll::Ready(Err(_))));
+    Ok(())
+}
+
+/// Whether the body is a text that begins so.
+fn begins_with(body: &BoxBody, front: &str) -> bool {
+    match body {
+        BoxBody::Bytes(bytes) => bytes.as_slice().starts_with(front.as_bytes()),
+        _ => false,
+    }
+}
+
+#[test]
+fn an_error_is_answered_by_its_text(rt: HostRuntime) -> Result<(), Fail> {
+    let error = Error { kind: Kind::Parse, cause: None };
+    let response = response_of_error(rt.alloc(), &error)?;
+    assert!(rt; response.status() == StatusCode::BAD_REQUEST);
+    assert!(rt; begins_with(response.body(), "error parsing HTTP message"));
+    Ok(())
+}
