@@ -3,6 +3,7 @@ ghost use Rattle.std.specs.Prelude.{◌≡◌, ◌<◌, length, Err, IfOk, OnErr
 ghost use Rattle.std.specs.Str.Lossy.{utf8_lossy};
 ghost use Rattle.h1_model.specs.FrameText.{is_close_code, description_of, close_frame};
 ghost use Rattle.ws_frames.specs.Close.{reason_says, CloseSays, HasName, reason_frame, lossy_reason};
+ghost use Rattle.ws_frames.specs.Protocol.{close_number, close_code};
 
 use crate::NoMemory;
 use crate::error::ProtocolError;
@@ -43,11 +44,19 @@ fn read_reason(
     };
     match describe(alloc, text) {
         Ok(description) => Ok(Some(CloseReason {
-            code: CloseCode::from(number),
+            code: code_of(number),
             description,
         })),
         Err(_) => Err(ProtocolError::NoMemory),
     }
+}
+
+/// The code of a number, by its name where it has one.
+fn code_of(number: u16) -> CloseCode
+    ensures number { close_number result ≡ number }
+    ensures named { result ≡ close_code (close_number result) }
+{
+    CloseCode::from(number)
 }
 
 /// A Close may carry this code.

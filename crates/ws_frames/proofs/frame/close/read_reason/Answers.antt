@@ -5,7 +5,7 @@ use Rattle.ws_frames.specs.Protocol.{close_number}
 use Rattle.ws_frames.specs.Refusal.{error_of}
 use Rattle.h1_model.specs.Frame as frames
 use Rattle.h1_model.specs.FrameText.{description_of}
-use Rattle.ws_frames.proofs.CloseLemmas.{bad_code, bad_text, good_reason, number_of_code}
+use Rattle.ws_frames.proofs.CloseLemmas.{bad_code, bad_text, good_reason}
 use Rattle.ws_frames.proofs.frame.close.read_reason.Goals as goal
 
 pub returns-then-not-is_close_code-clause-says : goal.returns-then-not-is_close_code-clause-says
@@ -19,7 +19,7 @@ returns-in_default-clause-says c =
 pub returns-in-Ok-describe-clause-says : goal.returns-in-Ok-describe-clause-says
 returns-in-Ok-describe-clause-says c =
     let utf8 = c.in-Ok.ensures.cases in
-    let code : c.args.number ≡ close_number c.from.result = sym (ap close_number c.from.ensures ∙ number_of_code c.args.number) in
+    let code : c.args.number ≡ close_number c.code_of.result = sym c.code_of.ensures.number in
     let text : description_of c.args.text.now ≡ option_map string_bytes c.in-Ok-describe.description
     = sym (c.in-Ok-describe.ensures.text ∙ ap description_of utf8.0) in
     good_reason c.args.number c.args.text.now (sym c.is_close_code.ensures ∙ c.if-not-is_close_code.false) utf8.1
