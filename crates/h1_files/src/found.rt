@@ -1,0 +1,94 @@
+//! A file that was found, and its length and date.
+use h1_blocking::HandleError;
+use http_files::{Entry, etag};
+use http_types::StatusCode;
+use httpdate::HttpDate;
+use std::alloc::Global;
+use std::fs;
+use std::fs::{File, Metadata};
+use std::io::{Error, ErrorKind};
+use std::time::UNIX_EPOCH;
+
+/// What is known of a file without its bytes.
+#[derive(Drop)]
+pub struct Found {
+    /// Bytes.
+    pub length: u64,
+
+    /// When it was changed, in seconds after the start of 1970.
+    pub changed: u64,
+
+    /// Its entity tag.
+    pub tag: String,
+}
+
+impl Found {
+    pub fn new(alloc: Global, metadata: &Metadata) -> Result<Found, HandleError> {
+        let length = metadata.len();
+        let (changed, nanoseconds) = stamp(metadata).unwrap_or((0, 0));
+        let tag = etag(alloc, length, changed, nanoseconds)?;
+        Ok(Found {
+            length,
+            changed,
+            tag,
+        })
+    }
+
+    /// When it was changed, as `Last-Modified` has it, where a date can tell it.
+    pub fn date(&self) -> Option<[u8; 29]> {
+        let date = HttpDate::from_unix_secs(self.changed).ok()?;
+        Some(date.to_bytes())
+    }
+}
+
+// When a file was changed, in seconds and nanoseconds.
+fn stamp(metadata: &Metadata) -> Option<(u64, u32)> {
+    let changed = metadata.modified().ok()?;
+    let since = changed.duration_since(UNIX_EPOCH).ok()?;
+    Some((since.as_secs(), since.subsec_nanos()))
+}
+
+/// Opens a file that is to be read.
+pub fn open(rt: &HostRuntime, path: &str) -> Result<File, StatusCode> {
+    File::open(rt, path).map_err(|error| status_of(&error))
+}
+
+/// The names in a folder, in order. One that can't be looked at is left out.
+pub fn entries(rt: &HostRuntime, path: &str) -> Result<Vec<Entry>, HandleError> {
+    let alloc = rt.alloc();
+    let mut entries = Vec::new(alloc);
+    let Ok(listing) = fs::read_dir(rt, path) else {
+        return Ok(entries);
+    };
+    for item in listing {
+        let Ok(item) = item else {
+            continue;
+        };
+        let Ok(metadata) = fs::metadata(rt, item.path()) else {
+            continue;
+        };
+        let entry = Entry {
+            is_file: !metadata.is_dir(),
+            name: String::from_str(alloc, item.file_name())?,
+            size: metadata.len(),
+            changed: stamp(&metadata).map(|(seconds, _)| seconds),
+        };
+        if entries.push(entry).is_err() {
+            return Err(HandleError::NoMemory);
+        }
+    }
+    entries.sort()?;
+    Ok(entries)
+}
+
+/// The status that tells of a file that can't be opened.
+pub fn status_of(error: &Error) -> StatusCode {
+    match error.kind() {
+        ErrorKind::PermissionDenied => StatusCode::FORBIDDEN,
+        ErrorKind::NotFound
+        | ErrorKind::NotADirectory
+        | ErrorKind::InvalidFilename
+        | ErrorKind::FilesystemLoop => StatusCode::NOT_FOUND,
+        _ => StatusCode::INTERNAL_SERVER_ERROR,
+    }
+}

@@ -1,0 +1,165 @@
+//! Serves the files of a folder over HTTP/1: `h1_files PORT FOLDER`.
+#![tactic(auto)]
+
+mod found;
+mod handler;
+mod options;
+mod reply;
+mod shared;
+
+use crate::handler::FileHandlers;
+use crate::options::{Command, HELP, Options, VERSION};
+use crate::shared::Shared;
+use h1_blocking::{Limits, host, wake};
+use h1_net::{BindError, Listener};
+use http_types::ServiceConfig;
+use std::alloc::Global;
+use std::io::Read;
+use std::net::{Net, SocketAddr, TcpListener, TcpStream};
+use std::process::ExitCode;
+use std::rt::Env;
+use std::sync::Arc;
+use std::thread::Threads;
+use std::time::Clock;
+use std::{env, fs, io, thread};
+
+/// The words are out of form.
+const USAGE: u8 = 2;
+
+/// There is no such folder.
+const NO_FOLDER: u8 = 3;
+
+/// The address can't be listened on.
+const NO_PORT: u8 = 4;
+
+/// There is no memory.
+const NO_MEMORY: u8 = 5;
+
+fn main(rt: HostRuntime) -> ExitCode {
+    let alloc = rt.alloc();
+    // Words that can't be had are wrong words.
+    let words = words(&rt).unwrap_or(Vec::new(alloc));
+    match options::read(&words) {
+        Ok(Command::Help) => print(rt, HELP),
+        Ok(Command::Version) => print(rt, VERSION),
+        Ok(Command::Serve(options)) => serve(&rt, rt, &options),
+        Err(error) => {
+            let _ = eprintln!(rt; "h1_files: {error}; --help says more");
+            ExitCode::from(USAGE)
+        }
+    }
+}
+
+fn print(rt: HostRuntime, text: &str) -> ExitCode {
+    match println!(rt; "{text}") {
+        Ok(()) => ExitCode::SUCCESS,
+        Err(_) => ExitCode::FAILURE,
+    }
+}
+
+// The program's arguments, without its name.
+fn words(rt: &(impl Env + Alloc<A = Global>)) -> io::Result<Vec<String>> {
+    Ok(env::args(rt)?.skip(1).collect(rt.alloc())?)
+}
+
+fn serve<R>(rt: &R, system: HostRuntime, options: &Options<'_>) -> ExitCode
+where
+    R: Clock
+        + Net<Stream = TcpStream, Listener = TcpListener>
+        + Threads
+        + Copy
+        + Send
+        + Drop
+        + 'static,
+{
+    let folder = options.folder;
+    match fs::metadata(&system, folder) {
+        Ok(found) if found.is_dir() => {}
+        _ => {
+            let _ = eprintln!(system; "h1_files: there is no folder {folder}");
+            return ExitCode::from(NO_FOLDER);
+        }
+    }
+    match Listener::bind(rt, (options.address, options.port)) {
+        Ok(listener) => listen(rt, system, options, &listener),
+        Err(error) => refuse(system, options, error),
+    }
+}
+
+fn refuse(system: HostRuntime, options: &Options<'_>, error: BindError) -> ExitCode {
+    let (address, port) = (options.address, options.port);
+    let _ = eprintln!(system; "h1_files: can't listen on {address}, port {port}: {error}");
+    ExitCode::from(NO_PORT)
+}
+
+fn listen<R>(rt: &R, system: HostRuntime, options: &Options<'_>, listener: &Listener) -> ExitCode
+where
+    R: Clock
+        + Net<Stream = TcpStream, Listener = TcpListener>
+        + Threads
+        + Copy
+        + Send
+        + Drop
+        + 'static,
+{
+    let alloc = system.alloc();
+    let Some(address) = listener.address() else {
+        return refuse(system, options, BindError::Refused);
+    };
+    let Ok(shared) = Arc::new(alloc, Shared::new(options.requests)) else {
+        return ExitCode::from(NO_MEMORY);
+    };
+    let folder = options.folder;
+    let _ = eprintln!(system; "h1_files: serving {folder} at http://{address}/");
+    if options.until_input_ends && !watch_input(rt, system, address, &shared) {
+        return ExitCode::from(NO_MEMORY);
+    }
+    let mut handlers = FileHandlers::new(system, folder, shared);
+    let config = ServiceConfig::default();
+    match host(
+        rt,
+        alloc,
+        listener,
+        config,
+        &mut handlers,
+        Limits::default(),
+    ) {
+        Ok(()) => ExitCode::SUCCESS,
+        Err(_) => ExitCode::from(NO_MEMORY),
+    }
+}
+
+// Ends the server once the standard input has ended. Its thread isn't joined, since it may wait for that for ever.
+fn watch_input<R>(rt: &R, system: HostRuntime, address: SocketAddr, shared: &Arc<Shared>) -> bool
+where
+    R: Clock
+        + Net<Stream = TcpStream, Listener = TcpListener>
+        + Threads
+        + Copy
+        + Send
+        + Drop
+        + 'static,
+{
+    let Ok(shared) = Arc::try_clone(shared) else {
+        return false;
+    };
+    let rt = *rt;
+    let started = thread::spawn(&rt, move || {
+        pass_input(system);
+        shared.end();
+        wake(&rt, Some(address));
+    });
+    started.is_ok()
+}
+
+// Reads the standard input to its end.
+fn pass_input(system: HostRuntime) {
+    let mut input = system.stdin();
+    let mut rest = [0u8; 4096];
+    for _ in 0..u64::MAX {
+        match input.read(&mut rest) {
+            Ok(0) | Err(_) => return,
+            Ok(_) => {}
+        }
+    }
+}
