@@ -135,7 +135,7 @@ impl<S: TimedSource, K: TimedSink> Body<S, K> {
     // Hands in bytes of the answer's body, piece by piece, each once there is room for it.
     fn send(&mut self, bytes: &[u8]) -> Result<(), HandleError> {
         for piece in bytes.chunks(PIECE) {
-            if self.connection.room() == 0 {
+            if self.connection.write_room() == 0 {
                 self.flush()?;
             }
             if !self.connection.can_chunk() {

@@ -52,7 +52,7 @@ impl<S: TimedSource, K: TimedSink> Body<S, K> {
 
     /// Writes what waits where it has to be written now: where the connection closes, and where no more may wait.
     pub(crate) fn flush_if_due(&mut self) -> Result<(), HandleError> {
-        if self.connection.closing().is_some() || self.connection.room() == 0 {
+        if self.connection.closing().is_some() || self.connection.write_room() == 0 {
             return self.flush();
         }
         Ok(())
