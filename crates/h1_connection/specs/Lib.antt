@@ -9,3 +9,4 @@ pub mod Given
 pub mod State
 pub mod Steps
 pub mod Run
+pub mod Callers

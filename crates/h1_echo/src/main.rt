@@ -4,7 +4,7 @@
 
 mod serve;
 
-use http_types::{ServiceConfigBuilder, StdSink, StdSource};
+use h1_connection::{ServiceConfigBuilder, StdSink, StdSource};
 use std::process::ExitCode;
 
 fn main(rt: HostRuntime) -> ExitCode {

@@ -1,10 +1,12 @@
 //! A server's loop over a connection.
-ghost use Rattle.std.specs.Prelude.{◌≡◌};
+ghost use Rattle.std.specs.Prelude.{◌≡◌, OnOk};
+ghost use Rattle.h1_connection.specs.Callers.{MayAnswer};
 ghost use Rattle.h1_echo.specs.declared.serve.ServeError.TheVariants as serve_error;
 
-use h1_connection::{Connection, End, NextHead, Pulled, ReadFromError};
-use http_framing::BodySize;
-use http_types::{NoMemory, ResponseHead, ServiceConfig, Sink, Source, StatusCode};
+use h1_connection::{
+    BodySize, Connection, End, NextHead, NoMemory, Pulled, ReadFromError, ResponseHead,
+    ServiceConfig, Sink, Source, StatusCode,
+};
 use std::alloc::Global;
 use thiserror::Error;
 
@@ -50,7 +52,11 @@ pub fn serve<S: Source, K: Sink>(
             return Err(ServeError::Endless);
         }
         match connection.next()? {
-            NextHead::Head(_) => echo(alloc, &mut connection, input, output)?,
+            NextHead::Head(_) => {
+                // A request that was handed out may be answered.
+                begin(&mut connection, &ResponseHead::new(alloc, StatusCode::OK))?;
+                echo(&mut connection, input, output)?;
+            }
             NextHead::Pending => read_more(&mut connection, input)?,
             // The answer that says so is to be written, and then the connection has ended.
             NextHead::Fault(_) => {}
@@ -60,20 +66,31 @@ pub fn serve<S: Source, K: Sink>(
     Err(ServeError::Endless)
 }
 
-// Answers the open request with its own body, piece by piece as it comes.
+// Answers the open request with a body of which nobody knows yet how long it is.
+fn begin(connection: &mut Connection, head: &ResponseHead) -> Result<(), NoMemory>
+    requires can_answer { MayAnswer connection.old }
+{
+    invite(connection)?;
+    connection.answer(head, BodySize::Stream)
+}
+
+// Lets a client go on that waits for leave to send its body.
+fn invite(connection: &mut Connection) -> Result<(), NoMemory>
+    requires can_answer { MayAnswer connection.old }
+    ensures can_answer { OnOk result (MayAnswer connection.new) }
+{
+    if connection.can_continue() {
+        connection.send_continue()?;
+    }
+    Ok(())
+}
+
+// Sends the request's own body back, piece by piece as it comes.
 fn echo<S: Source, K: Sink>(
-    alloc: Global,
     connection: &mut Connection,
     input: &mut S,
     output: &mut K,
 ) -> Result<(), ServeError> {
-    if connection.can_continue() {
-        connection.send_continue()?;
-    }
-    if connection.can_answer() {
-        let head = ResponseHead::new(alloc, StatusCode::OK);
-        connection.answer(&head, BodySize::Stream)?;
-    }
     for _ in 0..u64::MAX {
         write_out(connection, output)?;
         if !connection.can_pull() {
@@ -113,10 +130,10 @@ fn read_more<S: Source>(connection: &mut Connection, input: &mut S) -> Result<()
 // Writes what is to be written.
 fn write_out<K: Sink>(connection: &mut Connection, output: &mut K) -> Result<(), ServeError> {
     for _ in 0..u64::MAX {
-        if connection.front().is_empty() || !connection.can_write() {
+        if connection.stretch().is_empty() || !connection.can_write() {
             break;
         }
-        let count = match output.write(connection.front()) {
+        let count = match output.write(connection.stretch()) {
             Ok(count) => count,
             Err(_) => return Err(ServeError::Write),
         };
