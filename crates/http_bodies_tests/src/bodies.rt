@@ -45,7 +45,10 @@ fn gives<B: MessageBody>(alloc: Global, task: &MockTask, body: &mut B, chunk: &[
 
 /// Whether it is at its end.
 fn ends<B: MessageBody>(alloc: Global, task: &MockTask, body: &mut B) -> bool {
-    matches!(task.enter(|cx| body.poll_next(alloc, cx)), Poll::Ready(None))
+    matches!(
+        task.enter(|cx| body.poll_next(alloc, cx)),
+        Poll::Ready(None)
+    )
 }
 
 /// Whether the body gives `abc` as one chunk, and ends.
@@ -57,7 +60,12 @@ fn gives_abc<B: MessageBody>(alloc: Global, task: &MockTask, mut body: B) -> boo
 fn empty_pieces_take_turns(rt: HostRuntime) -> Result<(), Fail> {
     let task = MockTask::new(&rt)?;
     let mut body = BodyStream::new(stream_of(65));
-    assert!(rt; matches!(task.enter(|cx| body.poll_next(rt.alloc(), cx)), Poll::Pending));
+    assert!(rt;
+        matches!(
+            task.enter(|cx| body.poll_next(rt.alloc(), cx)),
+            Poll::Pending
+        )
+    );
     assert!(rt; task.is_woken());
     assert!(rt; gives(rt.alloc(), &task, &mut body, b"x"));
     assert!(rt; ends(rt.alloc(), &task, &mut body));
@@ -113,7 +121,9 @@ fn boxed_bodies_give_what_they_hold(rt: HostRuntime) -> Result<(), Fail> {
     let mut boxed = BoxBody::from_stream(Box::new(alloc, SizedStream::new(1, stream_of(2)))?);
     assert!(rt; gives(alloc, &task, &mut boxed, b"x"));
     assert!(rt; ends(alloc, &task, &mut BoxBody::none()));
-    let either: EitherBody<&'static str> = EitherBody::right(BoxBody::new(Bytes::from_static(b"abc")));
+    let either: EitherBody<&'static str> = EitherBody::right(BoxBody::new(Bytes::from_static(
+        b"abc",
+    )));
     assert!(rt; gives_abc(alloc, &task, either));
     let left: EitherBody<&'static str> = EitherBody::new("abc");
     assert!(rt; gives_abc(alloc, &task, left));
@@ -128,7 +138,9 @@ fn bodies_are_gathered_up_to_a_limit(rt: HostRuntime) -> Result<(), Fail> {
     assert!(rt; matches!(&polled, Poll::Ready(Ok(bytes)) if bytes.as_slice() == b"123".as_slice()));
     let mut enough = to_bytes_limited(rt.alloc(), Bytes::from_static(b"123"), 10);
     let polled = task.enter(|cx| enough.poll(cx));
-    assert!(rt; matches!(&polled, Poll::Ready(Ok(Ok(bytes))) if bytes.as_slice() == b"123".as_slice()));
+    assert!(rt;
+        matches!(&polled, Poll::Ready(Ok(Ok(bytes))) if bytes.as_slice() == b"123".as_slice())
+    );
     let mut short = to_bytes_limited(rt.alloc(), Bytes::from_static(b"123"), 2);
     assert!(rt; matches!(task.enter(|cx| short.poll(cx)), Poll::Ready(Err(_))));
     Ok(())

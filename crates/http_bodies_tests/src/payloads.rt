@@ -2,9 +2,11 @@
 use bytes::Bytes;
 use futures::task::{Context, Poll};
 use futures::test::MockTask;
-use http_services::{BoxedPayloadStream, Counted, Payload, PayloadStatus, PlainSource, h1, payload_of_bytes};
-use http_types::header::HeaderMap;
+use http_services::{
+    BoxedPayloadStream, Counted, Payload, PayloadStatus, PlainSource, h1, payload_of_bytes,
+};
 use http_types::PayloadError;
+use http_types::header::HeaderMap;
 use std::test::Fail;
 
 /// Whether the next chunk is this one.
@@ -26,7 +28,12 @@ fn the_queue_gives_in_order_and_wakes(rt: HostRuntime) -> Result<(), Fail> {
     queue.unread_data(Bytes::from_static(b"b"))?;
     queue.sender().set_error(PayloadError::Incomplete);
     assert!(rt; gives(&task, &mut queue, b"b") && gives(&task, &mut queue, b"a"));
-    assert!(rt; matches!(task.enter(|cx| queue.poll_next(cx)), Poll::Ready(Some(Err(PayloadError::Incomplete)))));
+    assert!(rt;
+        matches!(
+            task.enter(|cx| queue.poll_next(cx)),
+            Poll::Ready(Some(Err(PayloadError::Incomplete)))
+        )
+    );
     Ok(())
 }
 
@@ -34,10 +41,17 @@ fn the_queue_gives_in_order_and_wakes(rt: HostRuntime) -> Result<(), Fail> {
 fn a_full_queue_pauses_its_feeder(rt: HostRuntime) -> Result<(), Fail> {
     let task = MockTask::new(&rt)?;
     let mut queue = h1::Payload::create(rt.alloc(), false);
-    queue.sender().feed_data(Bytes::from_vec(vec![in rt.alloc(); 0_u8; 32_768]?)?)?;
+    queue
+        .sender()
+        .feed_data(Bytes::from_vec(vec![in rt.alloc(); 0_u8; 32_768]?)?)?;
     assert!(rt; task.enter(|cx| queue.sender().need_read(cx)) == PayloadStatus::Pause);
     assert!(rt; !task.is_woken());
-    assert!(rt; matches!(task.enter(|cx| queue.poll_next(cx)), Poll::Ready(Some(Ok(_)))));
+    assert!(rt;
+        matches!(
+            task.enter(|cx| queue.poll_next(cx)),
+            Poll::Ready(Some(Ok(_)))
+        )
+    );
     assert!(rt; task.enter(|cx| queue.sender().need_read(cx)) == PayloadStatus::Read);
     queue.drop_receiver();
     assert!(rt; task.enter(|cx| queue.sender().need_read(cx)) == PayloadStatus::Dropped);
@@ -72,7 +86,9 @@ fn payloads_give_what_they_hold(rt: HostRuntime) -> Result<(), Fail> {
     let task = MockTask::new(&rt)?;
     let mut payload: Payload = payload_of_bytes(rt.alloc(), Bytes::from_static(b"x"))?;
     let polled = task.enter(|cx| payload.poll_next(cx));
-    assert!(rt; matches!(&polled, Poll::Ready(Some(Ok(piece))) if piece.as_slice() == b"x".as_slice()));
+    assert!(rt;
+        matches!(&polled, Poll::Ready(Some(Ok(piece))) if piece.as_slice() == b"x".as_slice())
+    );
     let mut rest = payload.take();
     assert!(rt; matches!(task.enter(|cx| rest.poll_next(cx)), Poll::Ready(None)));
     assert!(rt; matches!(task.enter(|cx| payload.poll_next(cx)), Poll::Ready(None)));

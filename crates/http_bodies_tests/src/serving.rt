@@ -3,8 +3,8 @@ use bytes::Bytes;
 use futures::task::{Context, Poll};
 use futures::test::MockTask;
 use http_services::{
-    BoxBody, CountedService, ExpectHandler, FnService, Handler, PlainService, Service, UpgradeHandler, h1,
-    response_of_error,
+    BoxBody, CountedService, ExpectHandler, FnService, Handler, PlainService, Service,
+    UpgradeHandler, h1, response_of_error,
 };
 use http_types::{Error, Kind, PayloadError, StatusCode};
 use std::test::Fail;
@@ -15,6 +15,7 @@ struct Halves;
 
 impl Handler<u32> for Halves {
     type Response = u32;
+
     type Error = ();
 
     fn handle(&mut self, req: u32) -> Result<u32, ()> {
@@ -27,9 +28,19 @@ fn a_handler_answers_at_once(rt: HostRuntime) -> Result<(), Fail> {
     let task = MockTask::new(&rt)?;
     let mut halves: FnService<Halves, ()> = FnService::new(Halves);
     let mut call = halves.call(8);
-    assert!(rt; matches!(task.enter(|cx| halves.poll_call(&mut call, &mut (), cx)), Poll::Ready(Ok(4))));
+    assert!(rt;
+        matches!(
+            task.enter(|cx| halves.poll_call(&mut call, &mut (), cx)),
+            Poll::Ready(Ok(4))
+        )
+    );
     let mut call = halves.call(7);
-    assert!(rt; matches!(task.enter(|cx| halves.poll_call(&mut call, &mut (), cx)), Poll::Ready(Err(()))));
+    assert!(rt;
+        matches!(
+            task.enter(|cx| halves.poll_call(&mut call, &mut (), cx)),
+            Poll::Ready(Err(()))
+        )
+    );
     Ok(())
 }
 
@@ -39,8 +50,11 @@ struct Length;
 
 impl PlainService<u32> for Length {
     type Response = usize;
+
     type Error = PayloadError;
+
     type Call = usize;
+
     type Lent = h1::Payload;
 
     fn poll_ready(&mut self, _cx: &mut Context<'_>) -> Poll<Result<(), PayloadError>> {
@@ -51,7 +65,12 @@ impl PlainService<u32> for Length {
         0
     }
 
-    fn poll_call(&mut self, call: &mut usize, lent: &mut h1::Payload, cx: &mut Context<'_>) -> Poll<Result<usize, PayloadError>> {
+    fn poll_call(
+        &mut self,
+        call: &mut usize,
+        lent: &mut h1::Payload,
+        cx: &mut Context<'_>,
+    ) -> Poll<Result<usize, PayloadError>> {
         match lent.poll_next(cx) {
             Poll::Ready(Some(Ok(piece))) => {
                 *call = call.saturating_add(piece.len());
@@ -71,8 +90,18 @@ fn a_service_reads_what_it_is_lent(rt: HostRuntime) -> Result<(), Fail> {
     let mut queue = h1::Payload::create(rt.alloc(), true);
     queue.sender().feed_data(Bytes::from_static(b"abc"))?;
     let mut call = service.call(1);
-    assert!(rt; matches!(task.enter(|cx| service.poll_call(&mut call, &mut queue, cx)), Poll::Pending));
-    assert!(rt; matches!(task.enter(|cx| service.poll_call(&mut call, &mut queue, cx)), Poll::Ready(Ok(3))));
+    assert!(rt;
+        matches!(
+            task.enter(|cx| service.poll_call(&mut call, &mut queue, cx)),
+            Poll::Pending
+        )
+    );
+    assert!(rt;
+        matches!(
+            task.enter(|cx| service.poll_call(&mut call, &mut queue, cx)),
+            Poll::Ready(Ok(3))
+        )
+    );
     assert!(rt; service.call_waits == 1 && service.faults == 0);
     Ok(())
 }
@@ -88,7 +117,12 @@ fn requests_go_on_and_upgrades_do_not(rt: HostRuntime) -> Result<(), Fail> {
     assert!(rt; matches!(polled, Poll::Ready(Ok(7))));
     let mut upgrade: UpgradeHandler<u8> = UpgradeHandler::new();
     Service::<u32>::call(&mut upgrade, 7);
-    assert!(rt; matches!(task.enter(|cx| Service::<u32>::poll_call(&mut upgrade, &mut (), &mut (), cx)), Poll::Ready(Err(_))));
+    assert!(rt;
+        matches!(
+            task.enter(|cx| Service::<u32>::poll_call(&mut upgrade, &mut (), &mut (), cx)),
+            Poll::Ready(Err(_))
+        )
+    );
     Ok(())
 }
 
@@ -102,7 +136,10 @@ fn begins_with(body: &BoxBody, front: &str) -> bool {
 
 #[test]
 fn an_error_is_answered_by_its_text(rt: HostRuntime) -> Result<(), Fail> {
-    let error = Error { kind: Kind::Parse, cause: None };
+    let error = Error {
+        kind: Kind::Parse,
+        cause: None,
+    };
     let response = response_of_error(rt.alloc(), &error)?;
     assert!(rt; response.status() == StatusCode::BAD_REQUEST);
     assert!(rt; begins_with(response.body(), "error parsing HTTP message"));
