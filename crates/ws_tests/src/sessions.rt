@@ -1,11 +1,16 @@
 //! Sessions, fronts of frames, and the answers to requests for an upgrade.
 use bytes::{Bytes, BytesMut};
+use h1_codec::{Asked, DateLine, put_accept, put_answer_head};
 use h1_decode::request_head;
-use http_types::{Cause, Error, Kind, RequestHead, ResponseHead};
+use http_framing::BodySize;
+use http_types::{Cause, ConnectionType, Error, Kind, RequestHead, ResponseHead, Version};
 use std::alloc::Global;
 use std::test::Fail;
 use ws_frames::{Frame, ProtocolError, take_front, waits_for_frame};
-use ws_session::{HandshakeError, HandshakeFault, Session, error_response, handshake};
+use ws_session::{
+    HandshakeError, HandshakeFault, Session, accept_key_of, error_response, handshake,
+    handshake_response,
+};
 
 // The masked frame of RFC 6455, section 5.7, in two pieces.
 const FIRST: &[u8] = b"\x81\x85\x37\xfa\x21\x3d\x7f\x9f";
@@ -148,5 +153,34 @@ fn failed_checks_are_answered(rt: HostRuntime) -> Result<(), Fail> {
     assert!(rt; response.status().as_u16() == 405 && has(response.head(), "allow", "GET"));
     let error = Error::from(HandshakeError::BadWebsocketKey);
     assert!(rt; error.kind == Kind::Ws && error.cause == Some(Cause::Handshake));
+    Ok(())
+}
+
+// The answer as a text, and the same of the head that the builder makes.
+#[test]
+fn an_upgrade_has_a_text(rt: HostRuntime) -> Result<(), Fail> {
+    let mut item = request_head(rt.alloc(), Bytes::from_static(UNKEYED))?;
+    with_key(rt.alloc(), &mut item.head)?;
+    let asked = Asked::new(Version::HTTP_11, false, true, ConnectionType::KeepAlive);
+    let mut date = DateLine::new();
+    let mut text = BytesMut::new(rt.alloc());
+    put_accept(&mut text, asked, &accept_key_of(&item.head), &mut date, 0)?;
+    assert!(rt; text.as_slice() == b"HTTP/1.1 101 Switching Protocols\r\n\
+        connection: upgrade\r\n\
+        upgrade: websocket\r\n\
+        sec-websocket-accept: s3pPLMBiTxaQ9kYGzzhZRbK+xOo=\r\n\
+        date: Thu, 01 Jan 1970 00:00:00 GMT\r\n\r\n".as_slice());
+    let response = handshake_response(rt.alloc(), &item.head)?.finish()?;
+    let mut other = BytesMut::new(rt.alloc());
+    put_answer_head(
+        &mut other,
+        asked,
+        response.head(),
+        BodySize::Stream,
+        ConnectionType::Upgrade,
+        &mut date,
+        0,
+    )?;
+    assert!(rt; other.as_slice() == text.as_slice());
     Ok(())
 }
