@@ -165,11 +165,15 @@ fn an_upgrade_has_a_text(rt: HostRuntime) -> Result<(), Fail> {
     let mut date = DateLine::new();
     let mut text = BytesMut::new(rt.alloc());
     put_accept(&mut text, asked, &accept_key_of(&item.head), &mut date, 0)?;
-    assert!(rt; text.as_slice() == b"HTTP/1.1 101 Switching Protocols\r\n\
+    assert!(rt;
+        text.as_slice()
+            == b"HTTP/1.1 101 Switching Protocols\r\n\
         connection: upgrade\r\n\
         upgrade: websocket\r\n\
         sec-websocket-accept: s3pPLMBiTxaQ9kYGzzhZRbK+xOo=\r\n\
-        date: Thu, 01 Jan 1970 00:00:00 GMT\r\n\r\n".as_slice());
+        date: Thu, 01 Jan 1970 00:00:00 GMT\r\n\r\n"
+                .as_slice()
+    );
     let response = handshake_response(rt.alloc(), &item.head)?.finish()?;
     let mut other = BytesMut::new(rt.alloc());
     put_answer_head(
