@@ -8,4 +8,6 @@
 #[cfg(test)]
 mod boards;
 #[cfg(test)]
+mod tables;
+#[cfg(test)]
 mod threads;
