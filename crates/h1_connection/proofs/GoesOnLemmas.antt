@@ -1,11 +1,13 @@
 -- A step of the parts goes on behind each trace that the connection stands for.
-use Rattle.std.proofs.Common.{◌≡◌, ℕ, ◌<◌, ◌≤◌, Bool, true, false, not, ◌&&◌, ◌||◌, List, [], ◌∷◌, length, Option, Some, None, Result, Ok, Err, refl, sym, ap, ◌∙◌, subst}
+use Rattle.std.proofs.Common.{◌≡◌, ℕ, ◌<◌, ◌≤◌, Bool, true, false, not, ◌&&◌, ◌||◌, List, [], ◌∷◌, length, Option, Some, None, Result, Ok, Err, refl, sym, ap, ◌∙◌, subst, length-drop}
 use Rattle.std.specs.Prelude.{IsTrue, OnOk, OnErr, option_map, is_some, nat_lt, ◌↔◌, if◌then◌else◌}
 use Rattle.http_config.specs.Config.{Settings}
 use Rattle.h1_model.specs.Setting.{Setting}
 use Rattle.h1_model.specs.Event as on
 use Rattle.h1_model.specs.Sums as sums
-use Rattle.h1_model.specs.Past.{ParsedStep}
+use Rattle.h1_model.specs.Past.{ParsedStep, steps, passed, held}
+use Rattle.h1_model.specs.Sums.{taken}
+use Rattle.h1_model.proofs.PastLemmas.{past_of_unique}
 use Rattle.h1_model.specs.Text.{buffered}
 use Rattle.h1_model.specs.Closing.{closing}
 use Rattle.h1_model.specs.Trace as traces
@@ -232,3 +234,11 @@ buffered_traced now trace stands =
 -- what is held
 pub held_traced : (now : State) (trace : List sums.Step) → Stands now trace → length now.kept.unread ≤ (setting_of now.settings).hold_size
 held_traced now trace stands = unread_bounded (setting_of now.settings) (with_upgrade stands.0 now.kept) trace stands.1
+
+pub held_by_trace : (now : State) (trace : List sums.Step) (past : List ParsedStep) → Stands now trace → IsPastOf (setting_of now.settings) trace past
+    → length now.kept.unread ≡ held past
+held_by_trace now trace past stands is_past =
+    let set = setting_of now.settings in
+    let was = stands.1.past in
+    ap (λ (k : Kept). length k.unread) stands.1.parts ∙ length-drop (passed was) (taken (steps was))
+    ∙ ap held (past_of_unique set trace was past stands.1.of_trace is_past)

@@ -1,6 +1,6 @@
 -- The machine's steps where the next head is asked for.
 use Rattle.std.proofs.lemmas.List.{length-take, length-drop}
-use Rattle.std.proofs.Common.{◌≡◌, ℕ, zero, suc, ◌-◌, ◌≤◌, Bool, true, false, List, [], ◌∷◌, length, drop, Option, Some, None, inl, refl, sym, ap, ◌∙◌, subst, arith}
+use Rattle.std.proofs.Common.{◌≡◌, ℕ, zero, suc, ◌-◌, ◌≤◌, Bool, true, false, ◌&&◌, List, [], ◌∷◌, length, drop, Option, Some, None, inl, refl, sym, ap, ◌∙◌, subst, arith}
 use Rattle.std.specs.Prelude.{option_map, is_some, slice_range, ◌==◌, ◌||◌, not}
 use Rattle.http_config.specs.Config.{Settings}
 use Rattle.h1_model.specs.HeadPiece.{IsHeadPiece}
@@ -11,7 +11,7 @@ use Rattle.h1_model.specs.Setting.{Setting}
 use Rattle.h1_model.specs.Event as on
 use Rattle.h1_model.specs.End as ends
 use Rattle.h1_machine.specs.Kept as machine
-use Rattle.h1_machine.specs.Kept.{Kept, Change, is_free, is_frames, is_answered, now, rest_in, whole_rest}
+use Rattle.h1_machine.specs.Kept.{Kept, Change, is_free, is_frames, is_answered, is_unanswered, now, rest_in, whole_rest}
 use Rattle.h1_machine.specs.Local.{closing_by, answered_end_of}
 use Rattle.h1_machine.specs.Change.{IsChange, IsNext, IsUpcoming, noting_since, behind_head, without_head}
 use Rattle.h1_decode.specs.HeadItem.{SaysHead, version_of, type_of}
@@ -24,6 +24,7 @@ use Rattle.h1_decode.specs.declared.scan.HeadScan.TheVariants.{Open, Piece}
 use Rattle.h1_connection.specs.Incoming.{Incoming, is_coming_in, IsFoundIn, IsHeadIn, IsHeadOf, IsPassedIn, IsPassedHead}
 use Rattle.h1_connection.specs.Meaning.{setting_of, end_of, fault_of}
 use Rattle.h1_connection.specs.Parts.{kept_of, exchange_of, reply_of, IsNoted, IsSound, IsSettled, Steps}
+use Rattle.h1_connection.specs.Given.{HasOpened}
 use Rattle.h1_connection.specs.Heads.{IsAsked, plain_exchange, behind_plain, refused, IsHeld, IsNexted}
 use Rattle.h1_connection.specs.declared.connection.exchange.Exchange.{Exchange}
 use Rattle.h1_connection.specs.declared.connection.exchange.Reply.{Reply}
@@ -233,6 +234,17 @@ handed_noted : (set : Setting) (p : Parts) (after : Incoming) (x : Exchange) →
 handed_noted set p after x runs waits plain = λ is.
     let none = handed_open set p after x runs waits plain in
     absurd (let no : false ≡ true = sym (ap is_some none) ∙ is in cc no)
+
+-- and waits for its answer
+pub handed_opened : (s : Settings) (p : Parts) (after : Incoming) (x : Exchange) (body : model.BodyKind) → closing_by (setting_of s) (kept_of p) ≡ None
+    → x.reply ≡ Unanswered → x.rest ≡ rest_in p.has_ended after.unread (whole_rest body) → HasOpened (setting_of s) p.is_over (kept_of (handed p after x))
+handed_opened s p after x body runs waits rest_is =
+    let plain = rest_plain p.has_ended after.unread body x.rest rest_is in
+    record {
+      over = refl;
+      runs = handed_open (setting_of s) p after x runs waits plain;
+      waits = (λ i. is_unanswered (reply_of (waits i)) && not (plain i));
+    }
 
 pub handed_kept : (set : Setting) (p : Parts) (after : Incoming) (x : Exchange) (h : Head) (request : Request) (rest : machine.Rest) (start end : ℕ)
     → closing_by set (kept_of p) ≡ None → p.input.piece ≡ Some (Piece start end) → IsPassedHead p.input after → IsAsked h request

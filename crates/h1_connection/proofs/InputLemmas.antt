@@ -43,13 +43,13 @@ can_scan front bytes more scanner Open searched = HasScanned-append scanner byte
 can_scan front bytes more scanner (Piece start end) searched = tt
 
 -- the search can go on in them
-grown_search : (front bytes more : List ℕ) (search : Search) → IsSearched front bytes search → CanGoOn search (bytes ++ more)
-grown_search front bytes more Off searched = tt
-grown_search front bytes more Due searched = tt
-grown_search front bytes more (Done scan) searched = can_scan front bytes more scan.scanner scan.piece searched
+go_on : (front bytes more : List ℕ) (search : Search) → IsSearched front bytes search → CanGoOn search (bytes ++ more)
+go_on front bytes more Off searched = tt
+go_on front bytes more Due searched = tt
+go_on front bytes more (Done scan) searched = can_scan front bytes more scan.scanner scan.piece searched
 
 pub can_go_on : (front bytes more grown : List ℕ) (search : Search) → grown ≡ bytes ++ more → IsSearched front bytes search → CanGoOn search grown
-can_go_on front bytes more grown search is searched = subst (λ (l : List ℕ). CanGoOn search l) (sym is) (grown_search front bytes more search searched)
+can_go_on front bytes more grown search is searched = subst (λ (l : List ℕ). CanGoOn search l) (sym is) (go_on front bytes more search searched)
 
 -- what a search in bytes with nothing cut off in front has found
 found_open : (bytes : List ℕ) (scanner : HeadPosition) (piece : HeadScan) → AnswersScan bytes piece → HasScanned scanner bytes → IsSearchedTo [] bytes scanner piece

@@ -8,6 +8,7 @@ pub mod PullLemmas
 pub mod HeadLemmas
 pub mod ResultLemmas
 pub mod GoesOnLemmas
+pub mod GivenLemmas
 pub mod AllowedLemmas
 pub mod TraceLemmas
 pub mod RunLemmas

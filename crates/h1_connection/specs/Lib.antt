@@ -6,6 +6,7 @@ pub mod Pulls
 pub mod Unsent
 pub mod Upgrade
 pub mod Heads
+pub mod Given
 pub mod State
 pub mod Steps
 pub mod Run

@@ -1,5 +1,5 @@
 -- A connection as its contracts see it: its settings, and what the machine keeps.
-use Rattle.std.specs.Prelude.{◌≡◌, ℕ, List, [], ◌∷◌, length, take, IsTrue, ⊤}
+use Rattle.std.specs.Prelude.{◌≡◌, ◌<◌, ℕ, List, [], ◌∷◌, length, take, IsTrue, ⊤}
 use Rattle.http_config.specs.Config.{Settings}
 use Rattle.h1_model.specs.Event as on
 use Rattle.h1_model.specs.Sums as sums
@@ -9,6 +9,7 @@ use Rattle.h1_machine.specs.Local.{allowed_by}
 use Rattle.h1_machine.specs.StandsFor.{StandsFor}
 use Rattle.h1_connection.specs.Meaning.{setting_of}
 use Rattle.h1_connection.specs.Heads.{NeedsNoMemory}
+use Rattle.h1_connection.specs.Given.{next_allowed}
 use Rattle.h1_connection.specs.Pulls.{IsLightPull}
 use Rattle.h1_connection.specs.Ticks.{IsQuietTick}
 use Rattle.h1_connection.specs.Unsent.{SendsNoPiece, SendsNoEnd}
@@ -25,6 +26,14 @@ fresh_state settings = record { settings = settings; kept = fresh }
 -- the event is allowed
 abbrev pub IsAllowed : State → on.Event → Type 0
 IsAllowed state event = IsTrue (allowed_by (setting_of state.settings) state.kept event)
+
+-- the next head may be asked for by the call of its own
+abbrev pub IsNextAllowed : State → Type 0
+IsNextAllowed state = IsTrue (next_allowed (setting_of state.settings) state.kept)
+
+-- there is room for a piece of an answer's body
+abbrev pub HasWriteRoom : State → Type 0
+HasWriteRoom state = length state.kept.buffered < state.settings.h1_write_buffer_size
 
 -- the connection stands for the trace, with what an upgrade would need of the last request
 abbrev pub Stands : State → List sums.Step → Type 0

@@ -1,10 +1,12 @@
 //! One connection: what it keeps between two events, and its answer to each.
-ghost use Rattle.std.specs.Prelude.{◌≡◌, ◌≢◌, ◌<◌, ◌≤◌, ◌↔◌, ℕ, List, [], true, false, length, take, min, option_map, unwrap_or, IsTrue, IfOk, IfErr, IsOk, OnOk, OnErr, IsErrOf};
+ghost use Rattle.std.specs.Prelude.{◌≡◌, ◌≢◌, ◌<◌, ◌≤◌, ◌↔◌, ◌++◌, ℕ, List, [], true, false, length, take, min, option_map, unwrap_or, IsTrue, IfOk, IfErr, IsOk, OnOk, OnErr, IsErrOf};
 ghost use Rattle.std.specs.Io.KnownBytes.{Consumes, Keeps, IsAtEnd};
 ghost use Rattle.http_config.specs.Causes.{Rose};
 ghost use Rattle.h1_codec.specs.Meaning.{answer_of, size_of};
+ghost use Rattle.h1_model.specs.Answer.{AnswerHead, is_at_once};
+ghost use Rattle.h1_model.specs.Answer as answers;
 ghost use Rattle.h1_model.specs.Closing.{closing};
-ghost use Rattle.h1_model.specs.Past.{ParsedStep};
+ghost use Rattle.h1_model.specs.Past.{ParsedStep, held};
 ghost use Rattle.h1_model.specs.Sums as sums;
 ghost use Rattle.h1_model.specs.Text.{buffered};
 ghost use Rattle.h1_model.specs.Trace as traces;
@@ -16,7 +18,8 @@ ghost use Rattle.h1_connection.specs.Heads.{SaysNext, NeedsNoMemory, with_head, 
 ghost use Rattle.h1_connection.specs.Pulls.{IsLightPull};
 ghost use Rattle.h1_connection.specs.Unsent.{SendsNoPiece, SendsNoEnd};
 ghost use Rattle.h1_connection.specs.Ticks.{expiry_of, IsQuietTick};
-ghost use Rattle.h1_connection.specs.State.{fresh_state, IsAllowed, Stands, GoesOn, ReadsIn, Is};
+ghost use Rattle.h1_connection.specs.Given.{is_head, is_head_kind};
+ghost use Rattle.h1_connection.specs.State.{fresh_state, IsAllowed, IsNextAllowed, HasWriteRoom, Stands, GoesOn, ReadsIn, Is};
 
 use crate::connection::clock::Clock;
 pub use crate::connection::heads::{NextHead, NextKind};
@@ -119,6 +122,8 @@ impl Connection {
     /// How many bytes of the input are held: those that were taken and not passed.
     pub fn held(&self) -> usize
         ensures value { result ≡ length self.now.kept.unread }
+        ensures traced { (trace : List sums.Step) (past : List ParsedStep) → Stands self.now trace
+            → traces.IsPastOf (setting_of self.now.settings) trace past → result ≡ held past }
         ensures limit { (trace : List sums.Step) → Stands self.now trace → result ≤ self.now.settings.h1_hold_size }
     {
         self.parts.input.len()
@@ -126,7 +131,7 @@ impl Connection {
 
     /// Takes bytes that were read from the peer, from the first on, and says how many there was room for.
     pub fn read(&mut self, bytes: &[u8]) -> Result<usize, NoMemory>
-        requires { IsAllowed self.old (on.read bytes.now) }
+        requires can_read { IsAllowed self.old (on.read bytes.now) }
         ensures stands { IfOk result (λ count. GoesOn self.old (on.read bytes.now) (Is (on.took count)) self.new) }
         ensures settings { self.new.settings ≡ self.old.settings }
         ensures err { OnErr result (self.new ≡ self.old) }
@@ -141,7 +146,7 @@ impl Connection {
     /// `ReadFromError::Full` comes where as many bytes are held as may be, `Failed` where the source failed, and else
     /// `NoMemory`. The source was asked where it failed alone.
     pub fn read_from<S: Source>(&mut self, source: &mut S) -> Result<usize, ReadFromError>
-        requires { IsAllowed self.old (on.read []) }
+        requires can_read { IsAllowed self.old (on.read []) }
         ensures stands { IfOk result (λ count. (bytes : List ℕ) × (length bytes ≡ count) × Consumes (S.left source.old) (S.left source.new) bytes
             × ReadsIn self.old bytes self.new) }
         ensures settings { self.new.settings ≡ self.old.settings }
@@ -159,7 +164,7 @@ impl Connection {
 
     /// The peer sends no more bytes. It takes no memory.
     pub fn eof(&mut self)
-        requires { IsAllowed self.old on.eof }
+        requires can_read { IsAllowed self.old on.eof }
         ensures stands { GoesOn self.old on.eof (Is on.done) self.new }
         ensures settings { self.new.settings ≡ self.old.settings }
     {
@@ -168,9 +173,25 @@ impl Connection {
 
     /// Hands out the next request's head, or that the connection has ended. It takes no memory where it closes, and
     /// where no head is there and room for more bytes.
+    ///
+    /// Where the connection closes, all that waits to be written is to be written first: behind the end that this tells
+    /// nothing may be, so the last answer would be lost. A request that is handed out may be answered.
     pub fn next(&mut self) -> Result<NextHead, NoMemory>
-        requires { IsAllowed self.old on.next }
+        requires can_next { IsNextAllowed self.old }
         ensures stands { IfOk result (λ next. GoesOn self.old on.next (SaysNext next) self.new) }
+        ensures can_answer { IfOk result (λ next. (head : AnswerHead) (size : answers.BodySize) → is_head next ≡ true → IsAllowed self.new (on.answer head size)) }
+        ensures settings { self.new.settings ≡ self.old.settings }
+        ensures no_memory_needed { NeedsNoMemory (setting_of self.old.settings) self.old.kept → IsOk result }
+        ensures err { OnErr result (self.new ≡ self.old) }
+    {
+        self.ask()
+    }
+
+    /// The event of `next`, which is allowed with bytes that wait to be written too.
+    pub(crate) fn ask(&mut self) -> Result<NextHead, NoMemory>
+        requires allowed { IsAllowed self.old on.next }
+        ensures stands { IfOk result (λ next. GoesOn self.old on.next (SaysNext next) self.new) }
+        ensures can_answer { IfOk result (λ next. (head : AnswerHead) (size : answers.BodySize) → is_head next ≡ true → IsAllowed self.new (on.answer head size)) }
         ensures settings { self.new.settings ≡ self.old.settings }
         ensures no_memory_needed { NeedsNoMemory (setting_of self.old.settings) self.old.kept → IsOk result }
         ensures err { OnErr result (self.new ≡ self.old) }
@@ -186,8 +207,9 @@ impl Connection {
         item: &mut HeadItem,
         room: &mut HeadRoom,
     ) -> Result<NextKind, NoMemory>
-        requires { IsAllowed self.old on.next }
+        requires can_next { IsNextAllowed self.old }
         ensures stands { IfOk result (λ kind. GoesOn self.old on.next (SaysNext (with_head item.new kind)) self.new) }
+        ensures can_answer { IfOk result (λ kind. (head : AnswerHead) (size : answers.BodySize) → is_head_kind kind ≡ true → IsAllowed self.new (on.answer head size)) }
         ensures settings { self.new.settings ≡ self.old.settings }
         ensures item { IfOk result (λ kind. KeepsItem self.old.kept.is_coming kind item.old item.new) }
         ensures no_memory_needed { NeedsNoMemory (setting_of self.old.settings) self.old.kept → IsOk result }
@@ -201,7 +223,7 @@ impl Connection {
     /// trailers, or its end. It takes no memory where it tells the end or a fault, or where nothing is there and no
     /// trailer has begun.
     pub fn pull(&mut self) -> Result<Pulled, NoMemory>
-        requires { IsAllowed self.old on.pull }
+        requires can_pull { IsAllowed self.old on.pull }
         ensures stands { IfOk result (λ answer. GoesOn self.old on.pull (SaysPulled answer) self.new) }
         ensures settings { self.new.settings ≡ self.old.settings }
         ensures no_memory_needed { IsLightPull self.old.kept → IsOk result }
@@ -212,7 +234,7 @@ impl Connection {
 
     /// The rest of the open request's body isn't wanted. It takes no memory.
     pub fn drop_body(&mut self)
-        requires { IsAllowed self.old on.drop_body }
+        requires can_pull { IsAllowed self.old on.drop_body }
         ensures stands { GoesOn self.old on.drop_body (Is on.done) self.new }
         ensures settings { self.new.settings ≡ self.old.settings }
     {
@@ -221,7 +243,7 @@ impl Connection {
 
     /// Tells the client of the open request to go on, which waits for leave to send its body (RFC 7231, section 5.1.1).
     pub fn send_continue(&mut self) -> Result<(), NoMemory>
-        requires { IsAllowed self.old on.send_continue }
+        requires can_continue { IsAllowed self.old on.send_continue }
         ensures stands { OnOk result (GoesOn self.old on.send_continue (Is on.done) self.new) }
         ensures settings { self.new.settings ≡ self.old.settings }
         ensures err { OnErr result (self.new ≡ self.old) }
@@ -229,10 +251,14 @@ impl Connection {
         self.parts.send_continue(&self.config)
     }
 
-    /// Answers the open request with this head, and with a body of this size.
+    /// Answers the open request with this head, and with a body of this size. Unless that is none or 0 bytes, the body may
+    /// then be handed in.
     pub fn answer(&mut self, head: &ResponseHead, size: BodySize) -> Result<(), NoMemory>
-        requires { IsAllowed self.old (on.answer (answer_of head.now) (size_of size)) }
+        requires can_answer { IsAllowed self.old (on.answer (answer_of head.now) (size_of size)) }
         ensures stands { OnOk result (GoesOn self.old (on.answer (answer_of head.now) (size_of size)) (Is on.done) self.new) }
+        ensures can_chunk { OnOk result ((bytes : List ℕ) → is_at_once (size_of size) ≡ false → HasWriteRoom self.new → IsAllowed self.new (on.chunk bytes)) }
+        ensures can_end_answer { OnOk result (is_at_once (size_of size) ≡ false → IsAllowed self.new on.body_end) }
+        ensures can_fail_answer { OnOk result (is_at_once (size_of size) ≡ false → IsAllowed self.new on.body_error) }
         ensures settings { self.new.settings ≡ self.old.settings }
         ensures err { OnErr result (self.new ≡ self.old) }
     {
@@ -241,8 +267,11 @@ impl Connection {
 
     /// The next bytes of the answer's body. Where none of them goes out, it takes no memory.
     pub fn chunk(&mut self, bytes: &[u8]) -> Result<(), NoMemory>
-        requires { IsAllowed self.old (on.chunk bytes.now) }
+        requires can_chunk { IsAllowed self.old (on.chunk bytes.now) }
         ensures stands { OnOk result (GoesOn self.old (on.chunk bytes.now) (Is on.done) self.new) }
+        ensures can_chunk { OnOk result ((more : List ℕ) → HasWriteRoom self.new → IsAllowed self.new (on.chunk more)) }
+        ensures can_end_answer { OnOk result (IsAllowed self.new on.body_end) }
+        ensures can_fail_answer { OnOk result (IsAllowed self.new on.body_error) }
         ensures settings { self.new.settings ≡ self.old.settings }
         ensures no_memory_needed { SendsNoPiece self.old.kept bytes.now → IsOk result }
         ensures err { OnErr result (self.new ≡ self.old) }
@@ -252,8 +281,11 @@ impl Connection {
 
     /// The next bytes of the answer's body, in memory that may be shared. They are still copied, as `chunk` copies them.
     pub fn chunk_bytes(&mut self, bytes: Bytes) -> Result<(), NoMemory>
-        requires { IsAllowed self.old (on.chunk bytes) }
+        requires can_chunk { IsAllowed self.old (on.chunk bytes) }
         ensures stands { OnOk result (GoesOn self.old (on.chunk bytes) (Is on.done) self.new) }
+        ensures can_chunk { OnOk result ((more : List ℕ) → HasWriteRoom self.new → IsAllowed self.new (on.chunk more)) }
+        ensures can_end_answer { OnOk result (IsAllowed self.new on.body_end) }
+        ensures can_fail_answer { OnOk result (IsAllowed self.new on.body_error) }
         ensures settings { self.new.settings ≡ self.old.settings }
         ensures no_memory_needed { SendsNoPiece self.old.kept bytes → IsOk result }
         ensures err { OnErr result (self.new ≡ self.old) }
@@ -263,7 +295,7 @@ impl Connection {
 
     /// The answer's body is whole. Where its end isn't written, it takes no memory.
     pub fn end_answer(&mut self) -> Result<(), NoMemory>
-        requires { IsAllowed self.old on.body_end }
+        requires can_end_answer { IsAllowed self.old on.body_end }
         ensures stands { OnOk result (GoesOn self.old on.body_end (Is on.done) self.new) }
         ensures settings { self.new.settings ≡ self.old.settings }
         ensures no_memory_needed { SendsNoEnd self.old.kept → IsOk result }
@@ -274,14 +306,24 @@ impl Connection {
 
     /// The answer's body can't be completed: the connection closes. It takes no memory.
     pub fn fail_answer(&mut self)
-        requires { IsAllowed self.old on.body_error }
+        requires can_end_answer { IsAllowed self.old on.body_error }
         ensures stands { GoesOn self.old on.body_error (Is on.done) self.new }
         ensures settings { self.new.settings ≡ self.old.settings }
     {
         self.parts.fail_answer(&self.config)
     }
 
-    /// The bytes that wait to be written to the peer, oldest first.
+    /// The bytes that a socket may be given next: the first of those that wait to be written, and none only where none
+    /// waits. `advance` says how many of them were written.
+    pub fn stretch(&self) -> &[u8]
+        ensures first { (rest : List ℕ) × (result.now ++ rest ≡ self.now.kept.buffered) }
+        ensures fits { length result.now ≤ length self.now.kept.buffered }
+        ensures some { length result.now ≡ 0 → length self.now.kept.buffered ≡ 0 }
+    {
+        self.front()
+    }
+
+    /// All bytes that wait to be written to the peer, oldest first.
     pub fn front(&self) -> &[u8]
         ensures value { result.now ≡ self.now.kept.buffered }
         ensures traced { (trace : List sums.Step) → Stands self.now trace → result.now ≡ buffered (setting_of self.now.settings) trace }
@@ -289,9 +331,9 @@ impl Connection {
         self.parts.output.as_slice()
     }
 
-    /// The first bytes of `front` were written: the write of so many, whose bytes nobody asks for. It takes no memory.
+    /// The first bytes of `stretch` were written: the write of so many, whose bytes nobody asks for. It takes no memory.
     pub fn advance(&mut self, count: usize)
-        requires allowed { IsAllowed self.old (on.write count) }
+        requires can_write { IsAllowed self.old (on.write count) }
         requires fits { count ≤ length self.old.kept.buffered }
         ensures stands { GoesOn self.old (on.write count) (Is (on.gave (take count self.old.kept.buffered))) self.new }
         ensures settings { self.new.settings ≡ self.old.settings }
@@ -301,7 +343,7 @@ impl Connection {
 
     /// Gives the first bytes that wait to be written, at most so many. Where there is none it takes no memory.
     pub fn write(&mut self, limit: usize) -> Result<Bytes, NoMemory>
-        requires { IsAllowed self.old (on.write limit) }
+        requires can_write { IsAllowed self.old (on.write limit) }
         ensures stands { IfOk result (λ bytes. GoesOn self.old (on.write limit) (Is (on.gave bytes)) self.new) }
         ensures settings { self.new.settings ≡ self.old.settings }
         ensures no_memory_needed { length (take limit self.old.kept.buffered) ≡ 0 → IsOk result }
@@ -313,7 +355,7 @@ impl Connection {
     /// A moment has come, in milliseconds after the start of 1970. Memory is taken only where the first head didn't
     /// come in time, which is answered.
     pub fn tick(&mut self, moment: u64) -> Result<Expiry, NoMemory>
-        requires { IsAllowed self.old (on.tick moment) }
+        requires can_tick { IsAllowed self.old (on.tick moment) }
         ensures stands { IfOk result (λ expiry. GoesOn self.old (on.tick moment) (Is (expiry_of expiry)) self.new) }
         ensures settings { self.new.settings ≡ self.old.settings }
         ensures no_memory_needed { IsQuietTick (setting_of self.old.settings) self.old.kept moment → IsOk result }
@@ -324,7 +366,7 @@ impl Connection {
 
     /// The connection is to end once no request is open. It takes no memory.
     pub fn drain(&mut self)
-        requires { IsAllowed self.old on.drain }
+        requires can_drain { IsAllowed self.old on.drain }
         ensures stands { GoesOn self.old on.drain (Is on.done) self.new }
         ensures settings { self.new.settings ≡ self.old.settings }
     {

@@ -14,11 +14,12 @@
 //! {
 //!     connection.answer(&head, BodySize::ZERO)?;
 //!     // What is to be written.
-//!     let bytes = connection.front();
+//!     let bytes = connection.stretch();
 //! }
 //! ```
 //!
-//! Each event has a call of its own, and a question that says whether it may come. `Event` and `Outcome` are the same
+//! Each event has a call of its own, and a question that says whether it may come; what the call before has given needn't
+//! be asked for. Before a connection that closes is asked for its next head, all that waits is to be written. `Event` and `Outcome` are the same
 //! as values, for `Connection::step`; `drive` brings a whole list of events to a new connection, and gives the trace of
 //! what came of it.
 //!
@@ -40,10 +41,17 @@ mod step;
 mod trace;
 
 pub use boxed::Boxed;
+pub use bytes::Bytes;
 pub use connection::{Connection, Expiry, NextHead, NextKind, READ_SIZE};
 pub use driver::drive;
 pub use error::{DriveError, ReadFromError};
 pub use event::{End, Event, HeadFault, Outcome, PayloadError};
+pub use h1_decode::{HeadItem, HeadRoom};
 pub use h1_payload::{BodyFault, Pulled};
+pub use http_framing::{BodyKind, BodySize};
+pub use http_types::{
+    ConnectionType, Failed, HeaderMap, KeepAlive, NoMemory, RequestHead, ResponseHead,
+    ServiceConfig, ServiceConfigBuilder, Sink, Source, StatusCode, StdSink, StdSource,
+};
 pub use noted::Noted;
 pub use trace::{Step, Steps, StepsIter, Trace};

@@ -16,7 +16,7 @@ impl Connection {
     /// Takes in an event that is allowed, and answers it as the tables do. After want of memory the connection is as
     /// before.
     pub fn step(&mut self, event: &Event) -> Result<Outcome, NoMemory>
-        requires { IsAllowed self.old (event_of event.now) }
+        requires allowed { IsAllowed self.old (event_of event.now) }
         ensures stands { IfOk result (λ outcome. GoesOn self.old (event_of event.now) (SaysOutcome outcome) self.new) }
         ensures settings { self.new.settings ≡ self.old.settings }
         ensures no_memory_needed { TakesNoMemory self.old (event_of event.now) → IsOk result }
@@ -32,7 +32,7 @@ impl Connection {
                 Ok(Outcome::Done)
             }
             Event::Next => {
-                let next = self.next()?;
+                let next = self.ask()?;
                 Ok(outcome_of_next(next))
             }
             Event::Pull => {

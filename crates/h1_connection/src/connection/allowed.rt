@@ -4,6 +4,7 @@ ghost use Rattle.h1_model.specs.Answer.{AnswerHead, BodySize};
 ghost use Rattle.h1_model.specs.Event as on;
 ghost use Rattle.h1_machine.specs.Kept.{of_exchange, is_frames, is_unanswered, is_answered, is_upgraded};
 ghost use Rattle.h1_machine.specs.Local.{closing_by, allowed_by, has_body_left, waits_for_answer, is_answering, is_moment};
+ghost use Rattle.h1_connection.specs.Given.{next_allowed};
 ghost use Rattle.h1_connection.specs.Meaning.{setting_of, event_of};
 ghost use Rattle.h1_connection.specs.Parts.{kept_of, reply_of, IsNoted};
 
@@ -63,6 +64,16 @@ impl Parts {
         let is_open = self.is_open();
         let closes = self.noted_closing(config).is_some();
         !self.is_over && (closes || !is_open)
+    }
+
+    /// The same, and where the connection closes nothing waits to be written.
+    pub fn can_ask(&self, config: &ServiceConfig) -> bool
+        requires { IsNoted (setting_of config.now) (kept_of self.now) }
+        ensures { result ≡ next_allowed (setting_of config.now) (kept_of self.now) }
+    {
+        let closes = self.noted_closing(config).is_some();
+        let is_written = self.output.is_empty();
+        self.can_next(config) && (!closes || is_written)
     }
 
     #[tactic(auto, unfolding(h1_machine::specs::Local::allowed_by))]

@@ -14,6 +14,7 @@ ghost use Rattle.h1_decode.specs.Refusal as decode;
 ghost use Rattle.h1_connection.specs.Incoming.{IsWhole, IsHeadOf};
 ghost use Rattle.h1_connection.specs.Meaning.{setting_of, end_of, fault_of};
 ghost use Rattle.h1_connection.specs.Parts.{kept_of, IsSettled, IsSound, Steps};
+ghost use Rattle.h1_connection.specs.Given.{is_head, is_head_kind, HasOpened};
 ghost use Rattle.h1_connection.specs.Heads.{refused, behind_plain, with_head, IsAsked, IsHeld, IsNexted, IsWaited, KeepsItem, LosesAtMostHeaders, NeedsNoMemory};
 
 use crate::connection::exchange::{Exchange, Reply};
@@ -63,6 +64,7 @@ impl Parts {
     pub fn next(&mut self, alloc: Global, config: &ServiceConfig) -> Result<NextHead, NoMemory>
         requires { IsSound config.now self.old }
         ensures ok { IfOk result (λ next. IsHeld config.now self.old → IsNexted config.now self.old next self.new) }
+        ensures opened { IfOk result (λ next. is_head next ≡ true → HasOpened (setting_of config.now) self.old.is_over (kept_of self.new)) }
         ensures sound { OnOk result (IsSound config.now self.new) }
         ensures no_memory_needed { NeedsNoMemory (setting_of config.now) (kept_of self.old) → IsOk result }
         ensures err { OnErr result (self.new ≡ self.old) }
@@ -86,6 +88,7 @@ impl Parts {
     ) -> Result<NextKind, NoMemory>
         requires { IsSound config.now self.old }
         ensures ok { IfOk result (λ kind. IsHeld config.now self.old → IsNexted config.now self.old (with_head item.new kind) self.new) }
+        ensures opened { IfOk result (λ kind. is_head_kind kind ≡ true → HasOpened (setting_of config.now) self.old.is_over (kept_of self.new)) }
         ensures sound { OnOk result (IsSound config.now self.new) }
         ensures item { IfOk result (λ kind. KeepsItem (kept_of self.old).is_coming kind item.old item.new) }
         ensures no_memory_needed { NeedsNoMemory (setting_of config.now) (kept_of self.old) → IsOk result }
@@ -112,6 +115,7 @@ impl Parts {
         requires runs { closing_by (setting_of config.now) (kept_of self.old) ≡ None }
         requires none { IsHeadOf self.old.input None }
         ensures ok { IfOk result (λ kind. IsWaited config.now self.old kind self.new) }
+        ensures no_head { IfOk result (λ kind. is_head_kind kind ≡ false) }
         ensures sound { OnOk result (IsSound config.now self.new) }
         ensures no_memory_needed { (length self.old.input.unread == config.now.h1_hold_size) ≡ false → IsOk result }
         ensures err { OnErr result (self.new ≡ self.old) }
@@ -158,6 +162,7 @@ impl Parts {
         requires whole { IsWhole self.old.input }
         ensures handed { (piece : List ℕ) (h : Head) (start end : ℕ) → IsReading piece (head_is h) → SaysHead item.now h → self.old.input.piece ≡ Some (Piece start end)
             → kept_of self.new ≡ noting_since (setting_of config.now) (behind_plain (kept_of self.old) end h) }
+        ensures opened { HasOpened (setting_of config.now) self.old.is_over (kept_of self.new) }
         ensures sound { IsSound config.now self.new }
     {
         let _ = config;

@@ -1,13 +1,14 @@
 // The conditions of the calls, each asked for itself.
-ghost use Rattle.std.specs.Prelude.{◌≡◌, ◌-◌, ℕ, List, length};
+ghost use Rattle.std.specs.Prelude.{◌≡◌, ◌-◌, ℕ, List, length, true, is_some};
 ghost use Rattle.h1_model.specs.Answer.{AnswerHead, BodySize};
 ghost use Rattle.h1_model.specs.Deadline.{IsDeadline};
 ghost use Rattle.h1_model.specs.Sums as sums;
 ghost use Rattle.h1_model.specs.Event as on;
-ghost use Rattle.h1_machine.specs.Local.{allowed_by};
+ghost use Rattle.h1_machine.specs.Local.{closing_by, allowed_by};
 ghost use Rattle.h1_machine.specs.Deadline.{deadline_by};
 ghost use Rattle.h1_connection.specs.Meaning.{setting_of};
-ghost use Rattle.h1_connection.specs.State.{Stands};
+ghost use Rattle.h1_connection.specs.Given.{next_allowed};
+ghost use Rattle.h1_connection.specs.State.{IsAllowed, Stands};
 
 use crate::connection::Connection;
 
@@ -20,11 +21,14 @@ impl Connection {
         self.parts.can_read(&self.config)
     }
 
-    /// Whether the next head may be asked for.
+    /// Whether the next head may be asked for: no request is open, or the connection closes and all was written. Where
+    /// bytes of the last answer wait, they are to be written first.
     pub fn can_next(&self) -> bool
-        ensures { result ≡ allowed_by (setting_of self.now.settings) self.now.kept on.next }
+        ensures value { result ≡ next_allowed (setting_of self.now.settings) self.now.kept }
+        ensures allowed { result ≡ true → IsAllowed self.now on.next }
+        ensures written { result ≡ true → is_some (closing_by (setting_of self.now.settings) self.now.kept) ≡ true → length self.now.kept.buffered ≡ 0 }
     {
-        self.parts.can_next(&self.config)
+        self.parts.can_ask(&self.config)
     }
 
     /// Whether more of a body may be asked for, or its rest dropped.
@@ -94,9 +98,18 @@ impl Connection {
         self.parts.deadline(&self.config)
     }
 
+    /// How many more bytes of the input may be held. A read takes no more.
+    pub fn read_room(&self) -> usize
+        ensures { result ≡ self.now.settings.h1_hold_size - length self.now.kept.unread }
+    {
+        self.config
+            .h1_hold_size()
+            .saturating_sub(self.parts.input.len())
+    }
+
     /// How many bytes may be put behind those that wait to be written before pieces of a body have to wait: while it is
     /// above 0 there is room for one.
-    pub fn room(&self) -> usize
+    pub fn write_room(&self) -> usize
         ensures { result ≡ self.now.settings.h1_write_buffer_size - length self.now.kept.buffered }
     {
         self.config

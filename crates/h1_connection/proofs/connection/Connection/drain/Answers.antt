@@ -5,4 +5,4 @@ pub invariant_of-self : goal.invariant_of-self
 invariant_of-self c = c.drain.ensures.sound
 
 pub returns-clause-stands : goal.returns-clause-stands
-returns-clause-stands c = goes_on _ _ _ _ _ _ tt (λ h e. cc e) c.self.view_is c.requires c.drain.ensures.ok
+returns-clause-stands c = goes_on _ _ _ _ _ _ tt (λ h e. cc e) c.self.view_is c.requires.can_drain c.drain.ensures.ok

@@ -7,7 +7,7 @@ invariant_of-self c = still_sound c.end_answer.result _ _ _ c.self.invariant c.e
 
 pub returns-clause-stands : goal.returns-clause-stands
 returns-clause-stands c =
-    on_map c.end_answer.result _ _ (λ steps. goes_on _ _ _ _ _ _ tt (λ h e. cc e) c.self.view_is c.requires steps) c.end_answer.ensures.ok
+    on_map c.end_answer.result _ _ (λ steps. goes_on _ _ _ _ _ _ tt (λ h e. cc e) c.self.view_is c.requires.can_end_answer steps) c.end_answer.ensures.ok
 
 pub returns-clause-err : goal.returns-clause-err
 returns-clause-err c = same_state c.end_answer.result _ _ _ _ c.self.view_is c.end_answer.ensures.err

@@ -1,13 +1,5 @@
-use Rattle.h1_connection.proofs.ResultLemmas.{ok_map}
-use Rattle.h1_connection.proofs.GoesOnLemmas.{still_sound, same_state, head_goes_on}
+use Rattle.h1_connection.proofs.GivenLemmas.{next_is_allowed}
 use Rattle.h1_connection.proofs.connection.Connection.next.Goals as goal
 
-pub invariant_of-self : goal.invariant_of-self
-invariant_of-self c = still_sound c.next.result _ _ _ c.self.invariant c.next.ensures.sound c.next.ensures.err
-
-pub returns-clause-stands : goal.returns-clause-stands
-returns-clause-stands c =
-    ok_map c.next.result _ _ (λ answer nexted. head_goes_on _ _ _ _ answer c.self.view_is c.requires nexted) c.next.ensures.ok
-
-pub returns-clause-err : goal.returns-clause-err
-returns-clause-err c = same_state c.next.result _ _ _ _ c.self.view_is c.next.ensures.err
+pub ask-requires : goal.ask-requires
+ask-requires c = record { allowed = next_is_allowed c.args.self.now c.requires.can_next }

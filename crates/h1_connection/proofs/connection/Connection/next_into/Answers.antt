@@ -4,6 +4,7 @@ use Rattle.h1_connection.specs.State.{State}
 use Rattle.h1_connection.specs.Heads.{with_head, KeepsItem, LosesAtMostHeaders}
 use Rattle.h1_connection.proofs.ResultLemmas.{ok_map}
 use Rattle.h1_connection.proofs.GoesOnLemmas.{still_sound, same_state, head_goes_on}
+use Rattle.h1_connection.proofs.GivenLemmas.{next_is_allowed, answer_given}
 use Rattle.h1_connection.proofs.connection.Connection.next_into.Goals as goal
 
 pub invariant_of-self : goal.invariant_of-self
@@ -11,7 +12,7 @@ invariant_of-self c = still_sound c.next_into.result _ _ _ c.self.invariant c.ne
 
 pub returns-clause-stands : goal.returns-clause-stands
 returns-clause-stands c =
-    ok_map c.next_into.result _ _ (λ kind nexted. head_goes_on _ _ _ _ (with_head c.next_into.new.item kind) c.self.view_is c.requires nexted) c.next_into.ensures.ok
+    ok_map c.next_into.result _ _ (λ kind nexted. head_goes_on _ _ _ _ (with_head c.next_into.new.item kind) c.self.view_is (next_is_allowed c.args.self.now c.requires.can_next) nexted) c.next_into.ensures.ok
 
 pub returns-clause-err : goal.returns-clause-err
 returns-clause-err c = same_state c.next_into.result _ _ _ _ c.self.view_is c.next_into.ensures.err
@@ -23,3 +24,7 @@ returns-clause-item c =
 pub returns-clause-kept_item : goal.returns-clause-kept_item
 returns-clause-kept_item c =
     subst (λ (s : State). OnErr c.next_into.result (LosesAtMostHeaders s.kept.is_coming c.args.item.now c.next_into.new.item)) c.self.view_is c.next_into.ensures.kept_item
+
+pub returns-clause-can_answer : goal.returns-clause-can_answer
+returns-clause-can_answer c =
+    ok_map c.next_into.result _ _ (λ kind opened head size is. answer_given _ _ _ _ c.self.view_is (next_is_allowed c.args.self.now c.requires.can_next) (opened is) head size) c.next_into.ensures.opened

@@ -3,14 +3,14 @@ use Rattle.h1_connection.proofs.GoesOnLemmas.{still_sound, same_state, allowed_p
 use Rattle.h1_connection.proofs.connection.Connection.pull.Goals as goal
 
 pub pull-requires-clause-open : goal.pull-requires-clause-open
-pull-requires-clause-open c = pull_open c.self.inside.config _ (allowed_parts _ _ _ _ c.self.view_is c.requires)
+pull-requires-clause-open c = pull_open c.self.inside.config _ (allowed_parts _ _ _ _ c.self.view_is c.requires.can_pull)
 
 pub invariant_of-self : goal.invariant_of-self
 invariant_of-self c = still_sound c.pull.result _ _ _ c.self.invariant c.pull.ensures.sound c.pull.ensures.err
 
 pub returns-clause-stands : goal.returns-clause-stands
 returns-clause-stands c =
-    ok_map c.pull.result _ _ (λ answer pulled. pull_goes_on _ _ _ _ answer c.self.view_is c.requires pulled) c.pull.ensures.ok
+    ok_map c.pull.result _ _ (λ answer pulled. pull_goes_on _ _ _ _ answer c.self.view_is c.requires.can_pull pulled) c.pull.ensures.ok
 
 pub returns-clause-err : goal.returns-clause-err
 returns-clause-err c = same_state c.pull.result _ _ _ _ c.self.view_is c.pull.ensures.err

@@ -7,7 +7,7 @@ invariant_of-self c = still_sound c.read.result _ _ _ c.self.invariant c.read.en
 
 pub returns-clause-stands : goal.returns-clause-stands
 returns-clause-stands c =
-    ok_map c.read.result _ _ (λ given steps. goes_on _ _ _ _ _ _ tt (λ h e. cc e) c.self.view_is c.requires steps) c.read.ensures.ok
+    ok_map c.read.result _ _ (λ given steps. goes_on _ _ _ _ _ _ tt (λ h e. cc e) c.self.view_is c.requires.can_read steps) c.read.ensures.ok
 
 pub returns-clause-err : goal.returns-clause-err
 returns-clause-err c = same_state c.read.result _ _ _ _ c.self.view_is c.read.ensures.err

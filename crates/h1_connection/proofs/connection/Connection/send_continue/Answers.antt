@@ -7,7 +7,7 @@ invariant_of-self c = still_sound c.send_continue.result _ _ _ c.self.invariant 
 
 pub returns-clause-stands : goal.returns-clause-stands
 returns-clause-stands c =
-    on_map c.send_continue.result _ _ (λ steps. goes_on _ _ _ _ _ _ tt (λ h e. cc e) c.self.view_is c.requires steps) c.send_continue.ensures.ok
+    on_map c.send_continue.result _ _ (λ steps. goes_on _ _ _ _ _ _ tt (λ h e. cc e) c.self.view_is c.requires.can_continue steps) c.send_continue.ensures.ok
 
 pub returns-clause-err : goal.returns-clause-err
 returns-clause-err c = same_state c.send_continue.result _ _ _ _ c.self.view_is c.send_continue.ensures.err

@@ -16,7 +16,7 @@ pub returns-in-Eof-clause-stands : goal.returns-in-Eof-clause-stands
 returns-in-Eof-clause-stands c = at_event c.args.self.now c.eof.new.self _ _ out.Done c.in-Eof.is c.eof.ensures.stands
 
 pub returns-in_ok-next-in-Next-clause-stands : goal.returns-in_ok-next-in-Next-clause-stands
-returns-in_ok-next-in-Next-clause-stands c = at_event c.args.self.now c.next.new.self _ _ c.outcome_of_next.result c.in-Next.is (says_more c.args.self.now c.next.new.self _ _ _ c.outcome_of_next.ensures c.in_ok-next-in-Next.ensures.stands)
+returns-in_ok-next-in-Next-clause-stands c = at_event c.args.self.now c.ask.new.self _ _ c.outcome_of_next.result c.in-Next.is (says_more c.args.self.now c.ask.new.self _ _ _ c.outcome_of_next.ensures c.in_ok-next-in-Next.ensures.stands)
 
 pub returns-in_ok-pulled-in-Pull-clause-stands : goal.returns-in_ok-pulled-in-Pull-clause-stands
 returns-in_ok-pulled-in-Pull-clause-stands c = at_event c.args.self.now c.pull.new.self _ _ c.outcome_of_pull.result c.in-Pull.is (says_more c.args.self.now c.pull.new.self _ _ _ c.outcome_of_pull.ensures c.in_ok-pulled-in-Pull.ensures.stands)

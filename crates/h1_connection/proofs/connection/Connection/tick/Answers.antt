@@ -3,14 +3,14 @@ use Rattle.h1_connection.proofs.GoesOnLemmas.{still_sound, same_state, goes_on, 
 use Rattle.h1_connection.proofs.connection.Connection.tick.Goals as goal
 
 pub tick-requires-clause-before : goal.tick-requires-clause-before
-tick-requires-clause-before c = tick_before c.self.inside.config _ _ (allowed_parts _ _ _ _ c.self.view_is c.requires)
+tick-requires-clause-before c = tick_before c.self.inside.config _ _ (allowed_parts _ _ _ _ c.self.view_is c.requires.can_tick)
 
 pub invariant_of-self : goal.invariant_of-self
 invariant_of-self c = still_sound c.tick.result _ _ _ c.self.invariant c.tick.ensures.sound c.tick.ensures.err
 
 pub returns-clause-stands : goal.returns-clause-stands
 returns-clause-stands c =
-    ok_map c.tick.result _ _ (λ expiry steps. goes_on _ _ _ _ _ _ tt (expiry_headless expiry) c.self.view_is c.requires steps) c.tick.ensures.ok
+    ok_map c.tick.result _ _ (λ expiry steps. goes_on _ _ _ _ _ _ tt (expiry_headless expiry) c.self.view_is c.requires.can_tick steps) c.tick.ensures.ok
 
 pub returns-clause-err : goal.returns-clause-err
 returns-clause-err c = same_state c.tick.result _ _ _ _ c.self.view_is c.tick.ensures.err

@@ -1,7 +1,7 @@
 use Rattle.std.proofs.Common.{refl, ◌∙◌, ap}
 use Rattle.h1_model.specs.Request as model
 use Rattle.h1_machine.specs.Kept.{rest_in, whole_rest}
-use Rattle.h1_connection.proofs.HeadLemmas.{handed_kept, handed_sound}
+use Rattle.h1_connection.proofs.HeadLemmas.{handed_kept, handed_sound, handed_opened}
 use Rattle.h1_connection.proofs.connection.parts.Parts.hand_out.Goals as goal
 
 pub returns-clause-handed : goal.returns-clause-handed
@@ -11,3 +11,6 @@ returns-clause-handed c = λ piece h start end reading says at.
 
 pub returns-clause-sound : goal.returns-clause-sound
 returns-clause-sound c = handed_sound c.args.config.now c.args.self.now _ _ _ c.requires.sound c.requires.runs c.pass_head.ensures refl c.whole_rest-rest.ensures
+
+pub returns-clause-opened : goal.returns-clause-opened
+returns-clause-opened c = handed_opened c.args.config.now c.args.self.now _ _ _ c.requires.runs refl c.whole_rest-rest.ensures

@@ -1,4 +1,5 @@
-use Rattle.std.proofs.Common.{subst}
+use Rattle.std.proofs.Common.{subst, ap}
+use Rattle.h1_connection.specs.Given.{is_head_kind}
 use Rattle.h1_connection.specs.Heads.{with_head, IsNexted}
 use Rattle.h1_connection.specs.declared.connection.heads.NextKind.{NextKind}
 use Rattle.h1_connection.proofs.connection.parts.Parts.next.Goals as goal
@@ -18,3 +19,6 @@ returns-in-Pending-clause-ok c = λ held.
 pub returns-in-Closed-clause-ok : goal.returns-in-Closed-clause-ok
 returns-in-Closed-clause-ok c = λ held.
     subst (λ (k : NextKind). IsNexted c.args.config.now c.args.self.now (with_head c.next_into.new.item k) c.next_into.new.self) c.in-Closed.is (c.in_ok-next_into.ensures.ok held)
+
+pub returns-in-Head-clause-opened : goal.returns-in-Head-clause-opened
+returns-in-Head-clause-opened c = λ is. c.in_ok-next_into.ensures.opened (ap is_head_kind c.in-Head.is)
