@@ -77,7 +77,7 @@ impl Answer {
         if !body.connection.can_answer() {
             return Err(HandleError::Misplaced);
         }
-        body.connection.answer(&head, size)?;
+        body.begin_answer(&head, size)?;
         Ok(Writer { _open: () })
     }
 }
@@ -119,7 +119,7 @@ impl Writer {
     ) -> Result<(), HandleError> {
         let Writer { _open: () } = self;
         if body.connection.can_end_answer() {
-            body.connection.end_answer()?;
+            body.end_answer()?;
         }
         Ok(())
     }
@@ -141,14 +141,14 @@ impl<S: TimedSource, K: TimedSink> Body<S, K> {
             if !self.connection.can_chunk() {
                 return Err(HandleError::Misplaced);
             }
-            self.connection.chunk(piece)?;
+            self.hand_in(piece)?;
         }
         Ok(())
     }
 
     pub(crate) fn fail_answer(&mut self) {
         if self.connection.can_end_answer() {
-            self.connection.fail_answer();
+            self.break_answer();
         }
     }
 }

@@ -5,6 +5,7 @@ use h1_connection::{Connection, Pulled};
 use h1_net::{TimedSink, TimedSource};
 use http_types::{ConnectionType, HeaderMap, ResponseHead, ServiceConfig};
 use std::alloc::Global;
+use std::marker::Model;
 
 /// What comes next of a request's body.
 #[derive(Debug, Drop)]
@@ -21,7 +22,7 @@ pub enum Piece {
 
 /// The body of the open request, and the connection that it comes over.
 #[derive(Drop)]
-pub struct Body<S, K> {
+pub struct Body<S: TimedSource, K: TimedSink> {
     pub(crate) connection: Connection,
     pub(crate) source: S,
     pub(crate) sink: K,
@@ -35,6 +36,14 @@ pub struct Body<S, K> {
 
     // The handler reads the open request's body.
     pub(crate) is_wanted: bool,
+}
+
+impl<S: TimedSource, K: TimedSink> Model for Body<S, K> {
+    ghost use Rattle.h1_blocking.specs.Served.{Line};
+
+    ghost Value = { Line };
+
+    ghost view = { λ b. record { state = b.connection; left = S.left b.source; given = K.given b.sink } };
 }
 
 impl<S: TimedSource, K: TimedSink> Body<S, K> {
@@ -77,7 +86,7 @@ impl<S: TimedSource, K: TimedSink> Body<S, K> {
     pub fn want(&mut self) -> Result<(), HandleError> {
         self.is_wanted = true;
         if self.connection.can_continue() {
-            self.connection.send_continue()?;
+            self.send_continue()?;
         }
         Ok(())
     }
@@ -92,7 +101,7 @@ impl<S: TimedSource, K: TimedSink> Body<S, K> {
             if !self.connection.can_pull() {
                 return Ok(Piece::End);
             }
-            match self.connection.pull()? {
+            match self.pull()? {
                 Pulled::Bytes(bytes) => return Ok(Piece::Bytes(bytes)),
                 Pulled::Trailers(trailers) => return Ok(Piece::Trailers(trailers)),
                 Pulled::End => return Ok(Piece::End),
@@ -125,7 +134,7 @@ impl<S: TimedSource, K: TimedSink> Body<S, K> {
             if !self.connection.can_pull() {
                 return Ok(true);
             }
-            match self.connection.pull()? {
+            match self.pull()? {
                 Pulled::Bytes(bytes) => {
                     let count = bytes.len() as u64;
                     if count > left {

@@ -48,7 +48,7 @@ pub fn host_connection<S: TimedSource, K: TimedSink, H: Handler>(
         if !body.connection.can_next() {
             return Err(HandleError::Misplaced);
         }
-        match body.connection.next_into(&mut item, &mut room)? {
+        match body.next_head(&mut item, &mut room)? {
             NextKind::Head => {
                 body.is_wanted = false;
                 let request = Incoming::new(&item, peer, body.source.moment());
@@ -64,7 +64,7 @@ pub fn host_connection<S: TimedSource, K: TimedSink, H: Handler>(
             NextKind::Closed(end) => return Ok(end),
         }
         if handler.is_ending() && body.connection.can_drain() {
-            body.connection.drain();
+            body.drain();
         }
     }
     Err(HandleError::Stalled)

@@ -27,6 +27,7 @@ mod answer;
 mod body;
 mod connection;
 mod error;
+mod events;
 mod handler;
 mod limits;
 mod request;

@@ -15,7 +15,7 @@ impl<S: TimedSource, K: TimedSink> Body<S, K> {
         if !self.connection.can_tick(moment) {
             return Ok(());
         }
-        match self.connection.tick(moment)? {
+        match self.note_moment(moment)? {
             Expiry::None | Expiry::Expired(_) => Ok(()),
             Expiry::Abandoned => Err(HandleError::Stalled),
         }
@@ -35,14 +35,11 @@ impl<S: TimedSource, K: TimedSink> Body<S, K> {
     /// Writes all that waits. While the peer takes nothing, what it sends is read, as far as there is room for it.
     pub(crate) fn flush(&mut self) -> Result<(), HandleError> {
         for _ in 0..u64::MAX {
-            if self.connection.front().is_empty() || !self.connection.can_write() {
+            if self.connection.stretch().is_empty() || !self.connection.can_write() {
                 return Ok(());
             }
-            match self.sink.write(self.connection.front()) {
-                Ok(count) => {
-                    self.connection.advance(count);
-                    self.moved = self.source.uptime();
-                }
+            match self.write_stretch() {
+                Ok(()) => self.moved = self.source.uptime(),
                 Err(_) if self.sink.is_not_now() => self.read_meanwhile()?,
                 Err(_) => return Err(HandleError::Lost),
             }
@@ -75,8 +72,8 @@ impl<S: TimedSource, K: TimedSink> Body<S, K> {
         if !self.connection.can_read() {
             return Ok(true);
         }
-        match self.connection.read_from(&mut self.source) {
-            Ok(0) => self.connection.eof(),
+        match self.read_bytes() {
+            Ok(0) => self.end_input(),
             Ok(_) => self.moved = self.source.uptime(),
             Err(ReadFromError::Full) => {}
             Err(ReadFromError::Failed) if self.source.is_not_now() => return Ok(false),

@@ -1,0 +1,226 @@
+-- What an event leaves of a connection that is served.
+use Rattle.std.proofs.Common.{arith, append-nil, take_all, ◌≤◌, Ok, ◌≡◌, ℕ, List, [], ◌∷◌, ◌++◌, length, take, Option, Some, None, refl, sym, ap, ◌∙◌, subst}
+use Rattle.std.specs.Prelude.{min}
+use Rattle.std.specs.Io.KnownBytes.{Consumes, Appends, Keeps}
+use mathlib.Core.List.{append_assoc}
+use Rattle.std.proofs.lemmas.List.{take-append-le}
+use Rattle.h1_model.specs.Event.{Event, Outcome}
+use Rattle.h1_model.specs.Event as on
+use Rattle.h1_model.specs.Request.{Head, Fault}
+use Rattle.h1_model.specs.End.{End}
+use Rattle.h1_model.specs.Sums.{Step, step_taken, step_written, taken, written}
+use Rattle.h1_connection.specs.State.{State, Stands, GoesOn, Is, ReadsIn}
+use Rattle.h1_connection.specs.Ticks.{expiry_of}
+use Rattle.h1_connection.specs.declared.connection.ticks.Expiry.{Expiry}
+use Rattle.h1_connection.specs.declared.connection.ticks.Expiry.TheVariants as expiry
+use Rattle.h1_payload.specs.Rests.{SaysPulled}
+use Rattle.h1_payload.specs.declared.pulled.Pulled.{Pulled}
+use Rattle.h1_payload.specs.declared.pulled.Pulled.TheVariants as pulled
+use Rattle.h1_connection.specs.Heads.{SaysNext, with_head}
+use Rattle.h1_connection.specs.Meaning.{end_of, fault_of}
+use Rattle.h1_connection.specs.declared.connection.heads.NextKind.{NextKind}
+use Rattle.h1_connection.specs.declared.connection.heads.NextKind.TheVariants as next_kind
+use Rattle.h1_decode.specs.declared.decoder.HeadItem.{HeadItem}
+use Rattle.h1_blocking.specs.Served.{Line, Base, IsServed, Follows, HandsOut, HandsOutOne, head_in, heads}
+
+-- ---- sums of a longer trace
+
+taken_behind : (e : Event) (o : Outcome) (t : List Step) → taken (record { event = e; outcome = o } ∷ t) ≡ taken t ++ step_taken e o
+unfolding taken
+taken_behind e o t = refl
+
+written_behind : (e : Event) (o : Outcome) (t : List Step) → written (record { event = e; outcome = o } ∷ t) ≡ written t ++ step_written o
+unfolding written
+written_behind e o t = refl
+
+heads_behind : (e : Event) (o : Outcome) (t : List Step) → heads (record { event = e; outcome = o } ∷ t) ≡ heads t ++ head_in o
+unfolding heads
+heads_behind e o t = refl
+
+-- ---- bytes that are known
+
+consumes_more : (a b c : Option (List ℕ)) (xs ys : List ℕ) → Consumes a b xs → Consumes b c ys → Consumes a c (xs ++ ys)
+consumes_more None b c xs ys first then_ = tt
+consumes_more (Some ps) None c xs ys first then_ = absurd first
+consumes_more (Some ps) (Some qs) None xs ys first then_ = absurd then_
+consumes_more (Some ps) (Some qs) (Some rs) xs ys first then_ = first ∙ ap (λ (l : List ℕ). xs ++ l) then_ ∙ sym (append_assoc xs ys rs)
+
+appends_more : (a b c : Option (List ℕ)) (xs ys : List ℕ) → Appends a b xs → Appends b c ys → Appends a c (xs ++ ys)
+appends_more None b c xs ys first then_ = tt
+appends_more (Some ps) None c xs ys first then_ = absurd first
+appends_more (Some ps) (Some qs) None xs ys first then_ = absurd then_
+appends_more (Some ps) (Some qs) (Some rs) xs ys first then_ = then_ ∙ ap (λ (l : List ℕ). l ++ ys) first ∙ append_assoc ps xs ys
+
+consumes_none : (a b : Option (List ℕ)) → Keeps a b → Consumes a b []
+consumes_none None b keeps = tt
+consumes_none (Some ps) None keeps = absurd keeps
+consumes_none (Some ps) (Some qs) keeps = sym keeps
+
+appends_none : (a b : Option (List ℕ)) → Keeps a b → Appends a b []
+appends_none None b keeps = tt
+appends_none (Some ps) None keeps = absurd keeps
+appends_none (Some ps) (Some qs) keeps = keeps ∙ sym (append-nil ps)
+
+same_left : (a : Option (List ℕ)) → Consumes a a []
+same_left None = tt
+same_left (Some ps) = refl
+
+same_given : (a : Option (List ℕ)) → Appends a a []
+same_given None = tt
+same_given (Some ps) = sym (append-nil ps)
+
+-- ---- an event
+
+-- the outcome takes these bytes, writes those and hands out these heads
+pub record Moves (e : Event) (o : Outcome) (came went : List ℕ) (hs : List Head) : Type 0 where
+  pub takes : step_taken e o ≡ came
+  pub writes : step_written o ≡ went
+  pub hands : head_in o ≡ hs
+
+-- one step more of what is served
+pub served_step : (base : Base) (old new : Line) (e : Event) (o : Outcome) (came went : List ℕ) (hs : List Head) (served : IsServed base old)
+    → Stands new.state (record { event = e; outcome = o } ∷ served.trace) → Moves e o came went hs
+    → Consumes old.left new.left came → Appends old.given new.given went → IsServed (record base { handed = base.handed ++ hs }) new
+served_step base old new e o came went hs served stands m lost got = record {
+  trace = record { event = e; outcome = o } ∷ served.trace;
+  stands = stands;
+  came = subst (λ (l : List ℕ). Consumes base.left new.left l) (ap (λ (l : List ℕ). taken served.trace ++ l) (sym m.takes) ∙ sym (taken_behind e o served.trace))
+      (consumes_more _ _ _ _ _ served.came lost);
+  went = subst (λ (l : List ℕ). Appends base.given new.given l) (ap (λ (l : List ℕ). written served.trace ++ l) (sym m.writes) ∙ sym (written_behind e o served.trace))
+      (appends_more _ _ _ _ _ served.went got);
+  handed = heads_behind e o served.trace ∙ ap (λ (l : List Head). l ++ head_in o) served.handed ∙ ap (λ (l : List Head). base.handed ++ l) m.hands;
+}
+
+-- a longer trace of what is served
+pub served_behind : (base : Base) (old new : Line) (e : Event) (Says : Outcome → Type 0) (came went : List ℕ) (hs : List Head)
+    → GoesOn old.state e Says new.state → ((o : Outcome) → Says o → Moves e o came went hs)
+    → Consumes old.left new.left came → Appends old.given new.given went
+    → IsServed base old → IsServed (record base { handed = base.handed ++ hs }) new
+served_behind base old new e Says came went hs goes moves lost got served =
+    let (o, says, is, stands) = goes served.trace served.stands in
+    let m = moves o says in
+    record {
+      trace = record { event = e; outcome = o } ∷ served.trace;
+      stands = stands;
+      came = subst (λ (l : List ℕ). Consumes base.left new.left l) (ap (λ (l : List ℕ). taken served.trace ++ l) (sym m.takes) ∙ sym (taken_behind e o served.trace))
+          (consumes_more _ _ _ _ _ served.came lost);
+      went = subst (λ (l : List ℕ). Appends base.given new.given l) (ap (λ (l : List ℕ). written served.trace ++ l) (sym m.writes) ∙ sym (written_behind e o served.trace))
+          (appends_more _ _ _ _ _ served.went got);
+      handed = heads_behind e o served.trace ∙ ap (λ (l : List Head). l ++ head_in o) served.handed ∙ ap (λ (l : List Head). base.handed ++ l) m.hands;
+    }
+
+-- an event that neither takes nor writes bytes, nor hands out a request
+pub quietly : (old new : Line) (e : Event) (Says : Outcome → Type 0) → GoesOn old.state e Says new.state → ((o : Outcome) → Says o → Moves e o [] [] [])
+    → new.left ≡ old.left → new.given ≡ old.given → Follows old new
+quietly old new e Says goes moves left given base served =
+    subst (λ (hs : List Head). IsServed (record base { handed = hs }) new) (append-nil base.handed)
+    (served_behind base old new e Says [] [] [] goes moves
+    (subst (λ (l : Option (List ℕ)). Consumes old.left l []) (sym left) (same_left old.left))
+    (subst (λ (l : Option (List ℕ)). Appends old.given l []) (sym given) (same_given old.given)) served)
+
+-- nothing has changed
+pub still : (old new : Line) → new.state ≡ old.state → new.left ≡ old.left → new.given ≡ old.given → Follows old new
+still old new state left given base served = record {
+  trace = served.trace;
+  stands = subst (λ (s : State). Stands s served.trace) (sym state) served.stands;
+  came = subst (λ (l : Option (List ℕ)). Consumes base.left l (taken served.trace)) (sym left) served.came;
+  went = subst (λ (l : Option (List ℕ)). Appends base.given l (written served.trace)) (sym given) served.went;
+  handed = served.handed;
+}
+
+-- ---- what each event moves
+
+pub done_moves : (e : Event) → step_taken e on.done ≡ [] → (o : Outcome) → Is on.done o → Moves e o [] [] []
+done_moves e none o is = subst (λ (o : Outcome). Moves e o [] [] []) (sym is) (record { takes = none; writes = refl; hands = refl })
+
+expiry_moves : (ms : ℕ) (x : Expiry) → Moves (on.tick ms) (expiry_of x) [] [] []
+expiry_moves ms expiry.None = record { takes = refl; writes = refl; hands = refl }
+expiry_moves ms (expiry.Expired end) = record { takes = refl; writes = refl; hands = refl }
+expiry_moves ms expiry.Abandoned = record { takes = refl; writes = refl; hands = refl }
+
+pub tick_moves : (ms : ℕ) (x : Expiry) (o : Outcome) → Is (expiry_of x) o → Moves (on.tick ms) o [] [] []
+tick_moves ms x o is = subst (λ (o : Outcome). Moves (on.tick ms) o [] [] []) (sym is) (expiry_moves ms x)
+
+pub pull_moves : (x : Pulled) (o : Outcome) → SaysPulled x o → Moves on.pull o [] [] []
+pull_moves (pulled.Bytes bytes) o is = subst (λ (o : Outcome). Moves on.pull o [] [] []) (sym is) (record { takes = refl; writes = refl; hands = refl })
+pull_moves (pulled.Trailers entries) o is = subst (λ (o : Outcome). Moves on.pull o [] [] []) (sym is.1) (record { takes = refl; writes = refl; hands = refl })
+pull_moves pulled.End o is = subst (λ (o : Outcome). Moves on.pull o [] [] []) (sym is) (record { takes = refl; writes = refl; hands = refl })
+pull_moves (pulled.Broken fault) o is = subst (λ (o : Outcome). Moves on.pull o [] [] []) (sym is) (record { takes = refl; writes = refl; hands = refl })
+pull_moves pulled.Pending o is = subst (λ (o : Outcome). Moves on.pull o [] [] []) (sym is) (record { takes = refl; writes = refl; hands = refl })
+
+-- ---- bytes that move
+
+read_moves : (bytes : List ℕ) (o : Outcome) → Is (on.took (length bytes)) o → Moves (on.read bytes) o bytes [] []
+read_moves bytes o is = subst (λ (o : Outcome). Moves (on.read bytes) o bytes [] []) (sym is) (record { takes = take_all (length bytes) bytes (omega arith); writes = refl; hands = refl })
+
+same_base : (base : Base) (line : Line) → IsServed (record base { handed = base.handed ++ [] }) line → IsServed base line
+same_base base line served = subst (λ (hs : List Head). IsServed (record base { handed = hs }) line) (append-nil base.handed) served
+
+-- bytes came out of the source, and were read
+pub read_in : (old new : Line) (bytes : List ℕ) → Consumes old.left new.left bytes → ReadsIn old.state bytes new.state → new.given ≡ old.given → Follows old new
+read_in old new [] lost same given base served = record {
+  trace = served.trace;
+  stands = subst (λ (s : State). Stands s served.trace) (sym same) served.stands;
+  came = subst (λ (l : List ℕ). Consumes base.left new.left l) (append-nil (taken served.trace)) (consumes_more _ _ _ _ _ served.came lost);
+  went = subst (λ (l : Option (List ℕ)). Appends base.given l (written served.trace)) (sym given) served.went;
+  handed = served.handed;
+}
+read_in old new (b ∷ bytes) lost goes given base served =
+    same_base base new (served_behind base old new (on.read (b ∷ bytes)) _ (b ∷ bytes) [] [] goes (read_moves (b ∷ bytes)) lost
+    (subst (λ (l : Option (List ℕ)). Appends old.given l []) (sym given) (same_given old.given)) served)
+
+gave_moves : (count : ℕ) (bytes : List ℕ) (o : Outcome) → Is (on.gave bytes) o → Moves (on.write count) o [] bytes []
+gave_moves count bytes o is = subst (λ (o : Outcome). Moves (on.write count) o [] bytes []) (sym is) (record { takes = refl; writes = refl; hands = refl })
+
+-- bytes that waited went into the sink
+pub written_out : (old new : Line) (count : ℕ) (bytes : List ℕ) → GoesOn old.state (on.write count) (Is (on.gave bytes)) new.state → Appends old.given new.given bytes
+    → new.left ≡ old.left → Follows old new
+written_out old new count bytes goes got left base served =
+    same_base base new (served_behind base old new (on.write count) _ [] bytes [] goes (gave_moves count bytes)
+    (subst (λ (l : Option (List ℕ)). Consumes old.left l []) (sym left) (same_left old.left)) got served)
+
+-- of what a value is seen as
+pub seen_as : (was old new : Line) → old ≡ was → Follows old new → Follows was new
+seen_as was old new is follows = subst (λ (l : Line). Follows l new) is follows
+
+-- ---- a stretch of what waits
+
+pub taken_first : (n : ℕ) (xs ys zs : List ℕ) → n ≤ length xs → xs ++ ys ≡ zs → take n xs ≡ take n zs
+taken_first n xs ys zs within is = sym (take-append-le n xs ys within) ∙ ap (λ (l : List ℕ). take n l) is
+
+-- ---- the next request
+
+head_moves : (h : Head) (o : Outcome) → o ≡ on.head h → Moves on.next o [] [] (h ∷ [])
+head_moves h o is = subst (λ (o : Outcome). Moves on.next o [] [] (h ∷ [])) (sym is) (record { takes = refl; writes = refl; hands = refl })
+
+fault_moves : (f : Fault) (o : Outcome) → o ≡ on.fault f → Moves on.next o [] [] []
+fault_moves f o is = subst (λ (o : Outcome). Moves on.next o [] [] []) (sym is) (record { takes = refl; writes = refl; hands = refl })
+
+pending_moves : (o : Outcome) → o ≡ on.pending → Moves on.next o [] [] []
+pending_moves o is = subst (λ (o : Outcome). Moves on.next o [] [] []) (sym is) (record { takes = refl; writes = refl; hands = refl })
+
+closed_moves : (end : End) (o : Outcome) → o ≡ on.closed end → Moves on.next o [] [] []
+closed_moves end o is = subst (λ (o : Outcome). Moves on.next o [] [] []) (sym is) (record { takes = refl; writes = refl; hands = refl })
+
+pub handed_out : (was old new : Line) (kind : NextKind) (item : HeadItem) → old ≡ was → GoesOn old.state on.next (SaysNext (with_head item kind)) new.state
+    → new.left ≡ old.left → new.given ≡ old.given → HandsOut was new (Ok kind) item
+handed_out was old new next_kind.Head item seen goes left given = subst (λ (l : Line). HandsOutOne l new item) seen (λ base served.
+    let (o, says, is, stands) = goes served.trace served.stands in (
+      says.0,
+      says.1,
+      served_step base old new on.next o [] [] (says.0 ∷ []) served stands (head_moves says.0 o says.2)
+          (subst (λ (l : Option (List ℕ)). Consumes old.left l []) (sym left) (same_left old.left))
+          (subst (λ (l : Option (List ℕ)). Appends old.given l []) (sym given) (same_given old.given)),
+    ))
+handed_out was old new (next_kind.Fault fault) item seen goes left given =
+    seen_as was old new seen (quietly old new on.next _ goes (fault_moves (fault_of fault)) left given)
+handed_out was old new next_kind.Pending item seen goes left given = seen_as was old new seen (quietly old new on.next _ goes pending_moves left given)
+handed_out was old new (next_kind.Closed end) item seen goes left given =
+    seen_as was old new seen (quietly old new on.next _ goes (closed_moves (end_of end)) left given)
+
+-- the first bytes of a stretch of what waits went into the sink
+pub stretch_written : (old new : Line) (count : ℕ) (front rest waiting : List ℕ) → count ≤ length front → front ++ rest ≡ waiting
+    → GoesOn old.state (on.write count) (Is (on.gave (take count waiting))) new.state → Appends old.given new.given (take count front) → new.left ≡ old.left → Follows old new
+stretch_written old new count front rest waiting within is goes got left =
+    written_out old new count (take count waiting) goes
+    (subst (λ (l : List ℕ). Appends old.given new.given l) (taken_first count front rest waiting within is) got) left
