@@ -6,30 +6,6 @@ use bytes::Bytes;
 use futures::task::{Context, Poll};
 use http_framing::BodySize;
 use std::alloc::Global;
-use std::convert::Infallible;
-
-impl MessageBody for Infallible {
-    ghost use Rattle.std.specs.Prelude.{[]};
-    ghost use Rattle.http_bodies.specs.Values.{holds};
-
-    ghost gives = { λ _. holds [] };
-
-    fn size(&self) -> BodySize {
-        match *self {}
-    }
-
-    fn poll_next(
-        &mut self,
-        _alloc: Global,
-        _cx: &mut Context<'_>,
-    ) -> Poll<Option<Result<Bytes, BodyFault>>> {
-        match *self {}
-    }
-
-    fn try_into_bytes(self, _alloc: Global) -> Result<Bytes, Infallible> {
-        Err(self)
-    }
-}
 
 impl<B: MessageBody> MessageBody for &mut B {
     ghost use Rattle.std.specs.Prelude.{[], IsErr, IfErr, IfOk};
