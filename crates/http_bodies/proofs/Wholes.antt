@@ -1,7 +1,7 @@
 -- All of a body, chunk by chunk.
 use Rattle.std.proofs.Common.{◌≡◌, ℕ, ◌+◌, Option, Some, None, List, [], ◌∷◌, ◌++◌, refl, sym, ap, ◌∙◌, append_assoc, length, length-append}
 use Rattle.http_bodies.specs.Told.{led_by}
-use Rattle.http_bodies.specs.Giving.{Given, chunk}
+use Rattle.http_bodies.specs.Giving.{Given, chunk, Giving}
 use Rattle.http_bodies.specs.Whole.{Whole, unknown, ends, fails, after, content, whole}
 use Rattle.http_bodies.proofs.Histories.{led_by-more}
 
@@ -21,3 +21,13 @@ pub came_more : (n : ℕ) (old mid new : Option (List Given)) (g : Given) → ((
     → ((xs : List Given) × (old ≡ led_by xs new) × (length xs ≡ n + 1))
 came_more n old mid new g (xs, was, counts) here =
     (xs ++ (g ∷ []), was ∙ ap (led_by xs) here ∙ led_by-more xs (g ∷ []) new, rw length-append (ap (λ k. k + 1) counts))
+
+-- the same, where the body was left as it was since
+pub gathered_in : {B : Type 0} (gives : B → Giving) (got more piece : List ℕ) (old : Option (List Given)) (mid new : B)
+    → old ≡ led_by (chunk piece ∷ []) (gives mid).coming → more ≡ got ++ piece → new ≡ mid → whole more (gives new).coming ≡ whole got old
+gathered_in gives got more piece old mid new here now same = rw same (gathered got more piece old (gives mid).coming here now)
+
+pub came_in : {B : Type 0} (gives : B → Giving) (n : ℕ) (old between : Option (List Given)) (mid new : B) (g : Given)
+    → ((xs : List Given) × (old ≡ led_by xs between) × (length xs ≡ n)) → between ≡ led_by (g ∷ []) (gives mid).coming → new ≡ mid
+    → ((xs : List Given) × (old ≡ led_by xs (gives new).coming) × (length xs ≡ n + 1))
+came_in gives n old between mid new g was here same = rw same (came_more n old between (gives mid).coming g was here)

@@ -1,5 +1,5 @@
 -- The bytes of a body, gathered, up to a limit where there is one.
-use Rattle.std.specs.Prelude.{◌≡◌, ◌≤◌, ◌⊎◌, ℕ, Bool, true, false, Option, List, [], ⊤, length, Result, Ok, Err, IsTrue, IsFalse, IsSome}
+use Rattle.std.specs.Prelude.{◌≡◌, ◌≤◌, ◌⊎◌, ℕ, Bool, true, false, Option, List, [], ⊤, length, ◌++◌, Result, Ok, Err, IsTrue, IsFalse, IsSome}
 use Rattle.futures.specs.declared.task.Poll.{Poll}
 use Rattle.futures.specs.declared.task.Poll.TheVariants.{Ready, Pending}
 use Rattle.http_config.specs.Causes.{Rose}
@@ -23,7 +23,7 @@ pub record Gathering (B : Type 0) : Type 0 where
 
 -- what a gatherer's parts mean
 abbrev pub gathering_of : {B : Type 0} → Gatherer B → Gathering B
-gathering_of g = record { size = g.size; limit = g.limit; got = g.got.items; body = g.body }
+gathering_of g = record { size = g.size; limit = g.limit; got = g.got.items ++ g.held; body = g.body }
 
 -- the same, with what the body gives in its place
 abbrev pub known : {B : Type 0} → (B → Giving) → Gathering B → Gathering Giving
@@ -62,19 +62,24 @@ FailsWith limit (fails bytes m) n = (n ≡ m) × (passes (length bytes) limit �
 abbrev pub Gathered : Type 0
 Gathered = Poll (Result (Result (List ℕ) BodyFault) BodyLimitExceeded)
 
--- nothing is lost, and the body was pending in this poll, or 64 chunks came and the task was woken
-pub record StillGathers (old new : Gathering Giving) (is_woken : Bool) : Type 0 where
+-- What came and what is to come are together as before, and what came is within the limit.
+pub record KeepsAll (old new : Gathering Giving) : Type 0 where
   pub all : all_of new ≡ all_of old
   pub size : new.size ≡ old.size
   pub limit : new.limit ≡ old.limit
+  pub within : passes (length new.got) new.limit ≡ false
   pub faults : old.body.faults ≤ new.body.faults
+
+-- nothing is lost, and the body was pending in this poll, or 64 chunks came and the task was woken
+pub record StillGathers (old new : Gathering Giving) (is_woken : Bool) : Type 0 where
+  pub keeps : KeepsAll old new
   pub pending : Rose old.body.waits new.body.waits
       ⊎ (((came : List Given) × (old.body.coming ≡ led_by came new.body.coming) × (length came ≡ 64)) × (is_woken ≡ true))
 
 abbrev pub Gathers : Gathering Giving → Gathering Giving → Bool → Gathered → Type 0
 Gathers old new is_woken (Ready (Ok (Ok bytes))) = AreAll (all_of old) bytes × (passes (length bytes) old.limit ≡ false) × (old.body.faults ≤ new.body.faults)
 Gathers old new is_woken (Ready (Ok (Err (Body n)))) = FailsWith old.limit (all_of old) n × (old.body.faults ≤ new.body.faults) × Rose old.body.faults new.body.faults
-Gathers old new is_woken (Ready (Ok (Err NoMemory))) = old.body.faults ≤ new.body.faults
+Gathers old new is_woken (Ready (Ok (Err NoMemory))) = KeepsAll old new
 Gathers old new is_woken (Ready (Err e)) = HasTooMany old.limit (all_of old) × (old.body.faults ≤ new.body.faults)
 Gathers old new is_woken Pending = StillGathers old new is_woken
 

@@ -29,6 +29,10 @@ pub record Streaming : Type 0 where
   pub faults : ℕ
   pub waits : ℕ
 
+-- a stream of which nothing is known beforehand but its counts
+abbrev pub unknown_stream : ℕ → ℕ → Streaming
+unknown_stream faults waits = record { coming = None; takes_memory = true; faults = faults; waits = waits }
+
 -- the answer of a poll, with its bytes as a list
 abbrev pub Piece : Type 0
 Piece = Poll (Option (Result (List ℕ) BodyFault))

@@ -1,5 +1,5 @@
 -- Values that are bodies: all their bytes are one chunk.
-use Rattle.std.specs.Prelude.{ℕ, true, false, Some, None, List, [], ◌∷◌, length, Ok}
+use Rattle.std.specs.Prelude.{◌≡◌, ℕ, true, false, Some, None, List, [], ◌∷◌, length, Ok}
 use Rattle.futures.specs.declared.task.Poll.TheVariants.{Ready}
 use Rattle.http_framing.specs.declared.body.size.BodySize.TheVariants as size
 use Rattle.http_bodies.specs.Giving.{Given, chunk, Giving, Piece}
@@ -25,3 +25,7 @@ holds_none = record { size = size.None; coming = Some []; takes_memory = false; 
 abbrev pub at_once : List ℕ → Piece
 at_once [] = Ready None
 at_once (x ∷ xs) = Ready (Some (Ok (x ∷ xs)))
+
+-- where no bytes are left, it is at its end, and takes no memory to say so
+abbrev pub EndsAtNone : List ℕ → Piece → Type 0
+EndsAtNone bytes result = length bytes ≡ 0 → result ≡ Ready None

@@ -19,6 +19,10 @@ pub record Feeding : Type 0 where
   pub faults : ℕ
   pub waits : ℕ
 
+-- a source of which nothing is known beforehand but its counts
+abbrev pub unknown_source : ℕ → ℕ → Feeding
+unknown_source faults waits = record { coming = None; takes_memory = true; faults = faults; waits = waits }
+
 -- out of memory, nothing left
 abbrev pub refusal : PayloadError → List Fed
 refusal error.NoMemory = []

@@ -21,12 +21,33 @@ pub record Calling (Q : Type 0) : Type 0 where
   pub asked : Option Q
   pub took : Option Took
 
--- a service whose calls are known refuses none of them beforehand
+-- a service that knows this, its calls or the function by which it answers, refuses none
 abbrev pub NeverFails : {A E T : Type 0} → Option T → Poll (Result A E) → Type 0
 NeverFails None result = ⊤
 NeverFails (Some called) (Ready (Ok x)) = ⊤
 NeverFails (Some called) (Ready (Err e)) = ⊥
 NeverFails (Some called) Pending = ⊤
+
+-- the answer of a service that is asked whether it takes a call, and that of a call
+abbrev pub Readiness : Type 0 → Type 0
+Readiness E = Poll (Result Unit E)
+
+abbrev pub Answering : Type 0 → Type 0 → Type 0
+Answering A E = Poll (Result A E)
+
+-- a service of which nothing is known beforehand but its counts, and a call of one
+abbrev pub unknown_service : {Q A E : Type 0} → ℕ → ℕ → ℕ → Serving Q A E
+unknown_service faults ready_waits call_waits =
+    record { called = None; answered = None; faults = faults; ready_waits = ready_waits; call_waits = call_waits }
+
+abbrev pub unknown_call : {Q : Type 0} → Calling Q
+unknown_call = record { is_open = true; asked = None; took = None }
+
+-- what a handler did with the request of a call is what the call answers
+abbrev pub HandsOn : {Q A E : Type 0} → (Q → Result A E → Type 0) → Option Q → Answering A E → Type 0
+HandsOn handled None result = ⊤
+HandsOn handled (Some request) (Ready answer) = handled request answer
+HandsOn handled (Some request) Pending = ⊥
 
 pub record ReadySays {Q A E : Type 0} (old new : Serving Q A E) (result : Poll (Result Unit E)) : Type 0 where
   pub called : new.called ≡ old.called
@@ -71,7 +92,7 @@ Asks None asked request = ⊤
 Asks (Some f) asked request = asked ≡ Some request
 
 abbrev pub AnswersBy : {Q A E : Type 0} → (Q → A) → Option Q → Option Q → Poll (Result A E) → Type 0
-AnswersBy f None later result = ⊤
+AnswersBy f None later result = NeverFails (Some f) result
 AnswersBy f (Some request) later (Ready answer) = answer ≡ Ok (f request)
 AnswersBy f (Some request) later Pending = later ≡ Some request
 

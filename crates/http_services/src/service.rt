@@ -2,7 +2,7 @@
 ghost use Rattle.std.specs.Prelude.{◌≡◌, Option, true};
 ghost use Rattle.futures.specs.Task.{IsArmed, Keeps};
 ghost use Rattle.futures.specs.Poll.{OnPending};
-ghost use Rattle.http_services.specs.Serving.{Serving, Calling, ReadySays, CallSays, AnswerSays, BeginSays, PollSays};
+ghost use Rattle.http_services.specs.Serving.{Serving, Calling, ReadySays, CallSays, AnswerSays, BeginSays, PollSays, NeverFails};
 
 use crate::lending::Lending;
 use futures::task::{Context, Poll};
@@ -28,7 +28,7 @@ pub trait Service<Req>: Drop {
     /// The calls and the answers so far, if they are known, and how often the service failed and was pending.
     ghost served: { Self → Serving Req Self.Response Self.Error };
 
-    /// The service answers each request by this function of it, if it says so.
+    /// The service answers each request by this function of it, and so refuses none, if it says so.
     ghost echoes: { Option (Req → Self.Response) };
 
     /// Whether a call may be polled, and its request and what it took of what it was lent, if they are known.
@@ -37,6 +37,7 @@ pub trait Service<Req>: Drop {
     /// Whether the service takes a call. A pending service wakes the task once it is to be asked again.
     fn poll_ready(&mut self, cx: &mut Context<'_>) -> Poll<Result<(), Self::Error>>
         ensures says { ReadySays (served self.old) (served self.new) result }
+        ensures sure { NeverFails echoes result }
         ensures registered { OnPending result (IsArmed cx.new) }
         ensures kept { Keeps cx.old cx.new };
 

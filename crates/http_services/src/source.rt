@@ -2,7 +2,7 @@
 ghost use Rattle.std.specs.Prelude.{◌≡◌};
 ghost use Rattle.futures.specs.Task.{IsArmed, Keeps};
 ghost use Rattle.futures.specs.Poll.{OnPending};
-ghost use Rattle.http_services.specs.Feeding.{Feeding, FeedSays};
+ghost use Rattle.http_services.specs.Feeding.{Feeding, FeedSays, unknown_source};
 
 use bytes::Bytes;
 use futures::task::{Context, Poll};
@@ -39,18 +39,30 @@ impl PayloadSource for Box<dyn PayloadSource> {
 /// A source of a payload that keeps no counts, and of which nothing is known beforehand. [`Counted`] makes a
 /// [`PayloadSource`] of it.
 pub trait PlainSource: Drop {
+    ghost use Rattle.std.specs.Prelude.{⊤};
+    ghost use Rattle.http_services.specs.Queue.{Pull};
+
+    /// What a poll does: the source before it, its answer, and the source after it. It says nothing, unless the source
+    /// says more.
+    ghost pulled: { Self → Pull → Self → Type 0 } = { λ _ _ _. ⊤ };
+
     /// The next chunk, or nothing at the end. A pending source wakes the task once it is to be polled again.
     fn poll_next(&mut self, cx: &mut Context<'_>) -> Poll<Option<Result<Bytes, PayloadError>>>
+        ensures pulled { pulled self.old result self.new }
         ensures registered { OnPending result (IsArmed cx.new) }
         ensures kept { Keeps cx.old cx.new };
 }
 
 impl<T: PlainSource> PayloadSource for Counted<T> {
-    ghost use Rattle.std.specs.Prelude.{None, true};
+    ghost feeds = { λ s. unknown_source s.faults s.waits };
 
-    ghost feeds = { λ s. record { coming = None; takes_memory = true; faults = s.faults; waits = s.waits } };
-
-    fn poll_next(&mut self, cx: &mut Context<'_>) -> Poll<Option<Result<Bytes, PayloadError>>> {
+    // One poll of what it holds, whose answer it hands on.
+    fn poll_next(&mut self, cx: &mut Context<'_>) -> Poll<Option<Result<Bytes, PayloadError>>>
+        ensures says { FeedSays (unknown_source self.old.faults self.old.waits) (unknown_source self.new.faults self.new.waits) result }
+        ensures handed_on { T.pulled self.old.inner result self.new.inner }
+        ensures registered { OnPending result (IsArmed cx.new) }
+        ensures kept { Keeps cx.old cx.new }
+    {
         match self.inner.poll_next(cx) {
             Poll::Pending => {
                 self.waits = self.waits.saturating_add(1);

@@ -16,7 +16,8 @@ pub trait Door: Drop {
     fn open(&mut self, port: u16) -> Result<(), Failed>
         ensures says { OpenSays (opening self.old) (opening self.new) result };
 
-    /// The next connection, over which no byte was received or sent, or none, where none follows.
+    /// The next connection, or none, where none follows. Over a new one no byte was received or sent, and its input
+    /// hasn't ended, nor was it shut down.
     fn accept(&mut self) -> Result<Option<Self::Conn>, Failed>
         ensures says { Accepts Self.Conn.wiring (opening self.old) (opening self.new) result };
 }

@@ -2,6 +2,7 @@
 ghost use Rattle.std.specs.Prelude.{◌≡◌};
 ghost use Rattle.futures.specs.Task.{IsArmed, Keeps};
 ghost use Rattle.futures.specs.Poll.{OnPending};
+ghost use Rattle.http_bodies.specs.Giving.{StreamSays, unknown_stream};
 
 use crate::{BodyFault, ByteStream};
 use bytes::Bytes;
@@ -10,9 +11,17 @@ use futures::task::{Context, Poll};
 /// A stream of pieces that keeps no counts, and of which nothing is known beforehand: a file, or a socket.
 /// [`Counted`] makes a [`ByteStream`] of it.
 pub trait PlainStream: Drop {
+    ghost use Rattle.std.specs.Prelude.{⊤};
+    ghost use Rattle.http_bodies.specs.Giving.{Piece};
+
+    /// What a poll does: the stream before it, its answer, and the stream after it. It says nothing, unless the stream
+    /// says more.
+    ghost polled: { Self → Piece → Self → Type 0 } = { λ _ _ _. ⊤ };
+
     /// The next piece, which may be empty, or nothing at the end. A pending stream wakes the task once it is to be
     /// polled again.
     fn poll_next(&mut self, cx: &mut Context<'_>) -> Poll<Option<Result<Bytes, BodyFault>>>
+        ensures polled { polled self.old result self.new }
         ensures registered { OnPending result (IsArmed cx.new) }
         ensures kept { Keeps cx.old cx.new };
 }
@@ -42,11 +51,15 @@ impl<T> Counted<T> {
 }
 
 impl<T: PlainStream> ByteStream for Counted<T> {
-    ghost use Rattle.std.specs.Prelude.{None, true};
+    ghost streams = { λ s. unknown_stream s.faults s.waits };
 
-    ghost streams = { λ s. record { coming = None; takes_memory = true; faults = s.faults; waits = s.waits } };
-
-    fn poll_next(&mut self, cx: &mut Context<'_>) -> Poll<Option<Result<Bytes, BodyFault>>> {
+    // One poll of what it holds, whose answer it hands on.
+    fn poll_next(&mut self, cx: &mut Context<'_>) -> Poll<Option<Result<Bytes, BodyFault>>>
+        ensures says { StreamSays (unknown_stream self.old.faults self.old.waits) (unknown_stream self.new.faults self.new.waits) result }
+        ensures handed_on { T.polled self.old.inner result self.new.inner }
+        ensures registered { OnPending result (IsArmed cx.new) }
+        ensures kept { Keeps cx.old cx.new }
+    {
         match self.inner.poll_next(cx) {
             Poll::Pending => {
                 self.waits = self.waits.saturating_add(1);

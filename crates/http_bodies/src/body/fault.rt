@@ -7,7 +7,7 @@ pub enum BodyFault {
     /// The body failed, with a number of its own.
     #[error("the body failed with {0}")]
     Body(u32),
-    /// There was no memory for the chunk. The body is as it was, and may be polled again.
+    /// There was no memory. Nothing was lost: the same chunks are still to come, and it may be polled again.
     #[error("no memory is left")]
     NoMemory,
 }

@@ -1,5 +1,6 @@
 //! The bytes of a body, gathered over many polls.
-ghost use Rattle.std.specs.Prelude.{◌≡◌, [], IfOk, IfErr};
+ghost use Rattle.std.specs.Prelude.{◌≡◌, ◌++◌, ◌+◌, [], IfOk, IfErr, OnErr, false, length};
+ghost use Rattle.std.specs.Bool.{OnTrue};
 ghost use Rattle.futures.specs.Task.{IsArmed, Keeps};
 ghost use Rattle.futures.specs.Poll.{OnPending};
 ghost use Rattle.http_bodies.specs.Gather.{GatherSays, Gathers, NeedsLimit, is_over, known, gathering_of};
@@ -23,6 +24,7 @@ impl<B: MessageBody> Gatherer<B> {
             size,
             limit,
             got: BytesMut::new(alloc),
+            held: Bytes::new(),
         }
     }
 
@@ -76,6 +78,9 @@ impl<B: MessageBody> Gatherer<B> {
         ensures registered { OnPending result (IsArmed cx.new) }
         ensures kept { Keeps cx.old cx.new }
     {
+        if !self.settle() {
+            return Poll::Ready(Ok(Err(BodyFault::NoMemory)));
+        }
         for _ in 0..64_u32 {
             match self.body.poll_next(self.alloc, cx) {
                 Poll::Pending => return Poll::Pending,
@@ -85,7 +90,7 @@ impl<B: MessageBody> Gatherer<B> {
                     if self.passes(self.got.len() + piece.len()) {
                         return Poll::Ready(Err(BodyLimitExceeded));
                     }
-                    if self.got.extend_from_slice(piece.as_slice()).is_err() {
+                    if !self.keep(piece) {
                         return Poll::Ready(Ok(Err(BodyFault::NoMemory)));
                     }
                 }
@@ -94,10 +99,37 @@ impl<B: MessageBody> Gatherer<B> {
         cx.yield_now()
     }
 
-    // What came.
+    // Puts the piece after those that came, if there is memory. Else it is held.
+    fn keep(&mut self, piece: Bytes) -> bool
+        requires holds_none { self.old.held ≡ [] }
+        requires fits { passes (length self.old.got.items + length piece) self.old.limit ≡ false }
+        ensures all { self.new.got.items ++ self.new.held ≡ (self.old.got.items ++ self.old.held) ++ piece }
+        ensures settled { OnTrue result (self.new.held ≡ []) }
+        ensures others { (self.new.body ≡ self.old.body) × (self.new.size ≡ self.old.size) × (self.new.limit ≡ self.old.limit) }
+    {
+        self.held = piece;
+        self.settle()
+    }
+
+    // Puts the piece that is held after those that came, if there is memory.
+    fn settle(&mut self) -> bool
+        ensures all { self.new.got.items ++ self.new.held ≡ self.old.got.items ++ self.old.held }
+        ensures settled { OnTrue result (self.new.held ≡ []) }
+        ensures others { (self.new.body ≡ self.old.body) × (self.new.size ≡ self.old.size) × (self.new.limit ≡ self.old.limit) }
+    {
+        if self.got.extend_from_slice(self.held.as_slice()).is_err() {
+            return false;
+        }
+        self.held = Bytes::new();
+        true
+    }
+
+    // What came, where none is held.
     fn take(&mut self) -> Result<Bytes, BodyFault>
-        ensures all { IfOk result (λ bytes. bytes ≡ self.old.got.items) }
+        requires holds_none { self.old.held ≡ [] }
+        ensures all { IfOk result (λ bytes. bytes ≡ self.old.got.items ++ self.old.held) }
         ensures lacks { IfErr result (λ fault. fault ≡ BodyFault.NoMemory) }
+        ensures kept { OnErr result (self.new ≡ self.old) }
         ensures body { self.new.body ≡ self.old.body }
         ensures limit { self.new.limit ≡ self.old.limit }
     {

@@ -1,8 +1,8 @@
 //! What gathers the bytes of a body: its parts.
-ghost use Rattle.std.specs.Prelude.{◌≡◌, false, length};
+ghost use Rattle.std.specs.Prelude.{◌≡◌, ◌++◌, false, length};
 ghost use Rattle.http_bodies.specs.Limit.{passes};
 
-use bytes::BytesMut;
+use bytes::{Bytes, BytesMut};
 use http_framing::BodySize;
 use std::alloc::Global;
 
@@ -14,5 +14,7 @@ pub(crate) struct Gatherer<B> {
     pub(crate) size: BodySize,
     pub(crate) limit: Option<usize>,
     pub(crate) got: BytesMut,
-    ghost within: { passes (length got.items) limit ≡ false },
+    // A chunk that came after those, and found no memory.
+    pub(crate) held: Bytes,
+    ghost within: { passes (length (got.items ++ held)) limit ≡ false },
 }

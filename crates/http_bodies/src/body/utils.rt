@@ -22,7 +22,8 @@ pub fn to_bytes<B: MessageBody>(alloc: Global, body: B) -> ToBytes<B>
 }
 
 impl<B: MessageBody> ToBytes<B> {
-    /// The bytes, once the body has ended, or the body's fault. A body whose size is none or 0 isn't polled.
+    /// The bytes, once the body has ended, or the body's fault. A body whose size is none or 0 isn't polled. Out of
+    /// memory, nothing is lost, and it may be polled again.
     pub fn poll(&mut self, cx: &mut Context<'_>) -> Poll<Result<Bytes, BodyFault>>
         ensures says { GatherSays (known B.gives self.old) (known B.gives self.new) cx.new.is_woken (unlimited result) }
         ensures registered { OnPending result (IsArmed cx.new) }
@@ -61,7 +62,7 @@ pub fn to_bytes_limited<B: MessageBody>(alloc: Global, body: B, limit: usize) ->
 
 impl<B: MessageBody> ToBytesLimited<B> {
     /// The bytes, once the body has ended, or the body's fault. A body whose size is none or 0 isn't polled, nor one
-    /// whose size is above the limit.
+    /// whose size is above the limit. Out of memory, nothing is lost, and it may be polled again.
     pub fn poll(
         &mut self,
         cx: &mut Context<'_>,

@@ -1,5 +1,5 @@
 //! The receiver's side of the queue.
-ghost use Rattle.std.specs.Prelude.{◌≡◌, ◌<◌, ℕ, true, false, OnOk, OnErr, length, is_some, option_copied};
+ghost use Rattle.std.specs.Prelude.{◌≡◌, ◌<◌, ℕ, ◌⊎◌, true, false, OnOk, OnErr, length, is_some, option_copied};
 ghost use Rattle.futures.specs.Task.{IsArmed, Keeps};
 ghost use Rattle.futures.specs.Poll.{OnPending};
 ghost use Rattle.http_services.specs.Lent.{PullsLent, lent_of};
@@ -82,7 +82,9 @@ impl Payload {
         ensures says { PullSays self.old self.new result }
         ensures lent { PullsLent (lent_of self.old) (lent_of self.new) result }
         ensures registered { OnPending result (IsArmed cx.new) }
+        ensures waits { OnPending result ((cx.new.lacks_waker ≡ true) ⊎ (self.new.receiver ≡ true)) }
         ensures again { 0 < length self.old.chunks → self.new.wish ≡ true → self.old.ended ≡ false → IsArmed cx.new }
+        ensures waits_again { 0 < length self.old.chunks → self.new.wish ≡ true → self.old.ended ≡ false → (cx.new.lacks_waker ≡ true) ⊎ (self.new.receiver ≡ true) }
         ensures kept { Keeps cx.old cx.new }
     {
         if let Some(chunk) = self.chunks.pop_front() {
@@ -109,6 +111,7 @@ impl Payload {
     // The task is to be woken once more was fed.
     fn await_more(&mut self, cx: &mut Context<'_>)
         ensures waits { self.new ≡ record self.old { receiver = self.new.receiver } }
+        ensures noted { (cx.new.lacks_waker ≡ true) ⊎ (self.new.receiver ≡ true) }
         ensures armed { IsArmed cx.new }
         ensures kept { Keeps cx.old cx.new }
     {

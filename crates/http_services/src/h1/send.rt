@@ -1,5 +1,5 @@
 //! The feeder's side of the queue.
-ghost use Rattle.std.specs.Prelude.{◌≡◌, OnOk, OnErr};
+ghost use Rattle.std.specs.Prelude.{◌≡◌, ◌⊎◌, true, IsOk, OnOk, OnErr};
 ghost use Rattle.futures.specs.Task.{IsArmed, Keeps};
 ghost use Rattle.http_services.specs.Queue.{fed_data, fed_error, fed_end, fed_trailers, closed};
 ghost use Rattle.http_services.specs.Status.{status_of, Asked};
@@ -42,6 +42,7 @@ impl Payload {
     fn feed(&mut self, bytes: Bytes) -> Result<(), NoMemory>
         ensures ok { OnOk result (self.new ≡ fed_data bytes self.old) }
         ensures err { OnErr result (self.new ≡ self.old) }
+        ensures dropped { self.old.dropped ≡ true → IsOk result }
     {
         if self.dropped {
             return Ok(());
@@ -106,6 +107,7 @@ impl Payload {
         ensures status { result ≡ status_of self.old }
         ensures asked { Asked self.old self.new result }
         ensures registered { result ≡ PayloadStatus.Pause → IsArmed cx.new }
+        ensures waits { result ≡ PayloadStatus.Pause → (cx.new.lacks_waker ≡ true) ⊎ (self.new.feeder ≡ true) }
         ensures kept { Keeps cx.old cx.new }
     {
         if self.dropped {
@@ -120,11 +122,13 @@ impl Payload {
 }
 
 impl PayloadSender<'_> {
-    /// Feeds bytes, which wait behind the others. Out of memory, the queue is as it was.
+    /// Feeds bytes, which wait behind the others. Out of memory, the queue is as it was. One whose receiver was dropped
+    /// takes no memory.
     pub fn feed_data(&mut self, bytes: Bytes) -> Result<(), NoMemory>
         ensures same_reference { self.new.queue.ghost_name ≡ self.old.queue.ghost_name }
         ensures ok { OnOk result (self.new.queue.now ≡ fed_data bytes self.old.queue.now) }
         ensures err { OnErr result (self.new.queue.now ≡ self.old.queue.now) }
+        ensures dropped { self.old.queue.now.dropped ≡ true → IsOk result }
     {
         self.queue.feed(bytes)
     }
@@ -168,6 +172,7 @@ impl PayloadSender<'_> {
         ensures status { result ≡ status_of self.old.queue.now }
         ensures asked { Asked self.old.queue.now self.new.queue.now result }
         ensures registered { result ≡ PayloadStatus.Pause → IsArmed cx.new }
+        ensures waits { result ≡ PayloadStatus.Pause → (cx.new.lacks_waker ≡ true) ⊎ (self.new.queue.now.feeder ≡ true) }
         ensures kept { Keeps cx.old cx.new }
     {
         self.queue.status(cx)

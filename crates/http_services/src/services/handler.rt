@@ -1,5 +1,9 @@
 //! A service whose answers are there at once.
-ghost use Rattle.std.specs.Prelude.{◌≡◌};
+ghost use Rattle.std.specs.Prelude.{◌≡◌, true, is_some};
+ghost use Rattle.futures.specs.Task.{IsArmed, Keeps};
+ghost use Rattle.futures.specs.Poll.{OnPending};
+ghost use Rattle.http_services.specs.Lent.{LentBound};
+ghost use Rattle.http_services.specs.Serving.{AnswerSays, HandsOn, unknown_service};
 
 use crate::h1::Payload;
 use crate::lending::Lending;
@@ -15,8 +19,15 @@ pub trait Handler<Req>: Drop {
     /// Why there is none.
     type Error: Drop;
 
+    ghost use Rattle.std.specs.Prelude.{⊤, Result};
+
+    /// What it does: the handler before, the request, the answer, and the handler after. It says nothing, unless the
+    /// handler says more.
+    ghost handled: { Self → Req → Result Self.Response Self.Error → Self → Type 0 } = { λ _ _ _ _. ⊤ };
+
     /// The answer of this request.
-    fn handle(&mut self, req: Req) -> Result<Self::Response, Self::Error>;
+    fn handle(&mut self, req: Req) -> Result<Self::Response, Self::Error>
+        ensures handled { handled self.old req result self.new };
 }
 
 /// Answers each request by a handler, and reads nothing of what it is lent. Its errors are counted.
@@ -41,7 +52,7 @@ impl<H, L> FnService<H, L> {
 }
 
 impl<Req: Drop, H: Handler<Req>, L: Lending> Service<Req> for FnService<H, L> {
-    ghost use Rattle.std.specs.Prelude.{None, is_some};
+    ghost use Rattle.std.specs.Prelude.{None};
 
     type Response = H::Response;
 
@@ -51,7 +62,7 @@ impl<Req: Drop, H: Handler<Req>, L: Lending> Service<Req> for FnService<H, L> {
 
     type Lent = L;
 
-    ghost served = { λ s. record { called = None; answered = None; faults = s.faults; ready_waits = 0; call_waits = 0 } };
+    ghost served = { λ s. unknown_service s.faults 0 0 };
 
     ghost echoes = { None };
 
@@ -70,7 +81,13 @@ impl<Req: Drop, H: Handler<Req>, L: Lending> Service<Req> for FnService<H, L> {
         call: &mut Option<Req>,
         _lent: &mut L,
         _cx: &mut Context<'_>,
-    ) -> Poll<Result<H::Response, H::Error>> {
+    ) -> Poll<Result<H::Response, H::Error>>
+        requires is_open { is_some call.old ≡ true }
+        ensures says { AnswerSays {Q = Req} (unknown_service self.old.faults 0 0) (unknown_service self.new.faults 0 0) result }
+        ensures handed_on { HandsOn (λ req answer. H.handled self.old.handler req answer self.new.handler) call.old result }
+        ensures bound { LentBound (L.lent _lent.old) (L.lent _lent.new) }
+        ensures kept { Keeps _cx.old _cx.new }
+    {
         let Some(req) = call.take() else {
             unreachable!()
         };

@@ -1,5 +1,8 @@
 //! Refuses each upgrade.
-ghost use Rattle.std.specs.Prelude.{◌≡◌};
+ghost use Rattle.std.specs.Prelude.{◌≡◌, ◌<◌, ◌+◌, true};
+ghost use Rattle.futures.specs.Task.{IsArmed, Keeps};
+ghost use Rattle.futures.specs.Poll.{OnPending};
+ghost use Rattle.http_services.specs.Serving.{AnswerSays, unknown_service, unknown_call};
 
 use crate::service::Service;
 use futures::task::{Context, Poll};
@@ -29,7 +32,7 @@ impl<M> UpgradeHandler<M> {
 }
 
 impl<Req: Drop, M: Drop> Service<Req> for UpgradeHandler<M> {
-    ghost use Rattle.std.specs.Prelude.{None, true};
+    ghost use Rattle.std.specs.Prelude.{None};
 
     type Response = M;
 
@@ -39,13 +42,17 @@ impl<Req: Drop, M: Drop> Service<Req> for UpgradeHandler<M> {
 
     type Lent = ();
 
-    ghost served = { λ s. record { called = None; answered = None; faults = s.faults; ready_waits = 0; call_waits = s.waits } };
+    ghost served = { λ s. unknown_service s.faults 0 s.waits };
 
     ghost echoes = { None };
 
-    ghost calling = { λ _. record { is_open = true; asked = None; took = None } };
+    ghost calling = { λ _. unknown_call };
 
-    fn poll_ready(&mut self, _cx: &mut Context<'_>) -> Poll<Result<(), Error>> {
+    fn poll_ready(&mut self, _cx: &mut Context<'_>) -> Poll<Result<(), Error>>
+        ensures ready { result ≡ Poll.Ready (Ok tt) }
+        ensures same { self.new ≡ self.old }
+        ensures kept { Keeps _cx.old _cx.new }
+    {
         Poll::Ready(Ok(()))
     }
 
@@ -57,7 +64,12 @@ impl<Req: Drop, M: Drop> Service<Req> for UpgradeHandler<M> {
         _call: &mut (),
         _lent: &mut (),
         cx: &mut Context<'_>,
-    ) -> Poll<Result<M, Error>> {
+    ) -> Poll<Result<M, Error>>
+        ensures says { AnswerSays {Q = Req} (unknown_service self.old.faults 0 self.old.waits) (unknown_service self.new.faults 0 self.new.waits) result }
+        ensures refuses { self.old.faults < u64.MAX → result ≡ Poll.Ready (Err (record { kind = Kind.Ws; cause = None })) }
+        ensures registered { OnPending result (IsArmed cx.new) }
+        ensures kept { Keeps cx.old cx.new }
+    {
         if self.faults == u64::MAX {
             self.waits = self.waits.saturating_add(1);
             return cx.yield_now();

@@ -1,5 +1,8 @@
 //! Bodies that another value holds.
 ghost use Rattle.std.specs.Prelude.{◌≡◌};
+ghost use Rattle.futures.specs.Task.{IsArmed, Keeps};
+ghost use Rattle.futures.specs.Poll.{OnPending};
+ghost use Rattle.http_bodies.specs.Giving.{PieceSays};
 
 use crate::{BodyFault, MessageBody};
 use bytes::Bytes;
@@ -21,7 +24,12 @@ impl<B: MessageBody> MessageBody for &mut B {
         &mut self,
         alloc: Global,
         cx: &mut Context<'_>,
-    ) -> Poll<Option<Result<Bytes, BodyFault>>> {
+    ) -> Poll<Option<Result<Bytes, BodyFault>>>
+        ensures says { PieceSays (B.gives self.old.now) (B.gives self.new.now) result }
+        ensures same_reference { self.new.ghost_name ≡ self.old.ghost_name }
+        ensures registered { OnPending result (IsArmed cx.new) }
+        ensures kept { Keeps cx.old cx.new }
+    {
         (**self).poll_next(alloc, cx)
     }
 
@@ -29,6 +37,7 @@ impl<B: MessageBody> MessageBody for &mut B {
         ensures still { IsErr result }
         ensures all { IfOk result (λ bytes. AreAll (whole [] (B.gives self.old).coming) bytes) }
         ensures same { IfErr result (λ body. B.gives body.now ≡ B.gives self.old) }
+        ensures same_reference { IfErr result (λ body. body.ghost_name ≡ self.entry.ghost_name) }
     {
         Err(self)
     }

@@ -1,7 +1,11 @@
 //! Bytes and texts that have an allocation of their own, which is shared and not copied.
 ghost use Rattle.std.specs.Prelude.{◌≡◌, IfOk, IfErr};
+ghost use Rattle.std.specs.Cow.{cow_slice_items, cow_str_bytes};
 ghost use Rattle.std.specs.String.{string_bytes};
-ghost use Rattle.http_bodies.specs.Values.{holds_owned};
+ghost use Rattle.futures.specs.Task.{IsArmed, Keeps};
+ghost use Rattle.futures.specs.Poll.{OnPending};
+ghost use Rattle.http_bodies.specs.Giving.{PieceSays};
+ghost use Rattle.http_bodies.specs.Values.{holds_owned, EndsAtNone};
 
 use crate::{BodyFault, MessageBody};
 use bytes::{Bytes, BytesMut};
@@ -46,7 +50,12 @@ impl MessageBody for BytesMut {
         &mut self,
         alloc: Global,
         _cx: &mut Context<'_>,
-    ) -> Poll<Option<Result<Bytes, BodyFault>>> {
+    ) -> Poll<Option<Result<Bytes, BodyFault>>>
+        ensures says { PieceSays (holds_owned self.old.items) (holds_owned self.new.items) result }
+        ensures ends { EndsAtNone self.old.items result }
+        ensures registered { OnPending result (IsArmed _cx.new) }
+        ensures kept { Keeps _cx.old _cx.new }
+    {
         if self.is_empty() {
             return Poll::Ready(None);
         }
@@ -78,7 +87,12 @@ impl MessageBody for Vec<u8> {
         &mut self,
         alloc: Global,
         _cx: &mut Context<'_>,
-    ) -> Poll<Option<Result<Bytes, BodyFault>>> {
+    ) -> Poll<Option<Result<Bytes, BodyFault>>>
+        ensures says { PieceSays (holds_owned self.old.items) (holds_owned self.new.items) result }
+        ensures ends { EndsAtNone self.old.items result }
+        ensures registered { OnPending result (IsArmed _cx.new) }
+        ensures kept { Keeps _cx.old _cx.new }
+    {
         if self.is_empty() {
             return Poll::Ready(None);
         }
@@ -107,7 +121,12 @@ impl MessageBody for String {
         &mut self,
         alloc: Global,
         _cx: &mut Context<'_>,
-    ) -> Poll<Option<Result<Bytes, BodyFault>>> {
+    ) -> Poll<Option<Result<Bytes, BodyFault>>>
+        ensures says { PieceSays (holds_owned (string_bytes self.old)) (holds_owned (string_bytes self.new)) result }
+        ensures ends { EndsAtNone (string_bytes self.old) result }
+        ensures registered { OnPending result (IsArmed _cx.new) }
+        ensures kept { Keeps _cx.old _cx.new }
+    {
         if self.is_empty() {
             return Poll::Ready(None);
         }
@@ -126,8 +145,6 @@ impl MessageBody for String {
 }
 
 impl MessageBody for CowSlice<'static, u8> {
-    ghost use Rattle.std.specs.Cow.{cow_slice_items};
-
     ghost gives = { λ bytes. holds_owned (cow_slice_items bytes) };
 
     fn size(&self) -> BodySize {
@@ -138,7 +155,12 @@ impl MessageBody for CowSlice<'static, u8> {
         &mut self,
         alloc: Global,
         _cx: &mut Context<'_>,
-    ) -> Poll<Option<Result<Bytes, BodyFault>>> {
+    ) -> Poll<Option<Result<Bytes, BodyFault>>>
+        ensures says { PieceSays (holds_owned (cow_slice_items self.old)) (holds_owned (cow_slice_items self.new)) result }
+        ensures ends { EndsAtNone (cow_slice_items self.old) result }
+        ensures registered { OnPending result (IsArmed _cx.new) }
+        ensures kept { Keeps _cx.old _cx.new }
+    {
         if self.len() == 0 {
             return Poll::Ready(None);
         }
@@ -163,8 +185,6 @@ impl MessageBody for CowSlice<'static, u8> {
 }
 
 impl MessageBody for CowStr<'static> {
-    ghost use Rattle.std.specs.Cow.{cow_str_bytes};
-
     ghost gives = { λ text. holds_owned (cow_str_bytes text) };
 
     fn size(&self) -> BodySize {
@@ -175,7 +195,12 @@ impl MessageBody for CowStr<'static> {
         &mut self,
         alloc: Global,
         _cx: &mut Context<'_>,
-    ) -> Poll<Option<Result<Bytes, BodyFault>>> {
+    ) -> Poll<Option<Result<Bytes, BodyFault>>>
+        ensures says { PieceSays (holds_owned (cow_str_bytes self.old)) (holds_owned (cow_str_bytes self.new)) result }
+        ensures ends { EndsAtNone (cow_str_bytes self.old) result }
+        ensures registered { OnPending result (IsArmed _cx.new) }
+        ensures kept { Keeps _cx.old _cx.new }
+    {
         if self.len() == 0 {
             return Poll::Ready(None);
         }

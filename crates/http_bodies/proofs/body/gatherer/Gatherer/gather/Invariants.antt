@@ -1,4 +1,4 @@
-use Rattle.std.proofs.Common.{◌≡◌, ◌≤◌, length, List}
+use Rattle.std.proofs.Common.{◌≡◌, ◌≤◌, length, List, []}
 use Rattle.futures.specs.Task.{Keeps}
 use Rattle.http_bodies.specs.Told.{led_by}
 use Rattle.http_bodies.specs.Giving.{Given}
@@ -8,6 +8,7 @@ use Rattle.http_bodies.proofs.body.gatherer.Gatherer.gather.Given as goal
 abbrev pub invariant-loop : goal.invariant-loop
 invariant-loop g l = record {
   all : all_of (known g.B.MessageBody.gives (gathering_of l.self)) ≡ all_of (known g.B.MessageBody.gives (gathering_of l.fn.self));
+  held : l.self.held ≡ [];
   limit : l.self.limit ≡ l.fn.self.limit;
   size : l.self.size ≡ l.fn.self.size;
   faults : (g.B.MessageBody.gives l.fn.self.body).faults ≤ (g.B.MessageBody.gives l.self.body).faults;
