@@ -102,7 +102,7 @@ fn a_service_reads_what_it_is_lent(rt: HostRuntime) -> Result<(), Fail> {
             Poll::Ready(Ok(3))
         )
     );
-    assert!(rt; service.call_waits == 1 && service.faults == 0);
+    assert!(rt; service.call_waits() == 1 && service.faults() == 0);
     Ok(())
 }
 

@@ -6,7 +6,7 @@ use Rattle.http_config.specs.Causes.{Rose}
 use Rattle.http_bodies.specs.Told.{Grows}
 use Rattle.http_wires.specs.Wiring.{Wiring}
 
--- All was given; the wire failed; it was pending; or 64 writes took some, and the task was woken.
+-- All was given; the wire failed; it was pending; or it took at least 64 bytes, and the task was woken.
 abbrev pub FlushAnswers : {E : Type 0} → Wiring → Wiring → Bool → List ℕ → List ℕ → Poll (Result Unit E) → Type 0
 FlushAnswers old new woken gave left (Ready (Ok x)) = left ≡ []
 FlushAnswers old new woken gave left (Ready (Err e)) = Rose old.faults new.faults

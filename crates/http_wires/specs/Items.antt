@@ -62,7 +62,7 @@ module _ {D I R E : Type 0} (reads : D → List ℕ → R → Type 0) (given : I
     pub leaves_so : leaves e before left after rest
 
   -- An item is the next of the bytes that were there and came. The codec refuses them; the wire failed; memory ran out;
-  -- the input ended. Or more bytes are needed and the wire was pending, or 64 reads gave some and the task was woken.
+  -- the input ended. Or more bytes are needed and the wire was pending, or at least 64 bytes came and the task was woken.
   abbrev pub Answers : Wiring → Wiring → Bool → D → List ℕ → List ℕ → D → List ℕ → Poll (Option (Result I (FramedError E))) → Type 0
   Answers old new woken d bytes came after rest (Ready (Some (Ok item))) =
       GoesOn reads given d (bytes ++ came) (given item) after rest × (seen d bytes → seen after rest)

@@ -87,8 +87,7 @@ impl<T: Wire, U> Framed<T, U> {
         &mut self.io
     }
 
-    /// Writes an item behind what is buffered, or nothing. Where the codec refuses it, nothing is buffered. It takes
-    /// memory only where the buffer has no room.
+    /// Writes an item behind what is buffered, or nothing. Where the codec refuses it, nothing is buffered.
     pub fn write<I>(&mut self, item: I) -> Result<(), U::Error>
     where
         U: Encoder<I>,
@@ -102,7 +101,7 @@ impl<T: Wire, U> Framed<T, U> {
 
     /// Gives the wire what is buffered, and then flushes it. What it took leaves the buffer, also at an error.
     ///
-    /// It is pending where the wire is, or once 64 writes took bytes: then the task is woken.
+    /// It is pending where the wire is, or where it took at least 64 bytes: then the task is woken.
     pub fn flush(&mut self, cx: &mut Context<'_>) -> Poll<Result<(), Failed>>
         ensures says { Flushes (T.wiring self.old.io) (T.wiring self.new.io) cx.new.is_woken self.old.unsent self.new.unsent result }
         ensures codec { self.new.codec ≡ self.old.codec }
@@ -118,8 +117,8 @@ impl<T: Wire, U: Decoder> Framed<T, U> {
     /// The next item, or nothing once the input has ended and holds no further item. What was read and not decoded
     /// stays, at each answer.
     ///
-    /// It is pending where the bytes hold no item yet and the wire is pending, or once 64 reads gave bytes: then the
-    /// task is woken.
+    /// It is pending where the bytes hold no item yet and the wire is pending, or where at least 64 bytes came: then
+    /// the task is woken.
     pub fn next_item(
         &mut self,
         cx: &mut Context<'_>,

@@ -14,8 +14,9 @@
 //!
 //! A wire tells what it received and sent, where that is known, and counts its faults and its Pending answers: so an
 //! answer has its cause in the counts. `Framed::next_item` gives the items that the codec's reading has of all bytes that
-//! were received, in whatever pieces they came, and loses none of them at an error. `Framed::flush` sends the front of
-//! what is buffered, and the rest stays. A poll takes at most 64 pieces, and is then pending with its task woken.
+//! were received, in whatever pieces they came. At an error of the wire, or out of memory, none of them is lost; an error
+//! of the codec leaves what the codec says. `Framed::flush` sends the front of what is buffered, and the rest stays. A
+//! poll that moved at least 64 bytes may be pending with its task woken, so that others have their turn.
 //!
 //! # Cost
 //!
