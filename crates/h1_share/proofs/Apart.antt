@@ -92,7 +92,7 @@ one_turn opened before next id was does there =
 one_turn (handled n answer) before next id was does there =
     moved (HandlesBy answer before.board next.board) (taken (on.answer answer (size_of 0)) out.Done ∷ []) before next n id was
     (λ a b leads. takes_one a.connection b.connection (taken (on.answer answer (size_of 0)) out.Done)
-      (subst (λ head. GoesOn a.connection (on.answer head (size_of 0)) (Is on.done) b.connection) leads.1 leads.0.answers) leads.0.settings) does there
+    (subst (λ head. GoesOn a.connection (on.answer head (size_of 0)) (Is on.done) b.connection) leads.1 leads.0.answers) leads.0.settings) does there
 one_turn (ran_out n) before next id was does there =
     subst (λ owns. Arrives next id was owns) (same_both (n == id) [])
     (moved (Fails before.board next.board) [] before next n id was (λ a b leads. leads.connection) does there)
