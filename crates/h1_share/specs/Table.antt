@@ -119,6 +119,7 @@ pub record Handles (board board' : Kept) (was now : Seated) : Type 0 where
   pub answer : AnswerHead
   pub replies : Replies was.asked board was.pass answer board' now.pass
   pub answers : GoesOn was.connection (on.answer answer (size_of 0)) (Is on.done) now.connection
+  pub settings : now.connection.settings ≡ was.connection.settings
   pub asked : now.asked ≡ was.asked
 
 -- memory ran out: the connection is as it was, and no call was made or this one

@@ -217,7 +217,7 @@ impl<M: Ledger> Board<M> {
         stock.audit(book);
     }
 
-    // The number of the first of these passes whose entries aren't those of the journal.
+    // The number of one of these passes whose entries aren't those of the journal, if there is one.
     pub(crate) fn first_unlike(&mut self, passes: &[Pass<M>]) -> Option<u32>
         ensures same { self.new ≡ self.old }
         ensures none { IfNone result (Agrees self.old.journal passes.now) }

@@ -20,8 +20,8 @@ pub struct Cursor {
     pub(crate) found: usize,
 }
 
-// The number of the first pass whose entries aren't those of the journal. One walk over the journal sees that they are;
-// only where it doesn't, the lists are compared one by one.
+// The number of a pass whose entries aren't those of the journal, if there is one. One walk over the journal sees that
+// there is none; only where it doesn't, the lists are compared one by one.
 pub(crate) fn first_unlike<M: Ledger>(
     journal: &[Entry],
     passes: &[Pass<M>],
@@ -134,7 +134,7 @@ fn has_at<M: Ledger>(pass: &Pass<M>, index: usize, entry: &Entry) -> bool
     }
 }
 
-// The number of the first pass whose entries aren't those of the journal, list by list.
+// The number of a pass whose entries aren't those of the journal, if there is one, list by list.
 fn first_unlike_list<M: Ledger>(journal: &[Entry], passes: &[Pass<M>]) -> Option<u32>
     ensures none { IfNone result (Agrees journal.now passes.now) }
     ensures some { IfSome result (λ number. Differs journal.now passes.now number) }

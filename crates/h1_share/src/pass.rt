@@ -9,7 +9,7 @@ use std::sync::ledger::{Ledger, Share};
 pub const MAX_ENTRIES: usize = 1_048_576;
 
 /// The right to call one board, with the entries of its own calls. `Board::retire` or `Shared::close` takes it back.
-/// It can't be dropped before, since the board counts its entries.
+/// It has no `Drop`, since the board counts its entries; only in a `Carried` it may be dropped.
 ///
 /// A clause sees it as its number and its entries.
 pub struct Pass<M: Ledger> {
@@ -45,8 +45,8 @@ impl<M: Ledger> Pass<M> {
     }
 }
 
-/// A pass that a closure may hold, on its way to a thread or back. Where one is dropped, its part of the ledger is lost,
-/// and the board can't be closed any more.
+/// A pass that a closure may hold, on its way to a thread or back. Where one is dropped, so is its pass with its part of
+/// the ledger, and the board can't be closed any more, since `Shared::close` asks for all passes.
 pub struct Carried<M: Ledger> {
     /// The pass.
     pub pass: Pass<M>,

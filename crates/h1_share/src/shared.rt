@@ -67,7 +67,7 @@ impl<M: Ledger> Shared<M> {
     }
 
     /// The board, once all its passes are back and the entries of each are the journal's of its number, in order. They
-    /// are compared without memory, in one walk over the journal.
+    /// are compared without memory. Where they agree, that takes one walk over the journal; else a walk for each list.
     ///
     /// `Unlike` comes exactly where some list differs, and carries the board and the passes.
     pub fn close<R: Wait>(self, _rt: &R, passes: Vec<Pass<M>>) -> Result<Board<M>, Unlike<M>>
@@ -111,6 +111,6 @@ pub struct Unlike<M: Ledger> {
     /// All its passes.
     pub passes: Vec<Pass<M>>,
 
-    /// The number of the first pass whose entries aren't the journal's of this number.
+    /// The number of a pass whose entries aren't the journal's of this number.
     pub number: u32,
 }

@@ -88,7 +88,7 @@ impl<M: Ledger> Table<M> {
     }
 
     /// Takes in an event of one connection, and answers it as the tables do over what happened to that connection
-    /// alone. The other connections and the board stay as they are. After want of memory all is as before.
+    /// alone. The other connections and the board stay as they are. Out of memory, all is as before.
     pub fn step(&mut self, id: usize, event: &Event) -> Result<Outcome, NoMemory>
         requires is_open { id < length self.old.seats }
         requires may_come { At self.old id (λ seat. IsAllowed seat.connection (event_of event.now)) }
@@ -106,7 +106,7 @@ impl<M: Ledger> Table<M> {
     /// reply as `x-count`, or 503 where the pass is full. Else the board isn't called, and the answer is 404. No answer
     /// has a body; each tells the length 0. The other connections stay as they are.
     ///
-    /// After want of memory the connection is as before, and the board is as before or has this one call.
+    /// Out of memory, the connection is as before, and the board is as before or has this one call.
     pub fn handle(&mut self, id: usize) -> Result<Outcome, NoMemory>
         requires is_open { id < length self.old.seats }
         requires can_answer { At self.old id (λ seat. (head : AnswerHead) (size : BodySize) → IsAllowed seat.connection (on.answer head size)) }

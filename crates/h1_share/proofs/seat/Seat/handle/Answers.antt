@@ -12,5 +12,6 @@ returns-clause-ok g c =
       replies = search rules;
       answers = subst (λ seat. GoesOn seat.connection (on.answer answer (size_of 0)) (Is on.done) c.answer.new.self) c.self.view_is
           (subst (λ head. GoesOn c.self.inside.connection (on.answer head (size_of 0)) (Is on.done) c.answer.new.self) c.in_ok-head.ensures c.in_ok-answer.ensures.stands);
+      settings = search rules;
       asked = search rules;
     }
