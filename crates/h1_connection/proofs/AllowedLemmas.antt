@@ -20,6 +20,31 @@ running_test true closes test = refl
 running_test false true test = refl
 running_test false false test = refl
 
+-- a test of a running WebSocket
+pub frame_test : (over closes frames left : Bool)
+    → ((not over && not closes) && frames) ≡ ((not over && (if closes then false else (frames || left))) && frames)
+frame_test true closes frames left = refl
+frame_test false true frames left = refl
+frame_test false false true left = refl
+frame_test false false false true = refl
+frame_test false false false false = refl
+
+-- a pull, of a body or of a frame
+pub pull_test : (over closes frames left : Bool)
+    → ((not over && (if closes then false else (not frames && left))) || ((not over && (if closes then false else (frames || left))) && frames))
+    ≡ (not over && (if closes then false else (frames || left)))
+pull_test true closes frames left = refl
+pull_test false true frames left = refl
+pull_test false false true left = refl
+pull_test false false false true = refl
+pull_test false false false false = refl
+
+-- three tests, one after the other
+pub three_tests : (a b c d : Bool) → (((a && b) && c) && d) ≡ ((a && b) && (c && d))
+three_tests true true c d = refl
+three_tests true false c d = refl
+three_tests false b c d = refl
+
 -- a test that matters only while it runs
 pub closing_test : (over closes : Bool) (test : Bool) → (not over && (closes || test)) ≡ (not over && (if closes then true else test))
 closing_test true closes test = refl

@@ -94,11 +94,11 @@ later_change set p x head size y bytes later kind_is shape_is missing_is bytes_a
     chosen true m n is = absurd (cc is)
 
 -- an exchange that is there
-at_exchange : (s : Settings) (p q : Parts) (x : Exchange) (event : on.Event) (out : on.Outcome) → p.exchange ≡ Some x
+pub at_exchange : (s : Settings) (p q : Parts) (x : Exchange) (event : on.Event) (out : on.Outcome) → p.exchange ≡ Some x
     → Steps s (record p { exchange = Some x }) event out q → Steps s p event out q
 at_exchange s p q x event out there steps = subst (λ (e : Option Exchange). Steps s (record p { exchange = e }) event out q) (sym there) steps
 
-at_sound : (s : Settings) (p : Parts) (x : Exchange) → p.exchange ≡ Some x → IsSound s p → IsSound s (record p { exchange = Some x })
+pub at_sound : (s : Settings) (p : Parts) (x : Exchange) → p.exchange ≡ Some x → IsSound s p → IsSound s (record p { exchange = Some x })
 at_sound s p x there sound = subst (λ (e : Option Exchange). IsSound s (record p { exchange = e })) there sound
 
 -- the exchange that an answer is handed in for
@@ -131,7 +131,7 @@ sending_noted set p x (GoesOut z) y bytes unsent = refl
 sending_noted set p x (Answered kind) y bytes unsent = absurd (cc unsent)
 
 -- where nothing of the exchange is done with, it isn't free
-not_free : (answered nothing : Bool) → answered ≡ false → (answered && nothing) ≡ false
+pub not_free : (answered nothing : Bool) → answered ≡ false → (answered && nothing) ≡ false
 not_free true nothing is = absurd (cc is)
 not_free false nothing is = refl
 
@@ -152,12 +152,12 @@ unanswered_open Unanswered frames is = refl
 unanswered_open (GoesOut y) frames is = absurd (cc is)
 unanswered_open (Answered kind) frames is = absurd (cc is)
 
-waiting_open : (p : Parts) (x : Exchange) → p.exchange ≡ Some x → waits_for_answer (kept_of p) ≡ true → is_answered (reply_of x.reply) ≡ false
+pub waiting_open : (p : Parts) (x : Exchange) → p.exchange ≡ Some x → waits_for_answer (kept_of p) ≡ true → is_answered (reply_of x.reply) ≡ false
 waiting_open p x there waits =
     unanswered_open x.reply (is_frames x.rest) (subst (λ (e : Option Exchange). waits_for_answer (kept_of (record p { exchange = e })) ≡ true) there waits)
 
 -- so no head is searched for
-nothing_found : (piece : Option HeadScan) → is_some piece ≡ false → piece ≡ None
+pub nothing_found : (piece : Option HeadScan) → is_some piece ≡ false → piece ≡ None
 nothing_found None is = refl
 nothing_found (Some x) is = absurd (cc is)
 

@@ -10,13 +10,13 @@ use Rattle.h1_model.specs.AnswerText.{interim_text}
 use Rattle.h1_model.specs.Text.{answer_head_text}
 use Rattle.h1_model.specs.Event as on
 use Rattle.h1_model.specs.End.{End}
-use Rattle.h1_machine.specs.Kept.{Rest, no_rest, raw_rest, fixed_rest, chunks_rest, frames_rest, Reply, unanswered, sending, answered, Exchange, Kept, Change, is_frames, is_unanswered, is_sending_body, now}
-use Rattle.h1_machine.specs.Local.{closing_by, allowed_by, is_allowed_running, is_allowed_closing}
+use Rattle.h1_machine.specs.Kept.{Rest, no_rest, raw_rest, fixed_rest, chunks_rest, frames_rest, Reply, unanswered, sending, answered, Exchange, Kept, Change, is_frames, is_unanswered, is_sending_body, is_upgraded, now}
+use Rattle.h1_machine.specs.Local.{closing_by, allowed_by, has_body_left, is_allowed_running, is_allowed_closing}
 use Rattle.h1_machine.specs.Reply.{stated, answering, completing, piece_sent, sending_piece}
 use Rattle.h1_machine.specs.Change.{IsStep, IsChange, noting_since, doing_with}
 use Rattle.h1_connection.specs.Meaning.{setting_of}
 use Rattle.h1_connection.specs.Parts.{kept_of, Steps}
-use Rattle.h1_connection.specs.Given.{next_allowed, HasOpened, IsSendingBody}
+use Rattle.h1_connection.specs.Given.{next_allowed, frame_allowed, HasOpened, IsSendingBody}
 use Rattle.h1_connection.specs.State.{State, IsAllowed, IsNextAllowed, HasWriteRoom}
 use Rattle.h1_connection.specs.declared.connection.parts.Parts.{Parts}
 use Rattle.h1_connection.proofs.GoesOnLemmas.{state_of, allowed_parts}
@@ -44,6 +44,20 @@ pub all_written : (now : State) → IsNextAllowed now → is_some (closing_by (s
 all_written now is closes =
     written_case (is_some (closing_by (setting_of now.settings) now.kept)) (length now.kept.buffered)
     (second_true (allowed_by (setting_of now.settings) now.kept on.next) _ is) closes
+
+-- ---- a pull
+
+left_case : (over closes frames left : Bool) → (not over && (if closes then false else (frames || left))) ≡ true
+    → ((not over && (if closes then false else (frames || left))) && frames) ≡ false → (not over && (if closes then false else (not frames && left))) ≡ true
+left_case true closes frames left is none = absurd (cc is)
+left_case false true frames left is none = absurd (cc is)
+left_case false false true left is none = absurd (cc none)
+left_case false false false left is none = is
+
+-- where it isn't one of a frame, it is one of a body
+pub body_left : (now : State) → IsAllowed now on.pull → frame_allowed (setting_of now.settings) now.kept ≡ false → IsAllowed now on.drop_body
+unfolding allowed_by
+body_left now allowed none = left_case now.kept.is_over _ (is_upgraded now.kept) (has_body_left now.kept) allowed none
 
 -- ---- a connection that neither is over nor closes
 

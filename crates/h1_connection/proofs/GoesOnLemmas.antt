@@ -12,7 +12,7 @@ use Rattle.h1_model.specs.Text.{buffered}
 use Rattle.h1_model.specs.Closing.{closing}
 use Rattle.h1_model.specs.Trace as traces
 use Rattle.h1_model.specs.Trace.{IsPastOf, IsOutcome}
-use Rattle.h1_machine.specs.Kept.{Kept, Change, Exchange, is_frames, is_open, is_upgraded}
+use Rattle.h1_machine.specs.Kept.{Kept, Change, Exchange, is_open, is_upgraded}
 use Rattle.h1_machine.specs.Local.{closing_by, allowed_by, has_body_left, waits_for_answer}
 use Rattle.h1_machine.specs.Change.{IsPulling}
 use Rattle.h1_machine.specs.Pull.{Pulled}
@@ -25,9 +25,10 @@ use Rattle.h1_model.specs.Answer.{AnswerHead, BodySize}
 use Rattle.h1_model.specs.Limits.{MAX_MOMENT}
 use Rattle.h1_connection.specs.Meaning.{setting_of, end_of, fault_of}
 use Rattle.h1_connection.specs.Parts.{kept_of, IsSound, Steps, StepsIn}
+use Rattle.h1_connection.specs.Frames.{is_raw_request}
 use Rattle.h1_connection.specs.Pulls.{IsPullFrom, IsPullOf}
 use Rattle.h1_connection.specs.Heads.{IsHeld, IsNexted, SaysNext}
-use Rattle.h1_connection.specs.State.{State, IsAllowed, Stands, GoesOn, ReadsIn, Is}
+use Rattle.h1_connection.specs.State.{State, IsAllowed, IsFrameAllowed, Stands, GoesOn, ReadsIn, Is}
 use Rattle.h1_connection.specs.declared.connection.heads.NextHead.{NextHead}
 use Rattle.h1_connection.specs.declared.connection.heads.NextHead.TheVariants as next
 use Rattle.h1_connection.specs.declared.connection.parts.Parts.{Parts}
@@ -100,25 +101,42 @@ head_goes_on now s p q answer view allowed nexted =
 
 -- ---- pulls
 
--- a pull is allowed of an open request alone
-open_case : (set : Setting) (k : Kept) (over closes : Bool) → (not over && (if closes then false else (is_upgraded k || has_body_left k))) ≡ true
-    → (is_upgraded k || has_body_left k) ≡ true
-open_case set k true closes is = absurd (cc is)
-open_case set k false true is = absurd (cc is)
-open_case set k false false is = is
+-- one of a body is allowed where its rest may be dropped
+open_case : (over closes frames left : Bool) → (not over && (if closes then false else (not frames && left))) ≡ true → (frames ≡ false) × (left ≡ true)
+open_case true closes frames left is = absurd (cc is)
+open_case false true frames left is = absurd (cc is)
+open_case false false true left is = absurd (cc is)
+open_case false false false left is = (refl, is)
 
-open_exchange : (k : Kept) (e : Option Exchange) → (let l : Kept = record k { exchange = e } in is_upgraded l || has_body_left l) ≡ true → is_open (record k { exchange = e }) ≡ true
-open_exchange k None is = absurd (cc is)
-open_exchange k (Some x) is = of_frames (is_frames x.rest) _ _ is
-  where
-    of_frames : (frames a b : Bool) → (frames || (a && (frames || b))) ≡ true → (frames || b) ≡ true
-    of_frames true a b is = refl
-    of_frames false true b is = is
-    of_frames false false b is = absurd (cc is)
+pull_case : (over closes frames left : Bool) → (not over && (if closes then false else (not frames && left))) ≡ true
+    → (not over && (if closes then false else (frames || left))) ≡ true
+pull_case true closes frames left is = absurd (cc is)
+pull_case false true frames left is = absurd (cc is)
+pull_case false false true left is = absurd (cc is)
+pull_case false false false left is = is
 
-pub pull_open : (s : Settings) (p : Parts) → IsAllowed (state_of s p) on.pull → is_open (kept_of p) ≡ true
+first_true : (a b : Bool) → (a && b) ≡ true → a ≡ true
+first_true true b is = refl
+first_true false b is = absurd (cc is)
+
+second_true : (a b : Bool) → (a && b) ≡ true → b ≡ true
+second_true true b is = is
+second_true false b is = absurd (cc is)
+
+left_open : (k : Kept) → has_body_left k ≡ true → is_open k ≡ true
+left_open k is = second_true _ (is_open k) is
+
+pub body_open : (s : Settings) (p : Parts) → IsAllowed (state_of s p) on.drop_body → is_open (kept_of p) ≡ true
 unfolding allowed_by
-pull_open s p allowed = open_exchange (kept_of p) (kept_of p).exchange (open_case (setting_of s) (kept_of p) p.is_over _ allowed)
+body_open s p allowed = left_open (kept_of p) (open_case p.is_over _ (is_upgraded (kept_of p)) (has_body_left (kept_of p)) allowed).1
+
+pub body_plain : (s : Settings) (p : Parts) → IsAllowed (state_of s p) on.drop_body → is_upgraded (kept_of p) ≡ false
+unfolding allowed_by
+body_plain s p allowed = (open_case p.is_over _ (is_upgraded (kept_of p)) (has_body_left (kept_of p)) allowed).0
+
+pub body_pulled : (now : State) → IsAllowed now on.drop_body → IsAllowed now on.pull
+unfolding allowed_by
+body_pulled now allowed = pull_case now.kept.is_over _ (is_upgraded now.kept) (has_body_left now.kept) allowed
 
 pulling_case : (k : Kept) (e : Option Exchange) (c : Change) → is_open (record k { exchange = e }) ≡ true
     → IsPulling (record k { exchange = e }) e c → (p : Pulled) × IsPullFrom k e p
@@ -127,21 +145,64 @@ pulling_case k (Some x) c opened pulling = (pulling.0, pulling.1)
 
 pull_from : (s : Settings) (p q : Parts) (answer : Answer)
     → ((r : Pulled) → IsPullOf (kept_of p) r → SaysPulled answer r.outcome × Steps s p on.pull r.outcome q)
-    → IsAllowed (state_of s p) on.pull → GoesOn (state_of s p) on.pull (SaysPulled answer) (state_of s q)
+    → IsAllowed (state_of s p) on.drop_body → GoesOn (state_of s p) on.pull (SaysPulled answer) (state_of s q)
 pull_from s p q answer pulled allowed = λ trace stands.
     let set = setting_of s in
-    let there = a_step_is_there set (kept_of p) trace on.pull stands allowed in
-    let r = pulling_case (kept_of p) (kept_of p).exchange there.2.change (pull_open s p allowed) there.2.changes in
+    let may = body_pulled (state_of s p) allowed in
+    let there = a_step_is_there set (kept_of p) trace on.pull stands may in
+    let r = pulling_case (kept_of p) (kept_of p).exchange there.2.change (body_open s p allowed) there.2.changes in
     let x = pulled r.0 r.1 in
-    let goes = goes_from s p q on.pull r.0.outcome x.1 allowed trace stands in
+    let goes = goes_from s p q on.pull r.0.outcome x.1 may trace stands in
     (goes.0, subst (λ (o : on.Outcome). SaysPulled answer o) (sym goes.1) x.0, goes.2, goes.3)
 
-pub pull_goes_on : (now : State) (s : Settings) (p q : Parts) (answer : Answer) → state_of s p ≡ now → IsAllowed now on.pull
+pub pull_goes_on : (now : State) (s : Settings) (p q : Parts) (answer : Answer) → state_of s p ≡ now → IsAllowed now on.drop_body
     → ((r : Pulled) → IsPullOf (kept_of p) r → SaysPulled answer r.outcome × Steps s p on.pull r.outcome q)
     → GoesOn now on.pull (SaysPulled answer) (state_of s q)
 pull_goes_on now s p q answer view allowed pulled =
-    subst (λ (m : State). IsAllowed m on.pull → GoesOn m on.pull (SaysPulled answer) (state_of s q)) view
+    subst (λ (m : State). IsAllowed m on.drop_body → GoesOn m on.pull (SaysPulled answer) (state_of s q)) view
     (pull_from s p q answer pulled) allowed
+
+-- ---- frames, and messages
+
+-- a step with one of these outcomes
+pub some_goes_on : (now : State) (s : Settings) (p q : Parts) (event : on.Event) (Says : on.Outcome → Type 0) → state_of s p ≡ now → IsAllowed now event
+    → ((out : on.Outcome) × Says out × Steps s p event out q) → GoesOn now event Says (state_of s q)
+some_goes_on now s p q event Says view allowed steps = λ trace stands.
+    let goes = goes_on now s p q event steps.0 view allowed steps.2 trace stands in
+    (goes.0, subst Says (sym goes.1) steps.1, goes.2, goes.3)
+
+-- a frame may be asked for on a WebSocket alone
+pub frame_pulled : (now : State) → IsFrameAllowed now → IsAllowed now on.pull
+frame_pulled now is = first_true (allowed_by (setting_of now.settings) now.kept on.pull) _ is
+
+pub frame_upgraded : (now : State) → IsFrameAllowed now → is_upgraded now.kept ≡ true
+frame_upgraded now is = second_true (allowed_by (setting_of now.settings) now.kept on.pull) _ is
+
+-- what is said of the connection is said of its parts
+pub frame_parts : (now : State) (s : Settings) (p : Parts) → state_of s p ≡ now → IsFrameAllowed now → is_upgraded (kept_of p) ≡ true
+frame_parts now s p view is = ap (λ (m : State). is_upgraded m.kept) view ∙ frame_upgraded now is
+
+-- ---- an upgrade
+
+accept_case : (over closes waits raw whole fits : Bool) → (not over && (if closes then false else ((waits && (raw && whole)) && fits))) ≡ true
+    → (waits ≡ true) × (raw ≡ true)
+accept_case true closes waits raw whole fits is = absurd (cc is)
+accept_case false true waits raw whole fits is = absurd (cc is)
+accept_case false false false raw whole fits is = absurd (cc is)
+accept_case false false true false whole fits is = absurd (cc is)
+accept_case false false true true whole fits is = (refl, refl)
+
+accept_exchange : (set : Setting) (k : Kept) (e : Option Exchange) (limit : ℕ) → IsTrue (allowed_by set (record k { exchange = e }) (on.accept limit))
+    → (waits_for_answer (record k { exchange = e }) ≡ true) × (is_raw_request (record k { exchange = e }) ≡ true)
+unfolding allowed_by
+accept_exchange set k None limit allowed = absurd (cc (accept_case k.is_over (is_some (closing_by set (record k { exchange = None }))) false false false _ allowed).0)
+accept_exchange set k (Some x) limit allowed = accept_case k.is_over (is_some (closing_by set (record k { exchange = Some x }))) _ x.asked.is_raw _ _ allowed
+
+pub accept_waits : (s : Settings) (p : Parts) (limit : ℕ) → IsAllowed (state_of s p) (on.accept limit) → waits_for_answer (kept_of p) ≡ true
+accept_waits s p limit allowed = (accept_exchange (setting_of s) (kept_of p) (kept_of p).exchange limit allowed).0
+
+pub accept_raw : (s : Settings) (p : Parts) (limit : ℕ) → IsAllowed (state_of s p) (on.accept limit) → is_raw_request (kept_of p) ≡ true
+accept_raw s p limit allowed = (accept_exchange (setting_of s) (kept_of p) (kept_of p).exchange limit allowed).1
 
 -- ---- answers
 

@@ -28,8 +28,8 @@ use Rattle.h1_decode.specs.declared.decoder.HeadItem.{HeadItem}
 use Rattle.h1_decode.specs.declared.scan.HeadScan.{HeadScan}
 use Rattle.h1_decode.specs.declared.scan.HeadScan.TheVariants.{Open, Piece}
 use Rattle.h1_connection.specs.Incoming.{Incoming, is_coming_in, IsFoundIn, IsHeadIn, IsHeadOf, IsPassedIn, IsPassedHead}
-use Rattle.h1_connection.specs.Meaning.{setting_of, end_of, fault_of}
-use Rattle.h1_connection.specs.Parts.{failing_of, kept_of, exchange_of, reply_of, IsNoted, IsSound, IsSettled, Steps}
+use Rattle.h1_connection.specs.Meaning.{setting_of, end_of, fault_of, failing_of}
+use Rattle.h1_connection.specs.Parts.{key_bytes, kept_of, exchange_of, reply_of, IsNoted, IsSound, IsSettled, Steps}
 use Rattle.h1_connection.specs.Given.{HasOpened}
 use Rattle.h1_connection.specs.Heads.{IsAsked, after_head, refused, IsHeld, IsNexted}
 use Rattle.h1_connection.specs.declared.connection.exchange.Exchange.{Exchange}
@@ -197,7 +197,7 @@ plain_same x h rest request asked is =
       has_body = asked.body i;
       expects = asked.expects i;
       refusal = asked.refusal i;
-      accept_key = asked.accept_key i;
+      accept_key = (ap (λ (a : Asked). key_bytes a.is_raw request.accept_key) asked.asked ∙ asked.accept_key) i;
       rest = rest;
       reply = machine.unanswered;
       was_pulled = false;
@@ -366,8 +366,8 @@ no_refusal h raw = sym (ap (λ (b : Bool). if b then handshake_error h else None
 pub raw_refusal : (h : Head) → (asked_of h).is_raw ≡ true → refusal_of h ≡ handshake_error h
 raw_refusal h raw = ap (λ (b : Bool). if b then handshake_error h else None) raw
 
-pub no_key : (h : Head) → (asked_of h).is_raw ≡ false → [] ≡ key_answer_of h
-no_key h raw = sym (ap (λ (b : Bool). if b then accept_key_of h else []) raw)
+pub no_key : (h : Head) → (asked_of h).is_raw ≡ false → key_bytes (asked_of h).is_raw None ≡ key_answer_of h
+no_key h raw = ap (λ (b : Bool). key_bytes b None) raw ∙ sym (ap (λ (b : Bool). if b then accept_key_of h else []) raw)
 
-pub raw_key : (h : Head) → (asked_of h).is_raw ≡ true → key_answer_of h ≡ accept_key_of h
-raw_key h raw = ap (λ (b : Bool). if b then accept_key_of h else []) raw
+pub raw_key : (h : Head) (key : List ℕ) → (asked_of h).is_raw ≡ true → key ≡ accept_key_of h → key_bytes (asked_of h).is_raw (Some key) ≡ key_answer_of h
+raw_key h key raw is = ap (λ (b : Bool). key_bytes b (Some key)) raw ∙ is ∙ sym (ap (λ (b : Bool). if b then accept_key_of h else []) raw)

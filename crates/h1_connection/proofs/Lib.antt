@@ -16,3 +16,4 @@ pub mod DeadlineLemmas
 pub mod InputLemmas
 pub mod ClosingLemmas
 pub mod CutLemmas
+pub mod FrameLemmas

@@ -131,6 +131,13 @@ may_of m free = λ busy. nothing m.input.piece free busy
     nothing None free busy = refl
     nothing (Some x) free busy = absurd (cc (free refl, busy))
 
+-- so it is with sound parts, and with those that were searched
+pub sound_may : (s : Settings) (m : Parts) → IsSound s m → MayBeSearched m
+sound_may s m sound = may_of m (λ found. sym sound.searched ∙ found)
+
+pub searched_may : (p m : Parts) → IsSearchedFor p m → MayBeSearched m
+searched_may p m searched = may_of m (λ found. ap (λ (r : Parts). is_free (kept_of r)) searched.parts ∙ sym searched.searched ∙ found)
+
 -- ---- passing
 
 -- an exchange by its reply
@@ -189,6 +196,7 @@ fresh_sound : (s : Settings) (bytes : List ℕ) → IsFoundIn [] (Some Open)
       is_over = false;
       exchange = None;
       output = bytes;
+      is_sending = false;
       clock = record { first = None; last = None; completed = None };
       failed = None;
       closing_since = None;
@@ -205,6 +213,7 @@ pub new_sound : (s : Settings) (i : Incoming) (bytes : List ℕ) (k : Clock) →
       is_over = false;
       exchange = None;
       output = bytes;
+      is_sending = false;
       clock = k;
       failed = None;
       closing_since = None;
@@ -217,6 +226,7 @@ new_sound s i bytes k input found clock =
       is_over = false;
       exchange = None;
       output = bytes;
+      is_sending = false;
       clock = t;
       failed = None;
       closing_since = None;

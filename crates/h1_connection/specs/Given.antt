@@ -2,7 +2,7 @@
 use Rattle.std.specs.Prelude.{◌≡◌, Bool, true, false, not, ◌&&◌, ◌||◌, ◌==◌, length, None, is_some}
 use Rattle.h1_model.specs.Setting.{Setting}
 use Rattle.h1_model.specs.Event as on
-use Rattle.h1_machine.specs.Kept.{Kept}
+use Rattle.h1_machine.specs.Kept.{Kept, is_upgraded}
 use Rattle.h1_machine.specs.Local.{closing_by, allowed_by, waits_for_answer, is_answering}
 use Rattle.h1_connection.specs.declared.connection.heads.NextHead.{NextHead}
 use Rattle.h1_connection.specs.declared.connection.heads.NextHead.TheVariants as next
@@ -13,6 +13,10 @@ use Rattle.h1_connection.specs.declared.connection.heads.NextKind.TheVariants as
 -- waits to be written, which could be written no more.
 abbrev pub next_allowed : Setting → Kept → Bool
 next_allowed setting k = allowed_by setting k on.next && (not (is_some (closing_by setting k)) || (length k.buffered == 0))
+
+-- The next frame may be asked for: a WebSocket doesn't close.
+abbrev pub frame_allowed : Setting → Kept → Bool
+frame_allowed setting k = allowed_by setting k on.pull && is_upgraded k
 
 -- a head came
 abbrev pub is_head : NextHead → Bool

@@ -10,8 +10,8 @@ use Rattle.h1_machine.specs.Local.{closing_by}
 use Rattle.h1_machine.specs.Change.{behind_head}
 use Rattle.h1_decode.specs.HeadItem.{SaysHead, without_headers}
 use Rattle.h1_decode.specs.declared.decoder.HeadItem.{HeadItem}
-use Rattle.h1_connection.specs.Meaning.{setting_of, end_of, fault_of}
-use Rattle.h1_connection.specs.Parts.{failing_of, key_bytes, kept_of, Steps}
+use Rattle.h1_connection.specs.Meaning.{setting_of, end_of, fault_of, failing_of}
+use Rattle.h1_connection.specs.Parts.{key_bytes, kept_of, Steps}
 use Rattle.h1_connection.specs.declared.connection.heads.NextHead.{NextHead}
 use Rattle.h1_connection.specs.declared.connection.heads.NextHead.TheVariants as next
 use Rattle.h1_connection.specs.declared.connection.heads.NextKind.{NextKind}
@@ -26,7 +26,7 @@ pub record IsAsked (h : Head) (request : Request) : Type 0 where
   pub body : request.has_body ≡ has_body h.body
   pub expects : request.expects ≡ h.expects
   pub refusal : option_map failing_of request.refusal ≡ refusal_of h
-  pub accept_key : key_bytes request.accept_key ≡ key_answer_of h
+  pub accept_key : key_bytes (asked_of h).is_raw request.accept_key ≡ key_answer_of h
 
 -- what is kept after its head
 abbrev pub after_head : Kept → ℕ → Head → Kept

@@ -1,6 +1,8 @@
 pub mod Meaning
 pub mod Incoming
+pub mod Readings
 pub mod Parts
+pub mod Frames
 pub mod Ticks
 pub mod Pulls
 pub mod Unsent
@@ -10,3 +12,4 @@ pub mod State
 pub mod Steps
 pub mod Run
 pub mod Callers
+pub mod Copies

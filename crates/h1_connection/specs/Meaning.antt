@@ -7,17 +7,25 @@ use Rattle.h1_model.specs.Request as model
 use Rattle.h1_model.specs.Setting.{Setting, KeepAlive, timeout, by_system, disabled}
 use Rattle.h1_model.specs.End as ends
 use Rattle.h1_model.specs.Event as on
+use Rattle.h1_model.specs.Frame.{ProtocolError as Rule}
+use Rattle.h1_model.specs.Handshake as checks
+use Rattle.ws_frames.specs.Codec.{frame_says, IsNamed}
+use Rattle.ws_frames.specs.Refusal.{refusal}
+use Rattle.ws_frames.specs.Sent.{message_says}
+use Rattle.ws_frames.specs.declared.error.ProtocolError.{ProtocolError}
+use Rattle.ws_session.specs.declared.verify.HandshakeError.{HandshakeError}
+use Rattle.ws_session.specs.declared.verify.HandshakeError.TheVariants as handshake
 use Rattle.h1_codec.specs.Meaning.{size_of, answer_of}
 use Rattle.h1_decode.specs.HeadItem.{SaysHead}
 use Rattle.h1_decode.specs.HeadMap.{header_map}
 use Rattle.h1_connection.specs.declared.event.End.{End}
-use Rattle.h1_connection.specs.declared.event.End.TheVariants.{Malformed, TooLarge, SlowRequestTimeout, KeepAliveExpired, Body, BodyShort, Asked, BrokenBody, UnreadBody, Drained, HalfClosed, InputEnded}
+use Rattle.h1_connection.specs.declared.event.End.TheVariants.{Malformed, TooLarge, SlowRequestTimeout, KeepAliveExpired, Protocol, Body, BodyShort, Asked, BrokenBody, UnreadBody, Drained, HalfClosed, InputEnded}
 use Rattle.h1_connection.specs.declared.event.HeadFault.{HeadFault}
 use Rattle.h1_connection.specs.declared.event.HeadFault.TheVariants as faults
 use Rattle.h1_connection.specs.declared.event.PayloadError.{PayloadError}
 use Rattle.h1_connection.specs.declared.event.PayloadError.TheVariants.{Incomplete, EncodingCorrupted}
 use Rattle.h1_connection.specs.declared.event.Event.{Event}
-use Rattle.h1_connection.specs.declared.event.Event.TheVariants.{Read, Eof, Next, Pull, DropBody, Continue, Answer, Chunk, BodyEnd, BodyError, Write, Tick, Drain}
+use Rattle.h1_connection.specs.declared.event.Event.TheVariants.{Read, Eof, Next, Pull, DropBody, Continue, Answer, Chunk, BodyEnd, BodyError, Write, Tick, Drain, Accept, Send}
 use Rattle.h1_connection.specs.declared.event.Outcome.{Outcome}
 use Rattle.h1_connection.specs.declared.event.Outcome.TheVariants as out
 
@@ -55,12 +63,15 @@ event_of BodyError = on.body_error
 event_of (Write limit) = on.write limit
 event_of (Tick moment) = on.tick moment
 event_of Drain = on.drain
+event_of (Accept limit) = on.accept limit
+event_of (Send message) = on.send (message_says message)
 
 abbrev pub end_of : End → ends.End
 end_of Malformed = ends.malformed
 end_of TooLarge = ends.too_large
 end_of SlowRequestTimeout = ends.slow_request
 end_of KeepAliveExpired = ends.keep_alive_expired
+end_of Protocol = ends.protocol
 end_of Body = ends.body
 end_of BodyShort = ends.body_short
 end_of Asked = ends.asked
@@ -78,18 +89,36 @@ abbrev pub body_fault_of : PayloadError → on.BodyFault
 body_fault_of Incomplete = on.incomplete
 body_fault_of EncodingCorrupted = on.corrupted
 
+-- why an upgrade to WebSocket is refused
+abbrev pub failing_of : HandshakeError → checks.HandshakeError
+failing_of handshake.GetMethodRequired = checks.get_method_required
+failing_of handshake.NoWebsocketUpgrade = checks.no_websocket_upgrade
+failing_of handshake.NoConnectionUpgrade = checks.no_connection_upgrade
+failing_of handshake.NoVersionHeader = checks.no_version_header
+failing_of handshake.UnsupportedVersion = checks.unsupported_version
+failing_of handshake.BadWebsocketKey = checks.bad_websocket_key
+
+-- the rule of WebSocket that is broken
+pub record SaysRule (error : ProtocolError) (outcome : on.Outcome) : Type 0 where
+  pub rule : Rule
+  pub outcome_is : outcome ≡ on.protocol rule
+  pub says : error ≡ refusal rule
+
 -- The outcome says what the model's does. Of a head and of trailers this is a relation, since a map keeps its lines
--- name by name.
+-- name by name. A Close has the code that its number names.
 abbrev pub SaysOutcome : Outcome → on.Outcome → Type 0
 SaysOutcome (out.Took count) outcome = outcome ≡ on.took count
 SaysOutcome (out.Head item) outcome = (head : model.Head) × SaysHead item head × (outcome ≡ on.head head)
 SaysOutcome (out.Bytes bytes) outcome = outcome ≡ on.bytes bytes
 SaysOutcome (out.Trailers map) outcome = (lines : List model.Header) × (map ≡ header_map lines) × (outcome ≡ on.trailers lines)
+SaysOutcome (out.Frame frame) outcome = (outcome ≡ on.frame (frame_says frame)) × IsNamed frame
 SaysOutcome out.BodyEnd outcome = outcome ≡ on.body_ended
 SaysOutcome out.Pending outcome = outcome ≡ on.pending
 SaysOutcome (out.Closed end) outcome = outcome ≡ on.closed (end_of end)
 SaysOutcome (out.Fault fault) outcome = outcome ≡ on.fault (fault_of fault)
 SaysOutcome (out.Broken error) outcome = outcome ≡ on.broken_by (body_fault_of error)
+SaysOutcome (out.Protocol error) outcome = SaysRule error outcome
+SaysOutcome (out.Refused error) outcome = outcome ≡ on.refused (failing_of error)
 SaysOutcome (out.Gave bytes) outcome = outcome ≡ on.gave bytes
 SaysOutcome (out.Expired end) outcome = outcome ≡ on.expired (end_of end)
 SaysOutcome out.Abandoned outcome = outcome ≡ on.abandoned

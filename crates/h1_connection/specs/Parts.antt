@@ -1,5 +1,5 @@
 -- What a connection's fields mean: what the machine keeps.
-use Rattle.std.specs.Prelude.{◌≡◌, ℕ, ◌<◌, Bool, true, false, ◌&&◌, List, [], ◌∷◌, length, Option, Some, None, option_map, is_some, if◌then◌else◌}
+use Rattle.std.specs.Prelude.{◌≡◌, ℕ, ◌<◌, Bool, true, false, ◌&&◌, List, [], ◌∷◌, length, replicate, Option, Some, None, option_map, is_some, if◌then◌else◌}
 use Rattle.http_types.specs.declared.message.ConnectionType.{ConnectionType}
 use Rattle.http_config.specs.Config.{Settings}
 use Rattle.h1_model.specs.Limits.{MAX_MOMENT}
@@ -7,24 +7,21 @@ use Rattle.h1_model.specs.Setting.{Setting}
 use Rattle.h1_model.specs.Event as on
 use Rattle.h1_model.specs.Answer.{Asked}
 use Rattle.h1_codec.specs.Meaning.{model_type, model_shape}
-use Rattle.h1_model.specs.Handshake as checks
-use Rattle.ws_session.specs.declared.verify.HandshakeError.{HandshakeError}
-use Rattle.ws_session.specs.declared.verify.HandshakeError.TheVariants as handshake
 use Rattle.h1_machine.specs.Kept as machine
 use Rattle.h1_machine.specs.Kept.{Kept, is_free, is_nothing, is_answered, now, rest_in, unanswered, sending, answered}
 use Rattle.h1_machine.specs.Local.{closing_by}
 use Rattle.h1_machine.specs.Body.{Passed, pass_rest}
 use Rattle.h1_machine.specs.Change.{noting_since, IsStep}
 use Rattle.h1_connection.specs.Incoming.{is_coming_in, IsFound}
-use Rattle.h1_connection.specs.Meaning.{setting_of, end_of}
+use Rattle.h1_connection.specs.Meaning.{setting_of, end_of, failing_of}
 use Rattle.h1_connection.specs.declared.event.End.{End}
-use Rattle.h1_connection.specs.declared.event.End.TheVariants.{HalfClosed, InputEnded}
 use Rattle.h1_connection.specs.declared.connection.clock.Clock.{Clock}
 use Rattle.h1_connection.specs.declared.connection.exchange.Exchange.{Exchange}
 use Rattle.h1_connection.specs.declared.connection.exchange.Reply.{Reply}
 use Rattle.h1_connection.specs.declared.connection.exchange.Reply.TheVariants.{Unanswered, Sending as GoesOut, Answered}
 use Rattle.h1_connection.specs.declared.connection.exchange.Sending.{Sending}
 use Rattle.h1_connection.specs.declared.connection.parts.Parts.{Parts}
+use Rattle.h1_connection.specs.declared.connection.request.Request.{Request}
 
 -- ---- the last request
 
@@ -33,19 +30,14 @@ reply_of Unanswered = unanswered
 reply_of (GoesOut s) = sending (model_shape s.shape) (model_type s.connection) s.missing
 reply_of (Answered connection) = answered (model_type connection)
 
--- why an upgrade to WebSocket is refused
-abbrev pub failing_of : HandshakeError → checks.HandshakeError
-failing_of handshake.GetMethodRequired = checks.get_method_required
-failing_of handshake.NoWebsocketUpgrade = checks.no_websocket_upgrade
-failing_of handshake.NoConnectionUpgrade = checks.no_connection_upgrade
-failing_of handshake.NoVersionHeader = checks.no_version_header
-failing_of handshake.UnsupportedVersion = checks.unsupported_version
-failing_of handshake.BadWebsocketKey = checks.bad_websocket_key
+-- the answer to a key that is kept, and 28 zeros where none is
+abbrev pub key_or_zeros : Option (List ℕ) → List ℕ
+key_or_zeros None = replicate 28 0
+key_or_zeros (Some key) = key
 
--- the answer to a key, of which nothing is kept where there can be no upgrade
-abbrev pub key_bytes : Option (List ℕ) → List ℕ
-key_bytes None = []
-key_bytes (Some key) = key
+-- of a request that is raw, since no other may be upgraded
+abbrev pub key_bytes : Bool → Option (List ℕ) → List ℕ
+key_bytes is_raw key = if is_raw then key_or_zeros key else []
 
 abbrev pub exchange_of : Exchange → machine.Exchange
 exchange_of x =
@@ -54,7 +46,7 @@ exchange_of x =
       has_body = x.request.has_body;
       expects = x.request.expects;
       refusal = option_map failing_of x.request.refusal;
-      accept_key = key_bytes x.request.accept_key;
+      accept_key = key_bytes x.request.asked.is_raw x.request.accept_key;
       rest = x.rest;
       reply = reply_of x.reply;
       was_pulled = x.was_pulled;
@@ -90,10 +82,15 @@ abbrev pub with_continue : Option Exchange → Option Exchange
 with_continue None = None
 with_continue (Some x) = Some (record x { had_continue = true })
 
--- what an answer needs of it, the body of its answer that is going out, and a further state of its answer
+-- what an answer needs of it, all that is kept of its request, the body of its answer that is going out, and a further
+-- state of its answer
 abbrev pub asked_in : Option Exchange → Option Asked
 asked_in None = None
 asked_in (Some x) = Some x.request.asked
+
+abbrev pub request_in : Option Exchange → Option Request
+request_in None = None
+request_in (Some x) = Some x.request
 
 abbrev pub sending_in : Option Exchange → Option Sending
 sending_in None = None
@@ -118,7 +115,7 @@ kept_of p =
       is_over = p.is_over;
       exchange = option_map exchange_of p.exchange;
       buffered = p.output;
-      is_sending = false;
+      is_sending = p.is_sending;
       clock = clock_of p.clock;
       failed = option_map end_of p.failed;
       closing_since = p.closing_since;
@@ -127,11 +124,6 @@ kept_of p =
 -- the answer is complete
 abbrev pub completed : ConnectionType → Parts → Parts
 completed connection p = record p { exchange = replied (Answered connection) p.exchange; clock = record p.clock { completed = p.clock.last } }
-
--- why it closes where the input has ended, by whether half-closed connections are kept, a request is open, and a head
--- is coming
-abbrev pub ended_end : Bool → Bool → Bool → Option End
-ended_end half opened coming = if half then (if opened then None else (if coming then None else Some InputEnded)) else Some HalfClosed
 
 -- ---- what holds of them
 

@@ -1,5 +1,5 @@
 -- A connection as its contracts see it: its settings, and what the machine keeps.
-use Rattle.std.specs.Prelude.{◌≡◌, ◌<◌, ℕ, List, [], ◌∷◌, length, take, IsTrue, ⊤}
+use Rattle.std.specs.Prelude.{◌≡◌, ◌<◌, ℕ, List, [], ◌∷◌, length, take, true, IsTrue, ⊤}
 use Rattle.http_config.specs.Config.{Settings}
 use Rattle.h1_model.specs.Event as on
 use Rattle.h1_model.specs.Sums as sums
@@ -9,7 +9,8 @@ use Rattle.h1_machine.specs.Local.{allowed_by}
 use Rattle.h1_machine.specs.StandsFor.{StandsFor}
 use Rattle.h1_connection.specs.Meaning.{setting_of}
 use Rattle.h1_connection.specs.Heads.{NeedsNoMemory}
-use Rattle.h1_connection.specs.Given.{next_allowed}
+use Rattle.h1_connection.specs.Given.{next_allowed, frame_allowed}
+use Rattle.h1_connection.specs.Frames.{is_refused, sends_nothing}
 use Rattle.h1_connection.specs.Pulls.{IsLightPull}
 use Rattle.h1_connection.specs.Ticks.{IsQuietTick}
 use Rattle.h1_connection.specs.Unsent.{SendsNoPiece, SendsNoEnd}
@@ -30,6 +31,10 @@ IsAllowed state event = IsTrue (allowed_by (setting_of state.settings) state.kep
 abbrev pub IsNextAllowed : State → Type 0
 IsNextAllowed state = IsTrue (next_allowed (setting_of state.settings) state.kept)
 
+-- the next frame may be asked for
+abbrev pub IsFrameAllowed : State → Type 0
+IsFrameAllowed state = IsTrue (frame_allowed (setting_of state.settings) state.kept)
+
 -- there is room for a piece of an answer's body
 abbrev pub HasWriteRoom : State → Type 0
 HasWriteRoom state = length state.kept.buffered < state.settings.h1_write_buffer_size
@@ -48,7 +53,8 @@ GoesOn state event Says after =
 
 -- The event takes no memory: the input's end, a drop, a drain, an answer's body that fails; a next one that closes, or
 -- finds no head and room for more bytes; a pull that tells the end or a fault, or gives nothing; a piece or an end of
--- which nothing goes out; a write of nothing; a tick but one that answers a head that doesn't come.
+-- which nothing goes out; a write of nothing; a tick but one that answers a head that doesn't come; an upgrade that is
+-- refused; a message of which nothing is sent.
 abbrev pub TakesNoMemory : State → on.Event → Type 0
 TakesNoMemory state on.eof = ⊤
 TakesNoMemory state on.drop_body = ⊤
@@ -60,6 +66,8 @@ TakesNoMemory state (on.chunk bytes) = SendsNoPiece state.kept bytes
 TakesNoMemory state on.body_end = SendsNoEnd state.kept
 TakesNoMemory state (on.write limit) = length (take limit state.kept.buffered) ≡ 0
 TakesNoMemory state (on.tick ms) = IsQuietTick (setting_of state.settings) state.kept ms
+TakesNoMemory state (on.accept limit) = is_refused state.kept ≡ true
+TakesNoMemory state (on.send message) = sends_nothing state.kept message ≡ true
 TakesNoMemory state event = ⊥
 
 -- the outcome is this one

@@ -4,7 +4,7 @@ use Rattle.h1_connection.specs.declared.event.Event.{Event}
 use Rattle.h1_connection.specs.declared.event.Outcome.{Outcome}
 use Rattle.h1_connection.specs.declared.event.Outcome.TheVariants as out
 use Rattle.h1_connection.specs.declared.noted.Noted.{Noted}
-use Rattle.h1_connection.specs.declared.noted.Noted.TheVariants.{Took, Head, Bytes, Trailers, BodyEnd, Pending, Closed, Fault, Broken, Gave, Expired, Abandoned, Done}
+use Rattle.h1_connection.specs.declared.noted.Noted.TheVariants.{Took, Head, Bytes, Trailers, Frame, BodyEnd, Pending, Closed, Fault, Broken, Protocol, Refused, Gave, Expired, Abandoned, Done}
 
 -- an event and its outcome
 pub record Pair : Type 0 where
@@ -17,11 +17,14 @@ outcome_of (Took count) = out.Took count
 outcome_of (Head item) = out.Head item
 outcome_of (Bytes bytes) = out.Bytes bytes
 outcome_of (Trailers trailers) = out.Trailers trailers
+outcome_of (Frame frame) = out.Frame frame
 outcome_of BodyEnd = out.BodyEnd
 outcome_of Pending = out.Pending
 outcome_of (Closed end) = out.Closed end
 outcome_of (Fault fault) = out.Fault fault
 outcome_of (Broken error) = out.Broken error
+outcome_of (Protocol error) = out.Protocol error
+outcome_of (Refused error) = out.Refused error
 outcome_of (Gave bytes) = out.Gave bytes
 outcome_of (Expired end) = out.Expired end
 outcome_of Abandoned = out.Abandoned

@@ -15,13 +15,16 @@ ghost use Rattle.h1_machine.specs.Local.{closing_by, allowed_by};
 ghost use Rattle.h1_payload.specs.Rests.{SaysPulled};
 ghost use Rattle.h1_connection.specs.Meaning.{setting_of, event_of, end_of};
 ghost use Rattle.h1_connection.specs.Heads.{SaysNext, NeedsNoMemory, with_head, KeepsItem, LosesAtMostHeaders};
+ghost use Rattle.ws_frames.specs.Sent.{message_says};
+ghost use Rattle.h1_connection.specs.Frames.{accepted_of, is_done, is_refused, SaysFrame, SaysSent, sends_nothing};
 ghost use Rattle.h1_connection.specs.Pulls.{IsLightPull};
 ghost use Rattle.h1_connection.specs.Unsent.{SendsNoPiece, SendsNoEnd};
 ghost use Rattle.h1_connection.specs.Ticks.{expiry_of, IsQuietTick};
 ghost use Rattle.h1_connection.specs.Given.{is_head, is_head_kind};
-ghost use Rattle.h1_connection.specs.State.{fresh_state, IsAllowed, IsNextAllowed, HasWriteRoom, Stands, GoesOn, ReadsIn, Is};
+ghost use Rattle.h1_connection.specs.State.{fresh_state, IsAllowed, IsNextAllowed, IsFrameAllowed, HasWriteRoom, Stands, GoesOn, ReadsIn, Is};
 
 use crate::connection::clock::Clock;
+pub use crate::connection::frames::{Accepted, PulledFrame, Sent};
 pub use crate::connection::heads::{NextHead, NextKind};
 use crate::connection::input::Input;
 use crate::connection::output::Output;
@@ -35,6 +38,7 @@ use http_framing::BodySize;
 use http_types::{NoMemory, ResponseHead, ServiceConfig, Source};
 use std::alloc::Global;
 use std::marker::Model;
+use ws_frames::Message;
 
 mod allowed;
 mod answers;
@@ -44,11 +48,14 @@ mod closing;
 mod deadlines;
 mod exchange;
 mod filling;
+mod frames;
 mod heads;
 mod input;
+mod messages;
 mod output;
 mod parts;
 mod questions;
+mod reading;
 mod request;
 mod show;
 mod steps;
@@ -221,9 +228,9 @@ impl Connection {
 
     /// Takes what comes next of the open request's body: a piece that shares the memory of what was read, or its
     /// trailers, or its end. It takes no memory where it tells the end or a fault, or where nothing is there and no
-    /// trailer has begun.
+    /// trailer has begun. The frames of a WebSocket are taken by `pull_frame`.
     pub fn pull(&mut self) -> Result<Pulled, NoMemory>
-        requires can_pull { IsAllowed self.old on.pull }
+        requires can_pull { IsAllowed self.old on.drop_body }
         ensures stands { IfOk result (λ answer. GoesOn self.old on.pull (SaysPulled answer) self.new) }
         ensures settings { self.new.settings ≡ self.old.settings }
         ensures no_memory_needed { IsLightPull self.old.kept → IsOk result }
@@ -239,6 +246,45 @@ impl Connection {
         ensures settings { self.new.settings ≡ self.old.settings }
     {
         self.parts.drop_body(&self.config)
+    }
+
+    /// Accepts that the open request upgrades the connection to WebSocket (RFC 6455, section 4.2): the answer that says so
+    /// is to be written, and what the peer sends is read as frames, of which none has a payload of more than so many
+    /// bytes. A request that fails a check is refused: it stays open, nothing is written, and no memory is taken.
+    pub fn accept(&mut self, limit: usize) -> Result<Accepted, NoMemory>
+        requires can_accept { IsAllowed self.old (on.accept limit) }
+        ensures stands { IfOk result (λ accepted. GoesOn self.old (on.accept limit) (Is (accepted_of accepted)) self.new) }
+        ensures settings { self.new.settings ≡ self.old.settings }
+        ensures refused { IfOk result (λ accepted. is_done accepted ≡ false → self.new ≡ self.old) }
+        ensures no_memory_needed { is_refused self.old.kept ≡ true → IsOk result }
+        ensures err { OnErr result (self.new ≡ self.old) }
+    {
+        self.parts.accept(&self.config, limit)
+    }
+
+    /// Takes the next frame of a WebSocket (RFC 6455, section 5.2), whose payload shares the memory of what was read, its
+    /// mask taken off. A length above the limit is refused as soon as it is there. After a broken rule the connection
+    /// closes: what was read before it was handed out. Where no whole frame is there, it takes no memory.
+    pub fn pull_frame(&mut self) -> Result<PulledFrame, NoMemory>
+        requires can_pull_frame { IsFrameAllowed self.old }
+        ensures stands { IfOk result (λ answer. GoesOn self.old on.pull (SaysFrame answer) self.new) }
+        ensures settings { self.new.settings ≡ self.old.settings }
+        ensures no_memory_needed { IsLightPull self.old.kept → IsOk result }
+        ensures err { OnErr result (self.new ≡ self.old) }
+    {
+        self.parts.pull_frame(&self.config)
+    }
+
+    /// Sends a message on a WebSocket (RFC 6455, section 5.4): its frame is to be written. A fragment that may not stand
+    /// there is refused: nothing of it is written, and the connection closes. That, and to send nothing, takes no memory.
+    pub fn send(&mut self, message: &Message) -> Result<Sent, NoMemory>
+        requires can_send { IsAllowed self.old (on.send (message_says message.now)) }
+        ensures stands { IfOk result (λ sent. GoesOn self.old (on.send (message_says message.now)) (SaysSent sent) self.new) }
+        ensures settings { self.new.settings ≡ self.old.settings }
+        ensures no_memory_needed { sends_nothing self.old.kept (message_says message.now) ≡ true → IsOk result }
+        ensures err { OnErr result (self.new ≡ self.old) }
+    {
+        self.parts.send(&self.config, message)
     }
 
     /// Tells the client of the open request to go on, which waits for leave to send its body (RFC 7231, section 5.1.1).

@@ -1,11 +1,14 @@
 //! What comes to a connection, and what it answers.
-ghost use Rattle.std.specs.Prelude.{◌≡◌, IfOk};
+ghost use Rattle.std.specs.Prelude.{IfOk};
+ghost use Rattle.h1_connection.specs.Copies.{IsEventCopy, IsOutcomeCopy};
 
 use crate::Boxed;
 use bytes::Bytes;
 use h1_decode::HeadItem;
 use http_framing::BodySize;
 use http_types::{HeaderMap, NoMemory, ResponseHead};
+use ws_frames::{Frame, Message, ProtocolError};
+use ws_session::HandshakeError;
 
 /// What comes to a connection from outside.
 #[derive(Debug, Drop)]
@@ -19,7 +22,7 @@ pub enum Event {
     /// The next request's head is asked for.
     Next,
 
-    /// More of the open request's body is asked for.
+    /// More of the open request's body is asked for, or the next frame of a WebSocket.
     Pull,
 
     /// The rest of the open request's body is not wanted.
@@ -48,6 +51,13 @@ pub enum Event {
 
     /// No further request is to be served.
     Drain,
+
+    /// The open request is to upgrade the connection to WebSocket, with payloads of at most this many bytes
+    /// (RFC 6455, section 4.2).
+    Accept(usize),
+
+    /// This message is to be sent on a WebSocket.
+    Send(Message),
 }
 
 /// What a connection answers to an event.
@@ -65,6 +75,9 @@ pub enum Outcome {
     /// The trailers of the request's body, of which no byte is left (RFC 7230, section 4.1.2).
     Trailers(HeaderMap),
 
+    /// The next frame of a WebSocket.
+    Frame(Frame),
+
     /// The request's body has ended.
     BodyEnd,
 
@@ -79,6 +92,12 @@ pub enum Outcome {
 
     /// The request's body is not one.
     Broken(PayloadError),
+
+    /// A frame or a message breaks this rule of WebSocket. The connection ends.
+    Protocol(ProtocolError),
+
+    /// The open request fails this check, so it can't upgrade the connection. It stays open.
+    Refused(HandshakeError),
 
     /// These bytes are to be written to the peer, behind those given before.
     Gave(Bytes),
@@ -128,6 +147,9 @@ pub enum End {
     /// No further request came in time.
     KeepAliveExpired,
 
+    /// A frame or a message broke a rule of WebSocket.
+    Protocol,
+
     /// The body of an answer failed.
     Body,
 
@@ -154,9 +176,9 @@ pub enum End {
 }
 
 impl Event {
-    /// An equal event, as `clone` gives it too. The bytes of a read or of a chunk are shared, not copied.
+    /// An equal event, as `clone` gives it too. The bytes of a read, a chunk or a message are shared, not copied.
     pub fn copy(&self) -> Result<Event, NoMemory>
-        ensures { IfOk result (λ copy. copy ≡ self.now) }
+        ensures { IfOk result (λ copy. IsEventCopy copy self.now) }
     {
         Ok(match self {
             Event::Read(bytes) => Event::Read(bytes.clone()?),
@@ -175,12 +197,14 @@ impl Event {
             Event::Write(limit) => Event::Write(*limit),
             Event::Tick(moment) => Event::Tick(*moment),
             Event::Drain => Event::Drain,
+            Event::Accept(limit) => Event::Accept(*limit),
+            Event::Send(message) => Event::Send(message.copy()?),
         })
     }
 }
 
 impl Clone for Event {
-    ghost is_clone = { λ event copy. copy ≡ event };
+    ghost is_clone = { λ event copy. IsEventCopy copy event };
 
     fn clone(&self) -> Result<Event, NoMemory> {
         self.copy()
@@ -190,18 +214,21 @@ impl Clone for Event {
 impl Outcome {
     /// An equal outcome, as `clone` gives it too. Bytes are shared, not copied.
     pub fn copy(&self) -> Result<Outcome, NoMemory>
-        ensures { IfOk result (λ copy. copy ≡ self.now) }
+        ensures { IfOk result (λ copy. IsOutcomeCopy copy self.now) }
     {
         Ok(match self {
             Outcome::Took(count) => Outcome::Took(*count),
             Outcome::Head(item) => Outcome::Head(item.copy()?),
             Outcome::Bytes(bytes) => Outcome::Bytes(bytes.clone()?),
             Outcome::Trailers(trailers) => Outcome::Trailers(trailers.copy()?),
+            Outcome::Frame(frame) => Outcome::Frame(frame.copy()?),
             Outcome::BodyEnd => Outcome::BodyEnd,
             Outcome::Pending => Outcome::Pending,
             Outcome::Closed(end) => Outcome::Closed(*end),
             Outcome::Fault(fault) => Outcome::Fault(*fault),
             Outcome::Broken(error) => Outcome::Broken(*error),
+            Outcome::Protocol(error) => Outcome::Protocol(*error),
+            Outcome::Refused(error) => Outcome::Refused(*error),
             Outcome::Gave(bytes) => Outcome::Gave(bytes.clone()?),
             Outcome::Expired(end) => Outcome::Expired(*end),
             Outcome::Abandoned => Outcome::Abandoned,
@@ -211,7 +238,7 @@ impl Outcome {
 }
 
 impl Clone for Outcome {
-    ghost is_clone = { λ outcome copy. copy ≡ outcome };
+    ghost is_clone = { λ outcome copy. IsOutcomeCopy copy outcome };
 
     fn clone(&self) -> Result<Outcome, NoMemory> {
         self.copy()

@@ -42,7 +42,9 @@ mod trace;
 
 pub use boxed::Boxed;
 pub use bytes::Bytes;
-pub use connection::{Connection, Expiry, NextHead, NextKind, READ_SIZE};
+pub use connection::{
+    Accepted, Connection, Expiry, NextHead, NextKind, PulledFrame, READ_SIZE, Sent,
+};
 pub use driver::drive;
 pub use error::{DriveError, ReadFromError};
 pub use event::{End, Event, HeadFault, Outcome, PayloadError};
@@ -55,3 +57,5 @@ pub use http_types::{
 };
 pub use noted::Noted;
 pub use trace::{Step, Steps, StepsIter, Trace};
+pub use ws_frames::{CloseCode, CloseReason, Frame, Item, Message, ProtocolError};
+pub use ws_session::HandshakeError;

@@ -7,6 +7,8 @@ use bytes::Bytes;
 use h1_decode::HeadItem;
 use http_types::{HeaderMap, NoMemory};
 use std::alloc::Global;
+use ws_frames::{Frame, ProtocolError};
+use ws_session::HandshakeError;
 
 /// An `Outcome` as a trace keeps it, variant by variant: what is large lies in a block of its own.
 #[derive(Debug, Drop)]
@@ -15,11 +17,14 @@ pub enum Noted {
     Head(Boxed<HeadItem>),
     Bytes(Bytes),
     Trailers(Boxed<HeaderMap>),
+    Frame(Frame),
     BodyEnd,
     Pending,
     Closed(End),
     Fault(HeadFault),
     Broken(PayloadError),
+    Protocol(ProtocolError),
+    Refused(HandshakeError),
     Gave(Bytes),
     Expired(End),
     Abandoned,
@@ -36,11 +41,14 @@ impl Noted {
             Outcome::Head(item) => Noted::Head(Boxed::new(alloc, item)?),
             Outcome::Bytes(bytes) => Noted::Bytes(bytes),
             Outcome::Trailers(trailers) => Noted::Trailers(Boxed::new(alloc, trailers)?),
+            Outcome::Frame(frame) => Noted::Frame(frame),
             Outcome::BodyEnd => Noted::BodyEnd,
             Outcome::Pending => Noted::Pending,
             Outcome::Closed(end) => Noted::Closed(end),
             Outcome::Fault(fault) => Noted::Fault(fault),
             Outcome::Broken(error) => Noted::Broken(error),
+            Outcome::Protocol(error) => Noted::Protocol(error),
+            Outcome::Refused(error) => Noted::Refused(error),
             Outcome::Gave(bytes) => Noted::Gave(bytes),
             Outcome::Expired(end) => Noted::Expired(end),
             Outcome::Abandoned => Noted::Abandoned,

@@ -3,11 +3,13 @@ ghost use Rattle.std.specs.Prelude.{◌≡◌, IfOk, IsOk, OnErr};
 ghost use Rattle.h1_model.specs.Event as on;
 ghost use Rattle.h1_payload.specs.Rests.{SaysPulled};
 ghost use Rattle.h1_connection.specs.Meaning.{event_of, SaysOutcome};
+ghost use Rattle.h1_connection.specs.Frames.{accepted_of, SaysFrame, SaysSent};
 ghost use Rattle.h1_connection.specs.Heads.{SaysNext};
+ghost use Rattle.h1_connection.specs.Pulls.{IsLightPull};
 ghost use Rattle.h1_connection.specs.Ticks.{expiry_of};
 ghost use Rattle.h1_connection.specs.State.{IsAllowed, GoesOn, TakesNoMemory};
 
-use crate::connection::{Connection, Expiry, NextHead};
+use crate::connection::{Accepted, Connection, Expiry, NextHead, PulledFrame, Sent};
 use crate::{Event, Outcome, PayloadError};
 use h1_payload::{BodyFault, Pulled};
 use http_types::NoMemory;
@@ -35,10 +37,7 @@ impl Connection {
                 let next = self.ask()?;
                 Ok(outcome_of_next(next))
             }
-            Event::Pull => {
-                let pulled = self.pull()?;
-                Ok(outcome_of_pull(pulled))
-            }
+            Event::Pull => self.step_pull(),
             Event::DropBody => {
                 self.drop_body();
                 Ok(Outcome::Done)
@@ -75,7 +74,31 @@ impl Connection {
                 self.drain();
                 Ok(Outcome::Done)
             }
+            Event::Accept(limit) => {
+                let accepted = self.accept(*limit)?;
+                Ok(outcome_of_accept(accepted))
+            }
+            Event::Send(message) => {
+                let sent = self.send(message)?;
+                Ok(outcome_of_send(sent))
+            }
         }
+    }
+
+    // A pull, of a frame on a WebSocket and else of a body.
+    fn step_pull(&mut self) -> Result<Outcome, NoMemory>
+        requires { IsAllowed self.old on.pull }
+        ensures stands { IfOk result (λ outcome. GoesOn self.old on.pull (SaysOutcome outcome) self.new) }
+        ensures settings { self.new.settings ≡ self.old.settings }
+        ensures no_memory_needed { IsLightPull self.old.kept → IsOk result }
+        ensures err { OnErr result (self.new ≡ self.old) }
+    {
+        if self.can_pull_frame() {
+            let pulled = self.pull_frame()?;
+            return Ok(outcome_of_frame(pulled));
+        }
+        let pulled = self.pull()?;
+        Ok(outcome_of_pull(pulled))
     }
 }
 
@@ -102,6 +125,37 @@ fn outcome_of_pull(pulled: Pulled) -> Outcome
         Pulled::Broken(BodyFault::Corrupted) => Outcome::Broken(PayloadError::EncodingCorrupted),
         Pulled::Broken(BodyFault::Incomplete) => Outcome::Broken(PayloadError::Incomplete),
         Pulled::Pending => Outcome::Pending,
+    }
+}
+
+// The outcome of a pull on a WebSocket.
+fn outcome_of_frame(pulled: PulledFrame) -> Outcome
+    ensures { (out : on.Outcome) → SaysFrame pulled out → SaysOutcome result out }
+{
+    match pulled {
+        PulledFrame::Frame(frame) => Outcome::Frame(frame),
+        PulledFrame::Protocol(error) => Outcome::Protocol(error),
+        PulledFrame::Pending => Outcome::Pending,
+    }
+}
+
+// The outcome of an upgrade.
+fn outcome_of_accept(accepted: Accepted) -> Outcome
+    ensures { (out : on.Outcome) → out ≡ accepted_of accepted → SaysOutcome result out }
+{
+    match accepted {
+        Accepted::Done => Outcome::Done,
+        Accepted::Refused(error) => Outcome::Refused(error),
+    }
+}
+
+// The outcome of a message.
+fn outcome_of_send(sent: Sent) -> Outcome
+    ensures { (out : on.Outcome) → SaysSent sent out → SaysOutcome result out }
+{
+    match sent {
+        Sent::Done => Outcome::Done,
+        Sent::Protocol(error) => Outcome::Protocol(error),
     }
 }
 

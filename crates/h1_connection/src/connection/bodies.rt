@@ -1,11 +1,11 @@
 // What a pull does to the parts.
 ghost use Rattle.std.specs.Prelude.{◌≡◌, ◌||◌, true, false, None, IfOk, IsOk, OnErr, OnOk};
 ghost use Rattle.h1_model.specs.Event as on;
-ghost use Rattle.h1_machine.specs.Kept.{is_frames, is_answered, is_open};
+ghost use Rattle.h1_machine.specs.Kept.{is_frames, is_open, is_upgraded};
 ghost use Rattle.h1_machine.specs.Pull.{IsPull};
 ghost use Rattle.h1_machine.specs.Pull as pulls;
 ghost use Rattle.h1_payload.specs.Rests.{SaysPulled, IsLight};
-ghost use Rattle.h1_connection.specs.Parts.{kept_of, reply_of, IsSound, Steps};
+ghost use Rattle.h1_connection.specs.Parts.{kept_of, IsSound, Steps};
 ghost use Rattle.h1_connection.specs.Pulls.{tells_done, IsPulledFrom, IsPullOf, IsLightPull};
 
 use crate::connection::exchange::Exchange;
@@ -19,6 +19,7 @@ impl Parts {
     pub fn pull(&mut self, config: &ServiceConfig) -> Result<Pulled, NoMemory>
         requires sound { IsSound config.now self.old }
         requires open { is_open (kept_of self.old) ≡ true }
+        requires plain { is_upgraded (kept_of self.old) ≡ false }
         ensures ok { IfOk result (λ answer. (p : pulls.Pulled) → IsPullOf (kept_of self.old) p
             → SaysPulled answer p.outcome × Steps config.now self.old on.pull p.outcome self.new) }
         ensures sound { OnOk result (IsSound config.now self.new) }
@@ -35,7 +36,8 @@ impl Parts {
 impl Exchange {
     /// Takes what comes next of the body.
     pub fn pull(&mut self, input: &mut Input, has_ended: bool) -> Result<Pulled, NoMemory>
-        requires { input.old.piece ≡ None }
+        requires unsearched { input.old.piece ≡ None }
+        requires plain { is_frames self.old.rest ≡ false }
         ensures pulled { IfOk result (λ answer. (p : pulls.Pulled) → IsPull has_ended self.old.rest input.old.unread p
             → IsPulledFrom self.old p answer self.new input.new) }
         ensures parts { OnOk result (self.new ≡ record self.old { rest = self.new.rest; was_pulled = true; body_is_done = self.new.body_is_done }) }
@@ -44,10 +46,7 @@ impl Exchange {
         ensures no_memory_needed { (p : pulls.Pulled) → IsPull has_ended self.old.rest input.old.unread p → IsLight self.old.rest p.outcome p.rest → IsOk result }
         ensures err { OnErr result ((self.new ≡ self.old) × (input.new ≡ input.old)) }
     {
-        // Called twice for its clause alone: a request's body is never read as frames.
-        let _before = self.rest.kind();
-        let pulled = input.pull(&mut self.rest, has_ended)?;
-        let _after = self.rest.kind();
+        let pulled = self.rest.pull(input, has_ended)?;
         self.was_pulled = true;
         self.body_is_done = self.body_is_done || tells_done(&pulled);
         Ok(pulled)

@@ -1,10 +1,12 @@
 // Why a connection closes.
-ghost use Rattle.std.specs.Prelude.{◌≡◌, option_map};
+ghost use Rattle.std.specs.Prelude.{◌≡◌, ◌&&◌, ◌||◌, not, None, option_map};
 ghost use Rattle.std.specs.Option.{option_or};
-ghost use Rattle.h1_machine.specs.Local.{closing_by, answered_end, drained_end, input_end};
+ghost use Rattle.h1_model.specs.Closing.{end_where};
+ghost use Rattle.h1_model.specs.End as ends;
+ghost use Rattle.h1_machine.specs.Kept.{of_exchange, is_open, is_upgraded};
+ghost use Rattle.h1_machine.specs.Local.{closing_by, answered_end, drained_end, input_end, is_exhausted, has_no_frame};
 ghost use Rattle.h1_connection.specs.Meaning.{setting_of, end_of};
-ghost use Rattle.h1_connection.specs.Incoming.{is_coming_in};
-ghost use Rattle.h1_connection.specs.Parts.{kept_of, ended_end, IsNoted};
+ghost use Rattle.h1_connection.specs.Parts.{kept_of, MayBeSearched, IsSound};
 
 use crate::End;
 use crate::connection::parts::Parts;
@@ -13,6 +15,7 @@ use http_types::ServiceConfig;
 impl Parts {
     /// Why the connection closes, if it does: the first reason that holds.
     pub fn closing(&self, config: &ServiceConfig) -> Option<End>
+        requires { MayBeSearched self.now }
         ensures { option_map end_of result ≡ closing_by (setting_of config.now) (kept_of self.now) }
     {
         match self.failed {
@@ -23,7 +26,7 @@ impl Parts {
 
     /// The same behind an event, where it is noted since when the connection closes: where none is, it doesn't.
     pub fn noted_closing(&self, config: &ServiceConfig) -> Option<End>
-        requires { IsNoted (setting_of config.now) (kept_of self.now) }
+        requires { IsSound config.now self.now }
         ensures { option_map end_of result ≡ closing_by (setting_of config.now) (kept_of self.now) }
     {
         match self.closing_since {
@@ -33,6 +36,7 @@ impl Parts {
     }
 
     fn closing_unless_failed(&self, config: &ServiceConfig) -> Option<End>
+        requires { MayBeSearched self.now }
         ensures { option_map end_of result
             ≡ option_or (answered_end (kept_of self.now).exchange) (option_or (drained_end (kept_of self.now)) (input_end (setting_of config.now) (kept_of self.now))) }
     {
@@ -43,14 +47,14 @@ impl Parts {
     }
 
     fn closing_unless_answered(&self, config: &ServiceConfig) -> Option<End>
+        requires { MayBeSearched self.now }
         ensures { option_map end_of result ≡ option_or (drained_end (kept_of self.now)) (input_end (setting_of config.now) (kept_of self.now)) }
     {
-        let is_open = self.is_open();
-        if self.is_draining && !is_open {
+        if self.is_drained() {
             return Some(End::Drained);
         }
         if self.has_ended {
-            return self.input_end(config, is_open);
+            return self.input_end(config);
         }
         None
     }
@@ -65,16 +69,51 @@ impl Parts {
         }
     }
 
+    // The connection is to end, and no answer is waited for.
+    fn is_drained(&self) -> bool
+        ensures { result ≡ (self.now.is_draining && (not (is_open (kept_of self.now)) || is_upgraded (kept_of self.now))) }
+    {
+        if !self.is_draining {
+            return false;
+        }
+        let is_open = self.is_open();
+        !is_open || self.is_upgraded()
+    }
+
     // At the end of the input: half-closed connections aren't kept, or nothing more comes that could be handed out.
-    fn input_end(&self, config: &ServiceConfig, is_open: bool) -> Option<End>
-        ensures { result ≡ ended_end config.now.h1_allow_half_closed is_open (is_coming_in self.now.input.piece) }
+    fn input_end(&self, config: &ServiceConfig) -> Option<End>
+        requires { MayBeSearched self.now }
+        ensures { option_map end_of result ≡ option_or (end_where (not config.now.h1_allow_half_closed) ends.half_closed) (end_where (is_exhausted (kept_of self.now)) ends.input_ended) }
     {
         if !config.h1_allow_half_closed() {
             return Some(End::HalfClosed);
         }
-        if is_open || self.input.is_coming() {
-            return None;
+        if self.is_exhausted() {
+            return Some(End::InputEnded);
         }
-        Some(End::InputEnded)
+        None
+    }
+
+    // Nothing that was read could still be handed out: no request is open and no head is coming, or of a WebSocket no
+    // whole frame is there.
+    fn is_exhausted(&self) -> bool
+        requires { MayBeSearched self.now }
+        ensures { result ≡ is_exhausted (kept_of self.now) }
+    {
+        if self.is_upgraded() {
+            return self.waits_for_frame();
+        }
+        let is_open = self.is_open();
+        !is_open && !self.input.is_coming()
+    }
+
+    fn waits_for_frame(&self) -> bool
+        requires { self.now.input.piece ≡ None }
+        ensures { result ≡ of_exchange (λ x. has_no_frame self.now.input.unread x.rest) (kept_of self.now) }
+    {
+        match &self.exchange {
+            Some(exchange) => exchange.rest.waits_for_frame(&self.input),
+            None => false,
+        }
     }
 }

@@ -5,7 +5,7 @@ ghost use Rattle.h1_model.specs.Deadline.{timeout_at, kept_until, still_comes};
 ghost use Rattle.h1_machine.specs.Local.{closing_by};
 ghost use Rattle.h1_machine.specs.Deadline.{abandoned_at, waits_for_first, waits_for_next, expires_at, times_out_at, deadline_by};
 ghost use Rattle.h1_connection.specs.Meaning.{setting_of, keep_alive_of};
-ghost use Rattle.h1_connection.specs.Parts.{kept_of};
+ghost use Rattle.h1_connection.specs.Parts.{kept_of, MayBeSearched};
 ghost use Rattle.h1_connection.specs.Ticks.{clipped};
 
 use crate::connection::allowed::MOMENTS_END;
@@ -15,6 +15,7 @@ use http_types::{KeepAlive, ServiceConfig};
 impl Parts {
     /// The least moment whose tick would tell that a time has run out, if there is one.
     pub fn deadline(&self, config: &ServiceConfig) -> Option<u64>
+        requires { MayBeSearched self.now }
         ensures { result ≡ deadline_by (setting_of config.now) (kept_of self.now) }
     {
         if self.is_over {
@@ -24,6 +25,7 @@ impl Parts {
     }
 
     fn times_out_at(&self, config: &ServiceConfig) -> Option<u64>
+        requires { MayBeSearched self.now }
         ensures { result ≡ clipped (times_out_at (setting_of config.now) (kept_of self.now) (closing_by (setting_of config.now) (kept_of self.now))) }
     {
         match self.closing(config) {

@@ -1,15 +1,15 @@
 // The last request that was handed out, without its head, and what happened since.
-ghost use Rattle.std.specs.Prelude.{◌≡◌, false, not, None, option_map};
+ghost use Rattle.std.specs.Prelude.{◌≡◌, ◌||◌, false, not, None, option_map};
 ghost use Rattle.h1_machine.specs.Kept.{is_frames, is_answered, is_unanswered, is_sending_body};
-ghost use Rattle.h1_machine.specs.Local.{answered_end_of, rest_end};
+ghost use Rattle.h1_machine.specs.Local.{answered_end_of};
 ghost use Rattle.h1_connection.specs.Meaning.{end_of};
 ghost use Rattle.h1_connection.specs.Parts.{reply_of, exchange_of, is_done, passed_by, sending_by};
 
 use crate::End;
 use crate::connection::input::Input;
+use crate::connection::reading::Reading;
 use crate::connection::request::Request;
 use h1_codec::Shape;
-use h1_payload::{Rest, RestKind};
 use http_types::ConnectionType;
 
 /// The body of an answer that is going out.
@@ -40,7 +40,7 @@ pub enum Reply {
 #[derive(Drop)]
 pub struct Exchange {
     pub request: Request,
-    pub rest: Rest,
+    pub rest: Reading,
     pub reply: Reply,
     pub was_pulled: bool,
     pub was_dropped: bool,
@@ -79,14 +79,12 @@ impl Exchange {
         self.reply.is_answered() && self.rest.is_nothing()
     }
 
-    /// Whether the answer isn't complete.
+    /// Whether the answer isn't complete, or frames are read.
     pub fn is_open(&self) -> bool
-        ensures value { result ≡ not (is_answered (reply_of self.now.reply)) }
-        ensures plain { is_frames self.now.rest ≡ false }
+        ensures { result ≡ (is_frames self.now.rest || not (is_answered (reply_of self.now.reply))) }
     {
-        // Called for its clause alone: a request's body is never read as frames.
-        let _kind = self.rest.kind();
-        !self.reply.is_answered()
+        let is_answered = self.reply.is_answered();
+        self.rest.is_frames() || !is_answered
     }
 
     /// Passes the rest of the body where the answer is complete.
@@ -98,7 +96,7 @@ impl Exchange {
         if !self.reply.is_answered() || self.rest.is_nothing() {
             return;
         }
-        input.pass(&mut self.rest, has_ended);
+        self.rest.pass(input, has_ended);
     }
 
     /// Why the connection closes behind the answer, where that is complete.
@@ -106,7 +104,7 @@ impl Exchange {
         ensures { option_map end_of result ≡ answered_end_of (exchange_of self.now) (reply_of self.now.reply) }
     {
         match self.reply {
-            Reply::Answered(ConnectionType::KeepAlive) => unread_end(&self.rest, self.was_dropped),
+            Reply::Answered(ConnectionType::KeepAlive) => self.rest.unread_end(self.was_dropped),
             Reply::Answered(_) => Some(End::Asked),
             _ => None,
         }
@@ -120,19 +118,5 @@ impl Exchange {
             Reply::Sending(sending) => Some(sending),
             _ => None,
         }
-    }
-}
-
-// Why a body that isn't read to its end closes the connection. One in chunks that was dropped doesn't.
-fn unread_end(rest: &Rest, was_dropped: bool) -> Option<End>
-    ensures { option_map end_of result ≡ rest_end was_dropped rest.now }
-{
-    match rest.kind() {
-        RestKind::Nothing => None,
-        RestKind::Raw => Some(End::UnreadBody),
-        RestKind::Fixed => Some(End::UnreadBody),
-        RestKind::Chunks if was_dropped => None,
-        RestKind::Chunks => Some(End::UnreadBody),
-        RestKind::Broken => Some(End::BrokenBody),
     }
 }

@@ -4,6 +4,7 @@ ghost use Rattle.http_framing.specs.Kinds.{kind_of};
 ghost use Rattle.h1_decode.specs.HeadItem.{SaysHead, without_headers};
 ghost use Rattle.h1_decode.specs.declared.scan.HeadScan.TheVariants.{Piece};
 ghost use Rattle.h1_model.specs.Request.{Head, head_is};
+ghost use Rattle.h1_model.specs.Answer.{asked_of};
 ghost use Rattle.h1_model.specs.RequestHead.{IsReading};
 ghost use Rattle.h1_model.specs.Event as on;
 ghost use Rattle.h1_machine.specs.Kept.{rest_in, whole_rest, refusal_of, key_answer_of};
@@ -12,13 +13,14 @@ ghost use Rattle.h1_machine.specs.Change.{noting_since};
 ghost use Rattle.h1_model.specs.Closing.{fault_end};
 ghost use Rattle.h1_decode.specs.Refusal as decode;
 ghost use Rattle.h1_connection.specs.Incoming.{IsWhole, IsHeadOf};
-ghost use Rattle.h1_connection.specs.Meaning.{setting_of, end_of, fault_of};
-ghost use Rattle.h1_connection.specs.Parts.{failing_of, key_bytes, kept_of, IsSettled, IsSound, Steps};
+ghost use Rattle.h1_connection.specs.Meaning.{setting_of, end_of, fault_of, failing_of};
+ghost use Rattle.h1_connection.specs.Parts.{key_bytes, kept_of, IsSettled, IsSound, Steps};
 ghost use Rattle.h1_connection.specs.Given.{is_head, is_head_kind, HasOpened};
 ghost use Rattle.h1_connection.specs.Heads.{refused, after_head, with_head, IsAsked, IsHeld, IsNexted, IsWaited, KeepsItem, LosesAtMostHeaders, NeedsNoMemory};
 
 use crate::connection::exchange::{Exchange, Reply};
 use crate::connection::parts::Parts;
+use crate::connection::reading::Reading;
 use crate::connection::request::Request;
 use crate::{End, HeadFault};
 use h1_codec::Asked;
@@ -171,7 +173,7 @@ impl Parts {
         let rest = self.whole_rest(item);
         self.exchange = Some(Exchange {
             request: request_of(item),
-            rest,
+            rest: Reading::body(rest),
             reply: Reply::Unanswered,
             was_pulled: false,
             was_dropped: false,
@@ -225,7 +227,7 @@ fn refusal_of(item: &HeadItem) -> Option<HandshakeError>
 
 // The answer to the key of a raw request.
 fn key_answer_of(item: &HeadItem) -> Option<[u8; 28]>
-    ensures { (h : Head) → SaysHead item.now h → key_bytes result ≡ key_answer_of h }
+    ensures { (h : Head) → SaysHead item.now h → key_bytes (asked_of h).is_raw result ≡ key_answer_of h }
 {
     if !item.is_raw() {
         return None;

@@ -1,13 +1,18 @@
 // What a connection holds of its input: the bytes that were read and not passed, and the search for a head among them.
-ghost use Rattle.std.specs.Prelude.{◌≡◌, ◌≢◌, ◌≤◌, ◌-◌, ◌++◌, ◌⊎◌, ◌↔◌, ℕ, List, [], Some, None, length, take, drop, slice_range, min, true, false, is_some, IfOk, IfErr, IsOk, OnOk, OnErr, IsErrOf};
+ghost use Rattle.std.specs.Prelude.{◌≡◌, ◌≢◌, ◌≤◌, ◌-◌, ◌++◌, ◌⊎◌, ◌↔◌, ℕ, Bool, List, [], Some, None, length, take, drop, slice_range, min, true, false, is_some, IfOk, IfErr, IsOk, OnOk, OnErr, IsErrOf};
 ghost use Rattle.std.specs.Io.KnownBytes.{Consumes, Keeps, IsAtEnd};
 ghost use Rattle.http_config.specs.Causes.{Rose};
 ghost use Rattle.h1_decode.specs.HeadItem.{SaysHead, without_headers};
 ghost use Rattle.h1_decode.specs.Refusal.{UnlessNoMemory, fault_of};
 ghost use Rattle.h1_decode.specs.HeadPosition.{HasScanned};
+ghost use Rattle.h1_model.specs.FrameText.{front_frame};
+ghost use Rattle.h1_model.specs.Parse.{connection_reader};
 ghost use Rattle.h1_model.specs.Request.{Head, head_is, faulty};
 ghost use Rattle.h1_model.specs.RequestHead.{IsReading};
 ghost use Rattle.h1_machine.specs.Kept.{rest_in};
+ghost use Rattle.h1_machine.specs.Local.{is_partial};
+ghost use Rattle.ws_frames.specs.Codec.{IsTakenNamed};
+ghost use Rattle.ws_frames.specs.Fronts.{FrontTaken};
 ghost use Rattle.h1_machine.specs.Body.{pass_rest};
 ghost use Rattle.h1_machine.specs.Pull.{IsPull};
 ghost use Rattle.h1_machine.specs.Pull as pulls;
@@ -17,6 +22,7 @@ ghost use Rattle.h1_connection.specs.Incoming.{is_coming_in, scan_of, IsFound, I
 use crate::ReadFromError;
 use crate::connection::READ_SIZE;
 use crate::connection::filling::{make_room, read_behind};
+use crate::connection::reading::Frames;
 use bytes::{Bytes, BytesMut};
 use h1_decode::{
     HeadItem, HeadRoom, HeadScan, HeadScanner, cut_head_into, read_head_into, scan_head,
@@ -25,6 +31,7 @@ use h1_payload::{Pulled, Rest};
 use http_types::{NoMemory, ParseError, Source};
 use std::alloc::Global;
 use std::marker::Model;
+use ws_frames::{Frame, ProtocolError, take_front, waits_for_frame};
 
 /// How far the search for the next head is.
 #[derive(Clone, Copy)]
@@ -253,6 +260,33 @@ impl Input {
     {
         let _ = &self.search;
         rest.pass(&mut self.bytes, has_ended);
+    }
+
+    /// Whether neither a whole frame nor a broken rule stands in front, in payloads of at most so many bytes.
+    pub fn waits_for_frame(&self, limit: usize) -> bool
+        requires { self.now.piece ≡ None }
+        ensures { (under_way : Bool) → result ≡ is_partial (front_frame (connection_reader limit) under_way self.now.unread) }
+    {
+        let _ = &self.search;
+        waits_for_frame(self.bytes.as_slice(), true, limit)
+    }
+
+    /// Takes the frame in front, once it is whole, and says whether a message is under way behind it.
+    pub fn take_frame(&mut self, frames: Frames) -> Result<Option<(Frame, bool)>, ProtocolError>
+        requires { self.old.piece ≡ None }
+        ensures taken { FrontTaken true frames.limit frames.under_way self.old.unread result self.new.unread }
+        ensures named { IfOk result IsTakenNamed }
+        ensures piece { self.new.piece ≡ None }
+    {
+        let _ = &self.search;
+        let alloc = *self.bytes.allocator();
+        take_front(
+            alloc,
+            &mut self.bytes,
+            true,
+            frames.limit,
+            frames.under_way,
+        )
     }
 
     /// With the input a raw body ends of which no byte is left.

@@ -1,23 +1,29 @@
 // What is to be written to the peer.
-ghost use Rattle.std.specs.Prelude.{◌≡◌, ◌<◌, ◌≤◌, ◌++◌, ◌==◌, [], length, take, drop, IfOk, OnOk, OnErr, IsOk};
+ghost use Rattle.std.specs.Prelude.{◌≡◌, ◌<◌, ◌≤◌, ◌++◌, ◌==◌, Bool, [], length, take, drop, IfOk, OnOk, OnErr, IsOk};
 ghost use Rattle.h1_codec.specs.Meaning.{answer_of, size_of, model_type, model_shape};
 ghost use Rattle.h1_model.specs.Limits.{MAX_MOMENT};
 ghost use Rattle.h1_model.specs.Answer as answers;
 ghost use Rattle.h1_model.specs.AnswerText.{head_text, sent_end, interim_text, timeout_text};
-ghost use Rattle.h1_model.specs.Text.{fault_answer};
+ghost use Rattle.h1_model.specs.Frame.{nop};
+ghost use Rattle.h1_model.specs.Handshake.{accepting_head};
+ghost use Rattle.h1_model.specs.Setting.{Setting};
+ghost use Rattle.h1_model.specs.Text.{answer_head_text, fault_answer, message_text};
+ghost use Rattle.ws_frames.specs.Sent.{message_says};
 ghost use Rattle.h1_machine.specs.Reply.{piece_sent};
 ghost use Rattle.h1_connection.specs.Meaning.{fault_of};
 
 use crate::HeadFault;
+use crate::connection::messages::put_message;
 use bytes::{Bytes, BytesMut};
 use h1_codec::{
-    Asked, DateLine, Shape, put_answer_head, put_bad_request, put_end, put_interim, put_piece,
+    Asked, DateLine, Shape, put_accept, put_answer_head, put_bad_request, put_end, put_interim, put_piece,
     put_timeout, put_too_large,
 };
 use http_framing::BodySize;
 use http_types::{ConnectionType, NoMemory, ResponseHead};
 use std::alloc::Global;
 use std::marker::Model;
+use ws_frames::Message;
 
 /// A queue of bytes, which a clause sees as the list of them. It grows at its end by texts, and is given away from
 /// its front. A text is put behind the others whole, or nothing is changed.
@@ -157,6 +163,30 @@ impl Output {
         ensures err { OnErr result (self.new ≡ self.old) }
     {
         put_interim(&mut self.bytes)
+    }
+
+    /// The head that upgrades the connection to WebSocket, by the answer to the request's key.
+    pub fn put_accept(
+        &mut self,
+        asked: Asked,
+        key: &[u8; 28],
+        moment: u64,
+    ) -> Result<(), NoMemory>
+        requires { moment < MAX_MOMENT }
+        ensures ok { OnOk result ((setting : Setting) (draining : Bool)
+            → self.new ≡ self.old ++ answer_head_text setting draining asked (accepting_head key.now) answers.size_stream moment) }
+        ensures err { OnErr result (self.new ≡ self.old) }
+    {
+        put_accept(&mut self.bytes, asked, key, &mut self.date, moment)
+    }
+
+    /// A message of a WebSocket. To put nothing takes no memory.
+    pub fn put_message(&mut self, message: &Message) -> Result<(), NoMemory>
+        ensures ok { OnOk result (self.new ≡ self.old ++ message_text (message_says message.now)) }
+        ensures err { OnErr result (self.new ≡ self.old) }
+        ensures nothing { message_says message.now ≡ nop → IsOk result }
+    {
+        put_message(&mut self.bytes, message)
     }
 
     /// The answer to a head that is none.

@@ -27,8 +27,9 @@ pub struct Parts {
     /// The last request, if one was handed out.
     pub exchange: Option<Exchange>,
 
-    /// What is to be written.
+    /// What is to be written, and whether a message in fragments is being sent.
     pub output: Output,
+    pub is_sending: bool,
     pub clock: Clock,
 
     /// The end that a fault, an expiry or an answer's body has brought.
@@ -51,6 +52,7 @@ impl Parts {
             is_over: false,
             exchange: None,
             output: Output::new(alloc),
+            is_sending: false,
             clock: Clock::new(),
             failed: None,
             closing_since: None,
@@ -67,10 +69,19 @@ impl Parts {
         }
     }
 
-    /// Whether a request was handed out and its answer isn't complete.
+    /// Whether the connection speaks WebSocket.
+    pub fn is_upgraded(&self) -> bool
+        ensures { result ≡ is_upgraded (kept_of self.now) }
+    {
+        match &self.exchange {
+            Some(exchange) => exchange.rest.is_frames(),
+            None => false,
+        }
+    }
+
+    /// Whether a request was handed out and its answer isn't complete. A WebSocket stays open.
     pub fn is_open(&self) -> bool
-        ensures value { result ≡ is_open (kept_of self.now) }
-        ensures plain { is_upgraded (kept_of self.now) ≡ false }
+        ensures { result ≡ is_open (kept_of self.now) }
     {
         match &self.exchange {
             Some(exchange) => exchange.is_open(),
@@ -117,6 +128,7 @@ impl Parts {
 
     /// Notes since when the connection closes, where it does and that isn't noted yet.
     pub fn note(&mut self, config: &ServiceConfig)
+        requires { MayBeSearched self.old }
         ensures kept { kept_of self.new ≡ noting_since (setting_of config.now) (kept_of self.old) }
         ensures input { self.new.input ≡ self.old.input }
     {

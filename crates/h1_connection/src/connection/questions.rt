@@ -4,10 +4,11 @@ ghost use Rattle.h1_model.specs.Answer.{AnswerHead, BodySize};
 ghost use Rattle.h1_model.specs.Deadline.{IsDeadline};
 ghost use Rattle.h1_model.specs.Sums as sums;
 ghost use Rattle.h1_model.specs.Event as on;
+ghost use Rattle.h1_model.specs.Frame.{Message};
 ghost use Rattle.h1_machine.specs.Local.{closing_by, allowed_by};
 ghost use Rattle.h1_machine.specs.Deadline.{deadline_by};
 ghost use Rattle.h1_connection.specs.Meaning.{setting_of};
-ghost use Rattle.h1_connection.specs.Given.{next_allowed};
+ghost use Rattle.h1_connection.specs.Given.{next_allowed, frame_allowed};
 ghost use Rattle.h1_connection.specs.State.{IsAllowed, Stands};
 
 use crate::connection::Connection;
@@ -33,10 +34,34 @@ impl Connection {
 
     /// Whether more of a body may be asked for, or its rest dropped.
     pub fn can_pull(&self) -> bool
-        ensures pull { result ≡ allowed_by (setting_of self.now.settings) self.now.kept on.pull }
-        ensures drops { result ≡ allowed_by (setting_of self.now.settings) self.now.kept on.drop_body }
+        ensures value { result ≡ allowed_by (setting_of self.now.settings) self.now.kept on.drop_body }
+        ensures pull { result ≡ true → IsAllowed self.now on.pull }
     {
         self.parts.can_pull(&self.config)
+    }
+
+    /// Whether the next frame may be asked for: the connection was upgraded to WebSocket, and doesn't close.
+    pub fn can_pull_frame(&self) -> bool
+        ensures value { result ≡ frame_allowed (setting_of self.now.settings) self.now.kept }
+        ensures pull { result ≡ true → IsAllowed self.now on.pull }
+    {
+        self.parts.can_pull_frame(&self.config)
+    }
+
+    /// Whether an upgrade of the open request to WebSocket may be accepted, of whose frames none has a payload of more
+    /// than so many bytes: the request has a raw body, of which nothing was asked for, and no answer, and as many bytes
+    /// as such a frame has may be held.
+    pub fn can_accept(&self, limit: usize) -> bool
+        ensures { result ≡ allowed_by (setting_of self.now.settings) self.now.kept (on.accept limit) }
+    {
+        self.parts.can_accept(&self.config, limit)
+    }
+
+    /// Whether a message may be sent: the connection was upgraded to WebSocket and doesn't close, and there is room.
+    pub fn can_send(&self) -> bool
+        ensures { (message : Message) → result ≡ allowed_by (setting_of self.now.settings) self.now.kept (on.send message) }
+    {
+        self.parts.can_send(&self.config)
     }
 
     /// Whether the open request's client waits to be told to go on.

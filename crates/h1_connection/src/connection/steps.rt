@@ -71,7 +71,7 @@ impl Parts {
         ensures { self.new ≡ record self.old { exchange = ended_exchange self.old.input.unread self.old.exchange } }
     {
         if let Some(exchange) = &mut self.exchange {
-            self.input.end(&mut exchange.rest);
+            exchange.rest.end(&self.input);
         }
     }
 

@@ -7,7 +7,7 @@ ghost use Rattle.h1_machine.specs.Kept.{is_answered, is_nothing, of_exchange};
 ghost use Rattle.h1_machine.specs.Local.{closing_by};
 ghost use Rattle.h1_machine.specs.Clock.{is_abandoned, is_slow, is_idle, expiring};
 ghost use Rattle.h1_connection.specs.Meaning.{setting_of};
-ghost use Rattle.h1_connection.specs.Parts.{kept_of, IsSound, Steps};
+ghost use Rattle.h1_connection.specs.Parts.{kept_of, MayBeSearched, IsSound, Steps};
 ghost use Rattle.h1_connection.specs.Ticks.{expiry_of, is_past, IsQuietTick};
 
 use crate::End;
@@ -76,7 +76,8 @@ impl Parts {
         first: u64,
         moment: u64,
     ) -> Result<Expiry, NoMemory>
-        requires { moment < MAX_MOMENT }
+        requires searched { MayBeSearched self.old }
+        requires before { moment < MAX_MOMENT }
         ensures ok { IfOk result (λ expiry. record { outcome = expiry_of expiry; kept = kept_of self.new }
             ≡ expiring (setting_of config.now) (kept_of self.old) (closing_by (setting_of config.now) (kept_of self.old)) first moment) }
         ensures input { self.new.input ≡ self.old.input }

@@ -4,6 +4,7 @@ use Rattle.h1_connection.specs.declared.event.Outcome.TheVariants as out
 use Rattle.http_types.specs.ResponseHead.{ResponseParts}
 use Rattle.h1_codec.specs.Meaning.{answer_of, size_of}
 use Rattle.h1_connection.specs.State.{GoesOn, Is}
+use Rattle.h1_connection.proofs.ResultLemmas.{ok_map}
 use Rattle.h1_connection.proofs.RunLemmas.{at_event, says_more}
 use Rattle.h1_connection.proofs.connection.Connection.step.Goals as goal
 
@@ -18,8 +19,9 @@ returns-in-Eof-clause-stands c = at_event c.args.self.now c.eof.new.self _ _ out
 pub returns-in_ok-next-in-Next-clause-stands : goal.returns-in_ok-next-in-Next-clause-stands
 returns-in_ok-next-in-Next-clause-stands c = at_event c.args.self.now c.ask.new.self _ _ c.outcome_of_next.result c.in-Next.is (says_more c.args.self.now c.ask.new.self _ _ _ c.outcome_of_next.ensures c.in_ok-next-in-Next.ensures.stands)
 
-pub returns-in_ok-pulled-in-Pull-clause-stands : goal.returns-in_ok-pulled-in-Pull-clause-stands
-returns-in_ok-pulled-in-Pull-clause-stands c = at_event c.args.self.now c.pull.new.self _ _ c.outcome_of_pull.result c.in-Pull.is (says_more c.args.self.now c.pull.new.self _ _ _ c.outcome_of_pull.ensures c.in_ok-pulled-in-Pull.ensures.stands)
+pub returns-in-Pull-clause-stands : goal.returns-in-Pull-clause-stands
+returns-in-Pull-clause-stands c =
+    ok_map c.step_pull.result _ _ (λ outcome goes. at_event c.args.self.now c.step_pull.new.self _ _ outcome c.in-Pull.is goes) c.step_pull.ensures.stands
 
 pub returns-in-DropBody-clause-stands : goal.returns-in-DropBody-clause-stands
 returns-in-DropBody-clause-stands c = at_event c.args.self.now c.drop_body.new.self _ _ out.Done c.in-DropBody.is c.drop_body.ensures.stands
@@ -51,3 +53,9 @@ returns-in_ok-expiry-in-Tick-clause-stands c = at_event c.args.self.now c.tick.n
 
 pub returns-in-Drain-clause-stands : goal.returns-in-Drain-clause-stands
 returns-in-Drain-clause-stands c = at_event c.args.self.now c.drain.new.self _ _ out.Done c.in-Drain.is c.drain.ensures.stands
+
+pub returns-in_ok-accepted-in-Accept-clause-stands : goal.returns-in_ok-accepted-in-Accept-clause-stands
+returns-in_ok-accepted-in-Accept-clause-stands c = at_event c.args.self.now c.accept.new.self _ _ c.outcome_of_accept.result c.in-Accept.is (says_more c.args.self.now c.accept.new.self _ _ _ c.outcome_of_accept.ensures c.in_ok-accepted-in-Accept.ensures.stands)
+
+pub returns-in_ok-sent-in-Send-clause-stands : goal.returns-in_ok-sent-in-Send-clause-stands
+returns-in_ok-sent-in-Send-clause-stands c = at_event c.args.self.now c.send.new.self _ _ c.outcome_of_send.result c.in-Send.is (says_more c.args.self.now c.send.new.self _ _ _ c.outcome_of_send.ensures c.in_ok-sent-in-Send.ensures.stands)

@@ -7,4 +7,4 @@ returns-then-not-is_raw c = λ h says. no_key h (sym (c.is_raw.ensures h says) �
 
 pub returns : goal.returns
 returns c = λ h says.
-    c.accept_key_of.ensures.read h (says_upgrade c.args.item.now h says) ∙ sym (raw_key h (sym (c.is_raw.ensures h says) ∙ c.if-not-is_raw.false))
+    raw_key h _ (sym (c.is_raw.ensures h says) ∙ c.if-not-is_raw.false) (c.accept_key_of.ensures.read h (says_upgrade c.args.item.now h says))

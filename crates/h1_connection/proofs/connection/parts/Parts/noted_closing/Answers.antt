@@ -3,4 +3,4 @@ use Rattle.h1_connection.proofs.ClosingLemmas.{unnoted}
 use Rattle.h1_connection.proofs.connection.parts.Parts.noted_closing.Goals as goal
 
 pub returns-in-None : goal.returns-in-None
-returns-in-None c = unnoted _ (kept_of c.args.self.now) c.requires c.in-None.is
+returns-in-None c = unnoted _ (kept_of c.args.self.now) c.requires.noted c.in-None.is

@@ -1,0 +1,22 @@
+use Rattle.h1_connection.proofs.ResultLemmas.{ok_map}
+use Rattle.h1_connection.proofs.FrameLemmas.{upgraded_frames, upgraded_unsearched, frame_may, frame_steps, frame_sound}
+use Rattle.h1_connection.proofs.connection.parts.Parts.pull_frame.Goals as goal
+
+pub pull_frame-requires-clause-unsearched : goal.pull_frame-requires-clause-unsearched
+pull_frame-requires-clause-unsearched c = upgraded_unsearched c.args.config.now c.args.self.now c.requires.upgraded c.requires.sound
+
+pub pull_frame-requires-clause-frames : goal.pull_frame-requires-clause-frames
+pull_frame-requires-clause-frames c = upgraded_frames c.args.self.now c.in-Some.exchange c.in-Some.is c.requires.upgraded
+
+pub note-requires : goal.note-requires
+note-requires c = frame_may c.args.self.now _ c.in-Some.exchange _ _ c.in_ok-pulled.pulled _ c.fail_by.ensures.parts c.in_ok-pulled.ensures.pulled
+
+pub returns-clause-ok : goal.returns-clause-ok
+returns-clause-ok c =
+    frame_steps c.args.config.now c.args.self.now _ _ c.in-Some.exchange _ _ c.in_ok-pulled.pulled c.in-Some.is c.requires.upgraded c.requires.sound
+    c.in_ok-pulled.ensures.pulled c.fail_by.ensures.failed c.fail_by.ensures.parts c.note.ensures.kept c.note.ensures.input
+
+pub returns-clause-sound : goal.returns-clause-sound
+returns-clause-sound c =
+    frame_sound c.args.config.now c.args.self.now _ _ c.in-Some.exchange _ _ c.in_ok-pulled.pulled c.requires.sound
+    c.in_ok-pulled.ensures.pulled c.fail_by.ensures.parts c.note.ensures.kept c.note.ensures.input
