@@ -12,4 +12,3 @@ pub mod State
 pub mod Steps
 pub mod Run
 pub mod Callers
-pub mod Copies

@@ -9,9 +9,7 @@ use Rattle.h1_model.specs.End as ends
 use Rattle.h1_model.specs.Event as on
 use Rattle.h1_model.specs.Frame.{ProtocolError as Rule}
 use Rattle.h1_model.specs.Handshake as checks
-use Rattle.ws_frames.specs.Codec.{frame_says, IsNamed}
 use Rattle.ws_frames.specs.Refusal.{refusal}
-use Rattle.ws_frames.specs.Sent.{message_says}
 use Rattle.ws_frames.specs.declared.error.ProtocolError.{ProtocolError}
 use Rattle.ws_session.specs.declared.verify.HandshakeError.{HandshakeError}
 use Rattle.ws_session.specs.declared.verify.HandshakeError.TheVariants as handshake
@@ -64,7 +62,7 @@ event_of (Write limit) = on.write limit
 event_of (Tick moment) = on.tick moment
 event_of Drain = on.drain
 event_of (Accept limit) = on.accept limit
-event_of (Send message) = on.send (message_says message)
+event_of (Send message) = on.send message
 
 abbrev pub end_of : End → ends.End
 end_of Malformed = ends.malformed
@@ -105,13 +103,13 @@ pub record SaysRule (error : ProtocolError) (outcome : on.Outcome) : Type 0 wher
   pub says : error ≡ refusal rule
 
 -- The outcome says what the model's does. Of a head and of trailers this is a relation, since a map keeps its lines
--- name by name. A Close has the code that its number names.
+-- name by name.
 abbrev pub SaysOutcome : Outcome → on.Outcome → Type 0
 SaysOutcome (out.Took count) outcome = outcome ≡ on.took count
 SaysOutcome (out.Head item) outcome = (head : model.Head) × SaysHead item head × (outcome ≡ on.head head)
 SaysOutcome (out.Bytes bytes) outcome = outcome ≡ on.bytes bytes
 SaysOutcome (out.Trailers map) outcome = (lines : List model.Header) × (map ≡ header_map lines) × (outcome ≡ on.trailers lines)
-SaysOutcome (out.Frame frame) outcome = (outcome ≡ on.frame (frame_says frame)) × IsNamed frame
+SaysOutcome (out.Frame frame) outcome = outcome ≡ on.frame frame
 SaysOutcome out.BodyEnd outcome = outcome ≡ on.body_ended
 SaysOutcome out.Pending outcome = outcome ≡ on.pending
 SaysOutcome (out.Closed end) outcome = outcome ≡ on.closed (end_of end)

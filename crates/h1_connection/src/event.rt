@@ -1,13 +1,12 @@
 //! What comes to a connection, and what it answers.
-ghost use Rattle.std.specs.Prelude.{IfOk};
-ghost use Rattle.h1_connection.specs.Copies.{IsEventCopy, IsOutcomeCopy};
+ghost use Rattle.std.specs.Prelude.{◌≡◌, IfOk};
 
-use crate::Boxed;
+use crate::{Boxed, ReceivedFrame, SentMessage};
 use bytes::Bytes;
 use h1_decode::HeadItem;
 use http_framing::BodySize;
 use http_types::{HeaderMap, NoMemory, ResponseHead};
-use ws_frames::{Frame, Message, ProtocolError};
+use ws_frames::ProtocolError;
 use ws_session::HandshakeError;
 
 /// What comes to a connection from outside.
@@ -57,7 +56,7 @@ pub enum Event {
     Accept(usize),
 
     /// This message is to be sent on a WebSocket.
-    Send(Message),
+    Send(SentMessage),
 }
 
 /// What a connection answers to an event.
@@ -76,7 +75,7 @@ pub enum Outcome {
     Trailers(HeaderMap),
 
     /// The next frame of a WebSocket.
-    Frame(Frame),
+    Frame(ReceivedFrame),
 
     /// The request's body has ended.
     BodyEnd,
@@ -178,7 +177,7 @@ pub enum End {
 impl Event {
     /// An equal event, as `clone` gives it too. The bytes of a read, a chunk or a message are shared, not copied.
     pub fn copy(&self) -> Result<Event, NoMemory>
-        ensures { IfOk result (λ copy. IsEventCopy copy self.now) }
+        ensures { IfOk result (λ copy. copy ≡ self.now) }
     {
         Ok(match self {
             Event::Read(bytes) => Event::Read(bytes.clone()?),
@@ -204,7 +203,7 @@ impl Event {
 }
 
 impl Clone for Event {
-    ghost is_clone = { λ event copy. IsEventCopy copy event };
+    ghost is_clone = { λ event copy. copy ≡ event };
 
     fn clone(&self) -> Result<Event, NoMemory> {
         self.copy()
@@ -214,7 +213,7 @@ impl Clone for Event {
 impl Outcome {
     /// An equal outcome, as `clone` gives it too. Bytes are shared, not copied.
     pub fn copy(&self) -> Result<Outcome, NoMemory>
-        ensures { IfOk result (λ copy. IsOutcomeCopy copy self.now) }
+        ensures { IfOk result (λ copy. copy ≡ self.now) }
     {
         Ok(match self {
             Outcome::Took(count) => Outcome::Took(*count),
@@ -238,7 +237,7 @@ impl Outcome {
 }
 
 impl Clone for Outcome {
-    ghost is_clone = { λ outcome copy. IsOutcomeCopy copy outcome };
+    ghost is_clone = { λ outcome copy. copy ≡ outcome };
 
     fn clone(&self) -> Result<Outcome, NoMemory> {
         self.copy()

@@ -37,6 +37,7 @@ mod error;
 mod event;
 pub mod laws;
 mod noted;
+mod said;
 mod step;
 mod trace;
 
@@ -56,6 +57,7 @@ pub use http_types::{
     ServiceConfig, ServiceConfigBuilder, Sink, Source, StatusCode, StdSink, StdSource,
 };
 pub use noted::Noted;
+pub use said::{ReceivedFrame, SentMessage};
 pub use trace::{Step, Steps, StepsIter, Trace};
-pub use ws_frames::{CloseCode, CloseReason, Frame, Item, Message, ProtocolError};
+pub use ws_frames::{CloseCode, CloseReason, Frame, Item, Message, OpCode, ProtocolError};
 pub use ws_session::HandshakeError;

@@ -2,12 +2,12 @@
 ghost use Rattle.std.specs.Prelude.{◌≡◌, IfOk};
 ghost use Rattle.h1_connection.specs.Steps.{outcome_of};
 
-use crate::{Boxed, End, HeadFault, Outcome, PayloadError};
+use crate::{Boxed, End, HeadFault, Outcome, PayloadError, ReceivedFrame};
 use bytes::Bytes;
 use h1_decode::HeadItem;
 use http_types::{HeaderMap, NoMemory};
 use std::alloc::Global;
-use ws_frames::{Frame, ProtocolError};
+use ws_frames::ProtocolError;
 use ws_session::HandshakeError;
 
 /// An `Outcome` as a trace keeps it, variant by variant: what is large lies in a block of its own.
@@ -17,7 +17,7 @@ pub enum Noted {
     Head(Boxed<HeadItem>),
     Bytes(Bytes),
     Trailers(Boxed<HeaderMap>),
-    Frame(Frame),
+    Frame(ReceivedFrame),
     BodyEnd,
     Pending,
     Closed(End),

@@ -10,7 +10,7 @@ ghost use Rattle.h1_connection.specs.Ticks.{expiry_of};
 ghost use Rattle.h1_connection.specs.State.{IsAllowed, GoesOn, TakesNoMemory};
 
 use crate::connection::{Accepted, Connection, Expiry, NextHead, PulledFrame, Sent};
-use crate::{Event, Outcome, PayloadError};
+use crate::{Event, Outcome, PayloadError, ReceivedFrame};
 use h1_payload::{BodyFault, Pulled};
 use http_types::NoMemory;
 
@@ -79,7 +79,7 @@ impl Connection {
                 Ok(outcome_of_accept(accepted))
             }
             Event::Send(message) => {
-                let sent = self.send(message)?;
+                let sent = self.send(message.get())?;
                 Ok(outcome_of_send(sent))
             }
         }
@@ -133,7 +133,7 @@ fn outcome_of_frame(pulled: PulledFrame) -> Outcome
     ensures { (out : on.Outcome) → SaysFrame pulled out → SaysOutcome result out }
 {
     match pulled {
-        PulledFrame::Frame(frame) => Outcome::Frame(frame),
+        PulledFrame::Frame(frame) => Outcome::Frame(ReceivedFrame::new(frame)),
         PulledFrame::Protocol(error) => Outcome::Protocol(error),
         PulledFrame::Pending => Outcome::Pending,
     }

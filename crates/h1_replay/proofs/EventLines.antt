@@ -18,18 +18,18 @@ after-with_event n events event (Ok later) = ap (λ (l : List Event). Ok l) (sym
 after-with_event n events event (Err bad) = refl
 
 -- one line more, which names an event
-pub after_line : (events : List Event) (event : Event) (line : List ℕ) (lines : List (List ℕ)) → event_of (words_of line) ≡ Some event
-    → after events (events_of (length events + 2) (line ∷ lines)) ≡ after (events ++ event ∷ []) (events_of (length (events ++ event ∷ []) + 2) lines)
-after_line events event line lines named =
+pub after_line : (hold : ℕ) (events : List Event) (event : Event) (line : List ℕ) (lines : List (List ℕ)) → event_of hold (words_of line) ≡ Some event
+    → after events (events_of hold (length events + 2) (line ∷ lines)) ≡ after (events ++ event ∷ []) (events_of hold (length (events ++ event ∷ []) + 2) lines)
+after_line hold events event line lines named =
     let n = length events + 2 in
     let next : n + 1 ≡ length (events ++ event ∷ []) + 2 = omega (arith, length-append events (event ∷ [])) in
-    ap (λ o. after events (with_event n o (events_of (n + 1) lines))) named
-    ∙ after-with_event n events event (events_of (n + 1) lines)
-    ∙ ap (λ m. after (events ++ event ∷ []) (events_of m lines)) next
+    ap (λ o. after events (with_event n o (events_of hold (n + 1) lines))) named
+    ∙ after-with_event n events event (events_of hold (n + 1) lines)
+    ∙ ap (λ m. after (events ++ event ∷ []) (events_of hold m lines)) next
 
 -- a line that names none
-pub after_bad_line : (events : List Event) (line : List ℕ) (lines : List (List ℕ)) → event_of (words_of line) ≡ None
-    → after events (events_of (length events + 2) (line ∷ lines)) ≡ Err (length events + 2)
-after_bad_line events line lines unnamed =
+pub after_bad_line : (hold : ℕ) (events : List Event) (line : List ℕ) (lines : List (List ℕ)) → event_of hold (words_of line) ≡ None
+    → after events (events_of hold (length events + 2) (line ∷ lines)) ≡ Err (length events + 2)
+after_bad_line hold events line lines unnamed =
     let n = length events + 2 in
-    ap (λ o. after events (with_event n o (events_of (n + 1) lines))) unnamed
+    ap (λ o. after events (with_event n o (events_of hold (n + 1) lines))) unnamed

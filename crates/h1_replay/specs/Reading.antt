@@ -2,6 +2,11 @@
 use Rattle.std.specs.Prelude.{ℕ, ◌≡◌, ⊤, List, Vec, String, string_bytes, Option, Some, None, Result, Ok, Err}
 use Rattle.std.specs.declared.alloc.Global.{Global}
 use Rattle.http_config.specs.Config.{Settings}
+use Rattle.h1_model.specs.Frame as model
+use Rattle.ws_frames.specs.Close.{reason_says}
+use Rattle.ws_frames.specs.Sent.{message_says}
+use Rattle.ws_frames.specs.declared.message.Message.{Message}
+use Rattle.ws_frames.specs.declared.proto.CloseReason.{CloseReason}
 use Rattle.h1_connection.specs.declared.event.Event.{Event}
 use Rattle.h1_replay.specs.declared.word.LineError.{LineError}
 use Rattle.h1_replay.specs.declared.word.LineError.TheVariants as line
@@ -25,6 +30,17 @@ abbrev pub ReadsText : Result (String Global) LineError → Option (List ℕ) �
 ReadsText (Ok read) there = there ≡ Some (string_bytes read)
 ReadsText (Err line.Unreadable) there = there ≡ None
 ReadsText (Err line.NoMemory) there = ⊤
+
+-- the same of a message and of a reason, by what they say
+abbrev pub ReadsMessage : Result Message LineError → Option model.Message → Type 0
+ReadsMessage (Ok read) there = there ≡ Some (message_says read)
+ReadsMessage (Err line.Unreadable) there = there ≡ None
+ReadsMessage (Err line.NoMemory) there = ⊤
+
+abbrev pub ReadsReason : Result CloseReason LineError → Option model.CloseReason → Type 0
+ReadsReason (Ok read) there = there ≡ Some (reason_says read)
+ReadsReason (Err line.Unreadable) there = there ≡ None
+ReadsReason (Err line.NoMemory) there = ⊤
 
 -- what was read into a value, which is then the one that is there
 abbrev pub ReadsInto : {T : Type 0} → Result Unit LineError → Option T → T → Type 0

@@ -1,6 +1,5 @@
 -- The report of a trace: a line for each outcome, the bytes that are still to be written, and the state.
 use Rattle.std.specs.Prelude.{ℕ, ◌≡◌, ◌≢◌, ◌-◌, List, [], ◌∷◌, ◌++◌, flat_map, length, slice_get, Option, Some, None, codes, decimal, Bool, true, false, if◌then◌else◌}
-use Rattle.hex.specs.Hex.{encode_lower}
 use Rattle.http.specs.declared.version.Version.{Version}
 use Rattle.http.specs.declared.version.TheConstants.Version.{HTTP_10}
 use Rattle.http_map.specs.HeaderMap.{Pair, pairs}
@@ -16,18 +15,15 @@ use Rattle.h1_connection.specs.declared.event.End.TheVariants as ends
 use Rattle.h1_connection.specs.declared.event.HeadFault.{HeadFault}
 use Rattle.h1_connection.specs.declared.event.HeadFault.TheVariants as faults
 use Rattle.h1_connection.specs.declared.event.Outcome.{Outcome}
-use Rattle.h1_connection.specs.declared.event.Outcome.TheVariants.{Took, Head, Bytes, Trailers, BodyEnd, Pending, Closed, Fault, Broken, Gave, Expired, Abandoned, Done}
+use Rattle.h1_connection.specs.declared.event.Outcome.TheVariants.{Took, Head, Bytes, Trailers, Frame, BodyEnd, Pending, Closed, Fault, Broken, Protocol, Refused, Gave, Expired, Abandoned, Done}
 use Rattle.h1_connection.specs.declared.event.PayloadError.{PayloadError}
 use Rattle.h1_connection.specs.declared.event.PayloadError.TheVariants.{Incomplete, EncodingCorrupted}
 use Rattle.h1_connection.specs.declared.trace.Step.{Step}
 use Rattle.h1_connection.specs.declared.trace.Trace.{Trace}
+use Rattle.h1_replay.specs.Hex.{hex_word}
+use Rattle.h1_replay.specs.WebSocket.{frame_words, rule_words, check_word}
 
 -- ---- words
-
--- bytes in hex, of lower case, and `-` for none
-abbrev pub hex_word : List ℕ → List ℕ
-hex_word [] = codes "-"
-hex_word (byte ∷ bytes) = encode_lower (byte ∷ bytes)
 
 -- why a connection ends
 abbrev pub end_word : End → List ℕ
@@ -35,6 +31,7 @@ end_word ends.Malformed = codes "malformed"
 end_word ends.TooLarge = codes "too-large"
 end_word ends.SlowRequestTimeout = codes "slow-request"
 end_word ends.KeepAliveExpired = codes "keep-alive"
+end_word ends.Protocol = codes "protocol"
 end_word ends.Body = codes "body"
 end_word ends.BodyShort = codes "body-short"
 end_word ends.Asked = codes "asked"
@@ -111,11 +108,14 @@ IsOutcomeLine (Took n) line = line ≡ codes "took " ++ decimal n
 IsOutcomeLine (Head item) line = IsHeadLine item line
 IsOutcomeLine (Bytes bytes) line = line ≡ codes "bytes " ++ hex_word bytes
 IsOutcomeLine (Trailers trailers) line = line ≡ codes "trailers" ++ pair_words (pairs trailers)
+IsOutcomeLine (Frame frame) line = line ≡ codes "frame " ++ frame_words frame
 IsOutcomeLine BodyEnd line = line ≡ codes "end"
 IsOutcomeLine Pending line = line ≡ codes "pending"
 IsOutcomeLine (Closed end) line = line ≡ codes "closed " ++ end_word end
 IsOutcomeLine (Fault fault) line = line ≡ codes "fault " ++ fault_word fault
 IsOutcomeLine (Broken error) line = line ≡ codes "broken " ++ broken_word error
+IsOutcomeLine (Protocol error) line = line ≡ codes "protocol " ++ rule_words error
+IsOutcomeLine (Refused error) line = line ≡ codes "refused " ++ check_word error
 IsOutcomeLine (Gave bytes) line = line ≡ codes "gave " ++ hex_word bytes
 IsOutcomeLine (Expired end) line = line ≡ codes "expired " ++ end_word end
 IsOutcomeLine Abandoned line = line ≡ codes "abandoned"

@@ -1,13 +1,14 @@
 -- A script as the config and the events that its lines name.
-use Rattle.std.specs.Prelude.{ℕ, ◌+◌, ◌-◌, ◌==◌, ◌&&◌, nat_le, List, [], ◌∷◌, Option, Some, None, option_map, Result, Ok, Err, length, take, slice_index, codes, if◌then◌else◌}
+use Rattle.std.specs.Prelude.{ℕ, ◌+◌, ◌-◌, ◌==◌, ◌&&◌, nat_le, List, [], ◌∷◌, Option, Some, None, option_map, Result, Ok, Err, length, take, min, slice_index, codes, if◌then◌else◌}
 use Rattle.std.specs.List.{slice_split}
 use Rattle.std.specs.Str.{bytes_eq}
 use Rattle.http_config.specs.Config.{Settings, default_settings}
 use Rattle.http_config.specs.KeepAlive.{normalized}
 use Rattle.http_config.specs.declared.hold_size.TheConstants.{MIN_HOLD_SIZE, MAX_HOLD_SIZE, DEFAULT_HOLD_SIZE}
 use Rattle.h1_connection.specs.declared.event.Event.{Event}
-use Rattle.h1_connection.specs.declared.event.Event.TheVariants.{Read, Eof, Next, Pull, DropBody, Continue, Chunk, BodyEnd, BodyError, Write, Tick, Drain}
+use Rattle.h1_connection.specs.declared.event.Event.TheVariants.{Read, Eof, Next, Pull, DropBody, Continue, Chunk, BodyEnd, BodyError, Write, Tick, Drain, Accept}
 use Rattle.h1_replay.specs.Answer.{answer_of}
+use Rattle.h1_replay.specs.Message.{send_of}
 use Rattle.h1_replay.specs.Pieces.{only_of}
 use Rattle.h1_replay.specs.Word.{◌>>=◌, number_of, bytes_of, flag_of, keep_alive_of}
 
@@ -86,28 +87,39 @@ write_of words = option_map (λ count. Write count) (only_of words >>= number_of
 abbrev pub tick_of : List (List ℕ) → Option Event
 tick_of words = option_map (λ moment. Tick moment) (only_of words >>= number_of)
 
--- the events of a name with words
-abbrev pub worded_event : List ℕ → List (List ℕ) → Option Event
-worded_event name words =
+-- the usual limit of a frame's payload: 65536 bytes, or as many as fit where fewer may be held
+abbrev pub usual_limit : ℕ → ℕ
+usual_limit hold = min 65536 (hold - 14)
+
+-- an upgrade, with the usual limit or another one
+abbrev pub accept_of : ℕ → List (List ℕ) → Option Event
+accept_of hold [] = Some (Accept (usual_limit hold))
+accept_of hold (word ∷ more) = option_map (λ limit. Accept limit) (only_of (word ∷ more) >>= number_of)
+
+-- the events of a name with words, where so many bytes may be held
+abbrev pub worded_event : ℕ → List ℕ → List (List ℕ) → Option Event
+worded_event hold name words =
     if bytes_eq name (codes "read") then read_of words
     else if bytes_eq name (codes "chunk") then chunk_of words
     else if bytes_eq name (codes "write") then write_of words
     else if bytes_eq name (codes "tick") then tick_of words
     else if bytes_eq name (codes "answer") then answer_of words
+    else if bytes_eq name (codes "accept") then accept_of hold words
+    else if bytes_eq name (codes "send") then send_of words
     else None
 
 -- the event of a name and the words behind it
-abbrev pub event_named : List ℕ → List (List ℕ) → Option Event
-event_named name words = by_plain (plain_event name)
+abbrev pub event_named : ℕ → List ℕ → List (List ℕ) → Option Event
+event_named hold name words = by_plain (plain_event name)
   where
     by_plain : Option Event → Option Event
     by_plain (Some event) = alone_of event words
-    by_plain None = worded_event name words
+    by_plain None = worded_event hold name words
 
 -- the event that a line names by its words
-abbrev pub event_of : List (List ℕ) → Option Event
-event_of [] = None
-event_of (name ∷ words) = event_named name words
+abbrev pub event_of : ℕ → List (List ℕ) → Option Event
+event_of hold [] = None
+event_of hold (name ∷ words) = event_named hold name words
 
 -- ---- the whole
 
@@ -129,21 +141,24 @@ with_event n None later = Err n
 with_event n (Some event) (Ok events) = Ok (event ∷ events)
 with_event n (Some event) (Err bad) = Err bad
 
--- the events of the lines from line n on, or the number of the first that names none
-abbrev pub events_of : ℕ → List (List ℕ) → Result (List Event) ℕ
-events_of n [] = Ok []
-events_of n (line ∷ lines) = with_event n (event_of (words_of line)) (events_of (n + 1) lines)
+-- the events of the lines from line n on, or the number of the first that names none, where so many bytes may be held
+abbrev pub events_of : ℕ → ℕ → List (List ℕ) → Result (List Event) ℕ
+events_of hold n [] = Ok []
+events_of hold n (line ∷ lines) = with_event n (event_of hold (words_of line)) (events_of hold (n + 1) lines)
 
 -- the settings before the events
-abbrev pub with_config : Option Settings → Result (List Event) ℕ → Result (Settings × List Event) ℕ
-with_config None later = Err 1
-with_config (Some config) (Ok events) = Ok (config, events)
-with_config (Some config) (Err bad) = Err bad
+abbrev pub with_events : Settings → Result (List Event) ℕ → Result (Settings × List Event) ℕ
+with_events config (Ok events) = Ok (config, events)
+with_events config (Err bad) = Err bad
+
+abbrev pub with_config : Option Settings → List (List ℕ) → Result (Settings × List Event) ℕ
+with_config None lines = Err 1
+with_config (Some config) lines = with_events config (events_of config.h1_hold_size 2 lines)
 
 -- what the lines of a script say
 abbrev pub script_by_lines : List (List ℕ) → Result (Settings × List Event) ℕ
 script_by_lines [] = Err 1
-script_by_lines (line ∷ lines) = with_config (config_of (words_of line)) (events_of 2 lines)
+script_by_lines (line ∷ lines) = with_config (config_of (words_of line)) lines
 
 -- a script: its config and its events, or the number, from 1, of its first line that is none of the grammar in its place
 abbrev pub script_of : List ℕ → Result (Settings × List Event) ℕ

@@ -44,6 +44,7 @@
 mod answer;
 mod input;
 mod marks;
+mod message;
 mod output;
 mod pieces;
 mod program;
@@ -51,6 +52,7 @@ mod reply;
 mod report;
 mod script;
 mod text;
+mod websocket;
 mod word;
 
 pub use program::run;

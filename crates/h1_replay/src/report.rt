@@ -2,10 +2,12 @@
 ghost use Rattle.std.specs.Prelude.{◌≡◌, ◌++◌, OnOk, IfOk};
 ghost use Rattle.http_map.specs.HeaderMap.{pairs};
 ghost use Rattle.h1_connection.specs.Steps.{outcome_of};
-ghost use Rattle.h1_replay.specs.Report.{hex_word, end_word, fault_word, broken_word, body_word, type_word, expect_word, IsVersionWord, spaced, IsRequestPart, IsBodyPart, pair_words, IsHeadLine, IsOutcomeLine, AreStepLines, is_abandoned, state_word, last_lines, IsReport};
+ghost use Rattle.h1_replay.specs.Hex.{hex_word};
+ghost use Rattle.h1_replay.specs.Report.{end_word, fault_word, broken_word, body_word, type_word, expect_word, IsVersionWord, spaced, IsRequestPart, IsBodyPart, pair_words, IsHeadLine, IsOutcomeLine, AreStepLines, is_abandoned, state_word, last_lines, IsReport};
 ghost use Rattle.h1_replay.specs.Text.{Adds};
 
 use crate::text::{put_hex, put_number};
+use crate::websocket::{check_word, put_frame, put_rule};
 use h1_connection::{End, HeadFault, Noted, PayloadError, Steps, Trace};
 use h1_decode::{BodyKind, HeadItem};
 use http_types::{ConnectionType, HeaderMap, NoMemory, Version};
@@ -45,9 +47,18 @@ fn put_outcome(alloc: Global, text: &mut Vec<u8>, noted: &Noted) -> Result<(), N
             text.extend_from_slice(b"trailers")?;
             put_pairs(alloc, text, trailers.get())
         }
+        Noted::Frame(frame) => {
+            text.extend_from_slice(b"frame ")?;
+            put_frame(alloc, text, frame.get())
+        }
         Noted::Closed(end) => put_named(text, b"closed ", end_word(*end)),
         Noted::Fault(fault) => put_named(text, b"fault ", fault_word(*fault)),
         Noted::Broken(error) => put_named(text, b"broken ", broken_word(*error)),
+        Noted::Protocol(error) => {
+            text.extend_from_slice(b"protocol ")?;
+            put_rule(text, *error)
+        }
+        Noted::Refused(error) => put_named(text, b"refused ", check_word(*error)),
         Noted::Gave(bytes) => put_named_hex(alloc, text, b"gave ", bytes),
         Noted::Expired(end) => put_named(text, b"expired ", end_word(*end)),
         Noted::BodyEnd => text.extend_from_slice(b"end"),
@@ -191,6 +202,7 @@ fn end_word(end: End) -> &'static [u8]
         End::TooLarge => b"too-large",
         End::SlowRequestTimeout => b"slow-request",
         End::KeepAliveExpired => b"keep-alive",
+        End::Protocol => b"protocol",
         End::Body => b"body",
         End::BodyShort => b"body-short",
         End::Asked => b"asked",

@@ -1,10 +1,11 @@
 //! A script: a line for the settings of a connection, and a line for each event that comes to it.
 ghost use Rattle.std.specs.Prelude.{◌≡◌, IfSome};
 ghost use Rattle.http_config.specs.Config.{IsHoldSize};
-ghost use Rattle.h1_replay.specs.Script.{hold_by, settings_by, settings_of, config_of, plain_event, worded_event, read_of, chunk_of, write_of, tick_of, alone_of, event_of, words_of, without_last_feed, events_of, script_of};
+ghost use Rattle.h1_replay.specs.Script.{hold_by, settings_by, settings_of, config_of, plain_event, worded_event, read_of, chunk_of, write_of, tick_of, usual_limit, accept_of, alone_of, event_of, words_of, without_last_feed, events_of, script_of};
 ghost use Rattle.h1_replay.specs.Reading.{Reads, ReadsEvents, ReadsScript};
 
 use crate::answer::answer;
+use crate::message::send;
 use crate::pieces::Pieces;
 use crate::word::{LineError, bytes, flag, keep_alive, number};
 use h1_connection::Event;
@@ -49,7 +50,7 @@ pub fn read_script(alloc: Global, text: &[u8]) -> Result<Script, ScriptError>
     let Some(config) = config_line(line) else {
         return Err(ScriptError::BadLine(1));
     };
-    let events = event_lines(alloc, lines, most_events(text))?;
+    let events = event_lines(alloc, config.h1_hold_size(), lines, most_events(text))?;
     Ok(Script { config, events })
 }
 
@@ -69,12 +70,17 @@ fn without_last_feed(text: &[u8]) -> &[u8]
 }
 
 // The events of the second line and those behind it.
-fn event_lines(alloc: Global, mut lines: Pieces<'_>, most: usize) -> Result<Vec<Event>, ScriptError>
-    ensures { ReadsEvents result (events_of 2 lines.entry) }
+fn event_lines(
+    alloc: Global,
+    hold_size: usize,
+    mut lines: Pieces<'_>,
+    most: usize,
+) -> Result<Vec<Event>, ScriptError>
+    ensures { ReadsEvents result (events_of hold_size 2 lines.entry) }
 {
     let mut events = Vec::with_capacity(alloc, most).map_err(|_| ScriptError::NoMemory)?;
     while let Some(line) = lines.next() {
-        match event_line(alloc, line) {
+        match event_line(alloc, hold_size, line) {
             Ok(event) => events.push(event).map_err(|_| ScriptError::NoMemory)?,
             Err(LineError::Unreadable) => return Err(ScriptError::BadLine(events.len() + 2)),
             Err(LineError::NoMemory) => return Err(ScriptError::NoMemory),
@@ -153,8 +159,8 @@ fn settings_by(
     Some(builder.build())
 }
 
-fn event_line(alloc: Global, line: &[u8]) -> Result<Event, LineError>
-    ensures { Reads result (event_of (words_of line.now)) }
+fn event_line(alloc: Global, hold_size: usize, line: &[u8]) -> Result<Event, LineError>
+    ensures { Reads result (event_of hold_size (words_of line.now)) }
 {
     let mut words = Pieces::new(line, BLANK);
     let Some(name) = words.next() else {
@@ -162,7 +168,7 @@ fn event_line(alloc: Global, line: &[u8]) -> Result<Event, LineError>
     };
     match plain_event(name) {
         Some(event) => alone(words, event),
-        None => worded_event(alloc, name, words),
+        None => worded_event(alloc, hold_size, name, words),
     }
 }
 
@@ -191,8 +197,13 @@ fn plain_event(name: &[u8]) -> Option<Event>
     }
 }
 
-fn worded_event(alloc: Global, name: &[u8], words: Pieces<'_>) -> Result<Event, LineError>
-    ensures { Reads result (worded_event name.now words.entry) }
+fn worded_event(
+    alloc: Global,
+    hold_size: usize,
+    name: &[u8],
+    words: Pieces<'_>,
+) -> Result<Event, LineError>
+    ensures { Reads result (worded_event hold_size name.now words.entry) }
 {
     if name == b"read".as_slice() {
         read(alloc, words)
@@ -204,9 +215,33 @@ fn worded_event(alloc: Global, name: &[u8], words: Pieces<'_>) -> Result<Event, 
         tick(words).ok_or(LineError::Unreadable)
     } else if name == b"answer".as_slice() {
         answer(alloc, words)
+    } else if name == b"accept".as_slice() {
+        accept(hold_size, words).ok_or(LineError::Unreadable)
+    } else if name == b"send".as_slice() {
+        send(alloc, words)
     } else {
         Err(LineError::Unreadable)
     }
+}
+
+// An upgrade, with the usual limit where no other one is named.
+fn accept(hold_size: usize, mut words: Pieces<'_>) -> Option<Event>
+    ensures { result ≡ accept_of hold_size words.entry }
+{
+    let Some(word) = words.next() else {
+        return Some(Event::Accept(usual_limit(hold_size)));
+    };
+    if words.next().is_some() {
+        return None;
+    }
+    Some(Event::Accept(number(word)? as usize))
+}
+
+// The most bytes of a frame's payload: 65536, or as many as fit where fewer may be held.
+fn usual_limit(hold_size: usize) -> usize
+    ensures { result ≡ usual_limit hold_size }
+{
+    hold_size.saturating_sub(14).min(65536)
 }
 
 // An event of no further words.

@@ -1,6 +1,6 @@
 //! Texts that grow by numbers and hex.
 ghost use Rattle.std.specs.Prelude.{◌≡◌, ◌++◌, decimal, OnOk};
-ghost use Rattle.h1_replay.specs.Report.{hex_word};
+ghost use Rattle.h1_replay.specs.Hex.{hex_word};
 
 use http_types::NoMemory;
 use itoa::Buffer;

@@ -1,8 +1,10 @@
 use Rattle.std.proofs.Common.{List, ℕ, subst}
+use Rattle.h1_model.specs.Frame.{Message}
 use Rattle.h1_model.specs.Event as on
 use Rattle.h1_connection.specs.declared.event.Outcome.TheVariants as out
 use Rattle.http_types.specs.ResponseHead.{ResponseParts}
 use Rattle.h1_codec.specs.Meaning.{answer_of, size_of}
+use Rattle.h1_connection.specs.Meaning.{SaysOutcome}
 use Rattle.h1_connection.specs.State.{GoesOn, Is}
 use Rattle.h1_connection.proofs.ResultLemmas.{ok_map}
 use Rattle.h1_connection.proofs.RunLemmas.{at_event, says_more}
@@ -58,4 +60,7 @@ pub returns-in_ok-accepted-in-Accept-clause-stands : goal.returns-in_ok-accepted
 returns-in_ok-accepted-in-Accept-clause-stands c = at_event c.args.self.now c.accept.new.self _ _ c.outcome_of_accept.result c.in-Accept.is (says_more c.args.self.now c.accept.new.self _ _ _ c.outcome_of_accept.ensures c.in_ok-accepted-in-Accept.ensures.stands)
 
 pub returns-in_ok-sent-in-Send-clause-stands : goal.returns-in_ok-sent-in-Send-clause-stands
-returns-in_ok-sent-in-Send-clause-stands c = at_event c.args.self.now c.send.new.self _ _ c.outcome_of_send.result c.in-Send.is (says_more c.args.self.now c.send.new.self _ _ _ c.outcome_of_send.ensures c.in_ok-sent-in-Send.ensures.stands)
+returns-in_ok-sent-in-Send-clause-stands c =
+    at_event c.args.self.now c.send.new.self _ _ c.outcome_of_send.result c.in-Send.is
+    (subst (λ (m : Message). GoesOn c.args.self.now (on.send m) (SaysOutcome c.outcome_of_send.result) c.send.new.self) c.get-in-Send.ensures
+    (says_more c.args.self.now c.send.new.self _ _ _ c.outcome_of_send.ensures c.in_ok-sent-in-Send.ensures.stands))
