@@ -23,6 +23,9 @@
 //! as values, for `Connection::step`; `drive` brings a whole list of events to a new connection, and gives the trace of
 //! what came of it.
 //!
+//! A request may upgrade the connection to WebSocket (RFC 6455): `accept` does that, and from then on `pull_frame` takes
+//! frames and `send` sends messages.
+//!
 //! # Contract
 //!
 //! A connection stands for the traces of all that happened to it. Behind each of them, a call answers what the tables
