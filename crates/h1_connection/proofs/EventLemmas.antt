@@ -20,7 +20,7 @@ use Rattle.h1_connection.specs.declared.connection.exchange.Reply.{Reply}
 use Rattle.h1_connection.specs.declared.connection.exchange.Reply.TheVariants.{Unanswered, Sending, Answered}
 use Rattle.h1_connection.specs.declared.connection.parts.Parts.{Parts}
 use Rattle.h1_connection.proofs.PassingLemmas.{passing_coming, passing_clock}
-use Rattle.h1_connection.proofs.StepLemmas.{quiet_step, settled_step, settled_sound, settled_noted, may_of}
+use Rattle.h1_connection.proofs.StepLemmas.{quiet_step, settled_step, settled_sound, settled_noted, may_of, sound_may}
 
 -- the moment, behind a body that is passed
 now_passed : (k m : Kept) → k ≡ passing m → now k ≡ now m
@@ -130,6 +130,11 @@ drop_changes set p (Some x) = refl
 dropped_free : (p : Parts) (x : Option Exchange) → is_free (kept_of (record p { exchange = dropped x })) ≡ is_free (kept_of (record p { exchange = x }))
 dropped_free p None = refl
 dropped_free p (Some x) = refl
+
+pub dropped_may : (s : Settings) (p m : Parts) → IsSound s p → m ≡ record p { exchange = dropped p.exchange } → MayBeSearched m
+dropped_may s p m sound is = λ busy.
+    ap (λ (r : Parts). r.input.piece) is
+    ∙ sound_may s p sound (sym (dropped_free p p.exchange) ∙ sym (ap (λ (r : Parts). is_free (kept_of r)) is) ∙ busy)
 
 pub drop_steps : (s : Settings) (p q : Parts) → IsSound s p → kept_of q ≡ noting_since (setting_of s) (kept_of (record p { exchange = dropped p.exchange })) → q.input ≡ p.input
     → Steps s p on.drop_body on.done q

@@ -25,10 +25,11 @@ use Rattle.ws_frames.specs.Refusal.{refusal}
 use Rattle.ws_frames.specs.Sent.{sending_after}
 use Rattle.ws_frames.specs.declared.error.ProtocolError.{ProtocolError}
 use Rattle.ws_session.specs.declared.verify.HandshakeError.{HandshakeError}
-use Rattle.h1_connection.specs.Frames.{with_frames, is_raw_request, SaysFrame, frame_end, IsFramePulled, IsFrameFrom}
+use Rattle.h1_connection.specs.Frames.{with_frames, is_raw_request, SaysFrame, frame_end, IsFramePulled, IsFrameFrom, IsLightFrame, sends_nothing}
 use Rattle.h1_connection.specs.Incoming.{Incoming, is_coming_in, IsFoundIn, IsFound}
 use Rattle.h1_connection.specs.Meaning.{setting_of, end_of, failing_of, SaysRule}
 use Rattle.h1_connection.specs.Parts.{key_or_zeros, key_bytes, exchange_of, kept_of, reply_of, request_in, MayBeSearched, IsNoted, IsSound, Steps}
+use Rattle.h1_connection.specs.Pulls.{IsLightPull}
 use Rattle.h1_connection.specs.declared.connection.exchange.Exchange.{Exchange}
 use Rattle.h1_connection.specs.declared.connection.exchange.Reply.{Reply}
 use Rattle.h1_connection.specs.declared.connection.frames.PulledFrame.{PulledFrame}
@@ -258,6 +259,12 @@ frame_sound s p m q x y after answer sound from is kept input =
     (kept ∙ ap (λ (r : Parts). noting_since (setting_of s) (kept_of r)) is) (input ∙ ap (λ (r : Parts). r.input) is)
     (frame_searched p x y after answer m.failed from) (frame_found x y p.input.unread after answer from)
 
+-- a pull that needs no memory is one of a frame that needs none
+pub light_frame : (p : Parts) (x : Exchange) → p.exchange ≡ Some x → IsLightPull (kept_of p) → IsLightFrame x.rest p.input.unread
+light_frame p x there light =
+    let at = subst (λ (o : Option Exchange). IsLightPull (kept_of (record p { exchange = o }))) there light in
+    (p.has_ended, at.0, at.1, at.2)
+
 -- ---- messages
 
 sent_change : (set : Setting) (p : Parts) (m : Message) (bytes : List ℕ) (sending : Bool) → send_error p.is_sending m ≡ None
@@ -310,3 +317,8 @@ unsent_steps s p q m error some sound kept input =
 pub unsent_sound : (s : Settings) (p q : Parts) → IsSound s p → kept_of q ≡ noting_since (setting_of s) (kept_of (record p { failed = Some Protocol }))
     → q.input ≡ p.input → IsSound s q
 unsent_sound s p q sound kept input = noted_sound s (record p { failed = Some Protocol }) q sound.moment kept input sound.searched sound.scanned
+
+-- a message of which nothing is sent, and that breaks no rule, says nothing
+pub nothing_said : (k : Kept) (m : Message) → send_error k.is_sending m ≡ None → sends_nothing k m ≡ true → m ≡ nop
+nothing_said k (frame f) none is = absurd (let no : false ≡ true = sym (ap is_some none) ∙ is in cc no)
+nothing_said k nop none is = refl

@@ -17,3 +17,4 @@ pub mod InputLemmas
 pub mod ClosingLemmas
 pub mod CutLemmas
 pub mod FrameLemmas
+pub mod FrontLemmas

@@ -16,13 +16,13 @@ use Rattle.h1_machine.specs.Clock.{expiring, at_moment}
 use Rattle.h1_machine.specs.Change.{noting_since}
 use Rattle.h1_connection.specs.Incoming.{Incoming, IsFound}
 use Rattle.h1_connection.specs.Meaning.{setting_of, end_of}
-use Rattle.h1_connection.specs.Parts.{kept_of, IsSound, Steps}
+use Rattle.h1_connection.specs.Parts.{kept_of, MayBeSearched, IsSound, Steps}
 use Rattle.h1_connection.specs.Ticks.{expiry_of, is_past}
 use Rattle.h1_connection.specs.declared.connection.clock.Clock.{Clock}
 use Rattle.h1_connection.specs.declared.connection.exchange.Exchange.{Exchange}
 use Rattle.h1_connection.specs.declared.connection.parts.Parts.{Parts}
 use Rattle.h1_connection.specs.declared.connection.ticks.Expiry.{Expiry}
-use Rattle.h1_connection.proofs.StepLemmas.{settled_step, settled_sound, settled_noted}
+use Rattle.h1_connection.proofs.StepLemmas.{settled_step, settled_sound, settled_noted, sound_may}
 
 -- ---- deadlines
 
@@ -51,6 +51,12 @@ at_tick ms p = record p { clock = record p.clock { first = option_or p.clock.fir
 
 tick_free : (m p : Parts) (ms : ℕ) → m.exchange ≡ p.exchange → is_free (kept_of (at_tick ms m)) ≡ is_free (kept_of p)
 tick_free m p ms same = ap (λ (e : Option Exchange). is_free (kept_of (record p { exchange = e }))) same
+
+-- no head is searched for then where none was
+pub tick_may : (s : Settings) (p m : Parts) (clock : Clock) → IsSound s p → m.exchange ≡ p.exchange → m.input ≡ p.input → MayBeSearched (record m { clock = clock })
+tick_may s p m clock sound exchange input = λ busy.
+    ap (λ (i : Incoming). i.piece) input
+    ∙ sound_may s p sound (sym (ap (λ (e : Option Exchange). is_free (kept_of (record p { exchange = e }))) exchange) ∙ busy)
 
 pub tick_steps : (s : Settings) (p m q : Parts) (ms : ℕ) (expiry : Expiry) → IsSound s p
     → record { outcome = expiry_of expiry; kept = kept_of m } ≡ expiring (setting_of s) (kept_of p) (closing_by (setting_of s) (kept_of p)) (unwrap_or p.clock.first ms) ms

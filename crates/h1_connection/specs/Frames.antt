@@ -49,13 +49,13 @@ is_refused k = of_exchange (λ x. is_some x.refusal) k
 
 -- the answer of a pull is this outcome, and a Close has the code that its number names
 abbrev pub SaysFrame : PulledFrame → on.Outcome → Type 0
-SaysFrame (pulled.Frame frame) out = (out ≡ on.frame (frame_says frame)) × IsNamed frame
+SaysFrame (pulled.Frame given) out = (out ≡ on.frame (frame_says given)) × IsNamed given
 SaysFrame (pulled.Protocol error) out = SaysRule error out
 SaysFrame pulled.Pending out = out ≡ on.pending
 
 -- the end that it brings
 abbrev pub frame_end : PulledFrame → Option ends.End
-frame_end (pulled.Frame frame) = None
+frame_end (pulled.Frame given) = None
 frame_end (pulled.Protocol error) = Some ends.protocol
 frame_end pulled.Pending = None
 

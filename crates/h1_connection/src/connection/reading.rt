@@ -135,8 +135,10 @@ impl Reading {
                 Ok(PulledFrame::Frame(frame))
             }
             Ok(None) => Ok(PulledFrame::Pending),
-            Err(ProtocolError::NoMemory) => Err(AllocError),
-            Err(error) => Ok(PulledFrame::Protocol(error)),
+            Err(error) => match error {
+                ProtocolError::NoMemory => Err(AllocError),
+                error => Ok(PulledFrame::Protocol(error)),
+            },
         }
     }
 

@@ -9,13 +9,13 @@ note-requires c =
 pub returns-in_default-clause-ok : goal.returns-in_default-clause-ok
 returns-in_default-clause-ok c = no_accept c.args.config.now c.args.self.now c.args.limit (sym c.request.ensures ∙ c.in_default.is) c.requires.sound
 
-pub returns-in-Some-error-clause-ok : goal.returns-in-Some-error-clause-ok
-returns-in-Some-error-clause-ok c =
-    refused_steps c.args.config.now c.args.self.now c.in-Some.request c.args.limit c.in-Some-error.error c.requires.sound (sym c.request.ensures ∙ c.in-Some.is) c.in-Some-error.is
+pub returns-in-Some-refusal-clause-ok : goal.returns-in-Some-refusal-clause-ok
+returns-in-Some-refusal-clause-ok c =
+    refused_steps c.args.config.now c.args.self.now c.in-Some.request c.args.limit c.in-Some-refusal.error c.requires.sound (sym c.request.ensures ∙ c.in-Some.is) c.in-Some-refusal.is
 
 pub returns-clause-ok : goal.returns-clause-ok
 returns-clause-ok c =
-    framed_steps c.args.config.now c.args.self.now _ _ c.in-Some.request c.args.limit _ c.requires.sound c.requires.waits c.requires.raw (sym c.request.ensures ∙ c.in-Some.is) c.in_default-error.is
+    framed_steps c.args.config.now c.args.self.now _ _ c.in-Some.request c.args.limit _ c.requires.sound c.requires.waits c.requires.raw (sym c.request.ensures ∙ c.in-Some.is) c.in_default-refusal.is
     (λ setting draining. c.in_ok-put_accept.ensures.ok setting draining) c.set_frames.ensures c.note.ensures.kept c.note.ensures.input
 
 pub returns-clause-sound : goal.returns-clause-sound

@@ -1,5 +1,8 @@
-use Rattle.h1_connection.proofs.EventLemmas.{dropped_steps, dropped_sound}
+use Rattle.h1_connection.proofs.EventLemmas.{dropped_may, dropped_steps, dropped_sound}
 use Rattle.h1_connection.proofs.connection.parts.Parts.drop_body.Goals as goal
+
+pub note-requires : goal.note-requires
+note-requires c = dropped_may c.args.config.now c.args.self.now _ c.requires c.set_dropped.ensures
 
 pub returns-clause-ok : goal.returns-clause-ok
 returns-clause-ok c = dropped_steps c.args.config.now c.args.self.now _ _ c.requires c.set_dropped.ensures c.note.ensures.kept c.note.ensures.input

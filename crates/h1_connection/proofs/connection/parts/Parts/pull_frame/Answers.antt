@@ -1,5 +1,5 @@
-use Rattle.h1_connection.proofs.ResultLemmas.{ok_map}
-use Rattle.h1_connection.proofs.FrameLemmas.{upgraded_frames, upgraded_unsearched, frame_may, frame_steps, frame_sound}
+use Rattle.std.proofs.lemmas.Bool.{false≢true}
+use Rattle.h1_connection.proofs.FrameLemmas.{light_frame, upgraded_frames, upgraded_unsearched, frame_may, frame_steps, frame_sound}
 use Rattle.h1_connection.proofs.connection.parts.Parts.pull_frame.Goals as goal
 
 pub pull_frame-requires-clause-unsearched : goal.pull_frame-requires-clause-unsearched
@@ -20,3 +20,7 @@ pub returns-clause-sound : goal.returns-clause-sound
 returns-clause-sound c =
     frame_sound c.args.config.now c.args.self.now _ _ c.in-Some.exchange _ _ c.in_ok-pulled.pulled c.requires.sound
     c.in_ok-pulled.ensures.pulled c.fail_by.ensures.parts c.note.ensures.kept c.note.ensures.input
+
+pub returns-in_err-pulled-clause-no_memory_needed : goal.returns-in_err-pulled-clause-no_memory_needed
+returns-in_err-pulled-clause-no_memory_needed c = λ light.
+    absurd (false≢true (c.in_err-pulled.ensures.no_memory_needed (light_frame c.args.self.now c.in-Some.exchange c.in-Some.is light)))

@@ -1,6 +1,8 @@
-use Rattle.std.proofs.Common.{sym, ◌∙◌}
+use Rattle.std.proofs.Common.{refl, sym, ◌∙◌}
+use Rattle.std.proofs.lemmas.Bool.{false≢true}
+use Rattle.h1_model.specs.Event as on
 use Rattle.h1_connection.proofs.StepLemmas.{sound_may}
-use Rattle.h1_connection.proofs.FrameLemmas.{no_rule, sent_steps, sent_sound, unsent_steps, unsent_sound}
+use Rattle.h1_connection.proofs.FrameLemmas.{no_rule, nothing_said, sent_steps, sent_sound, unsent_steps, unsent_sound}
 use Rattle.h1_connection.proofs.connection.parts.Parts.send.Goals as goal
 
 pub note-requires : goal.note-requires
@@ -12,3 +14,17 @@ returns-in-Some-clause-ok c =
 
 pub returns-in-Some-clause-sound : goal.returns-in-Some-clause-sound
 returns-in-Some-clause-sound c = unsent_sound c.args.config.now c.args.self.now _ c.requires c.note.ensures.kept c.note.ensures.input
+
+pub returns-clause-ok : goal.returns-clause-ok
+returns-clause-ok c = (
+  on.done,
+  refl,
+  sent_steps c.args.config.now c.args.self.now _ _ _ (no_rule _ (sym c.send_error.ensures ∙ c.in_default.is)) c.in_ok-put_message.ensures.ok c.sending_after.ensures c.requires,
+)
+
+pub returns-clause-sound : goal.returns-clause-sound
+returns-clause-sound c = sent_sound c.args.config.now c.args.self.now _ _ _ refl c.requires
+
+pub returns-in_err-put_message-clause-no_memory_needed : goal.returns-in_err-put_message-clause-no_memory_needed
+returns-in_err-put_message-clause-no_memory_needed c = λ none.
+    absurd (false≢true (c.in_err-put_message.ensures.nothing (nothing_said _ _ (no_rule _ (sym c.send_error.ensures ∙ c.in_default.is)) none)))

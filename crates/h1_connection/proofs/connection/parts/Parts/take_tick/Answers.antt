@@ -1,5 +1,12 @@
-use Rattle.h1_connection.proofs.TickLemmas.{tick_steps_by, tick_sound_by}
+use Rattle.h1_connection.proofs.StepLemmas.{sound_may}
+use Rattle.h1_connection.proofs.TickLemmas.{tick_may, tick_steps_by, tick_sound_by}
 use Rattle.h1_connection.proofs.connection.parts.Parts.take_tick.Goals as goal
+
+pub expire-requires-clause-searched : goal.expire-requires-clause-searched
+expire-requires-clause-searched c = sound_may c.args.config.now c.args.self.now c.requires.sound
+
+pub note-requires : goal.note-requires
+note-requires c = tick_may c.args.config.now c.args.self.now c.expire.new.self _ c.requires.sound c.expire.ensures.exchange c.expire.ensures.input
 
 pub returns-clause-ok : goal.returns-clause-ok
 returns-clause-ok c =

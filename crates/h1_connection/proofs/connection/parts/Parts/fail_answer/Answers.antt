@@ -1,0 +1,5 @@
+use Rattle.h1_connection.proofs.StepLemmas.{sound_may}
+use Rattle.h1_connection.proofs.connection.parts.Parts.fail_answer.Goals as goal
+
+pub note-requires : goal.note-requires
+note-requires c = sound_may c.args.config.now c.args.self.now c.requires
