@@ -28,6 +28,29 @@ pub struct Frames {
     pub limit: usize,
 }
 
+impl Frames {
+    /// Takes the next frame.
+    fn pull(&mut self, input: &mut Input) -> Result<PulledFrame, NoMemory>
+        requires { input.old.piece ≡ None }
+        ensures pulled { IfOk result (λ answer. IsFramePulled (frames_rest self.old.under_way self.old.limit) input.old.unread answer
+            (frames_rest self.new.under_way self.new.limit) input.new) }
+        ensures no_memory_needed { IsLightFrame (frames_rest self.old.under_way self.old.limit) input.old.unread → IsOk result }
+        ensures err { OnErr result ((self.new ≡ self.old) × (input.new ≡ input.old)) }
+    {
+        match input.take_frame(*self) {
+            Ok(Some((frame, under_way))) => {
+                self.under_way = under_way;
+                Ok(PulledFrame::Frame(frame))
+            }
+            Ok(None) => Ok(PulledFrame::Pending),
+            Err(error) => match error {
+                ProtocolError::NoMemory => Err(AllocError),
+                error => Ok(PulledFrame::Protocol(error)),
+            },
+        }
+    }
+}
+
 /// What the bytes are read as.
 #[derive(Drop)]
 enum Form {
@@ -126,19 +149,13 @@ impl Reading {
         ensures no_memory_needed { IsLightFrame self.old input.old.unread → IsOk result }
         ensures err { OnErr result ((self.new ≡ self.old) × (input.new ≡ input.old)) }
     {
-        let Form::Frames(frames) = &mut self.form else {
-            return Ok(PulledFrame::Pending);
-        };
-        match input.take_frame(*frames) {
-            Ok(Some((frame, under_way))) => {
-                frames.under_way = under_way;
-                Ok(PulledFrame::Frame(frame))
+        match &mut self.form {
+            Form::Frames(frames) => frames.pull(input),
+            Form::Body(rest) => {
+                // Called for its clause alone: a body is never read as frames.
+                let _kind = rest.kind();
+                Ok(PulledFrame::Pending)
             }
-            Ok(None) => Ok(PulledFrame::Pending),
-            Err(error) => match error {
-                ProtocolError::NoMemory => Err(AllocError),
-                error => Ok(PulledFrame::Protocol(error)),
-            },
         }
     }
 
