@@ -1,7 +1,11 @@
 -- Which events may come next, by tests of the parts.
-use Rattle.std.proofs.Common.{◌≡◌, Bool, true, false, not, ◌&&◌, ◌||◌, Option, Some, None, refl, ap}
+use Rattle.std.proofs.Common.{◌≡◌, Bool, true, false, not, ◌&&◌, ◌||◌, Option, Some, None, refl, ap, ◌∙◌}
 use Rattle.std.specs.Prelude.{is_some, is_none, option_map, if◌then◌else◌}
-use Rattle.h1_machine.specs.Kept.{Rest, is_frames}
+use Rattle.h1_model.specs.Event as on
+use Rattle.h1_model.specs.Setting.{Setting}
+use Rattle.h1_machine.specs.Kept.{Rest, Kept, is_frames, is_upgraded}
+use Rattle.h1_machine.specs.Local.{closing_by, allowed_by, has_body_left}
+use Rattle.h1_connection.specs.Given.{frame_allowed}
 use Rattle.h1_payload.specs.Kinds.{IsKind}
 use Rattle.h1_payload.specs.declared.rest.RestKind.{RestKind}
 use Rattle.h1_payload.specs.declared.rest.RestKind.TheVariants as kind
@@ -38,6 +42,10 @@ pull_test false true frames left = refl
 pull_test false false true left = refl
 pull_test false false false true = refl
 pull_test false false false false = refl
+
+pub pull_either : (set : Setting) (k : Kept) (a b : Bool) → a ≡ allowed_by set k on.drop_body → b ≡ frame_allowed set k → (a || b) ≡ allowed_by set k on.pull
+unfolding allowed_by
+pull_either set k a b x y = (λ i. x i || y i) ∙ pull_test k.is_over (is_some (closing_by set k)) (is_upgraded k) (has_body_left k)
 
 -- three tests, one after the other
 pub three_tests : (a b c d : Bool) → (((a && b) && c) && d) ≡ ((a && b) && (c && d))

@@ -1,6 +1,6 @@
 -- A step of the parts goes on behind each trace that the connection stands for.
-use Rattle.std.proofs.Common.{◌≡◌, ℕ, ◌<◌, ◌≤◌, Bool, true, false, not, ◌&&◌, ◌||◌, List, [], ◌∷◌, length, Option, Some, None, Result, Ok, Err, refl, sym, ap, ◌∙◌, subst, length-drop}
-use Rattle.std.specs.Prelude.{IsTrue, OnOk, OnErr, option_map, is_some, nat_lt, ◌↔◌, if◌then◌else◌}
+use Rattle.std.proofs.Common.{◌≡◌, ℕ, ◌+◌, ◌<◌, ◌≤◌, Bool, true, false, not, ◌&&◌, ◌||◌, List, [], ◌∷◌, length, Option, Some, None, Result, Ok, Err, refl, sym, ap, ◌∙◌, subst, length-drop}
+use Rattle.std.specs.Prelude.{IsTrue, OnOk, OnErr, option_map, is_some, nat_lt, nat_le, ◌↔◌, if◌then◌else◌}
 use Rattle.http_config.specs.Config.{Settings}
 use Rattle.h1_model.specs.Setting.{Setting}
 use Rattle.h1_model.specs.Event as on
@@ -22,7 +22,7 @@ use Rattle.h1_payload.specs.Rests.{SaysPulled}
 use Rattle.h1_payload.specs.declared.pulled.Pulled.{Pulled as Answer}
 use Rattle.std.proofs.lemmas.Bool.{ltb-true}
 use Rattle.h1_model.specs.Answer.{AnswerHead, BodySize}
-use Rattle.h1_model.specs.Limits.{MAX_MOMENT}
+use Rattle.h1_model.specs.Limits.{MAX_FRAME_HEAD, MAX_MOMENT}
 use Rattle.h1_connection.specs.Meaning.{setting_of, end_of, fault_of}
 use Rattle.h1_connection.specs.Parts.{kept_of, IsSound, Steps, StepsIn}
 use Rattle.h1_connection.specs.Frames.{is_raw_request}
@@ -195,7 +195,9 @@ accept_case false false true true whole fits is = (refl, refl)
 accept_exchange : (set : Setting) (k : Kept) (e : Option Exchange) (limit : ℕ) → IsTrue (allowed_by set (record k { exchange = e }) (on.accept limit))
     → (waits_for_answer (record k { exchange = e }) ≡ true) × (is_raw_request (record k { exchange = e }) ≡ true)
 unfolding allowed_by
-accept_exchange set k None limit allowed = absurd (cc (accept_case k.is_over (is_some (closing_by set (record k { exchange = None }))) false false false _ allowed).0)
+accept_exchange set k None limit allowed =
+    let both = accept_case k.is_over (is_some (closing_by set (record k { exchange = None }))) false false false (nat_le (limit + MAX_FRAME_HEAD) set.hold_size) allowed in
+    absurd (let no : false ≡ true = both.0 in cc no)
 accept_exchange set k (Some x) limit allowed = accept_case k.is_over (is_some (closing_by set (record k { exchange = Some x }))) _ x.asked.is_raw _ _ allowed
 
 pub accept_waits : (s : Settings) (p : Parts) (limit : ℕ) → IsAllowed (state_of s p) (on.accept limit) → waits_for_answer (kept_of p) ≡ true

@@ -53,8 +53,8 @@ tick_free : (m p : Parts) (ms : ℕ) → m.exchange ≡ p.exchange → is_free (
 tick_free m p ms same = ap (λ (e : Option Exchange). is_free (kept_of (record p { exchange = e }))) same
 
 -- no head is searched for then where none was
-pub tick_may : (s : Settings) (p m : Parts) (clock : Clock) → IsSound s p → m.exchange ≡ p.exchange → m.input ≡ p.input → MayBeSearched (record m { clock = clock })
-tick_may s p m clock sound exchange input = λ busy.
+pub tick_may : (s : Settings) (p m : Parts) → IsSound s p → m.exchange ≡ p.exchange → m.input ≡ p.input → MayBeSearched m
+tick_may s p m sound exchange input = λ busy.
     ap (λ (i : Incoming). i.piece) input
     ∙ sound_may s p sound (sym (ap (λ (e : Option Exchange). is_free (kept_of (record p { exchange = e }))) exchange) ∙ busy)
 

@@ -67,6 +67,7 @@ fn close(alloc: Global, mut words: Pieces<'_>) -> Result<Message, LineError>
 }
 
 // A code and a text.
+#[tactic(auto, using(ws_frames::proofs::CloseLemmas::number_of_code))]
 fn reason(alloc: Global, code: &[u8], words: Pieces<'_>) -> Result<CloseReason, LineError>
     ensures { ReadsReason result (reason_of code.now words.entry) }
 {

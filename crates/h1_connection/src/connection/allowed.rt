@@ -31,7 +31,7 @@ impl Parts {
             Event::Read(_) => self.can_read(config),
             Event::Eof => self.can_read(config),
             Event::Next => self.can_next(config),
-            Event::Pull => self.can_pull(config) || self.can_pull_frame(config),
+            Event::Pull => self.may_pull(config),
             Event::DropBody => self.can_pull(config),
             Event::Continue => self.can_continue(config),
             Event::Answer(_, _) => self.can_answer(config),
@@ -100,6 +100,17 @@ impl Parts {
     {
         let is_upgraded = self.is_upgraded();
         self.is_running(config) && is_upgraded
+    }
+
+    // A pull, of a body or of a frame.
+    fn may_pull(&self, config: &ServiceConfig) -> bool
+        requires { IsSound config.now self.now }
+        ensures { result ≡ allowed_by (setting_of config.now) (kept_of self.now) on.pull }
+    {
+        if self.can_pull(config) {
+            return true;
+        }
+        self.can_pull_frame(config)
     }
 
     #[tactic(auto, unfolding(h1_machine::specs::Local::allowed_by))]
@@ -268,8 +279,9 @@ impl Exchange {
 fn holds_frame(config: &ServiceConfig, limit: usize) -> bool
     ensures { result ≡ nat_le (limit + MAX_FRAME_HEAD) config.now.h1_hold_size }
 {
+    let hold_size = config.h1_hold_size();
     match limit.checked_add(FRAME_HEAD_SIZE) {
-        Some(size) => size <= config.h1_hold_size(),
+        Some(size) => size <= hold_size,
         None => false,
     }
 }
