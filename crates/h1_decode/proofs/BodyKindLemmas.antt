@@ -12,7 +12,7 @@ use Rattle.h1_decode.specs.declared.framing.Lengths.{Lengths}
 use Rattle.h1_decode.specs.declared.framing.Lengths.TheVariants as lengths
 use Rattle.h1_decode.specs.declared.framing.Codings.{Codings}
 use Rattle.h1_decode.specs.declared.framing.Codings.TheVariants as codings
-use Rattle.h1_decode.specs.Framing.{stated_by, stated, coded, TellsLines, kind_by, kind_of_lines}
+use Rattle.h1_decode.specs.Framing.{stated_by, stated, coded_by, coded, TellsLines, kind_by, kind_of_lines}
 
 -- the body, or none where the lines are refused
 abbrev pub unless : Bool → model.BodyKind → Option model.BodyKind
@@ -37,12 +37,14 @@ no_lines false minor method =
     sym (ap (λ (b : Bool). unless b (plain_body method 0)) (and-true (needed && true) ∙ and-true needed))
 
 -- a coding alone
-coding_alone : (chunked websocket : Bool) (minor : ℕ) (method : List ℕ)
-    → kind_by lengths.Absent (if chunked then codings.Chunked else codings.Refused) websocket minor method
+coding_alone : (chunked identity websocket : Bool) (minor : ℕ) (method : List ℕ)
+    → kind_by lengths.Absent (coded_by chunked identity) websocket minor method
     ≡ unless (not ((minor == 1) && chunked) || false || lacks minor method false websocket) model.chunked_body
-coding_alone false websocket minor method =
+coding_alone false false websocket minor method =
     sym (ap (λ (b : Bool). unless (not b || false || lacks minor method false websocket) model.chunked_body) (and-false (minor == 1)))
-coding_alone true websocket minor method = by_version (minor == 1) refl
+coding_alone false true websocket minor method =
+    sym (ap (λ (b : Bool). unless (not b || false || lacks minor method false websocket) model.chunked_body) (and-false (minor == 1)))
+coding_alone true identity websocket minor method = by_version (minor == 1) refl
   where
     by_version : (t : Bool) → (minor == 1) ≡ t
         → kind_by lengths.Absent codings.Chunked websocket minor method
@@ -67,22 +69,23 @@ one_length (Some n) [] websocket minor method = by_websocket websocket
         ≡ unless (lacks minor method true w) (if w then model.raw_body else plain_body method n)
     by_websocket true = sym (ap (λ (b : Bool). unless (b && false) model.raw_body) (and-false ((minor == 0) && bytes_eq method (codes "POST"))))
     by_websocket false = sym (ap (λ (b : Bool). unless (b && true) (plain_body method n)) (and-false ((minor == 0) && bytes_eq method (codes "POST"))))
-one_length (Some n) (value ∷ []) websocket minor method = by_coding (says value (codes "chunked"))
+one_length (Some n) (value ∷ []) websocket minor method = by_coding (says value (codes "chunked")) (says value (codes "identity"))
   where
-    by_coding : (chunked : Bool) → kind_by (lengths.Length n) (if chunked then codings.Chunked else codings.Refused) websocket minor method
+    by_coding : (chunked identity : Bool) → kind_by (lengths.Length n) (coded_by chunked identity) websocket minor method
         ≡ unless (not ((minor == 1) && chunked) || true || lacks minor method true websocket) model.chunked_body
-    by_coding chunked =
-        none chunked ∙ sym (ap (λ (b : Bool). unless (b || lacks minor method true websocket) model.chunked_body) (or-true (not ((minor == 1) && chunked))))
+    by_coding chunked identity =
+        none chunked identity ∙ sym (ap (λ (b : Bool). unless (b || lacks minor method true websocket) model.chunked_body) (or-true (not ((minor == 1) && chunked))))
       where
-        none : (c : Bool) → kind_by (lengths.Length n) (if c then codings.Chunked else codings.Refused) websocket minor method ≡ None
-        none false = refl
-        none true = ap (λ (b : Bool). if b then Some model.chunked_body else None) (and-false (minor == 1))
+        none : (c i : Bool) → kind_by (lengths.Length n) (coded_by c i) websocket minor method ≡ None
+        none false false = refl
+        none false true = refl
+        none true i = ap (λ (b : Bool). if b then Some model.chunked_body else None) (and-false (minor == 1))
 one_length (Some n) (value ∷ second ∷ more) websocket minor method = refl
 
 by_values : (L C : List (List ℕ)) (websocket : Bool) (minor : ℕ) (method : List ℕ)
     → kind_by (stated L) (coded C) websocket minor method ≡ table L C websocket minor method
 by_values [] [] websocket minor method = no_lines websocket minor method
-by_values [] (value ∷ []) websocket minor method = coding_alone (says value (codes "chunked")) websocket minor method
+by_values [] (value ∷ []) websocket minor method = coding_alone (says value (codes "chunked")) (says value (codes "identity")) websocket minor method
 by_values [] (value ∷ second ∷ more) websocket minor method = refl
 by_values (value ∷ []) C websocket minor method = one_length (length_value (trim_ows value)) C websocket minor method
 by_values (value ∷ second ∷ more) C websocket minor method = refl

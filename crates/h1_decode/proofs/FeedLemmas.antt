@@ -3,11 +3,12 @@ use Rattle.std.proofs.Common.{◌≡◌, ℕ, ◌+◌, ◌≤◌, Bool, List, []
 use Rattle.std.proofs.lemmas.List.Elements.{All-head, All-tail, filter-append}
 use Rattle.std.proofs.lemmas.List.Sums.{length-filter}
 use Rattle.std.proofs.lemmas.Bool.{eqb-true}
-use Rattle.std.specs.Prelude.{count_by, zero, suc, ◌==◌, IsTrue}
+use Rattle.std.specs.Prelude.{count_by, zero, suc, ◌==◌, IsTrue, Option, Some, None}
+use Rattle.std.specs.Char.{is_ascii_digit}
 use Rattle.httparse.specs.Ascii.{line_feed, space, colon}
 use Rattle.httparse.proofs.GrammarLemmas.{print_request-append}
 use Rattle.h1_model.specs.HeadPiece.{BeginsBlank, header_lines}
-use Rattle.httparse.specs.Grammar.{AllPass, is_token_byte, is_uri_byte, is_value_byte, LineEnd, crlf, lf, print_end, print_blank, print_version, Field, IsField, print_field, print_section, RequestHead, IsRequestHead, print_request, ReadsRequest}
+use Rattle.httparse.specs.Grammar.{AllPass, is_token_byte, is_uri_byte, is_value_byte, LineEnd, crlf, lf, print_end, print_blank, print_version, Field, IsField, print_field, print_section, RequestHead, IsRequestHead, print_request, ReadsRequest, print_reason, reason_phrase, ResponseHead, IsResponseHead, print_response, ReadsResponse}
 
 -- the test for a line feed
 abbrev pub is_feed : ℕ → Bool
@@ -116,3 +117,37 @@ module _ (piece : List ℕ) (h : RequestHead) (reads : ReadsRequest piece h []) 
   header_lines-fields begins =
       let none : h.blank ≡ [] = no_blank h.blank _ (subst (λ (text : List ℕ). ¬ (BeginsBlank text)) (reads.1 ∙ print_request-append h []) begins) in
       omega (arith, feeds-piece, ap (λ (blank : List LineEnd). feeds (print_blank blank)) none)
+
+-- a reason has none
+pub feeds-reason : (r : Option (List ℕ)) → All (λ b. IsTrue (is_value_byte b)) (reason_phrase r) → feeds (print_reason r) ≡ 0
+feeds-reason None pass = refl
+feeds-reason (Some phrase) pass = feeds-none is_value_byte refl phrase pass
+
+-- the head of an answer has two line feeds more than fields, and those of the empty lines in front of it
+pub feeds-response : (h : ResponseHead) → IsResponseHead h → count_by (λ b. b == line_feed) (print_response h) ≡ feeds (print_blank h.blank) + (length h.fields + 2)
+unfolding print_response
+feeds-response h is =
+    let section = print_section h.fields h.last in
+    let front = print_blank h.blank ++ print_version h.minor ++ space ∷ h.digits in
+    let line = front ++ print_reason h.reason in
+    omega (
+      arith,
+      length-filter is_feed (line ++ print_end h.line_end ++ section),
+      feeds-append (line ++ print_end h.line_end) section,
+      feeds-append line (print_end h.line_end),
+      feeds-append front (print_reason h.reason),
+      feeds-append (print_blank h.blank ++ print_version h.minor) (space ∷ h.digits),
+      feeds-append (print_blank h.blank) (print_version h.minor),
+      feeds-version h.minor is.minor,
+      feeds-none is_ascii_digit refl h.digits is.digits.1,
+      feeds-reason h.reason is.reason,
+      feeds-print_end h.line_end,
+      feeds-append (flat_map print_field h.fields) (print_end h.last),
+      feeds-print_end h.last,
+      feeds-fields h.fields is.fields,
+    )
+
+-- a piece that is the head of an answer has no more fields than header lines
+pub few_answer_fields : (piece : List ℕ) (h : ResponseHead) → ReadsResponse piece h [] → length h.fields ≤ header_lines piece
+few_answer_fields piece h reads =
+    omega (arith, ap (count_by (λ b. b == line_feed)) (reads.1 ∙ append-nil (print_response h)) ∙ feeds-response h reads.0)

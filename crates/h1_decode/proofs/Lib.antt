@@ -1,3 +1,5 @@
+pub mod AnswerKindLemmas
+pub mod AnswerReadingLemmas
 pub mod BodyKindLemmas
 pub mod ConnectionLemmas
 pub mod FeedLemmas
@@ -5,6 +7,7 @@ pub mod FramingLemmas
 pub mod FrontLemmas
 pub mod GrammarErrors
 pub mod HeadPieceLemmas
+pub mod LaxCopyLemmas
 pub mod LengthLemmas
 pub mod LineEndLemmas
 pub mod LinesLemmas

@@ -25,7 +25,7 @@ use Rattle.h1_decode.specs.WholeHead.{IsWholeHeadAt, RefusesText}
 use Rattle.h1_decode.proofs.TrimLemmas.{trim_ows-again}
 
 -- the values of fields are values of headers, and trimmed
-values_of_fields : (fields : List Field) → All IsField fields → All HasValue (map name_and_value fields)
+pub values_of_fields : (fields : List Field) → All IsField fields → All HasValue (map name_and_value fields)
 values_of_fields [] valid = All-nil HasValue
 values_of_fields (f ∷ fields) valid =
     All-cons HasValue (name_and_value f) (map name_and_value fields)
@@ -40,11 +40,11 @@ values_whole piece text all spans same whole =
     (subst (All HasValue) (sym whole.at.fields) (values_of_fields whole.text.fields whole.whole.reads.0.fields))
 
 -- field lines as lines of a head
-line_headers : (fields : List Field) → map line_header (map name_and_value fields) ≡ map header_of fields
+pub line_headers : (fields : List Field) → map line_header (map name_and_value fields) ≡ map header_of fields
 line_headers [] = refl
 line_headers (f ∷ fields) = ap (λ later. header_of f ∷ later) (line_headers fields)
 
-fields_named : (fields : List Field) → All HasValue (map name_and_value fields) → All HasName (map name_and_value fields) → AllByRecursion IsHeaderField fields
+pub fields_named : (fields : List Field) → All HasValue (map name_and_value fields) → All HasName (map name_and_value fields) → AllByRecursion IsHeaderField fields
 fields_named [] values names = tt
 fields_named (f ∷ fields) values names = (
   record {
@@ -54,7 +54,7 @@ fields_named (f ∷ fields) values names = (
   fields_named fields (All-tail HasValue (name_and_value f) (map name_and_value fields) values) (All-tail HasName (name_and_value f) (map name_and_value fields) names),
 )
 
-names_of_fields : (fields : List Field) → AllByRecursion IsHeaderField fields → All HasName (map name_and_value fields)
+pub names_of_fields : (fields : List Field) → AllByRecursion IsHeaderField fields → All HasName (map name_and_value fields)
 names_of_fields [] valid = All-nil HasName
 names_of_fields (f ∷ fields) valid = All-cons HasName (name_and_value f) (map name_and_value fields) valid.0.name (names_of_fields fields valid.1)
 

@@ -1,10 +1,14 @@
+pub mod AnswerParts
+pub mod AnswerRefusal
 pub mod Framing
 pub mod HeadItem
 pub mod HeadMap
 pub mod HeadPosition
 pub mod HeadScan
+pub mod LaxCopy
 pub mod LineEnds
 pub mod Lines
 pub mod ReadParts
 pub mod Refusal
+pub mod ResponseItem
 pub mod WholeHead

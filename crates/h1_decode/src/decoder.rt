@@ -29,7 +29,7 @@ use memchr::memchr_iter;
 use std::alloc::Global;
 
 /// The most header lines that a head may have.
-const MAX_HEADERS: usize = 96;
+pub(crate) const MAX_HEADERS: usize = 96;
 
 /// A head that was read, with its body's kind.
 #[derive(Debug, Drop)]
@@ -88,7 +88,7 @@ impl Clone for HeadItem {
 /// made. What one head leaves in it says nothing of the next.
 #[derive(Debug, Drop)]
 pub struct HeadRoom {
-    fields: [HeaderSpan; MAX_HEADERS],
+    pub(crate) fields: [HeaderSpan; MAX_HEADERS],
 }
 
 impl HeadRoom {
@@ -271,7 +271,7 @@ fn has_few_lines(piece: &[u8]) -> bool
 }
 
 /// How many header lines the piece has: its line feeds, but those of the first line and the empty one.
-fn count_header_lines(piece: &[u8]) -> usize
+pub(crate) fn count_header_lines(piece: &[u8]) -> usize
     ensures { result ≡ header_lines piece.now }
 {
     memchr_iter(b'\n', piece).count().saturating_sub(2)
@@ -279,7 +279,7 @@ fn count_header_lines(piece: &[u8]) -> usize
 
 /// The name of what `httparse` refuses. It has no room only for a head of too many lines, which are
 /// counted apart.
-fn grammar_error(error: Error) -> ParseError
+pub(crate) fn grammar_error(error: Error) -> ParseError
     ensures { IsOfGrammar result }
 {
     match error {
@@ -345,7 +345,7 @@ fn read_parts_over(
 }
 
 /// The version HTTP/1.0 or HTTP/1.1 (RFC 7230, section 2.6).
-fn read_version(minor: u8) -> Version
+pub(crate) fn read_version(minor: u8) -> Version
     ensures { result ≡ version_of minor }
 {
     if minor == 0 {

@@ -5,12 +5,13 @@ ghost use Rattle.httparse.specs.Grammar.{trim_ows};
 ghost use Rattle.http_types.specs.Flags.{no_flags};
 ghost use Rattle.http_types.specs.RequestHead.{request_flags, HasRequestFlags};
 ghost use Rattle.h1_model.specs.Request.{Header};
-ghost use Rattle.h1_decode.specs.Framing.{TellsLines, subject_of, stated, coded, kind_of_lines, kind_of_length, flags_by};
+ghost use Rattle.h1_decode.specs.Framing.{TellsLines, subject_of, stated, coded, kind_of_lines, kind_of_length, flags_by, answer_kind_of, kind_of_answer, answer_flags_by};
+ghost use Rattle.h1_client_model.specs.AnswerTable.{has_no_content, stated_body};
 ghost use Rattle.http_framing.specs.Kinds.{kind_of};
 
 use crate::value::{connection_type, content_length, is_word};
 use http_framing::BodyKind;
-use http_types::{ConnectionType, RequestHead};
+use http_types::{ConnectionType, RequestHead, ResponseHead};
 
 /// What the Content-Length lines state.
 #[derive(Clone, Copy, Debug, PartialEq, Eq)]
@@ -33,6 +34,9 @@ pub(crate) enum Codings {
 
     /// There is one, and it says `chunked`.
     Chunked,
+
+    /// There is one, and it says `identity`, which an answer alone may.
+    Identity,
 
     /// There are more, or there is one that says something else.
     Refused,
@@ -82,6 +86,7 @@ impl Codings {
     {
         match self {
             Codings::Absent if is_word(value, b"chunked") => Codings::Chunked,
+            Codings::Absent if is_word(value, b"identity") => Codings::Identity,
             _ => Codings::Refused,
         }
     }
@@ -128,11 +133,44 @@ impl Framing {
             Lengths::Refused => return None,
         };
         match self.codings {
-            Codings::Refused => None,
+            Codings::Refused | Codings::Identity => None,
             Codings::Chunked if version == 1 && length.is_none() => Some(BodyKind::Chunked),
             Codings::Chunked => None,
             Codings::Absent if self.websocket => Some(BodyKind::Raw),
             Codings::Absent => kind_of_length(length, version, method),
+        }
+    }
+
+    /// Where the body of an answer of this version and status ends whose lines say this, if they
+    /// frame one (RFC 7230, section 3.3.3).
+    pub(crate) fn answer_kind(&self, version: u8, status: u16) -> Option<BodyKind>
+        ensures { option_map kind_of result ≡ answer_kind_of self.now version status }
+    {
+        let length = match self.lengths {
+            Lengths::Absent => None,
+            Lengths::Length(length) => Some(length),
+            Lengths::Refused => return None,
+        };
+        let in_chunks = match self.codings {
+            _ if version != 1 => false,
+            Codings::Absent | Codings::Identity => false,
+            Codings::Chunked => true,
+            Codings::Refused => return None,
+        };
+        Some(kind_of_answer(status, in_chunks, length))
+    }
+
+    /// Marks the head of an answer without marks with what its lines ask for, and with Close where
+    /// only the end of the input ends its body.
+    pub(crate) fn mark_answer(&self, head: &mut ResponseHead, closes: bool)
+        requires { head.old.flags ≡ no_flags }
+        ensures { head.new ≡ record head.old { flags = answer_flags_by self.now.connection closes } }
+    {
+        if let Some(ctype) = self.connection {
+            head.set_connection_type(ctype);
+        }
+        if closes {
+            head.set_connection_type(ConnectionType::Close);
         }
     }
 
@@ -175,5 +213,39 @@ fn kind_of_length(length: Option<u64>, version: u8, method: &str) -> Option<Body
         None if version == 0 && method == "POST" => None,
         _ if method.len() == 7 && method == "CONNECT" => Some(BodyKind::Raw),
         _ => Some(BodyKind::None),
+    }
+}
+
+/// Where the body of an answer ends whose lines aren't refused: chunks come before a length.
+fn kind_of_answer(status: u16, in_chunks: bool, length: Option<u64>) -> BodyKind
+    ensures { kind_of result ≡ kind_of_answer status in_chunks length }
+{
+    if has_no_content(status) {
+        BodyKind::None
+    } else if status == 101 {
+        BodyKind::Raw
+    } else if in_chunks {
+        BodyKind::Chunked
+    } else {
+        stated_kind(length)
+    }
+}
+
+/// Whether a status is one after whose head no body follows: 1xx, 204 and 304, but for a 101
+/// (RFC 7230, section 3.3.3).
+fn has_no_content(status: u16) -> bool
+    ensures { result ≡ has_no_content status }
+{
+    (status < 200 && status != 101) || status == 204 || status == 304
+}
+
+/// The body of a stated length, and without one the body that goes on to the end of the input.
+fn stated_kind(length: Option<u64>) -> BodyKind
+    ensures { kind_of result ≡ stated_body length }
+{
+    match length {
+        Some(length) if length > 0 => BodyKind::Length(length),
+        Some(_) => BodyKind::None,
+        None => BodyKind::Raw,
     }
 }

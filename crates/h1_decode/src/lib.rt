@@ -1,7 +1,7 @@
 //! Reading the heads of messages: where a head begins and ends in a buffer, and what it says.
 //! `HeadScanner` keeps its place over a buffer that grows, so a head that comes byte by byte costs
 //! what it costs in one piece. `cut_head_into` reads a head that is there whole, at the front of a
-//! buffer, without a scan.
+//! buffer, without a scan. `response_head` reads the head of an answer.
 //!
 //! # Example
 //!
@@ -23,7 +23,9 @@ mod asked;
 mod decoder;
 mod framing;
 pub mod laws;
+mod lax;
 mod lines;
+mod response;
 mod scan;
 mod value;
 
@@ -31,4 +33,5 @@ pub use decoder::{
     HeadItem, HeadRoom, cut_head_into, read_head_into, request_head, request_head_in,
 };
 pub use http_framing::BodyKind;
+pub use response::{ResponseItem, response_head};
 pub use scan::{HeadScan, HeadScanner, scan_head};

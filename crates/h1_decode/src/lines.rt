@@ -51,7 +51,7 @@ pub(crate) fn read_lines(
 
 /// Puts the headers that the spans cover into an empty map, in line order, and says what the lines
 /// say together. The values are known to be such.
-fn read_headers(
+pub(crate) fn read_headers(
     alloc: Global,
     piece: &Bytes,
     fields: &[HeaderSpan],

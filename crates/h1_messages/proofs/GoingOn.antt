@@ -5,6 +5,7 @@ use Rattle.http_framing.specs.AnyPieces.{GoesOn}
 use Rattle.h1_model.specs.HeadPiece.{AreBlankLines, HasNoHeadPiece}
 use Rattle.h1_model.proofs.HeadPieceLemmas.{head_piece_append, slice_range-append}
 use Rattle.h1_decode.specs.HeadPosition.{HeadPosition, IsSeenIn}
+use Rattle.h1_messages.specs.Kind.{Kind}
 use Rattle.h1_messages.specs.Heads.{Search, HasSeen, Item, IsItemOf, IsNext, IsNextItem, Heads, AreHeads, Reads, given}
 
 -- what was seen of more bytes was seen of these
@@ -22,23 +23,23 @@ seen_front position bytes more seen fits =
 pub next_append : (limit : ℕ) (bytes more : List ℕ) (s e : ℕ) → IsNext limit bytes s e → IsNext limit (bytes ++ more) s e
 next_append limit bytes more s e next = record { piece = head_piece_append bytes more s e next.piece; within = next.within }
 
-module _ (old new : Search) (bytes : List ℕ) (same : new.limit ≡ old.limit) where
+module _ {I : Type 0} (k : Kind I) (old new : Search) (bytes : List ℕ) (same : new.limit ≡ old.limit) where
   -- behind a head it has seen nothing
-  pub goes_on_behind : (rest : List ℕ) (item : Item) → (HasSeen old bytes → IsNextItem old.limit bytes rest item)
-      → ((b : List ℕ) → HasSeen new b) → GoesOn Reads given old bytes (given item) new rest
+  pub goes_on_behind : (rest : List ℕ) (item : Item I) → (HasSeen old bytes → IsNextItem k old.limit bytes rest item)
+      → ((b : List ℕ) → HasSeen new b) → GoesOn (Reads k) given old bytes (given item) new rest
   goes_on_behind rest item taken anew z r reads seen =
       let (s, e, next, is, left) = taken (seen_front old.position bytes z seen) in
       let fits = next.piece.in_range in
-      let heads : AreHeads old.limit (rest ++ z) r.items r.stop =
-      subst (λ (l : ℕ). AreHeads l (rest ++ z) r.items r.stop) same (reads (anew (rest ++ z))) in (
+      let heads : AreHeads k old.limit (rest ++ z) r.items r.stop =
+      subst (λ (l : ℕ). AreHeads k l (rest ++ z) r.items r.stop) same (reads (anew (rest ++ z))) in (
         s,
         e,
         next_append old.limit bytes z s e next,
-        subst (λ (p : List ℕ). IsItemOf p item) (sym (slice_range-append bytes z s e next.piece.ordered fits)) is,
-        subst (λ (b : List ℕ). AreHeads old.limit b r.items r.stop) (ap (λ (l : List ℕ). l ++ z) left ∙ sym (drop-append-le e bytes z fits)) heads,
+        subst (λ (p : List ℕ). IsItemOf k p item) (sym (slice_range-append bytes z s e next.piece.ordered fits)) is,
+        subst (λ (b : List ℕ). AreHeads k old.limit b r.items r.stop) (ap (λ (l : List ℕ). l ++ z) left ∙ sym (drop-append-le e bytes z fits)) heads,
       )
 
   -- where nothing was answered it has seen all bytes
-  pub goes_on_in : (HasSeen old bytes → (z : List ℕ) → HasSeen new (bytes ++ z)) → GoesOn Reads given old bytes (λ (r : Heads). r) new bytes
+  pub goes_on_in : (HasSeen old bytes → (z : List ℕ) → HasSeen new (bytes ++ z)) → GoesOn (Reads k) given old bytes (λ (r : Heads I). r) new bytes
   goes_on_in on z r reads seen =
-      subst (λ (l : ℕ). AreHeads l (bytes ++ z) r.items r.stop) same (reads (on (seen_front old.position bytes z seen) z))
+      subst (λ (l : ℕ). AreHeads k l (bytes ++ z) r.items r.stop) same (reads (on (seen_front old.position bytes z seen) z))

@@ -4,13 +4,11 @@ use Rattle.http_types.specs.declared.error.ParseError.{ParseError}
 use Rattle.http_types.specs.declared.error.ParseError.TheVariants.{TooLarge}
 use Rattle.h1_chunks.specs.Place.{start}
 use Rattle.h1_model.specs.HeadPiece.{IsHeadPiece, HasNoHeadPiece}
-use Rattle.h1_model.specs.Request.{BodyKind, no_body, fixed_body, chunked_body, raw_body, Head, Fault, too_large, head_is, faulty}
-use Rattle.h1_model.specs.RequestHead.{IsReading}
+use Rattle.h1_model.specs.Request.{BodyKind, no_body, fixed_body, chunked_body, raw_body, Fault, too_large}
 use Rattle.h1_machine.specs.Kept.{no_rest, fixed_rest, chunks_rest, raw_rest}
-use Rattle.h1_decode.specs.HeadItem.{SaysHead}
 use Rattle.h1_decode.specs.HeadPosition.{HeadPosition, IsSeenIn}
-use Rattle.h1_decode.specs.Refusal.{Refuses, fault_of}
-use Rattle.h1_decode.specs.declared.decoder.HeadItem.{HeadItem}
+use Rattle.h1_decode.specs.Refusal.{fault_of}
+use Rattle.h1_messages.specs.Kind.{says_head, says_fault, Kind}
 use Rattle.h1_messages.specs.declared.payload_type.PayloadType.{PayloadType}
 use Rattle.h1_messages.specs.declared.payload_type.PayloadType.TheVariants as payload
 
@@ -33,15 +31,15 @@ payload_of chunked_body = payload.Payload (record { rest = chunks_rest start [];
 payload_of raw_body = payload.Stream (record { rest = raw_rest; is_broken = false })
 
 -- a head, and what reads its body
-abbrev pub Item : Type 0
-Item = HeadItem × PayloadType
+abbrev pub Item : Type 0 → Type 0
+Item I = I × PayloadType
 
 -- the piece is the head that the item says
-pub record IsItemOf (piece : List ℕ) (item : Item) : Type 0 where
-  pub head : Head
-  pub reading : IsReading piece (head_is head)
-  pub says : SaysHead item.0 head
-  pub payload : item.1 ≡ payload_of head.body
+pub record IsItemOf {I : Type 0} (k : Kind I) (piece : List ℕ) (item : Item I) : Type 0 where
+  pub head : k.Head
+  pub reading : k.reads piece (says_head head)
+  pub says : k.says item.0 head
+  pub payload : item.1 ≡ payload_of (k.body head)
 
 -- the first head is whole, and ends within the limit
 pub record IsNext (limit : ℕ) (bytes : List ℕ) (start end : ℕ) : Type 0 where
@@ -57,15 +55,15 @@ abbrev pub IsTooLong : ℕ → List ℕ → Type 0
 IsTooLong limit bytes = (limit ≤ length bytes) × HasNoHeadPiece (take limit bytes)
 
 -- the item is the first head's, and this is what stands behind it
-abbrev pub IsNextItem : ℕ → List ℕ → List ℕ → Item → Type 0
-IsNextItem limit bytes rest item =
-    (start end : ℕ) × IsNext limit bytes start end × IsItemOf (slice_range bytes start end) item × (rest ≡ drop end bytes)
+abbrev pub IsNextItem : {I : Type 0} → Kind I → ℕ → List ℕ → List ℕ → Item I → Type 0
+IsNextItem k limit bytes rest item =
+    (start end : ℕ) × IsNext limit bytes start end × IsItemOf k (slice_range bytes start end) item × (rest ≡ drop end bytes)
 
 -- why there is none, by the name of the error: the limit is judged before the head
-abbrev pub RefusesNext : ParseError → ℕ → List ℕ → Type 0
-RefusesNext e limit bytes =
+abbrev pub RefusesNext : {I : Type 0} → Kind I → ParseError → ℕ → List ℕ → Type 0
+RefusesNext k e limit bytes =
     (IsTooLong limit bytes × (e ≡ TooLarge))
-    ⊎ ((start end : ℕ) × IsNext limit bytes start end × Refuses e (slice_range bytes start end))
+    ⊎ ((start end : ℕ) × IsNext limit bytes start end × k.refuses e (slice_range bytes start end))
 
 -- ---- all heads, as if no body stood between them
 
@@ -74,43 +72,43 @@ pub data Stop : Type 0 where
   waits : Stop
   refused : Fault → Stop
 
-abbrev pub Stops : ℕ → List ℕ → Stop → Type 0
-Stops limit bytes waits = IsWaiting limit bytes
-Stops limit bytes (refused fault) =
+abbrev pub Stops : {I : Type 0} → Kind I → ℕ → List ℕ → Stop → Type 0
+Stops k limit bytes waits = IsWaiting limit bytes
+Stops k limit bytes (refused fault) =
     (IsTooLong limit bytes × (fault ≡ too_large))
-    ⊎ ((start end : ℕ) × IsNext limit bytes start end × IsReading (slice_range bytes start end) (faulty fault))
+    ⊎ ((start end : ℕ) × IsNext limit bytes start end × k.reads (slice_range bytes start end) (says_fault fault))
 
-abbrev pub AreHeads : ℕ → List ℕ → List Item → Stop → Type 0
-AreHeads limit bytes [] stop = Stops limit bytes stop
-AreHeads limit bytes (item ∷ items) stop =
-    (start end : ℕ) × IsNext limit bytes start end × IsItemOf (slice_range bytes start end) item
-    × AreHeads limit (drop end bytes) items stop
+abbrev pub AreHeads : {I : Type 0} → Kind I → ℕ → List ℕ → List (Item I) → Stop → Type 0
+AreHeads k limit bytes [] stop = Stops k limit bytes stop
+AreHeads k limit bytes (item ∷ items) stop =
+    (start end : ℕ) × IsNext limit bytes start end × IsItemOf k (slice_range bytes start end) item
+    × AreHeads k limit (drop end bytes) items stop
 
 -- item by item, the same head is said, and the same reads its body
-abbrev pub SayTheSame : List Item → List Item → Type 0
-SayTheSame [] [] = ⊤
-SayTheSame (x ∷ xs) (y ∷ ys) = ((head : Head) × SaysHead x.0 head × SaysHead y.0 head × (x.1 ≡ y.1)) × SayTheSame xs ys
-SayTheSame xs ys = ⊥
+abbrev pub SayTheSame : {I : Type 0} → Kind I → List (Item I) → List (Item I) → Type 0
+SayTheSame k [] [] = ⊤
+SayTheSame k (x ∷ xs) (y ∷ ys) = ((head : k.Head) × k.says x.0 head × k.says y.0 head × (x.1 ≡ y.1)) × SayTheSame k xs ys
+SayTheSame k xs ys = ⊥
 
 -- what bytes say
-pub record Heads : Type 0 where
-  pub items : List Item
+pub record Heads (I : Type 0) : Type 0 where
+  pub items : List (Item I)
   pub stop : Stop
 
 -- what bytes say to a decoder that has seen the first of them
-abbrev pub Reads : Search → List ℕ → Heads → Type 0
-Reads search bytes heads = HasSeen search bytes → AreHeads search.limit bytes heads.items heads.stop
+abbrev pub Reads : {I : Type 0} → Kind I → Search → List ℕ → Heads I → Type 0
+Reads k search bytes heads = HasSeen search bytes → AreHeads k search.limit bytes heads.items heads.stop
 
 -- an answered head in front of what is said
-abbrev pub given : Item → Heads → Heads
+abbrev pub given : {I : Type 0} → Item I → Heads I → Heads I
 given item heads = record heads { items = item ∷ heads.items }
 
 -- no head yet
-abbrev pub no_heads : Heads
+abbrev pub no_heads : {I : Type 0} → Heads I
 no_heads = record { items = []; stop = waits }
 
 -- no head, and the next one is refused for the fault that the error names
-abbrev pub Breaks : ParseError → Heads → Type 0
+abbrev pub Breaks : {I : Type 0} → ParseError → Heads I → Type 0
 Breaks error heads = heads ≡ record { items = []; stop = refused (fault_of error) }
 
 -- an error changes nothing

@@ -1,2 +1,5 @@
 pub mod Heads
+pub mod Kind
+pub mod Kinds
 pub mod Next
+pub mod OneReading

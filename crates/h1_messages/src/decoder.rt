@@ -2,15 +2,15 @@
 ghost use Rattle.std.specs.Prelude.{◌≡◌, ◌↔◌, ℕ, List, ◌++◌, Ok, Err, None, length, IfOk, IfErr, OnOk, OnErr, IfSome};
 ghost use Rattle.http_config.specs.declared.hold_size.TheConstants.{DEFAULT_HOLD_SIZE};
 ghost use Rattle.http_framing.specs.AnyPieces.{GoesOn, in_front};
-ghost use Rattle.h1_model.specs.Request.{faulty};
-ghost use Rattle.h1_model.specs.RequestHead.{IsReading};
-ghost use Rattle.h1_decode.specs.Refusal.{UnlessNoMemory, Refuses, fault_of};
+ghost use Rattle.h1_decode.specs.Refusal.{UnlessNoMemory, fault_of};
+ghost use Rattle.h1_messages.specs.Kind.{says_fault};
 ghost use Rattle.h1_messages.specs.Heads.{HasSeen, IsWaiting, IsTooLong, IsItemOf, IsNextItem, RefusesNext, Stops, refused, Heads, Reads, given};
 
 use crate::next::{Next, find_next};
 use crate::payload_type::PayloadType;
+use crate::read_head::ReadHead;
 use bytes::{Bytes, BytesMut};
-use h1_decode::{HeadItem, HeadScanner, request_head};
+use h1_decode::HeadScanner;
 use http_config::DEFAULT_HOLD_SIZE;
 use http_framing::Decoder;
 use http_types::ParseError;
@@ -18,7 +18,8 @@ use std::alloc::Global;
 use std::marker::{Model, PhantomData};
 
 /// Reads the heads of messages from bytes that come in pieces, each with what reads the body behind it. `T` says which
-/// messages: requests are `HeadItem`s.
+/// messages: requests are `HeadItem`s, answers `ResponseItem`s. Of an answer it gives the body that its lines frame: whoever
+/// asked by HEAD reads none.
 ///
 /// A clause sees it as its limit, and how far it searched for the next head.
 #[derive(Debug, Drop)]
@@ -59,29 +60,26 @@ impl<T> MessageDecoder<T> {
     }
 }
 
-impl MessageDecoder<HeadItem> {
-    /// The next request's head, once it is whole, with what reads the body behind it. The head is taken off the front of
+impl<T: ReadHead> MessageDecoder<T> {
+    /// The next head, once it is whole, with what reads the body behind it. The head is taken off the front of
     /// `src`, with the empty lines before it. Its bytes are copied once, so that a refusal leaves `src`, and so that what
     /// keeps the head doesn't keep the read buffer.
     ///
     /// `None` comes exactly where `src` has no whole head and fewer bytes than the limit. The first of these that holds
     /// is the error: `ParseError::TooLarge`, there are as many bytes as the limit and no head ends within the first so
-    /// many, or it has more than 96 header lines; and else what `request_head` refuses, in its order. The only other
+    /// many, or it has more than 96 header lines; and else what `T::read_head` refuses, in its order. The only other
     /// error is `NoMemory`. An error changes nothing.
     ///
     /// Behind a `None` the next call goes on in the same bytes, with any others behind them, and looks only at these.
     /// Where other bytes stand there in place of those that it has seen, the answer says nothing. Behind a head it has
     /// seen nothing: whatever was taken of the bytes in between, as the body, the next call finds the next head.
-    pub fn decode(
-        &mut self,
-        src: &mut BytesMut,
-    ) -> Result<Option<(HeadItem, PayloadType)>, ParseError>
+    pub fn decode(&mut self, src: &mut BytesMut) -> Result<Option<(T, PayloadType)>, ParseError>
         ensures none { HasSeen self.old src.old.items → ((result ≡ Ok None) ↔ IsWaiting self.old.limit src.old.items) }
-        ensures item { HasSeen self.old src.old.items → IfOk result (λ answer. IfSome answer (IsNextItem self.old.limit src.old.items src.new.items)) }
+        ensures item { HasSeen self.old src.old.items → IfOk result (λ answer. IfSome answer (IsNextItem T.kind self.old.limit src.old.items src.new.items)) }
         ensures too_long { HasSeen self.old src.old.items → IsTooLong self.old.limit src.old.items → result ≡ Err ParseError.TooLarge }
-        ensures cause { HasSeen self.old src.old.items → IfErr result (λ e. UnlessNoMemory e (RefusesNext e self.old.limit src.old.items)) }
-        ensures fault { HasSeen self.old src.old.items → IfErr result (λ e. UnlessNoMemory e (Stops self.old.limit src.old.items (refused (fault_of e)))) }
-        ensures goes_on { IfOk result (λ answer. GoesOn Reads given self.old src.old.items (in_front Reads given answer) self.new src.new.items) }
+        ensures cause { HasSeen self.old src.old.items → IfErr result (λ e. UnlessNoMemory e (RefusesNext T.kind e self.old.limit src.old.items)) }
+        ensures fault { HasSeen self.old src.old.items → IfErr result (λ e. UnlessNoMemory e (Stops T.kind self.old.limit src.old.items (refused (fault_of e)))) }
+        ensures goes_on { IfOk result (λ answer. GoesOn (Reads T.kind) given self.old src.old.items (in_front (Reads T.kind) given answer) self.new src.new.items) }
         ensures waits { result ≡ Ok None → src.new ≡ src.old }
         ensures limit { self.new.limit ≡ self.old.limit }
         ensures all_seen { result ≡ Ok None → self.new.position.scanned ≡ length src.new.items }
@@ -106,30 +104,30 @@ impl MessageDecoder<HeadItem> {
 }
 
 /// What the head says that the bytes are, and what reads the body behind it.
-fn read_item(alloc: Global, piece: &[u8]) -> Result<(HeadItem, PayloadType), ParseError>
-    ensures item { IfOk result (IsItemOf piece.now) }
-    ensures fault { IfErr result (λ e. UnlessNoMemory e (IsReading piece.now (faulty (fault_of e)))) }
-    ensures cause { IfErr result (λ e. UnlessNoMemory e (Refuses e piece.now)) }
+fn read_item<T: ReadHead>(alloc: Global, piece: &[u8]) -> Result<(T, PayloadType), ParseError>
+    ensures item { IfOk result (IsItemOf T.kind piece.now) }
+    ensures fault { IfErr result (λ e. UnlessNoMemory e (T.kind.reads piece.now (says_fault (fault_of e)))) }
+    ensures cause { IfErr result (λ e. UnlessNoMemory e (T.kind.refuses e piece.now)) }
 {
     let Ok(piece) = Bytes::copy_from_slice(alloc, piece) else {
         return Err(ParseError::NoMemory);
     };
-    let item = request_head(alloc, piece)?;
-    let payload = PayloadType::of(item.body);
+    let item = T::read_head(alloc, piece)?;
+    let payload = PayloadType::of(item.body_kind());
     Ok((item, payload))
 }
 
-impl Decoder for MessageDecoder<HeadItem> {
+impl<T: ReadHead> Decoder for MessageDecoder<T> {
     ghost use Rattle.h1_messages.specs.Heads.{no_heads, Breaks, LeftAfter};
     ghost use Rattle.http_types.specs.declared.error.ParseError.TheVariants as errors;
 
-    type Item = (HeadItem, PayloadType);
+    type Item = (T, PayloadType);
 
     type Error = ParseError;
 
-    ghost Said = { Heads };
+    ghost Said = { Heads T };
 
-    ghost reads = { Reads };
+    ghost reads = { Reads T.kind };
 
     ghost given = { given };
 
@@ -143,10 +141,7 @@ impl Decoder for MessageDecoder<HeadItem> {
 
     ghost leaves = { LeftAfter };
 
-    fn decode(
-        &mut self,
-        src: &mut BytesMut,
-    ) -> Result<Option<(HeadItem, PayloadType)>, ParseError> {
+    fn decode(&mut self, src: &mut BytesMut) -> Result<Option<(T, PayloadType)>, ParseError> {
         MessageDecoder::decode(self, src)
     }
 }

@@ -27,13 +27,15 @@ mod decoder;
 pub mod laws;
 mod next;
 mod payload_type;
+mod read_head;
 
 pub use decoder::MessageDecoder;
 pub use h1_decode::{
-    BodyKind, HeadItem, HeadRoom, HeadScan, HeadScanner, read_head_into, request_head,
-    request_head_in, scan_head,
+    BodyKind, HeadItem, HeadRoom, HeadScan, HeadScanner, ResponseItem, read_head_into,
+    request_head, request_head_in, response_head, scan_head,
 };
 pub use h1_payload::{
     BodyFault, ChunkedState, DecodeError, PayloadDecoder, PayloadItem, Pulled, Rest, RestKind,
 };
 pub use payload_type::PayloadType;
+pub use read_head::ReadHead;

@@ -3,6 +3,7 @@ use crate::answers::{answer, camel_answer, chunks, interim, refusal, short};
 use crate::bodies::{chunked, chunked_bytewise, length, raw};
 use crate::heads::{head, scan};
 use crate::messages::{first_piece, message, messages_bytewise};
+use crate::responses::response;
 use http_types::NoMemory;
 use std::alloc::Global;
 use vectors::{Case, Player};
@@ -15,6 +16,7 @@ impl Player for Messages {
         match case.call {
             b"scan" => scan(case, found),
             b"head" => head(alloc, case, found),
+            b"response" => response(alloc, case, found),
             b"chunked" => chunked(alloc, case, found),
             b"chunked-bytewise" => chunked_bytewise(alloc, case, found),
             b"length" => length(alloc, case, found),

@@ -63,7 +63,8 @@ fn put_head(item: &HeadItem, found: &mut Vec<u8>) -> Result<(), NoMemory> {
     Ok(())
 }
 
-fn put_kind(kind: BodyKind, found: &mut Vec<u8>) -> Result<(), NoMemory> {
+/// A body's kind.
+pub fn put_kind(kind: BodyKind, found: &mut Vec<u8>) -> Result<(), NoMemory> {
     match kind {
         BodyKind::None => put_text(found, "none"),
         BodyKind::Chunked => put_text(found, "chunked"),
@@ -75,7 +76,8 @@ fn put_kind(kind: BodyKind, found: &mut Vec<u8>) -> Result<(), NoMemory> {
     }
 }
 
-fn connection_word(kind: ConnectionType) -> &'static str {
+/// The word of a connection type, with a blank before it.
+pub fn connection_word(kind: ConnectionType) -> &'static str {
     match kind {
         ConnectionType::KeepAlive => " keep-alive",
         ConnectionType::Close => " close",
@@ -91,6 +93,7 @@ pub fn put_error(error: ParseError, found: &mut Vec<u8>) -> Result<(), NoMemory>
         ParseError::Method => put_text(found, "method"),
         ParseError::Uri => put_text(found, "uri"),
         ParseError::Version => put_text(found, "version"),
+        ParseError::Status => put_text(found, "status"),
         ParseError::Header => put_text(found, "header"),
         _ => put_text(found, "another"),
     }

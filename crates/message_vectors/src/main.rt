@@ -1,4 +1,4 @@
-//! Plays the vectors of messages: heads, bodies in pieces, messages within a limit, and texts of answers. The program's
+//! Plays the vectors of messages: heads, bodies in pieces, heads of answers, messages within a limit, and texts of answers. The program's
 //! arguments are the files' names.
 #![tactic(auto)]
 
@@ -7,6 +7,7 @@ mod bodies;
 mod calls;
 mod heads;
 mod messages;
+mod responses;
 
 use crate::calls::Messages;
 use std::io;

@@ -5,4 +5,5 @@ use Rattle.h1_messages.specs.Heads.{Reads, given}
 use Rattle.h1_messages.proofs.laws.heads_are_given.Goals as goal
 
 pub returns : goal.returns
-returns c = λ search calls z r anew fed last. pieces_are_whole Reads given search [] calls z r fed last (anew (all_came calls ++ z))
+returns g c = λ search calls z r anew fed last.
+    pieces_are_whole (Reads g.T.ReadHead.kind) given search [] calls z r fed last (anew (all_came calls ++ z))

@@ -1,0 +1,3 @@
+pub mod Answered
+pub mod Closing
+pub mod OneStep

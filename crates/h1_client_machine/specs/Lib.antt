@@ -1,0 +1,4 @@
+pub mod ClientEvent
+pub mod ClientKept
+pub mod ClientStep
+pub mod Examples

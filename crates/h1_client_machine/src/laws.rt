@@ -1,0 +1,50 @@
+//! The laws of the step.
+ghost use Rattle.std.specs.Prelude.{◌≡◌, ◌∷◌, ◌⊎◌, ℕ, List, IsTrue, Some, true, false, drop, slice_range};
+ghost use Rattle.h1_model.specs.HeadPiece.{IsHeadPiece};
+ghost use Rattle.h1_model.specs.Setting.{Setting};
+ghost use Rattle.h1_client_model.specs.AnswerParse.{is_interim};
+ghost use Rattle.h1_client_model.specs.AnswerReading.{Answer, answer_is, IsAnswerReadingWithin};
+ghost use Rattle.h1_client_machine.specs.ClientEvent as on;
+ghost use Rattle.h1_client_machine.specs.ClientEvent.{ClientEvent, ClientEnd, ClientOutcome};
+ghost use Rattle.h1_client_machine.specs.ClientKept.{Waiting, ClientKept, client_closing, client_allows};
+ghost use Rattle.h1_client_machine.specs.ClientStep.{new_body, IsClientStep, KnowsComing};
+
+/// An event has one outcome and one state after it.
+pub fn one_step()
+    ensures outcome { (setting : Setting) (k : ClientKept) (event : ClientEvent) (a b : ClientOutcome) (m n : ClientKept)
+        → IsClientStep setting k event a m → IsClientStep setting k event b n → a ≡ b }
+    ensures state { (setting : Setting) (k : ClientKept) (event : ClientEvent) (a b : ClientOutcome) (m n : ClientKept)
+        → IsClientStep setting k event a m → IsClientStep setting k event b n → m ≡ n }
+{}
+
+/// After each step it is known whether a head is coming.
+pub fn coming_is_known()
+    ensures { (setting : Setting) (k next : ClientKept) (event : ClientEvent) (o : ClientOutcome) → IsClientStep setting k event o next
+        → KnowsComing next }
+{}
+
+/// An answer that is handed out is the reading of the piece that stands first in the bytes, and some request waits for it. An
+/// interim one leaves all requests waiting, and reads no body; any other is the answer to the request that has waited
+/// longest, whose method tells whether it has a body (RFC 7230, section 3.3.3; RFC 7231, section 6.2).
+pub fn an_answer_is_read()
+    ensures reading { (setting : Setting) (k next : ClientKept) (a : Answer) → IsClientStep setting k on.next (on.answer a) next
+        → (start end : ℕ) × IsHeadPiece k.unread start end
+        × IsAnswerReadingWithin (Some setting.hold_size) (slice_range k.unread start end) (answer_is a) × (next.unread ≡ drop end k.unread) }
+    ensures asked { (setting : Setting) (k next : ClientKept) (a : Answer) → IsClientStep setting k on.next (on.answer a) next
+        → (w : Waiting) × (ws : List Waiting) × (k.waiting ≡ w ∷ ws) }
+    ensures interim { (setting : Setting) (k next : ClientKept) (a : Answer) → IsClientStep setting k on.next (on.answer a) next
+        → is_interim a.status ≡ true → (next.waiting ≡ k.waiting) × (next.reading ≡ k.reading) }
+    ensures first_waits_no_more { (setting : Setting) (k next : ClientKept) (a : Answer) → IsClientStep setting k on.next (on.answer a) next
+        → is_interim a.status ≡ false
+        → (w : Waiting) × (k.waiting ≡ w ∷ next.waiting) × (next.reading ≡ Some (new_body k.has_ended next.unread w.method a)) }
+{}
+
+/// A connection that closes goes on closing, for the same reason, and answers nothing but bytes to write and its end.
+pub fn closing_stays()
+    ensures reason { (setting : Setting) (k next : ClientKept) (event : ClientEvent) (o : ClientOutcome) (end : ClientEnd) → KnowsComing k
+        → client_closing k ≡ Some end → IsTrue (client_allows setting k event) → IsClientStep setting k event o next
+        → client_closing next ≡ Some end }
+    ensures outcome { (setting : Setting) (k next : ClientKept) (event : ClientEvent) (o : ClientOutcome) (end : ClientEnd)
+        → client_closing k ≡ Some end → IsTrue (client_allows setting k event) → IsClientStep setting k event o next
+        → (o ≡ on.closed end) ⊎ ((o ≡ on.done) ⊎ ((bytes : List ℕ) × (o ≡ on.gave bytes))) }
+{}
