@@ -5,8 +5,8 @@ use Rattle.std.proofs.lemmas.Bool.{cond-true, cond-false, cases_eq, eq-eqb, ne_e
 use Rattle.h1_model.specs.Answer.{BodySize, size_none, size_of, size_stream, Shape, shape_none, shape_length}
 use Rattle.h1_model.specs.Parse.{Message, AreMessages}
 use Rattle.h1_model.proofs.MessageLemmas.{messages_unique}
-use Rattle.h1_client_model.specs.PlainExchange.{joined, carried_by}
-use Rattle.h1_client_model.specs.RequestText.{RequestGiven, asked_shape, kind_of_shape, body_sent, IsPlainGiven}
+use Rattle.h1_agreement.specs.PlainExchange.{carried_by}
+use Rattle.h1_client_model.specs.RequestText.{RequestGiven, joined, asked_shape, kind_of_shape, body_sent, IsPlainGiven}
 use Rattle.h1_agreement.specs.SentAnswer.{IsBodyText}
 use Rattle.h1_agreement.specs.SentRequest.{IsAsked, sent_request, asked_text, AreServedAs}
 use Rattle.h1_agreement.proofs.WrittenPieces.{AreShort, written_body}

@@ -4,8 +4,8 @@ use Rattle.std.proofs.lemmas.List.{drop_at}
 use Rattle.h1_model.specs.Frame.{Frame}
 use Rattle.h1_model.specs.FrameText.{Reader, front_frame, whole, is_under_way, PlacedFrame, ReadsFrames}
 use Rattle.h1_model.specs.Laws.WrittenFrame.{KeepsRules}
-use Rattle.h1_client_model.specs.MaskedText.{masked_text, MaskedFrame, HaveMasks, masked_texts}
-use Rattle.h1_client_model.specs.LegalMessages.{IsLegal, AreLegal}
+use Rattle.h1_agreement.specs.MaskedText.{masked_text, MaskedFrame, HaveMasks, masked_texts}
+use Rattle.h1_agreement.specs.LegalMessages.{IsLegal, AreLegal}
 use Rattle.h1_agreement.proofs.FrameMasked.{masked_back}
 
 -- a legal frame keeps the rules of a reader that takes its size

@@ -1,6 +1,7 @@
 pub mod LineFeeds
 pub mod HeadText
 pub mod WrittenHead
+pub mod SentBodies
 pub mod SentAnswers
 pub mod SentRequests
 pub mod Framing
@@ -19,4 +20,3 @@ pub mod CleanDates
 pub mod CleanReasons
 pub mod CleanHeads
 pub mod OrdinaryHeads
-pub mod InterimTraces

@@ -13,7 +13,7 @@ use Rattle.h1_model.specs.Request.{Header, keep_alive}
 use Rattle.h1_model.specs.Answer.{BodySize, size_of, size_stream, Shape, shape_none, shape_chunked, shape_length}
 use Rattle.h1_model.specs.AnswerText.{head_text, date_of, year_at, month_at, appended}
 use Rattle.h1_model.specs.Laws.ExampleTraces.{ok, usual, get_head}
-use Rattle.h1_client_model.specs.PlainExchange.{IsSelfFramed}
+use Rattle.h1_agreement.specs.PlainExchange.{IsSelfFramed}
 use Rattle.h1_client_model.specs.WrittenHead.{line_of, written_lines, IsCleanLine, IsReadBack}
 use Rattle.h1_agreement.proofs.WrittenHead.{reads_back}
 

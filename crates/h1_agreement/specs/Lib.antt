@@ -1,2 +1,5 @@
+pub mod PlainExchange
 pub mod SentAnswer
 pub mod SentRequest
+pub mod MaskedText
+pub mod LegalMessages

@@ -5,7 +5,7 @@ use Rattle.h1_model.specs.RequestHead.{IsHeadOf}
 use Rattle.h1_model.specs.Limits.{MAX_HEADER_LINES}
 use Rattle.h1_model.specs.Parse.{Message, next_start, trailers_of}
 use Rattle.h1_model.specs.Handed.{body_bytes}
-use Rattle.h1_client_model.specs.PlainExchange.{carried_by}
+use Rattle.h1_agreement.specs.PlainExchange.{carried_by}
 use Rattle.h1_client_model.specs.RequestText.{RequestGiven, asked_shape, head_said, given_request_text, body_sent}
 use Rattle.h1_agreement.specs.SentAnswer.{IsBodyText}
 

@@ -12,7 +12,7 @@ ghost use Rattle.h1_model.specs.Laws.Exchanges.{exchanges};
 ghost use Rattle.h1_model.specs.Laws.ExampleTraces.{step, ok, usual, get_head};
 ghost use Rattle.h1_client_model.specs.AnswerParse.{is_interim};
 ghost use Rattle.h1_client_model.specs.WrittenHead.{written_lines, IsReadBack};
-ghost use Rattle.h1_client_model.specs.PlainExchange.{IsPlainHead, IsSelfFramed, IsPlain, IsUninterrupted};
+ghost use Rattle.h1_agreement.specs.PlainExchange.{IsPlainHead, IsSelfFramed, IsPlain, IsUninterrupted};
 ghost use Rattle.h1_client_model.specs.RequestText.{IsPlainGiven};
 ghost use Rattle.h1_agreement.specs.SentAnswer.{CountsAnswers};
 

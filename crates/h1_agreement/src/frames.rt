@@ -4,8 +4,8 @@ ghost use Rattle.std.specs.Prelude.{◌≡◌, ℕ, ◌<◌, ◌≤◌, ◌^◌,
 ghost use Rattle.h1_model.specs.Frame.{Frame};
 ghost use Rattle.h1_model.specs.FrameText.{Reader, front_frame, whole, PlacedFrame, ReadsFrames};
 ghost use Rattle.h1_model.specs.Laws.WrittenFrame.{KeepsRules};
-ghost use Rattle.h1_client_model.specs.MaskedText.{masked_text, MaskedFrame, HaveMasks, masked_texts};
-ghost use Rattle.h1_client_model.specs.LegalMessages.{AreLegal};
+ghost use Rattle.h1_agreement.specs.MaskedText.{masked_text, MaskedFrame, HaveMasks, masked_texts};
+ghost use Rattle.h1_agreement.specs.LegalMessages.{AreLegal};
 
 /// A frame that keeps the rules, under a mask, is read back whole, whatever follows.
 pub fn what_is_masked_is_read()
