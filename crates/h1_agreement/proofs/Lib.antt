@@ -2,7 +2,9 @@ pub mod LineFeeds
 pub mod HeadText
 pub mod WrittenHead
 pub mod SentBodies
+pub mod BegunBodies
 pub mod SentAnswers
+pub mod BegunAnswers
 pub mod SentRequests
 pub mod Framing
 pub mod FrameMasked

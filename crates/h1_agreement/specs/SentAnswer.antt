@@ -1,5 +1,5 @@
 -- Answers that were sent one after another, and what a client reads of them.
-use Rattle.std.specs.Prelude.{◌≡◌, ◌⊎◌, ℕ, ◌+◌, ◌<◌, ◌≤◌, Bool, true, false, codes, if◌then◌else◌, List, [], ◌∷◌, ◌++◌, length, map, reverse, flat_map, Option, Some, None, ⊤}
+use Rattle.std.specs.Prelude.{◌≡◌, ◌⊎◌, ℕ, ◌+◌, ◌<◌, ◌≤◌, Bool, true, false, ◌&&◌, codes, nat_le, if◌then◌else◌, List, [], ◌∷◌, ◌++◌, length, map, reverse, flat_map, Option, Some, None, ⊤}
 use Rattle.std.specs.List.{AllByRecursion}
 use Rattle.h1_chunks.specs.ChunkedText.{Segment, IsSegment, segment_text, ChunkedText, IsChunkedText, chunked_text, content}
 use Rattle.h1_chunks.specs.Runs.{Run, run_bytes}
@@ -10,10 +10,11 @@ use Rattle.h1_model.specs.Setting.{Setting}
 use Rattle.h1_model.specs.Answer.{asked_of}
 use Rattle.h1_model.specs.Sums.{Step}
 use Rattle.h1_model.specs.Parse.{content as body_content, Stop, ended_at, open_or_cut}
+use Rattle.h1_model.specs.Handed.{Begins}
 use Rattle.h1_model.specs.Laws.Exchanges.{AnswerGiven, Reply, answer_given, Exchange, body_text, exchanges}
 use Rattle.h1_client_model.specs.AnswerTable.{answer_kind, answer_body, answer_connection, body_to}
 use Rattle.h1_client_model.specs.AnswerReading.{Answer, answer_is}
-use Rattle.h1_client_model.specs.AnswerParse.{Received, AnswerMessage}
+use Rattle.h1_client_model.specs.AnswerParse.{Received, AnswerMessage, left_waiting}
 use Rattle.h1_client_model.specs.WrittenHead.{written_reason, IsReadBack}
 use Rattle.h1_agreement.specs.PlainExchange.{given_shape, given_lines, given_head_text, carried, is_complete, HasNoContinue}
 
@@ -98,6 +99,32 @@ abbrev pub AreReadAs : Received → ℕ → List AnswerMessage → List SentAnsw
 AreReadAs r place [] [] = place ≡ length r.bytes
 AreReadAs r place (m ∷ ms) (s ∷ ss) = IsReadAs r place m s × AreReadAs r (place + length s.head + length s.body) ms ss
 AreReadAs r place ms ss = ⊥
+
+-- the answer that stands at the place is whole, and all its bytes came
+abbrev pub all_came : Received → ℕ → SentAnswer → Bool
+all_came r place s = s.is_whole && nat_le (place + length s.head + length s.body) (length r.bytes)
+
+-- The answer that stands at the place, of which the first bytes came, and its whole head among them, is read as far as it
+-- came: its head, and its end where all of it came. Else it is open, or cut where the input has ended, and the bytes of its
+-- body are a beginning of those that it carries.
+pub record IsBegunAs (r : Received) (place : ℕ) (m : AnswerMessage) (s : SentAnswer) : Type 0 where
+  pub head : m.reading ≡ answer_is s.answer
+  pub start : m.body_start ≡ place + length s.head
+  pub within : m.body_start ≤ length r.bytes
+  pub runs : List Run
+  pub body : m.body ≡ body_content runs (stop_of (all_came r place s) r.ended (place + length s.head + length s.body))
+  pub begins : Begins (run_bytes r.bytes runs) s.bytes
+  pub carried : all_came r place s ≡ true → run_bytes r.bytes runs ≡ s.bytes
+
+-- So are those to these methods: as many as were asked for, and have a whole head.
+abbrev pub AreBegunAs : (ℕ → Bool) → Received → ℕ → List (List ℕ) → List AnswerMessage → List SentAnswer → Type 0
+AreBegunAs waits r place [] ms ss = ms ≡ []
+AreBegunAs waits r place (method ∷ methods) [] [] = ⊤
+AreBegunAs waits r place (method ∷ methods) [] (s ∷ ss) = length r.bytes < place + length s.head
+AreBegunAs waits r place (method ∷ methods) (m ∷ ms) [] = ⊥
+AreBegunAs waits r place (method ∷ methods) (m ∷ ms) (s ∷ ss) =
+    IsBegunAs r place m s
+    × AreBegunAs waits r (place + length s.head + length s.body) (left_waiting waits m.reading method methods) ms ss
 
 -- ---- which answers count
 

@@ -7,9 +7,8 @@ ghost use Rattle.h1_model.specs.Sums.{Step};
 ghost use Rattle.h1_model.specs.Text.{text};
 ghost use Rattle.h1_model.specs.Laws.Exchanges.{AnswerGiven};
 ghost use Rattle.h1_client_model.specs.AnswerParse.{Received, AnswerMessage, AreAnswersIn};
-ghost use Rattle.h1_client_model.specs.Laws.Growth.{AnswersGrow};
 ghost use Rattle.h1_agreement.specs.PlainExchange.{IsSelfFramed, IsPlainTrace};
-ghost use Rattle.h1_agreement.specs.SentAnswer.{SentAnswer, IsSent, AreSent, AreHeld, AreTo, sent_answer, sent_text, AreReadAs, IsWaiting, methods_asked, answers_sent};
+ghost use Rattle.h1_agreement.specs.SentAnswer.{SentAnswer, IsSent, AreSent, AreHeld, AreTo, sent_answer, sent_text, AreReadAs, AreBegunAs, IsWaiting, methods_asked, answers_sent};
 
 /// An answer that says where it ends is sent so that its head is read back and frames the body that was written, whole or as
 /// far as it came.
@@ -43,4 +42,14 @@ pub fn two_ends()
     ensures no_others { (waits : ℕ → Bool) (setting : Setting) (trace : List Step) (r : Received) (further : List (List ℕ)) (ms : List AnswerMessage)
         → IsWaiting waits trace → IsPlainTrace setting trace → r.bytes ≡ text setting trace → AreHeld r.hold_size (answers_sent setting trace)
         → AreAnswersIn waits r (methods_asked trace ++ further) ms → AreReadAs r 0 ms (answers_sent setting trace) }
+{}
+
+/// A client that got only the first bytes yet, and asked fewer requests or more, reads the beginning of the answers: each has
+/// its head and its place, and its end if all of it came. Any other is never read as whole, even where the input has ended:
+/// its body is open, or cut, with a beginning of its bytes.
+pub fn two_ends_so_far()
+    ensures { (waits : ℕ → Bool) (setting : Setting) (trace : List Step) (r : Received) (more : List ℕ) (asked unasked further : List (List ℕ))
+        (ms : List AnswerMessage) → IsWaiting waits trace → IsPlainTrace setting trace → r.bytes ++ more ≡ text setting trace
+        → asked ++ unasked ≡ methods_asked trace ++ further → AreHeld r.hold_size (answers_sent setting trace)
+        → AreAnswersIn waits r asked ms → AreBegunAs waits r 0 asked ms (answers_sent setting trace) }
 {}
