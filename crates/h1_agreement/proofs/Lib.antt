@@ -12,6 +12,7 @@ pub mod LegalMessages
 pub mod WrittenPieces
 pub mod RequestText
 pub mod NameGroups
+pub mod ValuesByName
 pub mod PlainExchange
 pub mod PlainTraces
 pub mod InterimAnswers

@@ -14,11 +14,11 @@ all_both P (x ∷ xs) ys a b = (a.0, all_both P xs ys a.1 b)
 
 module _ (P : Header → Type 0) where
   -- of each header of each group
-  abbrev AllGroups : List (List Header) → Type 0
+  abbrev pub AllGroups : List (List Header) → Type 0
   AllGroups groups = AllByRecursion (λ (g : List Header). AllByRecursion P g) groups
 
   -- a further header of which it holds
-  appended_all : (groups : List (List Header)) (h : Header) → AllGroups groups → P h → AllGroups (appended groups h)
+  pub appended_all : (groups : List (List Header)) (h : Header) → AllGroups groups → P h → AllGroups (appended groups h)
   unfolding appended
   appended_all [] h all here = ((here, tt), tt)
   appended_all ([] ∷ groups) h all here = (tt, appended_all groups h all.1 here)
@@ -34,7 +34,7 @@ module _ (P : Header → Type 0) where
   folded_all (h ∷ hs) groups all here = folded_all hs (appended groups h) (appended_all groups h all here.0) here.1
 
   -- all groups, one after another
-  flat_all : (groups : List (List Header)) → AllGroups groups → AllByRecursion P (flat_map (λ group. group) groups)
+  pub flat_all : (groups : List (List Header)) → AllGroups groups → AllByRecursion P (flat_map (λ group. group) groups)
   flat_all [] all = tt
   flat_all (g ∷ groups) all = all_both P g (flat_map (λ group. group) groups) all.0 (flat_all groups all.1)
 
@@ -43,7 +43,7 @@ module _ (P : Header → Type 0) where
   by_name_all hs all = flat_all (fold appended [] hs) (folded_all hs [] tt all)
 
 -- no header has the name
-abbrev IsOther : List ℕ → Header → Type 0
+abbrev pub IsOther : List ℕ → Header → Type 0
 IsOther name h = bytes_eq h.name name ≡ false
 
 -- a name without a value is that of no header
@@ -58,7 +58,7 @@ no_value name (h ∷ hs) none = by_test (bytes_eq h.name name) refl (no_value na
     by_test false is others = (is, others (sym (ap (map (λ k. k.value)) (cond-false (bytes_eq h.name name) _ _ is)) ∙ none))
 
 -- and the name of no header has no value, whichever headers are kept
-no_kept : (name : List ℕ) (test : Header → Bool) (hs : List Header) → AllByRecursion (IsOther name) hs → values_of name (filter test hs) ≡ []
+pub no_kept : (name : List ℕ) (test : Header → Bool) (hs : List Header) → AllByRecursion (IsOther name) hs → values_of name (filter test hs) ≡ []
 no_kept name test [] none = refl
 no_kept name test (h ∷ hs) none = by_test (test h) (no_kept name test hs none.1)
   where
