@@ -61,7 +61,7 @@ values-append name a b =
     ∙ map-append (λ h. h.value) (filter (λ h. bytes_eq h.name name) a) (filter (λ h. bytes_eq h.name name) b)
 
 -- a name of which no line passes the test has no line
-none_kept : (name : List ℕ) (test : Header → Bool) → ((h : Header) → bytes_eq h.name name ≡ true → test h ≡ false)
+pub none_kept : (name : List ℕ) (test : Header → Bool) → ((h : Header) → bytes_eq h.name name ≡ true → test h ≡ false)
     → (hs : List Header) → values_of name (filter test hs) ≡ []
 none_kept name test drops [] = refl
 none_kept name test drops (h ∷ hs) = by_name_test (bytes_eq h.name name) refl (test h) refl (none_kept name test drops hs)

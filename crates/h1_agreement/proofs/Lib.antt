@@ -13,6 +13,7 @@ pub mod WrittenPieces
 pub mod RequestText
 pub mod NameGroups
 pub mod ValuesByName
+pub mod ConnectionTypes
 pub mod PlainExchange
 pub mod PlainTraces
 pub mod InterimAnswers

@@ -1,12 +1,15 @@
 //! Answers that a connection sends are read by its client.
 
 ghost use Rattle.std.specs.Prelude.{◌≡◌, ℕ, Bool, List, [], ◌++◌};
-ghost use Rattle.h1_model.specs.Request.{Head};
+ghost use Rattle.h1_model.specs.Request.{Head, raw_body};
+ghost use Rattle.h1_model.specs.Answer.{asked_of, type_of};
 ghost use Rattle.h1_model.specs.Setting.{Setting};
 ghost use Rattle.h1_model.specs.Sums.{Step};
 ghost use Rattle.h1_model.specs.Text.{text};
 ghost use Rattle.h1_model.specs.Laws.Exchanges.{AnswerGiven};
 ghost use Rattle.h1_client_model.specs.AnswerParse.{Received, AnswerMessage, AreAnswersIn};
+ghost use Rattle.h1_client_model.specs.RequestText.{RequestGiven};
+ghost use Rattle.h1_agreement.specs.SentRequest.{sent_request};
 ghost use Rattle.h1_agreement.specs.PlainExchange.{IsSelfFramed, IsPlainTrace};
 ghost use Rattle.h1_agreement.specs.SentAnswer.{SentAnswer, IsSent, AreSent, AreHeld, AreTo, sent_answer, sent_text, AreReadAs, AreBegunAs, IsWaiting, methods_asked, answers_sent};
 
@@ -23,6 +26,14 @@ pub fn what_is_sent_is_read()
         → AreHeld r.hold_size ss → AreTo waits methods ss → (ms : List AnswerMessage) × AreAnswersIn waits r methods ms × AreReadAs r 0 ms ss }
     ensures no_others { (waits : ℕ → Bool) (r : Received) (methods : List (List ℕ)) (ss : List SentAnswer) (ms : List AnswerMessage) → r.bytes ≡ sent_text ss
         → AreSent ss → AreHeld r.hold_size ss → AreTo waits methods ss → AreAnswersIn waits r methods ms → AreReadAs r 0 ms ss }
+{}
+
+/// What becomes of the connection is read as it is done, where the lines frame the body: only an answer that seems to go on to the
+/// end of the input is read as one that closes.
+pub fn connections_are_agreed()
+    ensures answer { (setting : Setting) (h : Head) (a : AnswerGiven) → ¬ ((sent_answer setting h a).answer.body ≡ raw_body)
+        → (sent_answer setting h a).answer.connection ≡ type_of setting a.answered.drained (asked_of h) a.answered.head a.answered.size }
+    ensures request { (g : RequestGiven) → (sent_request g).says.connection ≡ g.kind }
 {}
 
 /// A connection writes its answers one after another and nothing else, each to the first of the requests that wait.
