@@ -23,4 +23,5 @@ pub mod CleanNames
 pub mod CleanDates
 pub mod CleanReasons
 pub mod CleanHeads
+pub mod InterimStatuses
 pub mod OrdinaryHeads

@@ -3,3 +3,4 @@ pub mod SentAnswer
 pub mod SentRequest
 pub mod MaskedText
 pub mod LegalMessages
+pub mod Samples
