@@ -1,23 +1,23 @@
 -- The first bytes of answers that were sent are read as far as they came.
-use Rattle.std.proofs.Common.{◌≡◌, ◌⊎◌, ℕ, ◌+◌, ◌<◌, ◌≤◌, Bool, true, false, ◌&&◌, List, [], ◌∷◌, ◌++◌, length, take, drop, slice_range, Option, Some, None, MatchOption, refl, sym, ap, ap₂, ◌∙◌, subst, subst₂, inl, inr, arith, length-drop, append_assoc, le-leb}
+use Rattle.std.proofs.Common.{◌≡◌, ◌⊎◌, ℕ, ◌+◌, ◌<◌, ◌≤◌, Bool, true, false, ◌&&◌, List, [], ◌∷◌, ◌++◌, length, drop, slice_range, Option, None, MatchOption, refl, sym, ap, ap₂, ◌∙◌, subst, subst₂, inl, inr, arith, length-drop, append_assoc, le-leb}
 use Rattle.std.specs.Prelude.{nat_le}
 use Rattle.std.proofs.lemmas.Bool.{false≢true, cases_lt}
 use Rattle.std.proofs.lemmas.List.{drop-append-le, take-append-le}
 use Rattle.h1_chunks.specs.Runs.{Run, run_bytes}
 use Rattle.httparse.specs.Grammar.{print_end}
 use Rattle.h1_model.specs.HeadPiece.{AreBlankLines, BeginsBlank, EndsBlank, IsHeadPiece, HasNoHeadPiece}
-use Rattle.h1_model.specs.Parse.{Body, content, Stop, still_open, open_or_cut, ended_at, next_start, IsBodyOf}
+use Rattle.h1_model.specs.Parse.{Body, content, next_start, IsBodyOf}
 use Rattle.h1_model.specs.Handed.{Begins}
 use Rattle.h1_model.proofs.BodyLemmas.{input}
 use Rattle.h1_model.proofs.HeadPieceLemmas.{head_piece_unique, slice_range-append}
 use Rattle.h1_model.proofs.MessageGrowth.{piece_long, placed_piece, placed_slice}
 use Rattle.h1_client_model.specs.AnswerTable.{body_to}
-use Rattle.h1_client_model.specs.AnswerReading.{AnswerReading, answer_is, IsAnswerReadingWithin}
+use Rattle.h1_client_model.specs.AnswerReading.{answer_is, IsAnswerReadingWithin}
 use Rattle.h1_client_model.specs.AnswerParse.{Received, AnswerMessage, IsAnswerBody, IsAnswerAt, left_waiting, AreAnswersFrom}
 use Rattle.h1_client_model.proofs.AnswerLemmas.{answer_within_unique}
 use Rattle.h1_client_model.proofs.AnswerGrowth.{received, left_waiting-append}
 use Rattle.h1_agreement.specs.SentAnswer.{SentAnswer, IsSent, AreSent, AreHeld, sent_text, stop_of, AreTo, IsReadAs, IsBegunAs, all_came, AreBegunAs, AreReadAs}
-use Rattle.h1_agreement.proofs.BegunBodies.{Begun, body_begun}
+use Rattle.h1_agreement.proofs.BegunBodies.{body_begun}
 use Rattle.h1_agreement.proofs.SentAnswers.{sent_is_read}
 
 module _ (ended : Bool) (limit : Option ℕ) where
@@ -155,8 +155,7 @@ module _ (ended : Bool) (limit : Option ℕ) where
         (λ i. left_waiting waits (sym read.0.head i) (sym first i) (sym others i)) ∙ same in
         let there : s.is_whole ≡ true → AreAnswersFrom waits full end (left ++ unasked) ns = λ whole.
         next_of n end read.0.runs s.is_whole (left ++ unasked) ns read.0.body whole
-        (subst (λ l. MatchOption (next_start n.body) (ns ≡ []) (λ next. AreAnswersFrom waits full next l ns)) same y.1) in
-        (
+        (subst (λ l. MatchOption (next_start n.body) (ns ≡ []) (λ next. AreAnswersFrom waits full next l ns)) same y.1) in (
           here,
           rest_begun (all_came front place s) ended end here.runs m.body left ms ss here.body (part_of s.is_whole end ss sent.1)
               (λ all_there answers. begun_from end left unasked ms ns ss sent.2 (subst (λ l. AreTo waits l ss) to_left to.2) answers

@@ -1,5 +1,5 @@
 -- The first bytes of a body that was sent: it ends where it was sent to end, or it is open yet.
-use Rattle.std.proofs.Common.{◌≡◌, ℕ, ◌+◌, ◌<◌, ◌≤◌, Bool, true, false, ◌&&◌, List, [], ◌++◌, length, take, drop, Option, Some, None, refl, sym, ap, ◌∙◌, subst, subst₂, inl, inr, arith, length-append, length-drop, le-leb}
+use Rattle.std.proofs.Common.{◌≡◌, ℕ, ◌+◌, ◌<◌, ◌≤◌, Bool, true, false, ◌&&◌, List, [], ◌++◌, length, take, drop, Option, Some, None, refl, sym, ap, ◌∙◌, subst, inl, inr, arith, length-drop, le-leb}
 use Rattle.std.specs.Prelude.{nat_le}
 use Rattle.std.proofs.lemmas.Bool.{false≢true, cases_lt, lt-leb}
 use Rattle.std.proofs.lemmas.List.{drop-append-le, take-append-le}
@@ -8,7 +8,7 @@ use Rattle.h1_chunks.specs.ChunkedText.{Trailer}
 use Rattle.h1_chunks.specs.Runs.{Run, run_bytes}
 use Rattle.h1_chunks.proofs.Beginnings.{begins_take, whole_not_begun}
 use Rattle.h1_model.specs.Request.{BodyKind, no_body, fixed_body, chunked_body, raw_body, head_is}
-use Rattle.h1_model.specs.Parse.{Body, content, Stop, ended_at, still_open, open_or_cut, run_between, fixed_content, shifted, chunked_stop, next_start, IsBodyOf}
+use Rattle.h1_model.specs.Parse.{Body, content, ended_at, still_open, open_or_cut, run_between, fixed_content, shifted, chunked_stop, next_start, IsBodyOf}
 use Rattle.h1_model.specs.Handed.{Begins, body_bytes}
 use Rattle.h1_model.specs.Laws.Growth.{may_grow, BodyGrows}
 use Rattle.h1_model.proofs.BodyLemmas.{input}

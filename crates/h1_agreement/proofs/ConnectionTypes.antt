@@ -1,6 +1,6 @@
 -- What a written head says of the connection is read as it was meant.
-use Rattle.std.proofs.Common.{◌≡◌, ℕ, Bool, true, false, not, ◌&&◌, ◌||◌, List, [], ◌∷◌, ◌++◌, map, filter, cond, eqb, Option, Some, None, refl, sym, ap, ap₂, ◌∙◌, subst, append-nil}
-use Rattle.std.specs.Prelude.{bytes_eq, codes, decimal, unwrap_or, option_and_then}
+use Rattle.std.proofs.Common.{◌≡◌, ℕ, Bool, true, false, not, ◌&&◌, ◌||◌, List, [], ◌∷◌, ◌++◌, filter, cond, eqb, None, refl, ap, ap₂, ◌∙◌, append-nil}
+use Rattle.std.specs.Prelude.{bytes_eq, codes, unwrap_or, option_and_then}
 use Rattle.std.specs.List.{last_or}
 use Rattle.std.proofs.lemmas.Bool.{cond-false}
 use Rattle.httparse.specs.Grammar.{trim_ows}

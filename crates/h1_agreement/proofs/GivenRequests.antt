@@ -1,5 +1,5 @@
 -- A plain request is sent so that its server reads where its body ends.
-use Rattle.std.proofs.Common.{◌≡◌, ℕ, false, List, [], ◌∷◌, length, map, eqb, refl, sym, subst, inl, inr, arith, length-take-le, None}
+use Rattle.std.proofs.Common.{◌≡◌, ℕ, List, [], ◌∷◌, length, map, eqb, refl, sym, subst, inl, inr, arith, length-take-le}
 use Rattle.std.specs.List.{AllByRecursion}
 use Rattle.std.proofs.lemmas.Bool.{cond-true, cond-false, cases_eq, eq-eqb, ne_eqb}
 use Rattle.h1_model.specs.Answer.{BodySize, size_none, size_of, size_stream, Shape, shape_none, shape_length}

@@ -1,5 +1,5 @@
 -- The answer that lets a client go on is sent as it is said.
-use Rattle.std.proofs.Common.{◌≡◌, ℕ, Bool, true, false, cond, List, [], ◌∷◌, Some, refl, lit≤}
+use Rattle.std.proofs.Common.{ℕ, Bool, true, false, cond, List, [], Some, refl, lit≤}
 use Rattle.std.specs.Prelude.{bytes_eq, codes}
 use Rattle.std.proofs.lemmas.List.Sums.{AllPass-from_list_all}
 use Rattle.std.proofs.lemmas.List.Elements.{All-nil}

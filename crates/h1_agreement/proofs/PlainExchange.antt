@@ -114,6 +114,12 @@ chunked_kind : (status : ℕ) → has_no_content status ≡ false → eqb status
 unfolding trim_ows
 chunked_kind status content other m is = ap (λ k. read_kind k status [] (codes "chunked" ∷ [])) is ∙ rw (content, other) refl
 
+-- none of three is true, and so the second isn't
+middle : (a b c : Bool) → (a || b || c) ≡ false → b ≡ false
+middle false false c none = refl
+middle false true c none = none
+middle true b c none = absurd (false≢true (sym none))
+
 module _ (asked : Asked) (answer : AnswerHead) (a : AnswerGiven) (minor now : ℕ) (kind : ConnectionType) where
   -- what is to be shown of an answer of this size and shape
   abbrev P : BodySize → Shape → Type 0
@@ -229,7 +235,7 @@ module _ (asked : Asked) (answer : AnswerHead) (a : AnswerGiven) (minor now : �
   bodied_shape size bodied = cond-false (eqb answer.status 101) _ _ (not_101 bodied) ∙ cond-false (is_bodiless answer.status) _ _ bodied
 
   -- each size
-  module _ (high : 200 ≤ answer.status) (eleven : minor ≡ 1) (short : AreShort a.pieces) where
+  module _ (high : 200 ≤ answer.status) (newer : eqb asked.minor 0 ≡ false → minor ≡ 1) (short : AreShort a.pieces) where
     by_size : (size : BodySize) → is_bodiless answer.status ≡ false → (size ≡ size_none → asked.is_head ≡ true) → ((n : ℕ) → size ≡ size_of n → n < 2 ^ 64)
         → is_raw (sized_shape asked answer size) ≡ false → P size (sized_shape asked answer size)
     by_size size_none bodied none fits raw = head_case bodied (none refl)
@@ -244,11 +250,12 @@ module _ (asked : Asked) (answer : AnswerHead) (a : AnswerGiven) (minor now : �
         positive : (k : ℕ) → (k ≡ 0 → ⊥) → 0 < k
         positive zero other = absurd (other refl)
         positive (suc k) other = omega arith
-    by_size size_stream bodied none fits raw = by_test (asked.is_raw || (asked.minor == 0) || answer.no_chunking) raw
+    by_size size_stream bodied none fits raw = by_test (asked.is_raw || (asked.minor == 0) || answer.no_chunking) refl raw
       where
-        by_test : (t : Bool) → is_raw (cond t shape_raw shape_chunked) ≡ false → P size_stream (cond t shape_raw shape_chunked)
-        by_test true raw = absurd (false≢true (sym raw))
-        by_test false raw = chunked_case bodied eleven short
+        by_test : (t : Bool) → (asked.is_raw || (asked.minor == 0) || answer.no_chunking) ≡ t → is_raw (cond t shape_raw shape_chunked) ≡ false
+            → P size_stream (cond t shape_raw shape_chunked)
+        by_test true is raw = absurd (false≢true (sym raw))
+        by_test false is raw = chunked_case bodied (newer (middle asked.is_raw (eqb asked.minor 0) answer.no_chunking is)) short
 
     by_status : (size : BodySize) → (size ≡ size_none → (is_bodiless answer.status ≡ true) ⊎ (asked.is_head ≡ true)) → ((n : ℕ) → size ≡ size_of n → n < 2 ^ 64)
         → is_raw (shape_of asked answer size) ≡ false → P size (shape_of asked answer size)
@@ -286,16 +293,22 @@ module _ (answer : AnswerHead) (shape : Shape) (framed : is_raw shape ≡ false)
         | inr other ↦ drops ((λ i. ne_eqb answer.status 304 other i || (is_raw shape && not (eqb answer.status 101))) ∙ ap (λ t. t && not (eqb answer.status 101)) framed)
       ]
 
+-- HTTP/1.0 or HTTP/1.1
+newest : (minor : ℕ) → minor ≤ 1 → eqb minor 0 ≡ false → minor ≡ 1
+newest zero version newer = absurd (false≢true (sym newer))
+newest (suc zero) version newer = refl
+newest (suc (suc n)) version newer = absurd (omega (arith, version))
+
 -- a plain answer is sent
-pub plain_sent : (setting : Setting) (h : Head) (a : AnswerGiven) → h.minor ≡ 1 → IsSelfFramed setting h a → IsSent (sent_answer setting h a)
-plain_sent setting h a eleven x =
+pub plain_sent : (setting : Setting) (h : Head) (a : AnswerGiven) → h.minor ≤ 1 → IsSelfFramed setting h a → IsSent (sent_answer setting h a)
+plain_sent setting h a version x =
     let answer = a.answered.head in
     let shape = given_shape h a in
     let lines = given_lines setting h a in
     let kind = type_of setting a.answered.drained (asked_of h) answer a.answered.size in
     let lengths = not_kept answer shape x.shape (codes "content-length") (λ own. no_length answer shape own (by_name answer.headers)) x.no_length in
     let codings = not_kept answer shape x.shape (codes "transfer-encoding") (λ own. no_coding answer shape own (by_name answer.headers)) x.no_coding in
-    let f = by_status (asked_of h) answer a h.minor a.moment kind x.status eleven x.short a.answered.size x.size x.fits x.shape lengths codings in
+    let f = by_status (asked_of h) answer a h.minor a.moment kind x.status (newest h.minor version) x.short a.answered.size x.size x.fits x.shape lengths codings in
     let body = framed_body h.minor answer.status lines f.kind f.is in
     record {
       back = x.back;

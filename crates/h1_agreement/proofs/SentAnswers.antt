@@ -1,5 +1,5 @@
 -- Answers that were sent one after another are read as they were sent.
-use Rattle.std.proofs.Common.{◌≡◌, ℕ, ◌+◌, ◌-◌, ◌≤◌, Bool, true, false, List, [], ◌∷◌, ◌++◌, length, take, drop, map, slice_range, Option, Some, None, MatchOption, refl, sym, ap, ◌∙◌, subst, arith, append-nil, append_assoc, length-append, length-drop, inl}
+use Rattle.std.proofs.Common.{◌≡◌, ℕ, ◌+◌, ◌-◌, ◌≤◌, Bool, true, false, List, [], ◌∷◌, ◌++◌, length, take, drop, slice_range, Option, Some, None, MatchOption, refl, sym, ap, ◌∙◌, subst, arith, append-nil, append_assoc, length-append, length-drop, inl}
 use Rattle.std.proofs.Math.Seq.{take-append_seam}
 use Rattle.std.proofs.lemmas.List.{drop_at, length-map, length-take}
 use Rattle.std.proofs.lemmas.Slice.{between_is}
@@ -8,7 +8,7 @@ use Rattle.h1_chunks.specs.Runs.{Run}
 use Rattle.h1_model.proofs.BlankLemmas.{ends_blank_long}
 use Rattle.h1_model.specs.HeadPiece.{IsHeadPiece, HasNoHeadPiece, header_lines}
 use Rattle.h1_model.specs.RequestHead.{header_of}
-use Rattle.h1_model.specs.Parse.{content as body_content, Stop, next_start, IsBodyOf}
+use Rattle.h1_model.specs.Parse.{content as body_content, Stop, next_start}
 use Rattle.h1_model.proofs.BodyLemmas.{input}
 use Rattle.h1_client_model.specs.AnswerTable.{body_to}
 use Rattle.h1_client_model.specs.AnswerReading.{AnswerReading, answer_is, IsTextOf, IsAnswerReading, IsAnswerReadingWithin}

@@ -1,5 +1,5 @@
 -- A body stands in the bytes as it was sent, whole or as far as it came.
-use Rattle.std.proofs.Common.{◌≡◌, ℕ, ◌+◌, ◌-◌, ◌<◌, ◌≤◌, Bool, true, false, List, [], ◌∷◌, ◌++◌, length, take, drop, map, slice_range, None, refl, sym, ap, ◌∙◌, subst, arith, append-nil, append_assoc, length-append, codes, lit≤}
+use Rattle.std.proofs.Common.{◌≡◌, ℕ, ◌+◌, ◌-◌, Bool, true, false, List, [], ◌++◌, length, take, drop, map, slice_range, None, refl, sym, ap, ◌∙◌, subst, arith, append-nil, length-append, codes, lit≤}
 use Rattle.std.specs.Prelude.{flat_map}
 use Rattle.std.specs.List.{AllByRecursion}
 use Rattle.std.proofs.Math.Seq.{take-append_seam}
@@ -56,7 +56,9 @@ module _ (ended : Bool) (size : ℕ) where
         record {
           runs = shifted (length front) runs;
           is = (
-            whole (length text) t.trailers, runs, subst (λ l. IsChunked l (whole (length text) t.trailers) runs) (sym behind) is_chunked,
+            whole (length text) t.trailers,
+            runs,
+            subst (λ l. IsChunked l (whole (length text) t.trailers) runs) (sym behind) is_chunked,
             ap (λ l. body_content (shifted (length front) runs) (ended_at (length front + length text) (map trailer_header l))) (sym none),
           );
           carries =

@@ -1,5 +1,5 @@
 -- What a connection writes is the text of its answers, each to the first of the requests that wait.
-use Rattle.std.proofs.Common.{◌≡◌, ◌⊎◌, ℕ, ◌≤◌, length, Bool, true, false, cond, eqb, ◌||◌, List, [], ◌∷◌, ◌++◌, map, reverse, flat_map, drop, All, refl, sym, ap, ap₂, ◌∙◌, subst, inl, inr, append-nil, append_assoc, le-leb, None}
+use Rattle.std.proofs.Common.{◌≡◌, ℕ, ◌≤◌, length, Bool, true, false, cond, eqb, ◌||◌, List, [], ◌∷◌, ◌++◌, map, reverse, flat_map, drop, All, refl, sym, ap, ap₂, ◌∙◌, subst, inl, inr, append-nil, append_assoc, le-leb}
 use Rattle.std.specs.Prelude.{bytes_eq, codes}
 use Rattle.std.specs.List.{AllByRecursion}
 use Rattle.std.proofs.lemmas.Bool.{false≢true, cond-true, cond-false}
@@ -8,7 +8,7 @@ use Rattle.std.proofs.lemmas.List.Concat.{flat_map-append}
 use Rattle.std.proofs.lemmas.List.Elements.{All-head, All-tail}
 use Rattle.h1_model.specs.Request.{Head}
 use Rattle.h1_model.specs.Setting.{Setting}
-use Rattle.h1_model.specs.Answer.{AnswerHead, Asked, asked_of, BodySize, size_none, size_of, size_stream, is_at_once, Shape, shape_none, shape_length, shape_chunked, shape_raw, switching_shape, sized_shape, shape_of, is_raw, is_bodiless}
+use Rattle.h1_model.specs.Answer.{AnswerHead, Asked, asked_of, BodySize, size_none, size_of, size_stream, is_at_once, Shape, shape_none, shape_length, shape_chunked, shape_raw, switching_shape, sized_shape, is_raw, is_bodiless}
 use Rattle.h1_model.specs.AnswerText.{interim_text}
 use Rattle.h1_model.specs.Sums.{Step}
 use Rattle.h1_model.specs.Text.{text}
@@ -107,10 +107,10 @@ module _ (setting : Setting) where
       ap (λ t. s.head ++ t) (sym (append-nil s.body))
   reply_words h (session x) framed = absurd framed
 
-  reply_sent : (h : Head) (reply : Reply) → h.minor ≡ 1 → IsFramedReply setting h reply → AreSent (sents h reply)
-  reply_sent h no_reply eleven framed = tt
-  reply_sent h (answer_given a) eleven framed = (plain_sent setting h a eleven framed, (λ part. refl), tt)
-  reply_sent h (session x) eleven framed = tt
+  reply_sent : (h : Head) (reply : Reply) → h.minor ≤ 1 → IsFramedReply setting h reply → AreSent (sents h reply)
+  reply_sent h no_reply version framed = tt
+  reply_sent h (answer_given a) version framed = (plain_sent setting h a version framed, (λ part. refl), tt)
+  reply_sent h (session x) version framed = tt
 
   -- the interim answer, if the client got one
   abbrev interim : Bool → List ℕ → List SentAnswer
@@ -143,11 +143,11 @@ module _ (setting : Setting) where
       recursion-append IsSentWhole (interim e.was_told e.head.method) (sent_by setting e) (interim_whole e.was_told e.head.method)
       (by_reply e.reply x.0.version x.0.reply x.1.0 x.1.1)
     where
-      by_reply : (r : Reply) → e.head.minor ≡ 1 → IsFramedReply setting e.head r → HasCome (record { head = e.head; was_told = e.was_told; reply = r })
+      by_reply : (r : Reply) → e.head.minor ≤ 1 → IsFramedReply setting e.head r → HasCome (record { head = e.head; was_told = e.was_told; reply = r })
           → is_whole r ≡ true → AllByRecursion IsSentWhole (sent_by setting (record { head = e.head; was_told = e.was_told; reply = r }))
-      by_reply no_reply eleven framed come whole = tt
-      by_reply (answer_given a) eleven framed come whole = ((plain_sent setting e.head a eleven framed, completed setting e.head a framed come whole), tt)
-      by_reply (session s) eleven framed come whole = tt
+      by_reply no_reply version framed come whole = tt
+      by_reply (answer_given a) version framed come whole = ((plain_sent setting e.head a version framed, completed setting e.head a framed come whole), tt)
+      by_reply (session s) version framed come whole = tt
 
   -- ---- exchanges, the oldest first
 

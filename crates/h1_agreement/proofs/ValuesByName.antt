@@ -1,7 +1,7 @@
 -- What is read of a name is what was given: putting lines together by their names, and adding some, changes no values.
 use Rattle.std.proofs.Common.{◌≡◌, ◌⊎◌, ℕ, ◌/◌, Bool, true, false, not, ◌&&◌, ◌||◌, List, [], ◌∷◌, ◌++◌, map, filter, flat_map, cond, eqb, refl, sym, ap, ap₂, ◌∙◌, subst, inl, inr, append-nil, append_assoc}
 use Rattle.std.specs.Prelude.{bytes_eq, fold, codes, decimal, ⊤}
-use Rattle.std.specs.List.{AllByRecursion, list_any}
+use Rattle.std.specs.List.{AllByRecursion}
 use Rattle.std.proofs.lemmas.Bool.{false≢true, cond-true, cond-false}
 use Rattle.std.proofs.lemmas.Bool.Decides.{same_from_decides, Decides-like}
 use Rattle.std.proofs.lemmas.Slice.Eq.{bytes_eq-Decides}
@@ -9,9 +9,9 @@ use Rattle.h1_model.specs.Request.{Header, ConnectionType}
 use Rattle.h1_model.specs.LengthTable.{values_of}
 use Rattle.h1_model.specs.Answer.{AnswerHead, BodySize, size_none, size_of, size_stream, Shape, shape_none, shape_length, shape_chunked, shape_raw, is_bodiless, has_header, is_raw}
 use Rattle.h1_model.specs.AnswerText.{appended, by_name, is_sent, date_of}
-use Rattle.h1_client_model.specs.WrittenHead.{line_of, stream_lines, size_lines, framing_lines, connection_lines, date_lines, written_lines}
+use Rattle.h1_client_model.specs.WrittenHead.{line_of, size_lines, framing_lines, connection_lines, date_lines, written_lines}
 use Rattle.h1_agreement.proofs.Framing.{values-append, connection_other, date_other}
-use Rattle.h1_agreement.proofs.NameGroups.{AllGroups, appended_all, flat_all, IsOther, no_kept}
+use Rattle.h1_agreement.proofs.NameGroups.{AllGroups, appended_all, flat_all, IsOther}
 
 -- ---- names
 

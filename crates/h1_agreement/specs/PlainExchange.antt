@@ -1,5 +1,5 @@
 -- Exchanges in which two ends agree: plain requests, and answers that say where they end (RFC 7230, section 3.3.3).
-use Rattle.std.specs.Prelude.{◌≡◌, ◌⊎◌, ℕ, ◌<◌, ◌≤◌, ◌^◌, Bool, true, false, ◌||◌, List, [], ◌∷◌, length, take, drop, codes, bytes_eq, nat_le, if◌then◌else◌, ⊤}
+use Rattle.std.specs.Prelude.{◌≡◌, ◌⊎◌, ℕ, ◌<◌, ◌≤◌, ◌^◌, Bool, true, false, ◌||◌, List, [], length, take, drop, codes, bytes_eq, nat_le, if◌then◌else◌, ⊤}
 use Rattle.std.specs.List.{AllByRecursion}
 use Rattle.h1_model.specs.Request.{Header, Head, Fault}
 use Rattle.h1_model.specs.Limits.{MAX_HEADER_LINES}
@@ -70,9 +70,9 @@ IsFramedReply setting h (answer_given a) = IsSelfFramed setting h a
 IsFramedReply setting h (session s) = ⊥
 IsFramedReply setting h _ = ⊤
 
--- a request of HTTP/1.1, which got no answer yet or such an answer
+-- a request of HTTP/1.0 or HTTP/1.1, which got no answer yet or such an answer
 pub record IsPlain (setting : Setting) (e : Exchange) : Type 0 where
-  pub version : e.head.minor ≡ 1
+  pub version : e.head.minor ≤ 1
   pub reply : IsFramedReply setting e.head e.reply
 
 -- as many bytes came as the answer states, if it states a length and isn't one to HEAD

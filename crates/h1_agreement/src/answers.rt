@@ -1,6 +1,6 @@
 //! Answers that a connection sends are read by its client.
 
-ghost use Rattle.std.specs.Prelude.{◌≡◌, ℕ, Bool, List, [], ◌++◌};
+ghost use Rattle.std.specs.Prelude.{◌≡◌, ℕ, ◌≤◌, Bool, List, ◌++◌};
 ghost use Rattle.h1_model.specs.Request.{Head, raw_body};
 ghost use Rattle.h1_model.specs.Answer.{asked_of, type_of};
 ghost use Rattle.h1_model.specs.Setting.{Setting};
@@ -16,7 +16,7 @@ ghost use Rattle.h1_agreement.specs.SentAnswer.{SentAnswer, IsSent, AreSent, Are
 /// An answer that says where it ends is sent so that its head is read back and frames the body that was written, whole or as
 /// far as it came.
 pub fn plain_answers_are_sent()
-    ensures { (setting : Setting) (h : Head) (a : AnswerGiven) → h.minor ≡ 1 → IsSelfFramed setting h a → IsSent (sent_answer setting h a) }
+    ensures { (setting : Setting) (h : Head) (a : AnswerGiven) → h.minor ≤ 1 → IsSelfFramed setting h a → IsSent (sent_answer setting h a) }
 {}
 
 /// What was sent is read as it was sent, answer by answer, and nothing else is: whether the input has ended or not, and with

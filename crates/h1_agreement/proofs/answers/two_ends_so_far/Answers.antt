@@ -1,4 +1,4 @@
-use Rattle.std.proofs.Common.{◌++◌, ◌∙◌, sym, refl, subst}
+use Rattle.std.proofs.Common.{◌∙◌, sym, refl, subst}
 use Rattle.h1_agreement.specs.SentAnswer.{AreTo, answers_sent}
 use Rattle.h1_agreement.proofs.BegunAnswers.{begun_read}
 use Rattle.h1_agreement.proofs.Traces.{trace_words, trace_sent, trace_to}

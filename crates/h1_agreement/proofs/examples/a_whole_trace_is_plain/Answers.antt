@@ -1,4 +1,4 @@
-use Rattle.std.proofs.Common.{refl, inl, inr}
+use Rattle.std.proofs.Common.{refl, inl, inr, lit≤}
 use Rattle.h1_model.specs.Sums.{last_tick}
 use Rattle.h1_model.specs.Laws.Exchanges.{exchanges, changed_by}
 use Rattle.h1_model.specs.Laws.ExampleTraces.{usual}
@@ -15,7 +15,7 @@ returns-clause-plain c = record {
     no_fault = (λ f e. cc, (λ f e. cc, (λ f e. cc, (λ f e. cc, (λ f e. cc, tt)))));
     in_time = (λ e. cc, (λ e. cc, (λ e. cc, (λ e. cc, (λ e. cc, tt)))));
   };
-  plain = (record { version = refl; reply = empty_plain }, tt);
+  plain = (record { version = lit≤ tt; reply = empty_plain }, tt);
   come = tt;
 }
 

@@ -1,18 +1,21 @@
-use Rattle.std.proofs.Common.{◌≡◌, ◌<◌, ◌^◌, refl, subst, lit≤, lit<, inl, inr}
+use Rattle.std.proofs.Common.{◌≡◌, ◌<◌, ◌^◌, refl, subst, lit≤, lit<}
 use Rattle.h1_model.specs.AnswerText.{appended}
 use Rattle.h1_agreement.proofs.OrdinaryHeads.{two_back}
 use Rattle.h1_agreement.proofs.examples.an_answer_to_head_is_plain.Goals as goal
 
 pub returns : goal.returns
 unfolding appended
-returns c = (record {
-  status = lit≤ tt;
-  no_length = λ same. refl;
-  no_coding = λ same. refl;
-  shape = refl;
-  size = λ e. cc;
-  fits = λ n e. let same : 2 ≡ n = cc in subst (λ k. k < 2 ^ 64) same (lit< tt);
-  short = tt;
-  back = two_back;
-  few = lit≤ tt;
-}, refl)
+returns c = (
+  record {
+    status = lit≤ tt;
+    no_length = λ same. refl;
+    no_coding = λ same. refl;
+    shape = refl;
+    size = λ e. cc;
+    fits = λ n e. let same : 2 ≡ n = cc in subst (λ k. k < 2 ^ 64) same (lit< tt);
+    short = tt;
+    back = two_back;
+    few = lit≤ tt;
+  },
+  refl,
+)

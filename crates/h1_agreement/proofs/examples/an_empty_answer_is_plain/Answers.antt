@@ -1,4 +1,4 @@
-use Rattle.std.proofs.Common.{◌≡◌, ◌<◌, ◌^◌, refl, subst, lit≤, lit<, inl, inr}
+use Rattle.std.proofs.Common.{refl}
 use Rattle.h1_model.specs.AnswerText.{appended}
 use Rattle.h1_agreement.proofs.OrdinaryHeads.{empty_plain}
 use Rattle.h1_agreement.proofs.examples.an_empty_answer_is_plain.Goals as goal

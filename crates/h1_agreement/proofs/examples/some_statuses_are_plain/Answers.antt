@@ -1,32 +1,38 @@
-use Rattle.std.proofs.Common.{◌≡◌, ◌<◌, ◌^◌, refl, subst, lit≤, lit<, inl, inr}
+use Rattle.std.proofs.Common.{refl, lit≤, inl}
 use Rattle.h1_model.specs.AnswerText.{appended}
 use Rattle.h1_agreement.proofs.OrdinaryHeads.{no_content_back, not_modified_back}
 use Rattle.h1_agreement.proofs.examples.some_statuses_are_plain.Goals as goal
 
 pub returns-clause-no_content : goal.returns-clause-no_content
 unfolding appended
-returns-clause-no_content c = (record {
-  status = lit≤ tt;
-  no_length = λ same. refl;
-  no_coding = λ same. refl;
-  shape = refl;
-  size = λ e. inl refl;
-  fits = λ n e. cc;
-  short = tt;
-  back = no_content_back;
-  few = lit≤ tt;
-}, refl)
+returns-clause-no_content c = (
+  record {
+    status = lit≤ tt;
+    no_length = λ same. refl;
+    no_coding = λ same. refl;
+    shape = refl;
+    size = λ e. inl refl;
+    fits = λ n e. cc;
+    short = tt;
+    back = no_content_back;
+    few = lit≤ tt;
+  },
+  refl,
+)
 
 pub returns-clause-not_modified : goal.returns-clause-not_modified
 unfolding appended
-returns-clause-not_modified c = (record {
-  status = lit≤ tt;
-  no_length = λ same. refl;
-  no_coding = λ same. refl;
-  shape = refl;
-  size = λ e. inl refl;
-  fits = λ n e. cc;
-  short = tt;
-  back = not_modified_back;
-  few = lit≤ tt;
-}, refl)
+returns-clause-not_modified c = (
+  record {
+    status = lit≤ tt;
+    no_length = λ same. refl;
+    no_coding = λ same. refl;
+    shape = refl;
+    size = λ e. inl refl;
+    fits = λ n e. cc;
+    short = tt;
+    back = not_modified_back;
+    few = lit≤ tt;
+  },
+  refl,
+)
