@@ -17,6 +17,7 @@ use Rattle.h1_client_model.specs.AnswerParse.{Received, AnswerMessage, IsAnswerB
 use Rattle.h1_client_model.proofs.AnswerLemmas.{answer_within_unique}
 use Rattle.h1_client_model.proofs.AnswerGrowth.{received, left_waiting-append}
 use Rattle.h1_agreement.specs.SentAnswer.{SentAnswer, IsSent, AreSent, AreHeld, sent_text, stop_of, AreTo, IsReadAs, IsBegunAs, all_came, AreBegunAs, AreReadAs}
+use Rattle.h1_agreement.proofs.HeadFronts.{head_late}
 use Rattle.h1_agreement.proofs.BegunBodies.{body_begun}
 use Rattle.h1_agreement.proofs.SentAnswers.{sent_is_read}
 
@@ -51,36 +52,6 @@ module _ (ended : Bool) (limit : Option ℕ) where
         begins = subst (λ l. Begins (run_bytes bytes b.runs) l) read.carried b.begins;
         carried = λ there. b.carried there ∙ read.carried;
       }
-
-  -- ---- a head that is whole among the first bytes
-
-  -- a blank line that begins the first bytes begins them all
-  begins_more : (xs ys : List ℕ) → BeginsBlank xs → BeginsBlank (xs ++ ys)
-  begins_more xs ys x = (x.0, x.1 ++ ys, ap (λ (l : List ℕ). l ++ ys) x.2 ∙ append_assoc (print_end x.0) x.1 ys)
-
-  -- a head piece of all bytes that ends among the first is one of these
-  piece_front : (xs ys : List ℕ) (s e : ℕ) → IsHeadPiece (xs ++ ys) s e → e ≤ length xs → IsHeadPiece xs s e
-  piece_front xs ys s e x fits =
-      let ordered = x.ordered in
-      let same : slice_range (xs ++ ys) s e ≡ slice_range xs s e = slice_range-append xs ys s e x.ordered fits in
-      record {
-        ordered = x.ordered;
-        in_range = fits;
-        blank = subst AreBlankLines (take-append-le s xs ys (omega (arith, ordered))) x.blank;
-        begins = λ b. x.begins (subst BeginsBlank (sym (drop-append-le s xs ys (omega (arith, ordered)))) (begins_more (drop s xs) ys b));
-        ends = subst EndsBlank same x.ends;
-        first = λ k after before b. x.first k after before (subst EndsBlank (sym (slice_range-append xs ys s k after (omega (arith, before)))) b);
-      }
-
-  -- so where none is whole the bytes end before it does
-  head_late : (bytes more : List ℕ) (place s e : ℕ) → HasNoHeadPiece (drop place bytes) → IsHeadPiece (drop place (bytes ++ more)) s e → length bytes < place + e
-  head_late bytes more place s e none x =
-      elim (cases_lt (length bytes) (place + e)) [
-        | inl late ↦ late
-        | inr early ↦
-            let moved = subst (λ t. IsHeadPiece t s e) (drop-append-le place bytes more (omega arith)) x in
-            absurd (none s e (piece_front (drop place bytes) more s e moved (omega (arith, length-drop place bytes))))
-      ]
 
   -- ---- all answers
 

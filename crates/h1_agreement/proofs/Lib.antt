@@ -4,8 +4,10 @@ pub mod WrittenHead
 pub mod SentBodies
 pub mod BegunBodies
 pub mod SentAnswers
+pub mod HeadFronts
 pub mod BegunAnswers
 pub mod SentRequests
+pub mod BegunRequests
 pub mod Framing
 pub mod FrameMasked
 pub mod LegalMessages

@@ -1,10 +1,10 @@
 //! Requests that a client sends are read by its server.
 
-ghost use Rattle.std.specs.Prelude.{◌≡◌, ℕ, List, map};
+ghost use Rattle.std.specs.Prelude.{◌≡◌, ℕ, List, ◌++◌, map};
 ghost use Rattle.std.specs.List.{AllByRecursion};
 ghost use Rattle.h1_model.specs.Parse.{Input, Message, IsParse};
 ghost use Rattle.h1_client_model.specs.RequestText.{RequestGiven, IsPlainGiven};
-ghost use Rattle.h1_agreement.specs.SentRequest.{SentRequest, IsAsked, sent_request, asked_text, AreServedAs};
+ghost use Rattle.h1_agreement.specs.SentRequest.{SentRequest, IsAsked, sent_request, asked_text, AreServedAs, AreBegunServed};
 
 /// A plain request is sent so that its head is read back and frames the body that was written.
 pub fn plain_requests_are_sent()
@@ -26,4 +26,12 @@ pub fn two_ends_of_requests()
         → (ms : List Message) × IsParse i ms × AreServedAs i 0 ms (map sent_request gs) }
     ensures no_others { (i : Input) (gs : List RequestGiven) (ms : List Message) → AllByRecursion (IsPlainGiven i.hold_size) gs
         → i.bytes ≡ asked_text (map sent_request gs) → IsParse i ms → AreServedAs i 0 ms (map sent_request gs) }
+{}
+
+/// A server that got only the first bytes yet reads the beginning of the requests: each has its head and its place, and its end
+/// if all of it came. Any other is never read as whole, even where the input has ended: its body is open, or cut, with a
+/// beginning of its bytes.
+pub fn two_ends_of_requests_so_far()
+    ensures { (i : Input) (more : List ℕ) (gs : List RequestGiven) (ms : List Message) → AllByRecursion (IsPlainGiven i.hold_size) gs
+        → i.bytes ++ more ≡ asked_text (map sent_request gs) → IsParse i ms → AreBegunServed i 0 ms (map sent_request gs) }
 {}
