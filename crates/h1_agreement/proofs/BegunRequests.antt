@@ -104,8 +104,7 @@ module _ (u : Option ℕ) (ended : Bool) (size : ℕ) (bytes more : List ℕ) wh
   begun_from place (m ∷ ms) (n ∷ ns) (s ∷ ss) asked x y read =
       let end = place + length s.head + length s.body in
       let here = request_begun place m n s asked.0 x.0 y.0 read.0 in
-      let there : AreMessages full end ns = subst (λ b. MatchOption (next_start b) (ns ≡ []) (λ next. AreMessages full next ns)) read.0.body y.1 in
-      (
+      let there : AreMessages full end ns = subst (λ b. MatchOption (next_start b) (ns ≡ []) (λ next. AreMessages full next ns)) read.0.body y.1 in (
         here,
         rest_begun (has_come front place s) ended end here.runs m.body ms ss here.body (late_end end)
             (λ all_there messages. begun_from end ms ns ss asked.1 messages there read.1) x.1,
