@@ -1,11 +1,10 @@
 -- The second reading takes the blanks before colons away, and nothing else.
-use Rattle.std.proofs.Common.{◌≡◌, ℕ, Bool, true, false, ◌||◌, List, [], ◌∷◌, ◌++◌, reverse, refl, sym, ap, ap₂, ◌∙◌, subst, eqb, append-nil, append_assoc, arith}
+use Rattle.std.proofs.Common.{◌≡◌, ℕ, Bool, true, false, ◌||◌, List, [], ◌∷◌, ◌++◌, reverse, refl, sym, ap, ◌∙◌, subst, eqb, append-nil, append_assoc, arith}
 use Rattle.std.specs.Prelude.{flat_map}
 use Rattle.std.specs.List.{AllByRecursion}
 use Rattle.std.proofs.lemmas.Bool.{false≢true, cond-true, cond-false}
 use Rattle.std.proofs.lemmas.Bool.Decides.{nat_tests}
 use Rattle.std.proofs.lemmas.List.{reverse-append, reverse-reverse}
-use Rattle.httparse.specs.Ascii.{line_feed, colon}
 use Rattle.httparse.specs.Grammar.{is_ows, skip_ows}
 use Rattle.h1_client_model.specs.LaxText.{without_blanks, unpadded_line, unpadded_lines, unpadded}
 use Rattle.h1_client_model.specs.Laws.PaddedLines.{PaddedLine, HasNoFeed, HasNoColon, IsPaddedLine, padded_text, plain_text}

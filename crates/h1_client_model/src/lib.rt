@@ -23,7 +23,8 @@
 //!
 //! # The laws
 //!
-//! - [`answer_head`]: a piece has one reading as an answer, and it has one.
+//! - [`answer_head`]: a piece has one reading as an answer, and it has one; the second reading leaves out blanks before
+//!   colons and nothing else.
 //! - [`answers`]: any bytes have just one list of answers; bytes and requests that follow leave each answer where it
 //!   was; the answers from a place on are those of the bytes from there on.
 //! - [`table_examples`], [`answer_examples`]: small heads and bytes with all their values.

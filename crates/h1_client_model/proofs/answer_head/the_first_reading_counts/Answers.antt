@@ -1,4 +1,4 @@
-use Rattle.std.proofs.Common.{refl, inl, inr}
+use Rattle.std.proofs.Common.{inl}
 use Rattle.h1_client_model.proofs.AnswerDecisions.{never_lax}
 use Rattle.h1_client_model.proofs.answer_head.the_first_reading_counts.Goals as goal
 
