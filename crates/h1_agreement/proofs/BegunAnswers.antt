@@ -1,15 +1,12 @@
 -- The first bytes of answers that were sent are read as far as they came.
-use Rattle.std.proofs.Common.{◌≡◌, ◌⊎◌, ℕ, ◌+◌, ◌<◌, ◌≤◌, Bool, true, false, ◌&&◌, List, [], ◌∷◌, ◌++◌, length, drop, slice_range, Option, None, MatchOption, refl, sym, ap, ap₂, ◌∙◌, subst, subst₂, inl, inr, arith, length-drop, append_assoc, le-leb}
+use Rattle.std.proofs.Common.{◌≡◌, ◌⊎◌, ℕ, ◌+◌, ◌<◌, ◌≤◌, Bool, true, false, ◌&&◌, List, [], ◌∷◌, ◌++◌, length, drop, slice_range, Option, None, MatchOption, refl, sym, ap, ap₂, ◌∙◌, subst, subst₂, inl, inr, arith, length-drop, le-leb}
 use Rattle.std.specs.Prelude.{nat_le}
 use Rattle.std.proofs.lemmas.Bool.{false≢true, cases_lt}
-use Rattle.std.proofs.lemmas.List.{drop-append-le, take-append-le}
 use Rattle.h1_chunks.specs.Runs.{Run, run_bytes}
-use Rattle.httparse.specs.Grammar.{print_end}
-use Rattle.h1_model.specs.HeadPiece.{AreBlankLines, BeginsBlank, EndsBlank, IsHeadPiece, HasNoHeadPiece}
 use Rattle.h1_model.specs.Parse.{Body, content, next_start, IsBodyOf}
 use Rattle.h1_model.specs.Handed.{Begins}
 use Rattle.h1_model.proofs.BodyLemmas.{input}
-use Rattle.h1_model.proofs.HeadPieceLemmas.{head_piece_unique, slice_range-append}
+use Rattle.h1_model.proofs.HeadPieceLemmas.{head_piece_unique}
 use Rattle.h1_model.proofs.MessageGrowth.{piece_long, placed_piece, placed_slice}
 use Rattle.h1_client_model.specs.AnswerTable.{body_to}
 use Rattle.h1_client_model.specs.AnswerReading.{answer_is, IsAnswerReadingWithin}

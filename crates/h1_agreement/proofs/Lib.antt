@@ -19,6 +19,7 @@ pub mod ConnectionTypes
 pub mod PlainExchange
 pub mod PlainTraces
 pub mod InterimAnswers
+pub mod ComeBodies
 pub mod Traces
 pub mod GivenRequests
 pub mod CleanNames

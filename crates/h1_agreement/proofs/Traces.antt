@@ -15,8 +15,9 @@ use Rattle.h1_model.specs.Text.{text}
 use Rattle.h1_model.specs.Laws.Exchanges.{AnswerGiven, Reply, no_reply, answer_given, session, is_whole, Exchange, reply_text, exchange_text, exchanges, exchanges_text, refusal_text}
 use Rattle.h1_model.proofs.ExchangeTraces.{spoken}
 use Rattle.h1_client_model.specs.RequestText.{joined}
-use Rattle.h1_agreement.specs.PlainExchange.{given_shape, is_full, is_complete, IsSelfFramed, IsFramedReply, IsPlain, HasCome, IsPlainTrace}
+use Rattle.h1_agreement.specs.PlainExchange.{given_shape, is_full, is_complete, IsSelfFramed, IsFramedReply, IsPlain, IsPlainTrace}
 use Rattle.h1_agreement.specs.SentAnswer.{SentAnswer, IsSent, AreSent, sent_text, CountsAnswers, IsWaiting, AreTo, sent_answer, sent_by, interim_sent, sent_to, answers_sent, methods_asked}
+use Rattle.h1_agreement.proofs.ComeBodies.{HasCome, trace_come}
 use Rattle.h1_agreement.proofs.PlainTraces.{IsQuiet, none_refused, quiet_exchanges}
 use Rattle.h1_agreement.proofs.PlainExchange.{plain_sent}
 use Rattle.h1_agreement.proofs.InterimAnswers.{interim_is_sent}
@@ -190,7 +191,7 @@ module _ (setting : Setting) where
 
   -- and they are sent
   pub trace_sent : (trace : List Step) → IsPlainTrace setting trace → AreSent (answers_sent setting trace)
-  trace_sent trace x = all_sent (exchanges trace) x.plain x.come (spoken setting trace x.traced).whole
+  trace_sent trace x = all_sent (exchanges trace) x.plain (trace_come setting trace x.traced) (spoken setting trace x.traced).whole
 
   -- ---- whose answer each is
 
@@ -277,4 +278,4 @@ module _ (setting : Setting) where
   pub trace_to : (waits : ℕ → Bool) (trace : List Step) (further : List (List ℕ)) → IsWaiting waits trace → IsPlainTrace setting trace
       → AreTo waits (methods_asked trace ++ further) (answers_sent setting trace)
   trace_to waits trace further w x =
-      all_to waits w.counts (exchanges trace) further (awaited_all waits trace w) x.plain x.come (spoken setting trace x.traced).whole
+      all_to waits w.counts (exchanges trace) further (awaited_all waits trace w) x.plain (trace_come setting trace x.traced) (spoken setting trace x.traced).whole

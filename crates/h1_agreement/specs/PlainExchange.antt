@@ -1,5 +1,5 @@
 -- Exchanges in which two ends agree: plain requests, and answers that say where they end (RFC 7230, section 3.3.3).
-use Rattle.std.specs.Prelude.{◌≡◌, ◌⊎◌, ℕ, ◌<◌, ◌≤◌, ◌^◌, Bool, true, false, ◌||◌, List, [], length, take, drop, codes, bytes_eq, nat_le, if◌then◌else◌, ⊤}
+use Rattle.std.specs.Prelude.{◌≡◌, ◌⊎◌, ℕ, ◌<◌, ◌≤◌, ◌^◌, Bool, true, false, ◌||◌, List, [], length, take, codes, bytes_eq, nat_le, if◌then◌else◌, ⊤}
 use Rattle.std.specs.List.{AllByRecursion}
 use Rattle.h1_model.specs.Request.{Header, Head, Fault}
 use Rattle.h1_model.specs.Limits.{MAX_HEADER_LINES}
@@ -75,14 +75,6 @@ pub record IsPlain (setting : Setting) (e : Exchange) : Type 0 where
   pub version : e.head.minor ≤ 1
   pub reply : IsFramedReply setting e.head e.reply
 
--- as many bytes came as the answer states, if it states a length and isn't one to HEAD
-abbrev pub HasCome : Exchange → Type 0
-HasCome e = by_reply e.reply
-  where
-    by_reply : Reply → Type 0
-    by_reply (answer_given a) = bytes_eq e.head.method (codes "HEAD") ≡ false → (n : ℕ) → given_shape e.head a ≡ shape_length n → n ≤ length (joined a.pieces)
-    by_reply _ = ⊤
-
 -- ---- traces
 
 -- no head was refused, and no request was given up as too slow
@@ -94,9 +86,8 @@ pub record IsUnrefused (trace : List Step) : Type 0 where
 abbrev pub HasNoContinue : List Step → Type 0
 HasNoContinue trace = AllByRecursion (λ s. ¬ (s.event ≡ on.send_continue)) trace
 
--- A trace that nothing interrupts, whose exchanges are plain. All bytes of each answer came, but perhaps of the newest.
+-- a trace that nothing interrupts, whose exchanges are plain
 pub record IsPlainTrace (setting : Setting) (trace : List Step) : Type 0 where
   pub traced : IsTrace setting trace
   pub unrefused : IsUnrefused trace
   pub plain : AllByRecursion (IsPlain setting) (exchanges trace)
-  pub come : AllByRecursion HasCome (drop 1 (exchanges trace))

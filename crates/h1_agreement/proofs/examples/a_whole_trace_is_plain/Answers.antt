@@ -16,7 +16,6 @@ returns-clause-plain c = record {
     in_time = (λ e. cc, (λ e. cc, (λ e. cc, (λ e. cc, (λ e. cc, tt)))));
   };
   plain = (record { version = lit≤ tt; reply = empty_plain }, tt);
-  come = tt;
 }
 
 pub returns-clause-counts_each : goal.returns-clause-counts_each
