@@ -59,7 +59,7 @@ module _ (bytes more : List ℕ) (ended : Bool) (place : ℕ) (within : place �
       by_test true late = lt-leb end (length bytes) (late refl)
       by_test false late = refl
 
-  -- no body is behind a part, or it ends at its place
+  -- one end is one place, and what is open has none
   same_end : {m n : ℕ} → ◌≡◌ {A = Option ℕ} (Some m) (Some n) → n ≡ m
   same_end e = cc
 

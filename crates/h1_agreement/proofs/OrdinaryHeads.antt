@@ -14,7 +14,7 @@ use Rattle.h1_model.specs.Answer.{AnswerHead, BodySize, size_none, size_of, size
 use Rattle.h1_model.specs.AnswerText.{head_text, date_of, year_at, month_at, appended}
 use Rattle.h1_model.specs.Laws.ExampleTraces.{ok, usual, get_head}
 use Rattle.h1_agreement.specs.PlainExchange.{IsSelfFramed}
-use Rattle.h1_agreement.specs.Samples.{no_content, not_modified, given}
+use Rattle.h1_agreement.specs.Samples.{no_content, not_modified, not_modified_with_length, given}
 use Rattle.h1_client_model.specs.WrittenHead.{line_of, written_lines, IsCleanLine, IsReadBack}
 use Rattle.h1_agreement.proofs.WrittenHead.{reads_back}
 
@@ -84,13 +84,22 @@ unfolding date_of year_at month_at appended digits
 not_modified_back =
     reads_back 1 not_modified shape_none size_none keep_alive 0 (lit≤ tt) (lit≤ tt, lit< tt) (AllPass-from_list_all is_value_byte (codes "Not Modified") refl) (clean_date, tt)
 
+clean_five : IsCleanLine false (line_of (codes "content-length") (codes "5"))
+unfolding is_token_byte trim_ows
+clean_five = clean_line _ refl refl refl
+
+pub with_length_back : BareOf not_modified_with_length (codes "Not Modified")
+unfolding date_of year_at month_at appended digits
+with_length_back =
+    reads_back 1 not_modified_with_length shape_none size_none keep_alive 0 (lit≤ tt) (lit≤ tt, lit< tt) (AllPass-from_list_all is_value_byte (codes "Not Modified") refl)
+    (clean_five, (clean_date, tt))
+
 -- an answer without a body says where it ends
 pub empty_plain : IsSelfFramed usual get_head (given ok (size_of 0) [] false)
 unfolding appended
 empty_plain = record {
   status = lit≤ tt;
-  no_length = λ same. refl;
-  no_coding = λ same. refl;
+  unrefused = λ same. refl;
   shape = refl;
   size = λ e. cc;
   fits = λ n e. let same : 0 ≡ n = cc in subst (λ k. k < 2 ^ 64) same (lit< tt);

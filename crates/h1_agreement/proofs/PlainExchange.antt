@@ -8,20 +8,20 @@ use Rattle.std.proofs.lemmas.List.{take_all, take-append-le}
 use Rattle.httparse.specs.Grammar.{trim_ows}
 use Rattle.h1_model.specs.Request.{Header, Head, ConnectionType, BodyKind, no_body, fixed_body, chunked_body, raw_body}
 use Rattle.h1_model.specs.Setting.{Setting}
-use Rattle.h1_model.specs.LengthTable.{values_of}
-use Rattle.h1_model.specs.Answer.{AnswerHead, Asked, asked_of, BodySize, size_none, size_of, size_stream, Shape, shape_none, shape_length, shape_chunked, shape_raw, shape_of, sized_shape, is_bodiless, is_raw}
+use Rattle.h1_model.specs.LengthTable.{values_of, is_length_refused}
+use Rattle.h1_model.specs.Answer.{AnswerHead, Asked, asked_of, BodySize, size_none, size_of, size_stream, Shape, shape_none, shape_length, shape_chunked, shape_raw, shape_of, switching_shape, sized_shape, is_bodiless, is_raw}
 use Rattle.std.proofs.lemmas.Bool.{eq-eqb, ne_eqb}
 use Rattle.h1_model.specs.Answer.{type_of}
 use Rattle.h1_client_model.specs.WrittenHead.{line_of, size_lines, written_lines}
 use Rattle.h1_model.specs.AnswerText.{by_name, is_sent, piece_text, sent_piece, chunk_text, last_chunk}
 use Rattle.h1_model.specs.Laws.Exchanges.{AnswerGiven, pieces_text, body_text}
-use Rattle.h1_client_model.specs.AnswerTable.{is_answer_refused, answer_body, answer_kind, body_to, has_no_content}
+use Rattle.h1_client_model.specs.AnswerTable.{is_answer_coding_refused, is_answer_refused, answer_body, answer_kind, body_to, has_no_content}
 use Rattle.h1_client_model.specs.WrittenHead.{framing_lines}
 use Rattle.h1_agreement.specs.SentAnswer.{IsBodySent, IsSent, sent_answer}
 use Rattle.h1_agreement.specs.PlainExchange.{given_shape, given_lines, carried_by, carried, IsSelfFramed, is_full, is_complete}
 use Rattle.h1_client_model.specs.RequestText.{joined}
 use Rattle.h1_agreement.proofs.Framing.{read_kind, kind_read_by, length_read, no_length, no_coding}
-use Rattle.h1_agreement.proofs.NameGroups.{none_sent}
+use Rattle.h1_agreement.proofs.ValuesByName.{kept_values}
 use Rattle.h1_agreement.proofs.WrittenPieces.{written_body, written_front, AreShort}
 
 -- ---- the text of a body
@@ -121,12 +121,17 @@ middle false true c none = none
 middle true b c none = absurd (false≢true (sym none))
 
 module _ (asked : Asked) (answer : AnswerHead) (a : AnswerGiven) (minor now : ℕ) (kind : ConnectionType) where
+  -- the body is framed as it was sent
+  abbrev F : BodySize → Shape → Type 0
+  F size s =
+      Framed minor answer.status (written_lines minor answer s size kind now) asked.is_head (asked.is_head || is_full s a) (body_text asked s a)
+      (cond asked.is_head [] (carried_by s a.pieces))
+
   -- what is to be shown of an answer of this size and shape
   abbrev P : BodySize → Shape → Type 0
   P size s =
       values_of (codes "content-length") (filter (is_sent answer s) (by_name answer.headers)) ≡ []
-      → values_of (codes "transfer-encoding") (filter (is_sent answer s) (by_name answer.headers)) ≡ []
-      → Framed minor answer.status (written_lines minor answer s size kind now) asked.is_head (asked.is_head || is_full s a) (body_text asked s a) (cond asked.is_head [] (carried_by s a.pieces))
+      → values_of (codes "transfer-encoding") (filter (is_sent answer s) (by_name answer.headers)) ≡ [] → F size s
 
   none_text : asked.is_head ≡ false → body_text asked shape_none a ≡ []
   none_text other = ap₂ (λ x y. x ++ y) (none_pieces asked other 0 a.pieces) (plain_end asked.is_head a.is_ended [] refl)
@@ -162,6 +167,22 @@ module _ (asked : Asked) (answer : AnswerHead) (a : AnswerGiven) (minor now : �
         is = lines_read shape_none size [] (no_lines shape_none size bodiless) no_length no_coding ∙ rw none refl;
         body = by_head asked shape_none a no_body true (λ other. (none_text other, refl));
       }
+
+  -- a 304 keeps framing lines of its own, and has no body all the same
+  not_modified_case : (size : BodySize) → answer.status ≡ 304 → is_answer_refused minor answer.headers ≡ false → F size (shape_of asked answer size)
+  not_modified_case size is unrefused =
+      let shape : shape_of asked answer size ≡ shape_none =
+      λ i. cond (eqb (is i) 101) (switching_shape size) (cond (is_bodiless (is i)) shape_none (sized_shape asked answer size)) in
+      let lines = written_lines minor answer shape_none size kind now in
+      let lengths = kept_values (codes "content-length") minor answer shape_none size kind now is refl refl in
+      let codings = kept_values (codes "transfer-encoding") minor answer shape_none size kind now is refl refl in
+      let taken : is_answer_refused minor lines ≡ false = (λ i. is_length_refused (lengths i) || is_answer_coding_refused minor (codings i)) ∙ unrefused in
+      let none : has_no_content answer.status ≡ true = ap has_no_content is in
+      subst (F size) (sym shape) (record {
+        kind = no_body;
+        is = cond-false (is_answer_refused minor lines) None (Some (answer_body minor answer.status lines)) taken ∙ ap Some (cond-true (has_no_content answer.status) no_body _ none);
+        body = by_head asked shape_none a no_body true (λ other. (none_text other, refl));
+      })
 
   head_case : is_bodiless answer.status ≡ false → asked.is_head ≡ true → P size_none shape_none
   head_case bodied head no_length no_coding = record {
@@ -282,17 +303,6 @@ framed_body minor status lines kind is = by_test (is_answer_refused minor lines)
     by_test true e = cc
     by_test false e = (refl, cc)
 
--- No framing line of its own goes out: only a 304 keeps such a line, and it has none.
-module _ (answer : AnswerHead) (shape : Shape) (framed : is_raw shape ≡ false) (name : List ℕ)
-    (drops : (eqb answer.status 304 || (is_raw shape && not (eqb answer.status 101))) ≡ false → values_of name (filter (is_sent answer shape) (by_name answer.headers)) ≡ [])
-    (none : answer.status ≡ 304 → values_of name answer.headers ≡ []) where
-  not_kept : values_of name (filter (is_sent answer shape) (by_name answer.headers)) ≡ []
-  not_kept =
-      elim (cases_eq answer.status 304) [
-        | inl same ↦ none_sent name (is_sent answer shape) answer.headers (none same)
-        | inr other ↦ drops ((λ i. ne_eqb answer.status 304 other i || (is_raw shape && not (eqb answer.status 101))) ∙ ap (λ t. t && not (eqb answer.status 101)) framed)
-      ]
-
 -- HTTP/1.0 or HTTP/1.1
 newest : (minor : ℕ) → minor ≤ 1 → eqb minor 0 ≡ false → minor ≡ 1
 newest zero version newer = absurd (false≢true (sym newer))
@@ -306,9 +316,14 @@ plain_sent setting h a version x =
     let shape = given_shape h a in
     let lines = given_lines setting h a in
     let kind = type_of setting a.answered.drained (asked_of h) answer a.answered.size in
-    let lengths = not_kept answer shape x.shape (codes "content-length") (λ own. no_length answer shape own (by_name answer.headers)) x.no_length in
-    let codings = not_kept answer shape x.shape (codes "transfer-encoding") (λ own. no_coding answer shape own (by_name answer.headers)) x.no_coding in
-    let f = by_status (asked_of h) answer a h.minor a.moment kind x.status (newest h.minor version) x.short a.answered.size x.size x.fits x.shape lengths codings in
+    let f : F (asked_of h) answer a h.minor a.moment kind a.answered.size shape = elim (cases_eq answer.status 304) [
+      | inl same ↦ not_modified_case (asked_of h) answer a h.minor a.moment kind a.answered.size same (x.unrefused same)
+      | inr other ↦
+          let own : (eqb answer.status 304 || (is_raw shape && not (eqb answer.status 101))) ≡ false =
+          (λ i. ne_eqb answer.status 304 other i || (is_raw shape && not (eqb answer.status 101))) ∙ ap (λ t. t && not (eqb answer.status 101)) x.shape in
+          by_status (asked_of h) answer a h.minor a.moment kind x.status (newest h.minor version) x.short a.answered.size x.size x.fits x.shape
+          (no_length answer shape own (by_name answer.headers)) (no_coding answer shape own (by_name answer.headers))
+    ] in
     let body = framed_body h.minor answer.status lines f.kind f.is in
     record {
       back = x.back;

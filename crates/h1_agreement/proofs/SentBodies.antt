@@ -34,8 +34,8 @@ module _ (ended : Bool) (size : ℕ) where
   -- ---- whole bodies
 
   module _ (front text rest : List ℕ) where
-    behind : drop (length front) (front ++ (text ++ rest)) ≡ text ++ rest
-    behind = drop_at front (text ++ rest) (length front) refl
+    follows : drop (length front) (front ++ (text ++ rest)) ≡ text ++ rest
+    follows = drop_at front (text ++ rest) (length front) refl
 
     long : length (front ++ (text ++ rest)) ≡ length front + (length text + length rest)
     long = length-append front (text ++ rest) ∙ ap (λ n. length front + n) (length-append text rest)
@@ -43,7 +43,7 @@ module _ (ended : Bool) (size : ℕ) where
     here : slice_range (front ++ (text ++ rest)) (length front) (length front + length text) ≡ text
     here =
         let n : length front + length text - length front ≡ length text = omega arith in
-        ap (λ k. take k (drop (length front) (front ++ (text ++ rest)))) n ∙ ap (take (length text)) behind ∙ take-append_seam text rest
+        ap (λ k. take k (drop (length front) (front ++ (text ++ rest)))) n ∙ ap (take (length text)) follows ∙ take-append_seam text rest
 
     chunks_stand : (t : ChunkedText) → Spells text t → t.trailers ≡ []
         → Stands (input_of (front ++ (text ++ rest))) chunked_body (length front) (ended_at (length front + length text) []) (content t)
@@ -58,11 +58,11 @@ module _ (ended : Bool) (size : ℕ) where
           is = (
             whole (length text) t.trailers,
             runs,
-            subst (λ l. IsChunked l (whole (length text) t.trailers) runs) (sym behind) is_chunked,
+            subst (λ l. IsChunked l (whole (length text) t.trailers) runs) (sym follows) is_chunked,
             ap (λ l. body_content (shifted (length front) runs) (ended_at (length front + length text) (map trailer_header l))) (sym none),
           );
           carries =
-              run_bytes_shifted bytes (length front) runs ∙ ap (λ l. run_bytes l runs) behind
+              run_bytes_shifted bytes (length front) runs ∙ ap (λ l. run_bytes l runs) follows
               ∙ sym (runs_read (text ++ rest) (whole (length text) t.trailers) runs is_chunked)
               ∙ ap (λ l. (read start (l ++ rest)).body) spells.1 ∙ ap (λ r. r.body) (text_read t rest spells.0);
         }

@@ -2,7 +2,7 @@
 use Rattle.std.proofs.Common.{◌≡◌, ◌⊎◌, ℕ, ◌/◌, Bool, true, false, not, ◌&&◌, ◌||◌, List, [], ◌∷◌, ◌++◌, map, filter, flat_map, cond, eqb, refl, sym, ap, ap₂, ◌∙◌, subst, inl, inr, append-nil, append_assoc}
 use Rattle.std.specs.Prelude.{bytes_eq, fold, codes, decimal, ⊤}
 use Rattle.std.specs.List.{AllByRecursion}
-use Rattle.std.proofs.lemmas.Bool.{false≢true, cond-true, cond-false}
+use Rattle.std.proofs.lemmas.Bool.{false≢true, cond-true, cond-false, eq-eqb}
 use Rattle.std.proofs.lemmas.Bool.Decides.{same_from_decides, Decides-like}
 use Rattle.std.proofs.lemmas.Slice.Eq.{bytes_eq-Decides}
 use Rattle.h1_model.specs.Request.{Header, ConnectionType}
@@ -20,6 +20,11 @@ same_name a b h = (bytes_eq-Decides a b).0 h
 
 eq_sym : (a b : List ℕ) → bytes_eq a b ≡ bytes_eq b a
 eq_sym a b = same_from_decides (bytes_eq a b) (bytes_eq b a) (bytes_eq-Decides a b) (Decides-like (bytes_eq b a) sym sym (bytes_eq-Decides b a))
+
+-- the second of two tests holds
+last_true : (a b : Bool) → b ≡ true → (a || b) ≡ true
+last_true true b is = refl
+last_true false b is = is
 
 -- one line, with the name or another
 one_value : (name : List ℕ) (h : Header) → bytes_eq h.name name ≡ true → values_of name (h ∷ []) ≡ h.value ∷ []
@@ -106,6 +111,48 @@ module _ (name : List ℕ) where
 
   -- ---- the lines of a written head
 
+  -- lines of a name that are all sent keep their values
+  all_kept : (answer : AnswerHead) (shape : Shape) → ((h : Header) → bytes_eq h.name name ≡ true → is_sent answer shape h ≡ true) → (hs : List Header)
+      → values_of name (filter (is_sent answer shape) hs) ≡ values_of name hs
+  all_kept answer shape kept [] = refl
+  all_kept answer shape kept (h ∷ hs) = by_test (bytes_eq h.name name) refl (is_sent answer shape h) refl (all_kept answer shape kept hs)
+    where
+      by_test : (n : Bool) → bytes_eq h.name name ≡ n → (t : Bool) → is_sent answer shape h ≡ t → V (filter (is_sent answer shape) hs) ≡ V hs
+          → V (cond t (h ∷ filter (is_sent answer shape) hs) (filter (is_sent answer shape) hs)) ≡ V (h ∷ hs)
+      by_test n is true sent others =
+          values-append name (h ∷ []) (filter (is_sent answer shape) hs) ∙ ap (λ l. V (h ∷ []) ++ l) others ∙ sym (values-append name (h ∷ []) hs)
+      by_test false other false dropped others = others ∙ ap (λ l. l ++ V hs) (sym (one_other name h other)) ∙ sym (values-append name (h ∷ []) hs)
+      by_test true is false dropped others = absurd (false≢true (sym dropped ∙ kept h is))
+
+  -- the values of the name are those that were given, and perhaps the date
+  pub written_values : (minor : ℕ) (answer : AnswerHead) (shape : Shape) (size : BodySize) (kind : ConnectionType) (now : ℕ) → bytes_eq name (codes "connection") ≡ false
+      → V (framing_lines answer shape size) ≡ [] → ((h : Header) → bytes_eq h.name name ≡ true → is_sent answer shape h ≡ true)
+      → values_of name (written_lines minor answer shape size kind now)
+      ≡ values_of name answer.headers ++ values_of name (date_lines (has_header (codes "date") answer.headers) now)
+  written_values minor answer shape size kind now connection framing kept =
+      let a = framing_lines answer shape size in
+      let b = connection_lines minor answer.in_camel_case kind in
+      let c = filter (is_sent answer shape) (by_name answer.headers) in
+      let d = date_lines (has_header (codes "date") answer.headers) now in
+      values-append name a (b ++ (c ++ d)) ∙ ap₂ (λ x y. x ++ y) framing
+      (values-append name b (c ++ d) ∙ ap₂ (λ x y. x ++ y) (connection_other minor answer.in_camel_case kind name (eq_sym (codes "connection") name ∙ connection))
+      (values-append name c d ∙ ap (λ l. l ++ V d) (all_kept answer shape kept (by_name answer.headers) ∙ by_name_values answer.headers)))
+
+  -- a 304 sends all lines of its own but those of the connection
+  pub kept_values : (minor : ℕ) (answer : AnswerHead) (shape : Shape) (size : BodySize) (kind : ConnectionType) (now : ℕ) → answer.status ≡ 304
+      → bytes_eq name (codes "connection") ≡ false → bytes_eq name (codes "date") ≡ false
+      → values_of name (written_lines minor answer shape size kind now) ≡ values_of name answer.headers
+  kept_values minor answer shape size kind now is connection date =
+      let has = has_header (codes "date") answer.headers in
+      let none : V (framing_lines answer shape size) ≡ [] = ap (λ n. V (cond (is_bodiless n) [] (size_lines shape size))) is in
+      let kept : (h : Header) → bytes_eq h.name name ≡ true → is_sent answer shape h ≡ true = λ h named.
+      let other : bytes_eq h.name (codes "connection") ≡ false = ap (λ n. bytes_eq n (codes "connection")) (same_name h.name name named) ∙ connection in
+      let framing = bytes_eq h.name (codes "content-length") || bytes_eq h.name (codes "transfer-encoding") in
+      let own : (not framing || eqb answer.status 304) ≡ true = last_true (not framing) (eqb answer.status 304) (eq-eqb answer.status 304 is) in
+      (λ i. not (other i) && (own i || (is_raw shape && not (eqb answer.status 101)))) in
+      written_values minor answer shape size kind now connection none kept
+      ∙ ap (λ l. V answer.headers ++ l) (date_other has now name (eq_sym (codes "date") name ∙ date)) ∙ append-nil (V answer.headers)
+
   module _ (connection : bytes_eq name (codes "connection") ≡ false) (no_length : bytes_eq name (codes "content-length") ≡ false)
       (no_coding : bytes_eq name (codes "transfer-encoding") ≡ false) where
     -- no header of the name is dropped
@@ -116,17 +163,6 @@ module _ (name : List ℕ) where
         let b : bytes_eq h.name (codes "content-length") ≡ false = ap (λ n. bytes_eq n (codes "content-length")) same ∙ no_length in
         let c : bytes_eq h.name (codes "transfer-encoding") ≡ false = ap (λ n. bytes_eq n (codes "transfer-encoding")) same ∙ no_coding in
         (λ i. not (a i) && (not (b i || c i) || eqb answer.status 304 || (is_raw shape && not (eqb answer.status 101))))
-
-    all_kept : (answer : AnswerHead) (shape : Shape) (hs : List Header) → values_of name (filter (is_sent answer shape) hs) ≡ values_of name hs
-    all_kept answer shape [] = refl
-    all_kept answer shape (h ∷ hs) = by_test (bytes_eq h.name name) refl (is_sent answer shape h) refl (all_kept answer shape hs)
-      where
-        by_test : (n : Bool) → bytes_eq h.name name ≡ n → (t : Bool) → is_sent answer shape h ≡ t → V (filter (is_sent answer shape) hs) ≡ V hs
-            → V (cond t (h ∷ filter (is_sent answer shape) hs) (filter (is_sent answer shape) hs)) ≡ V (h ∷ hs)
-        by_test n is true sent others =
-            values-append name (h ∷ []) (filter (is_sent answer shape) hs) ∙ ap (λ l. V (h ∷ []) ++ l) others ∙ sym (values-append name (h ∷ []) hs)
-        by_test false other false dropped others = others ∙ ap (λ l. l ++ V hs) (sym (one_other name h other)) ∙ sym (values-append name (h ∷ []) hs)
-        by_test true is false dropped others = absurd (false≢true (sym dropped ∙ kept answer shape h is))
 
     size_other : (shape : Shape) (size : BodySize) → V (size_lines shape size) ≡ []
     size_other shape size_none = refl
@@ -143,19 +179,6 @@ module _ (name : List ℕ) where
         by_test true = refl
         by_test false = size_other shape size
 
-    -- the values of the name are those that were given, and perhaps the date
-    written_values : (minor : ℕ) (answer : AnswerHead) (shape : Shape) (size : BodySize) (kind : ConnectionType) (now : ℕ)
-        → values_of name (written_lines minor answer shape size kind now)
-        ≡ values_of name answer.headers ++ values_of name (date_lines (has_header (codes "date") answer.headers) now)
-    written_values minor answer shape size kind now =
-        let a = framing_lines answer shape size in
-        let b = connection_lines minor answer.in_camel_case kind in
-        let c = filter (is_sent answer shape) (by_name answer.headers) in
-        let d = date_lines (has_header (codes "date") answer.headers) now in
-        values-append name a (b ++ (c ++ d)) ∙ ap₂ (λ x y. x ++ y) (framing_other answer shape size)
-        (values-append name b (c ++ d) ∙ ap₂ (λ x y. x ++ y) (connection_other minor answer.in_camel_case kind name (eq_sym (codes "connection") name ∙ connection))
-        (values-append name c d ∙ ap (λ l. l ++ V d) (all_kept answer shape (by_name answer.headers) ∙ by_name_values answer.headers)))
-
     -- where the name isn't that of the date, or the head has a date of its own
     pub given_values : (minor : ℕ) (answer : AnswerHead) (shape : Shape) (size : BodySize) (kind : ConnectionType) (now : ℕ)
         → (bytes_eq name (codes "date") ≡ false) ⊎ (has_header (codes "date") answer.headers ≡ true)
@@ -166,7 +189,7 @@ module _ (name : List ℕ) where
           | inl other ↦ date_other has now name (eq_sym (codes "date") name ∙ other)
           | inr is ↦ ap (λ t. V (date_lines t now)) is
         ] in
-        written_values minor answer shape size kind now ∙ ap (λ l. V answer.headers ++ l) none ∙ append-nil (V answer.headers)
+        written_values minor answer shape size kind now connection (framing_other answer shape size) (kept answer shape) ∙ ap (λ l. V answer.headers ++ l) none ∙ append-nil (V answer.headers)
 
 -- a head without a date has none of its own
 no_date : (hs : List Header) → has_header (codes "date") hs ≡ false → values_of (codes "date") hs ≡ []
@@ -182,5 +205,5 @@ no_date (h ∷ hs) none = by_test (bytes_eq h.name (codes "date")) refl none (no
 pub date_given : (minor : ℕ) (answer : AnswerHead) (shape : Shape) (size : BodySize) (kind : ConnectionType) (now : ℕ) → has_header (codes "date") answer.headers ≡ false
     → values_of (codes "date") (written_lines minor answer shape size kind now) ≡ date_of (now / 1000) ∷ []
 date_given minor answer shape size kind now none =
-    written_values (codes "date") refl refl refl minor answer shape size kind now
+    written_values (codes "date") minor answer shape size kind now refl (framing_other (codes "date") refl refl refl answer shape size) (kept (codes "date") refl refl refl answer shape)
     ∙ ap₂ (λ (a b : List (List ℕ)). a ++ b) (no_date answer.headers none) (ap (λ t. values_of (codes "date") (date_lines t now)) none ∙ one_value (codes "date") (line_of (codes "date") (date_of (now / 1000))) refl)

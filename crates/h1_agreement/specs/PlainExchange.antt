@@ -4,7 +4,6 @@ use Rattle.std.specs.List.{AllByRecursion}
 use Rattle.h1_model.specs.Request.{Header, Head, Fault}
 use Rattle.h1_model.specs.Limits.{MAX_HEADER_LINES}
 use Rattle.h1_model.specs.Setting.{Setting}
-use Rattle.h1_model.specs.LengthTable.{values_of}
 use Rattle.h1_model.specs.Answer.{asked_of, size_none, size_of, Shape, shape_none, shape_length, shape_chunked, shape_raw, shape_of, type_of, is_bodiless, is_raw}
 use Rattle.h1_model.specs.Text.{answer_head_text}
 use Rattle.h1_model.specs.Event as on
@@ -12,6 +11,7 @@ use Rattle.h1_model.specs.End as ends
 use Rattle.h1_model.specs.Sums.{Step}
 use Rattle.h1_model.specs.Trace.{IsTrace}
 use Rattle.h1_model.specs.Laws.Exchanges.{AnswerGiven, Reply, answer_given, session, Exchange, exchanges}
+use Rattle.h1_client_model.specs.AnswerTable.{is_answer_refused}
 use Rattle.h1_client_model.specs.WrittenHead.{written_lines, written_reason, IsReadBack}
 use Rattle.h1_client_model.specs.RequestText.{joined}
 
@@ -50,13 +50,12 @@ is_full shape_raw a = false
 abbrev pub is_complete : Head → AnswerGiven → Bool
 is_complete h a = bytes_eq h.method (codes "HEAD") || is_full (given_shape h a) a
 
--- The answer says where it ends: it is no interim one, a 304 has no framing line of its own, it has a size unless it has
+-- The answer says where it ends: it is no interim one, a 304 keeps no framing line of its own that a client refuses, it has a size unless it has
 -- no body, no body goes to the end of the input, a stated length is below 2 ^ 64, and each piece has fewer than 2 ^ 64
 -- bytes. Its head is read back as it is written, with at most 96 lines. Its body may still be under way.
 pub record IsSelfFramed (setting : Setting) (h : Head) (a : AnswerGiven) : Type 0 where
   pub status : 200 ≤ a.answered.head.status
-  pub no_length : a.answered.head.status ≡ 304 → values_of (codes "content-length") a.answered.head.headers ≡ []
-  pub no_coding : a.answered.head.status ≡ 304 → values_of (codes "transfer-encoding") a.answered.head.headers ≡ []
+  pub unrefused : a.answered.head.status ≡ 304 → is_answer_refused h.minor a.answered.head.headers ≡ false
   pub shape : is_raw (given_shape h a) ≡ false
   pub size : a.answered.size ≡ size_none → (is_bodiless a.answered.head.status ≡ true) ⊎ (bytes_eq h.method (codes "HEAD") ≡ true)
   pub fits : (n : ℕ) → a.answered.size ≡ size_of n → n < 2 ^ 64

@@ -6,6 +6,7 @@ use Rattle.h1_model.specs.Event as on
 use Rattle.h1_model.specs.Sums.{Step}
 use Rattle.h1_model.specs.Laws.Exchanges.{AnswerGiven}
 use Rattle.h1_model.specs.Laws.ExampleTraces.{step, ok, usual, get_head}
+use Rattle.h1_client_model.specs.WrittenHead.{line_of}
 use Rattle.h1_agreement.specs.PlainExchange.{IsSelfFramed, is_complete}
 
 -- HEAD of `/`
@@ -18,6 +19,10 @@ no_content = record ok { status = 204 }
 
 abbrev pub not_modified : AnswerHead
 not_modified = record ok { status = 304 }
+
+-- a 304 that tells the length of what wasn't modified
+abbrev pub not_modified_with_length : AnswerHead
+not_modified_with_length = record not_modified { headers = line_of (codes "content-length") (codes "5") ∷ [] }
 
 -- an answer at the first moment, of whose body these pieces came, and whether it was ended
 abbrev pub given : AnswerHead → BodySize → List (List ℕ) → Bool → AnswerGiven

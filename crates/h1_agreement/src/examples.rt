@@ -10,7 +10,7 @@ ghost use Rattle.h1_client_model.specs.WrittenHead.{written_lines, IsReadBack};
 ghost use Rattle.h1_client_model.specs.RequestText.{IsPlainGiven};
 ghost use Rattle.h1_agreement.specs.PlainExchange.{IsPlainTrace};
 ghost use Rattle.h1_agreement.specs.SentAnswer.{CountsAnswers, IsWaiting, sent_answer};
-ghost use Rattle.h1_agreement.specs.Samples.{head_head, no_content, not_modified, given, IsPlainAnswer, get_trace};
+ghost use Rattle.h1_agreement.specs.Samples.{head_head, no_content, not_modified, not_modified_with_length, given, IsPlainAnswer, get_trace};
 
 /// The head of an empty answer at the first moment is read back as it is written.
 pub fn an_ordinary_head_is_read_back()
@@ -39,10 +39,11 @@ pub fn an_answer_to_head_is_plain()
     ensures { IsPlainAnswer head_head (given ok (size_of 2) [] false) true }
 {}
 
-/// 204 and 304 have no body, and need no length.
+/// 204 and 304 have no body, and need no length; a 304 may tell the length that another answer would have had.
 pub fn some_statuses_are_plain()
     ensures no_content { IsPlainAnswer get_head (given no_content size_none [] true) true }
     ensures not_modified { IsPlainAnswer get_head (given not_modified size_none [] true) true }
+    ensures with_length { IsPlainAnswer get_head (given not_modified_with_length size_none [] true) true }
 {}
 
 /// An answer to HEAD that states no length is read as one that closes, while the server keeps the connection.

@@ -8,8 +8,7 @@ unfolding appended
 returns-clause-whole c = (
   record {
     status = lit≤ tt;
-    no_length = λ same. refl;
-    no_coding = λ same. refl;
+    unrefused = λ same. refl;
     shape = refl;
     size = λ e. cc;
     fits = λ n e. cc;
@@ -25,8 +24,7 @@ unfolding appended
 returns-clause-part c = (
   record {
     status = lit≤ tt;
-    no_length = λ same. refl;
-    no_coding = λ same. refl;
+    unrefused = λ same. refl;
     shape = refl;
     size = λ e. cc;
     fits = λ n e. cc;

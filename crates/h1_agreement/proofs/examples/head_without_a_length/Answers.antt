@@ -9,8 +9,7 @@ unfolding appended
 returns-clause-plain c = (
   record {
     status = lit≤ tt;
-    no_length = λ same. refl;
-    no_coding = λ same. refl;
+    unrefused = λ same. refl;
     shape = refl;
     size = λ e. inr refl;
     fits = λ n e. cc;
