@@ -13,7 +13,7 @@ use Rattle.h1_model.specs.FrameText.{Reader, JudgesSize, at_length, when_whole, 
 use Rattle.h1_model.specs.Limits.{MAX_FRAME}
 use Rattle.h1_model.specs.Laws.WrittenFrame.{KeepsRules, is_close_text}
 use Rattle.h1_model.proofs.FrameWritten.{masked_twice}
-use Rattle.h1_client_model.specs.MaskedText.{masked_field, masked_text}
+use Rattle.h1_agreement.specs.MaskedText.{masked_field, masked_text}
 use Rattle.std.proofs.Common.{le-leb}
 
 -- ---- masks

@@ -55,13 +55,13 @@ length_read n fits =
 
 -- ---- which lines there are
 
-values-append : (name : List ℕ) (a b : List Header) → values_of name (a ++ b) ≡ values_of name a ++ values_of name b
+pub values-append : (name : List ℕ) (a b : List Header) → values_of name (a ++ b) ≡ values_of name a ++ values_of name b
 values-append name a b =
     ap (map (λ h. h.value)) (filter-append (λ h. bytes_eq h.name name) a b)
     ∙ map-append (λ h. h.value) (filter (λ h. bytes_eq h.name name) a) (filter (λ h. bytes_eq h.name name) b)
 
 -- a name of which no line passes the test has no line
-none_kept : (name : List ℕ) (test : Header → Bool) → ((h : Header) → bytes_eq h.name name ≡ true → test h ≡ false)
+pub none_kept : (name : List ℕ) (test : Header → Bool) → ((h : Header) → bytes_eq h.name name ≡ true → test h ≡ false)
     → (hs : List Header) → values_of name (filter test hs) ≡ []
 none_kept name test drops [] = refl
 none_kept name test drops (h ∷ hs) = by_name_test (bytes_eq h.name name) refl (test h) refl (none_kept name test drops hs)
@@ -84,7 +84,7 @@ module _ (answer : AnswerHead) (shape : Shape) (own : (eqb answer.status 304 || 
 
 -- ---- the lines of a written head
 
-connection_other : (minor : ℕ) (camel : Bool) (kind : ConnectionType) (name : List ℕ) → bytes_eq (codes "connection") name ≡ false
+pub connection_other : (minor : ℕ) (camel : Bool) (kind : ConnectionType) (name : List ℕ) → bytes_eq (codes "connection") name ≡ false
     → values_of name (connection_lines minor camel kind) ≡ []
 connection_other minor camel upgrade name other = ap (map (λ h. h.value)) (cond-false (bytes_eq (codes "connection") name) _ _ other)
 connection_other minor camel keep_alive name other = by_test (eqb minor 0)
@@ -98,7 +98,7 @@ connection_other minor camel close name other = by_test (eqb minor 0)
     by_test true = refl
     by_test false = ap (map (λ h. h.value)) (cond-false (bytes_eq (codes "connection") name) _ _ other)
 
-date_other : (has_date : Bool) (now : ℕ) (name : List ℕ) → bytes_eq (codes "date") name ≡ false → values_of name (date_lines has_date now) ≡ []
+pub date_other : (has_date : Bool) (now : ℕ) (name : List ℕ) → bytes_eq (codes "date") name ≡ false → values_of name (date_lines has_date now) ≡ []
 date_other true now name other = refl
 date_other false now name other = ap (map (λ h. h.value)) (cond-false (bytes_eq (codes "date") name) _ _ other)
 

@@ -1,17 +1,14 @@
 -- A plain request is sent so that its server reads where its body ends.
-use Rattle.std.proofs.Common.{◌≡◌, ℕ, false, List, [], ◌∷◌, length, map, eqb, refl, sym, subst, inl, inr, arith, length-take-le, None}
+use Rattle.std.proofs.Common.{◌≡◌, ℕ, List, [], ◌∷◌, length, map, eqb, refl, sym, subst, inl, inr, arith, length-take-le}
 use Rattle.std.specs.List.{AllByRecursion}
 use Rattle.std.proofs.lemmas.Bool.{cond-true, cond-false, cases_eq, eq-eqb, ne_eqb}
 use Rattle.h1_model.specs.Answer.{BodySize, size_none, size_of, size_stream, Shape, shape_none, shape_length}
-use Rattle.h1_model.specs.Parse.{Message, AreMessages}
-use Rattle.h1_model.proofs.MessageLemmas.{messages_unique}
-use Rattle.h1_client_model.specs.PlainExchange.{joined, carried_by}
-use Rattle.h1_client_model.specs.RequestText.{RequestGiven, asked_shape, kind_of_shape, body_sent, IsPlainGiven}
+use Rattle.h1_agreement.specs.PlainExchange.{carried_by}
+use Rattle.h1_client_model.specs.RequestText.{RequestGiven, joined, asked_shape, kind_of_shape, body_sent, IsPlainGiven}
 use Rattle.h1_agreement.specs.SentAnswer.{IsBodyText}
-use Rattle.h1_agreement.specs.SentRequest.{IsAsked, sent_request, asked_text, AreServedAs}
+use Rattle.h1_agreement.specs.SentRequest.{IsAsked, sent_request}
 use Rattle.h1_agreement.proofs.WrittenPieces.{AreShort, written_body}
 use Rattle.h1_agreement.proofs.RequestText.{request_back}
-use Rattle.h1_agreement.proofs.SentRequests.{asked_is_served}
 
 -- what is to be shown of a shape
 abbrev IsFramed : List (List ℕ) → Shape → Type 0
@@ -35,21 +32,7 @@ plain_asked hold_size g x =
     let back = request_back g.head g.size g.kind g.moment x.head x.fits in
     record { back = back.0; blank = back.1; few = x.few; fits = x.held; body = body_framed g.pieces x.short g.size x.came }
 
--- plain requests are read as they were sent
-pub plain_read : (hold_size : ℕ) (gs : List RequestGiven) → AllByRecursion (IsPlainGiven hold_size) gs
-    → (ms : List Message) × AreMessages (record { bytes = asked_text (map sent_request gs); upgraded = None; ended = false; hold_size = hold_size }) 0 ms
-    × AreServedAs (asked_text (map sent_request gs)) ms (map sent_request gs)
-plain_read hold_size gs plain = asked_is_served hold_size (map sent_request gs) (each gs plain)
-  where
-    each : (gs : List RequestGiven) → AllByRecursion (IsPlainGiven hold_size) gs → AllByRecursion (IsAsked hold_size) (map sent_request gs)
-    each [] all = tt
-    each (g ∷ gs) all = (plain_asked hold_size g all.0, each gs all.1)
-
--- and nothing else is read
-pub plain_read_alone : (hold_size : ℕ) (gs : List RequestGiven) (ms : List Message) → AllByRecursion (IsPlainGiven hold_size) gs
-    → AreMessages (record { bytes = asked_text (map sent_request gs); upgraded = None; ended = false; hold_size = hold_size }) 0 ms
-    → AreServedAs (asked_text (map sent_request gs)) ms (map sent_request gs)
-plain_read_alone hold_size gs ms plain are =
-    let r = plain_read hold_size gs plain in
-    let same = messages_unique (record { bytes = asked_text (map sent_request gs); upgraded = None; ended = false; hold_size = hold_size }) 0 ms r.0 are r.1 in
-    subst (λ l. AreServedAs (asked_text (map sent_request gs)) l (map sent_request gs)) (sym same) r.2
+-- so are all
+pub each_asked : (hold_size : ℕ) (gs : List RequestGiven) → AllByRecursion (IsPlainGiven hold_size) gs → AllByRecursion (IsAsked hold_size) (map sent_request gs)
+each_asked hold_size [] all = tt
+each_asked hold_size (g ∷ gs) all = (plain_asked hold_size g all.0, each_asked hold_size gs all.1)

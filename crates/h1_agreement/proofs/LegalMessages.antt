@@ -1,11 +1,12 @@
 -- Legal messages are read as they were sent.
-use Rattle.std.proofs.Common.{◌≡◌, ℕ, ◌+◌, ◌<◌, ◌≤◌, ◌^◌, Bool, true, List, [], ◌∷◌, ◌++◌, length, drop, map, None, refl, sym, ap, ◌∙◌, subst, arith, length-append, append_assoc}
+use Rattle.std.proofs.Common.{◌≡◌, ℕ, ◌+◌, ◌<◌, ◌≤◌, ◌^◌, Bool, true, List, [], ◌∷◌, ◌++◌, length, drop, map, Option, None, refl, sym, ap, ◌∙◌, subst, arith, append-nil, length-append, append_assoc}
 use Rattle.std.proofs.lemmas.List.{drop_at}
-use Rattle.h1_model.specs.Frame.{Frame}
+use Rattle.h1_model.specs.Frame.{Frame, ProtocolError}
+use Rattle.h1_model.proofs.FrameLemmas.{frames_unique}
 use Rattle.h1_model.specs.FrameText.{Reader, front_frame, whole, is_under_way, PlacedFrame, ReadsFrames}
 use Rattle.h1_model.specs.Laws.WrittenFrame.{KeepsRules}
-use Rattle.h1_client_model.specs.MaskedText.{masked_text, MaskedFrame, HaveMasks, masked_texts}
-use Rattle.h1_client_model.specs.LegalMessages.{IsLegal, AreLegal}
+use Rattle.h1_agreement.specs.MaskedText.{masked_text, MaskedFrame, HaveMasks, masked_texts}
+use Rattle.h1_agreement.specs.LegalMessages.{IsLegal, AreLegal, AreFramesOf}
 use Rattle.h1_agreement.proofs.FrameMasked.{masked_back}
 
 -- a legal frame keeps the rules of a reader that takes its size
@@ -23,7 +24,7 @@ keeps_rules reader max_payload u f takes small x = record {
 record ReadFrom (reader : Reader) (u : Bool) (place : ℕ) (bytes : List ℕ) (ms : List MaskedFrame) : Type 0 where
   placed : List PlacedFrame
   reads : ReadsFrames reader u place bytes placed None
-  same : map (λ p. p.frame) placed ≡ map (λ m. m.frame) ms
+  are : AreFramesOf bytes place placed ms
 
 module _ (reader : Reader) (max_payload : ℕ) (masks : reader.wants_mask ≡ true) (takes : max_payload ≤ reader.max_payload) (small : max_payload < 2 ^ 63) where
   legal_from : (u : Bool) (front : List ℕ) (ms : List MaskedFrame) → HaveMasks ms → AreLegal max_payload u (map (λ m. m.frame) ms)
@@ -32,7 +33,7 @@ module _ (reader : Reader) (max_payload : ℕ) (masks : reader.wants_mask ≡ tr
   legal_from u front [] four legal = record {
     placed = [];
     reads = subst (λ t. ReadsFrames reader u 0 t [] None) (sym (drop_at front [] (length front) refl)) refl;
-    same = refl;
+    are = ap length (sym (append-nil front));
   }
   legal_from u front (m ∷ ms) four legal =
       let text = masked_text m.mask m.frame in
@@ -47,12 +48,21 @@ module _ (reader : Reader) (max_payload : ℕ) (masks : reader.wants_mask ≡ tr
       record {
         placed = record { frame = m.frame; end = length next } ∷ others.placed;
         reads = (length text, first, place, others.reads);
-        same = ap (λ (l : List Frame). m.frame ∷ l) others.same;
+        are = (refl, place, others.are);
       }
 
   -- frames are read whole, one after another, and nothing is left
   pub legal_read : (u : Bool) (ms : List MaskedFrame) → HaveMasks ms → AreLegal max_payload u (map (λ m. m.frame) ms)
-      → (placed : List PlacedFrame) × ReadsFrames reader u 0 (masked_texts ms) placed None × (map (λ p. p.frame) placed ≡ map (λ m. m.frame) ms)
+      → (placed : List PlacedFrame) × ReadsFrames reader u 0 (masked_texts ms) placed None × AreFramesOf (masked_texts ms) 0 placed ms
   legal_read u ms four legal =
       let r = legal_from u [] ms four legal in
-      (r.placed, r.reads, r.same)
+      (r.placed, r.reads, r.are)
+
+  -- and in no other way
+  pub legal_alone : (u : Bool) (ms : List MaskedFrame) (placed : List PlacedFrame) (fail : Option ProtocolError) → HaveMasks ms
+      → AreLegal max_payload u (map (λ m. m.frame) ms) → ReadsFrames reader u 0 (masked_texts ms) placed fail
+      → (fail ≡ None) × AreFramesOf (masked_texts ms) 0 placed ms
+  legal_alone u ms placed fail four legal reads =
+      let r = legal_from u [] ms four legal in
+      let same = frames_unique reader u 0 (masked_texts ms) placed r.placed fail None reads r.reads in
+      (same.1, subst (λ l. AreFramesOf (masked_texts ms) 0 l ms) (sym same.0) r.are)

@@ -1,10 +1,8 @@
 -- Headers that are put together by their names are those that were there.
-use Rattle.std.proofs.Common.{◌≡◌, ℕ, Bool, true, false, List, [], ◌∷◌, ◌++◌, map, filter, flat_map, cond, refl, sym, ap, ◌∙◌}
+use Rattle.std.proofs.Common.{◌≡◌, ℕ, Bool, true, false, List, [], ◌∷◌, ◌++◌, flat_map, cond}
 use Rattle.std.specs.Prelude.{bytes_eq, fold}
 use Rattle.std.specs.List.{AllByRecursion}
-use Rattle.std.proofs.lemmas.Bool.{cond-true, cond-false}
 use Rattle.h1_model.specs.Request.{Header}
-use Rattle.h1_model.specs.LengthTable.{values_of}
 use Rattle.h1_model.specs.AnswerText.{appended, by_name}
 
 -- a fact of the elements of both parts is one of all
@@ -14,11 +12,11 @@ all_both P (x ∷ xs) ys a b = (a.0, all_both P xs ys a.1 b)
 
 module _ (P : Header → Type 0) where
   -- of each header of each group
-  abbrev AllGroups : List (List Header) → Type 0
+  abbrev pub AllGroups : List (List Header) → Type 0
   AllGroups groups = AllByRecursion (λ (g : List Header). AllByRecursion P g) groups
 
   -- a further header of which it holds
-  appended_all : (groups : List (List Header)) (h : Header) → AllGroups groups → P h → AllGroups (appended groups h)
+  pub appended_all : (groups : List (List Header)) (h : Header) → AllGroups groups → P h → AllGroups (appended groups h)
   unfolding appended
   appended_all [] h all here = ((here, tt), tt)
   appended_all ([] ∷ groups) h all here = (tt, appended_all groups h all.1 here)
@@ -34,7 +32,7 @@ module _ (P : Header → Type 0) where
   folded_all (h ∷ hs) groups all here = folded_all hs (appended groups h) (appended_all groups h all here.0) here.1
 
   -- all groups, one after another
-  flat_all : (groups : List (List Header)) → AllGroups groups → AllByRecursion P (flat_map (λ group. group) groups)
+  pub flat_all : (groups : List (List Header)) → AllGroups groups → AllByRecursion P (flat_map (λ group. group) groups)
   flat_all [] all = tt
   flat_all (g ∷ groups) all = all_both P g (flat_map (λ group. group) groups) all.0 (flat_all groups all.1)
 
@@ -43,29 +41,5 @@ module _ (P : Header → Type 0) where
   by_name_all hs all = flat_all (fold appended [] hs) (folded_all hs [] tt all)
 
 -- no header has the name
-abbrev IsOther : List ℕ → Header → Type 0
+abbrev pub IsOther : List ℕ → Header → Type 0
 IsOther name h = bytes_eq h.name name ≡ false
-
--- a name without a value is that of no header
-no_value : (name : List ℕ) (hs : List Header) → values_of name hs ≡ [] → AllByRecursion (IsOther name) hs
-no_value name [] none = tt
-no_value name (h ∷ hs) none = by_test (bytes_eq h.name name) refl (no_value name hs)
-  where
-    by_test : (t : Bool) → bytes_eq h.name name ≡ t → (values_of name hs ≡ [] → AllByRecursion (IsOther name) hs) → AllByRecursion (IsOther name) (h ∷ hs)
-    by_test true is others =
-        let some : values_of name (h ∷ hs) ≡ h.value ∷ values_of name hs = ap (map (λ k. k.value)) (cond-true (bytes_eq h.name name) (h ∷ filter (λ k. bytes_eq k.name name) hs) (filter (λ k. bytes_eq k.name name) hs) is) in
-        cc
-    by_test false is others = (is, others (sym (ap (map (λ k. k.value)) (cond-false (bytes_eq h.name name) _ _ is)) ∙ none))
-
--- and the name of no header has no value, whichever headers are kept
-no_kept : (name : List ℕ) (test : Header → Bool) (hs : List Header) → AllByRecursion (IsOther name) hs → values_of name (filter test hs) ≡ []
-no_kept name test [] none = refl
-no_kept name test (h ∷ hs) none = by_test (test h) (no_kept name test hs none.1)
-  where
-    by_test : (t : Bool) → values_of name (filter test hs) ≡ [] → values_of name (cond t (h ∷ filter test hs) (filter test hs)) ≡ []
-    by_test true others = ap (map (λ k. k.value)) (cond-false (bytes_eq h.name name) _ _ none.0) ∙ others
-    by_test false others = others
-
--- a name that no header has is that of none that is sent
-pub none_sent : (name : List ℕ) (test : Header → Bool) (hs : List Header) → values_of name hs ≡ [] → values_of name (filter test (by_name hs)) ≡ []
-none_sent name test hs none = no_kept name test (by_name hs) (by_name_all (IsOther name) hs (no_value name hs none))

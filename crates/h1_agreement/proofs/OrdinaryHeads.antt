@@ -1,5 +1,5 @@
 -- Ordinary heads and lines are read back as they are written.
-use Rattle.std.proofs.Common.{◌≡◌, ◌<◌, ◌^◌, subst, [], false, true, ◌∷◌, ◌&&◌, length, refl, lit≤, lit<}
+use Rattle.std.proofs.Common.{◌≡◌, ◌<◌, ◌^◌, ℕ, List, subst, [], false, true, ◌∷◌, ◌&&◌, length, refl, lit≤, lit<}
 use Rattle.std.specs.Prelude.{codes}
 use Rattle.std.specs.List.{list_all}
 use Rattle.std.specs.Fmt.{digits}
@@ -10,10 +10,11 @@ use Rattle.http_header.proofs.TokenLemmas.{IsFieldName-from_test}
 use Rattle.http_header.specs.Token.{lowercase}
 use Rattle.httparse.specs.Grammar.{is_token, is_token_byte, is_value_byte, trim_ows}
 use Rattle.h1_model.specs.Request.{Header, keep_alive}
-use Rattle.h1_model.specs.Answer.{BodySize, size_of, size_stream, Shape, shape_none, shape_chunked, shape_length}
+use Rattle.h1_model.specs.Answer.{AnswerHead, BodySize, size_none, size_of, size_stream, Shape, shape_none, shape_chunked, shape_length}
 use Rattle.h1_model.specs.AnswerText.{head_text, date_of, year_at, month_at, appended}
 use Rattle.h1_model.specs.Laws.ExampleTraces.{ok, usual, get_head}
-use Rattle.h1_client_model.specs.PlainExchange.{IsSelfFramed}
+use Rattle.h1_agreement.specs.PlainExchange.{IsSelfFramed}
+use Rattle.h1_agreement.specs.Samples.{no_content, not_modified, not_modified_with_length, given}
 use Rattle.h1_client_model.specs.WrittenHead.{line_of, written_lines, IsCleanLine, IsReadBack}
 use Rattle.h1_agreement.proofs.WrittenHead.{reads_back}
 
@@ -65,19 +66,44 @@ pub stream_back : BackOf shape_chunked size_stream
 unfolding date_of year_at month_at appended digits
 stream_back = reads_back 1 ok shape_chunked size_stream keep_alive 0 (lit≤ tt) (lit≤ tt, lit< tt) (AllPass-from_list_all is_value_byte (codes "OK") refl) (clean_chunked, (clean_date, tt))
 
+-- a head with the date alone, of a status that needs no length, or to HEAD
+abbrev BareOf : AnswerHead → List ℕ → Type 0
+BareOf head reason = IsReadBack (head_text 1 head shape_none size_none keep_alive 0) 1 head.status reason (written_lines 1 head shape_none size_none keep_alive 0)
+
+pub bare_back : BareOf ok (codes "OK")
+unfolding date_of year_at month_at appended digits
+bare_back = reads_back 1 ok shape_none size_none keep_alive 0 (lit≤ tt) (lit≤ tt, lit< tt) (AllPass-from_list_all is_value_byte (codes "OK") refl) (clean_date, tt)
+
+pub no_content_back : BareOf no_content (codes "No Content")
+unfolding date_of year_at month_at appended digits
+no_content_back =
+    reads_back 1 no_content shape_none size_none keep_alive 0 (lit≤ tt) (lit≤ tt, lit< tt) (AllPass-from_list_all is_value_byte (codes "No Content") refl) (clean_date, tt)
+
+pub not_modified_back : BareOf not_modified (codes "Not Modified")
+unfolding date_of year_at month_at appended digits
+not_modified_back =
+    reads_back 1 not_modified shape_none size_none keep_alive 0 (lit≤ tt) (lit≤ tt, lit< tt) (AllPass-from_list_all is_value_byte (codes "Not Modified") refl) (clean_date, tt)
+
+clean_five : IsCleanLine false (line_of (codes "content-length") (codes "5"))
+unfolding is_token_byte trim_ows
+clean_five = clean_line _ refl refl refl
+
+pub with_length_back : BareOf not_modified_with_length (codes "Not Modified")
+unfolding date_of year_at month_at appended digits
+with_length_back =
+    reads_back 1 not_modified_with_length shape_none size_none keep_alive 0 (lit≤ tt) (lit≤ tt, lit< tt) (AllPass-from_list_all is_value_byte (codes "Not Modified") refl)
+    (clean_five, (clean_date, tt))
+
 -- an answer without a body says where it ends
-pub empty_plain : IsSelfFramed usual get_head (record { answered = record { head = ok; size = size_of 0; drained = false }; moment = 0; pieces = []; is_ended = false })
+pub empty_plain : IsSelfFramed usual get_head (given ok (size_of 0) [] false)
 unfolding appended
 empty_plain = record {
   status = lit≤ tt;
-  no_length = λ same. refl;
-  no_coding = λ same. refl;
+  unrefused = λ same. refl;
   shape = refl;
   size = λ e. cc;
   fits = λ n e. let same : 0 ≡ n = cc in subst (λ k. k < 2 ^ 64) same (lit< tt);
-  came = λ get n e. cc;
   short = tt;
-  whole = refl;
   back = empty_back;
   few = lit≤ tt;
 }

@@ -1,112 +1,46 @@
 -- Answers that were sent one after another are read as they were sent.
-use Rattle.std.proofs.Common.{◌≡◌, ℕ, ◌+◌, ◌≤◌, Bool, List, [], ◌∷◌, ◌++◌, length, take, drop, map, slice_range, Some, None, MatchOption, refl, sym, ap, ◌∙◌, subst, arith, append-nil, append_assoc, length-append, false, ◌-◌, inl}
-use Rattle.std.specs.List.{AllByRecursion}
-use Rattle.std.proofs.lemmas.Bool.{cond-false}
+use Rattle.std.proofs.Common.{◌≡◌, ℕ, ◌+◌, ◌-◌, ◌≤◌, Bool, true, false, List, [], ◌∷◌, ◌++◌, length, take, drop, slice_range, Option, Some, None, MatchOption, refl, sym, ap, ◌∙◌, subst, arith, append-nil, append_assoc, length-append, length-drop, inl}
 use Rattle.std.proofs.Math.Seq.{take-append_seam}
-use Rattle.std.proofs.lemmas.List.{drop_at, length-map}
+use Rattle.std.proofs.lemmas.List.{drop_at, length-map, length-take}
 use Rattle.std.proofs.lemmas.Slice.{between_is}
 use Rattle.httparse.specs.Grammar.{print_response, print_blank}
-use Rattle.h1_chunks.specs.ChunkedText.{ChunkedText, content}
-use Rattle.h1_chunks.specs.Chunked.{whole, IsChunked, Spells}
-use Rattle.h1_chunks.specs.Runs.{segment_runs, run_bytes}
-use Rattle.std.proofs.Common.{length-drop}
-use Rattle.std.proofs.lemmas.List.{length-take}
+use Rattle.h1_chunks.specs.Runs.{Run}
 use Rattle.h1_model.proofs.BlankLemmas.{ends_blank_long}
 use Rattle.h1_model.specs.HeadPiece.{IsHeadPiece, HasNoHeadPiece, header_lines}
 use Rattle.h1_model.specs.RequestHead.{header_of}
-use Rattle.h1_model.specs.Request.{BodyKind, no_body, fixed_body, chunked_body, raw_body}
-use Rattle.h1_model.specs.Parse.{Input, Body, content as body_content, ended_at, run_between, shifted, trailer_header, next_start, trailers_of, IsBodyOf}
-use Rattle.h1_model.specs.Handed.{body_bytes}
-use Rattle.h1_model.proofs.RunLemmas.{run_bytes_shifted, run_bytes_between}
-use Rattle.h1_model.proofs.BodyGrowth.{fixed_whole}
-use Rattle.h1_chunks.proofs.Agreement.{runs_read}
-use Rattle.h1_chunks.proofs.Complete.{text_read}
-use Rattle.h1_chunks.specs.Place.{start}
-use Rattle.h1_chunks.specs.Reading.{read}
+use Rattle.h1_model.specs.Parse.{content as body_content, Stop, next_start}
+use Rattle.h1_model.proofs.BodyLemmas.{input}
 use Rattle.h1_client_model.specs.AnswerTable.{body_to}
-use Rattle.h1_client_model.specs.AnswerReading.{answer_is, IsTextOf, IsAnswerReading}
-use Rattle.h1_client_model.specs.AnswerParse.{so_far, body_input, AnswerMessage, IsAnswerAt, left_waiting, AreAnswersFrom}
-use Rattle.h1_agreement.specs.SentAnswer.{AreCounted, IsBodyText, SentAnswer, IsSent, sent_text, methods_of, IsReadAs, AreReadAs}
+use Rattle.h1_client_model.specs.AnswerReading.{AnswerReading, answer_is, IsTextOf, IsAnswerReading, IsAnswerReadingWithin}
+use Rattle.h1_client_model.specs.AnswerParse.{Received, AnswerMessage, IsAnswerAt, left_waiting, AreAnswersFrom}
+use Rattle.h1_client_model.proofs.AnswerGrowth.{received}
+use Rattle.h1_client_model.proofs.AnswerLemmas.{answers_unique}
+use Rattle.h1_agreement.specs.SentAnswer.{SentAnswer, IsSent, AreSent, AreHeld, sent_text, stop_of, AreTo, IsReadAs, AreReadAs}
 use Rattle.h1_agreement.proofs.LineFeeds.{feeds, feeds-response}
 use Rattle.h1_agreement.proofs.HeadText.{response_is_piece}
-
--- ---- bodies
-
--- bytes that go on, as an input of bodies
-abbrev pub open_input : List ℕ → Input
-open_input bytes = body_input (so_far bytes)
-
--- a body after a front, which has ended after its text
-pub record Stands (bytes : List ℕ) (kind : BodyKind) (place end : ℕ) (carried : List ℕ) : Type 0 where
-  pub body : Body
-  pub is : IsBodyOf (open_input bytes) kind place body
-  pub ends : next_start body ≡ Some end
-  pub carries : body_bytes bytes body ≡ carried
-  pub plain : trailers_of body ≡ []
-
-fixed_stands : (bytes : List ℕ) (n place : ℕ) → place + n ≤ length bytes → Stands bytes (fixed_body n) place (place + n) (slice_range bytes place (place + n))
-fixed_stands bytes n place fits = record {
-  body = body_content (run_between place (place + n)) (ended_at (place + n) []);
-  is = sym (fixed_whole bytes None false 0 place n fits);
-  ends = refl;
-  carries = run_bytes_between bytes place (place + n);
-  plain = refl;
-}
-
-module _ (front text rest : List ℕ) where
-  behind : drop (length front) (front ++ (text ++ rest)) ≡ text ++ rest
-  behind = drop_at front (text ++ rest) (length front) refl
-
-  size : length (front ++ (text ++ rest)) ≡ length front + (length text + length rest)
-  size = length-append front (text ++ rest) ∙ ap (λ n. length front + n) (length-append text rest)
-
-  here : slice_range (front ++ (text ++ rest)) (length front) (length front + length text) ≡ text
-  here =
-      let n : length front + length text - length front ≡ length text = omega arith in
-      ap (λ k. take k (drop (length front) (front ++ (text ++ rest)))) n ∙ ap (take (length text)) behind ∙ take-append_seam text rest
-
-  chunks_stand : (t : ChunkedText) → Spells text t → t.trailers ≡ []
-      → Stands (front ++ (text ++ rest)) chunked_body (length front) (length front + length text) (content t)
-  chunks_stand t spells none =
-      let bytes = front ++ (text ++ rest) in
-      let runs = segment_runs 0 t.segments in
-      let cut : take (length text) (text ++ rest) ≡ text = take-append_seam text rest in
-      let is_chunked : IsChunked (text ++ rest) (whole (length text) t.trailers) runs =
-      (t, omega (arith, length-append text rest), subst (λ l. Spells l t) (sym cut) spells, refl, refl) in
-      record {
-        body = body_content (shifted (length front) runs) (ended_at (length front + length text) (map trailer_header t.trailers));
-        is = (whole (length text) t.trailers, runs, subst (λ l. IsChunked l (whole (length text) t.trailers) runs) (sym behind) is_chunked, refl);
-        ends = refl;
-        carries =
-            run_bytes_shifted bytes (length front) runs ∙ ap (λ l. run_bytes l runs) behind
-            ∙ sym (runs_read (text ++ rest) (whole (length text) t.trailers) runs is_chunked)
-            ∙ ap (λ l. (read start (l ++ rest)).body) spells.1 ∙ ap (λ r. r.body) (text_read t rest spells.0);
-        plain = ap (map trailer_header) none;
-      }
-
-  -- a body that says where it ends stands there
-  pub body_stands : (kind : BodyKind) (carried : List ℕ) → IsBodyText kind text carried
-      → Stands (front ++ (text ++ rest)) kind (length front) (length front + length text) carried
-  body_stands no_body carried is = record {
-    body = body_content [] (ended_at (length front) []);
-    is = refl;
-    ends = let e : length front ≡ length front + length text = omega (arith, ap length is.0) in ap Some e;
-    carries = sym is.1;
-    plain = refl;
-  }
-  body_stands (fixed_body n) carried is =
-      let bytes = front ++ (text ++ rest) in
-      let there = subst (λ (k : ℕ). Stands bytes (fixed_body n) (length front) (length front + k) (slice_range bytes (length front) (length front + k))) (sym is.0)
-      (fixed_stands bytes n (length front) (omega (arith, size, is.0))) in
-      subst (Stands bytes (fixed_body n) (length front) (length front + length text)) (here ∙ sym is.1) there
-  body_stands chunked_body carried is =
-      subst (Stands (front ++ (text ++ rest)) chunked_body (length front) (length front + length text)) is.3
-      (chunks_stand is.0 (is.1, sym is.2) is.4)
-  body_stands raw_body carried is = absurd is
+use Rattle.h1_agreement.proofs.SentBodies.{Stands, sent_stands}
 
 -- ---- one answer
 
-module _ (front rest : List ℕ) (s : SentAnswer) (sent : IsSent s) where
+-- one answer is held where all are
+abbrev pub IsHeld : Option ℕ → SentAnswer → Type 0
+IsHeld None s = Unit {0}
+IsHeld (Some size) s = length s.head ≤ size
+
+pub first_held : (limit : Option ℕ) (s : SentAnswer) (ss : List SentAnswer) → AreHeld limit (s ∷ ss) → IsHeld limit s
+first_held None s ss held = tt
+first_held (Some size) s ss held = held.0
+
+pub others_held : (limit : Option ℕ) (s : SentAnswer) (ss : List SentAnswer) → AreHeld limit (s ∷ ss) → AreHeld limit ss
+others_held None s ss held = tt
+others_held (Some size) s ss held = held.1
+
+-- a piece that is held is read as it is without a limit
+read_within : (limit : Option ℕ) (s : SentAnswer) (r : AnswerReading) → IsHeld limit s → IsAnswerReading s.head r → IsAnswerReadingWithin limit s.head r
+read_within None s r held x = x
+read_within (Some size) s r held x = inl (held, x)
+
+module _ (ended : Bool) (limit : Option ℕ) (front rest : List ℕ) (s : SentAnswer) (sent : IsSent s) (held : IsHeld limit s) (last : s.is_whole ≡ false → rest ≡ []) where
   abbrev pub bytes : List ℕ
   bytes = front ++ (s.head ++ (s.body ++ rest))
 
@@ -150,33 +84,33 @@ module _ (front rest : List ℕ) (s : SentAnswer) (sent : IsSent s) where
     connection_is = sent.connection;
   }
 
-  body_place : length (front ++ s.head) ≡ length front + length s.head
-  body_place = length-append front s.head
+  abbrev pub stop : Stop
+  stop = stop_of s.is_whole ended (length front + length s.head + length s.body)
 
-  regrouped : (front ++ s.head) ++ (s.body ++ rest) ≡ bytes
-  regrouped = append_assoc front s.head (s.body ++ rest)
-
-  pub stands : Stands bytes (body_to s.method s.answer.body) (length front + length s.head) (length front + length s.head + length s.body) s.bytes
+  pub stands : Stands (input bytes None ended 0) (body_to s.method s.answer.body) (length front + length s.head) stop s.bytes
   stands =
-      subst (λ n. Stands bytes (body_to s.method s.answer.body) n (n + length s.body) s.bytes) body_place
-      (subst (λ t. Stands t (body_to s.method s.answer.body) (length (front ++ s.head)) (length (front ++ s.head) + length s.body) s.bytes) regrouped
-      (body_stands (front ++ s.head) s.body rest (body_to s.method s.answer.body) s.bytes sent.body))
+      let place : length (front ++ s.head) ≡ length front + length s.head = length-append front s.head in
+      let regrouped : (front ++ s.head) ++ (s.body ++ rest) ≡ bytes = append_assoc front s.head (s.body ++ rest) in
+      subst (λ n. Stands (input bytes None ended 0) (body_to s.method s.answer.body) n (stop_of s.is_whole ended (n + length s.body)) s.bytes) place
+      (subst (λ t. Stands (input t None ended 0) (body_to s.method s.answer.body) (length (front ++ s.head)) (stop_of s.is_whole ended (length (front ++ s.head) + length s.body)) s.bytes) regrouped
+      (sent_stands ended 0 (front ++ s.head) s.body rest s.is_whole (body_to s.method s.answer.body) s.bytes last sent.body))
 
   abbrev pub message : AnswerMessage
-  message = record { reading = answer_is s.answer; body_start = length front + length s.head; body = stands.body }
+  message = record { reading = answer_is s.answer; body_start = length front + length s.head; body = body_content stands.runs stop }
 
-  pub answer_at : IsAnswerAt (so_far bytes) (length front) s.method message
+  pub answer_at : IsAnswerAt (received bytes ended limit) (length front) s.method message
   answer_at = record {
     start = 0;
     end = length s.head;
     piece = head_piece;
     body_start = refl;
-    reading = subst (λ t. IsAnswerReading t (answer_is s.answer)) (sym head_slice) (few_lines, inl (sent.strict, is_answer));
+    reading = subst (λ t. IsAnswerReadingWithin limit t (answer_is s.answer)) (sym head_slice)
+        (read_within limit s (answer_is s.answer) held (few_lines, inl (sent.strict, is_answer)));
     body = stands.is;
   }
 
-  pub read_as : IsReadAs bytes message s
-  read_as = record { head = refl; carried = stands.carries; end = _; ended = stands.ends; trailers = stands.plain }
+  pub read_as : IsReadAs (received bytes ended limit) (length front) message s
+  read_as = record { head = refl; start = refl; runs = stands.runs; body = refl; carried = stands.carries }
 
 -- ---- all answers
 
@@ -186,42 +120,63 @@ no_head front s e piece =
     let none : drop (length front) (front ++ []) ≡ [] = drop_at front [] (length front) refl in
     absurd (omega (arith, ends_blank_long _ piece.ends, length-take (e - s) (drop s (drop (length front) (front ++ []))), length-drop s (drop (length front) (front ++ [])), ap length none))
 
--- the answers from a place on, and that they are read as they were sent
-pub record Reads (waits : ℕ → Bool) (bytes : List ℕ) (place : ℕ) (ss : List SentAnswer) (extra : List (List ℕ)) : Type 0 where
-  pub messages : List AnswerMessage
-  pub are : AreAnswersFrom waits (so_far bytes) place (methods_of ss ++ extra) messages
-  pub read : AreReadAs bytes messages ss
+module _ (waits : ℕ → Bool) where
+  -- the answers from a place on, and that they are read as they were sent
+  pub record Reads (r : Received) (place : ℕ) (methods : List (List ℕ)) (ss : List SentAnswer) : Type 0 where
+    pub messages : List AnswerMessage
+    pub are : AreAnswersFrom waits r place methods messages
+    pub read : AreReadAs r place messages ss
 
--- what was sent after a front is read from its end on, and further requests get no answer
-pub all_read : (waits : ℕ → Bool) (front : List ℕ) (ss : List SentAnswer) (extra : List (List ℕ)) → AllByRecursion IsSent ss → AreCounted waits ss
-    → Reads waits (front ++ sent_text ss) (length front) ss extra
-all_read waits front [] [] sent counted = record { messages = []; are = refl; read = tt }
-all_read waits front [] (m ∷ extra) sent counted = record { messages = []; are = no_head front; read = tt }
-all_read waits front (s ∷ ss) extra sent counted =
-    let more = sent_text ss in
-    let whole = front ++ (s.head ++ (s.body ++ more)) in
-    let next = front ++ (s.head ++ s.body) in
-    let same : next ++ more ≡ whole = append_assoc front (s.head ++ s.body) more ∙ ap (λ t. front ++ t) (append_assoc s.head s.body more) in
-    let place : length next ≡ length front + length s.head + length s.body = omega (arith, length-append front (s.head ++ s.body), length-append s.head s.body) in
-    let others = subst (λ t. Reads waits t (length next) ss extra) same (all_read waits next ss extra sent.1 counted.1) in
-    let there = subst (λ n. Reads waits whole n ss extra) place others in
-    let m = message front more s sent.0 in
-    let left : left_waiting waits (answer_is s.answer) s.method (methods_of ss ++ extra) ≡ methods_of ss ++ extra =
-    cond-false (waits s.answer.status) (s.method ∷ (methods_of ss ++ extra)) (methods_of ss ++ extra) counted.0 in
-    let here = subst (λ l. AreAnswersFrom waits (so_far whole) (length front + length s.head + length s.body) l there.messages) (sym left) there.are in
-    record {
-      messages = m ∷ there.messages;
-      are = (
-        answer_at front more s sent.0,
-        subst (λ o. MatchOption o (there.messages ≡ []) (λ n. AreAnswersFrom waits (so_far whole) n (left_waiting waits (answer_is s.answer) s.method (methods_of ss ++ extra)) there.messages))
-            (sym (stands front more s sent.0).ends) here,
-      );
-      read = (read_as front more s sent.0, there.read);
-    }
+  -- where nothing was sent nothing is read
+  nothing_read : (r : Received) (place : ℕ) (ms : List AnswerMessage) → AreReadAs r place ms [] → ms ≡ []
+  nothing_read r place [] read = refl
+  nothing_read r place (m ∷ ms) read = absurd read
 
--- what was sent is read as it was sent
-pub sent_is_read : (waits : ℕ → Bool) (ss : List SentAnswer) → AllByRecursion IsSent ss → AreCounted waits ss
-    → (ms : List AnswerMessage) × AreAnswersFrom waits (so_far (sent_text ss)) 0 (methods_of ss) ms × AreReadAs (sent_text ss) ms ss
-sent_is_read waits ss sent counted =
-    let r = all_read waits [] ss [] sent counted in
-    (r.messages, subst (λ l. AreAnswersFrom waits (so_far (sent_text ss)) 0 l r.messages) (append-nil (methods_of ss)) r.are, r.read)
+  -- what follows a body: the answers from its end on, or nothing while it is under way
+  follow : (r : Received) (is_whole ended : Bool) (end : ℕ) (runs : List Run) (methods : List (List ℕ)) (ms : List AnswerMessage)
+      → (is_whole ≡ false → ms ≡ []) → AreAnswersFrom waits r end methods ms
+      → MatchOption (next_start (body_content runs (stop_of is_whole ended end))) (ms ≡ []) (λ n. AreAnswersFrom waits r n methods ms)
+  follow r true ended end runs methods ms last are = are
+  follow r false true end runs methods ms last are = last refl
+  follow r false false end runs methods ms last are = last refl
+
+  -- what was sent after a front is read from its end on, and further requests get no answer
+  all_read : (ended : Bool) (limit : Option ℕ) (front : List ℕ) (ss : List SentAnswer) (methods : List (List ℕ)) → AreSent ss → AreHeld limit ss → AreTo waits methods ss
+      → Reads (received (front ++ sent_text ss) ended limit) (length front) methods ss
+  all_read ended limit front [] [] sent held to = record { messages = []; are = refl; read = ap length (sym (append-nil front)) }
+  all_read ended limit front [] (m ∷ methods) sent held to = record { messages = []; are = no_head front; read = ap length (sym (append-nil front)) }
+  all_read ended limit front (s ∷ ss) methods sent held to =
+      let more = sent_text ss in
+      let whole = front ++ (s.head ++ (s.body ++ more)) in
+      let r = received whole ended limit in
+      let end = length front + length s.head + length s.body in
+      let next = front ++ (s.head ++ s.body) in
+      let left = left_waiting waits (answer_is s.answer) s.method to.0 in
+      let same : next ++ more ≡ whole = append_assoc front (s.head ++ s.body) more ∙ ap (λ t. front ++ t) (append_assoc s.head s.body more) in
+      let place : length next ≡ end = omega (arith, length-append front (s.head ++ s.body), length-append s.head s.body) in
+      let others = subst (λ t. Reads (received t ended limit) (length next) left ss) same (all_read ended limit next ss left sent.2 (others_held limit s ss held) to.2) in
+      let there = subst (λ n. Reads r n left ss) place others in
+      let last : s.is_whole ≡ false → more ≡ [] = λ part. ap sent_text (sent.1 part) in
+      let fits = first_held limit s ss held in
+      let m = message ended limit front more s sent.0 fits last in
+      let nothing : s.is_whole ≡ false → there.messages ≡ [] = λ part. nothing_read r end there.messages (subst (AreReadAs r end there.messages) (sent.1 part) there.read) in
+      record {
+        messages = m ∷ there.messages;
+        are = subst (λ l. AreAnswersFrom waits r (length front) l (m ∷ there.messages)) (sym to.1)
+            (answer_at ended limit front more s sent.0 fits last, follow r s.is_whole ended end (stands ended limit front more s sent.0 fits last).runs left there.messages nothing there.are);
+        read = (read_as ended limit front more s sent.0 fits last, there.read);
+      }
+
+  -- what was sent is read as it was sent
+  pub sent_is_read : (r : Received) (methods : List (List ℕ)) (ss : List SentAnswer) → r.bytes ≡ sent_text ss → AreSent ss → AreHeld r.hold_size ss → AreTo waits methods ss
+      → (ms : List AnswerMessage) × AreAnswersFrom waits r 0 methods ms × AreReadAs r 0 ms ss
+  sent_is_read r methods ss is sent held to =
+      let x = subst (λ t. Reads (received t r.ended r.hold_size) 0 methods ss) (sym is) (all_read r.ended r.hold_size [] ss methods sent held to) in
+      (x.messages, x.are, x.read)
+
+  -- and nothing else is read
+  pub sent_alone : (r : Received) (methods : List (List ℕ)) (ss : List SentAnswer) (ms : List AnswerMessage) → r.bytes ≡ sent_text ss → AreSent ss → AreHeld r.hold_size ss
+      → AreTo waits methods ss → AreAnswersFrom waits r 0 methods ms → AreReadAs r 0 ms ss
+  sent_alone r methods ss ms is sent held to are =
+      let x = sent_is_read r methods ss is sent held to in
+      subst (λ l. AreReadAs r 0 l ss) (sym (answers_unique waits r 0 methods ms x.0 are x.1)) x.2

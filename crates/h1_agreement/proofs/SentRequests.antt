@@ -1,6 +1,7 @@
 -- Requests that were sent one after another are read as they were sent.
-use Rattle.std.proofs.Common.{◌≡◌, ℕ, ◌+◌, ◌≤◌, false, List, [], ◌∷◌, ◌++◌, length, take, drop, slice_range, None, MatchOption, refl, sym, ap, ◌∙◌, subst, inl, arith, append-nil, append_assoc, length-append}
+use Rattle.std.proofs.Common.{◌≡◌, ℕ, ◌+◌, ◌≤◌, Bool, true, Option, List, [], ◌∷◌, ◌++◌, length, take, drop, slice_range, None, refl, sym, ap, ◌∙◌, subst, inl, arith, append-nil, append_assoc, length-append}
 use Rattle.std.specs.List.{AllByRecursion}
+use Rattle.std.proofs.lemmas.Bool.{false≢true}
 use Rattle.std.proofs.Math.Seq.{take-append_seam}
 use Rattle.std.proofs.lemmas.List.{drop_at, length-map}
 use Rattle.std.proofs.lemmas.Slice.{between_is}
@@ -8,23 +9,25 @@ use Rattle.httparse.specs.Grammar.{print_request, print_blank}
 use Rattle.h1_model.specs.HeadPiece.{IsHeadPiece, header_lines}
 use Rattle.h1_model.specs.RequestHead.{IsReadingWithin, header_of}
 use Rattle.h1_model.specs.Request.{BodyKind, no_body, fixed_body, chunked_body, raw_body, head_is}
-use Rattle.h1_model.specs.Parse.{Input, Body, Message, IsBodyOf, IsMessageAt, AreMessages}
+use Rattle.h1_model.specs.Parse.{Input, Body, content, Stop, ended_at, Message, IsBodyOf, IsMessageAt, AreMessages, IsParse}
+use Rattle.h1_model.proofs.BodyLemmas.{input}
+use Rattle.h1_model.proofs.MessageLemmas.{messages_unique}
+use Rattle.h1_agreement.specs.SentAnswer.{IsBodyText}
 use Rattle.h1_agreement.specs.SentRequest.{SentRequest, IsAsked, asked_text, IsServedAs, AreServedAs}
 use Rattle.h1_agreement.proofs.LineFeeds.{feeds, feeds-head}
 use Rattle.h1_agreement.proofs.HeadText.{request_is_piece}
-use Rattle.h1_agreement.proofs.SentAnswers.{open_input, Stands, body_stands, no_head}
+use Rattle.h1_agreement.proofs.SentBodies.{Stands, sent_stands}
+use Rattle.h1_agreement.proofs.SentAnswers.{no_head}
 
-abbrev input_of : List ℕ → ℕ → Input
-input_of bytes size = record { bytes = bytes; upgraded = None; ended = false; hold_size = size }
+-- a body that isn't raw depends on no size, and on no frames
+of_input : (bytes : List ℕ) (u : Option ℕ) (ended : Bool) (size place : ℕ) (kind : BodyKind) (text carried : List ℕ) (b : Body) → IsBodyText kind text carried
+    → IsBodyOf (input bytes None ended 0) kind place b → IsBodyOf (input bytes u ended size) kind place b
+of_input bytes u ended size place no_body text carried b is x = x
+of_input bytes u ended size place (fixed_body n) text carried b is x = x
+of_input bytes u ended size place chunked_body text carried b is x = x
+of_input bytes u ended size place raw_body text carried b is x = absurd is
 
--- no body depends on the size
-of_size : (bytes : List ℕ) (size place : ℕ) (kind : BodyKind) (b : Body) → IsBodyOf (open_input bytes) kind place b → IsBodyOf (input_of bytes size) kind place b
-of_size bytes size place no_body b x = x
-of_size bytes size place (fixed_body n) b x = x
-of_size bytes size place chunked_body b x = x
-of_size bytes size place raw_body b x = x
-
-module _ (front rest : List ℕ) (size : ℕ) (s : SentRequest) (sent : IsAsked size s) where
+module _ (u : Option ℕ) (ended : Bool) (front rest : List ℕ) (size : ℕ) (s : SentRequest) (sent : IsAsked size s) where
   abbrev bytes : List ℕ
   bytes = front ++ (s.head ++ (s.body ++ rest))
 
@@ -55,55 +58,64 @@ module _ (front rest : List ℕ) (size : ℕ) (s : SentRequest) (sent : IsAsked 
       ∙ ap (take (length s.head)) (drop_at front (s.head ++ (s.body ++ rest)) (length front) refl)
       ∙ take-append_seam s.head (s.body ++ rest)
 
-  stands : Stands bytes s.says.body (length front + length s.head) (length front + length s.head + length s.body) s.bytes
+  abbrev stop : Stop
+  stop = ended_at (length front + length s.head + length s.body) []
+
+  stands : Stands (input bytes None ended 0) s.says.body (length front + length s.head) stop s.bytes
   stands =
-      subst (λ n. Stands bytes s.says.body n (n + length s.body) s.bytes) (length-append front s.head)
-      (subst (λ t. Stands t s.says.body (length (front ++ s.head)) (length (front ++ s.head) + length s.body) s.bytes) (append_assoc front s.head (s.body ++ rest))
-      (body_stands (front ++ s.head) s.body rest s.says.body s.bytes sent.body))
+      let regrouped : (front ++ s.head) ++ (s.body ++ rest) ≡ bytes = append_assoc front s.head (s.body ++ rest) in
+      subst (λ n. Stands (input bytes None ended 0) s.says.body n (ended_at (n + length s.body) []) s.bytes) (length-append front s.head)
+      (subst (λ t. Stands (input t None ended 0) s.says.body (length (front ++ s.head)) (ended_at (length (front ++ s.head) + length s.body) []) s.bytes) regrouped
+      (sent_stands ended 0 (front ++ s.head) s.body rest true s.says.body s.bytes (λ part. absurd (false≢true (sym part))) sent.body))
 
   abbrev message : Message
-  message = record { reading = head_is s.says; body_start = length front + length s.head; body = stands.body }
+  message = record { reading = head_is s.says; body_start = length front + length s.head; body = content stands.runs stop }
 
-  message_at : IsMessageAt (input_of bytes size) (length front) message
+  message_at : IsMessageAt (input bytes u ended size) (length front) message
   message_at = record {
     start = 0;
     end = length s.head;
     piece = head_piece;
     body_start = refl;
     reading = subst (λ t. IsReadingWithin size t (head_is s.says)) (sym head_slice) (inl (sent.fits, (few_lines, sent.back)));
-    body = of_size bytes size (length front + length s.head) s.says.body stands.body stands.is;
+    body = of_input bytes u ended size (length front + length s.head) s.says.body s.body s.bytes (content stands.runs stop) sent.body stands.is;
   }
 
-  served_as : IsServedAs bytes message s
-  served_as = record { head = refl; carried = stands.carries; end = _; ended = stands.ends; trailers = stands.plain }
+  served_as : IsServedAs (input bytes u ended size) (length front) message s
+  served_as = record { head = refl; start = refl; runs = stands.runs; body = refl; carried = stands.carries }
 
-record Serves (bytes : List ℕ) (size place : ℕ) (ss : List SentRequest) : Type 0 where
+record Serves (i : Input) (place : ℕ) (ss : List SentRequest) : Type 0 where
   messages : List Message
-  are : AreMessages (input_of bytes size) place messages
-  read : AreServedAs bytes messages ss
+  are : AreMessages i place messages
+  read : AreServedAs i place messages ss
 
-all_served : (front : List ℕ) (size : ℕ) (ss : List SentRequest) → AllByRecursion (IsAsked size) ss → Serves (front ++ asked_text ss) size (length front) ss
-all_served front size [] sent = record { messages = []; are = no_head front; read = tt }
-all_served front size (s ∷ ss) sent =
+all_served : (u : Option ℕ) (ended : Bool) (front : List ℕ) (size : ℕ) (ss : List SentRequest) → AllByRecursion (IsAsked size) ss
+    → Serves (input (front ++ asked_text ss) u ended size) (length front) ss
+all_served u ended front size [] sent = record { messages = []; are = no_head front; read = ap length (sym (append-nil front)) }
+all_served u ended front size (s ∷ ss) sent =
     let more = asked_text ss in
     let whole = front ++ (s.head ++ (s.body ++ more)) in
     let next = front ++ (s.head ++ s.body) in
     let same : next ++ more ≡ whole = append_assoc front (s.head ++ s.body) more ∙ ap (λ t. front ++ t) (append_assoc s.head s.body more) in
     let place : length next ≡ length front + length s.head + length s.body = omega (arith, length-append front (s.head ++ s.body), length-append s.head s.body) in
-    let others = subst (λ t. Serves t size (length next) ss) same (all_served next size ss sent.1) in
-    let there = subst (λ n. Serves whole size n ss) place others in
-    let m = message front more size s sent.0 in
+    let others = subst (λ t. Serves (input t u ended size) (length next) ss) same (all_served u ended next size ss sent.1) in
+    let there = subst (λ n. Serves (input whole u ended size) n ss) place others in
     record {
-      messages = m ∷ there.messages;
-      are = (
-        message_at front more size s sent.0,
-        subst (λ o. MatchOption o (there.messages ≡ []) (λ n. AreMessages (input_of whole size) n there.messages)) (sym (stands front more size s sent.0).ends) there.are,
-      );
-      read = (served_as front more size s sent.0, there.read);
+      messages = message u ended front more size s sent.0 ∷ there.messages;
+      are = (message_at u ended front more size s sent.0, there.are);
+      read = (served_as u ended front more size s sent.0, there.read);
     }
 
-pub asked_is_served : (size : ℕ) (ss : List SentRequest) → AllByRecursion (IsAsked size) ss
-    → (ms : List Message) × AreMessages (record { bytes = asked_text ss; upgraded = None; ended = false; hold_size = size }) 0 ms × AreServedAs (asked_text ss) ms ss
-asked_is_served size ss sent =
-    let r = all_served [] size ss sent in
+-- what was asked is read as it was asked
+pub asked_is_served : (i : Input) (ss : List SentRequest) → i.bytes ≡ asked_text ss → AllByRecursion (IsAsked i.hold_size) ss
+    → (ms : List Message) × IsParse i ms × AreServedAs i 0 ms ss
+asked_is_served i ss is sent =
+    let r = subst (λ t. Serves (input t i.upgraded i.ended i.hold_size) 0 ss) (sym is) (all_served i.upgraded i.ended [] i.hold_size ss sent) in
     (r.messages, r.are, r.read)
+
+-- and nothing else is
+pub asked_alone : (i : Input) (ss : List SentRequest) (ms : List Message) → i.bytes ≡ asked_text ss → AllByRecursion (IsAsked i.hold_size) ss → IsParse i ms
+    → AreServedAs i 0 ms ss
+asked_alone i ss ms is sent are =
+    let r = asked_is_served i ss is sent in
+    subst (λ l. AreServedAs i 0 l ss) (sym (messages_unique i 0 ms r.0 are r.1)) r.2

@@ -1,234 +1,281 @@
--- What a connection writes is read by a client as its answers.
-use Rattle.std.proofs.Common.{◌≡◌, ℕ, Bool, true, false, List, [], ◌∷◌, ◌++◌, map, reverse, flat_map, drop, All, refl, sym, ap, ap₂, ◌∙◌, subst, append-nil, append_assoc}
+-- What a connection writes is the text of its answers, each to the first of the requests that wait.
+use Rattle.std.proofs.Common.{◌≡◌, ℕ, ◌≤◌, length, Bool, true, false, cond, eqb, ◌||◌, List, [], ◌∷◌, ◌++◌, map, reverse, flat_map, drop, All, refl, sym, ap, ap₂, ◌∙◌, subst, inl, inr, append-nil, append_assoc, le-leb}
+use Rattle.std.specs.Prelude.{bytes_eq, codes}
 use Rattle.std.specs.List.{AllByRecursion}
-use Rattle.std.proofs.lemmas.Bool.{false≢true, cond-false}
+use Rattle.std.proofs.lemmas.Bool.{false≢true, cond-true, cond-false}
 use Rattle.std.proofs.lemmas.List.{reverse-append, map-append}
 use Rattle.std.proofs.lemmas.List.Concat.{flat_map-append}
 use Rattle.std.proofs.lemmas.List.Elements.{All-head, All-tail}
 use Rattle.h1_model.specs.Request.{Head}
 use Rattle.h1_model.specs.Setting.{Setting}
+use Rattle.h1_model.specs.Answer.{AnswerHead, Asked, asked_of, BodySize, size_none, size_of, size_stream, is_at_once, Shape, shape_none, shape_length, shape_chunked, shape_raw, switching_shape, sized_shape, is_raw, is_bodiless}
 use Rattle.h1_model.specs.AnswerText.{interim_text}
 use Rattle.h1_model.specs.Sums.{Step}
 use Rattle.h1_model.specs.Text.{text}
-use Rattle.h1_model.specs.Trace.{IsTrace}
-use Rattle.h1_model.specs.Laws.Exchanges.{Reply, no_reply, answer_given, session, is_whole, Exchange, reply_text, exchange_text, exchanges, exchanges_text, refusal_text}
+use Rattle.h1_model.specs.Laws.Exchanges.{AnswerGiven, Reply, no_reply, answer_given, session, is_whole, Exchange, reply_text, exchange_text, exchanges, exchanges_text, refusal_text}
 use Rattle.h1_model.proofs.ExchangeTraces.{spoken}
-use Rattle.h1_client_model.specs.AnswerParse.{so_far, AnswerMessage, AreAnswersFrom, counts_each, AreTheAnswers}
-use Rattle.h1_client_model.specs.Laws.Growth.{AnswersGrow}
-use Rattle.h1_client_model.proofs.AnswerGrowth.{answers_stay}
-use Rattle.h1_agreement.specs.SentAnswer.{SentAnswer, IsSent, sent_text, methods_of, AreReadAs, sent_answer, sent_by, all_sent, AreCounted, CountsAnswers, methods_asked, answers_sent}
-use Rattle.h1_client_model.specs.PlainExchange.{IsPlainHead, IsFramedReply, IsPlain, IsUninterrupted}
-use Rattle.h1_client_model.proofs.AnswerLemmas.{answers_unique}
-use Rattle.h1_agreement.proofs.SentAnswers.{all_read}
-use Rattle.h1_agreement.proofs.PlainTraces.{IsNoSession, IsQuiet, unrefused_trace, quiet_exchanges}
+use Rattle.h1_client_model.specs.RequestText.{joined}
+use Rattle.h1_agreement.specs.PlainExchange.{given_shape, is_full, is_complete, IsSelfFramed, IsFramedReply, IsPlain, IsPlainTrace}
+use Rattle.h1_agreement.specs.SentAnswer.{SentAnswer, IsSent, AreSent, sent_text, CountsAnswers, IsWaiting, AreTo, sent_answer, sent_by, interim_sent, sent_to, answers_sent, methods_asked}
+use Rattle.h1_agreement.proofs.ComeBodies.{HasCome, trace_come}
+use Rattle.h1_agreement.proofs.PlainTraces.{IsQuiet, none_refused, quiet_exchanges}
 use Rattle.h1_agreement.proofs.PlainExchange.{plain_sent}
+use Rattle.h1_agreement.proofs.InterimAnswers.{interim_is_sent}
 
 -- ---- lists
 
-pub sent_text-append : (a b : List SentAnswer) → sent_text (a ++ b) ≡ sent_text a ++ sent_text b
+sent_text-append : (a b : List SentAnswer) → sent_text (a ++ b) ≡ sent_text a ++ sent_text b
 sent_text-append [] b = refl
 sent_text-append (s ∷ a) b =
     ap (λ t. s.head ++ (s.body ++ t)) (sent_text-append a b) ∙ ap (λ t. s.head ++ t) (sym (append_assoc s.body (sent_text a) (sent_text b)))
     ∙ sym (append_assoc s.head (s.body ++ sent_text a) (sent_text b))
 
-pub recursion-append : {A : Type 0} (P : A → Type 0) (xs ys : List A) → AllByRecursion P xs → AllByRecursion P ys → AllByRecursion P (xs ++ ys)
+recursion-append : {A : Type 0} (P : A → Type 0) (xs ys : List A) → AllByRecursion P xs → AllByRecursion P ys → AllByRecursion P (xs ++ ys)
 recursion-append P [] ys a b = b
 recursion-append P (x ∷ xs) ys a b = (a.0, recursion-append P xs ys a.1 b)
 
-pub reverse-cons : {A : Type 0} (x : A) (xs : List A) → reverse (x ∷ xs) ≡ reverse xs ++ x ∷ []
+reverse-cons : {A : Type 0} (x : A) (xs : List A) → reverse (x ∷ xs) ≡ reverse xs ++ x ∷ []
 reverse-cons x xs = reverse-append (x ∷ []) xs
 
-pub recursion-reverse : {A : Type 0} (P : A → Type 0) (xs : List A) → AllByRecursion P xs → AllByRecursion P (reverse xs)
+recursion-reverse : {A : Type 0} (P : A → Type 0) (xs : List A) → AllByRecursion P xs → AllByRecursion P (reverse xs)
 recursion-reverse P [] a = a
 recursion-reverse P (x ∷ xs) a = subst (AllByRecursion P) (sym (reverse-cons x xs)) (recursion-append P (reverse xs) (x ∷ []) (recursion-reverse P xs a.1) (a.0, tt))
 
--- ---- an exchange
+-- it is sent, and whole
+abbrev IsSentWhole : SentAnswer → Type 0
+IsSentWhole s = IsSent s × (s.is_whole ≡ true)
 
--- a plain request, whose client got no 100 Continue, and which has an answer, if it has one, that says where it ends
-record IsFramed (setting : Setting) (e : Exchange) : Type 0 where
-  version : e.head.minor ≡ 1
-  reply : IsFramedReply setting e.head e.reply
-  quiet : IsQuiet e
-  no_session : IsNoSession e.reply
+-- answers of which none but the last is under way may follow whole ones
+sent-append : (a b : List SentAnswer) → AllByRecursion IsSentWhole a → AreSent b → AreSent (a ++ b)
+sent-append [] b x y = y
+sent-append (s ∷ a) b x y = (x.0.0, (λ part. absurd (false≢true (sym part ∙ x.0.1))), sent-append a b x.1 y)
 
--- and which has an answer, and it is whole
-abbrev IsReady : Setting → Exchange → Type 0
-IsReady setting e = IsFramed setting e × (is_whole e.reply ≡ true)
+-- ---- an answer that is handed in whole is complete
 
--- what an exchange writes is the text of these answers
-pub record Says (waits : ℕ → Bool) (setting : Setting) (h : Head) (reply : Reply) (ss : List SentAnswer) : Type 0 where
-  pub words : reply_text setting h reply ≡ sent_text ss
-  pub methods : h.method ∷ [] ≡ methods_of ss
-  pub sent : AllByRecursion IsSent ss
-  pub counted : AreCounted waits ss
-
--- an answer alone
-abbrev pub sents : Setting → Head → Reply → List SentAnswer
-sents setting h (answer_given a) = sent_answer setting h a ∷ []
-sents setting h _ = []
-
-pub reply_says : (waits : ℕ → Bool) (setting : Setting) (h : Head) (reply : Reply) → CountsAnswers waits → h.minor ≡ 1 → IsFramedReply setting h reply
-    → IsNoSession reply → is_whole reply ≡ true → Says waits setting h reply (sents setting h reply)
-reply_says waits setting h no_reply counts eleven framed none whole = absurd (false≢true whole)
-reply_says waits setting h (answer_given a) counts eleven framed none whole =
-    let s = sent_answer setting h a in
-    record {
-      words = ap (λ t. s.head ++ t) (sym (append-nil s.body));
-      methods = refl;
-      sent = (plain_sent setting h a eleven framed, tt);
-      counted = (counts a.answered.head.status framed.status, tt);
-    }
-reply_says waits setting h (session x) counts eleven framed none whole = absurd none
-
--- a client that got none gets the reply alone
-quiet_text : (setting : Setting) (e : Exchange) → IsQuiet e → exchange_text setting e ≡ reply_text setting e.head e.reply
-quiet_text setting e quiet = ap (λ t. t ++ reply_text setting e.head e.reply) (cond-false e.was_told interim_text [] quiet)
-
-pub same_sents : (setting : Setting) (e : Exchange) → sent_by setting e ≡ sents setting e.head e.reply
-same_sents setting e = by_reply e.reply
+-- only a stream goes out in chunks
+not_at_once : (asked : Asked) (answer : AnswerHead) (size : BodySize) (t u : Bool)
+    → cond t (switching_shape size) (cond u shape_none (sized_shape asked answer size)) ≡ shape_chunked → is_at_once size ≡ false
+not_at_once asked answer size_stream t u e = refl
+not_at_once asked answer size_none true u e = cc
+not_at_once asked answer size_none false true e = cc
+not_at_once asked answer size_none false false e = cc
+not_at_once asked answer (size_of n) true u e = cc
+not_at_once asked answer (size_of n) false true e = cc
+not_at_once asked answer (size_of n) false false e = by_test (eqb n 0) e
   where
-    by_reply : (r : Reply) → sent_by setting (record { head = e.head; was_told = e.was_told; reply = r }) ≡ sents setting e.head r
-    by_reply no_reply = refl
-    by_reply (answer_given a) = refl
-    by_reply (session s) = refl
+    by_test : (t : Bool) → cond t shape_none (shape_length n) ≡ shape_chunked → t ≡ false
+    by_test true x = cc
+    by_test false x = refl
 
-exchange_says : (waits : ℕ → Bool) (setting : Setting) (e : Exchange) → CountsAnswers waits → IsReady setting e → Says waits setting e.head e.reply (sent_by setting e)
-exchange_says waits setting e counts ready =
-    subst (Says waits setting e.head e.reply) (sym (same_sents setting e))
-    (reply_says waits setting e.head e.reply counts ready.0.version ready.0.reply ready.0.no_session ready.1)
-
--- ---- exchanges with an answer each
-
-record AllSay (waits : ℕ → Bool) (setting : Setting) (es : List Exchange) : Type 0 where
-  words : flat_map (exchange_text setting) es ≡ sent_text (all_sent setting es)
-  methods : map (λ e. e.head.method) es ≡ methods_of (all_sent setting es)
-  sent : AllByRecursion IsSent (all_sent setting es)
-  counted : AreCounted waits (all_sent setting es)
-
-all_say : (waits : ℕ → Bool) (setting : Setting) (es : List Exchange) → CountsAnswers waits → AllByRecursion (IsReady setting) es → AllSay waits setting es
-all_say waits setting [] counts ready = record { words = refl; methods = refl; sent = tt; counted = tt }
-all_say waits setting (e ∷ es) counts ready =
-    let here = exchange_says waits setting e counts ready.0 in
-    let others = all_say waits setting es counts ready.1 in
-    record {
-      words = ap₂ (λ a b. a ++ b) (quiet_text setting e ready.0.0.quiet ∙ here.words) others.words ∙ sym (sent_text-append (sent_by setting e) (all_sent setting es));
-      methods = ap₂ (λ a b. a ++ b) here.methods others.methods ∙ sym (map-append (λ (s : SentAnswer). s.method) (sent_by setting e) (all_sent setting es));
-      sent = recursion-append IsSent (sent_by setting e) (all_sent setting es) here.sent others.sent;
-      counted = recursion-append (λ s. waits s.answer.status ≡ false) (sent_by setting e) (all_sent setting es) here.counted others.counted;
-    }
-
--- ---- all exchanges
-
-ready_from : (setting : Setting) (es : List Exchange) → AllByRecursion (IsFramed setting) es → All (λ e. is_whole e.reply ≡ true) es → AllByRecursion (IsReady setting) es
-ready_from setting [] framed whole = tt
-ready_from setting (e ∷ es) framed whole =
-    ((framed.0, All-head (λ x. is_whole x.reply ≡ true) e es whole), ready_from setting es framed.1 (All-tail (λ x. is_whole x.reply ≡ true) e es whole))
-
--- what a client reads of exchanges, of which the last one may lack its answer
-record Agrees (waits : ℕ → Bool) (setting : Setting) (es : List Exchange) : Type 0 where
-  messages : List AnswerMessage
-  are : AreAnswersFrom waits (so_far (flat_map (exchange_text setting) es)) 0 (map (λ e. e.head.method) es) messages
-  read : AreReadAs (flat_map (exchange_text setting) es) messages (all_sent setting es)
-
--- each has its answer
-agrees : (waits : ℕ → Bool) (setting : Setting) (es : List Exchange) → CountsAnswers waits → AllByRecursion (IsReady setting) es → Agrees waits setting es
-agrees waits setting es counts ready =
-    let said = all_say waits setting es counts ready in
-    let r = all_read waits [] (all_sent setting es) [] said.sent said.counted in
-    record {
-      messages = r.messages;
-      are = subst (λ t. AreAnswersFrom waits (so_far t) 0 (map (λ e. e.head.method) es) r.messages) (sym said.words)
-          (subst (λ l. AreAnswersFrom waits (so_far (sent_text (all_sent setting es))) 0 l r.messages) (append-nil (methods_of (all_sent setting es)) ∙ sym said.methods) r.are);
-      read = subst (λ t. AreReadAs t r.messages (all_sent setting es)) (sym said.words) r.read;
-    }
-
--- the last one has none
-agrees_open : (waits : ℕ → Bool) (setting : Setting) (es : List Exchange) (e : Exchange) → CountsAnswers waits → AllByRecursion (IsReady setting) es → IsQuiet e
-    → e.reply ≡ no_reply → Agrees waits setting (es ++ e ∷ [])
-agrees_open waits setting es e counts ready quiet none =
-    let said = all_say waits setting es counts ready in
-    let last : exchange_text setting e ≡ [] = quiet_text setting e quiet ∙ ap (reply_text setting e.head) none in
-    let nothing : sent_by setting e ≡ [] = same_sents setting e ∙ ap (sents setting e.head) none in
-    let r = all_read waits [] (all_sent setting es) (e.head.method ∷ []) said.sent said.counted in
-    let words : flat_map (exchange_text setting) (es ++ e ∷ []) ≡ sent_text (all_sent setting es) =
-    flat_map-append (exchange_text setting) es (e ∷ []) ∙ ap₂ (λ a b. a ++ b) said.words (ap (λ t. t ++ []) last) ∙ append-nil (sent_text (all_sent setting es)) in
-    let methods : map (λ x. x.head.method) (es ++ e ∷ []) ≡ methods_of (all_sent setting es) ++ e.head.method ∷ [] =
-    map-append (λ (x : Exchange). x.head.method) es (e ∷ []) ∙ ap (λ l. l ++ e.head.method ∷ []) said.methods in
-    let sents_are : all_sent setting (es ++ e ∷ []) ≡ all_sent setting es =
-    flat_map-append (sent_by setting) es (e ∷ []) ∙ ap (λ l. all_sent setting es ++ (l ++ [])) nothing ∙ append-nil (all_sent setting es) in
-    record {
-      messages = r.messages;
-      are = subst (λ t. AreAnswersFrom waits (so_far t) 0 (map (λ x. x.head.method) (es ++ e ∷ [])) r.messages) (sym words)
-          (subst (λ l. AreAnswersFrom waits (so_far (sent_text (all_sent setting es))) 0 l r.messages) (sym methods) r.are);
-      read = subst (λ t. AreReadAs t r.messages (all_sent setting (es ++ e ∷ []))) (sym words)
-          (subst (AreReadAs (sent_text (all_sent setting es)) r.messages) (sym sents_are) r.read);
-    }
-
--- all of them, the newest first
-all_agree : (waits : ℕ → Bool) (setting : Setting) (es : List Exchange) → CountsAnswers waits → AllByRecursion (IsFramed setting) es
-    → All (λ e. is_whole e.reply ≡ true) (drop 1 es) → Agrees waits setting (reverse es)
-all_agree waits setting [] counts framed whole = agrees waits setting [] counts tt
-all_agree waits setting (e ∷ es) counts framed whole =
-    let older = recursion-reverse (IsReady setting) es (ready_from setting es framed.1 whole) in
-    subst (Agrees waits setting) (sym (reverse-cons e es)) (by_reply e.reply refl older)
+completed : (setting : Setting) (h : Head) (a : AnswerGiven) → IsSelfFramed setting h a
+    → (bytes_eq h.method (codes "HEAD") ≡ false → (n : ℕ) → given_shape h a ≡ shape_length n → n ≤ length (joined a.pieces))
+    → is_whole (answer_given a) ≡ true → is_complete h a ≡ true
+completed setting h a x came whole = by_head (bytes_eq h.method (codes "HEAD")) came
   where
-    by_reply : (r : Reply) → e.reply ≡ r → AllByRecursion (IsReady setting) (reverse es) → Agrees waits setting (reverse es ++ e ∷ [])
-    by_reply no_reply is older = agrees_open waits setting (reverse es) e counts older framed.0.quiet is
-    by_reply (answer_given a) is older =
-        let self = subst (IsFramedReply setting e.head) is framed.0.reply in
-        agrees waits setting (reverse es ++ e ∷ []) counts
-        (recursion-append (IsReady setting) (reverse es) (e ∷ []) older ((framed.0, ap is_whole is ∙ self.whole), tt))
-    by_reply (session s) is older = absurd (subst IsNoSession is framed.0.no_session)
+    by_shape : (s : Shape) → given_shape h a ≡ s → ((n : ℕ) → given_shape h a ≡ shape_length n → n ≤ length (joined a.pieces)) → is_full s a ≡ true
+    by_shape shape_none is came = refl
+    by_shape (shape_length n) is came = le-leb n _ (came n is)
+    by_shape shape_raw is came = absurd (false≢true (sym (subst (λ s. is_raw s ≡ false) is x.shape)))
+    by_shape shape_chunked is came =
+        let streams = not_at_once (asked_of h) a.answered.head a.answered.size (eqb a.answered.head.status 101) (is_bodiless a.answered.head.status) is in
+        sym (ap (λ t. t || a.is_ended) streams) ∙ whole
 
--- ---- a trace
+    by_head : (t : Bool) → (t ≡ false → (n : ℕ) → given_shape h a ≡ shape_length n → n ≤ length (joined a.pieces))
+        → (t || is_full (given_shape h a) a) ≡ true
+    by_head true came = refl
+    by_head false came = by_shape (given_shape h a) refl (came refl)
 
--- what is known of each exchange of a trace
-all_framed : (setting : Setting) (es : List Exchange) → AllByRecursion (IsPlain setting) es → AllByRecursion IsQuiet es
-    → AllByRecursion (λ e. IsNoSession e.reply) es → AllByRecursion (IsFramed setting) es
-all_framed setting [] plain quiet none = tt
-all_framed setting (e ∷ es) plain quiet none = (
-  record { version = plain.0.request.version; reply = plain.0.reply; quiet = quiet.0; no_session = none.0 },
-  all_framed setting es plain.1 quiet.1 none.1,
-)
+module _ (setting : Setting) where
+  -- ---- one exchange
 
--- what a client reads of a trace
-pub ends_agree : (waits : ℕ → Bool) (setting : Setting) (trace : List Step) → CountsAnswers waits → IsTrace setting trace → IsUninterrupted trace
-    → AllByRecursion (IsPlain setting) (exchanges trace)
-    → (ms : List AnswerMessage) × AreAnswersFrom waits (so_far (text setting trace)) 0 (methods_asked trace) ms
-    × AreReadAs (text setting trace) ms (answers_sent setting trace)
-ends_agree waits setting trace counts traced still plain =
-    let es = exchanges trace in
-    let q = unrefused_trace setting trace traced still.unrefused (each_head es plain) in
-    let quiet = quiet_exchanges trace still.no_continue in
-    let spoke = spoken setting trace traced in
-    let words : text setting trace ≡ flat_map (exchange_text setting) (reverse es) =
-    spoke.says ∙ ap (λ r. exchanges_text setting es ++ refusal_text r) q.none_refused ∙ append-nil (exchanges_text setting es) in
-    let a = all_agree waits setting es counts (all_framed setting es plain quiet q.no_sessions) spoke.whole in (
-      a.messages,
-      subst (λ t. AreAnswersFrom waits (so_far t) 0 (methods_asked trace) a.messages) (sym words) a.are,
-      subst (λ t. AreReadAs t a.messages (all_sent setting (reverse es))) (sym words) a.read,
-    )
-  where
-    each_head : (es : List Exchange) → AllByRecursion (IsPlain setting) es → AllByRecursion (λ e. IsPlainHead e.head) es
-    each_head [] all = tt
-    each_head (e ∷ es) all = (all.0.request, each_head es all.1)
+  -- the answer alone
+  abbrev sents : Head → Reply → List SentAnswer
+  sents h (answer_given a) = sent_answer setting h a ∷ []
+  sents h _ = []
 
--- and it reads nothing else
-pub ends_agree_alone : (waits : ℕ → Bool) (setting : Setting) (trace : List Step) (ms : List AnswerMessage) → CountsAnswers waits → IsTrace setting trace → IsUninterrupted trace
-    → AllByRecursion (IsPlain setting) (exchanges trace)
-    → AreAnswersFrom waits (so_far (text setting trace)) 0 (methods_asked trace) ms
-    → AreReadAs (text setting trace) ms (answers_sent setting trace)
-ends_agree_alone waits setting trace ms counts traced still plain are =
-    let a = ends_agree waits setting trace counts traced still plain in
-    let same = answers_unique waits (so_far (text setting trace)) 0 (methods_asked trace) ms a.0 are a.1 in
-    subst (λ l. AreReadAs (text setting trace) l (answers_sent setting trace)) (sym same) a.2
+  same_sents : (e : Exchange) → sent_by setting e ≡ sents e.head e.reply
+  same_sents e = by_reply e.reply
+    where
+      by_reply : (r : Reply) → sent_by setting (record { head = e.head; was_told = e.was_told; reply = r }) ≡ sents e.head r
+      by_reply no_reply = refl
+      by_reply (answer_given a) = refl
+      by_reply (session s) = refl
 
--- a client that got the first bytes, and asked the first requests, reads the beginning of them
-pub ends_agree_so_far : (setting : Setting) (trace : List Step) (front more : List ℕ) (asked extra : List (List ℕ)) (ms : List AnswerMessage)
-    → IsTrace setting trace → IsUninterrupted trace → AllByRecursion (IsPlain setting) (exchanges trace) → text setting trace ≡ front ++ more
-    → methods_asked trace ≡ asked ++ extra → AreTheAnswers front asked ms
-    → (ns : List AnswerMessage) × AreReadAs (text setting trace) ns (answers_sent setting trace) × AnswersGrow front (text setting trace) ms ns
-ends_agree_so_far setting trace front more asked extra ms traced still plain text_is methods_are are =
-    let a = ends_agree counts_each setting trace (λ status high. refl) traced still plain in
-    let all = subst (λ l. AreAnswersFrom counts_each (so_far (text setting trace)) 0 l a.0) methods_are a.1 in
-    (a.0, a.2, answers_stay counts_each (so_far front) (so_far (text setting trace)) more asked extra ms a.0 text_is refl refl are all)
+  reply_words : (h : Head) (reply : Reply) → IsFramedReply setting h reply → reply_text setting h reply ≡ sent_text (sents h reply)
+  reply_words h no_reply framed = refl
+  reply_words h (answer_given a) framed =
+      let s = sent_answer setting h a in
+      ap (λ t. s.head ++ t) (sym (append-nil s.body))
+  reply_words h (session x) framed = absurd framed
+
+  reply_sent : (h : Head) (reply : Reply) → h.minor ≤ 1 → IsFramedReply setting h reply → AreSent (sents h reply)
+  reply_sent h no_reply version framed = tt
+  reply_sent h (answer_given a) version framed = (plain_sent setting h a version framed, (λ part. refl), tt)
+  reply_sent h (session x) version framed = tt
+
+  -- the interim answer, if the client got one
+  abbrev interim : Bool → List ℕ → List SentAnswer
+  interim told method = cond told (interim_sent method ∷ []) []
+
+  interim_words : (told : Bool) (method : List ℕ) → cond told interim_text [] ≡ sent_text (interim told method)
+  interim_words true method = sym (append-nil interim_text)
+  interim_words false method = refl
+
+  interim_whole : (told : Bool) (method : List ℕ) → AllByRecursion IsSentWhole (interim told method)
+  interim_whole true method = ((interim_is_sent method, refl), tt)
+  interim_whole false method = tt
+
+  exchange_words : (e : Exchange) → IsPlain setting e → exchange_text setting e ≡ sent_text (sent_to setting e)
+  exchange_words e plain =
+      ap₂ (λ x y. x ++ y) (interim_words e.was_told e.head.method) (reply_words e.head e.reply plain.reply ∙ ap sent_text (sym (same_sents e)))
+      ∙ sym (sent_text-append (interim e.was_told e.head.method) (sent_by setting e))
+
+  exchange_sent : (e : Exchange) → IsPlain setting e → AreSent (sent_to setting e)
+  exchange_sent e plain =
+      sent-append (interim e.was_told e.head.method) (sent_by setting e) (interim_whole e.was_told e.head.method)
+      (subst AreSent (sym (same_sents e)) (reply_sent e.head e.reply plain.version plain.reply))
+
+  -- one that was answered whole
+  abbrev IsAnswered : Exchange → Type 0
+  IsAnswered e = IsPlain setting e × (HasCome e × (is_whole e.reply ≡ true))
+
+  exchange_whole : (e : Exchange) → IsAnswered e → AllByRecursion IsSentWhole (sent_to setting e)
+  exchange_whole e x =
+      recursion-append IsSentWhole (interim e.was_told e.head.method) (sent_by setting e) (interim_whole e.was_told e.head.method)
+      (by_reply e.reply x.0.version x.0.reply x.1.0 x.1.1)
+    where
+      by_reply : (r : Reply) → e.head.minor ≤ 1 → IsFramedReply setting e.head r → HasCome (record { head = e.head; was_told = e.was_told; reply = r })
+          → is_whole r ≡ true → AllByRecursion IsSentWhole (sent_by setting (record { head = e.head; was_told = e.was_told; reply = r }))
+      by_reply no_reply version framed come whole = tt
+      by_reply (answer_given a) version framed come whole = ((plain_sent setting e.head a version framed, completed setting e.head a framed come whole), tt)
+      by_reply (session s) version framed come whole = tt
+
+  -- ---- exchanges, the oldest first
+
+  abbrev sent_all : List Exchange → List SentAnswer
+  sent_all es = flat_map (sent_to setting) es
+
+  all_words : (es : List Exchange) → AllByRecursion (IsPlain setting) es → flat_map (exchange_text setting) es ≡ sent_text (sent_all es)
+  all_words [] plain = refl
+  all_words (e ∷ es) plain =
+      ap₂ (λ a b. a ++ b) (exchange_words e plain.0) (all_words es plain.1) ∙ sym (sent_text-append (sent_to setting e) (sent_all es))
+
+  all_whole : (es : List Exchange) → AllByRecursion IsAnswered es → AllByRecursion IsSentWhole (sent_all es)
+  all_whole [] x = tt
+  all_whole (e ∷ es) x = recursion-append IsSentWhole (sent_to setting e) (sent_all es) (exchange_whole e x.0) (all_whole es x.1)
+
+  answered_all : (es : List Exchange) → AllByRecursion (IsPlain setting) es → AllByRecursion HasCome es → All (λ e. is_whole e.reply ≡ true) es → AllByRecursion IsAnswered es
+  answered_all [] plain come whole = tt
+  answered_all (e ∷ es) plain come whole =
+      ((plain.0, (come.0, All-head (λ x. is_whole x.reply ≡ true) e es whole)), answered_all es plain.1 come.1 (All-tail (λ x. is_whole x.reply ≡ true) e es whole))
+
+  -- all of them, of which the newest may be under way
+  all_sent : (es : List Exchange) → AllByRecursion (IsPlain setting) es → AllByRecursion HasCome (drop 1 es) → All (λ e. is_whole e.reply ≡ true) (drop 1 es)
+      → AreSent (sent_all (reverse es))
+  all_sent [] plain come whole = tt
+  all_sent (e ∷ es) plain come whole =
+      let older = recursion-reverse IsAnswered es (answered_all es plain.1 come whole) in
+      let is : sent_all (reverse (e ∷ es)) ≡ sent_all (reverse es) ++ sent_to setting e =
+      ap sent_all (reverse-cons e es) ∙ flat_map-append (sent_to setting) (reverse es) (e ∷ [])
+      ∙ ap (λ (l : List SentAnswer). sent_all (reverse es) ++ l) (append-nil (sent_to setting e)) in
+      subst AreSent (sym is) (sent-append (sent_all (reverse es)) (sent_to setting e) (all_whole (reverse es) older) (exchange_sent e plain.0))
+
+  -- ---- a trace
+
+  -- its text is that of its answers
+  pub trace_words : (trace : List Step) → IsPlainTrace setting trace → text setting trace ≡ sent_text (answers_sent setting trace)
+  trace_words trace x =
+      let es = exchanges trace in
+      (spoken setting trace x.traced).says ∙ ap (λ r. exchanges_text setting es ++ refusal_text r) (none_refused trace x.unrefused)
+      ∙ append-nil (exchanges_text setting es) ∙ all_words (reverse es) (recursion-reverse (IsPlain setting) es x.plain)
+
+  -- and they are sent
+  pub trace_sent : (trace : List Step) → IsPlainTrace setting trace → AreSent (answers_sent setting trace)
+  trace_sent trace x = all_sent (exchanges trace) x.plain (trace_come setting trace x.traced) (spoken setting trace x.traced).whole
+
+  -- ---- whose answer each is
+
+  module _ (waits : ℕ → Bool) (counts : CountsAnswers waits) where
+    -- after a 100 its request waits on
+    abbrev IsAwaited : Exchange → Type 0
+    IsAwaited e = e.was_told ≡ true → waits 100 ≡ true
+
+    interim_to : (told : Bool) (method : List ℕ) (more : List (List ℕ)) (rest : List SentAnswer) → (told ≡ true → waits 100 ≡ true)
+        → AreTo waits (method ∷ more) rest → AreTo waits (method ∷ more) (interim told method ++ rest)
+    interim_to true method more rest lets x =
+        (more, refl, subst (λ l. AreTo waits l rest) (sym (cond-true (waits 100) (method ∷ more) more (lets refl))) x)
+    interim_to false method more rest lets x = x
+
+    answer_to : (h : Head) (a : AnswerGiven) (more : List (List ℕ)) (rest : List SentAnswer) → IsSelfFramed setting h a → AreTo waits more rest
+        → AreTo waits (h.method ∷ more) (sent_answer setting h a ∷ rest)
+    answer_to h a more rest framed x =
+        let status = a.answered.head.status in
+        (more, refl, subst (λ l. AreTo waits l rest) (sym (cond-false (waits status) (h.method ∷ more) more (counts status framed.status))) x)
+
+    -- an exchange that was answered, and those that follow
+    exchange_to : (e : Exchange) (more : List (List ℕ)) (rest : List SentAnswer) → IsAwaited e → IsAnswered e → AreTo waits more rest
+        → AreTo waits (e.head.method ∷ more) (sent_to setting e ++ rest)
+    exchange_to e more rest lets x to =
+        let i = interim e.was_told e.head.method in
+        subst (AreTo waits (e.head.method ∷ more)) (sym (append_assoc i (sent_by setting e) rest))
+        (interim_to e.was_told e.head.method more (sent_by setting e ++ rest) lets (by_reply e.reply x.0.reply x.1.1))
+      where
+        by_reply : (r : Reply) → IsFramedReply setting e.head r → is_whole r ≡ true
+            → AreTo waits (e.head.method ∷ more) (sent_by setting (record { head = e.head; was_told = e.was_told; reply = r }) ++ rest)
+        by_reply no_reply framed whole = absurd (false≢true whole)
+        by_reply (answer_given a) framed whole = answer_to e.head a more rest framed to
+        by_reply (session s) framed whole = absurd framed
+
+    -- the newest one
+    newest_to : (e : Exchange) (more : List (List ℕ)) → IsAwaited e → IsPlain setting e → AreTo waits (e.head.method ∷ more) (sent_to setting e)
+    newest_to e more lets plain = interim_to e.was_told e.head.method more (sent_by setting e) lets (by_reply e.reply plain.reply)
+      where
+        by_reply : (r : Reply) → IsFramedReply setting e.head r
+            → AreTo waits (e.head.method ∷ more) (sent_by setting (record { head = e.head; was_told = e.was_told; reply = r }))
+        by_reply no_reply framed = tt
+        by_reply (answer_given a) framed = answer_to e.head a more [] framed tt
+        by_reply (session s) framed = tt
+
+    older_to : (es : List Exchange) (more : List (List ℕ)) (rest : List SentAnswer) → AllByRecursion IsAwaited es → AllByRecursion IsAnswered es → AreTo waits more rest
+        → AreTo waits (map (λ e. e.head.method) es ++ more) (sent_all es ++ rest)
+    older_to [] more rest lets x to = to
+    older_to (e ∷ es) more rest lets x to =
+        subst (AreTo waits (e.head.method ∷ (map (λ k. k.head.method) es ++ more))) (sym (append_assoc (sent_to setting e) (sent_all es) rest))
+        (exchange_to e (map (λ k. k.head.method) es ++ more) (sent_all es ++ rest) lets.0 x.0 (older_to es more rest lets.1 x.1 to))
+
+    all_to : (es : List Exchange) (further : List (List ℕ)) → AllByRecursion IsAwaited es → AllByRecursion (IsPlain setting) es → AllByRecursion HasCome (drop 1 es)
+        → All (λ e. is_whole e.reply ≡ true) (drop 1 es) → AreTo waits (map (λ e. e.head.method) (reverse es) ++ further) (sent_all (reverse es))
+    all_to [] further lets plain come whole = tt
+    all_to (e ∷ es) further lets plain come whole =
+        let older = recursion-reverse IsAnswered es (answered_all es plain.1 come whole) in
+        let awaited = recursion-reverse IsAwaited es lets.1 in
+        let methods : map (λ k. k.head.method) (reverse (e ∷ es)) ++ further ≡ map (λ k. k.head.method) (reverse es) ++ (e.head.method ∷ further) =
+        ap (λ l. map (λ (k : Exchange). k.head.method) l ++ further) (reverse-cons e es)
+        ∙ ap (λ l. l ++ further) (map-append (λ (k : Exchange). k.head.method) (reverse es) (e ∷ []))
+        ∙ append_assoc (map (λ (k : Exchange). k.head.method) (reverse es)) (e.head.method ∷ []) further in
+        let is : sent_all (reverse (e ∷ es)) ≡ sent_all (reverse es) ++ sent_to setting e =
+        ap sent_all (reverse-cons e es) ∙ flat_map-append (sent_to setting) (reverse es) (e ∷ [])
+        ∙ ap (λ (l : List SentAnswer). sent_all (reverse es) ++ l) (append-nil (sent_to setting e)) in
+        subst (λ l. AreTo waits l (sent_all (reverse (e ∷ es)))) (sym methods) (subst (AreTo waits (map (λ k. k.head.method) (reverse es) ++ (e.head.method ∷ further))) (sym is)
+        (older_to (reverse es) (e.head.method ∷ further) (sent_to setting e) awaited older (newest_to e further lets.0 plain.0)))
+
+  -- who lets requests wait after a 100, or gets none
+  awaited_all : (waits : ℕ → Bool) (trace : List Step) → IsWaiting waits trace → AllByRecursion (λ e. e.was_told ≡ true → waits 100 ≡ true) (exchanges trace)
+  awaited_all waits trace x = elim x.goes_on [
+    | inl lets ↦ always lets (exchanges trace)
+    | inr none ↦ never (exchanges trace) (quiet_exchanges trace none)
+  ]
+    where
+      always : waits 100 ≡ true → (es : List Exchange) → AllByRecursion (λ e. e.was_told ≡ true → waits 100 ≡ true) es
+      always lets [] = tt
+      always lets (e ∷ es) = ((λ told. lets), always lets es)
+
+      never : (es : List Exchange) → AllByRecursion IsQuiet es → AllByRecursion (λ e. e.was_told ≡ true → waits 100 ≡ true) es
+      never [] quiet = tt
+      never (e ∷ es) quiet = ((λ told. absurd (false≢true (sym quiet.0 ∙ told))), never es quiet.1)
+
+  -- each answer of a trace is to the first of the requests that wait
+  pub trace_to : (waits : ℕ → Bool) (trace : List Step) (further : List (List ℕ)) → IsWaiting waits trace → IsPlainTrace setting trace
+      → AreTo waits (methods_asked trace ++ further) (answers_sent setting trace)
+  trace_to waits trace further w x =
+      all_to waits w.counts (exchanges trace) further (awaited_all waits trace w) x.plain (trace_come setting trace x.traced) (spoken setting trace x.traced).whole

@@ -10,7 +10,7 @@ use Rattle.h1_chunks.specs.Place.{start}
 use Rattle.h1_chunks.specs.Reading.{ends_before, read}
 use Rattle.h1_chunks.proofs.Complete.{text_read}
 use Rattle.h1_model.specs.AnswerText.{chunk_text, last_chunk}
-use Rattle.h1_client_model.specs.PlainExchange.{joined}
+use Rattle.h1_client_model.specs.RequestText.{joined}
 
 abbrev pub AreShort : List (List ℕ) → Type 0
 AreShort pieces = AllByRecursion (λ (piece : List ℕ). length piece < 2 ^ 64) pieces
@@ -44,7 +44,7 @@ says_size n fits =
       well_formed = inl refl;
     }
 
-says_none : SaysSize (codes "0\r\n") 0
+pub says_none : SaysSize (codes "0\r\n") 0
 says_none = record {
   digits = codes "0";
   blanks = [];
@@ -88,6 +88,12 @@ tree_text pieces = ap (λ (l : List ℕ). l ++ last_chunk) (segments_text pieces
 pub written_body : (pieces : List (List ℕ)) → AreShort pieces
     → (t : ChunkedText) × IsChunkedText t × (chunked_text t ≡ written pieces) × (content t ≡ joined pieces) × (t.trailers ≡ [])
 written_body pieces short = (tree pieces, is_tree pieces short, tree_text pieces, segments_bytes pieces, refl)
+
+-- the pieces without an end
+pub written_front : (pieces : List (List ℕ)) → AreShort pieces
+    → (segments : List Segment) × AllByRecursion IsSegment segments × (flat_map segment_text segments ≡ flat_map chunk_text pieces)
+    × (flat_map (λ s. s.bytes) segments ≡ joined pieces)
+written_front pieces short = (segments_of pieces, are_segments pieces short, segments_text pieces, segments_bytes pieces)
 
 pub written_read : (pieces : List (List ℕ)) (rest : List ℕ) → AreShort pieces
     → read start (written pieces ++ rest) ≡ record { body = joined pieces; trailers = []; ending = ends_before rest }

@@ -1,13 +1,14 @@
 -- Requests that were sent one after another, and what a server reads of them.
-use Rattle.std.specs.Prelude.{◌≡◌, ℕ, ◌≤◌, List, [], ◌∷◌, ◌++◌, length, Some, ⊤}
+use Rattle.std.specs.Prelude.{◌≡◌, ℕ, ◌+◌, ◌<◌, ◌≤◌, Bool, true, nat_le, ⊤, List, [], ◌∷◌, ◌++◌, length}
 use Rattle.h1_model.specs.Request.{Head, head_is}
 use Rattle.h1_model.specs.RequestHead.{IsHeadOf}
 use Rattle.h1_model.specs.Limits.{MAX_HEADER_LINES}
-use Rattle.h1_model.specs.Parse.{Message, next_start, trailers_of}
-use Rattle.h1_model.specs.Handed.{body_bytes}
-use Rattle.h1_client_model.specs.PlainExchange.{carried_by}
+use Rattle.h1_model.specs.Handed.{Begins}
+use Rattle.h1_model.specs.Parse.{Input, Message, content, ended_at}
+use Rattle.h1_chunks.specs.Runs.{Run, run_bytes}
+use Rattle.h1_agreement.specs.PlainExchange.{carried_by}
 use Rattle.h1_client_model.specs.RequestText.{RequestGiven, asked_shape, head_said, given_request_text, body_sent}
-use Rattle.h1_agreement.specs.SentAnswer.{IsBodyText}
+use Rattle.h1_agreement.specs.SentAnswer.{IsBodyText, stop_of}
 
 -- a request as it was sent: the texts of its head and of its body, what the head says, and the bytes that the body carries
 pub record SentRequest : Type 0 where
@@ -39,16 +40,40 @@ abbrev pub asked_text : List SentRequest → List ℕ
 asked_text [] = []
 asked_text (s ∷ ss) = s.head ++ (s.body ++ asked_text ss)
 
--- the request is read as it was sent: its head, all bytes of its body, its end, and no trailers
-pub record IsServedAs (bytes : List ℕ) (m : Message) (s : SentRequest) : Type 0 where
+-- The request that stands at the place is read as it was sent: its head, all bytes of its body, and where that ends, without
+-- trailers.
+pub record IsServedAs (i : Input) (place : ℕ) (m : Message) (s : SentRequest) : Type 0 where
   pub head : m.reading ≡ head_is s.says
-  pub carried : body_bytes bytes m.body ≡ s.bytes
-  pub end : ℕ
-  pub ended : next_start m.body ≡ Some end
-  pub trailers : trailers_of m.body ≡ []
+  pub start : m.body_start ≡ place + length s.head
+  pub runs : List Run
+  pub body : m.body ≡ content runs (ended_at (place + length s.head + length s.body) [])
+  pub carried : run_bytes i.bytes runs ≡ s.bytes
 
--- so are all, in their order, and there are no others
-abbrev pub AreServedAs : List ℕ → List Message → List SentRequest → Type 0
-AreServedAs bytes [] [] = ⊤
-AreServedAs bytes (m ∷ ms) (s ∷ ss) = IsServedAs bytes m s × AreServedAs bytes ms ss
-AreServedAs bytes ms ss = ⊥
+-- so are all from the place on: each begins where the one before it ends, and the last ends where the bytes end
+abbrev pub AreServedAs : Input → ℕ → List Message → List SentRequest → Type 0
+AreServedAs i place [] [] = place ≡ length i.bytes
+AreServedAs i place (m ∷ ms) (s ∷ ss) = IsServedAs i place m s × AreServedAs i (place + length s.head + length s.body) ms ss
+AreServedAs i place ms ss = ⊥
+
+-- all bytes of the request that stands at the place came
+abbrev pub has_come : Input → ℕ → SentRequest → Bool
+has_come i place s = nat_le (place + length s.head + length s.body) (length i.bytes)
+
+-- The request that stands at the place, of which the first bytes came, and its whole head among them, is read as far as it
+-- came: its head, and its end where all of it came. Else it is open, or cut where the input has ended, and the bytes of its
+-- body are a beginning of those that it carries.
+pub record IsBegunServed (i : Input) (place : ℕ) (m : Message) (s : SentRequest) : Type 0 where
+  pub head : m.reading ≡ head_is s.says
+  pub start : m.body_start ≡ place + length s.head
+  pub within : m.body_start ≤ length i.bytes
+  pub runs : List Run
+  pub body : m.body ≡ content runs (stop_of (has_come i place s) i.ended (place + length s.head + length s.body))
+  pub begins : Begins (run_bytes i.bytes runs) s.bytes
+  pub carried : has_come i place s ≡ true → run_bytes i.bytes runs ≡ s.bytes
+
+-- so are all that have a whole head
+abbrev pub AreBegunServed : Input → ℕ → List Message → List SentRequest → Type 0
+AreBegunServed i place [] [] = ⊤
+AreBegunServed i place [] (s ∷ ss) = length i.bytes < place + length s.head
+AreBegunServed i place (m ∷ ms) [] = ⊥
+AreBegunServed i place (m ∷ ms) (s ∷ ss) = IsBegunServed i place m s × AreBegunServed i (place + length s.head + length s.body) ms ss

@@ -1,16 +1,16 @@
 //! Heads that are written are read back as they were.
 
-ghost use Rattle.std.specs.Prelude.{◌≡◌, ℕ, ◌+◌, ◌<◌, ◌≤◌, ◌^◌, List, [], ◌++◌, length, decimal, Some};
+ghost use Rattle.std.specs.Prelude.{◌≡◌, ◌⊎◌, ℕ, ◌+◌, ◌<◌, ◌≤◌, ◌^◌, ◌/◌, true, false, List, [], ◌∷◌, ◌++◌, length, codes, bytes_eq, decimal, Some};
 ghost use Rattle.std.specs.List.{AllByRecursion};
 ghost use Rattle.http.specs.StatusCode.{IsStatusCode};
 ghost use Rattle.httparse.specs.Grammar.{ResponseHead, print_response, IsResponseHead, RequestHead, print_request, IsRequestHead, AllPass, is_value_byte, trim_ows};
-ghost use Rattle.h1_model.specs.Request.{ConnectionType};
+ghost use Rattle.h1_model.specs.Request.{Header, ConnectionType};
 ghost use Rattle.h1_model.specs.HeadPiece.{IsHeadPiece};
 ghost use Rattle.h1_model.specs.RequestHead.{IsHeadOf};
 ghost use Rattle.h1_model.specs.Limits.{MAX_MOMENT};
-ghost use Rattle.h1_model.specs.LengthTable.{length_value};
-ghost use Rattle.h1_model.specs.Answer.{AnswerHead, Shape, BodySize};
-ghost use Rattle.h1_model.specs.AnswerText.{head_text};
+ghost use Rattle.h1_model.specs.LengthTable.{values_of, length_value};
+ghost use Rattle.h1_model.specs.Answer.{AnswerHead, Shape, BodySize, has_header};
+ghost use Rattle.h1_model.specs.AnswerText.{by_name, head_text, date_of};
 ghost use Rattle.h1_client_model.specs.WrittenHead.{written_lines, written_reason, IsCleanLine, IsCleanHeader, IsCleanReason, IsReadBack};
 ghost use Rattle.h1_client_model.specs.RequestText.{AskedHead, request_lines, request_text, head_said, asked_shape, fits, IsPlainRequest};
 
@@ -52,4 +52,21 @@ pub fn plain_requests_are_read_back()
 /// A length that is written is read.
 pub fn lengths_are_read_back()
     ensures { (n : ℕ) → n < 2 ^ 64 → length_value (trim_ows (decimal n)) ≡ Some n }
+{}
+
+/// The values that are read of a name are those that were given, in their order: of each name but those of the connection and
+/// of framing, which are the writer's. So the lines of a head are not the writer's choice.
+pub fn values_are_read_back()
+    ensures by_name { (name : List ℕ) (hs : List Header) → values_of name (by_name hs) ≡ values_of name hs }
+    ensures answer { (name : List ℕ) → bytes_eq name (codes "connection") ≡ false → bytes_eq name (codes "content-length") ≡ false
+        → bytes_eq name (codes "transfer-encoding") ≡ false → (minor : ℕ) (answer : AnswerHead) (shape : Shape) (size : BodySize)
+        (kind : ConnectionType) (now : ℕ) → (bytes_eq name (codes "date") ≡ false) ⊎ (has_header (codes "date") answer.headers ≡ true)
+        → values_of name (written_lines minor answer shape size kind now) ≡ values_of name answer.headers }
+    ensures request { (name : List ℕ) → bytes_eq name (codes "connection") ≡ false → bytes_eq name (codes "content-length") ≡ false
+        → bytes_eq name (codes "transfer-encoding") ≡ false → (r : AskedHead) (shape : Shape) (size : BodySize) (kind : ConnectionType)
+        (now : ℕ) → (bytes_eq name (codes "date") ≡ false) ⊎ (has_header (codes "date") r.headers ≡ true)
+        → values_of name (request_lines r shape size kind now) ≡ values_of name r.headers }
+    ensures date { (minor : ℕ) (answer : AnswerHead) (shape : Shape) (size : BodySize) (kind : ConnectionType) (now : ℕ)
+        → has_header (codes "date") answer.headers ≡ false
+        → values_of (codes "date") (written_lines minor answer shape size kind now) ≡ date_of (now / 1000) ∷ [] }
 {}

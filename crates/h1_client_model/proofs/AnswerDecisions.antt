@@ -130,3 +130,8 @@ answer_within_of (Some size) piece =
           let r = answer_reading_of piece in
           (r.0, inl (fits, r.1))
     ]
+
+-- what the grammar takes is read by the first reading
+pub never_lax : (piece : List ℕ) (a : Answer) (text : ResponseHead) → IsAnswerOf piece a → ReadsResponse piece text [] → a.is_lax ≡ false
+never_lax piece a text (inl x) reads = x.0
+never_lax piece a text (inr x) reads = absurd (x.1 text reads)

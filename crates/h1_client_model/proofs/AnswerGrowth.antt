@@ -47,7 +47,7 @@ answer_grows bytes more ended limit place method m n x y =
     }
 
 -- the methods that still wait, where more follow
-left_waiting-append : (waits : ℕ → Bool) (r : AnswerReading) (method : List ℕ) (methods extra : List (List ℕ))
+pub left_waiting-append : (waits : ℕ → Bool) (r : AnswerReading) (method : List ℕ) (methods extra : List (List ℕ))
     → left_waiting waits r method (methods ++ extra) ≡ left_waiting waits r method methods ++ extra
 left_waiting-append waits (refused fault) method methods extra = refl
 left_waiting-append waits (answer_is a) method methods extra = by_test (waits a.status)

@@ -5,3 +5,4 @@ pub mod AnswerDecisions
 pub mod AnswerExistence
 pub mod AnswerMoved
 pub mod ExampleLemmas
+pub mod Unpadding

@@ -3,8 +3,5 @@ pub mod LaxText
 pub mod AnswerReading
 pub mod AnswerParse
 pub mod WrittenHead
-pub mod PlainExchange
 pub mod RequestText
-pub mod MaskedText
-pub mod LegalMessages
 pub mod Laws

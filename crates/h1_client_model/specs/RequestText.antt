@@ -10,7 +10,6 @@ use Rattle.h1_model.specs.LengthTable.{values_of, connection_of, expects_continu
 use Rattle.h1_model.specs.Answer.{AnswerHead, BodySize, size_none, size_of, size_stream, Shape, shape_none, shape_length, shape_chunked}
 use Rattle.h1_model.specs.AnswerText.{header_text, by_name, is_sent, chunk_text, last_chunk}
 use Rattle.h1_model.specs.Limits.{MAX_HEADER_LINES}
-use Rattle.h1_client_model.specs.PlainExchange.{joined}
 use Rattle.h1_client_model.specs.WrittenHead.{written_lines, IsCleanLine}
 
 -- a request's head as a client gives it: HTTP/1.minor, and whether names are written in camel case
@@ -88,6 +87,10 @@ pub record IsPlainRequest (r : AskedHead) (shape : Shape) (size : BodySize) (kin
   pub lines : AllByRecursion (IsCleanLine r.in_camel_case) (request_lines r shape size kind now)
 
 -- ---- a whole request
+
+-- the pieces as one text
+abbrev pub joined : List (List ℕ) → List ℕ
+joined pieces = flat_map (λ piece. piece) pieces
 
 -- a request as a client sends it: its head, the size of its body, what it asks of the connection, the moment, in
 -- milliseconds since 1970, and the pieces of its body

@@ -1,8 +1,8 @@
 //! Worked examples of answers, all bytes and all answers written out.
 
 ghost use Rattle.std.specs.Prelude.{◌≡◌, ◌∷◌, ◌++◌, [], None, Some, codes, true, false};
-ghost use Rattle.h1_model.specs.Request.{Header, no_body, fixed_body, raw_body, close, keep_alive, malformed, too_large};
-ghost use Rattle.h1_model.specs.Parse.{no_content, content, ended_at, still_open};
+ghost use Rattle.h1_model.specs.Request.{Header, no_body, fixed_body, chunked_body, raw_body, close, keep_alive, malformed, too_large};
+ghost use Rattle.h1_model.specs.Parse.{no_content, content, ended_at, still_open, cut};
 ghost use Rattle.h1_client_model.specs.AnswerReading.{Answer, answer_is, refused};
 ghost use Rattle.h1_client_model.specs.AnswerParse.{so_far, is_interim, counts_each, AnswerMessage, AreAnswersIn, AreTheAnswers};
 ghost use Rattle.h1_client_model.specs.WrittenHead.{line_of};
@@ -35,6 +35,44 @@ pub fn head_and_then_get()
           body_start = 65;
           body = content [] (ended_at 65 []);
         } ∷ []) }
+{}
+
+/// The bytes of a body of a length, and the same cut by the end of the input, which is no end of the body.
+pub fn body_of_a_length()
+    ensures { let answer : Answer = record {
+      minor = 1;
+      status = 200;
+      reason = codes "OK";
+      headers = line_of (codes "content-length") (codes "3") ∷ [];
+      body = fixed_body 3;
+      connection = keep_alive;
+      is_lax = false;
+    } in
+        AreTheAnswers (codes "HTTP/1.1 200 OK\r\ncontent-length: 3\r\n\r\nabc") (codes "GET" ∷ [])
+        (record { reading = answer_is answer; body_start = 38; body = content (record { start = 38; end = 41 } ∷ []) (ended_at 41 []) } ∷ [])
+        × AreAnswersIn counts_each (record { bytes = codes "HTTP/1.1 200 OK\r\ncontent-length: 3\r\n\r\nab"; ended = true; hold_size = None }) (codes "GET" ∷ codes "GET" ∷ [])
+        (record { reading = answer_is answer; body_start = 38; body = content (record { start = 38; end = 40 } ∷ []) cut } ∷ []) }
+{}
+
+/// The bytes of a body in chunks with a trailer line, and its first bytes, where it is open.
+pub fn body_in_chunks()
+    ensures { let answer : Answer = record {
+      minor = 1;
+      status = 200;
+      reason = codes "OK";
+      headers = line_of (codes "transfer-encoding") (codes "chunked") ∷ [];
+      body = chunked_body;
+      connection = keep_alive;
+      is_lax = false;
+    } in
+        AreTheAnswers (codes "HTTP/1.1 200 OK\r\ntransfer-encoding: chunked\r\n\r\n1\r\na\r\n0\r\nX: y \r\n\r\n") (codes "GET" ∷ [])
+        (record {
+          reading = answer_is answer;
+          body_start = 47;
+          body = content (record { start = 50; end = 51 } ∷ []) (ended_at 65 (line_of (codes "x") (codes "y") ∷ []));
+        } ∷ [])
+        × AreTheAnswers (codes "HTTP/1.1 200 OK\r\ntransfer-encoding: chunked\r\n\r\n1\r\na\r\n0") (codes "GET" ∷ codes "GET" ∷ [])
+        (record { reading = answer_is answer; body_start = 47; body = content (record { start = 50; end = 51 } ∷ []) still_open } ∷ []) }
 {}
 
 /// Without a length the body goes on to the end of the input, and until then it is open.

@@ -15,17 +15,16 @@
 //! A head that the grammar refuses is read once more from a copy without the blanks before colons
 //! (`specs/LaxText.antt`), and the answer tells that it was.
 //!
-//! # What two ends agree on
+//! # What is written
 //!
-//! `specs/PlainExchange.antt` says which exchanges are plain: the request is of HTTP/1.1 with a path as its target, and
-//! the answer says where it ends. `specs/WrittenHead.antt` has the lines of a head as they are written, and says when a
-//! text is read back as such a head; `specs/RequestText.antt` is a request's text, `specs/MaskedText.antt` a frame's as a
-//! client writes it, and `specs/LegalMessages.antt` says which lists of frames keep the rules. That both ends agree on
-//! these is proved in `h1_agreement`.
+//! `specs/WrittenHead.antt` has the lines of a head as they are written, and says when a text is read back as such a head;
+//! `specs/RequestText.antt` is a request's text, and says which requests are plain. That both ends agree on these is proved
+//! in `h1_agreement`.
 //!
 //! # The laws
 //!
-//! - [`answer_head`]: a piece has one reading as an answer, and it has one.
+//! - [`answer_head`]: a piece has one reading as an answer, and it has one; the second reading leaves out blanks before
+//!   colons and nothing else.
 //! - [`answers`]: any bytes have just one list of answers; bytes and requests that follow leave each answer where it
 //!   was; the answers from a place on are those of the bytes from there on.
 //! - [`table_examples`], [`answer_examples`]: small heads and bytes with all their values.

@@ -1,10 +1,15 @@
-use Rattle.std.proofs.Common.{refl}
-use Rattle.h1_client_model.specs.AnswerParse.{counts_each}
-use Rattle.h1_agreement.proofs.Traces.{ends_agree, ends_agree_alone}
+use Rattle.std.proofs.Common.{◌++◌, ◌∙◌}
+use Rattle.h1_agreement.specs.SentAnswer.{methods_asked, answers_sent}
+use Rattle.h1_agreement.proofs.SentAnswers.{sent_is_read, sent_alone}
+use Rattle.h1_agreement.proofs.Traces.{trace_words, trace_sent, trace_to}
 use Rattle.h1_agreement.proofs.answers.two_ends.Goals as goal
 
 pub returns-clause-there_are : goal.returns-clause-there_are
-returns-clause-there_are c setting trace = ends_agree counts_each setting trace (λ status high. refl)
+returns-clause-there_are c waits setting trace r further waiting x is held =
+    sent_is_read waits r (methods_asked trace ++ further) (answers_sent setting trace) (is ∙ trace_words setting trace x) (trace_sent setting trace x) held
+    (trace_to setting waits trace further waiting x)
 
 pub returns-clause-no_others : goal.returns-clause-no_others
-returns-clause-no_others c setting trace ms = ends_agree_alone counts_each setting trace ms (λ status high. refl)
+returns-clause-no_others c waits setting trace r further ms waiting x is held are =
+    sent_alone waits r (methods_asked trace ++ further) (answers_sent setting trace) ms (is ∙ trace_words setting trace x) (trace_sent setting trace x) held
+    (trace_to setting waits trace further waiting x) are

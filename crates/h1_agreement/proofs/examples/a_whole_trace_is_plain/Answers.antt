@@ -1,21 +1,28 @@
-use Rattle.std.proofs.Common.{[], refl}
+use Rattle.std.proofs.Common.{refl, inl, inr, lit≤}
 use Rattle.h1_model.specs.Sums.{last_tick}
 use Rattle.h1_model.specs.Laws.Exchanges.{exchanges, changed_by}
 use Rattle.h1_model.specs.Laws.ExampleTraces.{usual}
 use Rattle.h1_model.proofs.ExampleSteps.{happens, whole_past, get_written}
 use Rattle.h1_agreement.proofs.OrdinaryHeads.{empty_plain}
+use Rattle.h1_agreement.proofs.InterimStatuses.{not_interim}
 use Rattle.h1_agreement.proofs.examples.a_whole_trace_is_plain.Goals as goal
 
-pub returns : goal.returns
+pub returns-clause-plain : goal.returns-clause-plain
 unfolding exchanges changed_by last_tick
-returns c = (
-  (happens usual whole_past get_written).trace,
-  record {
-    unrefused = record {
-      no_fault = (λ f e. cc, (λ f e. cc, (λ f e. cc, (λ f e. cc, (λ f e. cc, tt)))));
-      in_time = (λ e. cc, (λ e. cc, (λ e. cc, (λ e. cc, (λ e. cc, tt)))));
-    };
-    no_continue = (λ e. cc, (λ e. cc, (λ e. cc, (λ e. cc, (λ e. cc, tt)))));
-  },
-  (record { request = record { version = refl; method = refl; target = ([], refl); no_upgrade = refl }; reply = empty_plain }, tt),
-)
+returns-clause-plain c = record {
+  traced = (happens usual whole_past get_written).trace;
+  unrefused = record {
+    no_fault = (λ f e. cc, (λ f e. cc, (λ f e. cc, (λ f e. cc, (λ f e. cc, tt)))));
+    in_time = (λ e. cc, (λ e. cc, (λ e. cc, (λ e. cc, (λ e. cc, tt)))));
+  };
+  plain = (record { version = lit≤ tt; reply = empty_plain }, tt);
+}
+
+pub returns-clause-counts_each : goal.returns-clause-counts_each
+returns-clause-counts_each c = record {
+  counts = λ status high. refl;
+  goes_on = inr (λ e. cc, (λ e. cc, (λ e. cc, (λ e. cc, (λ e. cc, tt)))));
+}
+
+pub returns-clause-waits_on : goal.returns-clause-waits_on
+returns-clause-waits_on c = record { counts = not_interim; goes_on = inl refl }

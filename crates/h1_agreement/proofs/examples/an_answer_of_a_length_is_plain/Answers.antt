@@ -1,20 +1,36 @@
-use Rattle.std.proofs.Common.{◌≡◌, ◌<◌, ◌≤◌, ◌^◌, refl, subst, lit≤, lit<}
+use Rattle.std.proofs.Common.{◌≡◌, ◌<◌, ◌^◌, refl, subst, lit≤, lit<}
 use Rattle.h1_model.specs.AnswerText.{appended}
 use Rattle.h1_agreement.proofs.OrdinaryHeads.{two_back}
 use Rattle.h1_agreement.proofs.examples.an_answer_of_a_length_is_plain.Goals as goal
 
-pub returns : goal.returns
+pub returns-clause-whole : goal.returns-clause-whole
 unfolding appended
-returns c = record {
-  status = lit≤ tt;
-  no_length = λ same. refl;
-  no_coding = λ same. refl;
-  shape = refl;
-  size = λ e. cc;
-  fits = λ n e. let same : 2 ≡ n = cc in subst (λ k. k < 2 ^ 64) same (lit< tt);
-  came = λ get n e. let same : 2 ≡ n = cc in subst (λ k. k ≤ 2) same (lit≤ tt);
-  short = (lit< tt, (lit< tt, tt));
-  whole = refl;
-  back = two_back;
-  few = lit≤ tt;
-}
+returns-clause-whole c = (
+  record {
+    status = lit≤ tt;
+    unrefused = λ same. refl;
+    shape = refl;
+    size = λ e. cc;
+    fits = λ n e. let same : 2 ≡ n = cc in subst (λ k. k < 2 ^ 64) same (lit< tt);
+    short = (lit< tt, (lit< tt, tt));
+    back = two_back;
+    few = lit≤ tt;
+  },
+  refl,
+)
+
+pub returns-clause-part : goal.returns-clause-part
+unfolding appended
+returns-clause-part c = (
+  record {
+    status = lit≤ tt;
+    unrefused = λ same. refl;
+    shape = refl;
+    size = λ e. cc;
+    fits = λ n e. let same : 2 ≡ n = cc in subst (λ k. k < 2 ^ 64) same (lit< tt);
+    short = (lit< tt, tt);
+    back = two_back;
+    few = lit≤ tt;
+  },
+  refl,
+)

@@ -1,21 +1,20 @@
-use Rattle.std.proofs.Common.{◌≡◌, ◌<◌, ◌^◌, refl, sym, subst, lit≤, lit<}
-use Rattle.std.proofs.lemmas.Bool.{false≢true}
+use Rattle.std.proofs.Common.{◌≡◌, ◌<◌, ◌^◌, refl, subst, lit≤, lit<}
 use Rattle.h1_model.specs.AnswerText.{appended}
 use Rattle.h1_agreement.proofs.OrdinaryHeads.{two_back}
 use Rattle.h1_agreement.proofs.examples.an_answer_to_head_is_plain.Goals as goal
 
 pub returns : goal.returns
 unfolding appended
-returns c = record {
-  status = lit≤ tt;
-  no_length = λ same. refl;
-  no_coding = λ same. refl;
-  shape = refl;
-  size = λ e. cc;
-  fits = λ n e. let same : 2 ≡ n = cc in subst (λ k. k < 2 ^ 64) same (lit< tt);
-  came = λ get n e. absurd (false≢true (sym get));
-  short = tt;
-  whole = refl;
-  back = two_back;
-  few = lit≤ tt;
-}
+returns c = (
+  record {
+    status = lit≤ tt;
+    unrefused = λ same. refl;
+    shape = refl;
+    size = λ e. cc;
+    fits = λ n e. let same : 2 ≡ n = cc in subst (λ k. k < 2 ^ 64) same (lit< tt);
+    short = tt;
+    back = two_back;
+    few = lit≤ tt;
+  },
+  refl,
+)

@@ -1,7 +1,8 @@
 -- Lists of frames that keep the rules (RFC 6455, sections 5.4, 5.5 and 7.4).
-use Rattle.std.specs.Prelude.{◌≡◌, ℕ, ◌≤◌, Bool, true, List, [], ◌∷◌, length, ⊤}
+use Rattle.std.specs.Prelude.{◌≡◌, ℕ, ◌+◌, ◌≤◌, Bool, true, List, [], ◌∷◌, length, ⊤}
 use Rattle.h1_model.specs.Frame.{Frame}
-use Rattle.h1_model.specs.FrameText.{is_under_way}
+use Rattle.h1_model.specs.FrameText.{is_under_way, PlacedFrame}
+use Rattle.h1_agreement.specs.MaskedText.{masked_text, MaskedFrame}
 use Rattle.h1_model.specs.Limits.{MAX_CONTROL_PAYLOAD}
 use Rattle.h1_model.specs.Laws.WrittenFrame.{payload_written, is_control_frame, fits_there, may_close_with}
 
@@ -17,3 +18,10 @@ pub record IsLegal (max_payload : ℕ) (under_way : Bool) (frame : Frame) : Type
 abbrev pub AreLegal : ℕ → Bool → List Frame → Type 0
 AreLegal max_payload under_way [] = ⊤
 AreLegal max_payload under_way (f ∷ fs) = IsLegal max_payload under_way f × AreLegal max_payload (is_under_way under_way f) fs
+
+-- the frames are read as they were sent: each ends where its text does, and the last where the bytes end
+abbrev pub AreFramesOf : List ℕ → ℕ → List PlacedFrame → List MaskedFrame → Type 0
+AreFramesOf bytes place [] [] = place ≡ length bytes
+AreFramesOf bytes place (p ∷ ps) (m ∷ ms) =
+    (p.frame ≡ m.frame) × (p.end ≡ place + length (masked_text m.mask m.frame)) × AreFramesOf bytes p.end ps ms
+AreFramesOf bytes place ps ms = ⊥
