@@ -1,0 +1,5 @@
+pub mod Runs
+pub mod Waits
+pub mod Serve
+pub mod Send
+pub mod Turns

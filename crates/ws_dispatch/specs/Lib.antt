@@ -1,0 +1,4 @@
+pub mod Queued
+pub mod View
+pub mod Steps
+pub mod Polls
