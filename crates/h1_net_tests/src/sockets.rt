@@ -42,7 +42,7 @@ fn bytes_go_both_ways_and_the_last_answer_arrives(rt: HostRuntime) -> Result<(),
     peer.write(b"ping")?;
     let read = task.enter(|cx| wire.poll_read(&mut buf, cx));
     assert!(rt; matches!(read, Poll::Ready(Ok(4))));
-    assert!(rt; buf[..4] == *b"ping".as_slice());
+    assert!(rt; &buf[..4] == b"ping".as_slice());
     // These bytes are never read from the wire, and the answer arrives all the same.
     peer.write(b"unread")?;
     let written = task.enter(|cx| wire.poll_write(b"pong", cx));
@@ -56,7 +56,7 @@ fn bytes_go_both_ways_and_the_last_answer_arrives(rt: HostRuntime) -> Result<(),
     assert!(rt; matches!(shut, Poll::Ready(Ok(()))));
     drop(wire);
     let count = peer.read(&mut buf)?;
-    assert!(rt; count == 4 && buf[..4] == *b"pong".as_slice());
+    assert!(rt; count == 4 && &buf[..4] == b"pong".as_slice());
     assert!(rt; peer.read(&mut buf)? == 0);
     Ok(())
 }

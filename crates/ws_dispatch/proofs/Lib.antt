@@ -3,3 +3,5 @@ pub mod Waits
 pub mod Serve
 pub mod Send
 pub mod Turns
+pub mod Order
+pub mod ReadsAll

@@ -76,7 +76,7 @@ module _ {U Q I E R : Type 0} (reads : U → List ℕ → R → Type 0) (given :
   served Idle settled sent says = (
     says.0,
     says.1,
-    inl (record { writing = inl (says.2.2 ∙ sent); queue = still_settled says.2.1 says.2.2 settled; needs = says.2.0 })
+    inl (record { writing = inl (says.2.2 ∙ sent); queue = still_settled says.2.1 says.2.2 settled; needs = says.2.0 }),
   )
 
 module _ {U Q I E R : Type 0} (reads : U → List ℕ → R → Type 0) (given : Q → R → R) (nothing : R)
@@ -89,7 +89,7 @@ module _ {U Q I E R : Type 0} (reads : U → List ℕ → R → Type 0) (given :
   flush_told x woken error says is fails then = (
     flushed says.0 (Ready (Err x)) ∷ told error ∷ [],
     (u, ((woken, says.1), is), (w, (fails, then), refl)),
-    ((flushed says.0 (Ready (Err x)) ∷ [], refl), inr (subst (λ y. Rose v.wire.faults y.faults) (sym (ap (λ y. y.wire) then)) says.1.answers))
+    ((flushed says.0 (Ready (Err x)) ∷ [], refl), inr (subst (λ y. Rose v.wire.faults y.faults) (sym (ap (λ y. y.wire) then)) says.1.answers)),
   )
 
   waiting_still : (steps : List (Step Q I E)) (gave : List ℕ) → Later u w → WaitsToWrite v u (flushed gave Pending ∷ [])
@@ -112,7 +112,7 @@ module _ {U Q I E R : Type 0} (reads : U → List ℕ → R → Type 0) (given :
   flush_served (Over result) woken flushes is settled says = (
     flushed flushes.0 Pending ∷ says.0,
     (u, ((woken, flushes.1), is), says.1),
-    ended_behind v u w (flushed flushes.0 Pending ∷ []) says.0 (later_by flushes.0 woken flushes.1 is) result says.2
+    ended_behind v u w (flushed flushes.0 Pending ∷ []) says.0 (later_by flushes.0 woken flushes.1 is) result says.2,
   )
   flush_served Idle woken flushes is settled says = (
     flushed flushes.0 Pending ∷ says.0,
@@ -121,5 +121,5 @@ module _ {U Q I E R : Type 0} (reads : U → List ℕ → R → Type 0) (given :
       writing = inr (waiting_still says.0 flushes.0 (run_later reads given nothing breaks lacks seen leaves writes u w says.0 says.1) (waits_of flushes.1.answers));
       queue = still_settled reads given nothing breaks lacks seen leaves writes u w says.2.1 says.2.2 settled;
       needs = needs_behind v u w (flushed flushes.0 Pending ∷ []) says.0 (later_by flushes.0 woken flushes.1 is) w.calling w.waiting w.ended says.2.0;
-    })
+    }),
   )

@@ -67,7 +67,7 @@ module _ {U Q I E R : Type 0} (reads : U → List ℕ → R → Type 0) (given :
         calling,
         ended,
         (woken, items),
-        same_view (record v { wire = w.wire; codec = w.codec; unread = w.unread; waiting = item_read answer; ended = end_read answer }) w refl refl refl d e f g h i j k
+        same_view (record v { wire = w.wire; codec = w.codec; unread = w.unread; waiting = item_read answer; ended = end_read answer }) w refl refl refl d e f g h i j k,
       )
 
   needs_read : w.calling ≡ false → w.waiting ≡ None → w.ended ≡ false → (steps : List (Step Q I E))
@@ -87,7 +87,7 @@ module _ {U Q I E R : Type 0} (reads : U → List ℕ → R → Type 0) (given :
   read_pending woken so waiting calling ended says d e f g h i j k = (
     read says.0 Pending ∷ [],
     was_read Pending so waiting calling ended woken says.0 says.1 d e (f ∙ none_waits v.waiting waiting) g h (i ∙ ended) j k,
-    (needs_read (g ∙ calling) (f ∙ none_waits v.waiting waiting) (i ∙ ended) (read says.0 Pending ∷ []) (waits_so woken says.0 says.1.answers), h, d)
+    (needs_read (g ∙ calling) (f ∙ none_waits v.waiting waiting) (i ∙ ended) (read says.0 Pending ∷ []) (waits_so woken says.0 says.1.answers), h, d),
   )
 
   pub read_counted : (answer : Reading Q) (woken : Bool) → IsOpen v → is_some v.waiting ≡ false → v.calling ≡ false → v.ended ≡ false
@@ -98,7 +98,7 @@ module _ {U Q I E R : Type 0} (reads : U → List ℕ → R → Type 0) (given :
   read_counted answer woken so waiting calling ended says d e f g h i j k = (
     read says.0 answer ∷ [],
     was_read answer so waiting calling ended woken says.0 says.1 d e f g h i j k,
-    omega arith
+    omega arith,
   )
 
   pub read_refused : (cause : FramedError ProtocolError) (error : ProtocolError) (woken : Bool) → IsOpen v → is_some v.waiting ≡ false → v.calling ≡ false → v.ended ≡ false
@@ -110,7 +110,7 @@ module _ {U Q I E R : Type 0} (reads : U → List ℕ → R → Type 0) (given :
   read_refused cause error woken so waiting calling ended says is d e f g h i j k = (
     read says.0 (Ready (Some (Err cause))) ∷ [],
     was_read (Ready (Some (Err cause))) so waiting calling ended woken says.0 says.1 d e (f ∙ none_waits v.waiting waiting) g h (i ∙ ended) j k,
-    (says.0, cause, ([], refl), is)
+    (says.0, cause, ([], refl), is),
   )
 
   serves : (answer : Poll (Result Unit E)) → IsOpen v → v.calling ≡ false → ReadySays v.service w.service answer
@@ -133,7 +133,7 @@ module _ {U Q I E R : Type 0} (reads : U → List ℕ → R → Type 0) (given :
   ready_pending so calling waiting says a b c d f g h i j k = (
     ready Pending ∷ [],
     one (ready Pending) (serves Pending so calling says a b c d f g h i j (k ∙ so.no_error)),
-    (needs_ready w.calling w.waiting w.ended (ready Pending ∷ []) (g ∙ calling) (ap is_some f ∙ waiting) says.ready_waits.1, h, d)
+    (needs_ready w.calling w.waiting w.ended (ready Pending ∷ []) (g ∙ calling) (ap is_some f ∙ waiting) says.ready_waits.1, h, d),
   )
 
   pub ready_failed : (error : E) → IsOpen v → v.calling ≡ false → ReadySays v.service w.service (Ready (Err error))
@@ -153,7 +153,7 @@ module _ {U Q I E R : Type 0} (reads : U → List ℕ → R → Type 0) (given :
         calling,
         says,
         same_view (record v { service = w.service; calling = still_called answer; queue = v.queue ++ answer_queued answer; failing = error_of_answer answer })
-            w a b c d refl f g h i j k
+            w a b c d refl f g h i j k,
       )
 
   needs_call : (calling : Bool) (waiting : Option Q) (ended : Bool) (steps : List (Step Q I E)) → calling ≡ true
@@ -168,7 +168,7 @@ module _ {U Q I E R : Type 0} (reads : U → List ℕ → R → Type 0) (given :
   call_pending so calling says a b c d f g h i j k = (
     answered Pending ∷ [],
     call_polled Pending so calling says a b c d f g (h ∙ sym (append-nil v.queue)) i j (k ∙ so.no_error),
-    (needs_call w.calling w.waiting w.ended (answered Pending ∷ []) g says.call_waits.1, h, d)
+    (needs_call w.calling w.waiting w.ended (answered Pending ∷ []) g says.call_waits.1, h, d),
   )
 
   pub call_answered : (answer : Result I E) → IsOpen v → v.calling ≡ true → AnswerSays v.service w.service (Ready answer)
@@ -197,10 +197,10 @@ module _ {U Q I E R : Type 0} (reads : U → List ℕ → R → Type 0) (given :
           ap (λ y. y.waiting) is ∙ waiting,
           ap (λ y. y.calling) is ∙ calling,
           calls,
-          then
+          then,
         ),
-        refl
-      )
+        refl,
+      ),
     ),
-    omega arith
+    omega arith,
   )

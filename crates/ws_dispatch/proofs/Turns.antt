@@ -20,7 +20,7 @@ module _ {U Q I E R : Type 0} (reads : U → List ℕ → R → Type 0) (given :
   poll_idle woken says = (
     steps ++ says.0,
     run_on reads given nothing breaks lacks seen leaves writes v u w steps says.0 run says.1,
-    inl (stuck_behind v u w steps says.0 (run_later reads given nothing breaks lacks seen leaves writes v u steps run) says.2)
+    inl (stuck_behind v u w steps says.0 (run_later reads given nothing breaks lacks seen leaves writes v u steps run) says.2),
   )
 
   pub poll_over : (woken : Bool) (result : Result Unit (DispatcherError E)) → TurnSays reads given nothing breaks lacks seen leaves writes u w (Over result)
@@ -28,7 +28,7 @@ module _ {U Q I E R : Type 0} (reads : U → List ℕ → R → Type 0) (given :
   poll_over woken result says = (
     steps ++ says.0,
     run_on reads given nothing breaks lacks seen leaves writes v u w steps says.0 run says.1,
-    ended_behind v u w steps says.0 (run_later reads given nothing breaks lacks seen leaves writes v u steps run) result says.2
+    ended_behind v u w steps says.0 (run_later reads given nothing breaks lacks seen leaves writes v u steps run) result says.2,
   )
 
   one_more : (turn : ℕ) (t : List (Step Q I E)) → turn ≤ length steps → 1 ≤ length t → turn + 1 ≤ length (steps ++ t)
@@ -39,5 +39,5 @@ module _ {U Q I E R : Type 0} (reads : U → List ℕ → R → Type 0) (given :
   poll_counted turn counted says = (
     steps ++ says.0,
     run_on reads given nothing breaks lacks seen leaves writes v u w steps says.0 run says.1,
-    one_more turn says.0 counted says.2
+    one_more turn says.0 counted says.2,
   )

@@ -1,5 +1,5 @@
 -- What a dispatcher keeps, and what is known of what it stands on.
-use Rattle.std.specs.Prelude.{Bool, true, false, ℕ, Option, Some, None, is_some, List, Result}
+use Rattle.std.specs.Prelude.{Bool, true, false, ℕ, Option, Some, None, is_some, List, [], ◌∷◌, ◌++◌, Result}
 use Rattle.http_services.specs.Serving.{Serving}
 use Rattle.http_wires.specs.Parts.{Parts}
 use Rattle.http_wires.specs.Wiring.{Wiring}
@@ -67,3 +67,11 @@ view_begun wiring framed service queue =
       closing = false;
       failing = None;
     }
+
+-- the same with this at the end of the queue
+abbrev pub with_queued : {U Q I E : Type 0} → Result (Message I) E → View U Q I E → View U Q I E
+with_queued item v = record v { queue = v.queue ++ item ∷ [] }
+
+-- the framed wire and the service
+abbrev pub parts_of : {S C T U Q I E : Type 0} → Dispatcher S C T U Q I E → Parts T U × S
+parts_of d = (d.framed, d.service)

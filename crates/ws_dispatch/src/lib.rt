@@ -21,5 +21,8 @@
 
 mod error;
 pub mod inner;
+mod laws;
+pub mod ws;
 
 pub use error::DispatcherError;
+pub use laws::{items_are_those_of_the_bytes, runs_keep_order};

@@ -1,15 +1,15 @@
 //! What a dispatcher keeps.
-ghost use Rattle.std.specs.Prelude.{◌≡◌, []};
+ghost use Rattle.std.specs.Prelude.{◌≡◌, [], OnOk, OnErr, length};
 ghost use Rattle.ws_dispatch.specs.Queued.{queued};
-ghost use Rattle.ws_dispatch.specs.View.{view_of, view_begun};
+ghost use Rattle.ws_dispatch.specs.View.{view_of, view_begun, with_queued, parts_of};
 ghost use Rattle.ws_dispatch.specs.Polls.{MayBePolled};
 
-use super::queue::Queue;
+use super::queue::{Message, Queue};
 use crate::error::DispatcherError;
 use http_framing::Decoder;
 use http_services::Service;
 use http_wires::{Framed, Wire};
-use std::alloc::Global;
+use std::alloc::{AllocError, Global};
 
 /// Whether a dispatcher goes on.
 #[derive(Drop)]
@@ -92,5 +92,28 @@ where
             ended: false,
             end: End::Open,
         }
+    }
+
+    /// Puts a message or an error at the end of what waits to be written. Out of memory, nothing changes.
+    pub fn send(&mut self, item: Result<Message<I>, S::Error>) -> Result<(), AllocError>
+        ensures ok { OnOk result (view_of T.wiring S.served self.new ≡ with_queued item (view_of T.wiring S.served self.old)) }
+        ensures err { OnErr result (view_of T.wiring S.served self.new ≡ view_of T.wiring S.served self.old) }
+        ensures open { MayBePolled S.calling self.old → MayBePolled S.calling self.new }
+    {
+        self.queue.send(item)
+    }
+
+    /// How many messages and errors wait to be written.
+    pub fn queue_len(&self) -> usize
+        ensures { result ≡ length (view_of T.wiring S.served self.now).queue }
+    {
+        self.queue.len()
+    }
+
+    /// The framed wire and the service. What is queued, and the call in progress, are dropped.
+    pub fn into_parts(self) -> (Framed<T, U>, S)
+        ensures { result ≡ parts_of self }
+    {
+        (self.framed, self.service)
     }
 }

@@ -7,6 +7,7 @@ ghost use Rattle.ws_dispatch.specs.Polls.{MayBePolled, PollSays};
 
 use super::dispatcher::{Dispatcher, Turn};
 use crate::error::DispatcherError;
+use futures::future::Future;
 use futures::task::{Context, Poll};
 use http_framing::{Decoder, Encoder};
 use http_services::Service;
@@ -20,11 +21,12 @@ where
     S: Service<U::Item, Response = I, Lent = ()>,
     I: Drop,
 {
-    /// At most 64 turns.
-    pub(crate) fn poll(
-        &mut self,
-        cx: &mut Context<'_>,
-    ) -> Poll<Result<(), DispatcherError<S::Error>>>
+    /// Goes on, by at most 64 turns: writes what is queued, sends what is buffered, and then polls the call in progress,
+    /// asks the service for one, or reads.
+    ///
+    /// It is pending where each of these that is needed is pending, or where its turns are spent: then the task is woken.
+    /// After an error it may be polled again.
+    pub fn poll(&mut self, cx: &mut Context<'_>) -> Poll<Result<(), DispatcherError<S::Error>>>
         requires open { MayBePolled S.calling self.old }
         ensures says { PollSays U.reads U.given U.nothing U.breaks U.lacks U.seen U.leaves U.writes (view_of T.wiring S.served self.old) (view_of T.wiring S.served self.new) cx.new.is_woken result }
         ensures open { MayBePolled S.calling self.new }
@@ -39,5 +41,21 @@ where
             }
         }
         cx.yield_now()
+    }
+}
+
+impl<S, T, U, I> Future for Dispatcher<S, S::Call, T, U, U::Item, I, S::Error>
+where
+    T: Wire,
+    U: Decoder<Error = ProtocolError> + Encoder<I, Error = ProtocolError> + Drop,
+    S: Service<U::Item, Response = I, Lent = ()>,
+    I: Drop,
+{
+    type Output = Result<(), DispatcherError<S::Error>>;
+
+    ghost can_poll = { MayBePolled S.calling };
+
+    fn poll(&mut self, cx: &mut Context<'_>) -> Poll<Self::Output> {
+        Dispatcher::poll(self, cx)
     }
 }

@@ -32,10 +32,10 @@ where
         ensures kept { Keeps cx.old cx.new }
     {
         if self.framed.is_write_buf_full() {
-            return self.send(cx);
+            return self.send_on(cx);
         }
         match self.queue.pop() {
-            None => self.send(cx),
+            None => self.send_on(cx),
             Some(Err(error)) => {
                 self.end = End::Failed(error);
                 Turn::Counted
@@ -52,7 +52,7 @@ where
     }
 
     /// Sends what is buffered, and goes on with the service where all is sent or the wire isn't ready.
-    fn send(&mut self, cx: &mut Context<'_>) -> Turn<S::Error>
+    fn send_on(&mut self, cx: &mut Context<'_>) -> Turn<S::Error>
         requires open { MayBePolled S.calling self.old }
         requires is_open { IsOpen (view_of T.wiring S.served self.old) }
         requires settled { IsSettled (view_of T.wiring S.served self.old) }

@@ -11,5 +11,5 @@ returns-in-Failed-clause-says g c =
     let w = view_of g.T.Wire.wiring g.S.Service.served (record c.args.self.now { end = c.replace.new.dest }) in
     let was = sym c.replace.ensures.value ∙ c.in-Failed.is in
     told_sent g.U.Decoder.reads g.U.Decoder.given g.U.Decoder.nothing g.U.Decoder.breaks g.U.Decoder.lacks g.U.Decoder.seen g.U.Decoder.leaves g.U.Encoder.writes v w
-        c.in-Failed.error (ap error_kept was) c.requires.sent
-        (same_view (record v { failing = None }) w refl refl refl refl refl refl refl refl refl (ap is_closed c.replace.ensures.after ∙ sym (ap is_closed was)) (ap error_kept c.replace.ensures.after))
+    c.in-Failed.error (ap error_kept was) c.requires.sent
+    (same_view (record v { failing = None }) w refl refl refl refl refl refl refl refl refl (ap is_closed c.replace.ensures.after ∙ sym (ap is_closed was)) (ap error_kept c.replace.ensures.after))
