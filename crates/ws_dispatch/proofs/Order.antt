@@ -1,12 +1,11 @@
 -- What runs keep in order.
-use Rattle.std.proofs.Common.{◌≡◌, ℕ, Bool, Option, Some, None, List, [], ◌∷◌, ◌++◌, Result, Ok, Err, refl, sym, ap, ◌∙◌, subst, append_assoc, append-nil}
+use Rattle.std.proofs.Common.{◌≡◌, ℕ, Option, List, [], ◌∷◌, ◌++◌, Ok, Err, sym, ap, ◌∙◌, subst, append_assoc, append-nil}
 use Rattle.std.specs.Prelude.{option_to_list}
-use Rattle.futures.specs.declared.task.Poll.{Poll}
 use Rattle.http_bodies.specs.Told.{Grows}
 use Rattle.http_bodies.proofs.Histories.{grown, grown-none}
 use Rattle.ws_frames.specs.declared.error.ProtocolError.{ProtocolError}
 use Rattle.ws_dispatch.specs.View.{View}
-use Rattle.ws_dispatch.specs.Steps.{Step, IsStep, IsRun, item_read, answer_queued, read, ready, called, answered, wrote, unwritten, closed, failed, flushed, told}
+use Rattle.ws_dispatch.specs.Steps.{Step, IsRun, item_read, answer_queued, read, ready, called, answered, wrote, unwritten, closed, failed, flushed, told}
 use Rattle.ws_dispatch.specs.declared.inner.queue.Message.TheVariants.{Item, Close}
 use Rattle.ws_dispatch.specs.Order.{items_in, calls_in, queued_in, taken_in, texts_in, sent_in, came_in, AsksInOrder, TakesInOrder, SendsInOrder, Tells}
 

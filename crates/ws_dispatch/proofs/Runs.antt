@@ -1,11 +1,8 @@
 -- Runs of steps one after the other, and what never falls over them.
-use Rattle.std.proofs.Common.{◌≡◌, ◌≤◌, ℕ, Bool, Option, List, [], ◌∷◌, ◌++◌, Result, refl, sym, ap, subst, arith}
+use Rattle.std.proofs.Common.{◌≡◌, ◌≤◌, ℕ, List, [], ◌∷◌, ◌++◌, refl, sym, ap, subst, arith}
 use Rattle.futures.specs.declared.task.Poll.{Poll}
 use Rattle.futures.specs.declared.task.Poll.TheVariants.{Ready, Pending}
-use Rattle.std.specs.Prelude.{Ok, Err, Some, None}
-use Rattle.http_bodies.specs.Told.{Waits, Caused}
-use Rattle.http_services.specs.Serving.{Serving}
-use Rattle.http_wires.specs.Wiring.{Wiring}
+use Rattle.http_bodies.specs.Told.{Waits}
 use Rattle.ws_frames.specs.declared.error.ProtocolError.{ProtocolError}
 use Rattle.ws_dispatch.specs.View.{View}
 use Rattle.ws_dispatch.specs.Steps.{Step, IsStep, IsRun, read, ready, called, answered, wrote, unwritten, closed, failed, flushed, told}

@@ -1,5 +1,5 @@
 -- Steps of a turn that writes and sends.
-use Rattle.std.proofs.Common.{◌≡◌, ◌≤◌, ◌⊎◌, ◌++◌, ℕ, Bool, true, false, Option, Some, None, List, [], ◌∷◌, length, Result, Ok, Err, inl, inr, refl, sym, ap, ◌∙◌, subst, arith}
+use Rattle.std.proofs.Common.{◌≡◌, ◌≤◌, ◌⊎◌, ◌++◌, ℕ, Bool, true, Some, None, List, [], ◌∷◌, length, Result, Ok, Err, inl, inr, refl, sym, ap, ◌∙◌, subst, arith}
 use Rattle.futures.specs.declared.task.Poll.{Poll}
 use Rattle.futures.specs.declared.task.Poll.TheVariants.{Ready, Pending}
 use Rattle.http_bodies.proofs.Histories.{rose_still}
@@ -9,12 +9,12 @@ use Rattle.http_wires.specs.Flushes.{Gave, Flushes}
 use Rattle.ws_frames.specs.declared.error.ProtocolError.{ProtocolError}
 use Rattle.ws_frames.specs.declared.error.ProtocolError.TheVariants as protocol
 use Rattle.ws_dispatch.specs.View.{View}
-use Rattle.ws_dispatch.specs.Steps.{Step, IsOpen, IsStep, IsRun, wrote, unwritten, closed, failed, flushed, told}
-use Rattle.ws_dispatch.specs.Polls.{WaitsToWrite, IsEnding, IsSettled, OnIdle, TurnSays, ServeSays, HasSpent, Ended, TurnAnswers, ServeAnswers}
+use Rattle.ws_dispatch.specs.Steps.{Step, IsOpen, wrote, unwritten, closed, failed, flushed, told}
+use Rattle.ws_dispatch.specs.Polls.{WaitsToWrite, IsEnding, IsSettled, OnIdle, TurnSays, ServeSays}
 use Rattle.ws_dispatch.specs.declared.inner.queue.Message.TheVariants.{Item, Close}
 use Rattle.ws_dispatch.specs.declared.inner.dispatcher.Turn.{Turn}
 use Rattle.ws_dispatch.specs.declared.inner.dispatcher.Turn.TheVariants.{Counted, Idle, Over}
-use Rattle.ws_dispatch.specs.declared.error.DispatcherError.TheVariants.{Service, Encoder, Decoder}
+use Rattle.ws_dispatch.specs.declared.error.DispatcherError.TheVariants.{Service, Encoder}
 use Rattle.ws_dispatch.proofs.Runs.{Later, step_later, run_later}
 use Rattle.ws_dispatch.proofs.Waits.{needs_behind, ended_behind}
 

@@ -1,5 +1,5 @@
 -- Steps of a turn that serves.
-use Rattle.std.proofs.Common.{◌≡◌, ◌≤◌, ◌⊎◌, ◌++◌, ℕ, Bool, true, false, Option, Some, None, is_some, List, [], ◌∷◌, length, Result, Ok, Err, inl, inr, refl, sym, ap, ◌∙◌, subst, arith, append-nil}
+use Rattle.std.proofs.Common.{◌≡◌, ◌⊎◌, ◌++◌, ℕ, Bool, true, false, Option, Some, None, is_some, List, [], ◌∷◌, Result, Ok, Err, inl, inr, refl, sym, ap, ◌∙◌, arith, append-nil}
 use Rattle.futures.specs.declared.task.Poll.{Poll}
 use Rattle.futures.specs.declared.task.Poll.TheVariants.{Ready, Pending}
 use Rattle.http_config.specs.Causes.{Rose}
@@ -13,10 +13,8 @@ use Rattle.ws_dispatch.specs.View.{View}
 use Rattle.ws_dispatch.specs.Steps.{Step, Reading, IsOpen, IsStep, IsRun, item_read, end_read, error_of_ready, error_of_answer, answer_queued, still_called, read, ready, called, answered}
 use Rattle.ws_dispatch.specs.Polls.{NeedsOf, ServeSays, HasSpent, read_error}
 use Rattle.ws_dispatch.specs.declared.inner.queue.Message.{Message}
-use Rattle.ws_dispatch.specs.declared.inner.queue.Message.TheVariants.{Item, Close}
-use Rattle.ws_dispatch.specs.declared.inner.dispatcher.Turn.{Turn}
 use Rattle.ws_dispatch.specs.declared.inner.dispatcher.Turn.TheVariants.{Counted, Idle, Over}
-use Rattle.ws_dispatch.specs.declared.error.DispatcherError.TheVariants.{Service, Encoder, Decoder}
+use Rattle.ws_dispatch.specs.declared.error.DispatcherError.TheVariants.{Encoder, Decoder}
 
 -- a view by its parts
 made : {U Q I E : Type 0} → Wiring → U → List ℕ → List ℕ → Serving Q I E → Option Q → Bool → List (Result (Message I) E) → Bool → Bool → Option E → View U Q I E

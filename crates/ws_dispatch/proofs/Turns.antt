@@ -1,6 +1,5 @@
 -- A turn behind those before it.
-use Rattle.std.proofs.Common.{◌≡◌, ◌≤◌, ◌+◌, ◌++◌, ℕ, Bool, List, length, Result, inl, inr, arith, length-append}
-use Rattle.futures.specs.declared.task.Poll.{Poll}
+use Rattle.std.proofs.Common.{◌≤◌, ◌+◌, ◌++◌, ℕ, Bool, List, length, Result, inl, arith, length-append}
 use Rattle.futures.specs.declared.task.Poll.TheVariants.{Ready, Pending}
 use Rattle.ws_frames.specs.declared.error.ProtocolError.{ProtocolError}
 use Rattle.ws_dispatch.specs.View.{View}

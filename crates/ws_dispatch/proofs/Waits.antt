@@ -1,11 +1,9 @@
 -- What was pending in a part of a poll was pending in the poll.
-use Rattle.std.proofs.Common.{◌≡◌, ◌≤◌, ◌+◌, ℕ, Bool, true, false, Option, Some, None, List, [], ◌∷◌, ◌++◌, length, Result, Ok, Err, inl, inr, refl, sym, ap, ◌∙◌, subst, ◌⊎◌, arith, append_assoc, length-append}
-use Rattle.futures.specs.declared.task.Poll.{Poll}
+use Rattle.std.proofs.Common.{◌≡◌, Bool, true, false, Option, Some, None, List, [], ◌∷◌, ◌++◌, Result, Ok, Err, inl, inr, sym, ap, ◌∙◌, ◌⊎◌, append_assoc}
 use Rattle.http_bodies.proofs.Histories.{rose_since}
-use Rattle.ws_frames.specs.declared.error.ProtocolError.{ProtocolError}
 use Rattle.ws_dispatch.specs.View.{View}
 use Rattle.ws_dispatch.specs.Steps.{Step}
-use Rattle.ws_dispatch.specs.Polls.{HasSpent, WaitsToWrite, NeedsOf, IsStuckOpen, IsStuck, EndsWith, Ended}
+use Rattle.ws_dispatch.specs.Polls.{HasSpent, WaitsToWrite, NeedsOf, IsStuck, EndsWith, Ended}
 use Rattle.ws_dispatch.specs.declared.error.DispatcherError.{DispatcherError}
 use Rattle.ws_dispatch.specs.declared.error.DispatcherError.TheVariants.{Service, Encoder, Decoder}
 use Rattle.ws_dispatch.proofs.Runs.{Later}

@@ -1,11 +1,9 @@
 -- What the steps of a run moved, in order.
-use Rattle.std.specs.Prelude.{◌≡◌, ℕ, Bool, Option, Some, None, List, [], ◌∷◌, ◌++◌, option_to_list, ⊤, Result, Ok, Err}
-use Rattle.futures.specs.declared.task.Poll.{Poll}
+use Rattle.std.specs.Prelude.{◌≡◌, ℕ, Some, None, List, [], ◌∷◌, ◌++◌, option_to_list, ⊤, Result, Ok, Err}
 use Rattle.futures.specs.declared.task.Poll.TheVariants.{Ready, Pending}
 use Rattle.http_framing.specs.AnyPieces.{GoesOn}
 use Rattle.http_bodies.specs.Told.{Grows}
 use Rattle.http_wires.specs.declared.framed.error.FramedError.TheVariants as framed
-use Rattle.ws_frames.specs.declared.error.ProtocolError.{ProtocolError}
 use Rattle.ws_dispatch.specs.View.{View}
 use Rattle.ws_dispatch.specs.Steps.{Step, Reading, item_read, answer_queued, read, ready, called, answered, wrote, unwritten, closed, failed, flushed, told}
 use Rattle.ws_dispatch.specs.declared.inner.queue.Message.{Message}

@@ -9,7 +9,7 @@ use Rattle.http_wires.specs.declared.framed.error.FramedError.TheVariants as fra
 use Rattle.ws_frames.specs.declared.error.ProtocolError.{ProtocolError}
 use Rattle.ws_frames.specs.declared.error.ProtocolError.TheVariants as protocol
 use Rattle.ws_dispatch.specs.View.{View}
-use Rattle.ws_dispatch.specs.Steps.{Step, Reading, IsRun, read, ready, called, answered, wrote, unwritten, closed, failed, flushed, told}
+use Rattle.ws_dispatch.specs.Steps.{Step, IsRun, read, ready, called, answered, wrote, unwritten, closed, failed, flushed, told}
 use Rattle.ws_dispatch.specs.declared.error.DispatcherError.{DispatcherError}
 use Rattle.ws_dispatch.specs.declared.error.DispatcherError.TheVariants.{Service, Encoder, Decoder}
 use Rattle.ws_dispatch.specs.declared.inner.dispatcher.Dispatcher.{Dispatcher}

@@ -3,7 +3,7 @@ use Rattle.std.specs.Prelude.{◌≡◌, ℕ, Bool, true, false, Option, Some, N
 use Rattle.futures.specs.declared.task.Poll.{Poll}
 use Rattle.futures.specs.declared.task.Poll.TheVariants.{Ready, Pending}
 use Rattle.http_config.specs.declared.Failed.{Failed}
-use Rattle.http_services.specs.Serving.{Serving, ReadySays, CallSays, AnswerSays}
+use Rattle.http_services.specs.Serving.{ReadySays, CallSays, AnswerSays}
 use Rattle.http_wires.specs.Flushes.{Gave}
 use Rattle.http_wires.specs.Items.{Items}
 use Rattle.http_wires.specs.declared.framed.error.FramedError.{FramedError}

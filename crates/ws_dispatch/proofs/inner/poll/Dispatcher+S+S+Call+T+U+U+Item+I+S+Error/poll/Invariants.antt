@@ -1,4 +1,4 @@
-use Rattle.std.proofs.Common.{ℕ, List, ◌≤◌, length}
+use Rattle.std.proofs.Common.{List, ◌≤◌, length}
 use Rattle.futures.specs.Task.{Keeps}
 use Rattle.ws_dispatch.specs.View.{view_of}
 use Rattle.ws_dispatch.specs.Steps.{Step, IsRun}

@@ -1,5 +1,5 @@
-use Rattle.std.proofs.Common.{true, Ok, Err, Some, None, refl}
-use Rattle.futures.specs.declared.task.Poll.TheVariants.{Ready, Pending}
+use Rattle.std.proofs.Common.{true, Ok, Some, None, refl}
+use Rattle.futures.specs.declared.task.Poll.TheVariants.{Ready}
 use Rattle.ws_dispatch.specs.View.{view_of}
 use Rattle.ws_dispatch.proofs.Serve.{none_waits, read_pending, read_counted, read_refused}
 use Rattle.ws_dispatch.proofs.inner.serve.Dispatcher+S+S+Call+T+U+U+Item+I+S+Error.read.Goals as goal

@@ -1,9 +1,8 @@
 use Rattle.ws_dispatch.specs.declared.inner.dispatcher.End.TheVariants.{Closed}
-use Rattle.std.proofs.Common.{None, Ok, Err, refl, sym, ap, ◌∙◌}
+use Rattle.std.proofs.Common.{None, refl, sym, ap, ◌∙◌}
 use Rattle.ws_dispatch.specs.View.{view_of}
-use Rattle.futures.specs.declared.task.Poll.TheVariants.{Ready, Pending}
 use Rattle.ws_dispatch.specs.View.{is_closed, error_kept}
-use Rattle.ws_dispatch.proofs.Send.{never_idle, flush_counted, flush_failed, flush_idle, flush_told}
+use Rattle.ws_dispatch.proofs.Send.{flush_counted, flush_failed, flush_idle, flush_told}
 use Rattle.ws_dispatch.proofs.Serve.{same_view}
 use Rattle.ws_dispatch.proofs.inner.turn.Dispatcher+S+S+Call+T+U+U+Item+I+S+Error.finish.Goals as goal
 

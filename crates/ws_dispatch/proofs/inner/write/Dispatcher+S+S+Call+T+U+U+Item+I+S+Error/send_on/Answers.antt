@@ -1,7 +1,6 @@
-use Rattle.std.proofs.Common.{Ok, Err, refl, sym, ap, ◌∙◌}
+use Rattle.std.proofs.Common.{refl}
 use Rattle.ws_dispatch.specs.View.{view_of}
-use Rattle.futures.specs.declared.task.Poll.TheVariants.{Ready, Pending}
-use Rattle.ws_dispatch.proofs.Send.{flush_counted, flush_failed, flush_served, served}
+use Rattle.ws_dispatch.proofs.Send.{flush_counted, flush_failed, flush_served}
 use Rattle.ws_dispatch.proofs.Serve.{same_view}
 use Rattle.ws_dispatch.proofs.inner.write.Dispatcher+S+S+Call+T+U+U+Item+I+S+Error.send_on.Goals as goal
 
