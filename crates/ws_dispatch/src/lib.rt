@@ -3,8 +3,8 @@
 //! # Example
 //!
 //! ```ignore
-//! let mut dispatcher = ws::Dispatcher::new(alloc, wire, service);
-//! dispatcher.tx().send(Ok(inner::Message::Item(Message::Ping(payload))))?;
+//! let mut dispatcher = ws::over_wire(alloc, wire, service);
+//! dispatcher.send(Ok(inner::Message::Item(Message::Ping(payload))))?;
 //! match dispatcher.poll(cx) {
 //!     Poll::Ready(Ok(())) => {}           // closed, or the input has ended and all is answered and sent
 //!     Poll::Ready(Err(error)) => {}       // the service's error, or that of reading or writing
