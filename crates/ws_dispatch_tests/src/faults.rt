@@ -1,5 +1,8 @@
 //! Frames that break a rule, a service that fails, and wires that fail.
-use crate::services::{Ends, Refused, Served, echo, sent};
+ghost use Rattle.ws_dispatch.specs.Polls.{MayBePolled};
+ghost use Rattle.ws_dispatch_tests.specs.Calls.{answers_once};
+
+use crate::services::{Ends, Refused, Served, sent, serve_text};
 use futures::task::Poll;
 use futures::test::MockTask;
 use std::test::Fail;
@@ -16,7 +19,9 @@ const FAILS: &[u8] = b"\x89\x81\0\0\0\0p\x81\x84\0\0\0\0fail";
 const PING: &[u8] = b"\x89\x81\0\0\0\0p";
 
 /// Polls until it ends.
-fn end_of(task: &MockTask, served: &mut Served) -> Result<Ends, Fail> {
+fn end_of(task: &MockTask, served: &mut Served) -> Result<Ends, Fail>
+    requires open { MayBePolled answers_once served.old }
+{
     for _ in 0..100_u32 {
         if let Poll::Ready(ends) = task.poll(served) {
             return Ok(ends);
@@ -28,9 +33,20 @@ fn end_of(task: &MockTask, served: &mut Served) -> Result<Ends, Fail> {
 #[test]
 fn a_broken_frame_ends_it(rt: HostRuntime) -> Result<(), Fail> {
     let task = MockTask::new(&rt)?;
-    let mut served = echo(rt.alloc(), BROKEN, 1, Vec::new(rt.alloc()), Vec::new(rt.alloc()))?;
+    let mut served = serve_text(
+        rt.alloc(),
+        BROKEN,
+        1,
+        Vec::new(rt.alloc()),
+        Vec::new(rt.alloc()),
+    )?;
     let ends = end_of(&task, &mut served)?;
-    assert!(rt; matches!(ends, Err(DispatcherError::Decoder(ProtocolError::UnmaskedFrame))));
+    assert!(rt;
+        matches!(
+            ends,
+            Err(DispatcherError::Decoder(ProtocolError::UnmaskedFrame))
+        )
+    );
     assert!(rt; sent(served, rt.alloc())?.as_slice() == b"\x8a\x01p".as_slice());
     Ok(())
 }
@@ -38,7 +54,13 @@ fn a_broken_frame_ends_it(rt: HostRuntime) -> Result<(), Fail> {
 #[test]
 fn what_was_answered_before_an_error_is_sent(rt: HostRuntime) -> Result<(), Fail> {
     let task = MockTask::new(&rt)?;
-    let mut served = echo(rt.alloc(), FAILS, 100, Vec::new(rt.alloc()), Vec::new(rt.alloc()))?;
+    let mut served = serve_text(
+        rt.alloc(),
+        FAILS,
+        100,
+        Vec::new(rt.alloc()),
+        Vec::new(rt.alloc()),
+    )?;
     let ends = end_of(&task, &mut served)?;
     assert!(rt; matches!(ends, Err(DispatcherError::Service(Refused))));
     assert!(rt; sent(served, rt.alloc())?.as_slice() == b"\x8a\x01p".as_slice());
@@ -51,7 +73,7 @@ fn each_failing_call_of_the_wire_ends_it(rt: HostRuntime) -> Result<(), Fail> {
     for call in 0..4_usize {
         let task = MockTask::new(&rt)?;
         let fail = [call].to_vec(rt.alloc())?;
-        let mut served = echo(rt.alloc(), PING, 100, Vec::new(rt.alloc()), fail)?;
+        let mut served = serve_text(rt.alloc(), PING, 100, Vec::new(rt.alloc()), fail)?;
         let ends = end_of(&task, &mut served)?;
         if call == 0 || call == 3 {
             assert!(rt; matches!(ends, Err(DispatcherError::Decoder(ProtocolError::Io))));

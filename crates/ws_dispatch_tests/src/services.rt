@@ -1,4 +1,8 @@
 //! Services of frames, and wires in memory.
+ghost use Rattle.std.specs.Prelude.{IfOk};
+ghost use Rattle.ws_dispatch.specs.Polls.{MayBePolled};
+ghost use Rattle.ws_dispatch_tests.specs.Calls.{answers_once};
+
 use bytes::Bytes;
 use http_services::{FnService, Handler};
 use http_wires::{Framed, MemWire};
@@ -23,7 +27,7 @@ impl Handler<Frame> for Echo {
     fn handle(&mut self, req: Frame) -> Result<Message, Refused> {
         match req {
             Frame::Text(payload) => {
-                if payload == b"fail" {
+                if payload.as_slice() == b"fail".as_slice() {
                     return Err(Refused);
                 }
                 Ok(Message::Binary(payload))
@@ -45,13 +49,15 @@ pub(crate) type Served = ws::Dispatcher<Service, Option<Frame>, MemWire, Refused
 pub(crate) type Ends = Result<(), DispatcherError<Refused>>;
 
 /// An echo over a wire that gives this text in pieces of so many bytes, of which there is at least one.
-pub(crate) fn echo(
+pub(crate) fn serve_text(
     alloc: Global,
     text: &'static [u8],
     size: usize,
     room: Vec<usize>,
     fail: Vec<usize>,
-) -> Result<Served, AllocError> {
+) -> Result<Served, AllocError>
+    ensures { IfOk result (MayBePolled answers_once) }
+{
     let mut pieces = Vec::new(alloc);
     let mut rest = Bytes::from_static(text);
     for _ in 0..text.len() {
@@ -65,7 +71,9 @@ pub(crate) fn echo(
 }
 
 /// An echo over this wire.
-pub(crate) fn over(alloc: Global, wire: MemWire) -> Served {
+pub(crate) fn over(alloc: Global, wire: MemWire) -> Served
+    ensures { MayBePolled answers_once result }
+{
     ws::over_wire(alloc, wire, FnService::new(Echo))
 }
 
