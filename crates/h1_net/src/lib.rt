@@ -1,5 +1,5 @@
 //! Sockets and the clock: a listener, both directions of an accepted socket, the moment, and an end that loses no
-//! answer. It knows nothing of HTTP.
+//! answer; the same as a wire, a door and a clock; and a gate over any wire. It knows nothing of HTTP.
 //!
 //! # Example
 //!
@@ -18,19 +18,28 @@
 //! # Contract
 //!
 //! A source and a sink over a socket keep the contracts of `Source` and `Sink`. What a socket gives or takes, no clause
-//! can say. Each call that may wait waits at most as long as it is told to, but for `accept`.
+//! can say. Each call that may wait waits at most as long as it is told to, but for `accept`. A wire, a door and a clock
+//! keep what their traits say. A gated wire asks for no bytes while its write waits.
 #![tactic(auto)]
 
 mod clock;
 mod close;
+mod door;
 mod error;
+mod gated;
 mod listener;
 mod socket;
+mod system_clock;
 mod timed;
+mod wire;
 
 pub use clock::{moment, uptime};
 pub use close::{Linger, close_orderly};
+pub use door::TcpDoor;
 pub use error::{AcceptError, BindError};
+pub use gated::Gated;
 pub use listener::{Accepted, Listener};
 pub use socket::{SocketSink, SocketSource, Stall, prepare};
+pub use system_clock::SystemClock;
 pub use timed::{TimedSink, TimedSource};
+pub use wire::TcpWire;

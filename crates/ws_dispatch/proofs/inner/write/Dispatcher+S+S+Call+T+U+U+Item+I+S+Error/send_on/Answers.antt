@@ -1,0 +1,34 @@
+use Rattle.std.proofs.Common.{refl}
+use Rattle.ws_dispatch.specs.View.{view_of}
+use Rattle.ws_dispatch.proofs.Send.{flush_counted, flush_failed, flush_served}
+use Rattle.ws_dispatch.proofs.Serve.{same_view}
+use Rattle.ws_dispatch.proofs.inner.write.Dispatcher+S+S+Call+T+U+U+Item+I+S+Error.send_on.Goals as goal
+
+pub returns-in-Ready-Ok-clause-says : goal.returns-in-Ready-Ok-clause-says
+returns-in-Ready-Ok-clause-says g c =
+    let v = view_of g.T.Wire.wiring g.S.Service.served c.args.self.now in
+    let w = view_of g.T.Wire.wiring g.S.Service.served (record c.args.self.now { framed = c.flush.new.self }) in
+    flush_counted g.U.Decoder.reads g.U.Decoder.given g.U.Decoder.nothing g.U.Decoder.breaks g.U.Decoder.lacks g.U.Decoder.seen g.U.Decoder.leaves g.U.Encoder.writes v w
+    c.flush.result c.flush.new.cx.is_woken c.flush.ensures.says (same_view (record v { wire = w.wire; unsent = w.unsent }) w refl c.flush.ensures.codec c.flush.ensures.unread refl refl refl refl refl refl refl refl)
+
+pub returns-in-Ready-Err-clause-says : goal.returns-in-Ready-Err-clause-says
+returns-in-Ready-Err-clause-says g c =
+    let v = view_of g.T.Wire.wiring g.S.Service.served c.args.self.now in
+    let w = view_of g.T.Wire.wiring g.S.Service.served (record c.args.self.now { framed = c.flush.new.self }) in
+    flush_failed g.U.Decoder.reads g.U.Decoder.given g.U.Decoder.nothing g.U.Decoder.breaks g.U.Decoder.lacks g.U.Decoder.seen g.U.Decoder.leaves g.U.Encoder.writes v w
+    c.in-Ready-Err.field-0-0 c.flush.new.cx.is_woken (rw c.in-Ready-Err.field-0-is at c.in-Ready-Err.ensures.says) (same_view (record v { wire = w.wire; unsent = w.unsent }) w refl c.flush.ensures.codec c.flush.ensures.unread refl refl refl refl refl refl refl refl)
+
+pub returns-then-is_settled-clause-says : goal.returns-then-is_settled-clause-says
+returns-then-is_settled-clause-says g c =
+    let v = view_of g.T.Wire.wiring g.S.Service.served c.args.self.now in
+    let u = view_of g.T.Wire.wiring g.S.Service.served (record c.args.self.now { framed = c.flush.new.self }) in
+    let w = view_of g.T.Wire.wiring g.S.Service.served c.serve-then-is_settled.new.self in
+    flush_served g.U.Decoder.reads g.U.Decoder.given g.U.Decoder.nothing g.U.Decoder.breaks g.U.Decoder.lacks g.U.Decoder.seen g.U.Decoder.leaves g.U.Encoder.writes v u w
+    c.serve-then-is_settled.result c.flush.new.cx.is_woken c.in-Pending.ensures.says (same_view (record v { wire = u.wire; unsent = u.unsent }) u refl c.flush.ensures.codec c.flush.ensures.unread refl refl refl refl refl refl refl refl) (c.if-is_settled.ensures refl) c.serve-then-is_settled.ensures.says
+
+pub returns-else-is_settled-clause-says : goal.returns-else-is_settled-clause-says
+returns-else-is_settled-clause-says g c =
+    let v = view_of g.T.Wire.wiring g.S.Service.served c.args.self.now in
+    let w = view_of g.T.Wire.wiring g.S.Service.served (record c.args.self.now { framed = c.flush.new.self }) in
+    flush_counted g.U.Decoder.reads g.U.Decoder.given g.U.Decoder.nothing g.U.Decoder.breaks g.U.Decoder.lacks g.U.Decoder.seen g.U.Decoder.leaves g.U.Encoder.writes v w
+    c.flush.result c.flush.new.cx.is_woken c.flush.ensures.says (same_view (record v { wire = w.wire; unsent = w.unsent }) w refl c.flush.ensures.codec c.flush.ensures.unread refl refl refl refl refl refl refl refl)

@@ -1,0 +1,144 @@
+-- What a poll of a dispatcher answers.
+use Rattle.std.specs.Prelude.{◌≡◌, ◌≤◌, ◌⊎◌, ◌++◌, ◌∷◌, ℕ, Bool, true, false, Option, Some, None, IsSome, List, [], length, ⊤, Result, Ok, Err}
+use Rattle.futures.specs.declared.task.Poll.{Poll}
+use Rattle.futures.specs.declared.task.Poll.TheVariants.{Ready, Pending}
+use Rattle.http_config.specs.Causes.{Rose}
+use Rattle.http_services.specs.Serving.{Calling}
+use Rattle.http_wires.specs.declared.framed.error.FramedError.{FramedError}
+use Rattle.http_wires.specs.declared.framed.error.FramedError.TheVariants as framed
+use Rattle.ws_frames.specs.declared.error.ProtocolError.{ProtocolError}
+use Rattle.ws_frames.specs.declared.error.ProtocolError.TheVariants as protocol
+use Rattle.ws_dispatch.specs.View.{View}
+use Rattle.ws_dispatch.specs.Steps.{Step, IsRun, read, ready, called, answered, wrote, unwritten, closed, failed, flushed, told}
+use Rattle.ws_dispatch.specs.declared.error.DispatcherError.{DispatcherError}
+use Rattle.ws_dispatch.specs.declared.error.DispatcherError.TheVariants.{Service, Encoder, Decoder}
+use Rattle.ws_dispatch.specs.declared.inner.dispatcher.Dispatcher.{Dispatcher}
+use Rattle.ws_dispatch.specs.declared.inner.dispatcher.Turn.{Turn}
+use Rattle.ws_dispatch.specs.declared.inner.dispatcher.Turn.TheVariants.{Counted, Idle, Over}
+
+-- a call in progress may be polled
+abbrev pub IsCallOpen : {C Q : Type 0} → (C → Calling Q) → Option C → Type 0
+IsCallOpen calling None = ⊤
+IsCallOpen calling (Some call) = (calling call).is_open ≡ true
+
+-- the call in progress may be polled, if there is one
+abbrev pub MayBePolled : {S C T U Q I E : Type 0} → (C → Calling Q) → Dispatcher S C T U Q I E → Type 0
+MayBePolled calling d = IsCallOpen calling d.call
+
+-- it is the last one
+abbrev pub EndsWith : {A : Type 0} → List A → A → Type 0
+EndsWith {A} xs x = (before : List A) × (xs ≡ before ++ x ∷ [])
+
+-- at least 64 bytes went one way, and then the turns were spent
+abbrev pub IsSpent : {Q I E : Type 0} → Step Q I E → Type 0
+IsSpent (read came Pending) = 64 ≤ length came
+IsSpent (read came (Ready x)) = ⊥
+IsSpent (flushed gave Pending) = 64 ≤ length gave
+IsSpent (flushed gave (Ready x)) = ⊥
+IsSpent (ready answer) = ⊥
+IsSpent (called item) = ⊥
+IsSpent (answered answer) = ⊥
+IsSpent (wrote message text) = ⊥
+IsSpent (unwritten message error) = ⊥
+IsSpent closed = ⊥
+IsSpent (failed error) = ⊥
+IsSpent (told error) = ⊥
+
+abbrev pub HasSpent : {Q I E : Type 0} → List (Step Q I E) → Type 0
+HasSpent [] = ⊥
+HasSpent (step ∷ steps) = IsSpent step ⊎ HasSpent steps
+
+-- the wire's writing was pending
+abbrev pub WaitsToWrite : {U Q I E : Type 0} → View U Q I E → View U Q I E → List (Step Q I E) → Type 0
+WaitsToWrite v w steps =
+    (Rose v.wire.write_waits w.wire.write_waits ⊎ Rose v.wire.flush_waits w.wire.flush_waits) ⊎ HasSpent steps
+
+-- The first that applies was pending: the call in progress; the service, while an item waits; the wire's reading, while
+-- its input hasn't ended. Behind that something is still buffered.
+abbrev pub NeedsOf : {U Q I E : Type 0} → Bool → Option Q → Bool → View U Q I E → View U Q I E → List (Step Q I E) → Type 0
+NeedsOf true item ended v w steps = Rose v.service.call_waits w.service.call_waits
+NeedsOf false (Some item) ended v w steps = Rose v.service.ready_waits w.service.ready_waits
+NeedsOf false None false v w steps = Rose v.wire.read_waits w.wire.read_waits ⊎ HasSpent steps
+NeedsOf false None true v w steps = ¬ (w.unsent ≡ [])
+
+-- nothing more can be done: each that is needed was pending, and nothing more can be buffered
+pub record IsStuckOpen {U Q I E : Type 0} (v w : View U Q I E) (steps : List (Step Q I E)) : Type 0 where
+  pub writing : (w.unsent ≡ []) ⊎ WaitsToWrite v w steps
+  pub queue : (w.queue ≡ []) ⊎ (8192 ≤ length w.unsent)
+  pub needs : NeedsOf w.calling w.waiting w.ended v w steps
+
+-- a Close was taken, or an error is to be reported
+abbrev pub IsEnding : {U Q I E : Type 0} → View U Q I E → Type 0
+IsEnding w = (w.closing ≡ true) ⊎ IsSome w.failing
+
+abbrev pub IsStuck : {U Q I E : Type 0} → View U Q I E → View U Q I E → List (Step Q I E) → Type 0
+IsStuck v w steps = IsStuckOpen v w steps ⊎ (IsEnding w × WaitsToWrite v w steps)
+
+-- the input has ended, and nothing is left to be done
+pub record IsFinished {U Q I E : Type 0} (w : View U Q I E) : Type 0 where
+  pub ended : w.ended ≡ true
+  pub waiting : w.waiting ≡ None
+  pub calling : w.calling ≡ false
+  pub queue : w.queue ≡ []
+
+-- the error of a read, which is the codec's, or says that the wire failed or that memory ran out
+abbrev pub read_error : FramedError ProtocolError → ProtocolError
+read_error (framed.Codec e) = e
+read_error framed.Io = protocol.Io
+read_error framed.NoMemory = protocol.NoMemory
+
+-- Why it ended: a Close was taken and all is sent, or the input has ended and nothing is left to be done or sent. The
+-- service's error, once nothing is buffered or a write failed. A message that couldn't be written, a failed write, or
+-- no memory. A read that gave an error.
+abbrev pub Ended : {U Q I E : Type 0} → View U Q I E → View U Q I E → List (Step Q I E) → Result Unit (DispatcherError E) → Type 0
+Ended v w steps (Ok x) = (w.unsent ≡ []) × ((w.closing ≡ true) ⊎ IsFinished w)
+Ended v w steps (Err (Service e)) = EndsWith steps (told e) × ((w.unsent ≡ []) ⊎ Rose v.wire.faults w.wire.faults)
+Ended {U} {Q} {I} {E} v w steps (Err (Encoder e)) =
+    ((message : I) × EndsWith steps (unwritten message e))
+    ⊎ (((e ≡ protocol.Io) × Rose v.wire.faults w.wire.faults) ⊎ (e ≡ protocol.NoMemory))
+Ended {U} {Q} {I} {E} v w steps (Err (Decoder e)) =
+    (came : List ℕ) × (cause : FramedError ProtocolError) × EndsWith steps (read came (Ready (Some (Err cause)))) × (e ≡ read_error cause)
+
+-- what a turn answers
+abbrev pub TurnAnswers : {U Q I E : Type 0} → View U Q I E → View U Q I E → List (Step Q I E) → Turn E → Type 0
+TurnAnswers v w steps Counted = 1 ≤ length steps
+TurnAnswers v w steps Idle = IsStuck v w steps
+TurnAnswers v w steps (Over result) = Ended v w steps result
+
+-- the same of a turn that leaves the writing as it is
+abbrev pub ServeAnswers : {U Q I E : Type 0} → View U Q I E → View U Q I E → List (Step Q I E) → Turn E → Type 0
+ServeAnswers v w steps Counted = 1 ≤ length steps
+ServeAnswers v w steps Idle = NeedsOf w.calling w.waiting w.ended v w steps × (w.queue ≡ v.queue) × (w.unsent ≡ v.unsent)
+ServeAnswers v w steps (Over result) = Ended v w steps result
+
+-- this holds where nothing more can be done
+abbrev pub OnIdle : {E : Type 0} → Turn E → Type 0 → Type 0
+OnIdle Counted P = ⊤
+OnIdle Idle P = P
+OnIdle (Over result) P = ⊤
+
+-- nothing more can be buffered
+abbrev pub IsSettled : {U Q I E : Type 0} → View U Q I E → Type 0
+IsSettled w = (w.queue ≡ []) ⊎ (8192 ≤ length w.unsent)
+
+-- what a poll answers
+abbrev pub PollAnswers : {U Q I E : Type 0} → View U Q I E → View U Q I E → Bool → List (Step Q I E) → Poll (Result Unit (DispatcherError E)) → Type 0
+PollAnswers v w woken steps (Ready result) = Ended v w steps result
+PollAnswers v w woken steps Pending = IsStuck v w steps ⊎ ((64 ≤ length steps) × (woken ≡ true))
+
+module _ {U Q I E R : Type 0} (reads : U → List ℕ → R → Type 0) (given : Q → R → R) (nothing : R)
+    (breaks : ProtocolError → R → Type 0) (lacks : ProtocolError → Type 0) (seen : U → List ℕ → Type 0)
+    (leaves : ProtocolError → U → List ℕ → U → List ℕ → Type 0) (writes : U → I → List ℕ → U → Type 0) where
+  -- a turn is a run of steps
+  abbrev pub TurnSays : View U Q I E → View U Q I E → Turn E → Type 0
+  TurnSays v w result =
+      (steps : List (Step Q I E)) × IsRun reads given nothing breaks lacks seen leaves writes v steps w × TurnAnswers v w steps result
+
+  abbrev pub ServeSays : View U Q I E → View U Q I E → Turn E → Type 0
+  ServeSays v w result =
+      (steps : List (Step Q I E)) × IsRun reads given nothing breaks lacks seen leaves writes v steps w × ServeAnswers v w steps result
+
+  -- a poll is a run of steps
+  abbrev pub PollSays : View U Q I E → View U Q I E → Bool → Poll (Result Unit (DispatcherError E)) → Type 0
+  PollSays v w woken result =
+      (steps : List (Step Q I E)) × IsRun reads given nothing breaks lacks seen leaves writes v steps w × PollAnswers v w woken steps result

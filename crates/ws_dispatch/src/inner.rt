@@ -1,0 +1,10 @@
+//! A dispatcher over any framed wire.
+mod dispatcher;
+mod poll;
+mod queue;
+mod serve;
+mod turn;
+mod write;
+
+pub use dispatcher::Dispatcher;
+pub use queue::{Message, Queue};

@@ -1,0 +1,92 @@
+//! One turn of a dispatcher.
+ghost use Rattle.std.specs.Prelude.{◌≡◌, [], IsTrue, IsFalse};
+ghost use Rattle.futures.specs.Task.{IsArmed, Keeps};
+ghost use Rattle.ws_dispatch.specs.View.{view_of};
+ghost use Rattle.ws_dispatch.specs.Steps.{IsOpen};
+ghost use Rattle.ws_dispatch.specs.Polls.{MayBePolled, IsEnding, OnIdle, TurnSays};
+
+use super::dispatcher::{Dispatcher, End, Turn};
+use crate::error::DispatcherError;
+use futures::task::{Context, Poll};
+use http_config::Failed;
+use http_framing::{Decoder, Encoder};
+use http_services::Service;
+use http_wires::Wire;
+use std::mem;
+use ws_frames::ProtocolError;
+
+impl<S, T, U, I> Dispatcher<S, S::Call, T, U, U::Item, I, S::Error>
+where
+    T: Wire,
+    U: Decoder<Error = ProtocolError> + Encoder<I, Error = ProtocolError>,
+    S: Service<U::Item, Response = I, Lent = ()>,
+    I: Drop,
+{
+    /// One turn.
+    pub(crate) fn turn(&mut self, cx: &mut Context<'_>) -> Turn<S::Error>
+        requires open { MayBePolled S.calling self.old }
+        ensures says { TurnSays U.reads U.given U.nothing U.breaks U.lacks U.seen U.leaves U.writes (view_of T.wiring S.served self.old) (view_of T.wiring S.served self.new) result }
+        ensures open { MayBePolled S.calling self.new }
+        ensures registered { OnIdle result (IsArmed cx.new) }
+        ensures kept { Keeps cx.old cx.new }
+    {
+        if self.is_open() {
+            self.take(cx)
+        } else {
+            self.finish(cx)
+        }
+    }
+
+    /// Whether it goes on.
+    fn is_open(&self) -> bool
+        ensures open { IsTrue result → IsOpen (view_of T.wiring S.served self.now) }
+        ensures ending { IsFalse result → IsEnding (view_of T.wiring S.served self.now) }
+    {
+        matches!(self.end, End::Open)
+    }
+
+    /// Sends what is buffered, and then ends.
+    fn finish(&mut self, cx: &mut Context<'_>) -> Turn<S::Error>
+        requires open { MayBePolled S.calling self.old }
+        requires ending { IsEnding (view_of T.wiring S.served self.old) }
+        ensures says { TurnSays U.reads U.given U.nothing U.breaks U.lacks U.seen U.leaves U.writes (view_of T.wiring S.served self.old) (view_of T.wiring S.served self.new) result }
+        ensures open { MayBePolled S.calling self.new }
+        ensures registered { OnIdle result (IsArmed cx.new) }
+        ensures kept { Keeps cx.old cx.new }
+    {
+        if self.framed.is_write_buf_empty() {
+            return self.tell();
+        }
+        match self.framed.flush(cx) {
+            Poll::Pending => Turn::Idle,
+            Poll::Ready(Ok(())) => Turn::Counted,
+            Poll::Ready(Err(Failed)) => match mem::replace(&mut self.end, End::Open) {
+                End::Failed(error) => Turn::Over(Err(DispatcherError::Service(error))),
+                End::Closed => {
+                    self.end = End::Closed;
+                    Turn::Over(Err(DispatcherError::Encoder(ProtocolError::Io)))
+                }
+                End::Open => unreachable!(),
+            },
+        }
+    }
+
+    /// All is sent: it ends.
+    fn tell(&mut self) -> Turn<S::Error>
+        requires open { MayBePolled S.calling self.old }
+        requires ending { IsEnding (view_of T.wiring S.served self.old) }
+        requires sent { (view_of T.wiring S.served self.old).unsent ≡ [] }
+        ensures says { TurnSays U.reads U.given U.nothing U.breaks U.lacks U.seen U.leaves U.writes (view_of T.wiring S.served self.old) (view_of T.wiring S.served self.new) result }
+        ensures over { OnIdle result ⊥ }
+        ensures open { MayBePolled S.calling self.new }
+    {
+        match mem::replace(&mut self.end, End::Open) {
+            End::Failed(error) => Turn::Over(Err(DispatcherError::Service(error))),
+            End::Closed => {
+                self.end = End::Closed;
+                Turn::Over(Ok(()))
+            }
+            End::Open => unreachable!(),
+        }
+    }
+}

@@ -1,0 +1,88 @@
+//! What is queued is written and sent.
+ghost use Rattle.std.specs.Prelude.{IsTrue};
+ghost use Rattle.futures.specs.Task.{IsArmed, Keeps};
+ghost use Rattle.ws_dispatch.specs.View.{view_of};
+ghost use Rattle.ws_dispatch.specs.Steps.{IsOpen};
+ghost use Rattle.ws_dispatch.specs.Polls.{MayBePolled, IsSettled, OnIdle, TurnSays};
+
+use super::dispatcher::{Dispatcher, End, Turn};
+use super::queue::Message;
+use crate::error::DispatcherError;
+use futures::task::{Context, Poll};
+use http_config::Failed;
+use http_framing::{Decoder, Encoder};
+use http_services::Service;
+use http_wires::Wire;
+use ws_frames::ProtocolError;
+
+impl<S, T, U, I> Dispatcher<S, S::Call, T, U, U::Item, I, S::Error>
+where
+    T: Wire,
+    U: Decoder<Error = ProtocolError> + Encoder<I, Error = ProtocolError>,
+    S: Service<U::Item, Response = I, Lent = ()>,
+    I: Drop,
+{
+    /// Takes what is queued, as long as the buffer isn't full.
+    pub(super) fn take(&mut self, cx: &mut Context<'_>) -> Turn<S::Error>
+        requires open { MayBePolled S.calling self.old }
+        requires is_open { IsOpen (view_of T.wiring S.served self.old) }
+        ensures says { TurnSays U.reads U.given U.nothing U.breaks U.lacks U.seen U.leaves U.writes (view_of T.wiring S.served self.old) (view_of T.wiring S.served self.new) result }
+        ensures open { MayBePolled S.calling self.new }
+        ensures registered { OnIdle result (IsArmed cx.new) }
+        ensures kept { Keeps cx.old cx.new }
+    {
+        if self.framed.is_write_buf_full() {
+            return self.send_on(cx);
+        }
+        match self.queue.pop() {
+            None => self.send_on(cx),
+            Some(Err(error)) => {
+                self.end = End::Failed(error);
+                Turn::Counted
+            }
+            Some(Ok(Message::Close)) => {
+                self.end = End::Closed;
+                Turn::Counted
+            }
+            Some(Ok(Message::Item(message))) => match self.framed.write(message) {
+                Ok(()) => Turn::Counted,
+                Err(error) => Turn::Over(Err(DispatcherError::Encoder(error))),
+            },
+        }
+    }
+
+    /// Sends what is buffered, and goes on with the service where all is sent or the wire isn't ready.
+    fn send_on(&mut self, cx: &mut Context<'_>) -> Turn<S::Error>
+        requires open { MayBePolled S.calling self.old }
+        requires is_open { IsOpen (view_of T.wiring S.served self.old) }
+        requires settled { IsSettled (view_of T.wiring S.served self.old) }
+        ensures says { TurnSays U.reads U.given U.nothing U.breaks U.lacks U.seen U.leaves U.writes (view_of T.wiring S.served self.old) (view_of T.wiring S.served self.new) result }
+        ensures open { MayBePolled S.calling self.new }
+        ensures registered { OnIdle result (IsArmed cx.new) }
+        ensures kept { Keeps cx.old cx.new }
+    {
+        if self.framed.is_write_buf_empty() {
+            return self.serve(cx);
+        }
+        match self.framed.flush(cx) {
+            Poll::Ready(Ok(())) => Turn::Counted,
+            Poll::Ready(Err(Failed)) => {
+                Turn::Over(Err(DispatcherError::Encoder(ProtocolError::Io)))
+            }
+            Poll::Pending => {
+                if self.is_settled() {
+                    self.serve(cx)
+                } else {
+                    Turn::Counted
+                }
+            }
+        }
+    }
+
+    /// Whether nothing more can be buffered.
+    fn is_settled(&self) -> bool
+        ensures { IsTrue result → IsSettled (view_of T.wiring S.served self.now) }
+    {
+        self.queue.is_empty() || self.framed.is_write_buf_full()
+    }
+}

@@ -1,0 +1,39 @@
+//! A dispatcher of WebSocket frames.
+ghost use Rattle.std.specs.Prelude.{◌≡◌, [], true, false};
+ghost use Rattle.ws_frames.specs.CodecState.{codec_server, codec_limit, codec_reading, codec_sending};
+ghost use Rattle.ws_frames.specs.Framing.{Reads, Writes};
+ghost use Rattle.ws_dispatch.specs.Order.{KeepsReading};
+ghost use Rattle.ws_dispatch.specs.View.{view_of, view_begun};
+ghost use Rattle.ws_dispatch.specs.Polls.{MayBePolled};
+
+use crate::inner;
+use http_services::Service;
+use http_wires::{Framed, Wire};
+use rand_core::Rng;
+use std::alloc::Global;
+use ws_frames::{Codec, Frame, Message, NoWords};
+
+/// A service over the frames of a WebSocket, as a server (RFC 6455): each frame that is read goes to it, and its answers
+/// are written. The parameters are the service and its call, the wire, and why the service fails.
+pub type Dispatcher<S, C, T, E> = inner::Dispatcher<S, C, T, Codec<NoWords>, Frame, Message, E>;
+
+/// A dispatcher over this wire, whose codec takes payloads of at most 65536 bytes. It takes no memory.
+pub fn over_wire<S, T>(
+    alloc: Global,
+    io: T,
+    service: S,
+) -> inner::Dispatcher<S, S::Call, T, Codec<NoWords>, Frame, Message, S::Error>
+where
+    T: Wire,
+    S: Service<Frame, Response = Message, Lent = ()>,
+    ensures view { (codec : Codec NoWords) × (codec_server codec ≡ true) × (codec_limit codec ≡ 65536) × (codec_reading codec ≡ false) × (codec_sending codec ≡ false)
+        × (view_of T.wiring S.served result ≡ view_begun T.wiring (record { io = io; codec = codec; unread = []; unsent = [] }) (S.served service) []) }
+    ensures open { MayBePolled S.calling result }
+{
+    inner::Dispatcher::new(alloc, Framed::new(alloc, io, Codec::new()), service)
+}
+
+/// A codec of frames that has written a message reads as before.
+pub fn writing_leaves_what_is_read<R: Rng>()
+    ensures { KeepsReading (Reads {R = R}) (Writes R.stream) }
+{}
