@@ -1,2 +1,5 @@
 pub mod Inside
+pub mod Names
+pub mod Places
 pub mod Ranges
+pub mod Tags
