@@ -1,4 +1,5 @@
 pub mod Inside
+pub mod Lines
 pub mod Names
 pub mod Places
 pub mod Ranges

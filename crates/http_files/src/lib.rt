@@ -16,6 +16,7 @@
 
 mod conditions;
 mod error;
+mod line;
 mod listing;
 mod paths;
 mod places;
@@ -24,6 +25,7 @@ mod types;
 
 pub use conditions::{etag, is_unchanged_since, lists_etag};
 pub use error::PathError;
+pub use line::line_text;
 pub use listing::{Entry, folder_page, message_page};
 pub use paths::{FilePath, Folder};
 pub use places::place_of;
