@@ -1,6 +1,6 @@
 //! A file that was found, and its length and date.
 use h1_blocking::HandleError;
-use http_files::{Entry, etag};
+use http_files::{Entry, FilePath, etag};
 use http_types::StatusCode;
 use httpdate::HttpDate;
 use std::alloc::Global;
@@ -48,40 +48,70 @@ fn stamp(metadata: &Metadata) -> Option<(u64, u32)> {
     Some((since.as_secs(), since.subsec_nanos()))
 }
 
-/// Opens a file that is to be read.
-pub fn open(rt: &HostRuntime, path: &str) -> Result<File, StatusCode> {
-    File::open(rt, path).map_err(|error| status_of(&error))
+/// What is known of what lies at a path.
+pub fn look(rt: &HostRuntime, path: &FilePath) -> Result<Metadata, StatusCode> {
+    fs::metadata(rt, path.as_str()).map_err(|error| status_of(&error))
 }
 
-/// The names in a folder, in order. One that can't be looked at is left out.
-pub fn entries(rt: &HostRuntime, path: &str) -> Result<Vec<Entry>, HandleError> {
+/// Opens a file that is to be read.
+pub fn open(rt: &HostRuntime, path: &FilePath) -> Result<File, StatusCode> {
+    File::open(rt, path.as_str()).map_err(|error| status_of(&error))
+}
+
+/// Why there is no page of a folder.
+#[derive(Clone, Copy)]
+pub enum Unlisted {
+    /// The folder can't be read: the answer has this status.
+    Unreadable(StatusCode),
+
+    /// Memory ran out.
+    NoMemory,
+}
+
+/// The names in a folder, in order, those with a dot in front only where they are to be shown. One that can't be looked at
+/// is left out.
+pub fn entries(
+    rt: &HostRuntime,
+    path: &FilePath,
+    shows_dots: bool,
+) -> Result<Vec<Entry>, Unlisted> {
     let alloc = rt.alloc();
     let mut entries = Vec::new(alloc);
-    let Ok(listing) = fs::read_dir(rt, path) else {
-        return Ok(entries);
+    let listing = match fs::read_dir(rt, path.as_str()) {
+        Ok(listing) => listing,
+        Err(error) => return Err(Unlisted::Unreadable(status_of(&error))),
     };
     for item in listing {
-        let Ok(item) = item else {
-            continue;
+        let item = match item {
+            Ok(item) => item,
+            Err(error) => return Err(Unlisted::Unreadable(status_of(&error))),
         };
+        if !shows_dots && item.file_name().starts_with('.') {
+            continue;
+        }
         let Ok(metadata) = fs::metadata(rt, item.path()) else {
             continue;
         };
+        let Ok(name) = String::from_str(alloc, item.file_name()) else {
+            return Err(Unlisted::NoMemory);
+        };
         let entry = Entry {
             is_file: !metadata.is_dir(),
-            name: String::from_str(alloc, item.file_name())?,
+            name,
             size: metadata.len(),
             changed: stamp(&metadata).map(|(seconds, _)| seconds),
         };
         if entries.push(entry).is_err() {
-            return Err(HandleError::NoMemory);
+            return Err(Unlisted::NoMemory);
         }
     }
-    entries.sort()?;
+    if entries.sort().is_err() {
+        return Err(Unlisted::NoMemory);
+    }
     Ok(entries)
 }
 
-/// The status that tells of a file that can't be opened.
+/// The status that tells of a file or a folder that can't be opened.
 pub fn status_of(error: &Error) -> StatusCode {
     match error.kind() {
         ErrorKind::PermissionDenied => StatusCode::FORBIDDEN,

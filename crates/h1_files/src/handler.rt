@@ -1,18 +1,17 @@
 //! What is answered to which request.
-use crate::found::{Found, entries, open, status_of};
+use crate::found::{Found, Unlisted, entries, look, open};
 use crate::reply::{Sent, add, add_range, file_head, page_head};
 use crate::shared::Shared;
 use h1_blocking::{Answer, Body, HandleError, Handler, Handlers, Incoming};
 use h1_net::{TimedSink, TimedSource};
 use http_files::{
-    Asked, PathError, asked_range, content_type, file_path, folder_page, is_unchanged_since,
-    lists_etag, message_page, place_of,
+    Asked, FilePath, PathError, asked_range, content_type, folder_page, is_unchanged_since,
+    line_text, lists_etag, message_page, place_of,
 };
 use http_types::header::CONTENT_TYPE;
 use http_types::header::names::{ALLOW, LOCATION};
 use http_types::{HeaderMap, Method, NoMemory, RequestHead, ResponseHead, StatusCode};
 use std::alloc::Global;
-use std::fs;
 use std::fs::File;
 use std::io::{Read, Seek, SeekFrom};
 use std::net::SocketAddr;
@@ -23,9 +22,8 @@ const PIECE: usize = 65_536;
 
 /// Makes the handlers of a server.
 #[derive(Drop)]
-pub struct FileHandlers<'a> {
+pub struct FileHandlers {
     rt: HostRuntime,
-    folder: &'a str,
     shared: Arc<Shared>,
 }
 
@@ -34,20 +32,19 @@ pub struct FileHandlers<'a> {
 pub struct FileHandler {
     rt: HostRuntime,
     alloc: Global,
-    folder: String,
     shared: Arc<Shared>,
 
     // A piece of a file. It takes no memory before the first one.
     piece: Vec<u8>,
 }
 
-impl<'a> FileHandlers<'a> {
-    pub fn new(rt: HostRuntime, folder: &'a str, shared: Arc<Shared>) -> FileHandlers<'a> {
-        FileHandlers { rt, folder, shared }
+impl FileHandlers {
+    pub fn new(rt: HostRuntime, shared: Arc<Shared>) -> FileHandlers {
+        FileHandlers { rt, shared }
     }
 }
 
-impl<'a> Handlers for FileHandlers<'a> {
+impl Handlers for FileHandlers {
     type Handler = FileHandler;
 
     fn handler(&mut self, _peer: SocketAddr) -> Result<FileHandler, NoMemory> {
@@ -55,7 +52,6 @@ impl<'a> Handlers for FileHandlers<'a> {
         Ok(FileHandler {
             rt: self.rt,
             alloc,
-            folder: String::from_str(alloc, self.folder)?,
             shared: Arc::try_clone(&self.shared)?,
             piece: Vec::new(alloc),
         })
@@ -76,8 +72,8 @@ impl Handler for FileHandler {
         let sent = self.answer(request.head(), body, answer);
         self.shared.count();
         let sent = sent?;
-        let head = request.head();
-        let (method, target) = (head.method.as_str(), head.uri.path());
+        let method = request.head().method.as_str();
+        let target = line_text(self.alloc, request.target().as_slice())?;
         let (status, length) = (sent.status.as_u16(), sent.length);
         let _ = match request.peer() {
             Some(peer) => eprintln!(self.rt; "{peer} {method} {target} {status} {length}"),
@@ -102,19 +98,25 @@ impl FileHandler {
             return self.refuse(StatusCode::METHOD_NOT_ALLOWED, body, answer);
         }
         let target = head.uri.path();
-        let path = match file_path(self.alloc, &self.folder, target) {
+        let path = match self.shared.folder().file(self.alloc, target) {
+            Ok(path) if path.is_hidden() && !self.shared.shows_dots() => {
+                return self.refuse(StatusCode::NOT_FOUND, body, answer);
+            }
             Ok(path) => path,
             Err(PathError::Malformed) => return self.refuse(StatusCode::BAD_REQUEST, body, answer),
             Err(PathError::Outside) => return self.refuse(StatusCode::NOT_FOUND, body, answer),
             Err(PathError::NoMemory) => return Err(HandleError::NoMemory),
         };
-        match fs::metadata(&self.rt, path.as_str()) {
-            Ok(metadata) if metadata.is_dir() => self.folder(head, target, path, body, answer),
+        match look(&self.rt, &path) {
+            Ok(metadata) if metadata.is_dir() && target.ends_with('/') => {
+                self.folder(head, &path, body, answer)
+            }
+            Ok(metadata) if metadata.is_dir() => self.redirect(head, body, answer),
             Ok(metadata) if metadata.is_file() && !target.ends_with('/') => {
-                self.file(head, path.as_str(), body, answer)
+                self.file(head, &path, body, answer)
             }
             Ok(_) => self.refuse(StatusCode::NOT_FOUND, body, answer),
-            Err(error) => self.refuse(status_of(&error), body, answer),
+            Err(status) => self.refuse(status, body, answer),
         }
     }
 
@@ -133,38 +135,55 @@ impl FileHandler {
         send_page(head, status, page.as_str(), body, answer)
     }
 
-    // Answers with a folder's index.html, or with a page of its names. Without a slash at its end the client is sent to
-    // the place with one, since the page's links start there.
-    fn folder<S: TimedSource, K: TimedSink>(
+    // Sends the client to a folder's place with a slash at its end, since the links of its page start there.
+    fn redirect<S: TimedSource, K: TimedSink>(
         &mut self,
         request: &RequestHead,
-        target: &str,
-        mut path: String,
         body: &mut Body<S, K>,
         answer: Answer,
     ) -> Result<Sent, HandleError> {
         let alloc = self.alloc;
-        if !target.ends_with('/') {
-            let Ok(place) = place_of(alloc, target) else {
-                return self.refuse(StatusCode::BAD_REQUEST, body, answer);
-            };
-            let status = StatusCode::MOVED_PERMANENTLY;
-            let mut head = page_head(alloc, status)?;
-            add(alloc, &mut head, LOCATION, place.as_str())?;
-            let page = message_page(alloc, "Moved permanently")?;
-            return send_page(head, status, page.as_str(), body, answer);
-        }
-        let mut index = path.clone()?;
-        index.push_str("/index.html")?;
-        if let Ok(metadata) = fs::metadata(&self.rt, index.as_str())
+        let place = match place_of(alloc, request.uri.path(), request.uri.query()) {
+            Ok(place) => place,
+            Err(PathError::NoMemory) => return Err(HandleError::NoMemory),
+            Err(_) => return self.refuse(StatusCode::BAD_REQUEST, body, answer),
+        };
+        let status = StatusCode::MOVED_PERMANENTLY;
+        let mut head = page_head(alloc, status)?;
+        add(alloc, &mut head, LOCATION, place.as_str())?;
+        let page = message_page(alloc, "Moved permanently")?;
+        send_page(head, status, page.as_str(), body, answer)
+    }
+
+    // Answers with a folder's index.html, or with a page of its names.
+    fn folder<S: TimedSource, K: TimedSink>(
+        &mut self,
+        request: &RequestHead,
+        path: &FilePath,
+        body: &mut Body<S, K>,
+        answer: Answer,
+    ) -> Result<Sent, HandleError> {
+        let Ok(index) = path.child("index.html") else {
+            return Err(HandleError::NoMemory);
+        };
+        if let Ok(metadata) = look(&self.rt, &index)
             && metadata.is_file()
         {
-            return self.file(request, index.as_str(), body, answer);
+            return self.file(request, &index, body, answer);
         }
-        let entries = entries(&self.rt, path.as_str())?;
-        path.push_str("/")?;
-        let place = path.as_str().strip_prefix(self.folder.as_str());
-        let page = folder_page(alloc, place.unwrap_or(target), entries.as_slice())?;
+        let entries = match entries(&self.rt, path, self.shared.shows_dots()) {
+            Ok(entries) => entries,
+            Err(Unlisted::Unreadable(status)) => return self.refuse(status, body, answer),
+            Err(Unlisted::NoMemory) => return Err(HandleError::NoMemory),
+        };
+        let alloc = self.alloc;
+        let place = path
+            .as_str()
+            .strip_prefix(self.shared.folder().as_str())
+            .unwrap_or("");
+        let mut title = String::from_str(alloc, place)?;
+        title.push_str("/")?;
+        let page = folder_page(alloc, title.as_str(), entries.as_slice())?;
         let head = page_head(alloc, StatusCode::OK)?;
         send_page(head, StatusCode::OK, page.as_str(), body, answer)
     }
@@ -173,7 +192,7 @@ impl FileHandler {
     fn file<S: TimedSource, K: TimedSink>(
         &mut self,
         request: &RequestHead,
-        path: &str,
+        path: &FilePath,
         body: &mut Body<S, K>,
         answer: Answer,
     ) -> Result<Sent, HandleError> {
@@ -197,7 +216,7 @@ impl FileHandler {
             Asked::Unsatisfiable => (StatusCode::RANGE_NOT_SATISFIABLE, None),
         };
         let mut head = file_head(alloc, status, &found)?;
-        add(alloc, &mut head, CONTENT_TYPE, content_type(path))?;
+        add(alloc, &mut head, CONTENT_TYPE, content_type(path.as_str()))?;
         if status != StatusCode::OK {
             add_range(alloc, &mut head, part, found.length)?;
         }

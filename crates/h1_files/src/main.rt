@@ -12,9 +12,10 @@ use crate::options::{Command, HELP, Options, VERSION};
 use crate::shared::Shared;
 use h1_blocking::{Limits, host, wake};
 use h1_net::{BindError, Listener};
+use http_files::Folder;
 use http_types::ServiceConfig;
 use std::alloc::Global;
-use std::io::Read;
+use std::io::{ErrorKind, Read};
 use std::net::{Net, SocketAddr, TcpListener, TcpStream};
 use std::process::ExitCode;
 use std::rt::Env;
@@ -32,13 +33,20 @@ const NO_FOLDER: u8 = 3;
 /// The address can't be listened on.
 const NO_PORT: u8 = 4;
 
-/// There is no memory.
+/// Memory has run out.
 const NO_MEMORY: u8 = 5;
+
+/// No thread can be started.
+const NO_THREAD: u8 = 6;
 
 fn main(rt: HostRuntime) -> ExitCode {
     let alloc = rt.alloc();
-    // Words that can't be had are wrong words.
-    let words = words(&rt).unwrap_or(Vec::new(alloc));
+    let words = match words(&rt) {
+        Ok(words) => words,
+        Err(error) if error.kind() == ErrorKind::OutOfMemory => return ExitCode::from(NO_MEMORY),
+        // Words that can't be had are wrong words.
+        Err(_) => Vec::new(alloc),
+    };
     match options::read(&words) {
         Ok(Command::Help) => print(rt, HELP),
         Ok(Command::Version) => print(rt, VERSION),
@@ -75,6 +83,7 @@ where
     let folder = options.folder;
     match fs::metadata(&system, folder) {
         Ok(found) if found.is_dir() => {}
+        Err(error) if error.kind() == ErrorKind::OutOfMemory => return ExitCode::from(NO_MEMORY),
         _ => {
             let _ = eprintln!(system; "h1_files: there is no folder {folder}");
             return ExitCode::from(NO_FOLDER);
@@ -106,15 +115,20 @@ where
     let Some(address) = listener.address() else {
         return refuse(system, options, BindError::Refused);
     };
-    let Ok(shared) = Arc::new(alloc, Shared::new(options.requests)) else {
+    let Some(shared) = share(alloc, options) else {
         return ExitCode::from(NO_MEMORY);
     };
     let folder = options.folder;
     let _ = eprintln!(system; "h1_files: serving {folder} at http://{address}/");
-    if options.until_input_ends && !watch_input(rt, system, address, &shared) {
-        return ExitCode::from(NO_MEMORY);
+    if options.until_input_ends {
+        let Ok(watched) = Arc::try_clone(&shared) else {
+            return ExitCode::from(NO_MEMORY);
+        };
+        if !watch_input(rt, system, address, watched) {
+            return ExitCode::from(NO_THREAD);
+        }
     }
-    let mut handlers = FileHandlers::new(system, folder, shared);
+    let mut handlers = FileHandlers::new(system, shared);
     let config = ServiceConfig::default();
     match host(
         rt,
@@ -129,8 +143,19 @@ where
     }
 }
 
+// What the connections share, unless memory runs out.
+fn share(alloc: Global, options: &Options<'_>) -> Option<Arc<Shared>> {
+    let path = String::from_str(alloc, options.folder).ok()?;
+    let folder = Folder::new(path)?;
+    Arc::new(
+        alloc,
+        Shared::new(folder, options.shows_dots, options.requests),
+    )
+    .ok()
+}
+
 // Ends the server once the standard input has ended. Its thread isn't joined, since it may wait for that for ever.
-fn watch_input<R>(rt: &R, system: HostRuntime, address: SocketAddr, shared: &Arc<Shared>) -> bool
+fn watch_input<R>(rt: &R, system: HostRuntime, address: SocketAddr, shared: Arc<Shared>) -> bool
 where
     R: Clock
         + Net<Stream = TcpStream, Listener = TcpListener>
@@ -140,9 +165,6 @@ where
         + Drop
         + 'static,
 {
-    let Ok(shared) = Arc::try_clone(shared) else {
-        return false;
-    };
     let rt = *rt;
     let started = thread::spawn(&rt, move || {
         pass_input(system);

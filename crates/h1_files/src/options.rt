@@ -11,13 +11,15 @@ Serves the files of a folder over HTTP/1.
   FOLDER               the folder whose files are served
   --bind ADDRESS       the address to listen on, of IPv4 or IPv6: 127.0.0.1 by default, which only this machine
                        reaches; 0.0.0.0 and :: are all
+  --dotfiles           serve and list names that begin with a dot, too
   --requests N         end after N requests
   --until-input-ends   end where the standard input ends
   --help               print this and end
   --version            print the version and end
 
 It ends with status 0, 2 for words out of form, 3 where there is no such folder, 4 where the address can't be
-listened on, and 5 without memory. Each request gets a line on standard error.";
+listened on, 5 where memory runs out, and 6 where no thread can be started. Each request gets a line on standard
+error.";
 
 /// What the program is to do.
 pub enum Command<'a> {
@@ -32,6 +34,9 @@ pub struct Options<'a> {
     pub port: u16,
     pub folder: &'a str,
     pub address: &'a str,
+
+    /// Names that begin with a dot are served and listed.
+    pub shows_dots: bool,
 
     /// After how many requests the server ends.
     pub requests: Option<u64>,
@@ -67,11 +72,13 @@ pub fn read(words: &[String]) -> Result<Command<'_>, UsageError> {
     let mut address = None;
     let mut requests = None;
     let mut until_input_ends = false;
+    let mut shows_dots = false;
     let mut rest = words.iter();
     while let Some(word) = rest.next() {
         match word.as_str() {
             "--help" | "-h" => return Ok(Command::Help),
             "--version" => return Ok(Command::Version),
+            "--dotfiles" => shows_dots = true,
             "--until-input-ends" => until_input_ends = true,
             "--bind" => address = Some(rest.next().ok_or(UsageError::Bind)?.as_str()),
             "--requests" => {
@@ -93,6 +100,7 @@ pub fn read(words: &[String]) -> Result<Command<'_>, UsageError> {
         port,
         folder,
         address: address.unwrap_or("127.0.0.1"),
+        shows_dots,
         requests,
         until_input_ends,
     }))

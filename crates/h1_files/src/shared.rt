@@ -1,9 +1,12 @@
-//! What the connections of a server share: how many requests were answered, and whether the server is to end.
+//! What the connections of a server share: its folder, how many requests were answered, and whether it is to end.
+use http_files::Folder;
 use std::sync::atomic::{AtomicU64, Ordering};
 
 /// What the connections of a server share.
 #[derive(Drop)]
 pub struct Shared {
+    folder: Folder,
+    shows_dots: bool,
     answered: AtomicU64,
     has_ended: AtomicU64,
     limit: Option<u64>,
@@ -11,12 +14,24 @@ pub struct Shared {
 
 impl Shared {
     /// No request is answered yet. After so many the server ends, where a limit is given.
-    pub fn new(limit: Option<u64>) -> Shared {
+    pub fn new(folder: Folder, shows_dots: bool, limit: Option<u64>) -> Shared {
         Shared {
+            folder,
+            shows_dots,
             answered: AtomicU64::new(0),
             has_ended: AtomicU64::new(0),
             limit,
         }
+    }
+
+    /// The folder whose files are served.
+    pub fn folder(&self) -> &Folder {
+        &self.folder
+    }
+
+    /// Whether names that begin with a dot are served and listed.
+    pub fn shows_dots(&self) -> bool {
+        self.shows_dots
     }
 
     /// A further request is answered.

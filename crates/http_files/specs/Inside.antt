@@ -1,5 +1,5 @@
 -- Which paths lie in a folder, as far as their text tells.
-use Rattle.std.specs.Prelude.{◌≡◌, ◌≢◌, ℕ, List, [], ◌∷◌, ◌++◌, All, Contains, codes}
+use Rattle.std.specs.Prelude.{◌≡◌, ◌≢◌, ℕ, List, [], ◌∷◌, ◌++◌, All, Contains, codes, Bool, false, ◌&&◌, ◌||◌, ◌==◌}
 
 -- A name of a file or a folder: not empty, neither the folder itself nor the one above it, without a slash and without
 -- a NUL byte.
@@ -17,6 +17,17 @@ spelled (name ∷ before) = spelled before ++ (47 ∷ name)
 
 -- the path is the folder's, and then names, each behind a slash
 pub record IsInside (folder path : List ℕ) : Type 0 where
+  pub some : folder ≢ []
   pub names : List (List ℕ)
   pub plain : All IsPlainName names
   pub is_path : path ≡ folder ++ spelled names
+
+-- a path, and the folder that it lies in
+pub record Placed : Type 0 where
+  pub folder : List ℕ
+  pub text : List ℕ
+
+-- a slash stands right before a dot, where the byte before the text is this one
+abbrev pub dotted : ℕ → List ℕ → Bool
+dotted previous [] = false
+dotted previous (b ∷ bs) = (previous == 47 && b == 46) || dotted b bs

@@ -4,7 +4,8 @@
 //! # Example
 //!
 //! ```ignore
-//! let path = file_path(alloc, "/srv/www", "/a%20b/../c")?; // PathError::Outside
+//! let folder = Folder::new(path)?; // It isn't empty.
+//! let file = folder.file(alloc, "/a%20b/../c")?; // PathError::Outside
 //! let asked = asked_range("bytes=0-99", 1000); // Asked::Part { first: 0, last: 99 }
 //! ```
 //!
@@ -15,14 +16,18 @@
 
 mod conditions;
 mod error;
+mod line;
 mod listing;
 mod paths;
+mod places;
 mod ranges;
 mod types;
 
 pub use conditions::{etag, is_unchanged_since, lists_etag};
 pub use error::PathError;
+pub use line::line_text;
 pub use listing::{Entry, folder_page, message_page};
-pub use paths::{file_path, place_of};
+pub use paths::{FilePath, Folder};
+pub use places::place_of;
 pub use ranges::{Asked, asked_range};
 pub use types::content_type;

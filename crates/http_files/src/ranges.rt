@@ -1,6 +1,6 @@
 //! Which bytes of a file are asked for.
 ghost use Rattle.std.specs.Prelude.{◌≡◌};
-ghost use Rattle.http_files.specs.Ranges.{asked_of, from_first, last_bytes};
+ghost use Rattle.http_files.specs.Ranges.{asked_of, from_first, last_bytes, place_in, is_number, asked_by, asked_in, range_of};
 
 /// Which bytes of a file are asked for.
 #[derive(Clone, Copy, Debug, PartialEq, Eq)]
@@ -16,28 +16,53 @@ pub enum Asked {
 }
 
 /// Which bytes of a file of this length a `Range` asks for. Of several ranges, of another unit, and of a text that is
-/// none, the whole file is given (RFC 7233, section 3.1).
-pub fn asked_range(value: &str, length: u64) -> Asked {
-    let Some(spec) = value.strip_prefix("bytes=") else {
-        return Asked::Whole;
-    };
-    let Some((first, last)) = spec.split_once('-') else {
-        return Asked::Whole;
-    };
-    let (first, last) = (first.trim(), last.trim());
-    match (place_in(first), place_in(last)) {
-        (None, _) if !first.is_empty() => Asked::Whole,
-        (_, None) if !last.is_empty() => Asked::Whole,
-        (first, last) => asked_between(first, last, length),
+/// none, the whole file is given (RFC 7233, section 3.1). A place of more than 64 bits is the greatest of 64.
+pub fn asked_range(value: &str, length: u64) -> Asked
+    ensures { result ≡ range_of value.now length }
+{
+    match value.strip_prefix("bytes=") {
+        Some(spec) => asked_in(spec, length),
+        None => Asked::Whole,
+    }
+}
+
+// Which bytes two places with a dash between them ask for.
+fn asked_in(spec: &str, length: u64) -> Asked
+    ensures { result ≡ asked_in spec.now length }
+{
+    match spec.split_once('-') {
+        Some((first, last)) => asked_by(first.trim(), last.trim(), length),
+        None => Asked::Whole,
+    }
+}
+
+// Which bytes two places ask for, each of which may be left out.
+fn asked_by(first: &str, last: &str, length: u64) -> Asked
+    ensures { result ≡ asked_by first.now last.now length }
+{
+    if (first.is_empty() || is_number(first)) && (last.is_empty() || is_number(last)) {
+        asked_between(place_in(first), place_in(last), length)
+    } else {
+        Asked::Whole
     }
 }
 
 // A number of digits alone. One that is too large is the greatest.
-fn place_in(text: &str) -> Option<u64> {
-    if text.is_empty() || !text.as_bytes().iter().all(|b| b.is_ascii_digit()) {
-        return None;
+fn place_in(text: &str) -> Option<u64>
+    ensures { result ≡ place_in text.now }
+{
+    if is_number(text) {
+        Some(text.parse().unwrap_or(u64::MAX))
+    } else {
+        None
     }
-    Some(text.parse().unwrap_or(u64::MAX))
+}
+
+// Whether it is a number of digits alone.
+fn is_number(text: &str) -> bool
+    ensures { result ≡ is_number text.now }
+{
+    !text.is_empty() && text.as_bytes().iter().all(|b| b.is_ascii_digit())
 }
 
 // The bytes between two places; without the first, so many of the last ones.
