@@ -1,0 +1,79 @@
+// The answer to the open request.
+ghost use Rattle.std.specs.Prelude.{◌≡◌, Option, false, IfOk, OnOk, OnErr, IsOk};
+ghost use Rattle.h1_codec.specs.Meaning.{answer_of, size_of};
+ghost use Rattle.h1_model.specs.Event as on;
+ghost use Rattle.h1_connection.specs.State.{IsAllowed, Is};
+ghost use Rattle.h1_connection.specs.Unsent.{SendsNoPiece, SendsNoEnd};
+ghost use Rattle.h1_line.specs.Line.{line_of, LineSteps, LineFails};
+
+use crate::Recorder;
+use crate::line::Line;
+use h1_connection::{BodySize, Boxed, Bytes, Event, NoMemory, Outcome, ResponseHead};
+use std::alloc::Global;
+
+impl<L: Recorder> Line<L> {
+    /// Answers the open request with this head, and with a body of this size. The head is copied for a recorder that
+    /// listens.
+    pub fn answer(&mut self, head: &ResponseHead, size: BodySize) -> Result<(), NoMemory>
+        requires can_answer { IsAllowed self.old.connection (on.answer (answer_of head.now) (size_of size)) }
+        ensures stands { OnOk result (LineSteps (line_of L.noted self.old) (on.answer (answer_of head.now) (size_of size)) (Is on.done) (line_of L.noted self.new)) }
+        ensures settings { self.new.connection.settings ≡ self.old.connection.settings }
+        ensures err { OnErr result (LineFails (line_of L.noted self.old) (on.answer (answer_of head.now) (size_of size)) (line_of L.noted self.new)) }
+        ensures listening { L.is_listening self.new.recorder ≡ L.is_listening self.old.recorder }
+    {
+        self.connection.answer(head, size)?;
+        if !self.recorder.listens() {
+            return Ok(());
+        }
+        let event = Event::Answer(Boxed::new(self.alloc, head.copy()?)?, size);
+        self.recorder.note(&event, &Outcome::Done)
+    }
+
+    /// The next bytes of the answer's body.
+    pub fn chunk(&mut self, bytes: Bytes) -> Result<(), NoMemory>
+        requires can_chunk { IsAllowed self.old.connection (on.chunk bytes) }
+        ensures stands { OnOk result (LineSteps (line_of L.noted self.old) (on.chunk bytes) (Is on.done) (line_of L.noted self.new)) }
+        ensures settings { self.new.connection.settings ≡ self.old.connection.settings }
+        ensures err { OnErr result (LineFails (line_of L.noted self.old) (on.chunk bytes) (line_of L.noted self.new)) }
+        ensures listening { L.is_listening self.new.recorder ≡ L.is_listening self.old.recorder }
+        ensures no_memory_needed { L.is_listening self.old.recorder ≡ false → SendsNoPiece self.old.connection.kept bytes → IsOk result }
+    {
+        self.connection.chunk(bytes.as_slice())?;
+        if !self.recorder.listens() {
+            return Ok(());
+        }
+        self.recorder.note(&Event::Chunk(bytes), &Outcome::Done)
+    }
+
+    /// The answer's body is whole.
+    pub fn end_answer(&mut self) -> Result<(), NoMemory>
+        requires can_end_answer { IsAllowed self.old.connection on.body_end }
+        ensures stands { OnOk result (LineSteps (line_of L.noted self.old) on.body_end (Is on.done) (line_of L.noted self.new)) }
+        ensures settings { self.new.connection.settings ≡ self.old.connection.settings }
+        ensures err { OnErr result (LineFails (line_of L.noted self.old) on.body_end (line_of L.noted self.new)) }
+        ensures listening { L.is_listening self.new.recorder ≡ L.is_listening self.old.recorder }
+        ensures no_memory_needed { L.is_listening self.old.recorder ≡ false → SendsNoEnd self.old.connection.kept → IsOk result }
+    {
+        self.connection.end_answer()?;
+        if !self.recorder.listens() {
+            return Ok(());
+        }
+        self.recorder.note(&Event::BodyEnd, &Outcome::Done)
+    }
+
+    /// The answer's body can't be completed: the connection closes.
+    pub fn fail_answer(&mut self) -> Result<(), NoMemory>
+        requires can_end_answer { IsAllowed self.old.connection on.body_error }
+        ensures stands { OnOk result (LineSteps (line_of L.noted self.old) on.body_error (Is on.done) (line_of L.noted self.new)) }
+        ensures settings { self.new.connection.settings ≡ self.old.connection.settings }
+        ensures err { OnErr result (LineFails (line_of L.noted self.old) on.body_error (line_of L.noted self.new)) }
+        ensures listening { L.is_listening self.new.recorder ≡ L.is_listening self.old.recorder }
+        ensures no_memory_needed { L.is_listening self.old.recorder ≡ false → IsOk result }
+    {
+        self.connection.fail_answer();
+        if !self.recorder.listens() {
+            return Ok(());
+        }
+        self.recorder.note(&Event::BodyError, &Outcome::Done)
+    }
+}

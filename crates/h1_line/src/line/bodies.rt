@@ -1,0 +1,64 @@
+// The body of the open request.
+ghost use Rattle.std.specs.Prelude.{◌≡◌, Option, false, IfOk, OnOk, OnErr, IsOk};
+ghost use Rattle.h1_model.specs.Event as on;
+ghost use Rattle.h1_payload.specs.Rests.{SaysPulled};
+ghost use Rattle.h1_connection.specs.Pulls.{IsLightPull};
+ghost use Rattle.h1_connection.specs.State.{IsAllowed, Is};
+ghost use Rattle.h1_line.specs.Line.{line_of, LineSteps, LineFails};
+
+use crate::Recorder;
+use crate::line::Line;
+use crate::outcomes::{outcome_of_pull, pulled_of_outcome};
+use h1_connection::{Event, NoMemory, Outcome, Pulled};
+use std::alloc::Global;
+
+impl<L: Recorder> Line<L> {
+    /// Takes what comes next of the open request's body.
+    pub fn pull(&mut self) -> Result<Pulled, NoMemory>
+        requires can_pull { IsAllowed self.old.connection on.pull }
+        ensures stands { IfOk result (λ pulled. LineSteps (line_of L.noted self.old) on.pull (SaysPulled pulled) (line_of L.noted self.new)) }
+        ensures settings { self.new.connection.settings ≡ self.old.connection.settings }
+        ensures err { OnErr result (LineFails (line_of L.noted self.old) on.pull (line_of L.noted self.new)) }
+        ensures listening { L.is_listening self.new.recorder ≡ L.is_listening self.old.recorder }
+        ensures no_memory_needed { L.is_listening self.old.recorder ≡ false → IsLightPull self.old.connection.kept → IsOk result }
+    {
+        let pulled = self.connection.pull()?;
+        if !self.recorder.listens() {
+            return Ok(pulled);
+        }
+        let outcome = outcome_of_pull(pulled);
+        self.recorder.note(&Event::Pull, &outcome)?;
+        Ok(pulled_of_outcome(outcome))
+    }
+
+    /// The rest of the open request's body isn't wanted.
+    pub fn drop_body(&mut self) -> Result<(), NoMemory>
+        requires can_pull { IsAllowed self.old.connection on.drop_body }
+        ensures stands { OnOk result (LineSteps (line_of L.noted self.old) on.drop_body (Is on.done) (line_of L.noted self.new)) }
+        ensures settings { self.new.connection.settings ≡ self.old.connection.settings }
+        ensures err { OnErr result (LineFails (line_of L.noted self.old) on.drop_body (line_of L.noted self.new)) }
+        ensures listening { L.is_listening self.new.recorder ≡ L.is_listening self.old.recorder }
+        ensures no_memory_needed { L.is_listening self.old.recorder ≡ false → IsOk result }
+    {
+        self.connection.drop_body();
+        if !self.recorder.listens() {
+            return Ok(());
+        }
+        self.recorder.note(&Event::DropBody, &Outcome::Done)
+    }
+
+    /// Tells the client of the open request to go on, which waits for leave to send its body (RFC 7231, section 5.1.1).
+    pub fn send_continue(&mut self) -> Result<(), NoMemory>
+        requires can_continue { IsAllowed self.old.connection on.send_continue }
+        ensures stands { OnOk result (LineSteps (line_of L.noted self.old) on.send_continue (Is on.done) (line_of L.noted self.new)) }
+        ensures settings { self.new.connection.settings ≡ self.old.connection.settings }
+        ensures err { OnErr result (LineFails (line_of L.noted self.old) on.send_continue (line_of L.noted self.new)) }
+        ensures listening { L.is_listening self.new.recorder ≡ L.is_listening self.old.recorder }
+    {
+        self.connection.send_continue()?;
+        if !self.recorder.listens() {
+            return Ok(());
+        }
+        self.recorder.note(&Event::Continue, &Outcome::Done)
+    }
+}
