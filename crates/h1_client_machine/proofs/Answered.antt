@@ -23,7 +23,7 @@ pub record IsAnswered (setting : Setting) (k : ClientKept) (a : Answer) (kept : 
   pub after : kept ≡ behind_answer k (drop end k.unread) a first others
 
 -- where no whole head is there no answer is handed out
-abbrev told_without : ClientKept → Bool → ClientChange
+abbrev pub told_without : ClientKept → Bool → ClientChange
 told_without k full =
     if full then record { outcome = on.fault too_large; kept = record k { failed = Some large_answer } } else record { outcome = on.pending; kept = k }
 

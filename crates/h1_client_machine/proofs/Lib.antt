@@ -1,3 +1,5 @@
 pub mod Answered
 pub mod Closing
 pub mod OneStep
+pub mod Order
+pub mod Written

@@ -1,4 +1,5 @@
 pub mod ClientEvent
 pub mod ClientKept
 pub mod ClientStep
+pub mod ClientTrace
 pub mod Examples

@@ -1,5 +1,5 @@
 //! The laws of the step.
-ghost use Rattle.std.specs.Prelude.{◌≡◌, ◌∷◌, ◌⊎◌, ℕ, List, IsTrue, Some, true, false, drop, slice_range};
+ghost use Rattle.std.specs.Prelude.{◌≡◌, ◌∷◌, ◌++◌, ◌⊎◌, ◌≤◌, ℕ, List, length, IsTrue, Some, true, false, drop, slice_range};
 ghost use Rattle.h1_model.specs.HeadPiece.{IsHeadPiece};
 ghost use Rattle.h1_model.specs.Setting.{Setting};
 ghost use Rattle.h1_client_model.specs.AnswerParse.{is_interim};
@@ -8,6 +8,7 @@ ghost use Rattle.h1_client_machine.specs.ClientEvent as on;
 ghost use Rattle.h1_client_machine.specs.ClientEvent.{ClientEvent, ClientEnd, ClientOutcome};
 ghost use Rattle.h1_client_machine.specs.ClientKept.{Waiting, ClientKept, client_closing, client_allows};
 ghost use Rattle.h1_client_machine.specs.ClientStep.{new_body, IsClientStep, KnowsComing};
+ghost use Rattle.h1_client_machine.specs.ClientTrace.{Happened, IsClientTrace, written, text_of, asked_of, answered_of};
 
 /// An event has one outcome and one state after it.
 pub fn one_step()
@@ -47,4 +48,20 @@ pub fn closing_stays()
     ensures outcome { (setting : Setting) (k next : ClientKept) (event : ClientEvent) (o : ClientOutcome) (end : ClientEnd)
         → client_closing k ≡ Some end → IsTrue (client_allows setting k event) → IsClientStep setting k event o next
         → (o ≡ on.closed end) ⊎ ((o ≡ on.done) ⊎ ((bytes : List ℕ) × (o ≡ on.gave bytes))) }
+{}
+
+/// What was written, and then what is to be written, are the texts of the requests that were asked: their heads, the pieces
+/// of their bodies and their ends, in the order in which they came.
+pub fn requests_are_written()
+    ensures { (setting : Setting) (trace : List Happened) (k : ClientKept) → IsClientTrace setting trace k
+        → written trace ++ k.buffered ≡ text_of trace }
+{}
+
+/// Requests are answered in the order in which they were asked, each once: those that wait are all but so many of the first
+/// as final answers were handed out.
+pub fn answers_come_in_order()
+    ensures waiting { (setting : Setting) (trace : List Happened) (k : ClientKept) → IsClientTrace setting trace k
+        → k.waiting ≡ drop (answered_of trace) (asked_of trace) }
+    ensures no_more { (setting : Setting) (trace : List Happened) (k : ClientKept) → IsClientTrace setting trace k
+        → answered_of trace ≤ length (asked_of trace) }
 {}
