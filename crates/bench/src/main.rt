@@ -4,7 +4,8 @@
 //! is done with a header map, the number of its names or the head that they are of, and how many times, as in
 //! `bench map find 32 1000`; or `body`, which exchange with bodies, how many at once, and how many, as in
 //! `bench body echo-length 16 1600`; or `frames`, how many bytes a frame's payload has, and how many frames are echoed, as in
-//! `bench frames 1024 1000`. It prints a checksum of all that came, so that none of the work can be left out. Without
+//! `bench frames 1024 1000`; or `part`, which part beside a connection (`stream`, `queue` or `board`), and how many
+//! times, as in `bench part queue 1000`. It prints a checksum of all that came, so that none of the work can be left out. Without
 //! words it does a little of each.
 #![tactic(auto)]
 
@@ -14,6 +15,7 @@ mod error;
 mod frames;
 mod head;
 mod map;
+mod parts;
 mod work;
 
 use anyhow::{Context, Result};
@@ -22,8 +24,10 @@ use error::BenchError;
 use frames::echo_frames;
 use head::{HEADS, NamedHead};
 use map::{Lines, MAP_WORKS, MapWork};
-use std::alloc::Global;
+use parts::{PARTS, Part};
+use std::alloc::{AllocGlobal, Global};
 use std::env;
+use std::random::RandomSource;
 use work::{WORKS, Work};
 
 /// How many requests each measurement takes where there are no words.
@@ -44,6 +48,11 @@ fn main(rt: HostRuntime) -> Result<()> {
             let size = size.parse::<usize>().context("reading how many bytes")?;
             let frames = frames.parse::<u64>().context("reading how many frames")?;
             measure_frames(&rt, alloc, size, frames)
+        }
+        [word, part, times] if word.as_str() == "part" => {
+            let part = Part::named(part.as_str()).ok_or(BenchError::Usage)?;
+            let times = times.parse::<u64>().context("reading how many times")?;
+            measure_part(&rt, part, times)
         }
         [work, head, requests] => {
             let work = Work::named(work.as_str()).ok_or(BenchError::Usage)?;
@@ -69,7 +78,7 @@ fn main(rt: HostRuntime) -> Result<()> {
     }
 }
 
-fn a_little_of_each(rt: &impl Print, alloc: Global) -> Result<()> {
+fn a_little_of_each<R: Print + RandomSource + AllocGlobal>(rt: &R, alloc: Global) -> Result<()> {
     for work in &WORKS {
         for head in &HEADS {
             measure(rt, alloc, *work, head, FEW)?;
@@ -84,6 +93,9 @@ fn a_little_of_each(rt: &impl Print, alloc: Global) -> Result<()> {
     }
     for size in SIZES {
         measure_frames(rt, alloc, size, FEW)?;
+    }
+    for part in &PARTS {
+        measure_part(rt, *part, FEW)?;
     }
     Ok(())
 }
@@ -138,5 +150,11 @@ fn measure_body(
 fn measure_frames(rt: &impl Print, alloc: Global, size: usize, frames: u64) -> Result<()> {
     let checksum = echo_frames(alloc, size, frames)?;
     println!(rt; "frames {size} {checksum:016x}")?;
+    Ok(())
+}
+
+fn measure_part<R: Print + RandomSource + AllocGlobal>(rt: &R, part: Part, times: u64) -> Result<()> {
+    let checksum = part.run(rt, times)?;
+    println!(rt; "part {} {checksum:016x}", part.name())?;
     Ok(())
 }
