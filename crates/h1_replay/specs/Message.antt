@@ -22,8 +22,8 @@ description_of (b ∷ bytes) = Some (b ∷ bytes)
 abbrev pub reason_of : List ℕ → List (List ℕ) → Option CloseReason
 reason_of code words = do
   code ← code_of code
-  text ← only_of words >>= text_of
-  Some (record { code = code; description = description_of text })
+  said ← only_of words >>= text_of
+  Some (record { code = code; description = description_of said })
 
 -- a Close, with a reason or none
 abbrev pub close_of : List (List ℕ) → Option Message
@@ -52,10 +52,14 @@ payload_of kind words = do
   payload ← only_of words >>= bytes_of
   payload_message kind payload
 
+-- a text
+abbrev pub text_message_of : List (List ℕ) → Option Message
+text_message_of words = option_map (λ t. frame (text t)) (only_of words >>= text_of)
+
 -- a message by its kind and the words behind it
 abbrev pub message_of : List ℕ → List (List ℕ) → Option Message
 message_of kind words =
-    if bytes_eq kind (codes "text") then option_map (λ t. frame (text t)) (only_of words >>= text_of)
+    if bytes_eq kind (codes "text") then text_message_of words
     else if bytes_eq kind (codes "close") then close_of words
     else if bytes_eq kind (codes "nop") then nop_of words
     else payload_of kind words

@@ -1,10 +1,7 @@
 //! The line of a message that is sent on a WebSocket.
 ghost use Rattle.std.specs.Prelude.{◌≡◌, option_map, string_bytes};
-ghost use Rattle.h1_model.specs.Frame.{frame, text as model_text};
 ghost use Rattle.ws_frames.specs.Sent.{message_says};
-ghost use Rattle.h1_replay.specs.Pieces.{only_of};
-ghost use Rattle.h1_replay.specs.Word.{◌>>=◌, text_of};
-ghost use Rattle.h1_replay.specs.Message.{code_of, description_of, reason_of, close_of, nop_of, payload_message, payload_of, message_of, send_of};
+ghost use Rattle.h1_replay.specs.Message.{code_of, description_of, reason_of, close_of, nop_of, payload_message, payload_of, text_message_of, message_of, send_of};
 ghost use Rattle.h1_replay.specs.Reading.{Reads, ReadsMessage, ReadsReason};
 
 use crate::pieces::Pieces;
@@ -42,7 +39,7 @@ fn message(alloc: Global, kind: &[u8], words: Pieces<'_>) -> Result<Message, Lin
 }
 
 fn text_message(alloc: Global, words: Pieces<'_>) -> Result<Message, LineError>
-    ensures { ReadsMessage result (option_map (λ t. frame (model_text t)) (only_of words.entry >>= text_of)) }
+    ensures { ReadsMessage result (text_message_of words.entry) }
 {
     let Some(word) = words.only() else {
         return Err(LineError::Unreadable);
