@@ -153,7 +153,11 @@ fn measure_frames(rt: &impl Print, alloc: Global, size: usize, frames: u64) -> R
     Ok(())
 }
 
-fn measure_part<R: Print + RandomSource + AllocGlobal>(rt: &R, part: Part, times: u64) -> Result<()> {
+fn measure_part<R: Print + RandomSource + AllocGlobal>(
+    rt: &R,
+    part: Part,
+    times: u64,
+) -> Result<()> {
     let checksum = part.run(rt, times)?;
     println!(rt; "part {} {checksum:016x}", part.name())?;
     Ok(())

@@ -143,7 +143,13 @@ fn added<M: Ledger>(alloc: Global, blank: Blank, times: u64) -> Result<u64, Benc
     let entries = MAX_ENTRIES as u64;
     for _ in 0..=times / entries {
         let mut pass = board.pass().map_err(|_| BenchError::NoMemory)?;
-        let added = add_by(&mut board, &mut pass, &name, times.min(entries), &mut checksum);
+        let added = add_by(
+            &mut board,
+            &mut pass,
+            &name,
+            times.min(entries),
+            &mut checksum,
+        );
         board.retire(pass);
         added?;
     }

@@ -119,7 +119,7 @@ framed_steps s p m q request limit bytes sound waits raw asks none text is kept 
     let same : m ≡ framed (record p { exchange = Some x }) limit bytes = is ∙ ap (λ (o : Option Exchange). framed (record p { exchange = o }) limit bytes) u.there in
     let none_too : x.request.refusal ≡ None = ap (λ (r : Request). r.refusal) u.asks ∙ none in
     let text_too : (setting : Setting) (draining : Bool)
-        → bytes ≡ p.output ++ answer_head_text setting draining x.request.asked (accepting_head (key_or_zeros x.request.accept_key)) size_stream (now (kept_of p)) =
+    → bytes ≡ p.output ++ answer_head_text setting draining x.request.asked (accepting_head (key_or_zeros x.request.accept_key)) size_stream (now (kept_of p)) =
     subst (λ (r : Request). (setting : Setting) (draining : Bool)
     → bytes ≡ p.output ++ answer_head_text setting draining r.asked (accepting_head (key_or_zeros r.accept_key)) size_stream (now (kept_of p))) (sym u.asks) text in
     at_exchange s p q x (on.accept limit) on.done u.there

@@ -280,13 +280,7 @@ impl Input {
     {
         let _ = &self.search;
         let alloc = *self.bytes.allocator();
-        take_front(
-            alloc,
-            &mut self.bytes,
-            true,
-            frames.limit,
-            frames.under_way,
-        )
+        take_front(alloc, &mut self.bytes, true, frames.limit, frames.under_way)
     }
 
     /// With the input a raw body ends of which no byte is left.

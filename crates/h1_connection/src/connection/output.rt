@@ -16,8 +16,8 @@ use crate::HeadFault;
 use crate::connection::messages::put_message;
 use bytes::{Bytes, BytesMut};
 use h1_codec::{
-    Asked, DateLine, Shape, put_accept, put_answer_head, put_bad_request, put_end, put_interim, put_piece,
-    put_timeout, put_too_large,
+    Asked, DateLine, Shape, put_accept, put_answer_head, put_bad_request, put_end, put_interim,
+    put_piece, put_timeout, put_too_large,
 };
 use http_framing::BodySize;
 use http_types::{ConnectionType, NoMemory, ResponseHead};
@@ -166,12 +166,7 @@ impl Output {
     }
 
     /// The head that upgrades the connection to WebSocket, by the answer to the request's key.
-    pub fn put_accept(
-        &mut self,
-        asked: Asked,
-        key: &[u8; 28],
-        moment: u64,
-    ) -> Result<(), NoMemory>
+    pub fn put_accept(&mut self, asked: Asked, key: &[u8; 28], moment: u64) -> Result<(), NoMemory>
         requires { moment < MAX_MOMENT }
         ensures ok { OnOk result ((setting : Setting) (draining : Bool)
             → self.new ≡ self.old ++ answer_head_text setting draining asked (accepting_head key.now) answers.size_stream moment) }
