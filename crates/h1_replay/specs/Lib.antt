@@ -4,7 +4,6 @@ pub mod Input
 pub mod Message
 pub mod Output
 pub mod Pieces
-pub mod Message
 pub mod Reading
 pub mod Reply
 pub mod Report

@@ -1,5 +1,5 @@
 //! The words of a report that speak of a WebSocket.
-ghost use Rattle.std.specs.Prelude.{◌≡◌, ◌++◌, Some, OnOk, option_map};
+ghost use Rattle.std.specs.Prelude.{◌≡◌, ◌++◌, Some, OnOk, option_map, decimal};
 ghost use Rattle.ws_frames.specs.Close.{reason_says};
 ghost use Rattle.ws_frames.specs.Codec.{frame_says, item_says};
 ghost use Rattle.ws_frames.specs.Protocol.{opcode_text};
@@ -43,7 +43,7 @@ fn put_payload(
     kind: &[u8],
     payload: &[u8],
 ) -> Result<(), NoMemory>
-    ensures { OnOk result (text.new.items ≡ text.old.items ++ kind.now ++ hex_word payload.now) }
+    ensures { OnOk result (text.new.items ≡ text.old.items ++ (kind.now ++ hex_word payload.now)) }
 {
     text.extend_from_slice(kind)?;
     put_hex(alloc, text, payload)
@@ -80,30 +80,43 @@ pub fn put_rule(text: &mut Vec<u8>, error: ProtocolError) -> Result<(), NoMemory
     ensures { OnOk result (text.new.items ≡ text.old.items ++ rule_words error) }
 {
     match error {
-        ProtocolError::UnmaskedFrame => text.extend_from_slice(b"unmasked-frame"),
-        ProtocolError::MaskedFrame => text.extend_from_slice(b"masked-frame"),
+        ProtocolError::UnmaskedFrame => put_word(text, b"unmasked-frame"),
+        ProtocolError::MaskedFrame => put_word(text, b"masked-frame"),
         ProtocolError::InvalidOpcode(number) => {
-            text.extend_from_slice(b"invalid-opcode ")?;
-            put_number(text, u64::from(number))
+            put_numbered(text, b"invalid-opcode ", u64::from(number))
         }
-        ProtocolError::InvalidReservedBits => text.extend_from_slice(b"invalid-reserved-bits"),
-        ProtocolError::InvalidLength(len) => {
-            text.extend_from_slice(b"invalid-length ")?;
-            put_number(text, len as u64)
-        }
-        ProtocolError::BadOpCode => text.extend_from_slice(b"bad-op-code"),
-        ProtocolError::Overflow => text.extend_from_slice(b"overflow"),
-        ProtocolError::ContinuationNotStarted => {
-            text.extend_from_slice(b"continuation-not-started")
-        }
-        ProtocolError::ContinuationStarted => text.extend_from_slice(b"continuation-started"),
+        ProtocolError::InvalidReservedBits => put_word(text, b"invalid-reserved-bits"),
+        ProtocolError::InvalidLength(len) => put_numbered(text, b"invalid-length ", len as u64),
+        ProtocolError::BadOpCode => put_word(text, b"bad-op-code"),
+        ProtocolError::Overflow => put_word(text, b"overflow"),
+        ProtocolError::ContinuationNotStarted => put_word(text, b"continuation-not-started"),
+        ProtocolError::ContinuationStarted => put_word(text, b"continuation-started"),
         ProtocolError::ContinuationFragment(op) => {
-            text.extend_from_slice(b"continuation-fragment ")?;
-            text.extend_from_slice(opcode_word(op))
+            put_opcode(text, b"continuation-fragment ", op)
         }
-        ProtocolError::Io => text.extend_from_slice(b"io"),
-        ProtocolError::NoMemory => text.extend_from_slice(b"no-memory"),
+        ProtocolError::Io => put_word(text, b"io"),
+        ProtocolError::NoMemory => put_word(text, b"no-memory"),
     }
+}
+
+fn put_word(text: &mut Vec<u8>, word: &[u8]) -> Result<(), NoMemory>
+    ensures { OnOk result (text.new.items ≡ text.old.items ++ word.now) }
+{
+    text.extend_from_slice(word)
+}
+
+fn put_numbered(text: &mut Vec<u8>, word: &[u8], number: u64) -> Result<(), NoMemory>
+    ensures { OnOk result (text.new.items ≡ text.old.items ++ (word.now ++ decimal number)) }
+{
+    text.extend_from_slice(word)?;
+    put_number(text, number)
+}
+
+fn put_opcode(text: &mut Vec<u8>, word: &[u8], op: OpCode) -> Result<(), NoMemory>
+    ensures { OnOk result (text.new.items ≡ text.old.items ++ (word.now ++ opcode_text op)) }
+{
+    text.extend_from_slice(word)?;
+    text.extend_from_slice(opcode_word(op))
 }
 
 // An opcode as it is printed.
