@@ -1,19 +1,31 @@
 //! Replays a script of connection events over the program's input and output.
 #![tactic(auto)]
 
+use h1_replay::Reply;
 use http_types::{StdSink, StdSource};
 use std::alloc::Global;
+use std::io::ErrorKind;
 use std::process::ExitCode;
 use std::rt::Env;
 use std::{env, io};
 
 fn main(rt: HostRuntime) -> ExitCode {
     let alloc = rt.alloc();
-    // Words that can't be had are wrong words.
-    let words = words(&rt).unwrap_or(Vec::new(alloc));
+    let words = match words(&rt) {
+        Ok(words) => words,
+        Err(error) if error.kind() == ErrorKind::OutOfMemory => return no_memory(&rt),
+        // Words that aren't text are wrong words.
+        Err(_) => Vec::new(alloc),
+    };
     let mut input = StdSource::new(rt.stdin());
     let mut output = StdSink::new(rt.stdout());
     ExitCode::from(h1_replay::run(alloc, &words, &mut input, &mut output))
+}
+
+// The status says it also where it can't be written.
+fn no_memory(rt: &impl Print) -> ExitCode {
+    let _ = println!(rt; "no memory");
+    ExitCode::from(Reply::NoMemory.status())
 }
 
 // The program's arguments, without its name.
