@@ -56,7 +56,7 @@ pub fn echo_frames(alloc: Global, size: usize, frames: u64) -> Result<u64, Bench
 }
 
 /// The frame that the client sends.
-fn masked_frame(alloc: Global, size: usize) -> Result<BytesMut, BenchError> {
+pub fn masked_frame(alloc: Global, size: usize) -> Result<BytesMut, BenchError> {
     let payload = Vec::from_elem(alloc, b'a', size)?;
     let mut text = BytesMut::new(alloc);
     Parser::write_message(

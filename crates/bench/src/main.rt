@@ -4,9 +4,9 @@
 //! is done with a header map, the number of its names or the head that they are of, and how many times, as in
 //! `bench map find 32 1000`; or `body`, which exchange with bodies, how many at once, and how many, as in
 //! `bench body echo-length 16 1600`; or `frames`, how many bytes a frame's payload has, and how many frames are echoed, as in
-//! `bench frames 1024 1000`; or `part`, which part beside a connection (`stream`, `queue` or `board`), and how many
-//! times, as in `bench part queue 1000`. It prints a checksum of all that came, so that none of the work can be left out. Without
-//! words it does a little of each.
+//! `bench frames 1024 1000`; or `upgraded`, the same through a connection that was upgraded; or `part`, which part
+//! beside a connection (`stream`, `queue` or `board`), and how many times, as in `bench part queue 1000`. It prints a
+//! checksum of all that came, so that none of the work can be left out. Without words it does a little of each.
 #![tactic(auto)]
 
 mod body;
@@ -16,6 +16,7 @@ mod frames;
 mod head;
 mod map;
 mod parts;
+mod upgraded;
 mod work;
 
 use anyhow::{Context, Result};
@@ -28,6 +29,7 @@ use parts::{PARTS, Part};
 use std::alloc::{AllocGlobal, Global};
 use std::env;
 use std::random::RandomSource;
+use upgraded::echo_upgraded;
 use work::{WORKS, Work};
 
 /// How many requests each measurement takes where there are no words.
@@ -48,6 +50,11 @@ fn main(rt: HostRuntime) -> Result<()> {
             let size = size.parse::<usize>().context("reading how many bytes")?;
             let frames = frames.parse::<u64>().context("reading how many frames")?;
             measure_frames(&rt, alloc, size, frames)
+        }
+        [word, size, frames] if word.as_str() == "upgraded" => {
+            let size = size.parse::<usize>().context("reading how many bytes")?;
+            let frames = frames.parse::<u64>().context("reading how many frames")?;
+            measure_upgraded(&rt, alloc, size, frames)
         }
         [word, part, times] if word.as_str() == "part" => {
             let part = Part::named(part.as_str()).ok_or(BenchError::Usage)?;
@@ -93,6 +100,7 @@ fn a_little_of_each<R: Print + RandomSource + AllocGlobal>(rt: &R, alloc: Global
     }
     for size in SIZES {
         measure_frames(rt, alloc, size, FEW)?;
+        measure_upgraded(rt, alloc, size, FEW)?;
     }
     for part in &PARTS {
         measure_part(rt, *part, FEW)?;
@@ -150,6 +158,12 @@ fn measure_body(
 fn measure_frames(rt: &impl Print, alloc: Global, size: usize, frames: u64) -> Result<()> {
     let checksum = echo_frames(alloc, size, frames)?;
     println!(rt; "frames {size} {checksum:016x}")?;
+    Ok(())
+}
+
+fn measure_upgraded(rt: &impl Print, alloc: Global, size: usize, frames: u64) -> Result<()> {
+    let checksum = echo_upgraded(alloc, size, frames)?;
+    println!(rt; "upgraded {size} {checksum:016x}")?;
     Ok(())
 }
 
