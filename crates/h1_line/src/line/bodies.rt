@@ -15,7 +15,7 @@ use std::alloc::Global;
 impl<L: Recorder> Line<L> {
     /// Takes what comes next of the open request's body.
     pub fn pull(&mut self) -> Result<Pulled, NoMemory>
-        requires can_pull { IsAllowed self.old.connection on.pull }
+        requires can_pull { IsAllowed self.old.connection on.drop_body }
         ensures stands { IfOk result (λ pulled. LineSteps (line_of L.noted self.old) on.pull (SaysPulled pulled) (line_of L.noted self.new)) }
         ensures settings { self.new.connection.settings ≡ self.old.connection.settings }
         ensures err { OnErr result (LineFails (line_of L.noted self.old) on.pull (line_of L.noted self.new)) }
