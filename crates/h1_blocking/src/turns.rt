@@ -1,4 +1,8 @@
 //! When bytes are read and written, and what time it is.
+ghost use Rattle.std.specs.Prelude.{ℕ, IsTrue};
+ghost use Rattle.h1_model.specs.Event as on;
+ghost use Rattle.h1_connection.specs.State.{IsAllowed};
+
 use crate::pace::Pace;
 use crate::{Body, HandleError};
 use h1_connection::{Expiry, ReadFromError};
@@ -87,7 +91,9 @@ impl<S: TimedSource, K: TimedSink> Body<S, K> {
     }
 
     // Whether something waits that may be written.
-    fn has_unwritten(&self) -> bool {
+    fn has_unwritten(&self) -> bool
+        ensures { IsTrue result → (count : ℕ) → IsAllowed self.now.state (on.write count) }
+    {
         !self.connection.stretch().is_empty() && self.connection.can_write()
     }
 
