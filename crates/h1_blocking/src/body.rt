@@ -1,11 +1,17 @@
 //! The body of the open request, and the connection that it comes over.
+use crate::clock::Start;
+use crate::pace::Pace;
 use crate::{HandleError, Limits};
 use bytes::Bytes;
 use h1_connection::{Connection, Pulled};
 use h1_net::{TimedSink, TimedSource};
+use http_framing::BodyKind;
 use http_types::{ConnectionType, HeaderMap, ResponseHead, ServiceConfig};
 use std::alloc::Global;
 use std::marker::Model;
+
+/// For how many milliseconds a body that isn't wanted is waited for.
+const PATIENCE: u64 = 1000;
 
 /// What comes next of a request's body.
 #[derive(Debug, Drop)]
@@ -31,8 +37,18 @@ pub struct Body<S: TimedSource, K: TimedSink> {
     // How many milliseconds the source was told to wait, where it was told.
     pub(crate) waits: Option<u64>,
 
-    // When a byte moved last, by `uptime`.
-    pub(crate) moved: Option<u64>,
+    // When the connection began, where the source knows it.
+    pub(crate) start: Option<Start>,
+
+    // How many bytes were read.
+    pub(crate) taken: u64,
+
+    // How fast bytes are read, and written.
+    pub(crate) reads: Pace,
+    pub(crate) writes: Pace,
+
+    // Where the open request's body ends.
+    pub(crate) kind: BodyKind,
 
     // The handler reads the open request's body.
     pub(crate) is_wanted: bool,
@@ -55,14 +71,18 @@ impl<S: TimedSource, K: TimedSink> Body<S, K> {
         source: S,
         sink: K,
     ) -> Body<S, K> {
-        let moved = source.uptime();
+        let start = Start::of(&source);
         Body {
             connection: Connection::new(alloc, config),
             source,
             sink,
             limits,
             waits: None,
-            moved,
+            start,
+            taken: 0,
+            reads: Pace::new(),
+            writes: Pace::new(),
+            kind: BodyKind::None,
             is_wanted: false,
         }
     }
@@ -75,7 +95,11 @@ impl<S: TimedSource, K: TimedSink> Body<S, K> {
             sink,
             limits: _,
             waits: _,
-            moved: _,
+            start: _,
+            taken: _,
+            reads: _,
+            writes: _,
+            kind: _,
             is_wanted: _,
         } = self;
         (source, sink)
@@ -115,21 +139,32 @@ impl<S: TimedSource, K: TimedSink> Body<S, K> {
         Err(HandleError::Stalled)
     }
 
+    // A request was handed out, whose body ends so. Its bytes are waited for from now on.
+    pub(crate) fn begin_request(&mut self, kind: BodyKind) {
+        self.kind = kind;
+        self.is_wanted = false;
+        self.reads = Pace::new();
+    }
+
     // Passes over a body that the handler doesn't read, where it is small enough and comes soon. Else the answer says
-    // that the connection ends with it: a client that isn't told so would send its next request into it.
+    // that the connection ends with it: a client that isn't told so would send its next request into it. A raw body ends
+    // with the connection alone, and of a client that waits for leave none comes.
     pub(crate) fn settle(&mut self, head: &mut ResponseHead) -> Result<(), HandleError> {
         if self.is_wanted || !self.connection.can_pull() {
             return Ok(());
         }
-        if self.connection.can_continue() || !self.pass_over()? {
+        let never_ends = self.kind == BodyKind::Raw || self.connection.can_continue();
+        if never_ends || !self.pass_over()? {
             head.set_connection_type(ConnectionType::Close);
         }
         Ok(())
     }
 
-    // Whether the body was passed over.
+    // Whether the body was passed over. Its bytes are counted, and those that were read for it, as of chunks with long
+    // extensions.
     fn pass_over(&mut self) -> Result<bool, HandleError> {
         let mut left = self.limits.drop;
+        let (first, begin) = (self.taken, self.source.uptime());
         for _ in 0..u64::MAX {
             if !self.connection.can_pull() {
                 return Ok(true);
@@ -145,6 +180,10 @@ impl<S: TimedSource, K: TimedSink> Body<S, K> {
                 Pulled::Trailers(_) | Pulled::End => return Ok(true),
                 Pulled::Broken(_) => return Ok(false),
                 Pulled::Pending => {
+                    let count = self.taken.saturating_sub(first);
+                    if count > self.limits.drop || self.time_since(begin) >= PATIENCE {
+                        return Ok(false);
+                    }
                     self.flush()?;
                     if !self.fill()? {
                         return Ok(false);

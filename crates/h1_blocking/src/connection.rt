@@ -11,7 +11,8 @@ use std::time::Clock;
 /// How many milliseconds a write waits before the server looks whether the peer sends something.
 const WRITE_SLICE: u64 = 20;
 
-/// Serves one socket to its end, and says why it ended.
+/// Serves one socket to its end, and says why it ended. After an error too what waits is written, as far as the peer takes
+/// it, and the socket ends so that nothing of it is lost.
 pub fn host_stream<R: Clock, H: Handler>(
     rt: &R,
     alloc: Global,
@@ -27,14 +28,33 @@ pub fn host_stream<R: Clock, H: Handler>(
     let source = SocketSource::new(rt, stream);
     let sink = SocketSink::new(stream);
     let mut body = Body::new(alloc, config, limits, source, sink);
-    let end = host_connection(alloc, &mut body, peer, handler)?;
+    let ended = host_connection(alloc, &mut body, peer, handler);
     close_orderly(rt, stream, limits.linger);
-    Ok(end)
+    ended
 }
 
 /// Serves a connection to its end, and says why it ended. Each request goes to the handler, one after the other. All that
-/// waits to be written is written before the end.
+/// waits to be written is written before the end, and where there is an error, as much as the peer takes.
 pub fn host_connection<S: TimedSource, K: TimedSink, H: Handler>(
+    alloc: Global,
+    body: &mut Body<S, K>,
+    peer: Option<SocketAddr>,
+    handler: &mut H,
+) -> Result<End, HandleError> {
+    let ended = serve(alloc, body, peer, handler);
+    match ended {
+        Ok(_) => {}
+        Err(HandleError::Lost | HandleError::Stalled) => body.flush_at_once(),
+        // The error that is told is the first one.
+        Err(_) => {
+            let _ = body.flush();
+        }
+    }
+    ended
+}
+
+// Serves a connection to its end, or to the first error.
+fn serve<S: TimedSource, K: TimedSink, H: Handler>(
     alloc: Global,
     body: &mut Body<S, K>,
     peer: Option<SocketAddr>,
@@ -50,8 +70,8 @@ pub fn host_connection<S: TimedSource, K: TimedSink, H: Handler>(
         }
         match body.next_head(&mut item, &mut room)? {
             NextKind::Head => {
-                body.is_wanted = false;
-                let request = Incoming::new(&item, peer, body.source.moment());
+                body.begin_request(item.body);
+                let request = Incoming::new(&item, peer, body.moment());
                 let handled = handler.handle(&request, body, Answer::new());
                 complete(alloc, body, handled)?;
             }

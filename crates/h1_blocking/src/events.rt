@@ -40,14 +40,14 @@ impl<S: TimedSource, K: TimedSink> Body<S, K> {
         self.connection.eof();
     }
 
-    /// The first bytes that wait are written into the sink.
-    pub(crate) fn write_stretch(&mut self) -> Result<(), Failed>
+    /// The first bytes that wait are written into the sink. It says how many.
+    pub(crate) fn write_stretch(&mut self) -> Result<usize, Failed>
         requires can_write { (count : ℕ) → IsAllowed self.old.state (on.write count) }
         ensures follows { Follows self.old self.new }
     {
         let count = self.sink.write(self.connection.stretch())?;
         self.connection.advance(count);
-        Ok(())
+        Ok(count)
     }
 
     /// The next request is handed out, or that there is none.
@@ -66,6 +66,8 @@ impl<S: TimedSource, K: TimedSink> Body<S, K> {
     /// What comes next of the open request's body.
     pub(crate) fn pull(&mut self) -> Result<Pulled, NoMemory>
         requires can_pull { IsAllowed self.old.state on.drop_body }
+        requires can_pull { IsAllowed self.old.state on.pull }
+        requires can_drop { IsAllowed self.old.state on.drop_body }
         ensures follows { Follows self.old self.new }
     {
         let pulled = self.connection.pull()?;

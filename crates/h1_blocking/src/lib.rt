@@ -25,11 +25,13 @@
 
 mod answer;
 mod body;
+mod clock;
 mod connection;
 mod error;
 mod events;
 mod handler;
 mod limits;
+mod pace;
 mod request;
 mod server;
 mod turns;

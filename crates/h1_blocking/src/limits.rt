@@ -7,10 +7,16 @@ pub struct Limits {
     /// How many connections are served at once. A further one is answered with 503.
     pub connections: u64,
 
-    /// After so many milliseconds in which no byte moved, a connection is given up, where no time of the config runs.
+    /// For so many milliseconds a peer is waited for before it is looked at how many bytes have moved, where no time of the
+    /// config runs. Of a handler's own time nothing counts.
     pub stall: u64,
 
-    /// So many bytes of a body that isn't wanted are read and dropped, so that the connection is kept.
+    /// Where fewer bytes have moved by then, the connection is given up: bytes that were read, of a head or of a body, and
+    /// in the same way bytes that were written. With 1 each byte is enough.
+    pub least: u64,
+
+    /// So many bytes of a body that isn't wanted are read and dropped, so that the connection is kept: of the body, and of
+    /// the text that it comes in.
     pub drop: u64,
 
     /// How long, and for how many bytes, a socket is read from after its last answer.
@@ -21,12 +27,13 @@ pub struct Limits {
 }
 
 impl Default for Limits {
-    /// 10,000 connections, 30 seconds without progress, bodies of 64 KiB that are dropped, 2 seconds and 256 KiB after
+    /// 10,000 connections, 1024 bytes in each 30 seconds, bodies of 64 KiB that are dropped, 2 seconds and 256 KiB after
     /// the last answer, 10 seconds at the end.
     fn default() -> Limits {
         Limits {
             connections: 10_000,
             stall: 30_000,
+            least: 1024,
             drop: 65_536,
             linger: Linger {
                 milliseconds: 2000,

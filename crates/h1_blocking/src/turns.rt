@@ -1,4 +1,9 @@
 //! When bytes are read and written, and what time it is.
+ghost use Rattle.std.specs.Prelude.{ℕ, IsTrue};
+ghost use Rattle.h1_model.specs.Event as on;
+ghost use Rattle.h1_connection.specs.State.{IsAllowed};
+
+use crate::pace::Pace;
 use crate::{Body, HandleError};
 use h1_connection::{Expiry, ReadFromError};
 use h1_net::{TimedSink, TimedSource};
@@ -7,9 +12,26 @@ use h1_net::{TimedSink, TimedSource};
 const SLICE: u64 = 1000;
 
 impl<S: TimedSource, K: TimedSink> Body<S, K> {
+    /// The moment in milliseconds after the start of 1970, where it is known: that of the connection's start, and what
+    /// has passed since.
+    pub(crate) fn moment(&self) -> Option<u64> {
+        match (&self.start, self.source.uptime()) {
+            (Some(start), Some(uptime)) => Some(start.moment_at(uptime)),
+            _ => self.source.moment(),
+        }
+    }
+
+    /// How many milliseconds have passed since an uptime, where both are known, and else 0.
+    pub(crate) fn time_since(&self, begin: Option<u64>) -> u64 {
+        match (begin, self.source.uptime()) {
+            (Some(begin), Some(now)) => now.saturating_sub(begin),
+            _ => 0,
+        }
+    }
+
     /// Tells the connection what time it is. It says whether no time has run out.
     pub(crate) fn tick(&mut self) -> Result<(), HandleError> {
-        let Some(moment) = self.source.moment() else {
+        let Some(moment) = self.moment() else {
             return Ok(());
         };
         if !self.connection.can_tick(moment) {
@@ -24,27 +46,40 @@ impl<S: TimedSource, K: TimedSink> Body<S, K> {
     /// Reads what has come, or that nothing more does, or that time has passed. It says whether something has come.
     pub(crate) fn fill(&mut self) -> Result<bool, HandleError> {
         self.wait_for(self.patience());
+        let (first, begin) = (self.taken, self.source.uptime());
         let came = self.read_once()?;
+        let waited = self.time_since(begin);
         self.tick()?;
-        if !came && self.connection.deadline().is_none() && self.has_stalled() {
-            return Err(HandleError::Stalled);
-        }
+        self.note_read(waited, self.taken.saturating_sub(first))?;
         Ok(came)
     }
 
     /// Writes all that waits. While the peer takes nothing, what it sends is read, as far as there is room for it.
     pub(crate) fn flush(&mut self) -> Result<(), HandleError> {
         for _ in 0..u64::MAX {
-            if self.connection.stretch().is_empty() || !self.connection.can_write() {
+            if !self.has_unwritten() {
                 return Ok(());
             }
+            let begin = self.source.uptime();
             match self.write_stretch() {
-                Ok(()) => self.moved = self.source.uptime(),
-                Err(_) if self.sink.is_not_now() => self.read_meanwhile()?,
+                Ok(count) => self.note_write(self.time_since(begin), count as u64)?,
+                Err(_) if self.sink.is_not_now() => {
+                    self.note_write(self.time_since(begin), 0)?;
+                    self.read_meanwhile()?;
+                }
                 Err(_) => return Err(HandleError::Lost),
             }
         }
         Err(HandleError::Stalled)
+    }
+
+    /// Writes what the peer takes at once of what waits.
+    pub(crate) fn flush_at_once(&mut self) {
+        for _ in 0..u64::MAX {
+            if !self.has_unwritten() || self.write_stretch().is_err() {
+                return;
+            }
+        }
     }
 
     /// Writes what waits where it has to be written now: where the connection closes, and where no more may wait.
@@ -55,15 +90,19 @@ impl<S: TimedSource, K: TimedSink> Body<S, K> {
         Ok(())
     }
 
+    // Whether something waits that may be written.
+    fn has_unwritten(&self) -> bool
+        ensures { IsTrue result → (count : ℕ) → IsAllowed self.now.state (on.write count) }
+    {
+        !self.connection.stretch().is_empty() && self.connection.can_write()
+    }
+
     // The peer took nothing for a while.
     fn read_meanwhile(&mut self) -> Result<(), HandleError> {
         self.tick()?;
         self.wait_for(0);
         let _came = self.read_once()?;
         self.wait_for(SLICE);
-        if self.has_stalled() {
-            return Err(HandleError::Stalled);
-        }
         Ok(())
     }
 
@@ -74,7 +113,7 @@ impl<S: TimedSource, K: TimedSink> Body<S, K> {
         }
         match self.read_bytes() {
             Ok(0) => self.end_input(),
-            Ok(_) => self.moved = self.source.uptime(),
+            Ok(count) => self.taken = self.taken.saturating_add(count as u64),
             Err(ReadFromError::Full) => {}
             Err(ReadFromError::Failed) if self.source.is_not_now() => return Ok(false),
             Err(ReadFromError::Failed) => return Err(HandleError::Lost),
@@ -85,8 +124,7 @@ impl<S: TimedSource, K: TimedSink> Body<S, K> {
 
     // How many milliseconds to wait for the peer: until the next time runs out, and at most a slice.
     fn patience(&self) -> u64 {
-        let (Some(deadline), Some(moment)) = (self.connection.deadline(), self.source.moment())
-        else {
+        let (Some(deadline), Some(moment)) = (self.connection.deadline(), self.moment()) else {
             return SLICE;
         };
         deadline.saturating_sub(moment).clamp(1, SLICE)
@@ -100,11 +138,25 @@ impl<S: TimedSource, K: TimedSink> Body<S, K> {
         }
     }
 
-    // No byte has moved for too long.
-    fn has_stalled(&self) -> bool {
-        let (Some(moved), Some(now)) = (self.moved, self.source.uptime()) else {
-            return false;
-        };
-        now.saturating_sub(moved) >= self.limits.stall
+    // So many bytes came after so many milliseconds. Where a time of the config runs, that alone ends the connection.
+    fn note_read(&mut self, waited: u64, count: u64) -> Result<(), HandleError> {
+        if self.connection.deadline().is_some() {
+            self.reads = Pace::new();
+            return Ok(());
+        }
+        let limits = self.limits;
+        if self.reads.note(waited, count, limits.stall, limits.least) {
+            return Err(HandleError::Stalled);
+        }
+        Ok(())
+    }
+
+    // So many bytes were taken after so many milliseconds.
+    fn note_write(&mut self, waited: u64, count: u64) -> Result<(), HandleError> {
+        let limits = self.limits;
+        if self.writes.note(waited, count, limits.stall, limits.least) {
+            return Err(HandleError::Stalled);
+        }
+        Ok(())
     }
 }

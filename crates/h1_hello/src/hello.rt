@@ -53,6 +53,10 @@ impl Handler for Hello {
         if asked.method == Method::POST && asked.uri.path() == "/echo" {
             return echo(request, head, body, answer);
         }
+        // Without an answer the client gets one of status 500.
+        if asked.uri.path() == "/silent" {
+            return Ok(());
+        }
         answer.whole(body, head, b"hello\n")
     }
 }
