@@ -10,7 +10,7 @@ use Rattle.ws_frames.specs.declared.error.ProtocolError.{ProtocolError}
 use Rattle.ws_frames.specs.declared.error.ProtocolError.TheVariants as protocol
 use Rattle.ws_dispatch.specs.View.{View}
 use Rattle.ws_dispatch.specs.Steps.{Step, IsOpen, wrote, unwritten, closed, failed, flushed, told}
-use Rattle.ws_dispatch.specs.Polls.{WaitsToWrite, IsEnding, IsSettled, OnIdle, TurnSays, ServeSays}
+use Rattle.ws_dispatch.specs.Polls.{IsFlushGood, AllContinue, WaitsToWrite, IsEnding, IsSettled, OnIdle, TurnSays, ServeSays}
 use Rattle.ws_dispatch.specs.declared.inner.queue.Message.TheVariants.{Item, Close}
 use Rattle.ws_dispatch.specs.declared.inner.dispatcher.Turn.{Turn}
 use Rattle.ws_dispatch.specs.declared.inner.dispatcher.Turn.TheVariants.{Counted, Idle, Over}
@@ -30,39 +30,39 @@ waits_of (inr is) = inr (inl is.0)
 module _ {U Q I E R : Type 0} (reads : U → List ℕ → R → Type 0) (given : Q → R → R) (nothing : R)
     (breaks : ProtocolError → R → Type 0) (lacks : ProtocolError → Type 0) (seen : U → List ℕ → Type 0)
     (leaves : ProtocolError → U → List ℕ → U → List ℕ → Type 0) (writes : U → I → List ℕ → U → Type 0) (v w : View U Q I E) where
-  pub flush_counted : (answer : Poll (Result Unit config.Failed)) (woken : Bool) → Flushes v.wire w.wire woken v.unsent w.unsent answer
+  pub flush_counted : (answer : Poll (Result Unit config.Failed)) (woken : Bool) → IsFlushGood answer → Flushes v.wire w.wire woken v.unsent w.unsent answer
       → w ≡ record v { wire = w.wire; unsent = w.unsent } → TurnSays reads given nothing breaks lacks seen leaves writes v w Counted
-  flush_counted answer woken says is = (flushed says.0 answer ∷ [], (w, ((woken, says.1), is), refl), omega arith)
+  flush_counted answer woken good says is = (flushed says.0 answer ∷ [], (w, ((woken, says.1), is), refl), ((good, tt), omega arith))
 
   pub flush_failed : (x : config.Failed) (woken : Bool) → Flushes v.wire w.wire woken v.unsent w.unsent (Ready (Err x))
       → w ≡ record v { wire = w.wire; unsent = w.unsent } → TurnSays reads given nothing breaks lacks seen leaves writes v w (Over (Err (Encoder protocol.Io)))
-  flush_failed x woken says is = (flushed says.0 (Ready (Err x)) ∷ [], (w, ((woken, says.1), is), refl), inr (inl (refl, says.1.answers)))
+  flush_failed x woken says is = (flushed says.0 (Ready (Err x)) ∷ [], (w, ((woken, says.1), is), refl), inr (inl (refl, (says.0, x, ([], refl, tt), says.1.answers))))
 
   pub flush_idle : (woken : Bool) → IsEnding w → Flushes {E = config.Failed} v.wire w.wire woken v.unsent w.unsent Pending
       → w ≡ record v { wire = w.wire; unsent = w.unsent } → TurnSays reads given nothing breaks lacks seen leaves writes v w Idle
-  flush_idle woken ending says is = (flushed says.0 Pending ∷ [], (w, ((woken, says.1), is), refl), inr (ending, waits_of says.1.answers))
+  flush_idle woken ending says is = (flushed says.0 Pending ∷ [], (w, ((woken, says.1), is), refl), ((tt, tt), inr (ending, waits_of says.1.answers)))
 
   pub told_sent : (error : E) → v.failing ≡ Some error → v.unsent ≡ [] → w ≡ record v { failing = None }
       → TurnSays reads given nothing breaks lacks seen leaves writes v w (Over (Err (Service error)))
-  told_sent error fails sent is = (told error ∷ [], (w, (fails, is), refl), (([], refl), inl (ap (λ x. x.unsent) is ∙ sent)))
+  told_sent error fails sent is = (told error ∷ [], (w, (fails, is), refl), inl (([], refl, tt), ap (λ x. x.unsent) is ∙ sent))
 
   pub wrote_counted : (message : I) (text : List ℕ) → IsOpen v → v.queue ≡ Ok (Item message) ∷ w.queue → writes v.codec message text w.codec
       → w ≡ record v { codec = w.codec; unsent = v.unsent ++ text; queue = w.queue }
       → TurnSays reads given nothing breaks lacks seen leaves writes v w Counted
-  wrote_counted message text so queue writes is = (wrote message text ∷ [], (w, (so, queue, writes, is), refl), omega arith)
+  wrote_counted message text so queue writes is = (wrote message text ∷ [], (w, (so, queue, writes, is), refl), ((tt, tt), omega arith))
 
   pub unwritten_over : (message : I) (error : ProtocolError) → IsOpen v → v.queue ≡ Ok (Item message) ∷ w.queue
       → w ≡ record v { codec = w.codec; queue = w.queue }
       → TurnSays reads given nothing breaks lacks seen leaves writes v w (Over (Err (Encoder error)))
-  unwritten_over message error so queue is = (unwritten message error ∷ [], (w, (so, queue, is), refl), inl (message, ([], refl)))
+  unwritten_over message error so queue is = (unwritten message error ∷ [], (w, (so, queue, is), refl), inl (message, ([], refl, tt)))
 
   pub closed_counted : IsOpen v → v.queue ≡ Ok Close ∷ w.queue → w ≡ record v { queue = w.queue; closing = true }
       → TurnSays reads given nothing breaks lacks seen leaves writes v w Counted
-  closed_counted so queue is = (closed ∷ [], (w, (so, queue, is), refl), omega arith)
+  closed_counted so queue is = (closed ∷ [], (w, (so, queue, is), refl), ((tt, tt), omega arith))
 
   pub failed_counted : (error : E) → IsOpen v → v.queue ≡ Err error ∷ w.queue → w ≡ record v { queue = w.queue; failing = Some error }
       → TurnSays reads given nothing breaks lacks seen leaves writes v w Counted
-  failed_counted error so queue is = (failed error ∷ [], (w, (so, queue, is), refl), omega arith)
+  failed_counted error so queue is = (failed error ∷ [], (w, (so, queue, is), refl), ((tt, tt), omega arith))
 
   still_settled : w.queue ≡ v.queue → w.unsent ≡ v.unsent → IsSettled v → IsSettled w
   still_settled queue unsent (inl none) = inl (queue ∙ none)
@@ -76,7 +76,7 @@ module _ {U Q I E R : Type 0} (reads : U → List ℕ → R → Type 0) (given :
   served Idle settled sent says = (
     says.0,
     says.1,
-    inl (record { writing = inl (says.2.2 ∙ sent); queue = still_settled says.2.1 says.2.2 settled; needs = says.2.0 }),
+    (says.2.0, inl (record { writing = inl (says.2.3 ∙ sent); queue = still_settled says.2.2 says.2.3 settled; needs = says.2.1 })),
   )
 
 module _ {U Q I E R : Type 0} (reads : U → List ℕ → R → Type 0) (given : Q → R → R) (nothing : R)
@@ -89,7 +89,7 @@ module _ {U Q I E R : Type 0} (reads : U → List ℕ → R → Type 0) (given :
   flush_told x woken error says is fails then = (
     flushed says.0 (Ready (Err x)) ∷ told error ∷ [],
     (u, ((woken, says.1), is), (w, (fails, then), refl)),
-    ((flushed says.0 (Ready (Err x)) ∷ [], refl), inr (subst (λ y. Rose v.wire.faults y.faults) (sym (ap (λ y. y.wire) then)) says.1.answers)),
+    inr (says.0, x, ([], refl, tt), subst (λ y. Rose v.wire.faults y.faults) (sym (ap (λ y. y.wire) then)) says.1.answers),
   )
 
   waiting_still : (steps : List (Step Q I E)) (gave : List ℕ) → Later u w → WaitsToWrite v u (flushed gave Pending ∷ [])
@@ -108,18 +108,21 @@ module _ {U Q I E R : Type 0} (reads : U → List ℕ → R → Type 0) (given :
       → u ≡ record v { wire = u.wire; unsent = u.unsent } → IsSettled u → ServeSays reads given nothing breaks lacks seen leaves writes u w turn
       → TurnSays reads given nothing breaks lacks seen leaves writes v w turn
   flush_served Counted woken flushes is settled says =
-      (flushed flushes.0 Pending ∷ says.0, (u, ((woken, flushes.1), is), says.1), omega arith)
+      (flushed flushes.0 Pending ∷ says.0, (u, ((woken, flushes.1), is), says.1), ((tt, says.2.0), omega arith))
   flush_served (Over result) woken flushes is settled says = (
     flushed flushes.0 Pending ∷ says.0,
     (u, ((woken, flushes.1), is), says.1),
-    ended_behind v u w (flushed flushes.0 Pending ∷ []) says.0 (later_by flushes.0 woken flushes.1 is) result says.2,
+    ended_behind v u w (flushed flushes.0 Pending ∷ []) says.0 (later_by flushes.0 woken flushes.1 is) (tt, tt) result says.2,
   )
   flush_served Idle woken flushes is settled says = (
     flushed flushes.0 Pending ∷ says.0,
     (u, ((woken, flushes.1), is), says.1),
-    inl (record {
-      writing = inr (waiting_still says.0 flushes.0 (run_later reads given nothing breaks lacks seen leaves writes u w says.0 says.1) (waits_of flushes.1.answers));
-      queue = still_settled reads given nothing breaks lacks seen leaves writes u w says.2.1 says.2.2 settled;
-      needs = needs_behind v u w (flushed flushes.0 Pending ∷ []) says.0 (later_by flushes.0 woken flushes.1 is) w.calling w.waiting w.ended says.2.0;
-    }),
+    (
+      (tt, says.2.0),
+      inl (record {
+        writing = inr (waiting_still says.0 flushes.0 (run_later reads given nothing breaks lacks seen leaves writes u w says.0 says.1) (waits_of flushes.1.answers));
+        queue = still_settled reads given nothing breaks lacks seen leaves writes u w says.2.2 says.2.3 settled;
+        needs = needs_behind v u w (flushed flushes.0 Pending ∷ []) says.0 (later_by flushes.0 woken flushes.1 is) (tt, tt) w.calling w.waiting w.ended says.2.1;
+      }),
+    ),
   )

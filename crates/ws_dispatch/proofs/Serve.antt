@@ -11,7 +11,7 @@ use Rattle.ws_frames.specs.declared.error.ProtocolError.{ProtocolError}
 use Rattle.ws_frames.specs.declared.error.ProtocolError.TheVariants as protocol
 use Rattle.ws_dispatch.specs.View.{View}
 use Rattle.ws_dispatch.specs.Steps.{Step, Reading, IsOpen, IsStep, IsRun, item_read, end_read, error_of_ready, error_of_answer, answer_queued, still_called, read, ready, called, answered}
-use Rattle.ws_dispatch.specs.Polls.{NeedsOf, ServeSays, HasSpent, read_error}
+use Rattle.ws_dispatch.specs.Polls.{IsReadGood, NeedsOf, ServeSays, HasSpent, read_error}
 use Rattle.ws_dispatch.specs.declared.inner.queue.Message.{Message}
 use Rattle.ws_dispatch.specs.declared.inner.dispatcher.Turn.TheVariants.{Counted, Idle, Over}
 use Rattle.ws_dispatch.specs.declared.error.DispatcherError.TheVariants.{Encoder, Decoder}
@@ -85,18 +85,18 @@ module _ {U Q I E R : Type 0} (reads : U → List ℕ → R → Type 0) (given :
   read_pending woken so waiting calling ended says d e f g h i j k = (
     read says.0 Pending ∷ [],
     was_read Pending so waiting calling ended woken says.0 says.1 d e (f ∙ none_waits v.waiting waiting) g h (i ∙ ended) j k,
-    (needs_read (g ∙ calling) (f ∙ none_waits v.waiting waiting) (i ∙ ended) (read says.0 Pending ∷ []) (waits_so woken says.0 says.1.answers), h, d),
+    ((tt, tt), needs_read (g ∙ calling) (f ∙ none_waits v.waiting waiting) (i ∙ ended) (read says.0 Pending ∷ []) (waits_so woken says.0 says.1.answers), h, d),
   )
 
-  pub read_counted : (answer : Reading Q) (woken : Bool) → IsOpen v → is_some v.waiting ≡ false → v.calling ≡ false → v.ended ≡ false
+  pub read_counted : (answer : Reading Q) (woken : Bool) → IsReadGood answer → IsOpen v → is_some v.waiting ≡ false → v.calling ≡ false → v.ended ≡ false
       → ItemSays reads given nothing breaks lacks seen leaves v.wire w.wire woken v.codec v.unread w.codec w.unread answer
       → w.unsent ≡ v.unsent → w.service ≡ v.service → w.waiting ≡ item_read answer → w.calling ≡ v.calling → w.queue ≡ v.queue
       → w.ended ≡ end_read answer → w.closing ≡ v.closing → w.failing ≡ v.failing
       → ServeSays reads given nothing breaks lacks seen leaves writes v w Counted
-  read_counted answer woken so waiting calling ended says d e f g h i j k = (
+  read_counted answer woken good so waiting calling ended says d e f g h i j k = (
     read says.0 answer ∷ [],
     was_read answer so waiting calling ended woken says.0 says.1 d e f g h i j k,
-    omega arith,
+    ((good, tt), omega arith),
   )
 
   pub read_refused : (cause : FramedError ProtocolError) (error : ProtocolError) (woken : Bool) → IsOpen v → is_some v.waiting ≡ false → v.calling ≡ false → v.ended ≡ false
@@ -108,7 +108,7 @@ module _ {U Q I E R : Type 0} (reads : U → List ℕ → R → Type 0) (given :
   read_refused cause error woken so waiting calling ended says is d e f g h i j k = (
     read says.0 (Ready (Some (Err cause))) ∷ [],
     was_read (Ready (Some (Err cause))) so waiting calling ended woken says.0 says.1 d e (f ∙ none_waits v.waiting waiting) g h (i ∙ ended) j k,
-    (says.0, cause, ([], refl), is),
+    (says.0, cause, ([], refl, tt), is),
   )
 
   serves : (answer : Poll (Result Unit E)) → IsOpen v → v.calling ≡ false → ReadySays v.service w.service answer
@@ -131,7 +131,7 @@ module _ {U Q I E R : Type 0} (reads : U → List ℕ → R → Type 0) (given :
   ready_pending so calling waiting says a b c d f g h i j k = (
     ready Pending ∷ [],
     one (ready Pending) (serves Pending so calling says a b c d f g h i j (k ∙ so.no_error)),
-    (needs_ready w.calling w.waiting w.ended (ready Pending ∷ []) (g ∙ calling) (ap is_some f ∙ waiting) says.ready_waits.1, h, d),
+    ((tt, tt), needs_ready w.calling w.waiting w.ended (ready Pending ∷ []) (g ∙ calling) (ap is_some f ∙ waiting) says.ready_waits.1, h, d),
   )
 
   pub ready_failed : (error : E) → IsOpen v → v.calling ≡ false → ReadySays v.service w.service (Ready (Err error))
@@ -166,7 +166,7 @@ module _ {U Q I E R : Type 0} (reads : U → List ℕ → R → Type 0) (given :
   call_pending so calling says a b c d f g h i j k = (
     answered Pending ∷ [],
     call_polled Pending so calling says a b c d f g (h ∙ sym (append-nil v.queue)) i j (k ∙ so.no_error),
-    (needs_call w.calling w.waiting w.ended (answered Pending ∷ []) g says.call_waits.1, h, d),
+    ((tt, tt), needs_call w.calling w.waiting w.ended (answered Pending ∷ []) g says.call_waits.1, h, d),
   )
 
   pub call_answered : (answer : Result I E) → IsOpen v → v.calling ≡ true → AnswerSays v.service w.service (Ready answer)
@@ -174,10 +174,10 @@ module _ {U Q I E R : Type 0} (reads : U → List ℕ → R → Type 0) (given :
       → w.queue ≡ v.queue ++ answer_queued (Ready answer) → w.ended ≡ v.ended → w.closing ≡ v.closing → w.failing ≡ error_of_answer (Ready answer)
       → ServeSays reads given nothing breaks lacks seen leaves writes v w Counted
   call_answered answer so calling says a b c d f g h i j k =
-      (answered (Ready answer) ∷ [], call_polled (Ready answer) so calling says a b c d f g h i j k, omega arith)
+      (answered (Ready answer) ∷ [], call_polled (Ready answer) so calling says a b c d f g h i j k, ((tt, tt), omega arith))
 
-  pub no_room : w ≡ v → ServeSays reads given nothing breaks lacks seen leaves writes v w (Over (Err (Encoder protocol.NoMemory)))
-  no_room is = ([], is, inr (inr refl))
+  pub no_room : w ≡ v → v.calling ≡ true → ServeSays reads given nothing breaks lacks seen leaves writes v w (Over (Err (Encoder protocol.NoMemory)))
+  no_room is calling = ([], is, inr (inr (refl, tt, ap (λ x. x.calling) is ∙ calling)))
 
   pub asked : (u : View U Q I E) (item : Q) (x : Unit) → IsOpen v → v.calling ≡ false → v.waiting ≡ Some item → ReadySays v.service u.service (Ready (Ok x))
       → CallSays u.service w.service item → u ≡ record v { service = u.service; failing = None }
@@ -200,5 +200,5 @@ module _ {U Q I E R : Type 0} (reads : U → List ℕ → R → Type 0) (given :
         refl,
       ),
     ),
-    omega arith,
+    ((tt, (tt, tt)), omega arith),
   )

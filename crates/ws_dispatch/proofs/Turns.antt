@@ -4,22 +4,22 @@ use Rattle.futures.specs.declared.task.Poll.TheVariants.{Ready, Pending}
 use Rattle.ws_frames.specs.declared.error.ProtocolError.{ProtocolError}
 use Rattle.ws_dispatch.specs.View.{View}
 use Rattle.ws_dispatch.specs.Steps.{Step, IsRun}
-use Rattle.ws_dispatch.specs.Polls.{TurnSays, PollSays}
+use Rattle.ws_dispatch.specs.Polls.{AllContinue, TurnSays, PollSays}
 use Rattle.ws_dispatch.specs.declared.error.DispatcherError.{DispatcherError}
 use Rattle.ws_dispatch.specs.declared.inner.dispatcher.Turn.TheVariants.{Counted, Idle, Over}
 use Rattle.ws_dispatch.proofs.Runs.{run_on, run_later}
-use Rattle.ws_dispatch.proofs.Waits.{stuck_behind, ended_behind}
+use Rattle.ws_dispatch.proofs.Waits.{go_on, stuck_behind, ended_behind}
 
 module _ {U Q I E R : Type 0} (reads : U → List ℕ → R → Type 0) (given : Q → R → R) (nothing : R)
     (breaks : ProtocolError → R → Type 0) (lacks : ProtocolError → Type 0) (seen : U → List ℕ → Type 0)
     (leaves : ProtocolError → U → List ℕ → U → List ℕ → Type 0) (writes : U → I → List ℕ → U → Type 0) (v u w : View U Q I E) (steps : List (Step Q I E))
-    (run : IsRun reads given nothing breaks lacks seen leaves writes v steps u) where
+    (run : IsRun reads given nothing breaks lacks seen leaves writes v steps u) (goes_on : AllContinue steps) where
   pub poll_idle : (woken : Bool) → TurnSays reads given nothing breaks lacks seen leaves writes u w Idle
       → PollSays reads given nothing breaks lacks seen leaves writes v w woken Pending
   poll_idle woken says = (
     steps ++ says.0,
     run_on reads given nothing breaks lacks seen leaves writes v u w steps says.0 run says.1,
-    inl (stuck_behind v u w steps says.0 (run_later reads given nothing breaks lacks seen leaves writes v u steps run) says.2),
+    (go_on steps says.0 goes_on says.2.0, inl (stuck_behind v u w steps says.0 (run_later reads given nothing breaks lacks seen leaves writes v u steps run) goes_on says.2.1)),
   )
 
   pub poll_over : (woken : Bool) (result : Result Unit (DispatcherError E)) → TurnSays reads given nothing breaks lacks seen leaves writes u w (Over result)
@@ -27,16 +27,17 @@ module _ {U Q I E R : Type 0} (reads : U → List ℕ → R → Type 0) (given :
   poll_over woken result says = (
     steps ++ says.0,
     run_on reads given nothing breaks lacks seen leaves writes v u w steps says.0 run says.1,
-    ended_behind v u w steps says.0 (run_later reads given nothing breaks lacks seen leaves writes v u steps run) result says.2,
+    ended_behind v u w steps says.0 (run_later reads given nothing breaks lacks seen leaves writes v u steps run) goes_on result says.2,
   )
 
   one_more : (turn : ℕ) (t : List (Step Q I E)) → turn ≤ length steps → 1 ≤ length t → turn + 1 ≤ length (steps ++ t)
   one_more turn t first then = rw length-append (omega (arith, first, then))
 
   pub poll_counted : (turn : ℕ) → turn ≤ length steps → TurnSays reads given nothing breaks lacks seen leaves writes u w Counted
-      → (all : List (Step Q I E)) × IsRun reads given nothing breaks lacks seen leaves writes v all w × (turn + 1 ≤ length all)
+      → (all : List (Step Q I E)) × IsRun reads given nothing breaks lacks seen leaves writes v all w × AllContinue all × (turn + 1 ≤ length all)
   poll_counted turn counted says = (
     steps ++ says.0,
     run_on reads given nothing breaks lacks seen leaves writes v u w steps says.0 run says.1,
-    one_more turn says.0 counted says.2,
+    go_on steps says.0 goes_on says.2.0,
+    one_more turn says.0 counted says.2.1,
   )

@@ -1,15 +1,17 @@
 -- What a poll of a dispatcher answers.
 use Rattle.std.specs.Prelude.{◌≡◌, ◌≤◌, ◌⊎◌, ◌++◌, ◌∷◌, ℕ, Bool, true, false, Option, Some, None, IsSome, List, [], length, ⊤, Result, Ok, Err}
+use Rattle.std.specs.List.{AllByRecursion}
 use Rattle.futures.specs.declared.task.Poll.{Poll}
 use Rattle.futures.specs.declared.task.Poll.TheVariants.{Ready, Pending}
 use Rattle.http_config.specs.Causes.{Rose}
+use Rattle.http_config.specs.declared.Failed.{Failed}
 use Rattle.http_services.specs.Serving.{Calling}
 use Rattle.http_wires.specs.declared.framed.error.FramedError.{FramedError}
 use Rattle.http_wires.specs.declared.framed.error.FramedError.TheVariants as framed
 use Rattle.ws_frames.specs.declared.error.ProtocolError.{ProtocolError}
 use Rattle.ws_frames.specs.declared.error.ProtocolError.TheVariants as protocol
 use Rattle.ws_dispatch.specs.View.{View}
-use Rattle.ws_dispatch.specs.Steps.{Step, IsRun, read, ready, called, answered, wrote, unwritten, closed, failed, flushed, told}
+use Rattle.ws_dispatch.specs.Steps.{Step, Reading, IsRun, read, ready, called, answered, wrote, unwritten, closed, failed, flushed, told}
 use Rattle.ws_dispatch.specs.declared.error.DispatcherError.{DispatcherError}
 use Rattle.ws_dispatch.specs.declared.error.DispatcherError.TheVariants.{Service, Encoder, Decoder}
 use Rattle.ws_dispatch.specs.declared.inner.dispatcher.Dispatcher.{Dispatcher}
@@ -25,9 +27,40 @@ IsCallOpen calling (Some call) = (calling call).is_open ≡ true
 abbrev pub MayBePolled : {S C T U Q I E : Type 0} → (C → Calling Q) → Dispatcher S C T U Q I E → Type 0
 MayBePolled calling d = IsCallOpen calling d.call
 
--- it is the last one
-abbrev pub EndsWith : {A : Type 0} → List A → A → Type 0
-EndsWith {A} xs x = (before : List A) × (xs ≡ before ++ x ∷ [])
+-- a read that gave no error
+abbrev pub IsReadGood : {Q : Type 0} → Reading Q → Type 0
+IsReadGood (Ready (Some (Ok item))) = ⊤
+IsReadGood (Ready (Some (Err e))) = ⊥
+IsReadGood (Ready None) = ⊤
+IsReadGood Pending = ⊤
+
+-- a flush that didn't fail
+abbrev pub IsFlushGood : Poll (Result Unit Failed) → Type 0
+IsFlushGood (Ready (Ok x)) = ⊤
+IsFlushGood (Ready (Err e)) = ⊥
+IsFlushGood Pending = ⊤
+
+-- A poll goes on after this step. It ends with an error of a read, a message that couldn't be written, a failed flush,
+-- or a reported error.
+abbrev pub Continues : {Q I E : Type 0} → Step Q I E → Type 0
+Continues (read came answer) = IsReadGood answer
+Continues (ready answer) = ⊤
+Continues (called item) = ⊤
+Continues (answered answer) = ⊤
+Continues (wrote message text) = ⊤
+Continues (unwritten message error) = ⊥
+Continues closed = ⊤
+Continues (failed error) = ⊤
+Continues (flushed gave answer) = IsFlushGood answer
+Continues (told error) = ⊥
+
+-- it goes on after each of these steps
+abbrev pub AllContinue : {Q I E : Type 0} → List (Step Q I E) → Type 0
+AllContinue steps = AllByRecursion Continues steps
+
+-- these are the last ones, and it goes on after each before them
+abbrev pub EndsWith : {Q I E : Type 0} → List (Step Q I E) → List (Step Q I E) → Type 0
+EndsWith {Q} {I} {E} steps last = (before : List (Step Q I E)) × (steps ≡ before ++ last) × AllContinue before
 
 -- at least 64 bytes went one way, and then the turns were spent
 abbrev pub IsSpent : {Q I E : Type 0} → Step Q I E → Type 0
@@ -87,28 +120,34 @@ read_error (framed.Codec e) = e
 read_error framed.Io = protocol.Io
 read_error framed.NoMemory = protocol.NoMemory
 
--- Why it ended: a Close was taken and all is sent, or the input has ended and nothing is left to be done or sent. The
--- service's error, once nothing is buffered or a write failed. A message that couldn't be written, a failed write, or
--- no memory. A read that gave an error.
+-- a flush failed, and then these came last
+abbrev pub FlushFailed : {U Q I E : Type 0} → View U Q I E → View U Q I E → List (Step Q I E) → List (Step Q I E) → Type 0
+FlushFailed v w steps last =
+    (gave : List ℕ) × (failure : Failed) × EndsWith steps (flushed gave (Ready (Err failure)) ∷ last) × Rose v.wire.faults w.wire.faults
+
+-- Why it ended, with no error before. A Close was taken and all is sent, or the input has ended and nothing is left to
+-- be done or sent, and no error waits. The service's error, once nothing is buffered or a flush failed. A message that
+-- couldn't be written, a flush that failed, or no memory for the answer of the call in progress. A read that gave an
+-- error.
 abbrev pub Ended : {U Q I E : Type 0} → View U Q I E → View U Q I E → List (Step Q I E) → Result Unit (DispatcherError E) → Type 0
-Ended v w steps (Ok x) = (w.unsent ≡ []) × ((w.closing ≡ true) ⊎ IsFinished w)
-Ended v w steps (Err (Service e)) = EndsWith steps (told e) × ((w.unsent ≡ []) ⊎ Rose v.wire.faults w.wire.faults)
+Ended v w steps (Ok x) = AllContinue steps × (w.unsent ≡ []) × (w.failing ≡ None) × ((w.closing ≡ true) ⊎ IsFinished w)
+Ended v w steps (Err (Service e)) = (EndsWith steps (told e ∷ []) × (w.unsent ≡ [])) ⊎ FlushFailed v w steps (told e ∷ [])
 Ended {U} {Q} {I} {E} v w steps (Err (Encoder e)) =
-    ((message : I) × EndsWith steps (unwritten message e))
-    ⊎ (((e ≡ protocol.Io) × Rose v.wire.faults w.wire.faults) ⊎ (e ≡ protocol.NoMemory))
+    ((message : I) × EndsWith steps (unwritten message e ∷ []))
+    ⊎ (((e ≡ protocol.Io) × FlushFailed v w steps []) ⊎ ((e ≡ protocol.NoMemory) × AllContinue steps × (w.calling ≡ true)))
 Ended {U} {Q} {I} {E} v w steps (Err (Decoder e)) =
-    (came : List ℕ) × (cause : FramedError ProtocolError) × EndsWith steps (read came (Ready (Some (Err cause)))) × (e ≡ read_error cause)
+    (came : List ℕ) × (cause : FramedError ProtocolError) × EndsWith steps (read came (Ready (Some (Err cause))) ∷ []) × (e ≡ read_error cause)
 
 -- what a turn answers
 abbrev pub TurnAnswers : {U Q I E : Type 0} → View U Q I E → View U Q I E → List (Step Q I E) → Turn E → Type 0
-TurnAnswers v w steps Counted = 1 ≤ length steps
-TurnAnswers v w steps Idle = IsStuck v w steps
+TurnAnswers v w steps Counted = AllContinue steps × (1 ≤ length steps)
+TurnAnswers v w steps Idle = AllContinue steps × IsStuck v w steps
 TurnAnswers v w steps (Over result) = Ended v w steps result
 
 -- the same of a turn that leaves the writing as it is
 abbrev pub ServeAnswers : {U Q I E : Type 0} → View U Q I E → View U Q I E → List (Step Q I E) → Turn E → Type 0
-ServeAnswers v w steps Counted = 1 ≤ length steps
-ServeAnswers v w steps Idle = NeedsOf w.calling w.waiting w.ended v w steps × (w.queue ≡ v.queue) × (w.unsent ≡ v.unsent)
+ServeAnswers v w steps Counted = AllContinue steps × (1 ≤ length steps)
+ServeAnswers v w steps Idle = AllContinue steps × NeedsOf w.calling w.waiting w.ended v w steps × (w.queue ≡ v.queue) × (w.unsent ≡ v.unsent)
 ServeAnswers v w steps (Over result) = Ended v w steps result
 
 -- this holds where nothing more can be done
@@ -124,7 +163,7 @@ IsSettled w = (w.queue ≡ []) ⊎ (8192 ≤ length w.unsent)
 -- what a poll answers
 abbrev pub PollAnswers : {U Q I E : Type 0} → View U Q I E → View U Q I E → Bool → List (Step Q I E) → Poll (Result Unit (DispatcherError E)) → Type 0
 PollAnswers v w woken steps (Ready result) = Ended v w steps result
-PollAnswers v w woken steps Pending = IsStuck v w steps ⊎ ((64 ≤ length steps) × (woken ≡ true))
+PollAnswers v w woken steps Pending = AllContinue steps × (IsStuck v w steps ⊎ ((64 ≤ length steps) × (woken ≡ true)))
 
 module _ {U Q I E R : Type 0} (reads : U → List ℕ → R → Type 0) (given : Q → R → R) (nothing : R)
     (breaks : ProtocolError → R → Type 0) (lacks : ProtocolError → Type 0) (seen : U → List ℕ → Type 0)

@@ -1,5 +1,6 @@
 use Rattle.ws_dispatch.specs.declared.inner.dispatcher.End.TheVariants.{Closed}
-use Rattle.std.proofs.Common.{None, refl, sym, ap, ◌∙◌}
+use Rattle.std.proofs.Common.{Ok, None, refl, sym, ap, ◌∙◌}
+use Rattle.futures.specs.declared.task.Poll.TheVariants.{Ready}
 use Rattle.ws_dispatch.specs.View.{view_of}
 use Rattle.ws_dispatch.specs.View.{is_closed, error_kept}
 use Rattle.ws_dispatch.proofs.Send.{flush_counted, flush_failed, flush_idle, flush_told}
@@ -18,7 +19,7 @@ returns-in-Ready-Ok-clause-says g c =
     let v = view_of g.T.Wire.wiring g.S.Service.served c.args.self.now in
     let w = view_of g.T.Wire.wiring g.S.Service.served (record c.args.self.now { framed = c.flush.new.self }) in
     flush_counted g.U.Decoder.reads g.U.Decoder.given g.U.Decoder.nothing g.U.Decoder.breaks g.U.Decoder.lacks g.U.Decoder.seen g.U.Decoder.leaves g.U.Encoder.writes v w
-    c.flush.result c.flush.new.cx.is_woken c.flush.ensures.says (same_view (record v { wire = w.wire; unsent = w.unsent }) w refl c.flush.ensures.codec c.flush.ensures.unread refl refl refl refl refl refl refl refl)
+    (Ready (Ok c.in-Ready-Ok.field-0-0)) c.flush.new.cx.is_woken tt (rw c.in-Ready-Ok.field-0-is at c.in-Ready-Ok.ensures.says) (same_view (record v { wire = w.wire; unsent = w.unsent }) w refl c.flush.ensures.codec c.flush.ensures.unread refl refl refl refl refl refl refl refl)
 
 pub returns-in-Failed-clause-says : goal.returns-in-Failed-clause-says
 returns-in-Failed-clause-says g c =

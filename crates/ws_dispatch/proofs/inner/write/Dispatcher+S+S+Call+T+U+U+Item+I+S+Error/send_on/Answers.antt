@@ -1,4 +1,5 @@
-use Rattle.std.proofs.Common.{refl}
+use Rattle.std.proofs.Common.{Ok, refl}
+use Rattle.futures.specs.declared.task.Poll.TheVariants.{Ready, Pending}
 use Rattle.ws_dispatch.specs.View.{view_of}
 use Rattle.ws_dispatch.proofs.Send.{flush_counted, flush_failed, flush_served}
 use Rattle.ws_dispatch.proofs.Serve.{same_view}
@@ -9,7 +10,7 @@ returns-in-Ready-Ok-clause-says g c =
     let v = view_of g.T.Wire.wiring g.S.Service.served c.args.self.now in
     let w = view_of g.T.Wire.wiring g.S.Service.served (record c.args.self.now { framed = c.flush.new.self }) in
     flush_counted g.U.Decoder.reads g.U.Decoder.given g.U.Decoder.nothing g.U.Decoder.breaks g.U.Decoder.lacks g.U.Decoder.seen g.U.Decoder.leaves g.U.Encoder.writes v w
-    c.flush.result c.flush.new.cx.is_woken c.flush.ensures.says (same_view (record v { wire = w.wire; unsent = w.unsent }) w refl c.flush.ensures.codec c.flush.ensures.unread refl refl refl refl refl refl refl refl)
+    (Ready (Ok c.in-Ready-Ok.field-0-0)) c.flush.new.cx.is_woken tt (rw c.in-Ready-Ok.field-0-is at c.in-Ready-Ok.ensures.says) (same_view (record v { wire = w.wire; unsent = w.unsent }) w refl c.flush.ensures.codec c.flush.ensures.unread refl refl refl refl refl refl refl refl)
 
 pub returns-in-Ready-Err-clause-says : goal.returns-in-Ready-Err-clause-says
 returns-in-Ready-Err-clause-says g c =
@@ -31,4 +32,4 @@ returns-else-is_settled-clause-says g c =
     let v = view_of g.T.Wire.wiring g.S.Service.served c.args.self.now in
     let w = view_of g.T.Wire.wiring g.S.Service.served (record c.args.self.now { framed = c.flush.new.self }) in
     flush_counted g.U.Decoder.reads g.U.Decoder.given g.U.Decoder.nothing g.U.Decoder.breaks g.U.Decoder.lacks g.U.Decoder.seen g.U.Decoder.leaves g.U.Encoder.writes v w
-    c.flush.result c.flush.new.cx.is_woken c.flush.ensures.says (same_view (record v { wire = w.wire; unsent = w.unsent }) w refl c.flush.ensures.codec c.flush.ensures.unread refl refl refl refl refl refl refl refl)
+    Pending c.flush.new.cx.is_woken tt c.in-Pending.ensures.says (same_view (record v { wire = w.wire; unsent = w.unsent }) w refl c.flush.ensures.codec c.flush.ensures.unread refl refl refl refl refl refl refl refl)
