@@ -24,8 +24,9 @@ pub data ClientEvent : Type 0 where
   tick : ℕ → ClientEvent
 
 -- Why a connection ends: an answer's head is faulty, or too large; its body is broken, or the input ended inside it; a
--- request's body failed, or has fewer bytes than its head states; a side asked for it; bytes came that no request asked
--- for; the input has ended.
+-- request's body failed, or has fewer bytes than its head states; after its last answer nothing may follow, since a side
+-- asked for that, or for another protocol, or since the answer's lines are ambiguous; bytes came that no request asked for;
+-- the input has ended.
 pub data ClientEnd : Type 0 where
   bad_answer large_answer broken_answer failed_request asked unasked input_ended : ClientEnd
 

@@ -4,12 +4,14 @@ use Rattle.std.specs.List.{list_any}
 use Rattle.h1_model.specs.Limits.{MAX_MOMENT}
 use Rattle.h1_model.specs.Request.{ConnectionType, keep_alive}
 use Rattle.h1_model.specs.Setting.{Setting}
-use Rattle.h1_model.specs.Answer.{Shape, shape_chunked, shape_raw}
+use Rattle.h1_model.specs.LengthTable.{values_of, is_there}
+use Rattle.h1_model.specs.Answer.{BodySize, size_of, Shape, shape_chunked, shape_raw}
 use Rattle.h1_machine.specs.Kept.{Rest}
 use Rattle.h1_client_model.specs.RequestText.{asked_shape}
 use Rattle.h1_client_machine.specs.ClientEvent.{ClientRequest, ClientEvent, ask, chunk, body_end, body_error, read, eof, next, pull, drop_body, write, tick, ClientEnd, asked, unasked, input_ended}
 
--- a request whose answer wasn't handed out: its method, and whether it asks that the connection closes
+-- A request whose answer wasn't handed out: its method, and whether no other request may follow it and the connection
+-- closes after its answer.
 pub record Waiting : Type 0 where
   pub method : List ℕ
   pub closes : Bool
@@ -38,7 +40,8 @@ pub record ClientKept : Type 0 where
   pub waiting : List Waiting
   pub sending : Option SendingBody
   pub reading : Option ReadingBody
-  -- an answer, or its request, asked that the connection closes
+  -- after the last answer the connection closes: the answer or its request says so, or other readers would frame the
+  -- answer in another way
   pub closes : Bool
   -- what is to be written, which has no bound
   pub buffered : List ℕ
@@ -104,6 +107,14 @@ is_reusable k =
     is_none (client_closing k) && is_free k && not (is_waited_for k.waiting) && is_none k.sending
     && not (has_bytes k.unread) && not (has_bytes k.buffered) && not k.has_ended
 
+-- A request waits from the moment when it is asked. It is the last one where it asks that the connection closes, and where
+-- it asks for another protocol: a server may take what follows for that protocol (RFC 9110, section 7.8).
+abbrev pub waiting_of : ClientRequest → Waiting
+waiting_of r = record {
+  method = r.head.method;
+  closes = not (is_kept_alive r.connection) || is_there (values_of (codes "upgrade") r.head.headers);
+}
+
 -- ---- what is allowed
 
 -- a server finds the end of such a body: none goes on to the end of the connection, and HTTP/1.0 knows no chunks
@@ -112,11 +123,22 @@ can_be_framed minor shape_raw = false
 can_be_framed minor shape_chunked = minor == 1
 can_be_framed minor _ = true
 
--- A request is in HTTP/1.0 or 1.1, of a method other than CONNECT, and its body can be framed.
-abbrev pub can_be_sent : ClientRequest → Shape → Bool
-can_be_sent r shape = nat_le r.head.minor 1 && not (bytes_eq r.head.method (codes "CONNECT")) && can_be_framed r.head.minor shape
+-- a line states the length, also a length of 0
+abbrev pub states_length : BodySize → Bool
+states_length (size_of n) = true
+states_length _ = false
 
--- a request that waits, or an answer, asked that the connection closes: no other request would be answered
+-- a POST of HTTP/1.0 that states no length, which servers refuse (RFC 1945, section 8.3)
+abbrev pub lacks_length : ClientRequest → BodySize → Bool
+lacks_length r size = (r.head.minor == 0) && bytes_eq r.head.method (codes "POST") && not (states_length size)
+
+-- A request is in HTTP/1.0 or 1.1, of a method other than CONNECT, its body can be framed, and it lacks no length.
+abbrev pub can_be_sent : ClientRequest → BodySize → Bool
+can_be_sent r size =
+    nat_le r.head.minor 1 && not (bytes_eq r.head.method (codes "CONNECT")) && can_be_framed r.head.minor (asked_shape size)
+    && not (lacks_length r size)
+
+-- a request that waits is the last one, or an answer asked that the connection closes: no other request would be answered
 abbrev pub is_last : ClientKept → Bool
 is_last k = k.closes || list_any (λ w. w.closes) k.waiting
 
@@ -126,7 +148,7 @@ has_room setting k = nat_lt (length k.buffered) setting.write_buffer
 
 -- while the connection doesn't close
 abbrev pub allowed_running : Setting → ClientKept → ClientEvent → Bool
-allowed_running setting k (ask r size) = is_none k.sending && not (is_last k) && can_be_sent r (asked_shape size) && has_room setting k
+allowed_running setting k (ask r size) = is_none k.sending && not (is_last k) && can_be_sent r size && has_room setting k
 allowed_running setting k (chunk bytes) = is_some k.sending && has_room setting k
 allowed_running setting k body_end = is_some k.sending
 allowed_running setting k body_error = is_some k.sending

@@ -1,24 +1,26 @@
 -- What the client's side of a connection answers to an allowed event, and what it keeps after it: a short case for each.
-use Rattle.std.specs.Prelude.{◌≡◌, ℕ, ◌-◌, Bool, true, false, not, ◌&&◌, ◌||◌, List, [], ◌∷◌, ◌++◌, length, take, drop, min, slice_range, nat_lt, ◌==◌, if◌then◌else◌, Option, Some, None}
+use Rattle.std.specs.Prelude.{◌≡◌, ℕ, ◌-◌, Bool, true, false, not, ◌&&◌, ◌||◌, List, [], ◌∷◌, ◌++◌, length, take, drop, min, slice_range, codes, nat_lt, ◌==◌, if◌then◌else◌, Option, Some, None}
 use Rattle.std.specs.Option.{option_or}
 use Rattle.h1_model.specs.HeadPiece.{IsHeadPiece}
-use Rattle.h1_model.specs.Request.{Fault, malformed, too_large, has_body}
+use Rattle.h1_chunks.specs.Place.{broken}
+use Rattle.h1_model.specs.Request.{Fault, malformed, too_large, has_body, ConnectionType}
+use Rattle.h1_model.specs.LengthTable.{values_of, is_there}
 use Rattle.h1_model.specs.Setting.{Setting}
 use Rattle.h1_model.specs.Answer.{BodySize, is_at_once, Shape, shape_length}
 use Rattle.h1_model.specs.AnswerText.{piece_text, end_text}
 use Rattle.h1_model.specs.Event as server
-use Rattle.h1_machine.specs.Kept.{whole_rest, rest_in, is_nothing}
+use Rattle.h1_machine.specs.Kept.{Rest, chunks_rest, whole_rest, rest_in, is_nothing}
 use Rattle.h1_machine.specs.Body.{Passed, pass_rest}
 use Rattle.h1_machine.specs.Pull.{Pulled, IsPull}
 use Rattle.h1_machine.specs.Change.{IsComing}
 use Rattle.h1_machine.specs.Reply.{stated}
-use Rattle.h1_client_model.specs.AnswerTable.{body_to}
+use Rattle.h1_client_model.specs.AnswerTable.{body_to, answer_connection}
 use Rattle.h1_client_model.specs.AnswerReading.{Answer, AnswerReading, answer_is, refused, IsAnswerReadingWithin}
 use Rattle.h1_client_model.specs.AnswerParse.{is_interim}
 use Rattle.h1_client_model.specs.RequestText.{request_text, asked_shape}
 use Rattle.h1_client_machine.specs.ClientEvent as on
 use Rattle.h1_client_machine.specs.ClientEvent.{ClientRequest, ClientEvent, ClientEnd, bad_answer, large_answer, broken_answer, failed_request, ClientOutcome}
-use Rattle.h1_client_machine.specs.ClientKept.{Waiting, SendingBody, ReadingBody, ClientKept, is_free, is_kept_alive, client_closing}
+use Rattle.h1_client_machine.specs.ClientKept.{Waiting, SendingBody, ReadingBody, ClientKept, is_free, is_kept_alive, client_closing, waiting_of}
 
 -- an outcome, and what is kept after it
 pub record ClientChange : Type 0 where
@@ -39,7 +41,7 @@ begun_body size = if is_at_once size then None else Some (record { shape = asked
 abbrev pub asking : ClientRequest → BodySize → ClientKept → ClientKept
 asking r size k = record k {
   buffered = k.buffered ++ request_text r.head (asked_shape size) size r.connection k.now;
-  waiting = k.waiting ++ (record { method = r.head.method; closes = not (is_kept_alive r.connection) }) ∷ [];
+  waiting = k.waiting ++ waiting_of r ∷ [];
   sending = begun_body size;
 }
 
@@ -66,13 +68,18 @@ ending_body (Some body) k = record k {
 
 -- ---- an answer's body
 
--- A dropped body is passed as far as it has come. It is done where it has ended, and where the input has; then it is
--- broken, unless its end was there.
+-- a body that breaks the grammar of chunks, so that its end can't be found
+abbrev pub is_broken : Rest → Bool
+is_broken (chunks_rest broken section) = true
+is_broken _ = false
+
+-- A dropped body is passed as far as it has come. It is done where it has ended, where it breaks, and where the input has
+-- ended. Unless its end was there, the last two bring the end of the connection.
 abbrev pub passed_body : Bool → ReadingBody → ClientKept → Passed → ClientKept
 passed_body has_ended body k p = record k {
   unread = p.unread;
-  reading = Some (record body { rest = p.rest; is_done = is_nothing p.rest || has_ended });
-  failed = option_or k.failed (if has_ended && not (is_nothing p.rest) then Some broken_answer else None);
+  reading = Some (record body { rest = p.rest; is_done = is_nothing p.rest || is_broken p.rest || has_ended });
+  failed = option_or k.failed (if is_broken p.rest || (has_ended && not (is_nothing p.rest)) then Some broken_answer else None);
 }
 
 abbrev pub passing : Option ReadingBody → ClientKept → ClientKept
@@ -141,12 +148,28 @@ new_body has_ended unread method a =
     let kind = body_to method a.body in
     record { rest = rest_in has_ended unread (whole_rest kind); is_done = not (has_body kind); was_dropped = false }
 
+-- What becomes of the connection after an answer to this method. A body that only the end of the input ends closes it; after
+-- HEAD there is no body, so the lines decide.
+abbrev pub connection_to : List ℕ → Answer → ConnectionType
+connection_to method a = answer_connection a.minor a.status a.headers (body_to method a.body)
+
+-- The lines name a coding in HTTP/1.0, or beside a length: other readers frame such an answer in another way, so that
+-- nothing is read after it (RFC 9112, sections 6.1 and 6.3).
+abbrev pub is_ambiguous : Answer → Bool
+is_ambiguous a =
+    is_there (values_of (codes "transfer-encoding") a.headers)
+    && ((a.minor == 0) || is_there (values_of (codes "content-length") a.headers))
+
+-- the connection closes after this answer
+abbrev pub is_closed_after : Waiting → Answer → Bool
+is_closed_after w a = w.closes || not (is_kept_alive (connection_to w.method a)) || is_ambiguous a
+
 -- After a final answer its request waits no more; an interim one leaves it waiting, and has no body (RFC 7231, section 6.2).
 abbrev pub behind_final : ClientKept → List ℕ → Answer → Waiting → List Waiting → ClientKept
 behind_final k unread a w ws = record k {
   unread = unread;
   waiting = ws;
-  closes = w.closes || not (is_kept_alive a.connection);
+  closes = is_closed_after w a;
   reading = Some (new_body k.has_ended unread w.method a);
 }
 

@@ -6,7 +6,7 @@ use Rattle.h1_client_model.specs.AnswerParse.{is_interim}
 use Rattle.h1_client_model.specs.RequestText.{request_text, asked_shape}
 use Rattle.h1_client_machine.specs.ClientEvent as on
 use Rattle.h1_client_machine.specs.ClientEvent.{ClientRequest, ClientEvent, ClientOutcome}
-use Rattle.h1_client_machine.specs.ClientKept.{Waiting, SendingBody, ClientKept, fresh_client, is_kept_alive, client_allows}
+use Rattle.h1_client_machine.specs.ClientKept.{Waiting, SendingBody, ClientKept, fresh_client, waiting_of, client_allows}
 use Rattle.h1_client_machine.specs.ClientStep.{begun_body, piece_of, IsClientStep}
 
 -- an event and what was answered to it
@@ -82,7 +82,7 @@ written (s ∷ before) = written before ++ given s.outcome
 
 -- a request that was asked
 abbrev pub asked_by : ClientEvent → List Waiting
-asked_by (on.ask r size) = (record { method = r.head.method; closes = not (is_kept_alive r.connection) }) ∷ []
+asked_by (on.ask r size) = waiting_of r ∷ []
 asked_by _ = []
 
 -- all requests, the first first

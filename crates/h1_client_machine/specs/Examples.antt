@@ -1,10 +1,15 @@
 -- Values that the worked examples take.
-use Rattle.std.specs.Prelude.{ℕ, Bool, false, List, [], ◌∷◌, codes}
-use Rattle.h1_model.specs.Request.{keep_alive, BodyKind}
+use Rattle.std.specs.Prelude.{ℕ, Bool, true, false, List, [], ◌∷◌, codes, Some}
+use Rattle.h1_chunks.specs.Place.{start}
+use Rattle.h1_model.specs.Request.{Header, keep_alive, BodyKind}
 use Rattle.h1_model.specs.Setting.{Setting, disabled}
+use Rattle.h1_machine.specs.Kept.{chunks_rest}
+use Rattle.h1_client_model.specs.AnswerTable.{answer_connection}
 use Rattle.h1_client_model.specs.AnswerReading.{Answer}
+use Rattle.h1_client_model.specs.WrittenHead.{line_of}
 use Rattle.h1_client_machine.specs.ClientEvent.{ClientRequest}
-use Rattle.h1_client_machine.specs.ClientKept.{ClientKept, fresh_client}
+use Rattle.h1_client_machine.specs.ClientKept.{Waiting, ClientKept, fresh_client}
+use Rattle.h1_client_machine.specs.ClientStep.{behind_answer, pass}
 
 -- a setting under which one byte fills what waits to be written
 abbrev pub narrow : Setting
@@ -24,6 +29,17 @@ request method minor = record {
   connection = keep_alive;
 }
 
+-- a GET with an Upgrade of its own, on a connection that stays
+abbrev pub upgrading : ClientRequest
+upgrading = record {
+  head = record { method = codes "GET"; target = codes "/"; minor = 1; in_camel_case = false; headers = line_of (codes "upgrade") (codes "websocket") ∷ [] };
+  connection = keep_alive;
+}
+
+-- a connection on which this request waits
+abbrev pub waits_for : Waiting → ClientKept
+waits_for w = record fresh_client { waiting = w ∷ [] }
+
 -- a connection on which a request of GET waits, that asks or doesn't ask that it closes
 abbrev pub waits_for_get : Bool → ClientKept
 waits_for_get closes = record fresh_client { waiting = (record { method = codes "GET"; closes = closes }) ∷ [] }
@@ -31,3 +47,24 @@ waits_for_get closes = record fresh_client { waiting = (record { method = codes 
 -- an answer 200 without headers, with this body
 abbrev pub ok : BodyKind → Answer
 ok kind = record { minor = 1; status = 200; reason = []; headers = []; body = kind; connection = keep_alive; is_lax = false }
+
+-- an answer 200 in HTTP/1.minor with these lines and this body
+abbrev pub answer : ℕ → List Header → BodyKind → Answer
+answer minor lines kind = record {
+  minor = minor;
+  status = 200;
+  reason = [];
+  headers = lines;
+  body = kind;
+  connection = answer_connection minor 200 lines kind;
+  is_lax = false;
+}
+
+-- whether the connection closes after this answer to a request of this method that doesn't ask for it
+abbrev pub closes_after : List ℕ → Answer → Bool
+closes_after method a = (behind_answer fresh_client [] a (record { method = method; closes = false }) []).closes
+
+-- a connection of which a body in chunks is dropped, once these bytes of it have come
+abbrev pub dropped_in_chunks : List ℕ → ClientKept
+dropped_in_chunks bytes =
+    pass (record fresh_client { unread = bytes; reading = Some (record { rest = chunks_rest start []; is_done = false; was_dropped = true }) })
