@@ -65,7 +65,6 @@ impl<S: TimedSource, K: TimedSink> Body<S, K> {
 
     /// What comes next of the open request's body.
     pub(crate) fn pull(&mut self) -> Result<Pulled, NoMemory>
-        requires can_pull { IsAllowed self.old.state on.drop_body }
         requires can_pull { IsAllowed self.old.state on.pull }
         requires can_drop { IsAllowed self.old.state on.drop_body }
         ensures follows { Follows self.old self.new }
