@@ -48,6 +48,14 @@ fn stamp(metadata: &Metadata) -> Option<(u64, u32)> {
     Some((since.as_secs(), since.subsec_nanos()))
 }
 
+/// Whether a file lies at a path.
+pub fn is_file(rt: &HostRuntime, path: &FilePath) -> bool {
+    match fs::metadata(rt, path.as_str()) {
+        Ok(metadata) => metadata.is_file(),
+        Err(_) => false,
+    }
+}
+
 /// What is known of what lies at a path.
 pub fn look(rt: &HostRuntime, path: &FilePath) -> Result<Metadata, StatusCode> {
     fs::metadata(rt, path.as_str()).map_err(|error| status_of(&error))
@@ -61,11 +69,40 @@ pub fn open(rt: &HostRuntime, path: &FilePath) -> Result<File, StatusCode> {
 /// Why there is no page of a folder.
 #[derive(Clone, Copy)]
 pub enum Unlisted {
-    /// The folder can't be read: the answer has this status.
-    Unreadable(StatusCode),
+    /// There is no such folder.
+    Missing,
+
+    /// It may not be read.
+    Forbidden,
+
+    /// It can't be read.
+    Unreadable,
 
     /// Memory ran out.
     NoMemory,
+}
+
+impl Unlisted {
+    // Why a folder can't be opened or read.
+    fn of(error: &Error) -> Unlisted {
+        match error.kind() {
+            ErrorKind::PermissionDenied => Unlisted::Forbidden,
+            ErrorKind::NotFound
+            | ErrorKind::NotADirectory
+            | ErrorKind::InvalidFilename
+            | ErrorKind::FilesystemLoop => Unlisted::Missing,
+            _ => Unlisted::Unreadable,
+        }
+    }
+
+    /// The status of the answer that says so.
+    pub fn status(self) -> StatusCode {
+        match self {
+            Unlisted::Missing => StatusCode::NOT_FOUND,
+            Unlisted::Forbidden => StatusCode::FORBIDDEN,
+            Unlisted::Unreadable | Unlisted::NoMemory => StatusCode::INTERNAL_SERVER_ERROR,
+        }
+    }
 }
 
 /// The names in a folder, in order, those with a dot in front only where they are to be shown. One that can't be looked at
@@ -79,12 +116,12 @@ pub fn entries(
     let mut entries = Vec::new(alloc);
     let listing = match fs::read_dir(rt, path.as_str()) {
         Ok(listing) => listing,
-        Err(error) => return Err(Unlisted::Unreadable(status_of(&error))),
+        Err(error) => return Err(Unlisted::of(&error)),
     };
     for item in listing {
         let item = match item {
             Ok(item) => item,
-            Err(error) => return Err(Unlisted::Unreadable(status_of(&error))),
+            Err(error) => return Err(Unlisted::of(&error)),
         };
         if !shows_dots && item.file_name().starts_with('.') {
             continue;
@@ -113,12 +150,5 @@ pub fn entries(
 
 /// The status that tells of a file or a folder that can't be opened.
 pub fn status_of(error: &Error) -> StatusCode {
-    match error.kind() {
-        ErrorKind::PermissionDenied => StatusCode::FORBIDDEN,
-        ErrorKind::NotFound
-        | ErrorKind::NotADirectory
-        | ErrorKind::InvalidFilename
-        | ErrorKind::FilesystemLoop => StatusCode::NOT_FOUND,
-        _ => StatusCode::INTERNAL_SERVER_ERROR,
-    }
+    Unlisted::of(error).status()
 }

@@ -1,5 +1,5 @@
 //! What is answered to which request.
-use crate::found::{Found, Unlisted, entries, look, open};
+use crate::found::{Found, Unlisted, entries, is_file, look, open};
 use crate::reply::{Sent, add, add_range, file_head, page_head};
 use crate::shared::Shared;
 use h1_blocking::{Answer, Body, HandleError, Handler, Handlers, Incoming};
@@ -166,15 +166,13 @@ impl FileHandler {
         let Ok(index) = path.child("index.html") else {
             return Err(HandleError::NoMemory);
         };
-        if let Ok(metadata) = look(&self.rt, &index)
-            && metadata.is_file()
-        {
+        if is_file(&self.rt, &index) {
             return self.file(request, &index, body, answer);
         }
         let entries = match entries(&self.rt, path, self.shared.shows_dots()) {
             Ok(entries) => entries,
-            Err(Unlisted::Unreadable(status)) => return self.refuse(status, body, answer),
             Err(Unlisted::NoMemory) => return Err(HandleError::NoMemory),
+            Err(unlisted) => return self.refuse(unlisted.status(), body, answer),
         };
         let alloc = self.alloc;
         let place = path

@@ -7,7 +7,7 @@ ghost use Rattle.h1_connection.specs.Meaning.{SaysOutcome};
 ghost use Rattle.h1_connection.specs.Ticks.{expiry_of};
 ghost use Rattle.h1_connection.specs.declared.connection.heads.NextHead.{NextHead};
 ghost use Rattle.h1_payload.specs.declared.pulled.Pulled.{Pulled};
-ghost use Rattle.h1_line.specs.Outcomes.{next_outcome, pulled_outcome};
+ghost use Rattle.h1_line.specs.Outcomes.{next_outcome, pulled_outcome, told_fault};
 
 use h1_connection::{BodyFault, Expiry, NextHead, Outcome, PayloadError, Pulled};
 
@@ -57,9 +57,18 @@ pub(crate) fn pulled_of_outcome(outcome: Outcome) -> Pulled
         Outcome::Bytes(bytes) => Pulled::Bytes(bytes),
         Outcome::Trailers(trailers) => Pulled::Trailers(trailers),
         Outcome::BodyEnd => Pulled::End,
-        Outcome::Broken(PayloadError::EncodingCorrupted) => Pulled::Broken(BodyFault::Corrupted),
-        Outcome::Broken(PayloadError::Incomplete) => Pulled::Broken(BodyFault::Incomplete),
+        Outcome::Broken(error) => Pulled::Broken(fault_of(error)),
         _ => Pulled::Pending,
+    }
+}
+
+// The fault of a body that this error tells.
+fn fault_of(error: PayloadError) -> BodyFault
+    ensures { result ≡ told_fault error }
+{
+    match error {
+        PayloadError::EncodingCorrupted => BodyFault::Corrupted,
+        PayloadError::Incomplete => BodyFault::Incomplete,
     }
 }
 
