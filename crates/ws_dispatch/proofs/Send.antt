@@ -42,9 +42,9 @@ module _ {U Q I E R : Type 0} (reads : U → List ℕ → R → Type 0) (given :
       → w ≡ record v { wire = w.wire; unsent = w.unsent } → TurnSays reads given nothing breaks lacks seen leaves writes v w cx Counted
   flush_counted answer good says is = (flushed says.0 answer ∷ [], (w, ((cx.is_woken, says.1), is), refl), ((good, tt), omega arith))
 
-  pub flush_failed : (x : config.Failed) → Flushes v.wire w.wire cx.is_woken v.unsent w.unsent (Ready (Err x))
+  pub flush_failed : (x : config.Failed) → w.failing ≡ None → Flushes v.wire w.wire cx.is_woken v.unsent w.unsent (Ready (Err x))
       → w ≡ record v { wire = w.wire; unsent = w.unsent } → TurnSays reads given nothing breaks lacks seen leaves writes v w cx (Over (Err (Encoder protocol.Io)))
-  flush_failed x says is = (flushed says.0 (Ready (Err x)) ∷ [], (w, ((cx.is_woken, says.1), is), refl), inr (inl (refl, (says.0, x, ([], refl, tt), says.1.answers))))
+  flush_failed x none says is = (flushed says.0 (Ready (Err x)) ∷ [], (w, ((cx.is_woken, says.1), is), refl), (none, inr (inl (refl, (says.0, x, ([], refl, tt), says.1.answers)))))
 
   pub flush_idle : IsEnding w → Flushes {E = config.Failed} v.wire w.wire cx.is_woken v.unsent w.unsent Pending
       → w ≡ record v { wire = w.wire; unsent = w.unsent } → TurnSays reads given nothing breaks lacks seen leaves writes v w cx Idle
@@ -58,7 +58,7 @@ module _ {U Q I E R : Type 0} (reads : U → List ℕ → R → Type 0) (given :
   pub unwritten_over : (message : I) (error : ProtocolError) → IsOpen v → v.queue ≡ Ok (Item message) ∷ w.queue
       → w ≡ record v { codec = w.codec; queue = w.queue }
       → TurnSays reads given nothing breaks lacks seen leaves writes v w cx (Over (Err (Encoder error)))
-  unwritten_over message error so queue is = (unwritten message error ∷ [], (w, (so, queue, is), refl), inl (message, ([], refl, tt)))
+  unwritten_over message error so queue is = (unwritten message error ∷ [], (w, (so, queue, is), refl), (ap (λ x. x.failing) is ∙ so.no_error, inl (message, ([], refl, tt))))
 
   pub closed_counted : IsOpen v → v.queue ≡ Ok Close ∷ w.queue → w ≡ record v { queue = w.queue; closing = true }
       → TurnSays reads given nothing breaks lacks seen leaves writes v w cx Counted

@@ -11,7 +11,7 @@ use Rattle.http_wires.specs.declared.framed.error.FramedError.{FramedError}
 use Rattle.ws_frames.specs.declared.error.ProtocolError.{ProtocolError}
 use Rattle.ws_frames.specs.declared.error.ProtocolError.TheVariants as protocol
 use Rattle.ws_dispatch.specs.View.{View}
-use Rattle.ws_dispatch.specs.Steps.{Step, Reading, IsOpen, Begins, IsStep, IsRun, item_read, end_read, error_of_ready, error_of_answer, answer_queued, still_called, read, ready, called, answered}
+use Rattle.ws_dispatch.specs.Steps.{Step, Reading, IsOpen, Begins, IsStep, IsRun, TakesNone, item_read, end_read, error_of_ready, error_of_answer, answer_queued, still_called, read, ready, called, answered}
 use Rattle.ws_dispatch.specs.Polls.{IsReadGood, ReadWaits, NeedsOf, ServeSays, read_error}
 use Rattle.ws_dispatch.specs.declared.inner.queue.Message.{Message}
 use Rattle.ws_dispatch.specs.declared.inner.dispatcher.Turn.TheVariants.{Counted, Idle, Over}
@@ -112,12 +112,12 @@ module _ {U Q I E R : Type 0} (reads : U → List ℕ → R → Type 0) (given :
     (says.0, cause, ([], refl, tt), is),
   )
 
-  serves : (answer : Poll (Result Unit E)) → IsOpen v → v.calling ≡ false → ReadySays v.service w.service answer
+  serves : (answer : Poll (Result Unit E)) → TakesNone answer → IsOpen v → v.calling ≡ false → ReadySays v.service w.service answer
       → w.wire ≡ v.wire → w.codec ≡ v.codec → w.unread ≡ v.unread → w.unsent ≡ v.unsent → w.waiting ≡ v.waiting → w.calling ≡ v.calling
       → w.queue ≡ v.queue → w.ended ≡ v.ended → w.closing ≡ v.closing → w.failing ≡ error_of_ready answer
       → IsStep reads given nothing breaks lacks seen leaves writes v (ready answer) w
-  serves answer so calling says a b c d f g h i j k =
-      (so, calling, says, same_view (record v { service = w.service; failing = error_of_ready answer }) w a b c d refl f g h i j k)
+  serves answer none so calling says a b c d f g h i j k =
+      (so, calling, says, same_view (record v { service = w.service; failing = error_of_ready answer }) w a b c d refl f g h i j k, none)
 
   needs_ready : (calling : Bool) (waiting : Option Q) (ended : Bool) → calling ≡ false → is_some waiting ≡ true
       → Rose v.service.ready_waits w.service.ready_waits → NeedsOf calling waiting ended v w cx (ready Pending ∷ [])
@@ -131,7 +131,7 @@ module _ {U Q I E R : Type 0} (reads : U → List ℕ → R → Type 0) (given :
       → ServeSays reads given nothing breaks lacks seen leaves writes v w cx Idle
   ready_pending so calling waiting says a b c d f g h i j k = (
     ready Pending ∷ [],
-    one (ready Pending) (serves Pending so calling says a b c d f g h i j (k ∙ so.no_error)),
+    one (ready Pending) (serves Pending tt so calling says a b c d f g h i j (k ∙ so.no_error)),
     ((tt, tt), needs_ready w.calling w.waiting w.ended (g ∙ calling) (ap is_some f ∙ waiting) says.ready_waits.1, h, d),
   )
 
@@ -140,7 +140,7 @@ module _ {U Q I E R : Type 0} (reads : U → List ℕ → R → Type 0) (given :
       → w.queue ≡ v.queue → w.ended ≡ v.ended → w.closing ≡ v.closing → w.failing ≡ Some error
       → ServeSays reads given nothing breaks lacks seen leaves writes v w cx Counted
   ready_failed error so calling says a b c d f g h i j k =
-      (ready (Ready (Err error)) ∷ [], one (ready (Ready (Err error))) (serves (Ready (Err error)) so calling says a b c d f g h i j k), omega arith)
+      (ready (Ready (Err error)) ∷ [], one (ready (Ready (Err error))) (serves (Ready (Err error)) tt so calling says a b c d f g h i j k), omega arith)
 
   call_polled : (answer : Poll (Result I E)) → IsOpen v → v.calling ≡ true → AnswerSays v.service w.service answer
       → w.wire ≡ v.wire → w.codec ≡ v.codec → w.unread ≡ v.unread → w.unsent ≡ v.unsent → w.waiting ≡ v.waiting → w.calling ≡ still_called answer
@@ -177,8 +177,8 @@ module _ {U Q I E R : Type 0} (reads : U → List ℕ → R → Type 0) (given :
   call_answered answer so calling says a b c d f g h i j k =
       (answered (Ready answer) ∷ [], call_polled (Ready answer) so calling says a b c d f g h i j k, ((tt, tt), omega arith))
 
-  pub no_room : w ≡ v → v.calling ≡ true → ServeSays reads given nothing breaks lacks seen leaves writes v w cx (Over (Err (Encoder protocol.NoMemory)))
-  no_room is calling = ([], is, inr (inr (refl, tt, ap (λ x. x.calling) is ∙ calling)))
+  pub no_room : w ≡ v → IsOpen v → v.calling ≡ true → ServeSays reads given nothing breaks lacks seen leaves writes v w cx (Over (Err (Encoder protocol.NoMemory)))
+  no_room is so calling = ([], is, (ap (λ x. x.failing) is ∙ so.no_error, inr (inr (refl, tt, ap (λ x. x.calling) is ∙ calling))))
 
   pub asked : (between : Serving Q I E) (item : Q) → IsOpen v → v.calling ≡ false → v.waiting ≡ Some item → ReadySays v.service between (Ready (Ok tt))
       → CallSays between w.service item → w ≡ record v { service = w.service; waiting = None; calling = true }

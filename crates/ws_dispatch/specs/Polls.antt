@@ -128,15 +128,15 @@ FlushFailed v w steps last =
     (gave : List ℕ) × (failure : Failed) × EndsWith steps (flushed gave (Ready (Err failure)) ∷ last) × Rose v.wire.faults w.wire.faults
 
 -- Why it ended, with no error before. A Close was taken and all is sent, or the input has ended and nothing is left to
--- be done or sent, and no error waits. The service's error, once nothing is buffered or a flush failed. A message that
--- couldn't be written, a flush that failed, or no memory for the answer of the call in progress. A read that gave an
--- error.
+-- be done or sent, and no error waits. The service's error, once nothing is buffered or a flush failed. While no error
+-- waits: a message that couldn't be written, a flush that failed, or no memory for the answer of the call in progress. A
+-- read that gave an error.
 abbrev pub Ended : {U Q I E : Type 0} → View U Q I E → View U Q I E → List (Step Q I E) → Result Unit (DispatcherError E) → Type 0
 Ended v w steps (Ok x) = AllContinue steps × (w.unsent ≡ []) × (w.failing ≡ None) × ((w.closing ≡ true) ⊎ IsFinished w)
 Ended v w steps (Err (Service e)) = (EndsWith steps (told e ∷ []) × (w.unsent ≡ [])) ⊎ FlushFailed v w steps (told e ∷ [])
 Ended {U} {Q} {I} {E} v w steps (Err (Encoder e)) =
-    ((message : I) × EndsWith steps (unwritten message e ∷ []))
-    ⊎ (((e ≡ protocol.Io) × FlushFailed v w steps []) ⊎ ((e ≡ protocol.NoMemory) × AllContinue steps × (w.calling ≡ true)))
+    (w.failing ≡ None) × (((message : I) × EndsWith steps (unwritten message e ∷ []))
+        ⊎ (((e ≡ protocol.Io) × FlushFailed v w steps []) ⊎ ((e ≡ protocol.NoMemory) × AllContinue steps × (w.calling ≡ true))))
 Ended {U} {Q} {I} {E} v w steps (Err (Decoder e)) =
     (came : List ℕ) × (cause : FramedError ProtocolError) × EndsWith steps (read came (Ready (Some (Err cause))) ∷ []) × (e ≡ read_error cause)
 

@@ -11,7 +11,7 @@ returns-then-is_err-clause-says g c =
     let v = view_of g.T.Wire.wiring g.S.Service.served c.args.self.now in
     let w = view_of g.T.Wire.wiring g.S.Service.served (record c.args.self.now { queue = c.make_room.new.self }) in
     no_room g.U.Decoder.reads g.U.Decoder.given g.U.Decoder.nothing g.U.Decoder.breaks g.U.Decoder.lacks g.U.Decoder.seen g.U.Decoder.leaves g.U.Encoder.writes v w c.args.cx.now
-    (same_view v w refl refl refl refl refl refl refl c.make_room.ensures.same refl refl refl) c.requires.calling
+    (same_view v w refl refl refl refl refl refl refl c.make_room.ensures.same refl refl refl) c.requires.is_open c.requires.calling
 
 pub returns-in-Pending-clause-says : goal.returns-in-Pending-clause-says
 returns-in-Pending-clause-says g c =

@@ -37,5 +37,5 @@ returns-in-Closed-clause-says g c =
     let w = view_of g.T.Wire.wiring g.S.Service.served (record c.args.self.now { framed = c.flush.new.self; end = Closed }) in
     let was = sym c.replace.ensures.value ∙ c.in-Closed.is in
     flush_failed g.U.Decoder.reads g.U.Decoder.given g.U.Decoder.nothing g.U.Decoder.breaks g.U.Decoder.lacks g.U.Decoder.seen g.U.Decoder.leaves g.U.Encoder.writes v w c.flush.new.cx
-    c.in-Ready-Err.field-0-0 (rw c.in-Ready-Err.field-0-is at c.in-Ready-Err.ensures.says)
+    c.in-Ready-Err.field-0-0 refl (rw c.in-Ready-Err.field-0-is at c.in-Ready-Err.ensures.says)
     (same_view (record v { wire = w.wire; unsent = w.unsent }) w refl c.flush.ensures.codec c.flush.ensures.unread refl refl refl refl refl refl (sym (ap is_closed was)) (sym (ap error_kept was)))

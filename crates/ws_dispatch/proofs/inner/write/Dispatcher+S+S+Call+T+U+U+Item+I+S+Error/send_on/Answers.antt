@@ -24,7 +24,7 @@ returns-in-Ready-Err-clause-says g c =
     let v = view_of g.T.Wire.wiring g.S.Service.served c.args.self.now in
     let w = view_of g.T.Wire.wiring g.S.Service.served (record c.args.self.now { framed = c.flush.new.self }) in
     flush_failed g.U.Decoder.reads g.U.Decoder.given g.U.Decoder.nothing g.U.Decoder.breaks g.U.Decoder.lacks g.U.Decoder.seen g.U.Decoder.leaves g.U.Encoder.writes v w c.flush.new.cx
-    c.in-Ready-Err.field-0-0 (rw c.in-Ready-Err.field-0-is at c.in-Ready-Err.ensures.says) (same_view (record v { wire = w.wire; unsent = w.unsent }) w refl c.flush.ensures.codec c.flush.ensures.unread refl refl refl refl refl refl refl refl)
+    c.in-Ready-Err.field-0-0 c.requires.is_open.no_error (rw c.in-Ready-Err.field-0-is at c.in-Ready-Err.ensures.says) (same_view (record v { wire = w.wire; unsent = w.unsent }) w refl c.flush.ensures.codec c.flush.ensures.unread refl refl refl refl refl refl refl refl)
 
 pub returns-then-is_settled-clause-says : goal.returns-then-is_settled-clause-says
 returns-then-is_settled-clause-says g c =
