@@ -107,7 +107,7 @@ module _ {U Q I E R : Type 0} (reads : U → List ℕ → R → Type 0) (given :
   calls_known v w [] is = subst (λ x. Grows v.service.called x.service.called []) (sym is) (grown-none v.service.called)
   calls_known v w (read came answer ∷ steps) is = still v.service.called is.0.service.called w.service.called (calls_in steps) (ap (λ x. x.service.called) is.1.5) (calls_known is.0 w steps is.2)
   calls_known v w (ready answer ∷ steps) is = still v.service.called is.0.service.called w.service.called (calls_in steps) (is.1.2.called) (calls_known is.0 w steps is.2)
-  calls_known v w (called item ∷ steps) is = grown (item ∷ []) (calls_in steps) v.service.called is.0.service.called w.service.called (is.1.3.called) (calls_known is.0 w steps is.2)
+  calls_known v w (called item ∷ steps) is = grown (item ∷ []) (calls_in steps) v.service.called is.0.service.called w.service.called (still v.service.called is.1.3.between.called is.0.service.called (item ∷ []) is.1.3.is_ready.called is.1.3.begun.called) (calls_known is.0 w steps is.2)
   calls_known v w (answered answer ∷ steps) is = still v.service.called is.0.service.called w.service.called (calls_in steps) (is.1.2.called) (calls_known is.0 w steps is.2)
   calls_known v w (wrote message text ∷ steps) is = still v.service.called is.0.service.called w.service.called (calls_in steps) (ap (λ x. x.service.called) is.1.3) (calls_known is.0 w steps is.2)
   calls_known v w (unwritten message error ∷ steps) is = still v.service.called is.0.service.called w.service.called (calls_in steps) (ap (λ x. x.service.called) is.1.2) (calls_known is.0 w steps is.2)

@@ -1,5 +1,5 @@
 -- Runs of steps one after the other, and what never falls over them.
-use Rattle.std.proofs.Common.{◌≡◌, ◌≤◌, ℕ, List, [], ◌∷◌, ◌++◌, refl, sym, ap, subst, arith}
+use Rattle.std.proofs.Common.{◌≡◌, ◌≤◌, ℕ, List, [], ◌∷◌, ◌++◌, refl, sym, ap, ◌∙◌, subst, arith}
 use Rattle.futures.specs.declared.task.Poll.{Poll}
 use Rattle.futures.specs.declared.task.Poll.TheVariants.{Ready, Pending}
 use Rattle.http_bodies.specs.Told.{Waits}
@@ -81,8 +81,8 @@ module _ {U Q I E R : Type 0} (reads : U → List ℕ → R → Type 0) (given :
       serving v w (ap (λ x. x.wire) is.3) (waited v.service.ready_waits w.service.ready_waits answer is.2.ready_waits)
       (same v.service.call_waits w.service.call_waits is.2.call_waits)
   step_later v w (called item) is =
-      serving v w (ap (λ x. x.wire) is.4) (same v.service.ready_waits w.service.ready_waits is.3.ready_waits)
-      (same v.service.call_waits w.service.call_waits is.3.call_waits)
+      serving v w (ap (λ x. x.wire) is.4) (same v.service.ready_waits w.service.ready_waits (is.3.begun.ready_waits ∙ is.3.is_ready.ready_waits))
+      (same v.service.call_waits w.service.call_waits (is.3.begun.call_waits ∙ is.3.is_ready.call_waits))
   step_later v w (answered answer) is =
       serving v w (ap (λ x. x.wire) is.3) (same v.service.ready_waits w.service.ready_waits is.2.ready_waits)
       (waited v.service.call_waits w.service.call_waits answer is.2.call_waits)

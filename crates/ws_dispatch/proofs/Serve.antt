@@ -2,6 +2,7 @@
 use Rattle.std.proofs.Common.{◌≡◌, ◌⊎◌, ◌++◌, ℕ, Bool, true, false, Option, Some, None, is_some, List, [], ◌∷◌, Result, Ok, Err, inl, inr, refl, sym, ap, ◌∙◌, arith, append-nil}
 use Rattle.futures.specs.declared.task.Poll.{Poll}
 use Rattle.futures.specs.declared.task.Poll.TheVariants.{Ready, Pending}
+use Rattle.futures.specs.declared.task.context.Context.{Context}
 use Rattle.http_config.specs.Causes.{Rose}
 use Rattle.http_services.specs.Serving.{Serving, ReadySays, CallSays, AnswerSays}
 use Rattle.http_wires.specs.Items.{Answers, Items, ItemSays}
@@ -10,8 +11,8 @@ use Rattle.http_wires.specs.declared.framed.error.FramedError.{FramedError}
 use Rattle.ws_frames.specs.declared.error.ProtocolError.{ProtocolError}
 use Rattle.ws_frames.specs.declared.error.ProtocolError.TheVariants as protocol
 use Rattle.ws_dispatch.specs.View.{View}
-use Rattle.ws_dispatch.specs.Steps.{Step, Reading, IsOpen, IsStep, IsRun, item_read, end_read, error_of_ready, error_of_answer, answer_queued, still_called, read, ready, called, answered}
-use Rattle.ws_dispatch.specs.Polls.{IsReadGood, NeedsOf, ServeSays, HasSpent, read_error}
+use Rattle.ws_dispatch.specs.Steps.{Step, Reading, IsOpen, Begins, IsStep, IsRun, TakesNone, item_read, end_read, error_of_ready, error_of_answer, answer_queued, still_called, read, ready, called, answered}
+use Rattle.ws_dispatch.specs.Polls.{IsReadGood, ReadWaits, NeedsOf, ServeSays, read_error}
 use Rattle.ws_dispatch.specs.declared.inner.queue.Message.{Message}
 use Rattle.ws_dispatch.specs.declared.inner.dispatcher.Turn.TheVariants.{Counted, Idle, Over}
 use Rattle.ws_dispatch.specs.declared.error.DispatcherError.TheVariants.{Encoder, Decoder}
@@ -47,7 +48,7 @@ clash is = cc
 
 module _ {U Q I E R : Type 0} (reads : U → List ℕ → R → Type 0) (given : Q → R → R) (nothing : R)
     (breaks : ProtocolError → R → Type 0) (lacks : ProtocolError → Type 0) (seen : U → List ℕ → Type 0)
-    (leaves : ProtocolError → U → List ℕ → U → List ℕ → Type 0) (writes : U → I → List ℕ → U → Type 0) (v w : View U Q I E) where
+    (leaves : ProtocolError → U → List ℕ → U → List ℕ → Type 0) (writes : U → I → List ℕ → U → Type 0) (v w : View U Q I E) (cx : Context) where
   -- the run of one step
   pub one : (d : Step Q I E) → IsStep reads given nothing breaks lacks seen leaves writes v d w → IsRun reads given nothing breaks lacks seen leaves writes v (d ∷ []) w
   one d is = (w, is, refl)
@@ -68,78 +69,78 @@ module _ {U Q I E R : Type 0} (reads : U → List ℕ → R → Type 0) (given :
         same_view (record v { wire = w.wire; codec = w.codec; unread = w.unread; waiting = item_read answer; ended = end_read answer }) w refl refl refl d e f g h i j k,
       )
 
-  needs_read : w.calling ≡ false → w.waiting ≡ None → w.ended ≡ false → (steps : List (Step Q I E))
-      → Rose v.wire.read_waits w.wire.read_waits ⊎ HasSpent steps → NeedsOf w.calling w.waiting w.ended v w steps
-  needs_read c n e steps is = rw (c, n, e) is
+  needs_read : w.calling ≡ false → w.waiting ≡ None → w.ended ≡ false → (came : List ℕ) → ReadWaits v w cx came
+      → NeedsOf {I = I} {E = E} w.calling w.waiting w.ended v w cx (read came Pending ∷ [])
+  needs_read c n e came is = rw (c, n, e) (came, refl, is)
 
-  waits_so : (woken : Bool) (came : List ℕ) → Answers reads given nothing breaks lacks seen leaves v.wire w.wire woken v.codec v.unread came w.codec w.unread Pending
-      → Rose v.wire.read_waits w.wire.read_waits ⊎ HasSpent {Q = Q} {I = I} {E = E} (read came Pending ∷ [])
-  waits_so woken came (inl is) = inl is.1
-  waits_so woken came (inr is) = inr (inl is.1)
+  waits_so : (came : List ℕ) → Answers reads given nothing breaks lacks seen leaves v.wire w.wire cx.is_woken v.codec v.unread came w.codec w.unread Pending
+      → ReadWaits v w cx came
+  waits_so came (inl is) = inl is.1
+  waits_so came (inr is) = inr (is.1, is.2)
 
-  pub read_pending : (woken : Bool) → IsOpen v → is_some v.waiting ≡ false → v.calling ≡ false → v.ended ≡ false
-      → ItemSays reads given nothing breaks lacks seen leaves v.wire w.wire woken v.codec v.unread w.codec w.unread Pending
+  pub read_pending : IsOpen v → is_some v.waiting ≡ false → v.calling ≡ false → v.ended ≡ false
+      → ItemSays reads given nothing breaks lacks seen leaves v.wire w.wire cx.is_woken v.codec v.unread w.codec w.unread Pending
       → w.unsent ≡ v.unsent → w.service ≡ v.service → w.waiting ≡ v.waiting → w.calling ≡ v.calling → w.queue ≡ v.queue
       → w.ended ≡ v.ended → w.closing ≡ v.closing → w.failing ≡ v.failing
-      → ServeSays reads given nothing breaks lacks seen leaves writes v w Idle
-  read_pending woken so waiting calling ended says d e f g h i j k = (
+      → ServeSays reads given nothing breaks lacks seen leaves writes v w cx Idle
+  read_pending so waiting calling ended says d e f g h i j k = (
     read says.0 Pending ∷ [],
-    was_read Pending so waiting calling ended woken says.0 says.1 d e (f ∙ none_waits v.waiting waiting) g h (i ∙ ended) j k,
-    ((tt, tt), needs_read (g ∙ calling) (f ∙ none_waits v.waiting waiting) (i ∙ ended) (read says.0 Pending ∷ []) (waits_so woken says.0 says.1.answers), h, d),
+    was_read Pending so waiting calling ended cx.is_woken says.0 says.1 d e (f ∙ none_waits v.waiting waiting) g h (i ∙ ended) j k,
+    ((tt, tt), needs_read (g ∙ calling) (f ∙ none_waits v.waiting waiting) (i ∙ ended) says.0 (waits_so says.0 says.1.answers), h, d),
   )
 
-  pub read_counted : (answer : Reading Q) (woken : Bool) → IsReadGood answer → IsOpen v → is_some v.waiting ≡ false → v.calling ≡ false → v.ended ≡ false
-      → ItemSays reads given nothing breaks lacks seen leaves v.wire w.wire woken v.codec v.unread w.codec w.unread answer
+  pub read_counted : (answer : Reading Q) → IsReadGood answer → IsOpen v → is_some v.waiting ≡ false → v.calling ≡ false → v.ended ≡ false
+      → ItemSays reads given nothing breaks lacks seen leaves v.wire w.wire cx.is_woken v.codec v.unread w.codec w.unread answer
       → w.unsent ≡ v.unsent → w.service ≡ v.service → w.waiting ≡ item_read answer → w.calling ≡ v.calling → w.queue ≡ v.queue
       → w.ended ≡ end_read answer → w.closing ≡ v.closing → w.failing ≡ v.failing
-      → ServeSays reads given nothing breaks lacks seen leaves writes v w Counted
-  read_counted answer woken good so waiting calling ended says d e f g h i j k = (
+      → ServeSays reads given nothing breaks lacks seen leaves writes v w cx Counted
+  read_counted answer good so waiting calling ended says d e f g h i j k = (
     read says.0 answer ∷ [],
-    was_read answer so waiting calling ended woken says.0 says.1 d e f g h i j k,
+    was_read answer so waiting calling ended cx.is_woken says.0 says.1 d e f g h i j k,
     ((good, tt), omega arith),
   )
 
-  pub read_refused : (cause : FramedError ProtocolError) (error : ProtocolError) (woken : Bool) → IsOpen v → is_some v.waiting ≡ false → v.calling ≡ false → v.ended ≡ false
-      → ItemSays reads given nothing breaks lacks seen leaves v.wire w.wire woken v.codec v.unread w.codec w.unread (Ready (Some (Err cause)))
+  pub read_refused : (cause : FramedError ProtocolError) (error : ProtocolError) → IsOpen v → is_some v.waiting ≡ false → v.calling ≡ false → v.ended ≡ false
+      → ItemSays reads given nothing breaks lacks seen leaves v.wire w.wire cx.is_woken v.codec v.unread w.codec w.unread (Ready (Some (Err cause)))
       → error ≡ read_error cause
       → w.unsent ≡ v.unsent → w.service ≡ v.service → w.waiting ≡ v.waiting → w.calling ≡ v.calling → w.queue ≡ v.queue
       → w.ended ≡ v.ended → w.closing ≡ v.closing → w.failing ≡ v.failing
-      → ServeSays reads given nothing breaks lacks seen leaves writes v w (Over (Err (Decoder error)))
-  read_refused cause error woken so waiting calling ended says is d e f g h i j k = (
+      → ServeSays reads given nothing breaks lacks seen leaves writes v w cx (Over (Err (Decoder error)))
+  read_refused cause error so waiting calling ended says is d e f g h i j k = (
     read says.0 (Ready (Some (Err cause))) ∷ [],
-    was_read (Ready (Some (Err cause))) so waiting calling ended woken says.0 says.1 d e (f ∙ none_waits v.waiting waiting) g h (i ∙ ended) j k,
+    was_read (Ready (Some (Err cause))) so waiting calling ended cx.is_woken says.0 says.1 d e (f ∙ none_waits v.waiting waiting) g h (i ∙ ended) j k,
     (says.0, cause, ([], refl, tt), is),
   )
 
-  serves : (answer : Poll (Result Unit E)) → IsOpen v → v.calling ≡ false → ReadySays v.service w.service answer
+  serves : (answer : Poll (Result Unit E)) → TakesNone answer → IsOpen v → v.calling ≡ false → ReadySays v.service w.service answer
       → w.wire ≡ v.wire → w.codec ≡ v.codec → w.unread ≡ v.unread → w.unsent ≡ v.unsent → w.waiting ≡ v.waiting → w.calling ≡ v.calling
       → w.queue ≡ v.queue → w.ended ≡ v.ended → w.closing ≡ v.closing → w.failing ≡ error_of_ready answer
       → IsStep reads given nothing breaks lacks seen leaves writes v (ready answer) w
-  serves answer so calling says a b c d f g h i j k =
-      (so, calling, says, same_view (record v { service = w.service; failing = error_of_ready answer }) w a b c d refl f g h i j k)
+  serves answer none so calling says a b c d f g h i j k =
+      (so, calling, says, same_view (record v { service = w.service; failing = error_of_ready answer }) w a b c d refl f g h i j k, none)
 
-  needs_ready : (calling : Bool) (waiting : Option Q) (ended : Bool) (steps : List (Step Q I E)) → calling ≡ false → is_some waiting ≡ true
-      → Rose v.service.ready_waits w.service.ready_waits → NeedsOf calling waiting ended v w steps
-  needs_ready false (Some item) ended steps not_calling is rose = rose
-  needs_ready true (Some item) ended steps not_calling is rose = absurd (clash not_calling)
-  needs_ready calling None ended steps not_calling is rose = absurd (clash (sym is))
+  needs_ready : (calling : Bool) (waiting : Option Q) (ended : Bool) → calling ≡ false → is_some waiting ≡ true
+      → Rose v.service.ready_waits w.service.ready_waits → NeedsOf calling waiting ended v w cx (ready Pending ∷ [])
+  needs_ready false (Some item) ended not_calling is rose = (refl, rose)
+  needs_ready true (Some item) ended not_calling is rose = absurd (clash not_calling)
+  needs_ready calling None ended not_calling is rose = absurd (clash (sym is))
 
   pub ready_pending : IsOpen v → v.calling ≡ false → is_some v.waiting ≡ true → ReadySays v.service w.service Pending
       → w.wire ≡ v.wire → w.codec ≡ v.codec → w.unread ≡ v.unread → w.unsent ≡ v.unsent → w.waiting ≡ v.waiting → w.calling ≡ v.calling
       → w.queue ≡ v.queue → w.ended ≡ v.ended → w.closing ≡ v.closing → w.failing ≡ v.failing
-      → ServeSays reads given nothing breaks lacks seen leaves writes v w Idle
+      → ServeSays reads given nothing breaks lacks seen leaves writes v w cx Idle
   ready_pending so calling waiting says a b c d f g h i j k = (
     ready Pending ∷ [],
-    one (ready Pending) (serves Pending so calling says a b c d f g h i j (k ∙ so.no_error)),
-    ((tt, tt), needs_ready w.calling w.waiting w.ended (ready Pending ∷ []) (g ∙ calling) (ap is_some f ∙ waiting) says.ready_waits.1, h, d),
+    one (ready Pending) (serves Pending tt so calling says a b c d f g h i j (k ∙ so.no_error)),
+    ((tt, tt), needs_ready w.calling w.waiting w.ended (g ∙ calling) (ap is_some f ∙ waiting) says.ready_waits.1, h, d),
   )
 
   pub ready_failed : (error : E) → IsOpen v → v.calling ≡ false → ReadySays v.service w.service (Ready (Err error))
       → w.wire ≡ v.wire → w.codec ≡ v.codec → w.unread ≡ v.unread → w.unsent ≡ v.unsent → w.waiting ≡ v.waiting → w.calling ≡ v.calling
       → w.queue ≡ v.queue → w.ended ≡ v.ended → w.closing ≡ v.closing → w.failing ≡ Some error
-      → ServeSays reads given nothing breaks lacks seen leaves writes v w Counted
+      → ServeSays reads given nothing breaks lacks seen leaves writes v w cx Counted
   ready_failed error so calling says a b c d f g h i j k =
-      (ready (Ready (Err error)) ∷ [], one (ready (Ready (Err error))) (serves (Ready (Err error)) so calling says a b c d f g h i j k), omega arith)
+      (ready (Ready (Err error)) ∷ [], one (ready (Ready (Err error))) (serves (Ready (Err error)) tt so calling says a b c d f g h i j k), omega arith)
 
   call_polled : (answer : Poll (Result I E)) → IsOpen v → v.calling ≡ true → AnswerSays v.service w.service answer
       → w.wire ≡ v.wire → w.codec ≡ v.codec → w.unread ≡ v.unread → w.unsent ≡ v.unsent → w.waiting ≡ v.waiting → w.calling ≡ still_called answer
@@ -154,51 +155,36 @@ module _ {U Q I E R : Type 0} (reads : U → List ℕ → R → Type 0) (given :
             w a b c d refl f g h i j k,
       )
 
-  needs_call : (calling : Bool) (waiting : Option Q) (ended : Bool) (steps : List (Step Q I E)) → calling ≡ true
-      → Rose v.service.call_waits w.service.call_waits → NeedsOf calling waiting ended v w steps
-  needs_call true waiting ended steps is rose = rose
-  needs_call false waiting ended steps is rose = absurd (clash (sym is))
+  needs_call : (calling : Bool) (waiting : Option Q) (ended : Bool) → calling ≡ true
+      → Rose v.service.call_waits w.service.call_waits → NeedsOf calling waiting ended v w cx (answered Pending ∷ [])
+  needs_call true waiting ended is rose = (refl, rose)
+  needs_call false waiting ended is rose = absurd (clash (sym is))
 
   pub call_pending : IsOpen v → v.calling ≡ true → AnswerSays v.service w.service Pending
       → w.wire ≡ v.wire → w.codec ≡ v.codec → w.unread ≡ v.unread → w.unsent ≡ v.unsent → w.waiting ≡ v.waiting → w.calling ≡ true
       → w.queue ≡ v.queue → w.ended ≡ v.ended → w.closing ≡ v.closing → w.failing ≡ v.failing
-      → ServeSays reads given nothing breaks lacks seen leaves writes v w Idle
+      → ServeSays reads given nothing breaks lacks seen leaves writes v w cx Idle
   call_pending so calling says a b c d f g h i j k = (
     answered Pending ∷ [],
     call_polled Pending so calling says a b c d f g (h ∙ sym (append-nil v.queue)) i j (k ∙ so.no_error),
-    ((tt, tt), needs_call w.calling w.waiting w.ended (answered Pending ∷ []) g says.call_waits.1, h, d),
+    ((tt, tt), needs_call w.calling w.waiting w.ended g says.call_waits.1, h, d),
   )
 
   pub call_answered : (answer : Result I E) → IsOpen v → v.calling ≡ true → AnswerSays v.service w.service (Ready answer)
       → w.wire ≡ v.wire → w.codec ≡ v.codec → w.unread ≡ v.unread → w.unsent ≡ v.unsent → w.waiting ≡ v.waiting → w.calling ≡ false
       → w.queue ≡ v.queue ++ answer_queued (Ready answer) → w.ended ≡ v.ended → w.closing ≡ v.closing → w.failing ≡ error_of_answer (Ready answer)
-      → ServeSays reads given nothing breaks lacks seen leaves writes v w Counted
+      → ServeSays reads given nothing breaks lacks seen leaves writes v w cx Counted
   call_answered answer so calling says a b c d f g h i j k =
       (answered (Ready answer) ∷ [], call_polled (Ready answer) so calling says a b c d f g h i j k, ((tt, tt), omega arith))
 
-  pub no_room : w ≡ v → v.calling ≡ true → ServeSays reads given nothing breaks lacks seen leaves writes v w (Over (Err (Encoder protocol.NoMemory)))
-  no_room is calling = ([], is, inr (inr (refl, tt, ap (λ x. x.calling) is ∙ calling)))
+  pub no_room : w ≡ v → IsOpen v → v.calling ≡ true → ServeSays reads given nothing breaks lacks seen leaves writes v w cx (Over (Err (Encoder protocol.NoMemory)))
+  no_room is so calling = ([], is, (ap (λ x. x.failing) is ∙ so.no_error, inr (inr (refl, tt, ap (λ x. x.calling) is ∙ calling))))
 
-  pub asked : (u : View U Q I E) (item : Q) (x : Unit) → IsOpen v → v.calling ≡ false → v.waiting ≡ Some item → ReadySays v.service u.service (Ready (Ok x))
-      → CallSays u.service w.service item → u ≡ record v { service = u.service; failing = None }
-      → w ≡ record u { service = w.service; waiting = None; calling = true }
-      → ServeSays reads given nothing breaks lacks seen leaves writes v w Counted
-  asked u item x so calling waiting readies calls is then = (
-    ready (Ready (Ok x)) ∷ called item ∷ [],
-    (
-      u,
-      (so, calling, readies, is),
-      (
-        w,
-        (
-          record { no_close = ap (λ y. y.closing) is ∙ so.no_close; no_error = ap (λ y. y.failing) is },
-          ap (λ y. y.waiting) is ∙ waiting,
-          ap (λ y. y.calling) is ∙ calling,
-          calls,
-          then,
-        ),
-        refl,
-      ),
-    ),
-    ((tt, (tt, tt)), omega arith),
+  pub asked : (between : Serving Q I E) (item : Q) → IsOpen v → v.calling ≡ false → v.waiting ≡ Some item → ReadySays v.service between (Ready (Ok tt))
+      → CallSays between w.service item → w ≡ record v { service = w.service; waiting = None; calling = true }
+      → ServeSays reads given nothing breaks lacks seen leaves writes v w cx Counted
+  asked between item so calling waiting readies calls is = (
+    called item ∷ [],
+    one (called item) (so, waiting, calling, record { between = between; is_ready = readies; begun = calls }, is),
+    ((tt, tt), omega arith),
   )

@@ -3,6 +3,8 @@ use Rattle.std.specs.Prelude.{◌≡◌, ◌≤◌, ◌⊎◌, ◌++◌, ◌∷�
 use Rattle.std.specs.List.{AllByRecursion}
 use Rattle.futures.specs.declared.task.Poll.{Poll}
 use Rattle.futures.specs.declared.task.Poll.TheVariants.{Ready, Pending}
+use Rattle.futures.specs.Task.{Hears}
+use Rattle.futures.specs.declared.task.context.Context.{Context}
 use Rattle.http_config.specs.Causes.{Rose}
 use Rattle.http_config.specs.declared.Failed.{Failed}
 use Rattle.http_services.specs.Serving.{Calling}
@@ -62,50 +64,50 @@ AllContinue steps = AllByRecursion Continues steps
 abbrev pub EndsWith : {Q I E : Type 0} → List (Step Q I E) → List (Step Q I E) → Type 0
 EndsWith {Q} {I} {E} steps last = (before : List (Step Q I E)) × (steps ≡ before ++ last) × AllContinue before
 
--- at least 64 bytes went one way, and then the turns were spent
-abbrev pub IsSpent : {Q I E : Type 0} → Step Q I E → Type 0
-IsSpent (read came Pending) = 64 ≤ length came
-IsSpent (read came (Ready x)) = ⊥
-IsSpent (flushed gave Pending) = 64 ≤ length gave
-IsSpent (flushed gave (Ready x)) = ⊥
-IsSpent (ready answer) = ⊥
-IsSpent (called item) = ⊥
-IsSpent (answered answer) = ⊥
-IsSpent (wrote message text) = ⊥
-IsSpent (unwritten message error) = ⊥
-IsSpent closed = ⊥
-IsSpent (failed error) = ⊥
-IsSpent (told error) = ⊥
+-- what stays of it that the task asked for another poll
+abbrev pub AskedAgain : Context → Type 0
+AskedAgain cx = (source : ℕ) → Hears cx source
 
-abbrev pub HasSpent : {Q I E : Type 0} → List (Step Q I E) → Type 0
-HasSpent [] = ⊥
-HasSpent (step ∷ steps) = IsSpent step ⊎ HasSpent steps
+-- a flush was pending that gave these bytes: the wire was, or it took at least 64 and the task asked for another poll
+abbrev pub FlushWaits : {U Q I E : Type 0} → View U Q I E → View U Q I E → Context → List ℕ → Type 0
+FlushWaits v w cx gave =
+    (Rose v.wire.write_waits w.wire.write_waits ⊎ Rose v.wire.flush_waits w.wire.flush_waits) ⊎ ((64 ≤ length gave) × AskedAgain cx)
 
--- the wire's writing was pending
-abbrev pub WaitsToWrite : {U Q I E : Type 0} → View U Q I E → View U Q I E → List (Step Q I E) → Type 0
-WaitsToWrite v w steps =
-    (Rose v.wire.write_waits w.wire.write_waits ⊎ Rose v.wire.flush_waits w.wire.flush_waits) ⊎ HasSpent steps
+-- the same of a read
+abbrev pub ReadWaits : {U Q I E : Type 0} → View U Q I E → View U Q I E → Context → List ℕ → Type 0
+ReadWaits v w cx came = Rose v.wire.read_waits w.wire.read_waits ⊎ ((64 ≤ length came) × (cx.is_woken ≡ true))
 
--- The first that applies was pending: the call in progress; the service, while an item waits; the wire's reading, while
--- its input hasn't ended. Behind that something is still buffered.
-abbrev pub NeedsOf : {U Q I E : Type 0} → Bool → Option Q → Bool → View U Q I E → View U Q I E → List (Step Q I E) → Type 0
-NeedsOf true item ended v w steps = Rose v.service.call_waits w.service.call_waits
-NeedsOf false (Some item) ended v w steps = Rose v.service.ready_waits w.service.ready_waits
-NeedsOf false None false v w steps = Rose v.wire.read_waits w.wire.read_waits ⊎ HasSpent steps
-NeedsOf false None true v w steps = ¬ (w.unsent ≡ [])
+-- The first that applies was pending, in the last step: the call in progress; the service, while an item waits; the
+-- wire's reading, while its input hasn't ended. After that something is still buffered, and nothing else is needed.
+abbrev pub NeedsOf : {U Q I E : Type 0} → Bool → Option Q → Bool → View U Q I E → View U Q I E → Context → List (Step Q I E) → Type 0
+NeedsOf true item ended v w cx last = (last ≡ answered Pending ∷ []) × Rose v.service.call_waits w.service.call_waits
+NeedsOf false (Some item) ended v w cx last = (last ≡ ready Pending ∷ []) × Rose v.service.ready_waits w.service.ready_waits
+NeedsOf false None false v w cx last = (came : List ℕ) × (last ≡ read came Pending ∷ []) × ReadWaits v w cx came
+NeedsOf false None true v w cx last = (last ≡ []) × ¬ (w.unsent ≡ [])
 
--- nothing more can be done: each that is needed was pending, and nothing more can be buffered
-pub record IsStuckOpen {U Q I E : Type 0} (v w : View U Q I E) (steps : List (Step Q I E)) : Type 0 where
-  pub writing : (w.unsent ≡ []) ⊎ WaitsToWrite v w steps
+-- Nothing more can be done: straight before the end nothing was buffered, or a flush was pending; then what is needed
+-- was pending; and nothing more can be buffered.
+pub record IsStuckOpen {U Q I E : Type 0} (v w : View U Q I E) (cx : Context) (steps : List (Step Q I E)) : Type 0 where
+  pub flush : List (Step Q I E)
+  pub need : List (Step Q I E)
+  pub last : EndsWith steps (flush ++ need)
+  pub writing : ((flush ≡ []) × (w.unsent ≡ [])) ⊎ ((gave : List ℕ) × (flush ≡ flushed gave Pending ∷ []) × FlushWaits v w cx gave)
   pub queue : (w.queue ≡ []) ⊎ (8192 ≤ length w.unsent)
-  pub needs : NeedsOf w.calling w.waiting w.ended v w steps
+  pub needs : NeedsOf w.calling w.waiting w.ended v w cx need
 
 -- a Close was taken, or an error is to be reported
 abbrev pub IsEnding : {U Q I E : Type 0} → View U Q I E → Type 0
 IsEnding w = (w.closing ≡ true) ⊎ IsSome w.failing
 
-abbrev pub IsStuck : {U Q I E : Type 0} → View U Q I E → View U Q I E → List (Step Q I E) → Type 0
-IsStuck v w steps = IsStuckOpen v w steps ⊎ (IsEnding w × WaitsToWrite v w steps)
+-- it is to end, and the flush of what is buffered was pending at the end
+pub record IsStuckEnding {U Q I E : Type 0} (v w : View U Q I E) (cx : Context) (steps : List (Step Q I E)) : Type 0 where
+  pub ending : IsEnding w
+  pub gave : List ℕ
+  pub last : EndsWith steps (flushed gave Pending ∷ [])
+  pub writing : FlushWaits v w cx gave
+
+abbrev pub IsStuck : {U Q I E : Type 0} → View U Q I E → View U Q I E → Context → List (Step Q I E) → Type 0
+IsStuck v w cx steps = IsStuckOpen v w cx steps ⊎ IsStuckEnding v w cx steps
 
 -- the input has ended, and nothing is left to be done
 pub record IsFinished {U Q I E : Type 0} (w : View U Q I E) : Type 0 where
@@ -126,29 +128,29 @@ FlushFailed v w steps last =
     (gave : List ℕ) × (failure : Failed) × EndsWith steps (flushed gave (Ready (Err failure)) ∷ last) × Rose v.wire.faults w.wire.faults
 
 -- Why it ended, with no error before. A Close was taken and all is sent, or the input has ended and nothing is left to
--- be done or sent, and no error waits. The service's error, once nothing is buffered or a flush failed. A message that
--- couldn't be written, a flush that failed, or no memory for the answer of the call in progress. A read that gave an
--- error.
+-- be done or sent, and no error waits. The service's error, once nothing is buffered or a flush failed. While no error
+-- waits: a message that couldn't be written, a flush that failed, or no memory for the answer of the call in progress. A
+-- read that gave an error.
 abbrev pub Ended : {U Q I E : Type 0} → View U Q I E → View U Q I E → List (Step Q I E) → Result Unit (DispatcherError E) → Type 0
 Ended v w steps (Ok x) = AllContinue steps × (w.unsent ≡ []) × (w.failing ≡ None) × ((w.closing ≡ true) ⊎ IsFinished w)
 Ended v w steps (Err (Service e)) = (EndsWith steps (told e ∷ []) × (w.unsent ≡ [])) ⊎ FlushFailed v w steps (told e ∷ [])
 Ended {U} {Q} {I} {E} v w steps (Err (Encoder e)) =
-    ((message : I) × EndsWith steps (unwritten message e ∷ []))
-    ⊎ (((e ≡ protocol.Io) × FlushFailed v w steps []) ⊎ ((e ≡ protocol.NoMemory) × AllContinue steps × (w.calling ≡ true)))
+    (w.failing ≡ None) × (((message : I) × EndsWith steps (unwritten message e ∷ []))
+        ⊎ (((e ≡ protocol.Io) × FlushFailed v w steps []) ⊎ ((e ≡ protocol.NoMemory) × AllContinue steps × (w.calling ≡ true))))
 Ended {U} {Q} {I} {E} v w steps (Err (Decoder e)) =
     (came : List ℕ) × (cause : FramedError ProtocolError) × EndsWith steps (read came (Ready (Some (Err cause))) ∷ []) × (e ≡ read_error cause)
 
 -- what a turn answers
-abbrev pub TurnAnswers : {U Q I E : Type 0} → View U Q I E → View U Q I E → List (Step Q I E) → Turn E → Type 0
-TurnAnswers v w steps Counted = AllContinue steps × (1 ≤ length steps)
-TurnAnswers v w steps Idle = AllContinue steps × IsStuck v w steps
-TurnAnswers v w steps (Over result) = Ended v w steps result
+abbrev pub TurnAnswers : {U Q I E : Type 0} → View U Q I E → View U Q I E → Context → List (Step Q I E) → Turn E → Type 0
+TurnAnswers v w cx steps Counted = AllContinue steps × (1 ≤ length steps)
+TurnAnswers v w cx steps Idle = AllContinue steps × IsStuck v w cx steps
+TurnAnswers v w cx steps (Over result) = Ended v w steps result
 
 -- the same of a turn that leaves the writing as it is
-abbrev pub ServeAnswers : {U Q I E : Type 0} → View U Q I E → View U Q I E → List (Step Q I E) → Turn E → Type 0
-ServeAnswers v w steps Counted = AllContinue steps × (1 ≤ length steps)
-ServeAnswers v w steps Idle = AllContinue steps × NeedsOf w.calling w.waiting w.ended v w steps × (w.queue ≡ v.queue) × (w.unsent ≡ v.unsent)
-ServeAnswers v w steps (Over result) = Ended v w steps result
+abbrev pub ServeAnswers : {U Q I E : Type 0} → View U Q I E → View U Q I E → Context → List (Step Q I E) → Turn E → Type 0
+ServeAnswers v w cx steps Counted = AllContinue steps × (1 ≤ length steps)
+ServeAnswers v w cx steps Idle = AllContinue steps × NeedsOf w.calling w.waiting w.ended v w cx steps × (w.queue ≡ v.queue) × (w.unsent ≡ v.unsent)
+ServeAnswers v w cx steps (Over result) = Ended v w steps result
 
 -- this holds where nothing more can be done
 abbrev pub OnIdle : {E : Type 0} → Turn E → Type 0 → Type 0
@@ -161,23 +163,28 @@ abbrev pub IsSettled : {U Q I E : Type 0} → View U Q I E → Type 0
 IsSettled w = (w.queue ≡ []) ⊎ (8192 ≤ length w.unsent)
 
 -- what a poll answers
-abbrev pub PollAnswers : {U Q I E : Type 0} → View U Q I E → View U Q I E → Bool → List (Step Q I E) → Poll (Result Unit (DispatcherError E)) → Type 0
-PollAnswers v w woken steps (Ready result) = Ended v w steps result
-PollAnswers v w woken steps Pending = AllContinue steps × (IsStuck v w steps ⊎ ((64 ≤ length steps) × (woken ≡ true)))
+abbrev pub PollAnswers : {U Q I E : Type 0} → View U Q I E → View U Q I E → Context → List (Step Q I E) → Poll (Result Unit (DispatcherError E)) → Type 0
+PollAnswers v w cx steps (Ready result) = Ended v w steps result
+PollAnswers v w cx steps Pending = AllContinue steps × (IsStuck v w cx steps ⊎ ((64 ≤ length steps) × (cx.is_woken ≡ true)))
 
 module _ {U Q I E R : Type 0} (reads : U → List ℕ → R → Type 0) (given : Q → R → R) (nothing : R)
     (breaks : ProtocolError → R → Type 0) (lacks : ProtocolError → Type 0) (seen : U → List ℕ → Type 0)
     (leaves : ProtocolError → U → List ℕ → U → List ℕ → Type 0) (writes : U → I → List ℕ → U → Type 0) where
   -- a turn is a run of steps
-  abbrev pub TurnSays : View U Q I E → View U Q I E → Turn E → Type 0
-  TurnSays v w result =
-      (steps : List (Step Q I E)) × IsRun reads given nothing breaks lacks seen leaves writes v steps w × TurnAnswers v w steps result
+  abbrev pub TurnSays : View U Q I E → View U Q I E → Context → Turn E → Type 0
+  TurnSays v w cx result =
+      (steps : List (Step Q I E)) × IsRun reads given nothing breaks lacks seen leaves writes v steps w × TurnAnswers v w cx steps result
 
-  abbrev pub ServeSays : View U Q I E → View U Q I E → Turn E → Type 0
-  ServeSays v w result =
-      (steps : List (Step Q I E)) × IsRun reads given nothing breaks lacks seen leaves writes v steps w × ServeAnswers v w steps result
+  abbrev pub ServeSays : View U Q I E → View U Q I E → Context → Turn E → Type 0
+  ServeSays v w cx result =
+      (steps : List (Step Q I E)) × IsRun reads given nothing breaks lacks seen leaves writes v steps w × ServeAnswers v w cx steps result
+
+  -- the last turn is one, too
+  abbrev pub EndSays : View U Q I E → View U Q I E → Result Unit (DispatcherError E) → Type 0
+  EndSays v w result =
+      (steps : List (Step Q I E)) × IsRun reads given nothing breaks lacks seen leaves writes v steps w × Ended v w steps result
 
   -- a poll is a run of steps
-  abbrev pub PollSays : View U Q I E → View U Q I E → Bool → Poll (Result Unit (DispatcherError E)) → Type 0
-  PollSays v w woken result =
-      (steps : List (Step Q I E)) × IsRun reads given nothing breaks lacks seen leaves writes v steps w × PollAnswers v w woken steps result
+  abbrev pub PollSays : View U Q I E → View U Q I E → Context → Poll (Result Unit (DispatcherError E)) → Type 0
+  PollSays v w cx result =
+      (steps : List (Step Q I E)) × IsRun reads given nothing breaks lacks seen leaves writes v steps w × PollAnswers v w cx steps result

@@ -1,9 +1,9 @@
 -- The steps of a dispatcher.
-use Rattle.std.specs.Prelude.{◌≡◌, ℕ, Bool, true, false, Option, Some, None, List, [], ◌∷◌, ◌++◌, Result, Ok, Err}
+use Rattle.std.specs.Prelude.{◌≡◌, ℕ, Bool, true, false, Option, Some, None, List, [], ◌∷◌, ◌++◌, ⊤, Result, Ok, Err}
 use Rattle.futures.specs.declared.task.Poll.{Poll}
 use Rattle.futures.specs.declared.task.Poll.TheVariants.{Ready, Pending}
 use Rattle.http_config.specs.declared.Failed.{Failed}
-use Rattle.http_services.specs.Serving.{ReadySays, CallSays, AnswerSays}
+use Rattle.http_services.specs.Serving.{Serving, ReadySays, CallSays, AnswerSays}
 use Rattle.http_wires.specs.Flushes.{Gave}
 use Rattle.http_wires.specs.Items.{Items}
 use Rattle.http_wires.specs.declared.framed.error.FramedError.{FramedError}
@@ -16,8 +16,8 @@ use Rattle.ws_dispatch.specs.declared.inner.queue.Message.TheVariants.{Item, Clo
 abbrev pub Reading : Type 0 → Type 0
 Reading Q = Poll (Option (Result Q (FramedError ProtocolError)))
 
--- A step: these bytes came, and this was answered; the service was asked whether it takes a call; a call of it was begun;
--- a call was polled; a message was taken and written as this text, or couldn't be written; a Close was taken, or an
+-- A step: these bytes came, and this was answered; the service was asked whether it takes a call, and takes none; it was
+-- asked, takes one, and a call was begun; a call was polled; a message was taken and written as this text, or couldn't be written; a Close was taken, or an
 -- error; the wire took these bytes; the error was reported.
 pub data Step (Q I E : Type 0) : Type 0 where
   read : (came : List ℕ) → (answer : Reading Q) → Step Q I E
@@ -56,6 +56,12 @@ error_of_answer (Ready (Err e)) = Some e
 error_of_answer (Ready (Ok x)) = None
 error_of_answer Pending = None
 
+-- the service takes no call
+abbrev pub TakesNone : {E : Type 0} → Poll (Result Unit E) → Type 0
+TakesNone (Ready (Err e)) = ⊤
+TakesNone (Ready (Ok x)) = ⊥
+TakesNone Pending = ⊤
+
 -- an answer is queued
 abbrev pub answer_queued : {I E : Type 0} → Poll (Result I E) → List (Result (Message I) E)
 answer_queued (Ready (Ok x)) = Ok (Item x) ∷ []
@@ -72,6 +78,12 @@ pub record IsOpen {U Q I E : Type 0} (v : View U Q I E) : Type 0 where
   pub no_close : v.closing ≡ false
   pub no_error : v.failing ≡ None
 
+-- the service said that it takes a call, and then this one was begun
+pub record Begins {Q I E : Type 0} (old new : Serving Q I E) (item : Q) : Type 0 where
+  pub between : Serving Q I E
+  pub is_ready : ReadySays old between (Ready (Ok tt))
+  pub begun : CallSays between new item
+
 module _ {U Q I E R : Type 0} (reads : U → List ℕ → R → Type 0) (given : Q → R → R) (nothing : R)
     (breaks : ProtocolError → R → Type 0) (lacks : ProtocolError → Type 0) (seen : U → List ℕ → Type 0)
     (leaves : ProtocolError → U → List ℕ → U → List ℕ → Type 0) (writes : U → I → List ℕ → U → Type 0) where
@@ -83,9 +95,9 @@ module _ {U Q I E R : Type 0} (reads : U → List ℕ → R → Type 0) (given :
       × (w ≡ record v { wire = w.wire; codec = w.codec; unread = w.unread; waiting = item_read answer; ended = end_read answer })
   IsStep v (ready answer) w =
       IsOpen v × (v.calling ≡ false) × ReadySays v.service w.service answer
-      × (w ≡ record v { service = w.service; failing = error_of_ready answer })
+      × (w ≡ record v { service = w.service; failing = error_of_ready answer }) × TakesNone answer
   IsStep v (called item) w =
-      IsOpen v × (v.waiting ≡ Some item) × (v.calling ≡ false) × CallSays v.service w.service item
+      IsOpen v × (v.waiting ≡ Some item) × (v.calling ≡ false) × Begins v.service w.service item
       × (w ≡ record v { service = w.service; waiting = None; calling = true })
   IsStep v (answered answer) w =
       IsOpen v × (v.calling ≡ true) × AnswerSays v.service w.service answer

@@ -3,7 +3,7 @@ ghost use Rattle.std.specs.Prelude.{◌≡◌, [], IsTrue, IsFalse};
 ghost use Rattle.futures.specs.Task.{IsArmed, Keeps};
 ghost use Rattle.ws_dispatch.specs.View.{view_of};
 ghost use Rattle.ws_dispatch.specs.Steps.{IsOpen};
-ghost use Rattle.ws_dispatch.specs.Polls.{MayBePolled, IsEnding, OnIdle, TurnSays};
+ghost use Rattle.ws_dispatch.specs.Polls.{MayBePolled, IsEnding, OnIdle, EndSays, TurnSays};
 
 use super::dispatcher::{Dispatcher, End, Turn};
 use crate::error::DispatcherError;
@@ -25,7 +25,7 @@ where
     /// One turn.
     pub(crate) fn turn(&mut self, cx: &mut Context<'_>) -> Turn<S::Error>
         requires open { MayBePolled S.calling self.old }
-        ensures says { TurnSays U.reads U.given U.nothing U.breaks U.lacks U.seen U.leaves U.writes (view_of T.wiring S.served self.old) (view_of T.wiring S.served self.new) result }
+        ensures says { TurnSays U.reads U.given U.nothing U.breaks U.lacks U.seen U.leaves U.writes (view_of T.wiring S.served self.old) (view_of T.wiring S.served self.new) cx.new result }
         ensures open { MayBePolled S.calling self.new }
         ensures registered { OnIdle result (IsArmed cx.new) }
         ensures kept { Keeps cx.old cx.new }
@@ -49,13 +49,13 @@ where
     fn finish(&mut self, cx: &mut Context<'_>) -> Turn<S::Error>
         requires open { MayBePolled S.calling self.old }
         requires ending { IsEnding (view_of T.wiring S.served self.old) }
-        ensures says { TurnSays U.reads U.given U.nothing U.breaks U.lacks U.seen U.leaves U.writes (view_of T.wiring S.served self.old) (view_of T.wiring S.served self.new) result }
+        ensures says { TurnSays U.reads U.given U.nothing U.breaks U.lacks U.seen U.leaves U.writes (view_of T.wiring S.served self.old) (view_of T.wiring S.served self.new) cx.new result }
         ensures open { MayBePolled S.calling self.new }
         ensures registered { OnIdle result (IsArmed cx.new) }
         ensures kept { Keeps cx.old cx.new }
     {
         if self.framed.is_write_buf_empty() {
-            return self.tell();
+            return Turn::Over(self.tell());
         }
         match self.framed.flush(cx) {
             Poll::Pending => Turn::Idle,
@@ -72,19 +72,18 @@ where
     }
 
     /// All is sent: it ends.
-    fn tell(&mut self) -> Turn<S::Error>
+    fn tell(&mut self) -> Result<(), DispatcherError<S::Error>>
         requires open { MayBePolled S.calling self.old }
         requires ending { IsEnding (view_of T.wiring S.served self.old) }
         requires sent { (view_of T.wiring S.served self.old).unsent ≡ [] }
-        ensures says { TurnSays U.reads U.given U.nothing U.breaks U.lacks U.seen U.leaves U.writes (view_of T.wiring S.served self.old) (view_of T.wiring S.served self.new) result }
-        ensures over { OnIdle result ⊥ }
+        ensures says { EndSays U.reads U.given U.nothing U.breaks U.lacks U.seen U.leaves U.writes (view_of T.wiring S.served self.old) (view_of T.wiring S.served self.new) result }
         ensures open { MayBePolled S.calling self.new }
     {
         match mem::replace(&mut self.end, End::Open) {
-            End::Failed(error) => Turn::Over(Err(DispatcherError::Service(error))),
+            End::Failed(error) => Err(DispatcherError::Service(error)),
             End::Closed => {
                 self.end = End::Closed;
-                Turn::Over(Ok(()))
+                Ok(())
             }
             End::Open => unreachable!(),
         }

@@ -26,7 +26,7 @@ where
     pub(super) fn take(&mut self, cx: &mut Context<'_>) -> Turn<S::Error>
         requires open { MayBePolled S.calling self.old }
         requires is_open { IsOpen (view_of T.wiring S.served self.old) }
-        ensures says { TurnSays U.reads U.given U.nothing U.breaks U.lacks U.seen U.leaves U.writes (view_of T.wiring S.served self.old) (view_of T.wiring S.served self.new) result }
+        ensures says { TurnSays U.reads U.given U.nothing U.breaks U.lacks U.seen U.leaves U.writes (view_of T.wiring S.served self.old) (view_of T.wiring S.served self.new) cx.new result }
         ensures open { MayBePolled S.calling self.new }
         ensures registered { OnIdle result (IsArmed cx.new) }
         ensures kept { Keeps cx.old cx.new }
@@ -56,7 +56,7 @@ where
         requires open { MayBePolled S.calling self.old }
         requires is_open { IsOpen (view_of T.wiring S.served self.old) }
         requires settled { IsSettled (view_of T.wiring S.served self.old) }
-        ensures says { TurnSays U.reads U.given U.nothing U.breaks U.lacks U.seen U.leaves U.writes (view_of T.wiring S.served self.old) (view_of T.wiring S.served self.new) result }
+        ensures says { TurnSays U.reads U.given U.nothing U.breaks U.lacks U.seen U.leaves U.writes (view_of T.wiring S.served self.old) (view_of T.wiring S.served self.new) cx.new result }
         ensures open { MayBePolled S.calling self.new }
         ensures registered { OnIdle result (IsArmed cx.new) }
         ensures kept { Keeps cx.old cx.new }
