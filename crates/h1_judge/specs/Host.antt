@@ -66,10 +66,10 @@ is_bracketed [] = false
 is_bracketed (b ∷ rest) = if b == closing then false else is_address_host (b ∷ rest)
 
 -- A host with or without a port: a name, or in brackets bytes of an IPv6 address, at least one. An empty text is one: a
--- client sends it where its target has no authority.
+-- client sends it where its target has no authority. A port alone is none (RFC 9110, section 4.2.1).
 abbrev pub is_host : List ℕ → Bool
 is_host [] = true
-is_host (b ∷ rest) = if b == opening then is_bracketed rest else is_named_host (b ∷ rest)
+is_host (b ∷ rest) = if b == opening then is_bracketed rest else not (b == colon) && is_named_host (b ∷ rest)
 
 -- there is a colon, the text doesn't begin with it, and a digit comes last
 abbrev pub has_port : List ℕ → Bool

@@ -1,6 +1,6 @@
 -- Which doubt comes first of a head that was read.
-use Rattle.std.specs.Prelude.{ℕ, Bool, true, false, not, ◌&&◌, ◌||◌, ◌==◌, List, [], ◌∷◌, slice_index, codes, bytes_eq, is_some, if◌then◌else◌, Option, Some, None, unwrap_or, Result, Ok, Err}
-use Rattle.std.specs.List.{list_any}
+use Rattle.std.specs.Prelude.{ℕ, Bool, true, false, not, ◌&&◌, ◌||◌, ◌==◌, List, [], ◌∷◌, slice_index, codes, bytes_eq, if◌then◌else◌, Option, Some, None, unwrap_or, Result, Ok, Err}
+use Rattle.std.specs.List.{list_all, list_any}
 use Rattle.http_uri.specs.Uri.{uri_scheme, uri_authority}
 use Rattle.http_uri.specs.declared.uri.Uri.{Uri}
 use Rattle.http_framing.specs.declared.body.kind.BodyKind.{BodyKind}
@@ -17,8 +17,8 @@ use Rattle.http_types.specs.RequestHead.{request_flags}
 use Rattle.http_types.specs.Version.{is_below_http11}
 use Rattle.h1_decode.specs.declared.decoder.HeadItem.{HeadItem}
 use Rattle.h1_judge.specs.declared.doubt.HeadDoubt.{HeadDoubt}
-use Rattle.h1_judge.specs.declared.doubt.HeadDoubt.TheVariants.{HostMissing, HostRepeated, HostInvalid, HostOther, TargetForm, ConnectBody, UpgradeVersion, UpgradeOption, CloseAmongOthers, UpgradeAmongOthers}
-use Rattle.h1_judge.specs.Host.{is_host, has_port}
+use Rattle.h1_judge.specs.declared.doubt.HeadDoubt.TheVariants.{HostMissing, HostRepeated, HostInvalid, HostOther, TargetForm, ConnectBody, UpgradeVersion, UpgradeOption, UpgradeBody, CloseAmongOthers, UpgradeAmongOthers}
+use Rattle.h1_judge.specs.Host.{colon, is_host, has_port}
 use Rattle.h1_judge.specs.Options.{lists}
 
 -- the values of the lines with this name
@@ -49,18 +49,24 @@ lines_doubt below_http11 uri (value ∷ second ∷ more) = Some HostRepeated
 abbrev pub host_doubt : RequestHead → Option HeadDoubt
 host_doubt head = lines_doubt (is_below_http11 head.version) head.uri (values head (codes "host"))
 
+-- the target is an absolute URI, and its authority, if it has one, names a host (RFC 9110, section 4.2.1)
+abbrev pub is_absolute : Option (List ℕ) → Option (List ℕ) → Bool
+is_absolute None authority = false
+is_absolute (Some scheme) None = true
+is_absolute (Some scheme) (Some authority) = not (slice_index authority 0 == colon)
+
 -- The target has a form that its method may have, and no fragment: a host with a port for CONNECT, `*` for OPTIONS, and for
 -- each other method and for OPTIONS a path or an absolute URI (RFC 9112, sections 3.2.1 to 3.2.4).
 abbrev pub fits_method : List ℕ → List ℕ → Bool → Bool
-fits_method method target has_scheme =
+fits_method method target is_uri =
     if list_any (λ b. b == 35) target then false
     else (if bytes_eq method (codes "CONNECT") then is_host target && has_port target
     else (if bytes_eq target (codes "*") then bytes_eq method (codes "OPTIONS")
-    else ((slice_index target 0 == 47) || has_scheme)))
+    else ((slice_index target 0 == 47) || is_uri)))
 
 abbrev pub target_doubt : HeadItem → Option HeadDoubt
 target_doubt item =
-    if fits_method item.head.method item.target (is_some (uri_scheme item.head.uri)) then None else Some TargetForm
+    if fits_method item.head.method item.target (is_absolute (uri_scheme item.head.uri) (uri_authority item.head.uri)) then None else Some TargetForm
 
 -- the body has a length or comes in chunks
 abbrev pub is_framed : BodyKind → Bool
@@ -74,12 +80,34 @@ abbrev pub body_doubt : HeadItem → Option HeadDoubt
 body_doubt item =
     if bytes_eq item.head.method (codes "CONNECT") && is_framed item.body then Some ConnectBody else None
 
+-- all that follows the head is read as the body
+abbrev pub is_raw : BodyKind → Bool
+is_raw kind.Raw = true
+is_raw _ = false
+
+-- zeros alone
+abbrev pub is_zero : List ℕ → Bool
+is_zero text = list_all (λ b. b == 48) text
+
+-- each line states a length of 0
+abbrev pub are_zero : List FieldValue → Bool
+are_zero lengths = list_all (λ value. is_zero value.bytes) lengths
+
+-- a GET that states no length above 0
+abbrev pub has_no_body : RequestHead → Bool
+has_no_body head = bytes_eq head.method (codes "GET") && are_zero (values head (codes "content-length"))
+
+-- All that follows is read as the body of a request that asks for a WebSocket. That fits a GET without a body alone: a stated
+-- length counts also there, and no other method asks for a WebSocket (RFC 9112, section 6.3; RFC 6455, section 4.1).
+abbrev pub upgrade_body_doubt : HeadItem → Option HeadDoubt
+upgrade_body_doubt item =
+    if is_raw item.body && not (has_no_body item.head) then Some UpgradeBody else None
+
 -- an Upgrade counts in HTTP/1.1 alone, and only where Connection lists the option upgrade (RFC 9110, section 7.8)
-abbrev pub upgrade_doubt : RequestHead → Option HeadDoubt
-upgrade_doubt head =
-    if not (lists (codes "websocket") (values head (codes "upgrade"))) then None
-    else (if is_below_http11 head.version then Some UpgradeVersion
-    else (if lists (codes "upgrade") (values head (codes "connection")) then None else Some UpgradeOption))
+abbrev pub option_doubt : RequestHead → Option HeadDoubt
+option_doubt head =
+    if is_below_http11 head.version then Some UpgradeVersion
+    else (if lists (codes "upgrade") (values head (codes "connection")) then None else Some UpgradeOption)
 
 abbrev pub is_close : ConnectionType → Bool
 is_close type.Close = true
@@ -101,13 +129,19 @@ abbrev pub or_else : Option HeadDoubt → Option HeadDoubt → Option HeadDoubt
 or_else (Some doubt) other = Some doubt
 or_else None other = other
 
+-- the doubt about a WebSocket, where one is asked for
+abbrev pub upgrade_doubt : HeadItem → Option HeadDoubt
+upgrade_doubt item =
+    if lists (codes "websocket") (values item.head (codes "upgrade"))
+    then or_else (option_doubt item.head) (upgrade_body_doubt item) else None
+
 -- the first doubt about a head: its Host, its target, its body, its upgrade, its Connection
 abbrev pub first_doubt : HeadItem → Option HeadDoubt
 first_doubt item =
     or_else (host_doubt item.head)
     (or_else (target_doubt item)
     (or_else (body_doubt item)
-    (or_else (upgrade_doubt item.head)
+    (or_else (upgrade_doubt item)
     (connection_doubt item.head))))
 
 -- nothing, or the doubt

@@ -1,13 +1,14 @@
 //! The judgement of a head.
-ghost use Rattle.std.specs.Prelude.{◌≡◌, is_some};
+ghost use Rattle.std.specs.Prelude.{◌≡◌};
 ghost use Rattle.http_uri.specs.Uri.{uri_scheme, uri_authority};
-ghost use Rattle.h1_judge.specs.Judgement.{judgement, first_doubt, host_doubt, value_doubt, target_doubt, body_doubt, upgrade_doubt, connection_doubt, fits_authority, fits_method, is_framed};
+ghost use Rattle.h1_judge.specs.Judgement.{judgement, first_doubt, host_doubt, value_doubt, target_doubt, body_doubt, option_doubt, upgrade_doubt, upgrade_body_doubt, has_no_body, connection_doubt, fits_authority, is_absolute, fits_method, is_framed, is_raw, is_zero, are_zero};
 
 use crate::doubt::HeadDoubt;
 use crate::host::{has_byte, has_port, is_host};
 use crate::options::lists;
 use h1_decode::{BodyKind, HeadItem};
-use http_types::header::{CONNECTION, HOST, UPGRADE};
+use http_header::HeaderValue;
+use http_types::header::{CONNECTION, CONTENT_LENGTH, HOST, UPGRADE};
 use http_types::{ConnectionType, RequestHead, Uri, Version};
 
 /// The first doubt about a head that was read, in the order of `HeadDoubt`. It takes no memory, and looks at each byte of
@@ -33,7 +34,7 @@ fn doubt_of(item: &HeadItem) -> Option<HeadDoubt>
     if let Some(doubt) = body_doubt(item) {
         return Some(doubt);
     }
-    if let Some(doubt) = upgrade_doubt(&item.head) {
+    if let Some(doubt) = upgrade_doubt(item) {
         return Some(doubt);
     }
     connection_doubt(&item.head)
@@ -75,24 +76,25 @@ fn target_doubt(item: &HeadItem) -> Option<HeadDoubt>
     ensures { result ≡ target_doubt item.now }
 {
     let method = item.head.method.as_str();
-    if fits_method(method, item.target.as_slice(), has_scheme(&item.head.uri)) {
+    if fits_method(method, item.target.as_slice(), is_absolute(&item.head.uri)) {
         None
     } else {
         Some(HeadDoubt::TargetForm)
     }
 }
 
-fn has_scheme(uri: &Uri) -> bool
-    ensures { result ≡ is_some (uri_scheme uri.now) }
+fn is_absolute(uri: &Uri) -> bool
+    ensures { result ≡ is_absolute (uri_scheme uri.now) (uri_authority uri.now) }
 {
-    match uri.scheme_str() {
-        Some(_) => true,
-        None => false,
+    match (uri.scheme_str(), uri.authority()) {
+        (None, _) => false,
+        (Some(_), None) => true,
+        (Some(_), Some(authority)) => authority.as_str().as_bytes().first() != Some(&b':'),
     }
 }
 
-fn fits_method(method: &str, target: &[u8], has_scheme: bool) -> bool
-    ensures { result ≡ fits_method method.now target.now has_scheme }
+fn fits_method(method: &str, target: &[u8], is_uri: bool) -> bool
+    ensures { result ≡ fits_method method.now target.now is_uri }
 {
     if has_byte(target, b'#') {
         false
@@ -101,7 +103,7 @@ fn fits_method(method: &str, target: &[u8], has_scheme: bool) -> bool
     } else if target == b"*".as_slice() {
         method == "OPTIONS"
     } else {
-        target.first() == Some(&b'/') || has_scheme
+        target.first() == Some(&b'/') || is_uri
     }
 }
 
@@ -121,12 +123,70 @@ fn is_framed(body: BodyKind) -> bool
     matches!(body, BodyKind::Length(_) | BodyKind::Chunked)
 }
 
-fn upgrade_doubt(head: &RequestHead) -> Option<HeadDoubt>
-    ensures { result ≡ upgrade_doubt head.now }
+fn upgrade_doubt(item: &HeadItem) -> Option<HeadDoubt>
+    ensures { result ≡ upgrade_doubt item.now }
 {
-    if !lists(head.headers.get_all(UPGRADE).as_slice(), b"websocket") {
+    if !lists(item.head.headers.get_all(UPGRADE).as_slice(), b"websocket") {
+        return None;
+    }
+    if let Some(doubt) = option_doubt(&item.head) {
+        return Some(doubt);
+    }
+    upgrade_body_doubt(item)
+}
+
+fn upgrade_body_doubt(item: &HeadItem) -> Option<HeadDoubt>
+    ensures { result ≡ upgrade_body_doubt item.now }
+{
+    if is_raw(item.body) && !has_no_body(&item.head) {
+        Some(HeadDoubt::UpgradeBody)
+    } else {
         None
-    } else if head.version < Version::HTTP_11 {
+    }
+}
+
+fn has_no_body(head: &RequestHead) -> bool
+    ensures { result ≡ has_no_body head.now }
+{
+    head.method.as_str() == "GET" && are_zero(head.headers.get_all(CONTENT_LENGTH).as_slice())
+}
+
+fn is_raw(body: BodyKind) -> bool
+    ensures { result ≡ is_raw body }
+{
+    matches!(body, BodyKind::Raw)
+}
+
+fn are_zero(lengths: &[HeaderValue]) -> bool
+    ensures { result ≡ are_zero lengths.now }
+{
+    let mut rest = lengths;
+    while let Some((length, tail)) = rest.split_first() {
+        if !is_zero(length.as_bytes()) {
+            return false;
+        }
+        rest = tail;
+    }
+    true
+}
+
+fn is_zero(text: &[u8]) -> bool
+    ensures { result ≡ is_zero text.now }
+{
+    let mut rest = text;
+    while let Some((byte, tail)) = rest.split_first() {
+        if *byte != b'0' {
+            return false;
+        }
+        rest = tail;
+    }
+    true
+}
+
+fn option_doubt(head: &RequestHead) -> Option<HeadDoubt>
+    ensures { result ≡ option_doubt head.now }
+{
+    if head.version < Version::HTTP_11 {
         Some(HeadDoubt::UpgradeVersion)
     } else if lists(head.headers.get_all(CONNECTION).as_slice(), b"upgrade") {
         None

@@ -24,7 +24,7 @@ pub enum HeadDoubt {
     #[error("Host is other than the target's (RFC 9112, section 3.2)")]
     HostOther,
 
-    /// A target whose form doesn't fit its method, or that has a fragment.
+    /// A target whose form doesn't fit its method, that names no host where it has an authority, or that has a fragment.
     #[error("the target's form doesn't fit the method (RFC 9112, section 3.2)")]
     TargetForm,
 
@@ -39,6 +39,11 @@ pub enum HeadDoubt {
     /// A WebSocket that is asked for, and no Connection line lists `upgrade`.
     #[error("an upgrade that Connection doesn't list (RFC 9110, section 7.8)")]
     UpgradeOption,
+
+    /// A WebSocket is asked for by another method than GET, or with a length above 0, so that what is read as its body
+    /// isn't what other readers take for it.
+    #[error("a body with an upgrade (RFC 9112, section 6.3)")]
+    UpgradeBody,
 
     /// A Connection line lists `close`, and the connection isn't taken to close: the word is one of several, or not
     /// on the last line.

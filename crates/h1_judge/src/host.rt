@@ -3,13 +3,14 @@ ghost use Rattle.std.specs.Prelude.{◌≡◌, ◌==◌};
 ghost use Rattle.std.specs.List.{list_any};
 ghost use Rattle.h1_judge.specs.Host.{is_mark, is_name_byte, begins_with_hex, is_port, is_named_host, is_address_byte, is_port_part, is_address_host, is_bracketed, is_host, has_port};
 
-/// Whether the text is a host, with or without a port.
+/// Whether the text is a host, with or without a port, and no port alone.
 pub(crate) fn is_host(text: &[u8]) -> bool
     ensures { result ≡ is_host text.now }
 {
     match text.split_first() {
         None => true,
         Some((b'[', rest)) => is_bracketed(rest),
+        Some((b':', _)) => false,
         Some(_) => is_named_host(text),
     }
 }

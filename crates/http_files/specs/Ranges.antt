@@ -2,7 +2,6 @@
 use Rattle.std.specs.Prelude.{ℕ, ◌+◌, ◌*◌, ◌-◌, ◌^◌, min, List, [], ◌∷◌, length, drop, Bool, ◌&&◌, ◌||◌, ◌==◌, not, Option, Some, None, if◌then◌else◌, nat_lt, nat_eq, codes}
 use Rattle.std.specs.Char.{is_ascii_digit}
 use Rattle.std.specs.List.{list_all, starts_with, position_or_len, before_first, after_first}
-use Rattle.std.specs.Str.{trim}
 use Rattle.http_files.specs.declared.ranges.Asked.{Asked}
 use Rattle.http_files.specs.declared.ranges.Asked.TheVariants.{Whole, Part, Unsatisfiable}
 
@@ -13,10 +12,11 @@ from_first first None length = if nat_lt first length then Part first (length - 
 from_first first (Some last) length =
     if nat_lt last first then Whole else (if nat_lt first length then Part first (min last (length - 1)) else Unsatisfiable)
 
--- so many of the last bytes, and all of them where there are fewer
+-- So many of the last bytes, and all of them where there are fewer. None can't be given; of an empty file some can, which is
+-- all of it.
 abbrev pub last_bytes : ℕ → ℕ → Asked
 last_bytes count length =
-    if nat_lt 0 (min count length) then Part (length - min count length) (length - 1) else Unsatisfiable
+    if count == 0 then Unsatisfiable else (if length == 0 then Whole else Part (length - min count length) (length - 1))
 
 abbrev pub asked_of : Option ℕ → Option ℕ → ℕ → Asked
 asked_of (Some first) last length = from_first first last length
@@ -45,10 +45,10 @@ asked_by first last size =
 abbrev pub is_dash : ℕ → Bool
 is_dash b = b == 45
 
--- what stands before the first dash and behind it, each without white space around it
+-- what stands before the first dash and after it, where white space has no place
 abbrev pub asked_in : List ℕ → ℕ → Asked
 asked_in spec size =
-    if nat_lt (position_or_len is_dash spec) (length spec) then asked_by (trim (before_first is_dash spec)) (trim (after_first is_dash spec)) size else Whole
+    if nat_lt (position_or_len is_dash spec) (length spec) then asked_by (before_first is_dash spec) (after_first is_dash spec) size else Whole
 
 -- what a `Range` asks for, whose unit are bytes
 abbrev pub range_of : List ℕ → ℕ → Asked

@@ -4,14 +4,14 @@
 //! # Example
 //!
 //! ```ignore
-//! let folder = Folder::new(path)?; // It isn't empty.
+//! let Some(folder) = Folder::new(path) else { return }; // The path is empty.
 //! let file = folder.file(alloc, "/a%20b/../c")?; // PathError::Outside
-//! let asked = asked_range("bytes=0-99", 1000); // Asked::Part { first: 0, last: 99 }
+//! let asked = asked_range("bytes=0-99", 1000); // Asked::Part(0, 99)
 //! ```
 //!
 //! # Contract
 //!
-//! A path is the folder's, and then plain names: no `..`, no NUL. A range is the one that RFC 7233 gives.
+//! A path is the folder's, and then plain names: no `..`, no NUL. A range is one of bytes, as RFC 7233 has it.
 #![tactic(auto)]
 
 mod conditions;

@@ -1,7 +1,7 @@
 //! The place that a client is sent to.
-ghost use Rattle.std.specs.Prelude.{◌≡◌, ◌++◌, ◌⊎◌, Contains, IfOk, IfErr, IsOk, OnOk};
+ghost use Rattle.std.specs.Prelude.{◌≡◌, ◌++◌, ◌⊎◌, true, false, IfOk, IfErr, OnOk};
 ghost use Rattle.std.specs.String.{string_bytes};
-ghost use Rattle.http_files.specs.Places.{folder_place, query_text};
+ghost use Rattle.http_files.specs.Places.{folder_place, is_unsafe, has_unsafe, query_text};
 ghost use Rattle.http_files.specs.declared.error.PathError.TheVariants as path_error;
 
 use crate::PathError;
@@ -9,15 +9,16 @@ use std::alloc::Global;
 
 /// The place of a folder, to which the client is sent that asked for it without a slash at its end (RFC 7231, section
 /// 7.1.2): its path with one slash at the front, so that it names no other host (RFC 3986, section 4.2), and with one at
-/// the end, and then the query.
+/// the end, and then the query. A target that ends with a slash gets one more, so who has one needs no place.
 ///
-/// `Malformed` where the target has a backslash, which some clients take for a slash, and `NoMemory`.
+/// `Malformed` where the target has a backslash, which some clients take for a slash, or a control byte, which some leave
+/// out, and `NoMemory`.
 pub fn place_of(alloc: Global, target: &str, query: Option<&str>) -> Result<String, PathError>
     ensures ok { IfOk result (λ place. string_bytes place ≡ folder_place target.now ++ query_text query.entry) }
-    ensures no_backslash { IsOk result → ¬ Contains target.now 92 }
-    ensures err { IfErr result (λ e. (e ≡ path_error.NoMemory) ⊎ ((e ≡ path_error.Malformed) × Contains target.now 92)) }
+    ensures is_safe { OnOk result (has_unsafe target.now ≡ false) }
+    ensures err { IfErr result (λ e. (e ≡ path_error.NoMemory) ⊎ ((e ≡ path_error.Malformed) × (has_unsafe target.now ≡ true))) }
 {
-    if target.as_bytes().contains(&b'\\') {
+    if has_unsafe(target.as_bytes()) {
         return Err(PathError::Malformed);
     }
     let mut place = String::from_str(alloc, "/")?;
@@ -27,6 +28,27 @@ pub fn place_of(alloc: Global, target: &str, query: Option<&str>) -> Result<Stri
     }
     append_query(&mut place, query)?;
     Ok(place)
+}
+
+// Whether there is a backslash or a control byte.
+fn has_unsafe(text: &[u8]) -> bool
+    ensures { result ≡ has_unsafe text.now }
+{
+    let mut rest = text;
+    while let Some((byte, tail)) = rest.split_first() {
+        if is_unsafe(*byte) {
+            return true;
+        }
+        rest = tail;
+    }
+    false
+}
+
+// Whether it is a backslash or a control byte.
+fn is_unsafe(byte: u8) -> bool
+    ensures { result ≡ is_unsafe byte }
+{
+    byte < 32 || byte == b'\\' || byte == 127
 }
 
 // Appends a question mark and a query, where there is one.

@@ -16,7 +16,8 @@ pub enum Asked {
 }
 
 /// Which bytes of a file of this length a `Range` asks for. Of several ranges, of another unit, and of a text that is
-/// none, the whole file is given (RFC 7233, section 3.1). A place of more than 64 bits is the greatest of 64.
+/// none, also of one with white space in it, the whole file is given (RFC 7233, section 3.1); so it is where the last
+/// bytes of an empty file are asked for. A place of more than 64 bits is the greatest of 64.
 pub fn asked_range(value: &str, length: u64) -> Asked
     ensures { result ≡ range_of value.now length }
 {
@@ -31,7 +32,7 @@ fn asked_in(spec: &str, length: u64) -> Asked
     ensures { result ≡ asked_in spec.now length }
 {
     match spec.split_once('-') {
-        Some((first, last)) => asked_by(first.trim(), last.trim(), length),
+        Some((first, last)) => asked_by(first, last, length),
         None => Asked::Whole,
     }
 }
@@ -90,10 +91,11 @@ fn asked_from(first: u64, last: Option<u64>, length: u64) -> Asked
 fn asked_last(count: u64, length: u64) -> Asked
     ensures { result ≡ last_bytes count length }
 {
-    let count = count.min(length);
-    if count > 0 {
-        Asked::Part(length - count, length - 1)
-    } else {
+    if count == 0 {
         Asked::Unsatisfiable
+    } else if length == 0 {
+        Asked::Whole
+    } else {
+        Asked::Part(length - count.min(length), length - 1)
     }
 }

@@ -45,6 +45,7 @@ fn refusal(doubt: HeadDoubt) -> &'static str {
         HeadDoubt::ConnectBody => "400 connect-body",
         HeadDoubt::UpgradeVersion => "400 upgrade-version",
         HeadDoubt::UpgradeOption => "400 upgrade-option",
+        HeadDoubt::UpgradeBody => "400 upgrade-body",
         HeadDoubt::CloseAmongOthers | HeadDoubt::UpgradeAmongOthers => "400",
     }
 }
