@@ -18,8 +18,7 @@
 //! # Contract
 //!
 //! A source and a sink over a socket keep the contracts of `Source` and `Sink`. What a socket gives or takes, no clause
-//! can say. Each call that may wait waits at most as long as its socket was set to, but for `accept`: set it first, by
-//! `prepare` or `TcpWire::set_wait`, since a socket that wasn't set waits without end. A wire, a door and a clock
+//! can say. Each call that may wait waits at most as long as it is told to, but for `accept`. A wire, a door and a clock
 //! keep what their traits say. A gated wire asks for no bytes while its write waits.
 #![tactic(auto)]
 
