@@ -80,14 +80,17 @@ module _ {U Q I E R : Type 0} (reads : U → List ℕ → R → Type 0) (given :
   served Idle settled sent says = (
     says.0,
     says.1,
-    (says.2.0, inl (record {
-      flush = [];
-      need = says.0;
-      last = ([], refl, tt);
-      writing = inl (refl, says.2.3 ∙ sent);
-      queue = still_settled says.2.2 says.2.3 settled;
-      needs = says.2.1;
-    })),
+    (
+      says.2.0,
+      inl (record {
+        flush = [];
+        need = says.0;
+        last = ([], refl, tt);
+        writing = inl (refl, says.2.3 ∙ sent);
+        queue = still_settled says.2.2 says.2.3 settled;
+        needs = says.2.1;
+      }),
+    ),
   )
 
 module _ {U Q I E R : Type 0} (reads : U → List ℕ → R → Type 0) (given : Q → R → R) (nothing : R)

@@ -136,7 +136,7 @@ Ended v w steps (Ok x) = AllContinue steps × (w.unsent ≡ []) × (w.failing �
 Ended v w steps (Err (Service e)) = (EndsWith steps (told e ∷ []) × (w.unsent ≡ [])) ⊎ FlushFailed v w steps (told e ∷ [])
 Ended {U} {Q} {I} {E} v w steps (Err (Encoder e)) =
     (w.failing ≡ None) × (((message : I) × EndsWith steps (unwritten message e ∷ []))
-        ⊎ (((e ≡ protocol.Io) × FlushFailed v w steps []) ⊎ ((e ≡ protocol.NoMemory) × AllContinue steps × (w.calling ≡ true))))
+    ⊎ (((e ≡ protocol.Io) × FlushFailed v w steps []) ⊎ ((e ≡ protocol.NoMemory) × AllContinue steps × (w.calling ≡ true))))
 Ended {U} {Q} {I} {E} v w steps (Err (Decoder e)) =
     (came : List ℕ) × (cause : FramedError ProtocolError) × EndsWith steps (read came (Ready (Some (Err cause))) ∷ []) × (e ≡ read_error cause)
 

@@ -9,7 +9,7 @@ returns-in-Pending-clause-says g c =
     let v = view_of g.T.Wire.wiring g.S.Service.served c.args.self.now in
     let w = view_of g.T.Wire.wiring g.S.Service.served (record c.args.self.now { framed = c.next_item.new.self }) in
     read_pending g.U.Decoder.reads g.U.Decoder.given g.U.Decoder.nothing g.U.Decoder.breaks g.U.Decoder.lacks g.U.Decoder.seen g.U.Decoder.leaves g.U.Encoder.writes v w c.next_item.new.cx
-     c.requires.is_open c.requires.waiting c.requires.calling c.requires.goes_on
+    c.requires.is_open c.requires.waiting c.requires.calling c.requires.goes_on
     c.in-Pending.ensures.says c.next_item.ensures.unsent refl refl refl refl refl refl refl
 
 pub returns-in-Ready-None-clause-says : goal.returns-in-Ready-None-clause-says
