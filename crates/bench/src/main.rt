@@ -5,7 +5,7 @@
 //! `bench map find 32 1000`; or `body`, which exchange with bodies, how many at once, and how many, as in
 //! `bench body echo-length 16 1600`; or `frames`, how many bytes a frame's payload has, and how many frames are echoed, as in
 //! `bench frames 1024 1000`; or `upgraded`, the same through a connection that was upgraded; or `part`, which part
-//! beside a connection (`stream`, `queue` or `board`), and how many times, as in `bench part queue 1000`. It prints a
+//! beside a connection (`stream` or `queue`), and how many times, as in `bench part queue 1000`. It prints a
 //! checksum of all that came, so that none of the work can be left out. Without words it does a little of each.
 #![tactic(auto)]
 

@@ -1,16 +1,12 @@
-//! What the parts beside a connection cost: a stream's body, the queue of a request's body, and a shared board.
-ghost use Rattle.std.specs.Prelude.{◌≡◌};
+//! What the parts beside a connection cost: a stream's body, and the queue of a request's body.
 
 use crate::checksum::Checksum;
 use crate::error::BenchError;
 use bytes::Bytes;
 use futures::task::{Context, Doorbell, Poll, Solo};
-use h1_share::{Board, Command, MAX_ENTRIES, Name, Pass};
 use http_services::{BodyFault, BodyStream, Counted, MessageBody, PlainStream, h1};
 use std::alloc::{AllocGlobal, Global};
-use std::marker::Brand;
 use std::random::RandomSource;
-use std::sync::ledger::{Blank, Ledger};
 
 /// How many pieces a stream gives.
 const PIECES: u32 = 64;
@@ -19,7 +15,7 @@ const PIECES: u32 = 64;
 const PIECE: &[u8] = b"a piece of a body";
 
 /// Every part, in the table's order.
-pub static PARTS: [Part; 3] = [Part::Stream, Part::Queue, Part::Board];
+pub static PARTS: [Part; 2] = [Part::Stream, Part::Queue];
 
 /// A part that is measured.
 #[derive(Clone, Copy, Debug, PartialEq, Eq)]
@@ -29,9 +25,6 @@ pub enum Part {
 
     /// A chunk is fed to the queue of a request's body, and pulled.
     Queue,
-
-    /// One is added to a counter of a board.
-    Board,
 }
 
 impl Part {
@@ -45,7 +38,6 @@ impl Part {
         match self {
             Part::Stream => "stream",
             Part::Queue => "queue",
-            Part::Board => "board",
         }
     }
 
@@ -61,7 +53,6 @@ impl Part {
                 let task = Solo::new(rt, Doorbell::spinning()).map_err(|_| BenchError::NoTask)?;
                 fed_queue(alloc, &task, times)
             }
-            Part::Board => added::<Brand>(alloc, Blank::new(65_536), times),
         }
     }
 }
@@ -130,44 +121,4 @@ fn pulled(task: &Solo, queue: &mut h1::Payload) -> Result<Bytes, BenchError> {
         Poll::Ready(Some(Ok(chunk))) => Ok(chunk),
         _ => Err(BenchError::NoBody),
     }
-}
-
-// Adds to one counter, by a pass for each 1,048,576 times.
-fn added<M: Ledger>(alloc: Global, blank: Blank, times: u64) -> Result<u64, BenchError>
-    requires is_its_ledger { (blank.name ≡ M.name) × (blank.parts ≡ M.parts) }
-    requires has_a_part_for_each_pass { M.parts ≡ 65536 }
-{
-    let name = Name::new(b"visits").map_err(|_| BenchError::NoLine)?;
-    let mut board = Board::<M>::new(alloc, blank);
-    let mut checksum = Checksum::new();
-    let entries = MAX_ENTRIES as u64;
-    for _ in 0..=times / entries {
-        let mut pass = board.pass().map_err(|_| BenchError::NoMemory)?;
-        let added = add_by(
-            &mut board,
-            &mut pass,
-            &name,
-            times.min(entries),
-            &mut checksum,
-        );
-        board.retire(pass);
-        added?;
-    }
-    Ok(checksum.sum())
-}
-
-fn add_by<M: Ledger>(
-    board: &mut Board<M>,
-    pass: &mut Pass<M>,
-    name: &Name,
-    times: u64,
-    checksum: &mut Checksum,
-) -> Result<(), BenchError> {
-    for _ in 0..times {
-        let reply = board
-            .call(pass, Command::Add(*name))
-            .map_err(|_| BenchError::NoMemory)?;
-        checksum.add(reply.0 as usize);
-    }
-    Ok(())
 }
