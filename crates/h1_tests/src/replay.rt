@@ -128,7 +128,7 @@ static BAD_LINES: [&str; 22] = [
     "write -1",
     "pull 1",
     "chunk",
-    "accept",
+    "accept x",
     "answer 99 0 -",
     "answer 200 0",
     "answer 200 0 cc",
