@@ -1,4 +1,3 @@
-pub mod LineFeeds
 pub mod HeadText
 pub mod WrittenHead
 pub mod SentBodies

@@ -16,7 +16,7 @@ use Rattle.h1_client_model.specs.AnswerParse.{Received, AnswerMessage, IsAnswerA
 use Rattle.h1_client_model.proofs.AnswerGrowth.{received}
 use Rattle.h1_client_model.proofs.AnswerLemmas.{answers_unique}
 use Rattle.h1_agreement.specs.SentAnswer.{SentAnswer, IsSent, AreSent, AreHeld, sent_text, stop_of, AreTo, IsReadAs, AreReadAs}
-use Rattle.h1_agreement.proofs.LineFeeds.{feeds, feeds-response}
+use Rattle.h1_model.proofs.LineFeeds.{feeds, feeds-response}
 use Rattle.h1_agreement.proofs.HeadText.{response_is_piece}
 use Rattle.h1_agreement.proofs.SentBodies.{Stands, sent_stands}
 

@@ -14,7 +14,7 @@ use Rattle.h1_model.proofs.BodyLemmas.{input}
 use Rattle.h1_model.proofs.MessageLemmas.{messages_unique}
 use Rattle.h1_agreement.specs.SentAnswer.{IsBodyText}
 use Rattle.h1_agreement.specs.SentRequest.{SentRequest, IsAsked, asked_text, IsServedAs, AreServedAs}
-use Rattle.h1_agreement.proofs.LineFeeds.{feeds, feeds-head}
+use Rattle.h1_model.proofs.LineFeeds.{feeds, feeds-head}
 use Rattle.h1_agreement.proofs.HeadText.{request_is_piece}
 use Rattle.h1_agreement.proofs.SentBodies.{Stands, sent_stands}
 use Rattle.h1_agreement.proofs.SentAnswers.{no_head}

@@ -24,7 +24,7 @@ use Rattle.h1_decode.specs.Lines.{HasName, HasValue, line_header}
 use Rattle.h1_decode.specs.Refusal.{UnlessNoMemory, fault_of}
 use Rattle.h1_decode.specs.ResponseItem.{SaysAnswer}
 use Rattle.h1_decode.specs.WholeHead.{IsOfGrammar}
-use Rattle.h1_decode.proofs.FeedLemmas.{few_answer_fields}
+use Rattle.h1_model.proofs.LineFeeds.{few_answer_fields}
 use Rattle.h1_decode.proofs.LaxCopyLemmas.{lines_of_copy}
 use Rattle.h1_decode.proofs.ReadingLemmas.{values_of_fields, line_headers, fields_named, names_of_fields}
 

@@ -10,7 +10,7 @@ use Rattle.httparse.specs.Grammar.{is_ows, skip_ows}
 use Rattle.h1_model.specs.HeadPiece.{header_lines}
 use Rattle.h1_client_model.specs.LaxText.{without_blanks, unpadded_line, unpadded_lines, unpadded}
 use Rattle.h1_decode.specs.LaxCopy.{is_name_byte, Copying, copy_with}
-use Rattle.h1_decode.proofs.FeedLemmas.{is_feed, feeds, feeds-append}
+use Rattle.h1_model.proofs.LineFeeds.{is_feed, feeds, feeds-append}
 
 -- ---- a line
 

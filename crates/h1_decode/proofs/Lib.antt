@@ -2,7 +2,6 @@ pub mod AnswerKindLemmas
 pub mod AnswerReadingLemmas
 pub mod BodyKindLemmas
 pub mod ConnectionLemmas
-pub mod FeedLemmas
 pub mod FramingLemmas
 pub mod FrontLemmas
 pub mod GrammarErrors

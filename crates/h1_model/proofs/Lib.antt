@@ -2,6 +2,8 @@ pub mod SearchLemmas
 pub mod BlankLemmas
 pub mod HeadPieceLemmas
 pub mod ReadingLemmas
+pub mod LineFeeds
+pub mod HeadEnds
 pub mod FrameLemmas
 pub mod FrameSizes
 pub mod FrameWritten

@@ -1,5 +1,5 @@
 use Rattle.std.proofs.Common.{refl, arith}
-use Rattle.h1_decode.proofs.FeedLemmas.{header_lines-fields}
+use Rattle.h1_model.proofs.LineFeeds.{header_lines-fields}
 use Rattle.h1_decode.proofs.decoder.has_few_lines.Goals as goal
 
 pub returns-in-None : goal.returns-in-None

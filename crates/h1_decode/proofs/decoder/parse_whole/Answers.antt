@@ -1,7 +1,7 @@
 use Rattle.std.proofs.Common.{◌≡◌, ℕ, ◌≤◌, List, [], length, sym, ap, ◌∙◌, append-nil, arith}
 use Rattle.http_types.specs.declared.error.ParseError.TheVariants.{Header}
 use Rattle.httparse.specs.Grammar.{RequestHead, print_request, ReadsRequest}
-use Rattle.h1_decode.proofs.FeedLemmas.{few_fields}
+use Rattle.h1_model.proofs.LineFeeds.{few_fields}
 use Rattle.h1_decode.proofs.GrammarErrors.{refuses_grammar}
 use Rattle.h1_decode.proofs.decoder.parse_whole.Goals as goal
 
