@@ -81,6 +81,7 @@ impl ReceivedFrame {
     }
 
     /// A frame that says the same. Its bytes are shared, not copied, but for a text.
+    #[tactic(auto, using(crate::proofs::NamedLemmas::copy_named))]
     pub fn copy(&self) -> Result<ReceivedFrame, NoMemory>
         ensures { IfOk result (λ copy. copy ≡ self.now) }
     {
