@@ -17,4 +17,5 @@ pub mod InputLemmas
 pub mod ClosingLemmas
 pub mod CutLemmas
 pub mod FrameLemmas
+pub mod NamedLemmas
 pub mod FrontLemmas

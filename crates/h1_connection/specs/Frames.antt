@@ -1,5 +1,5 @@
 -- What a WebSocket gives, and what is sent on it.
-use Rattle.std.specs.Prelude.{◌≡◌, ℕ, Bool, true, false, ◌||◌, List, Option, Some, None, is_some}
+use Rattle.std.specs.Prelude.{◌≡◌, ℕ, Bool, true, false, ◌||◌, List, Option, Some, None, is_some, ⊤}
 use Rattle.h1_model.specs.Frame.{Message, frame, nop}
 use Rattle.h1_model.specs.FrameText.{send_error}
 use Rattle.h1_model.specs.End as ends
@@ -52,6 +52,12 @@ abbrev pub SaysFrame : PulledFrame → on.Outcome → Type 0
 SaysFrame (pulled.Frame given) out = (out ≡ on.frame (frame_says given)) × IsNamed given
 SaysFrame (pulled.Protocol error) out = SaysRule error out
 SaysFrame pulled.Pending out = out ≡ on.pending
+
+-- a Close that it gives has the code that its number names
+abbrev pub IsPulledNamed : PulledFrame → Type 0
+IsPulledNamed (pulled.Frame given) = IsNamed given
+IsPulledNamed (pulled.Protocol error) = ⊤
+IsPulledNamed pulled.Pending = ⊤
 
 -- the end that it brings
 abbrev pub frame_end : PulledFrame → Option ends.End

@@ -1,7 +1,7 @@
 //! One connection: what it keeps between two events, and its answer to each.
-ghost use Rattle.std.specs.Prelude.{◌≡◌, ◌≢◌, ◌<◌, ◌≤◌, ◌↔◌, ◌++◌, ℕ, List, [], true, false, length, take, min, option_map, unwrap_or, IsTrue, IfOk, IfErr, IsOk, OnOk, OnErr, IsErrOf};
+ghost use Rattle.std.specs.Prelude.{◌≡◌, ◌≢◌, ◌<◌, ◌≤◌, ◌↔◌, ◌++◌, ℕ, List, [], true, false, length, take, drop, min, option_map, unwrap_or, IsTrue, IfOk, IfErr, IsOk, OnOk, OnErr, IsErrOf};
 ghost use Rattle.std.specs.Io.KnownBytes.{Consumes, Keeps, IsAtEnd};
-ghost use Rattle.http_config.specs.Causes.{Rose};
+ghost use Rattle.http_config.specs.Causes.{Rose, counted, IsAsked};
 ghost use Rattle.h1_codec.specs.Meaning.{answer_of, size_of};
 ghost use Rattle.h1_model.specs.Answer.{AnswerHead, is_at_once};
 ghost use Rattle.h1_model.specs.Answer as answers;
@@ -16,7 +16,7 @@ ghost use Rattle.h1_payload.specs.Rests.{SaysPulled};
 ghost use Rattle.h1_connection.specs.Meaning.{setting_of, event_of, end_of};
 ghost use Rattle.h1_connection.specs.Heads.{SaysNext, NeedsNoMemory, with_head, KeepsItem, LosesAtMostHeaders};
 ghost use Rattle.ws_frames.specs.Sent.{message_says};
-ghost use Rattle.h1_connection.specs.Frames.{accepted_of, is_done, is_refused, SaysFrame, SaysSent, sends_nothing};
+ghost use Rattle.h1_connection.specs.Frames.{accepted_of, is_done, is_refused, SaysFrame, IsPulledNamed, SaysSent, sends_nothing};
 ghost use Rattle.h1_connection.specs.Pulls.{IsLightPull};
 ghost use Rattle.h1_connection.specs.Unsent.{SendsNoPiece, SendsNoEnd};
 ghost use Rattle.h1_connection.specs.Ticks.{expiry_of, IsQuietTick};
@@ -61,13 +61,13 @@ mod show;
 mod steps;
 mod ticks;
 
-/// The most bytes that one read from a source asks for. The memory of what is read is taken in blocks of so many bytes.
+/// The most bytes that one read from a source asks for. The memory of what is read is taken in blocks of this size.
 pub const READ_SIZE: usize = 8192;
 
 /// The server's side of one HTTP/1 connection (RFC 7230), which reads nothing and writes nothing itself.
 ///
 /// Each event has a call of its own, which may be made where `allowed` says so. What it answers is what the tables
-/// over all that happened say. After an error, which is want of memory but for a source's, all is as before.
+/// over all that happened say. After an error all is as before: memory ran out, or a source failed or found no room.
 ///
 /// A clause sees it as its settings and what the machine keeps.
 #[derive(Drop)]
@@ -151,7 +151,8 @@ impl Connection {
     /// as many may be held. 0 says that the source has ended, and changes nothing: `eof` tells it to the connection.
     ///
     /// `ReadFromError::Full` comes where as many bytes are held as may be, `Failed` where the source failed, and else
-    /// `NoMemory`. The source was asked where it failed alone.
+    /// `NoMemory`. After `Full` and `NoMemory` the source wasn't asked. `Failed` passes on the one fault that the source
+    /// counted; where the read succeeds, it counted none.
     pub fn read_from<S: Source>(&mut self, source: &mut S) -> Result<usize, ReadFromError>
         requires can_read { IsAllowed self.old (on.read []) }
         ensures stands { IfOk result (λ count. (bytes : List ℕ) × (length bytes ≡ count) × Consumes (S.left source.old) (S.left source.new) bytes
@@ -164,6 +165,10 @@ impl Connection {
         ensures left { IsErrOf result ReadFromError.Failed → Keeps (S.left source.old) (S.left source.new) }
         ensures unasked { IfErr result (λ e. e ≢ ReadFromError.Failed → source.new ≡ source.old) }
         ensures faults { S.faults source.old ≤ S.faults source.new }
+        ensures quiet { OnOk result (S.faults source.new ≡ S.faults source.old) }
+        ensures fault { IsErrOf result ReadFromError.Failed → S.faults source.new ≡ counted (S.faults source.old) }
+        ensures asked { OnOk result (IsAsked (S.calls source.old) (S.calls source.new)) }
+        ensures failed_asked { IsErrOf result ReadFromError.Failed → IsAsked (S.calls source.old) (S.calls source.new) }
         ensures err { OnErr result (self.new ≡ self.old) }
     {
         self.parts.read_from(&self.config, source)
@@ -181,7 +186,7 @@ impl Connection {
     /// Hands out the next request's head, or that the connection has ended. It takes no memory where it closes, and
     /// where no head is there and room for more bytes.
     ///
-    /// Where the connection closes, all that waits to be written is to be written first: behind the end that this tells
+    /// Where the connection closes, all that waits to be written is to be written first: after the end that this tells
     /// nothing may be, so the last answer would be lost. A request that is handed out may be answered.
     pub fn next(&mut self) -> Result<NextHead, NoMemory>
         requires can_next { IsNextAllowed self.old }
@@ -207,8 +212,8 @@ impl Connection {
     }
 
     /// The same, with a head that is written over `item`, whose map keeps its memory, and with room that the caller
-    /// keeps from head to head. Where no head comes, `item` is what it was; but where a head was found and is none, it
-    /// has lost its headers, and after want of memory it may have.
+    /// keeps from head to head. Where no head comes, `item` is what it was; but where a head was found and is
+    /// refused, it has lost its headers, and where memory ran out it may have.
     pub fn next_into(
         &mut self,
         item: &mut HeadItem,
@@ -249,7 +254,7 @@ impl Connection {
     }
 
     /// Accepts that the open request upgrades the connection to WebSocket (RFC 6455, section 4.2): the answer that says so
-    /// is to be written, and what the peer sends is read as frames, of which none has a payload of more than so many
+    /// is to be written, and what the peer sends is read as frames, of which none has a payload of more than `limit`
     /// bytes. A request that fails a check is refused: it stays open, nothing is written, and no memory is taken.
     pub fn accept(&mut self, limit: usize) -> Result<Accepted, NoMemory>
         requires can_accept { IsAllowed self.old (on.accept limit) }
@@ -268,6 +273,7 @@ impl Connection {
     pub fn pull_frame(&mut self) -> Result<PulledFrame, NoMemory>
         requires can_pull_frame { IsFrameAllowed self.old }
         ensures stands { IfOk result (λ answer. GoesOn self.old on.pull (SaysFrame answer) self.new) }
+        ensures named { IfOk result IsPulledNamed }
         ensures settings { self.new.settings ≡ self.old.settings }
         ensures no_memory_needed { IsLightPull self.old.kept → IsOk result }
         ensures err { OnErr result (self.new ≡ self.old) }
@@ -299,8 +305,8 @@ impl Connection {
         self.parts.send_continue(&self.config)
     }
 
-    /// Answers the open request with this head, and with a body of this size. Unless that is none or 0 bytes, the body may
-    /// then be handed in.
+    /// Answers the open request with this head, and with a body of this size. Unless there is no body or it has 0 bytes, it
+    /// may then be handed in.
     pub fn answer(&mut self, head: &ResponseHead, size: BodySize) -> Result<(), NoMemory>
         requires can_answer { IsAllowed self.old (on.answer (answer_of head.now) (size_of size)) }
         ensures stands { OnOk result (GoesOn self.old (on.answer (answer_of head.now) (size_of size)) (Is on.done) self.new) }
@@ -379,7 +385,8 @@ impl Connection {
         self.parts.output.as_slice()
     }
 
-    /// The first bytes of `stretch` were written: the write of so many, whose bytes nobody asks for. It takes no memory.
+    /// The first `count` bytes of `stretch` were written: the write of as many, whose bytes nobody asks for. It takes no
+    /// memory.
     pub fn advance(&mut self, count: usize)
         requires can_write { IsAllowed self.old (on.write count) }
         requires fits { count ≤ length self.old.kept.buffered }
@@ -389,7 +396,7 @@ impl Connection {
         self.parts.advance(&self.config, count)
     }
 
-    /// Gives the first bytes that wait to be written, at most so many. Where there is none it takes no memory.
+    /// Gives the first bytes that wait to be written, at most `limit`. Where no byte waits it takes no memory.
     pub fn write(&mut self, limit: usize) -> Result<Bytes, NoMemory>
         requires can_write { IsAllowed self.old (on.write limit) }
         ensures stands { IfOk result (λ bytes. GoesOn self.old (on.write limit) (Is (on.gave bytes)) self.new) }
@@ -398,6 +405,19 @@ impl Connection {
         ensures err { OnErr result (self.new ≡ self.old) }
     {
         self.parts.give(&self.config, limit)
+    }
+
+    /// Moves the first bytes that wait to be written to the front of `room`, as many as fit, and says how many: the write
+    /// of at most `room.len()` bytes. The rest of `room` stays as it is. It takes no memory.
+    pub fn write_into(&mut self, room: &mut [u8]) -> usize
+        requires can_write { IsAllowed self.old (on.write (length room.old)) }
+        ensures stands { GoesOn self.old (on.write (length room.old)) (Is (on.gave (take (length room.old) self.old.kept.buffered))) self.new }
+        ensures count { result ≡ min (length room.old) (length self.old.kept.buffered) }
+        ensures given { take result room.new ≡ take (length room.old) self.old.kept.buffered }
+        ensures rest { drop result room.new ≡ drop result room.old }
+        ensures settings { self.new.settings ≡ self.old.settings }
+    {
+        self.parts.write_into(&self.config, room)
     }
 
     /// A moment has come, in milliseconds after the start of 1970. Memory is taken only where the first head didn't
@@ -412,7 +432,8 @@ impl Connection {
         self.parts.tick(&self.config, moment)
     }
 
-    /// The connection is to end once no request is open. It takes no memory.
+    /// The connection is to end once no request is open. One that was upgraded to WebSocket drains at once. It takes no
+    /// memory.
     pub fn drain(&mut self)
         requires can_drain { IsAllowed self.old on.drain }
         ensures stands { GoesOn self.old on.drain (Is on.done) self.new }

@@ -48,7 +48,7 @@ pub enum Event {
     /// The time is this many milliseconds after the start of 1970.
     Tick(u64),
 
-    /// No further request is to be served.
+    /// No further request is to be served. A connection that was upgraded to WebSocket drains at once.
     Drain,
 
     /// The open request is to upgrade the connection to WebSocket, with payloads of at most this many bytes
@@ -86,10 +86,10 @@ pub enum Outcome {
     /// The connection has ended, for this reason. No event is allowed any more.
     Closed(End),
 
-    /// The next head is not one of a request. An answer that says so is to be written, and the connection ends.
+    /// The next head isn't that of a request. An answer that says so is to be written, and the connection ends.
     Fault(HeadFault),
 
-    /// The request's body is not one.
+    /// The request's body is refused.
     Broken(PayloadError),
 
     /// A frame or a message breaks this rule of WebSocket. The connection ends.
@@ -98,7 +98,7 @@ pub enum Outcome {
     /// The open request fails this check, so it can't upgrade the connection. It stays open.
     Refused(HandshakeError),
 
-    /// These bytes are to be written to the peer, behind those given before.
+    /// These bytes are to be written to the peer, after those given before.
     Gave(Bytes),
 
     /// A time has run out, and the connection ends for this reason.
@@ -158,19 +158,20 @@ pub enum End {
     /// The last answer said that it is the last.
     Asked,
 
-    /// The request's body that was to be passed over is not one.
+    /// The request's body that was to be passed over is broken.
     BrokenBody,
 
     /// The answer was complete before all of the request's body had come.
     UnreadBody,
 
-    /// The connection was drained, and no request is open.
+    /// The connection was drained, and no request is open or it was upgraded to WebSocket: then it drains at once.
     Drained,
 
     /// The peer sends no more bytes, and half-closed connections are not kept.
     HalfClosed,
 
-    /// The peer sends no more bytes, and every whole request was handed out and answered.
+    /// The peer sends no more bytes, and every whole request was handed out and answered. Where the connection was
+    /// upgraded to WebSocket, every whole frame was handed out.
     InputEnded,
 }
 

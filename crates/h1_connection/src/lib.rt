@@ -19,18 +19,18 @@
 //! ```
 //!
 //! Each event has a call of its own, and a question that says whether it may come; what the call before has given needn't
-//! be asked for. Before a connection that closes is asked for its next head, all that waits is to be written. `Event` and `Outcome` are the same
-//! as values, for `Connection::step`; `drive` brings a whole list of events to a new connection, and gives the trace of
-//! what came of it.
+//! be asked for. Before a connection that closes is asked for its next head, all that waits is to be written. `Event` and
+//! `Outcome` are the same as values, for `Connection::step`; `drive` brings a whole list of events to a new connection,
+//! and gives the trace of what came of it.
 //!
 //! A request may upgrade the connection to WebSocket (RFC 6455): `accept` does that, and from then on `pull_frame` takes
 //! frames and `send` sends messages.
 //!
 //! # Contract
 //!
-//! A connection stands for the traces of all that happened to it. Behind each of them, a call answers what the tables
-//! over whole traces say, and the connection then stands for the longer trace. Want of memory is the only error of an
-//! event, and changes nothing; what takes no memory says so.
+//! A connection stands for the traces of all that happened to it. After each of them, a call answers what the tables
+//! over whole traces say, and the connection then stands for the longer trace. That memory runs out is the only error of
+//! an event, and changes nothing; what takes no memory says so.
 #![tactic(auto)]
 
 mod boxed;

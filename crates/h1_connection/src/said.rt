@@ -1,6 +1,6 @@
 //! Messages and frames as events and outcomes keep them.
 ghost use Rattle.std.specs.Prelude.{◌≡◌, IfOk};
-ghost use Rattle.ws_frames.specs.Codec.{frame_says};
+ghost use Rattle.ws_frames.specs.Codec.{frame_says, IsNamed};
 ghost use Rattle.ws_frames.specs.Sent.{message_says};
 
 use http_types::NoMemory;
@@ -46,7 +46,7 @@ impl SentMessage {
     }
 }
 
-/// A frame that was received. A clause sees what it says.
+/// A frame that was received. A clause sees what it says. A Close has the code that its number names.
 #[derive(Debug, Drop)]
 pub struct ReceivedFrame {
     frame: Frame,
@@ -54,16 +54,19 @@ pub struct ReceivedFrame {
 
 impl Model for ReceivedFrame {
     ghost use Rattle.h1_model.specs.Frame.{Frame as Said};
-    ghost use Rattle.ws_frames.specs.Codec.{frame_says};
+    ghost use Rattle.ws_frames.specs.Codec.{frame_says, IsNamed};
 
     ghost Value = { Said };
 
     ghost view = { λ f. frame_says f.frame };
+
+    ghost invariant = { λ f. IsNamed f.frame };
 }
 
 impl ReceivedFrame {
     /// The frame.
-    pub fn new(frame: Frame) -> ReceivedFrame
+    pub(crate) fn new(frame: Frame) -> ReceivedFrame
+        requires { IsNamed frame }
         ensures { result ≡ frame_says frame }
     {
         ReceivedFrame { frame }
@@ -71,12 +74,14 @@ impl ReceivedFrame {
 
     /// The frame.
     pub fn get(&self) -> &Frame
-        ensures { frame_says result.now ≡ self.now }
+        ensures says { frame_says result.now ≡ self.now }
+        ensures named { IsNamed result.now }
     {
         &self.frame
     }
 
     /// A frame that says the same. Its bytes are shared, not copied, but for a text.
+    #[tactic(auto, using(crate::proofs::NamedLemmas::copy_named))]
     pub fn copy(&self) -> Result<ReceivedFrame, NoMemory>
         ensures { IfOk result (λ copy. copy ≡ self.now) }
     {

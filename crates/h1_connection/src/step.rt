@@ -3,7 +3,7 @@ ghost use Rattle.std.specs.Prelude.{◌≡◌, IfOk, IsOk, OnErr};
 ghost use Rattle.h1_model.specs.Event as on;
 ghost use Rattle.h1_payload.specs.Rests.{SaysPulled};
 ghost use Rattle.h1_connection.specs.Meaning.{event_of, SaysOutcome};
-ghost use Rattle.h1_connection.specs.Frames.{accepted_of, SaysFrame, SaysSent};
+ghost use Rattle.h1_connection.specs.Frames.{accepted_of, SaysFrame, IsPulledNamed, SaysSent};
 ghost use Rattle.h1_connection.specs.Heads.{SaysNext};
 ghost use Rattle.h1_connection.specs.Pulls.{IsLightPull};
 ghost use Rattle.h1_connection.specs.Ticks.{expiry_of};
@@ -15,7 +15,7 @@ use h1_payload::{BodyFault, Pulled};
 use http_types::NoMemory;
 
 impl Connection {
-    /// Takes in an event that is allowed, and answers it as the tables do. After want of memory the connection is as
+    /// Takes in an event that is allowed, and answers it as the tables do. Where memory runs out, the connection is as
     /// before.
     pub fn step(&mut self, event: &Event) -> Result<Outcome, NoMemory>
         requires allowed { IsAllowed self.old (event_of event.now) }
@@ -130,6 +130,7 @@ fn outcome_of_pull(pulled: Pulled) -> Outcome
 
 // The outcome of a pull on a WebSocket.
 fn outcome_of_frame(pulled: PulledFrame) -> Outcome
+    requires { IsPulledNamed pulled }
     ensures { (out : on.Outcome) → SaysFrame pulled out → SaysOutcome result out }
 {
     match pulled {

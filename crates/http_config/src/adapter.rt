@@ -1,9 +1,9 @@
 //! Any reader as a source, and any writer as a sink.
-ghost use Rattle.std.specs.Prelude.{◌≡◌, ◌<◌, length, IfOk, if◌then◌else◌};
+ghost use Rattle.std.specs.Prelude.{◌≡◌, ◌<◌, None, length, IfOk, if◌then◌else◌};
 ghost use Rattle.std.specs.Result.{is_err};
 ghost use Rattle.std.specs.Io.{ReadsAtMost, WritesAtMost};
 ghost use Rattle.std.specs.Io.KnownBytes.{ReadConsumes, WriteAppends};
-ghost use Rattle.http_config.specs.Causes.{HasCause, counted};
+ghost use Rattle.http_config.specs.Causes.{HasCause, counted, faults_after, IsAsked};
 
 use crate::{Failed, Sink, Source};
 use std::fmt;
@@ -52,7 +52,8 @@ impl<R: Read> Source for ReadSource<R> {
         ensures bound { ReadsAtMost result buf.new }
         ensures bytes { ReadConsumes self.old.left self.new.left result buf.new }
         ensures cause { HasCause self.old.faults self.new.faults result }
-        ensures counts { self.new.faults ≡ (if is_err result then counted self.old.faults else self.old.faults) }
+        ensures fault { self.new.faults ≡ faults_after self.old.faults result }
+        ensures asked { IsAsked None None }
     {
         let result = read_uninterrupted(&mut self.reader, buf);
         if result.is_err() {

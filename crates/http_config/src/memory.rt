@@ -3,7 +3,7 @@ ghost use Rattle.std.specs.Prelude.{◌≡◌, ◌<◌, ◌≤◌, ◌↔◌, �
 ghost use Rattle.std.specs.Result.{is_err};
 ghost use Rattle.std.specs.Io.{ReadsAtMost, WritesAtMost};
 ghost use Rattle.std.specs.Io.KnownBytes.{ReadConsumes, WriteAppends};
-ghost use Rattle.http_config.specs.Causes.{HasCause, counted};
+ghost use Rattle.http_config.specs.Causes.{HasCause, counted, faults_after, IsAsked};
 
 use crate::{Failed, Sink, Source};
 use bytes::Bytes;
@@ -46,10 +46,14 @@ impl Source for MemSource {
 
     ghost faults = { λ s. s.faults };
 
+    ghost calls = { λ s. Some s.calls };
+
     fn read(&mut self, buf: &mut [u8]) -> Result<usize, Failed>
         ensures bound { ReadsAtMost result buf.new }
         ensures bytes { ReadConsumes (Some self.old.left) (Some self.new.left) result buf.new }
         ensures cause { HasCause self.old.faults self.new.faults result }
+        ensures fault { self.new.faults ≡ faults_after self.old.faults result }
+        ensures asked { IsAsked (Some self.old.calls) (Some self.new.calls) }
 
         // Exactly the listed calls fail, and each other one fills as much of `buf` as it can.
         ensures listed { IsErr result ↔ Contains self.old.fail self.old.calls }

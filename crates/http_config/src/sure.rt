@@ -2,7 +2,7 @@
 ghost use Rattle.std.specs.Prelude.{◌≡◌, ◌<◌, ◌⊎◌, ◌++◌, [], Some, None, IfOk, length, min};
 ghost use Rattle.std.specs.Io.{ReadsAtMost, WritesAtMost};
 ghost use Rattle.std.specs.Io.KnownBytes.{ReadConsumes, WriteAppends};
-ghost use Rattle.http_config.specs.Causes.{HasCause};
+ghost use Rattle.http_config.specs.Causes.{HasCause, faults_after, IsAsked};
 
 use crate::memory::move_front;
 use crate::{Failed, Sink, Source};
@@ -42,6 +42,8 @@ impl Source for SureSource {
         ensures bound { ReadsAtMost result buf.new }
         ensures bytes { ReadConsumes (Some self.old) (Some self.new) result buf.new }
         ensures cause { HasCause 0 0 result }
+        ensures fault { 0 ≡ faults_after 0 result }
+        ensures asked { IsAsked None None }
         ensures count { result ≡ Ok (min (length buf.old) (length self.old)) }
     {
         Ok(move_front(&mut self.left, buf))

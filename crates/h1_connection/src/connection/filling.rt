@@ -1,7 +1,7 @@
 // Bytes that are read from a source straight into a buffer.
 ghost use Rattle.std.specs.Prelude.{◌≡◌, ◌<◌, ◌≤◌, ◌++◌, ℕ, List, length, IfOk, OnOk, OnErr, IsErrOf};
 ghost use Rattle.std.specs.Io.KnownBytes.{Consumes, Keeps, IsAtEnd};
-ghost use Rattle.http_config.specs.Causes.{Rose};
+ghost use Rattle.http_config.specs.Causes.{Rose, counted, IsAsked};
 
 use crate::ReadFromError;
 use crate::connection::READ_SIZE;
@@ -38,6 +38,10 @@ pub fn read_behind<S: Source>(
     ensures left { IsErrOf result ReadFromError.Failed → Keeps (S.left source.old) (S.left source.new) }
     ensures unasked { IsErrOf result ReadFromError.NoMemory → source.new ≡ source.old }
     ensures faults { S.faults source.old ≤ S.faults source.new }
+    ensures quiet { OnOk result (S.faults source.new ≡ S.faults source.old) }
+    ensures fault { IsErrOf result ReadFromError.Failed → S.faults source.new ≡ counted (S.faults source.old) }
+    ensures asked { OnOk result (IsAsked (S.calls source.old) (S.calls source.new)) }
+    ensures failed_asked { IsErrOf result ReadFromError.Failed → IsAsked (S.calls source.old) (S.calls source.new) }
     ensures err { OnErr result (bytes.new.items ≡ bytes.old.items) }
 {
     let len = bytes.len();

@@ -10,7 +10,7 @@ ghost use Rattle.ws_frames.specs.Sent.{message_says, sending_after};
 ghost use Rattle.h1_connection.specs.Meaning.{end_of};
 ghost use Rattle.h1_connection.specs.Parts.{kept_of, request_in, key_or_zeros, IsSound, Steps};
 ghost use Rattle.h1_connection.specs.Pulls.{IsLightPull};
-ghost use Rattle.h1_connection.specs.Frames.{accepted_of, is_done, with_frames, is_raw_request, is_refused, SaysFrame, frame_end, IsFrameFrom, IsLightFrame, SaysSent, sends_nothing};
+ghost use Rattle.h1_connection.specs.Frames.{accepted_of, is_done, with_frames, is_raw_request, is_refused, SaysFrame, IsPulledNamed, frame_end, IsFrameFrom, IsLightFrame, SaysSent, sends_nothing};
 
 use crate::End;
 use crate::connection::exchange::Exchange;
@@ -105,6 +105,7 @@ impl Parts {
         requires sound { IsSound config.now self.old }
         requires upgraded { is_upgraded (kept_of self.old) ≡ true }
         ensures ok { IfOk result (λ answer. (out : on.Outcome) × SaysFrame answer out × Steps config.now self.old on.pull out self.new) }
+        ensures named { IfOk result IsPulledNamed }
         ensures sound { OnOk result (IsSound config.now self.new) }
         ensures no_memory_needed { IsLightPull (kept_of self.old) → IsOk result }
         ensures err { OnErr result (self.new ≡ self.old) }

@@ -1,7 +1,7 @@
 // What a connection holds of its input: the bytes that were read and not passed, and the search for a head among them.
 ghost use Rattle.std.specs.Prelude.{◌≡◌, ◌≢◌, ◌≤◌, ◌-◌, ◌++◌, ◌⊎◌, ◌↔◌, ℕ, Bool, List, [], Some, None, length, take, drop, slice_range, min, true, false, is_some, IfOk, IfErr, IsOk, OnOk, OnErr, IsErrOf};
 ghost use Rattle.std.specs.Io.KnownBytes.{Consumes, Keeps, IsAtEnd};
-ghost use Rattle.http_config.specs.Causes.{Rose};
+ghost use Rattle.http_config.specs.Causes.{Rose, counted, IsAsked};
 ghost use Rattle.h1_decode.specs.HeadItem.{SaysHead, without_headers};
 ghost use Rattle.h1_decode.specs.Refusal.{UnlessNoMemory, fault_of};
 ghost use Rattle.h1_decode.specs.HeadPosition.{HasScanned};
@@ -145,6 +145,10 @@ impl Input {
         ensures left { IsErrOf result ReadFromError.Failed → Keeps (S.left source.old) (S.left source.new) }
         ensures unasked { IfErr result (λ e. e ≢ ReadFromError.Failed → source.new ≡ source.old) }
         ensures faults { S.faults source.old ≤ S.faults source.new }
+        ensures quiet { OnOk result (S.faults source.new ≡ S.faults source.old) }
+        ensures fault { IsErrOf result ReadFromError.Failed → S.faults source.new ≡ counted (S.faults source.old) }
+        ensures asked { OnOk result (IsAsked (S.calls source.old) (S.calls source.new)) }
+        ensures failed_asked { IsErrOf result ReadFromError.Failed → IsAsked (S.calls source.old) (S.calls source.new) }
         ensures err { OnErr result (self.new ≡ self.old) }
     {
         let room = limit.saturating_sub(self.head_bytes.len() + self.bytes.len());

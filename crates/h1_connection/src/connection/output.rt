@@ -1,5 +1,5 @@
 // What is to be written to the peer.
-ghost use Rattle.std.specs.Prelude.{◌≡◌, ◌<◌, ◌≤◌, ◌++◌, ◌==◌, Bool, [], length, take, drop, IfOk, OnOk, OnErr, IsOk};
+ghost use Rattle.std.specs.Prelude.{◌≡◌, ◌<◌, ◌≤◌, ◌++◌, ◌==◌, Bool, [], length, take, drop, min, IfOk, OnOk, OnErr, IsOk};
 ghost use Rattle.h1_codec.specs.Meaning.{answer_of, size_of, model_type, model_shape};
 ghost use Rattle.h1_model.specs.Limits.{MAX_MOMENT};
 ghost use Rattle.h1_model.specs.Answer as answers;
@@ -86,6 +86,19 @@ impl Output {
             self.bytes.clear();
         }
         Ok(given)
+    }
+
+    /// Moves the first bytes to the front of the room, as many as fit, and says how many.
+    pub fn give_into(&mut self, room: &mut [u8]) -> usize
+        ensures count { result ≡ min (length room.old) (length self.old) }
+        ensures given { take result room.new ≡ take (length room.old) self.old }
+        ensures rest { drop result room.new ≡ drop result room.old }
+        ensures left { self.new ≡ drop (length room.old) self.old }
+    {
+        let count = room.len().min(self.bytes.len());
+        room[..count].copy_from_slice(&self.bytes.as_slice()[..count]);
+        self.advance(count);
+        count
     }
 
     /// Lets the first bytes go.

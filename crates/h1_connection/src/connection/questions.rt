@@ -49,7 +49,7 @@ impl Connection {
     }
 
     /// Whether an upgrade of the open request to WebSocket may be accepted, of whose frames none has a payload of more
-    /// than so many bytes: the request has a raw body, of which nothing was asked for, and no answer, and as many bytes
+    /// than `limit` bytes: the request has a raw body, of which nothing was asked for, and no answer, and as many bytes
     /// as such a frame has may be held.
     pub fn can_accept(&self, limit: usize) -> bool
         ensures { result ≡ allowed_by (setting_of self.now.settings) self.now.kept (on.accept limit) }
@@ -93,7 +93,7 @@ impl Connection {
         self.parts.can_end_answer(&self.config)
     }
 
-    /// Whether bytes may be written: all the time but behind the connection's end.
+    /// Whether bytes may be written: all the time but after the connection's end.
     pub fn can_write(&self) -> bool
         ensures { (limit : ℕ) → result ≡ allowed_by (setting_of self.now.settings) self.now.kept (on.write limit) }
     {
@@ -132,7 +132,7 @@ impl Connection {
             .saturating_sub(self.parts.input.len())
     }
 
-    /// How many bytes may be put behind those that wait to be written before pieces of a body have to wait: while it is
+    /// How many bytes may be put after those that wait to be written before pieces of a body have to wait: while it is
     /// above 0 there is room for one.
     pub fn write_room(&self) -> usize
         ensures { result ≡ self.now.settings.h1_write_buffer_size - length self.now.kept.buffered }

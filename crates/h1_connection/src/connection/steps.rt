@@ -1,7 +1,7 @@
 // What each event does to the parts, but for heads, bodies and answers.
-ghost use Rattle.std.specs.Prelude.{◌≡◌, ◌≢◌, ◌≤◌, ◌<◌, ◌↔◌, ℕ, List, false, length, IfOk, IfErr, OnOk, OnErr, IsOk, IsErrOf, take};
+ghost use Rattle.std.specs.Prelude.{◌≡◌, ◌≢◌, ◌≤◌, ◌<◌, ◌↔◌, ℕ, List, false, length, IfOk, IfErr, OnOk, OnErr, IsOk, IsErrOf, take, drop, min};
 ghost use Rattle.std.specs.Io.KnownBytes.{Consumes, Keeps, IsAtEnd};
-ghost use Rattle.http_config.specs.Causes.{Rose};
+ghost use Rattle.http_config.specs.Causes.{Rose, counted, IsAsked};
 ghost use Rattle.h1_model.specs.Event as on;
 ghost use Rattle.h1_machine.specs.Kept.{is_free};
 ghost use Rattle.h1_connection.specs.Parts.{kept_of, ended_exchange, dropped, with_continue, IsSound, Steps, StepsIn};
@@ -43,6 +43,10 @@ impl Parts {
         ensures left { IsErrOf result ReadFromError.Failed → Keeps (S.left source.old) (S.left source.new) }
         ensures unasked { IfErr result (λ e. e ≢ ReadFromError.Failed → source.new ≡ source.old) }
         ensures faults { S.faults source.old ≤ S.faults source.new }
+        ensures quiet { OnOk result (S.faults source.new ≡ S.faults source.old) }
+        ensures fault { IsErrOf result ReadFromError.Failed → S.faults source.new ≡ counted (S.faults source.old) }
+        ensures asked { OnOk result (IsAsked (S.calls source.old) (S.calls source.new)) }
+        ensures failed_asked { IsErrOf result ReadFromError.Failed → IsAsked (S.calls source.old) (S.calls source.new) }
         ensures err { OnErr result (self.new ≡ self.old) }
     {
         let came = self.input.read_from(source, config.h1_hold_size())?;
@@ -145,6 +149,18 @@ impl Parts {
         ensures err { OnErr result (self.new ≡ self.old) }
     {
         self.output.give(limit)
+    }
+
+    /// Moves the first bytes that are to be written to the front of the room, as many as fit, and says how many.
+    pub fn write_into(&mut self, config: &ServiceConfig, room: &mut [u8]) -> usize
+        requires { IsSound config.now self.old }
+        ensures ok { Steps config.now self.old (on.write (length room.old)) (on.gave (take (length room.old) (kept_of self.old).buffered)) self.new }
+        ensures count { result ≡ min (length room.old) (length (kept_of self.old).buffered) }
+        ensures given { take result room.new ≡ take (length room.old) (kept_of self.old).buffered }
+        ensures rest { drop result room.new ≡ drop result room.old }
+        ensures sound { IsSound config.now self.new }
+    {
+        self.output.give_into(room)
     }
 
     /// Lets the first bytes go that were to be written.

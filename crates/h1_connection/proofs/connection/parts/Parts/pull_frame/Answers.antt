@@ -1,5 +1,6 @@
 use Rattle.std.proofs.lemmas.Bool.{false≢true}
 use Rattle.h1_connection.proofs.FrameLemmas.{light_frame, upgraded_frames, upgraded_unsearched, frame_may, frame_steps, frame_sound}
+use Rattle.h1_connection.proofs.NamedLemmas.{says_named}
 use Rattle.h1_connection.proofs.connection.parts.Parts.pull_frame.Goals as goal
 
 pub pull_frame-requires-clause-unsearched : goal.pull_frame-requires-clause-unsearched
@@ -24,3 +25,6 @@ returns-clause-sound c =
 pub returns-in_err-pulled-clause-no_memory_needed : goal.returns-in_err-pulled-clause-no_memory_needed
 returns-in_err-pulled-clause-no_memory_needed c = λ light.
     absurd (false≢true (c.in_err-pulled.ensures.no_memory_needed (light_frame c.args.self.now c.in-Some.exchange c.in-Some.is light)))
+
+pub returns-clause-named : goal.returns-clause-named
+returns-clause-named c = says_named c.in_ok-pulled.pulled _ c.in_ok-pulled.ensures.pulled.pulled.says
