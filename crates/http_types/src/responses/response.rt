@@ -221,8 +221,8 @@ impl<B> Response<B> {
         Response { head, body }
     }
 
-    // The head. The body is dropped.
-    pub(crate) fn into_head(self) -> ResponseHead
+    /// The head. The body is dropped: `into_parts` first gives it apart.
+    pub fn into_head(self) -> ResponseHead
     where
         B: Drop,
         ensures { result ≡ self.head }
