@@ -1,2 +1,4 @@
+pub mod Door
 pub mod Gate
+pub mod Moments
 pub mod Socket

@@ -1,4 +1,7 @@
 //! A listener as a door.
+ghost use Rattle.std.specs.Prelude.{◌≡◌};
+ghost use Rattle.h1_net.specs.Door.{door_opening, unused};
+
 use crate::close::Linger;
 use crate::error::AcceptError;
 use crate::listener::Listener;
@@ -22,7 +25,9 @@ pub struct TcpDoor<R> {
 impl<R> TcpDoor<R> {
     /// A door that isn't open yet. A read or a write of its connections waits at most so many milliseconds, 0 is not at
     /// all, and their shutdown has these bounds.
-    pub fn new(rt: R, wait: u64, linger: Linger) -> TcpDoor<R> {
+    pub fn new(rt: R, wait: u64, linger: Linger) -> TcpDoor<R>
+        ensures fresh { door_opening result ≡ unused }
+    {
         TcpDoor {
             rt,
             listener: None,
@@ -43,11 +48,9 @@ impl<R> Door for TcpDoor<R>
 where
     R: Net<Stream = TcpStream, Listener = TcpListener> + time::Clock + Copy + Send + Drop,
 {
-    ghost use Rattle.std.specs.Prelude.{false};
-
     type Conn = TcpWire<R>;
 
-    ghost opening = { λ d. record { faults = d.faults; given = d.given; ended = false } };
+    ghost opening = { door_opening };
 
     fn open(&mut self, port: u16) -> Result<(), Failed> {
         match Listener::bind(&self.rt, (Ipv4Addr::LOCALHOST, port)) {

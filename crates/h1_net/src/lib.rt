@@ -18,8 +18,9 @@
 //! # Contract
 //!
 //! A source and a sink over a socket keep the contracts of `Source` and `Sink`. What a socket gives or takes, no clause
-//! can say. Each call that may wait waits at most as long as it is told to, but for `accept`. A wire, a door and a clock
-//! keep what their traits say. A gated wire asks for no bytes while its write waits.
+//! can say. How long a call waits is a property of the socket, and no clause says it: `prepare`, `wait_at_most` and
+//! `TcpWire::set_wait` set it, and a socket that wasn't set waits without end, as `accept` does. A wire, a door and a
+//! clock keep what their traits say, and a new one is fresh. A gated wire asks for no bytes while its write waits.
 #![tactic(auto)]
 
 mod clock;

@@ -1,6 +1,7 @@
 //! The machine's moment as a clock.
-ghost use Rattle.std.specs.Prelude.{◌<◌, nat_lt};
+ghost use Rattle.std.specs.Prelude.{◌≡◌, ◌<◌, nat_lt};
 ghost use Rattle.h1_model.specs.Limits.{MAX_MOMENT};
+ghost use Rattle.h1_net.specs.Moments.{last_moment};
 
 use crate::clock::moment;
 use http_wires::Clock;
@@ -20,13 +21,15 @@ pub struct SystemClock<R> {
 
 impl<R: time::Clock> SystemClock<R> {
     /// A clock that has given no moment.
-    pub fn new(rt: R) -> SystemClock<R> {
+    pub fn new(rt: R) -> SystemClock<R>
+        ensures fresh { last_moment result ≡ 0 }
+    {
         SystemClock { rt, last: 0 }
     }
 }
 
 impl<R: time::Clock + Drop> Clock for SystemClock<R> {
-    ghost last = { λ c. c.last };
+    ghost last = { last_moment };
 
     ghost may_give = { λ _ given. nat_lt given MAX_MOMENT };
 

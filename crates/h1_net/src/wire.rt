@@ -60,7 +60,10 @@ impl<R: time::Clock> TcpWire<R> {
         }
     }
 
-    /// Small pieces go out at once, and a read or a write waits at most so many milliseconds; 0 is not at all.
+    /// From now on small pieces go out at once, and a read or a write waits at most so many milliseconds; 0 is not at
+    /// all. Before the first call each waits without end.
+    ///
+    /// The system's error, where it refuses one of these: then the socket may wait as it did before.
     pub fn set_wait(&self, milliseconds: u64) -> io::Result<()> {
         self.stream.set_nodelay(true)?;
         self.stream.set_nonblocking(milliseconds == 0)?;
