@@ -10,6 +10,7 @@ use Rattle.h1_model.specs.OutcomeTable.{counted_from, has_run_out}
 use Rattle.h1_model.specs.Event as on
 use Rattle.h1_model.specs.End as ends
 use Rattle.h1_connection.specs.declared.event.End.{End}
+use Rattle.h1_model.specs.Deadline.{is_due}
 use Rattle.h1_machine.specs.Kept.{Change, is_free}
 use Rattle.h1_machine.specs.Local.{closing_by}
 use Rattle.h1_machine.specs.Clock.{expiring, at_moment}
@@ -17,7 +18,7 @@ use Rattle.h1_machine.specs.Change.{noting_since}
 use Rattle.h1_connection.specs.Incoming.{Incoming, IsFound}
 use Rattle.h1_connection.specs.Meaning.{setting_of, end_of}
 use Rattle.h1_connection.specs.Parts.{kept_of, MayBeSearched, IsSound, Steps}
-use Rattle.h1_connection.specs.Ticks.{expiry_of, is_past}
+use Rattle.h1_connection.specs.Ticks.{expiry_of}
 use Rattle.h1_connection.specs.declared.connection.clock.Clock.{Clock}
 use Rattle.h1_connection.specs.declared.connection.exchange.Exchange.{Exchange}
 use Rattle.h1_connection.specs.declared.connection.parts.Parts.{Parts}
@@ -26,17 +27,17 @@ use Rattle.h1_connection.proofs.StepLemmas.{settled_step, settled_sound, settled
 
 -- ---- deadlines
 
-past_within : (fits : Bool) (end moment : ℕ) → nat_lt end (2 ^ 64) ≡ fits → moment < 2 ^ 64 → is_past (if fits then Some end else None) moment ≡ nat_le end moment
+past_within : (fits : Bool) (end moment : ℕ) → nat_lt end (2 ^ 64) ≡ fits → moment < 2 ^ 64 → is_due (if fits then Some end else None) moment ≡ nat_le end moment
 past_within true end moment is below = refl
 past_within false end moment is below = sym (lt-leb end moment (omega (arith, ltb-false end (2 ^ 64) is, below)))
 
 past_on : (off : Bool) (since wait moment : ℕ) → moment < 2 ^ 64
-    → is_past (if off then None else (if nat_lt (since + wait) (2 ^ 64) then Some (since + wait) else None)) moment ≡ (not off && nat_le (since + wait) moment)
+    → is_due (if off then None else (if nat_lt (since + wait) (2 ^ 64) then Some (since + wait) else None)) moment ≡ (not off && nat_le (since + wait) moment)
 past_on true since wait moment below = refl
 past_on false since wait moment below = past_within (nat_lt (since + wait) (2 ^ 64)) (since + wait) moment refl below
 
 -- a deadline has come where the time has run out
-pub past_run_out : (since wait moment : ℕ) → moment < 2 ^ 64 → is_past (deadline_of since wait) moment ≡ has_run_out wait since moment
+pub past_run_out : (since wait moment : ℕ) → moment < 2 ^ 64 → is_due (deadline_of since wait) moment ≡ has_run_out wait since moment
 past_run_out since wait moment below = past_on (wait == 0) since wait moment below
 
 -- from the tick that is noted, or from the first one

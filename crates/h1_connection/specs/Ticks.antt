@@ -1,5 +1,5 @@
 -- What a tick answers.
-use Rattle.std.specs.Prelude.{◌≡◌, ℕ, ◌^◌, ◌⊎◌, Bool, false, nat_le, nat_lt, if◌then◌else◌, Option, Some, None, IsSome, unwrap_or}
+use Rattle.std.specs.Prelude.{◌≡◌, ℕ, ◌^◌, ◌⊎◌, Bool, false, nat_lt, if◌then◌else◌, Option, Some, None, IsSome, unwrap_or}
 use Rattle.h1_model.specs.Setting.{Setting}
 use Rattle.h1_model.specs.Event as on
 use Rattle.h1_machine.specs.Kept.{Kept}
@@ -13,11 +13,6 @@ abbrev pub expiry_of : Expiry → on.Outcome
 expiry_of expiry.None = on.done
 expiry_of (expiry.Expired end) = on.expired (end_of end)
 expiry_of expiry.Abandoned = on.abandoned
-
--- a deadline has come
-abbrev pub is_past : Option ℕ → ℕ → Bool
-is_past None moment = false
-is_past (Some deadline) moment = nat_le deadline moment
 
 -- a moment, where it doesn't pass its type
 abbrev pub clipped : Option ℕ → Option ℕ

@@ -1,5 +1,6 @@
 // What a tick does to the parts.
 ghost use Rattle.std.specs.Prelude.{◌≡◌, ◌<◌, ◌&&◌, ◌⊎◌, false, Some, IsSome, IfOk, OnOk, OnErr, IsOk};
+ghost use Rattle.h1_model.specs.Deadline.{is_due};
 ghost use Rattle.h1_model.specs.Limits.{MAX_MOMENT};
 ghost use Rattle.h1_model.specs.End as ends;
 ghost use Rattle.h1_model.specs.Event as on;
@@ -8,7 +9,7 @@ ghost use Rattle.h1_machine.specs.Local.{closing_by};
 ghost use Rattle.h1_machine.specs.Clock.{is_abandoned, is_slow, is_idle, expiring};
 ghost use Rattle.h1_connection.specs.Meaning.{setting_of};
 ghost use Rattle.h1_connection.specs.Parts.{kept_of, MayBeSearched, IsSound, Steps};
-ghost use Rattle.h1_connection.specs.Ticks.{expiry_of, is_past, IsQuietTick};
+ghost use Rattle.h1_connection.specs.Ticks.{expiry_of, IsQuietTick};
 
 use crate::End;
 use crate::connection::clock::is_kept_too_long;
@@ -121,7 +122,7 @@ impl Parts {
             Some(Some(tick)) => tick,
             _ => first,
         };
-        !self.output.is_empty() && is_past(config.client_disconnect_deadline(since), moment)
+        !self.output.is_empty() && is_due(config.client_disconnect_deadline(since), moment)
     }
 
     // No head has come whole.
@@ -130,7 +131,7 @@ impl Parts {
     {
         self.exchange.is_none()
             && !self.input.is_coming()
-            && is_past(config.client_request_deadline(first), moment)
+            && is_due(config.client_request_deadline(first), moment)
     }
 
     // The last request is done with, and no byte of another one has come.
@@ -155,8 +156,8 @@ impl Parts {
 }
 
 // Whether a deadline has come.
-fn is_past(deadline: Option<u64>, moment: u64) -> bool
-    ensures { result ≡ is_past deadline moment }
+fn is_due(deadline: Option<u64>, moment: u64) -> bool
+    ensures { result ≡ is_due deadline moment }
 {
     match deadline {
         Some(deadline) => deadline <= moment,
