@@ -141,6 +141,10 @@ impl<T: ReadHead> Decoder for MessageDecoder<T> {
 
     ghost leaves = { LeftAfter };
 
+    ghost Beside = { Unit };
+
+    ghost beside = { λ _. tt };
+
     fn decode(&mut self, src: &mut BytesMut) -> Result<Option<(T, PayloadType)>, ParseError> {
         MessageDecoder::decode(self, src)
     }

@@ -199,6 +199,10 @@ impl Decoder for PayloadDecoder {
 
     ghost leaves = { LeftAfter };
 
+    ghost Beside = { Unit };
+
+    ghost beside = { λ _. tt };
+
     fn decode(&mut self, src: &mut BytesMut) -> Result<Option<PayloadItem>, DecodeError> {
         PayloadDecoder::decode(self, src)
     }

@@ -40,6 +40,12 @@ pub trait Decoder {
     /// After this error, decoder and bytes that were so are left so.
     ghost leaves: { Self.Error → Self → List ℕ → Self → List ℕ → Type 0 };
 
+    /// What the value keeps beside its reading, as what it writes next where it is an encoder too.
+    ghost Beside: { Type 0 };
+
+    /// What this one keeps beside its reading.
+    ghost beside: { Self → Beside };
+
     /// The next item of the bytes, once it is there. What it passed is taken off the buffer's front.
     ///
     /// Where the bytes are others than those that an earlier call left, `None` and an error say nothing of them.
@@ -49,21 +55,42 @@ pub trait Decoder {
         ensures refused { IfErr result (λ e. ¬ (lacks e) → seen self.old src.old.items → OnlySays reads self.old src.old.items (breaks e)) }
         ensures lacking { IfErr result (λ e. lacks e → (self.new ≡ self.old) × (src.new.items ≡ src.old.items)) }
         ensures left { IfErr result (λ e. leaves e self.old src.old.items self.new src.new.items) }
+        ensures beside { beside self.new ≡ beside self.old }
         ensures seen { OnOk result (seen self.old src.old.items → (more : List ℕ) → seen self.new (src.new.items ++ more)) };
 }
 
 /// Makes bytes of items.
+///
+/// Which text an item has, and which items are refused, are relations that each encoder defines. An item that is refused
+/// has no text.
 pub trait Encoder<I> {
     /// Why an item could not be written.
     type Error: Drop;
 
-    /// From where the encoder stands, the item is written as this text, and this is the encoder behind it.
+    /// From where the encoder stands, the item is written as this text, and this is the encoder after it.
     ghost writes: { Self → I → List ℕ → Self → Type 0 };
 
-    /// Writes the item behind what the buffer holds, or nothing.
+    /// From where the encoder stands, this error refuses the item.
+    ghost refuses: { Self.Error → Self → I → Type 0 };
+
+    /// The error says that memory ran out.
+    ghost lacks: { Self.Error → Type 0 };
+
+    /// After this error, an encoder that was so is left so.
+    ghost leaves: { Self.Error → Self → Self → Type 0 };
+
+    /// Writes the item after what the buffer holds, or nothing.
+    ///
+    /// An error comes only where it refuses the item, or where memory ran out: then the encoder is as before.
     fn encode(&mut self, item: I, dst: &mut BytesMut) -> Result<(), Self::Error>
         ensures ok { OnOk result ((text : List ℕ) × (dst.new.items ≡ dst.old.items ++ text) × writes self.old item text self.new) }
-        ensures err { OnErr result (dst.new.items ≡ dst.old.items) };
+        ensures err { OnErr result (dst.new.items ≡ dst.old.items) }
+        ensures refused { IfErr result (λ e. ¬ (lacks e) → refuses e self.old item) }
+        ensures lacking { IfErr result (λ e. lacks e → self.new ≡ self.old) }
+        ensures left { IfErr result (λ e. leaves e self.old self.new) };
+
+    /// No item is both written and refused.
+    ghost excludes: { (old new : Self) (item : I) (text : List ℕ) (e : Self.Error) → refuses e old item → ¬ (writes old item text new) };
 }
 
 /// A decoder that is called again and again, with any pieces of bytes in between, gives what all the bytes say: what is

@@ -1,5 +1,6 @@
 -- What bytes say to a codec, and the text that one writes.
-use Rattle.std.specs.Prelude.{◌≡◌, ℕ, List, [], ◌∷◌, Option, Some, None}
+use Rattle.std.specs.Prelude.{◌≡◌, ℕ, List, [], ◌∷◌, Option, Some, None, IsSome}
+use Rattle.std.proofs.Common.{sym, subst, ◌∙◌}
 use Rattle.rand_core.specs.Stream.{Stream}
 use Rattle.h1_model.specs.Frame as model
 use Rattle.h1_model.specs.FrameText.{front_frame, send_error}
@@ -51,3 +52,14 @@ Writes stream old message text new =
     × (codec_sending new ≡ sending_after (codec_sending old) (message_says message))
     × (stream (codec_words new) ≡ words_after (codec_server old) (message_says message) (stream (codec_words old)))
     × (new ≡ with_sending (codec_words new) (codec_sending new) old)
+
+-- from where the codec stands a rule forbids the message, and the error names it
+abbrev pub Forbids : {R : Type 0} → ProtocolError → Codec R → Message → Type 0
+Forbids error codec message =
+    (rule : model.ProtocolError) × (send_error (codec_sending codec) (message_says message) ≡ Some rule) × (error ≡ refusal rule)
+
+-- what is forbidden has no text
+pub forbidden_has_no_text : {R : Type 0} (stream : R → Stream) (old new : Codec R) (message : Message) (text : List ℕ) (error : ProtocolError)
+    → Forbids error old message → ¬ (Writes stream old message text new)
+forbidden_has_no_text stream old new message text error forbids wrote =
+    subst (λ (o : Option model.ProtocolError). IsSome o) (sym forbids.1 ∙ wrote.0) tt

@@ -7,7 +7,8 @@ use http_framing::{Decoder, Encoder};
 use rand_core::Rng;
 
 impl<R> Decoder for Codec<R> {
-    ghost use Rattle.std.specs.Prelude.{◌≡◌, ⊤};
+    ghost use Rattle.std.specs.Prelude.{◌≡◌, ⊤, false};
+    ghost use Rattle.ws_frames.specs.CodecState.{with_reading};
     ghost use Rattle.ws_frames.specs.Framing.{Frames, Reads, given, no_frames, Breaks, LeftAfter};
     ghost use Rattle.ws_frames.specs.declared.error.ProtocolError.TheVariants as errors;
 
@@ -31,6 +32,10 @@ impl<R> Decoder for Codec<R> {
 
     ghost leaves = { LeftAfter };
 
+    ghost Beside = { Codec R };
+
+    ghost beside = { with_reading false };
+
     fn decode(&mut self, src: &mut BytesMut) -> Result<Option<Frame>, ProtocolError> {
         let alloc = *src.allocator();
         Codec::decode(self, alloc, src)
@@ -38,14 +43,24 @@ impl<R> Decoder for Codec<R> {
 }
 
 impl<R: Rng> Encoder<Message> for Codec<R> {
-    ghost use Rattle.ws_frames.specs.Framing.{Writes};
+    ghost use Rattle.std.specs.Prelude.{◌≡◌};
+    ghost use Rattle.ws_frames.specs.Framing.{Writes, Forbids, forbidden_has_no_text};
+    ghost use Rattle.ws_frames.specs.declared.error.ProtocolError.TheVariants as errors;
 
     type Error = ProtocolError;
 
     ghost writes = { Writes R.stream };
 
+    ghost refuses = { Forbids };
+
+    ghost lacks = { λ error. error ≡ errors.NoMemory };
+
+    ghost leaves = { λ _ old new. new ≡ old };
+
     fn encode(&mut self, item: Message, dst: &mut BytesMut) -> Result<(), ProtocolError> {
         let alloc = *dst.allocator();
         Codec::encode(self, alloc, item, dst)
     }
+
+    ghost excludes = { λ old new item text error. forbidden_has_no_text R.stream old new item text error };
 }
