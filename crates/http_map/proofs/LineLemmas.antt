@@ -1,14 +1,20 @@
 -- Where a name stands among a map's names, and what a look-up and an edit give there.
 use Rattle.std.proofs.Common.{◌≡◌, ℕ, zero, suc, ◌<◌, ◌≤◌, Bor, option_copied, true, false, cond, if◌then◌else◌, List, [], ◌∷◌, ◌++◌, ◌||◌, take, drop, length, bytes_eq, get_or, Option, Some, None, is_some, refl, sym, ap, ◌∙◌, subst, arith}
 use Rattle.std.specs.Map.{lookup, values_of}
-use Rattle.std.specs.Prelude.{slice_set, slice_get, position, IfSome, IfNone}
+use Rattle.std.specs.Prelude.{⊤, slice_set, slice_get, position, IfSome, IfNone}
 use Rattle.std.proofs.lemmas.List.Quantifiers.{position-Some}
 use Rattle.std.proofs.lemmas.List.{length-map}
 use Rattle.indexmap.specs.Layout.{set_value_at}
 use Rattle.http_header.specs.FieldValue.{FieldValue}
 use Rattle.http_map.specs.HeaderMap.{Entry, Entries, contains_key, get_all, insert, append, remove, keys}
-use Rattle.http_map.specs.Lines.{StandsFirstAt, IsNotBefore, Lacks}
+use Rattle.http_map.specs.Lines.{StandsFirstAt, Lacks}
 use Rattle.http_map.proofs.CallerLemmas.{same_bytes, bytes_eq-itself, bytes_eq-other}
+
+-- the name isn't one of the first so many
+abbrev pub IsNotBefore : Entries → List ℕ → ℕ → Type 0
+IsNotBefore [] name i = ⊤
+IsNotBefore (e ∷ m) name zero = ⊤
+IsNotBefore (e ∷ m) name (suc i) = (bytes_eq name e.0 ≡ false) × IsNotBefore m name i
 
 -- names that differ do so either way round
 pub apart_turned : (a b : List ℕ) → bytes_eq a b ≡ false → bytes_eq b a ≡ false

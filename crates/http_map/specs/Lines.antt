@@ -18,12 +18,6 @@ StandsFirstAt [] name i = ⊥
 StandsFirstAt (e ∷ m) name zero = bytes_eq name e.0 ≡ true
 StandsFirstAt (e ∷ m) name (suc i) = (bytes_eq name e.0 ≡ false) × StandsFirstAt m name i
 
--- the name isn't one of the first so many
-abbrev pub IsNotBefore : Entries → List ℕ → ℕ → Type 0
-IsNotBefore [] name i = ⊤
-IsNotBefore (e ∷ m) name zero = ⊤
-IsNotBefore (e ∷ m) name (suc i) = (bytes_eq name e.0 ≡ false) × IsNotBefore m name i
-
 -- the name isn't there
 abbrev pub Lacks : Entries → List ℕ → Type 0
 Lacks [] name = ⊤

@@ -184,23 +184,35 @@ impl Names {
         }
     }
 
-    /// Removes every name.
+    /// Removes every name. A list keeps its room. Hashed names leave none, so that few that come next stand in a
+    /// list again.
     pub(crate) fn clear(&mut self)
         ensures { self.new ≡ [] }
     {
         self.seen = Seen::none();
         match &mut self.table {
             Table::Few(lines) => lines.clear(),
-            Table::Many(names) => names.as_mut().clear(),
+            Table::Many(names) => {
+                let alloc = *names.as_ref().allocator();
+                self.table = Table::Few(Vec::new(alloc));
+            }
         }
     }
 
-    /// Asks for room for so many more names.
+    /// Asks for room for so many more names. Where there is none yet and they would be too many for a list, they
+    /// are hashed from the first on.
     pub(crate) fn reserve(&mut self, additional: usize) -> Result<(), NoMemory>
         ensures { self.new ≡ self.old }
     {
         match &mut self.table {
-            Table::Few(lines) => lines.reserve(additional),
+            Table::Few(lines) => {
+                if MOST_FEW < additional && lines.is_empty() {
+                    let names = many::with_capacity(*lines.allocator(), additional)?;
+                    self.table = Table::Many(names);
+                    return Ok(());
+                }
+                lines.reserve(additional)
+            }
             Table::Many(names) => names.as_mut().reserve(additional),
         }
     }

@@ -21,7 +21,8 @@ use std::alloc::{AllocError, Global};
 use std::mem;
 
 impl HeaderMap {
-    /// Removes every name.
+    /// Removes every name, and takes no memory. Room for up to 32 names is kept for those that come next; that for
+    /// more is given back.
     pub fn clear(&mut self)
         ensures { self.new ≡ [] }
     {
@@ -90,7 +91,8 @@ impl HeaderMap {
         removed
     }
 
-    /// Asks for room for so many more names.
+    /// Asks for room for so many more names. For more than 32 in an empty map it is a table at once, to which no
+    /// name is copied later.
     pub fn reserve(&mut self, additional: usize) -> Result<(), NoMemory>
         ensures { self.new ≡ self.old }
     {

@@ -1,7 +1,8 @@
 use Rattle.http_map.proofs.SeenLemmas.{IsFew-none}
 use Rattle.http_map.proofs.table.Names.clear.Goals as goal
-use Rattle.http_map.proofs.table.Names.clear.Goals.{in-Few, in-Many}
 
 pub invariant_of-self : goal.invariant_of-self
-invariant_of-self c =
-    elim c.match-self.branch [ in-Few w ↦ rw (w.self-inside-is, w.clear.ensures.items) (IsFew-none _) | in-Many w ↦ rw w.self-inside-is tt ]
+invariant_of-self c = rw c.clear.ensures.items (IsFew-none _)
+
+pub invariant_of-self-in-Many-2 : goal.invariant_of-self-in-Many-2
+invariant_of-self-in-Many-2 c = rw c.new.ensures.items (IsFew-none _)

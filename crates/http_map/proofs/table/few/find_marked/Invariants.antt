@@ -1,6 +1,6 @@
 use Rattle.std.proofs.Common.{◌≡◌}
 use Rattle.http_header.specs.Token.{lowercase}
-use Rattle.http_map.specs.Lines.{IsNotBefore}
+use Rattle.http_map.proofs.LineLemmas.{IsNotBefore}
 use Rattle.http_map.proofs.table.few.find_marked.Given as goal
 
 -- the lines so far have other names
