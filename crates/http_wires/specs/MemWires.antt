@@ -1,5 +1,5 @@
 -- What a wire in memory keeps, and what its calls answer.
-use Rattle.std.specs.Prelude.{◌≡◌, ◌<◌, ◌==◌, ◌⊎◌, ℕ, zero, Bool, false, List, [], ◌∷◌, length, min, ⊤, Result, Ok, Err}
+use Rattle.std.specs.Prelude.{◌≡◌, ◌≤◌, ◌<◌, ◌+◌, ◌==◌, ◌⊎◌, ℕ, zero, Bool, false, List, [], ◌∷◌, length, min, ⊤, Result, Ok, Err}
 use Rattle.std.specs.List.{list_any}
 use Rattle.futures.specs.declared.task.Poll.{Poll}
 use Rattle.futures.specs.declared.task.Poll.TheVariants.{Ready, Pending}
@@ -8,7 +8,7 @@ use Rattle.http_wires.specs.declared.mem_wire.pieces.Front.TheVariants as front
 
 -- The pieces that are left, the first one without what was read of it; how much each of the next writes takes; the
 -- numbers of the calls that fail, and the number of the next one; what was received and sent; whether it showed its end
--- and its shutdown; and its counts.
+-- and its shutdown; its counts; and for how many more bytes it has memory, at its reads and at its writes.
 pub record MemWiring : Type 0 where
   pub left : List (List ℕ)
   pub room : List ℕ
@@ -21,6 +21,8 @@ pub record MemWiring : Type 0 where
   pub faults : ℕ
   pub reads : ℕ
   pub writes : ℕ
+  pub read_room : ℕ
+  pub write_room : ℕ
 
 -- no call was made
 abbrev pub fresh : List (List ℕ) → List ℕ → List ℕ → MemWiring
@@ -37,6 +39,8 @@ fresh pieces room fail =
       faults = 0;
       reads = 0;
       writes = 0;
+      read_room = 0;
+      write_room = 0;
     }
 
 -- the next call fails
@@ -48,6 +52,12 @@ abbrev pub IsFailed : {A E : Type 0} → Poll (Result A E) → Type 0
 IsFailed (Ready (Err e)) = ⊤
 IsFailed (Ready (Ok x)) = ⊥
 IsFailed Pending = ⊥
+
+-- A call uses up room for what it moves, and for nothing else.
+abbrev pub UsesRoom : {E : Type 0} → ℕ → ℕ → Poll (Result ℕ E) → Type 0
+UsesRoom old new (Ready (Ok n)) = old ≤ new + n
+UsesRoom old new (Ready (Err e)) = old ≤ new
+UsesRoom old new Pending = old ≤ new
 
 -- A read gives the front of the first piece that is left. An empty piece is Pending once, and after the last piece the
 -- input ends. A read that failed took nothing.

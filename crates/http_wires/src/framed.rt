@@ -1,5 +1,5 @@
 //! Items over a wire.
-ghost use Rattle.std.specs.Prelude.{◌≡◌, ◌≤◌, ◌↔◌, ◌++◌, ℕ, List, [], IsTrue, OnOk, OnErr, length};
+ghost use Rattle.std.specs.Prelude.{◌≡◌, ◌≤◌, ◌↔◌, ◌++◌, ℕ, List, [], IsTrue, OnOk, OnErr, IfErr, length};
 ghost use Rattle.std.specs.Borrow.{sem};
 ghost use Rattle.futures.specs.Task.{IsArmed, Keeps};
 ghost use Rattle.futures.specs.Poll.{OnPending};
@@ -87,12 +87,16 @@ impl<T: Wire, U> Framed<T, U> {
         &mut self.io
     }
 
-    /// Writes an item behind what is buffered, or nothing. Where the codec refuses it, nothing is buffered.
+    /// Writes an item after what is buffered, or nothing: then the codec refuses it, or there was no memory, and the codec
+    /// is as it says that its error leaves it.
     pub fn write<I>(&mut self, item: I) -> Result<(), U::Error>
     where
         U: Encoder<I>,
         ensures ok { OnOk result ((text : List ℕ) × (self.new.unsent ≡ self.old.unsent ++ text) × U.writes self.old.codec item text self.new.codec) }
         ensures err { OnErr result (self.new.unsent ≡ self.old.unsent) }
+        ensures refused { IfErr result (λ e. ¬ (U.lacks e) → U.refuses e self.old.codec item) }
+        ensures lacking { IfErr result (λ e. U.lacks e → self.new.codec ≡ self.old.codec) }
+        ensures left { IfErr result (λ e. U.leaves e self.old.codec self.new.codec) }
         ensures unread { self.new.unread ≡ self.old.unread }
         ensures io { self.new.io ≡ self.old.io }
     {
@@ -115,7 +119,7 @@ impl<T: Wire, U> Framed<T, U> {
 
 impl<T: Wire, U: Decoder> Framed<T, U> {
     /// The next item, or nothing once the input has ended and holds no further item. What was read and not decoded
-    /// stays, at each answer.
+    /// stays, at each answer, as does what the codec keeps beside its reading.
     ///
     /// It is pending where the bytes hold no item yet and the wire is pending, or where at least 64 bytes came: then
     /// the task is woken.
@@ -125,6 +129,7 @@ impl<T: Wire, U: Decoder> Framed<T, U> {
     ) -> Poll<Option<Result<U::Item, FramedError<U::Error>>>>
         ensures says { ItemSays U.reads U.given U.nothing U.breaks U.lacks U.seen U.leaves (T.wiring self.old.io) (T.wiring self.new.io) cx.new.is_woken
             self.old.codec self.old.unread self.new.codec self.new.unread result }
+        ensures beside { U.beside self.new.codec ≡ U.beside self.old.codec }
         ensures unsent { self.new.unsent ≡ self.old.unsent }
         ensures registered { OnPending result (IsArmed cx.new) }
         ensures kept { Keeps cx.old cx.new }

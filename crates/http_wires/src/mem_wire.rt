@@ -1,9 +1,9 @@
 //! A wire in memory.
-ghost use Rattle.std.specs.Prelude.{◌≡◌, ◌≤◌, true, ◌↔◌, length};
+ghost use Rattle.std.specs.Prelude.{◌≡◌, ◌≤◌, ◌<◌, ◌⊎◌, true, ◌↔◌, OnOk, length};
 ghost use Rattle.futures.specs.Task.{IsArmed, Keeps};
 ghost use Rattle.futures.specs.Poll.{OnPending};
 ghost use Rattle.http_config.specs.Causes.{counted};
-ghost use Rattle.http_wires.specs.MemWires.{fresh, fails_next, IsFailed, ReadsLeft, WritesBy};
+ghost use Rattle.http_wires.specs.MemWires.{fresh, fails_next, IsFailed, UsesRoom, ReadsLeft, WritesBy};
 ghost use Rattle.http_wires.specs.MemTold.{known};
 ghost use Rattle.http_wires.specs.Wiring.{ReadSays, WriteSays, FlushSays, ShutSays};
 
@@ -16,7 +16,7 @@ use calls::Calls;
 use futures::task::{Context, Poll};
 use http_config::Failed;
 use pieces::{Front, Pieces};
-use std::alloc::Global;
+use std::alloc::{AllocError, Global};
 use std::collections::VecDeque;
 use std::marker::Model;
 
@@ -24,7 +24,8 @@ use std::marker::Model;
 ///
 /// A read gives bytes of one piece. An empty piece makes one read pending, and after the last piece the input ends.
 /// Each write takes as many bytes as its room says, and after the last room all. A room of 0 makes one write pending.
-/// The calls are counted from 0, and those listed fail. A read or a write for which there is no memory fails too.
+/// The calls are counted from 0, and those listed fail. A read or a write for which there is no memory fails too: none is
+/// needed where `reserve` made room for its bytes.
 ///
 /// A clause sees it as the record of what it keeps.
 #[derive(Drop)]
@@ -57,6 +58,8 @@ impl Model for MemWire {
       faults = w.calls.faults;
       reads = w.reads;
       writes = w.writes;
+      read_room = w.received.spare;
+      write_room = w.sent.spare;
     } };
 }
 
@@ -83,6 +86,17 @@ impl MemWire {
         }
     }
 
+    /// Makes room for so many more bytes that are received, and so many that are sent. Out of memory, nothing else
+    /// changes.
+    pub fn reserve(&mut self, received: usize, sent: usize) -> Result<(), AllocError>
+        ensures ok { OnOk result ((received ≤ self.new.read_room) × (sent ≤ self.new.write_room)) }
+        ensures more { (self.old.read_room ≤ self.new.read_room) × (self.old.write_room ≤ self.new.write_room) }
+        ensures others { self.new ≡ record self.old { read_room = self.new.read_room; write_room = self.new.write_room } }
+    {
+        self.received.reserve(received)?;
+        self.sent.reserve(sent)
+    }
+
     /// What was sent.
     pub fn sent(&self) -> &[u8]
         ensures { result.now ≡ self.now.sent }
@@ -104,9 +118,11 @@ impl Wire for MemWire {
     fn poll_read(&mut self, buf: &mut [u8], cx: &mut Context<'_>) -> Poll<Result<usize, Failed>>
         ensures says { ReadSays (known self.old) (known self.new) result buf.new }
         ensures listed { fails_next self.old ≡ true → IsFailed result }
+        ensures failed { IsFailed result → (fails_next self.old ≡ true) ⊎ (self.old.read_room < length buf.old) }
+        ensures room { UsesRoom self.old.read_room self.new.read_room result }
         ensures reads { ReadsLeft self.old.left self.new.left buf.new result }
         ensures counted { self.new.calls ≡ counted self.old.calls }
-        ensures others { (self.new.fail ≡ self.old.fail) × (self.new.room ≡ self.old.room) }
+        ensures others { (self.new.fail ≡ self.old.fail) × (self.new.room ≡ self.old.room) × (self.new.write_room ≡ self.old.write_room) }
         ensures registered { OnPending result (IsArmed cx.new) }
         ensures kept { Keeps cx.old cx.new }
     {
@@ -138,9 +154,11 @@ impl Wire for MemWire {
     fn poll_write(&mut self, bytes: &[u8], cx: &mut Context<'_>) -> Poll<Result<usize, Failed>>
         ensures says { WriteSays (known self.old) (known self.new) result bytes.now }
         ensures listed { fails_next self.old ≡ true → IsFailed result }
+        ensures failed { IsFailed result → (fails_next self.old ≡ true) ⊎ (self.old.write_room < length bytes.now) }
+        ensures room { UsesRoom self.old.write_room self.new.write_room result }
         ensures writes { WritesBy self.old.room self.new.room bytes.now result }
         ensures counted { self.new.calls ≡ counted self.old.calls }
-        ensures others { (self.new.fail ≡ self.old.fail) × (self.new.left ≡ self.old.left) }
+        ensures others { (self.new.fail ≡ self.old.fail) × (self.new.left ≡ self.old.left) × (self.new.read_room ≡ self.old.read_room) }
         ensures registered { OnPending result (IsArmed cx.new) }
         ensures kept { Keeps cx.old cx.new }
     {
@@ -173,6 +191,7 @@ impl Wire for MemWire {
         ensures fails { IsFailed result ↔ (fails_next self.old ≡ true) }
         ensures counted { self.new.calls ≡ counted self.old.calls }
         ensures others { (self.new.fail ≡ self.old.fail) × (self.new.left ≡ self.old.left) × (self.new.room ≡ self.old.room) }
+        ensures rooms { (self.new.read_room ≡ self.old.read_room) × (self.new.write_room ≡ self.old.write_room) }
         ensures registered { OnPending result (IsArmed _cx.new) }
         ensures kept { Keeps _cx.old _cx.new }
     {
@@ -187,6 +206,7 @@ impl Wire for MemWire {
         ensures fails { IsFailed result ↔ (fails_next self.old ≡ true) }
         ensures counted { self.new.calls ≡ counted self.old.calls }
         ensures others { (self.new.fail ≡ self.old.fail) × (self.new.left ≡ self.old.left) × (self.new.room ≡ self.old.room) }
+        ensures rooms { (self.new.read_room ≡ self.old.read_room) × (self.new.write_room ≡ self.old.write_room) }
         ensures registered { OnPending result (IsArmed _cx.new) }
         ensures kept { Keeps _cx.old _cx.new }
     {

@@ -5,3 +5,4 @@ pub mod Send
 pub mod Turns
 pub mod Order
 pub mod ReadsAll
+pub mod Forbidden

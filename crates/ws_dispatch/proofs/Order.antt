@@ -24,8 +24,8 @@ still a b c xs is then = subst (λ l. Grows l c xs) is then
 
 module _ {U Q I E R : Type 0} (reads : U → List ℕ → R → Type 0) (given : Q → R → R) (nothing : R)
     (breaks : ProtocolError → R → Type 0) (lacks : ProtocolError → Type 0) (seen : U → List ℕ → Type 0)
-    (leaves : ProtocolError → U → List ℕ → U → List ℕ → Type 0) (writes : U → I → List ℕ → U → Type 0) where
-  pub asked_in_order : (v w : View U Q I E) (steps : List (Step Q I E)) → IsRun reads given nothing breaks lacks seen leaves writes v steps w → AsksInOrder v steps w
+    (leaves : ProtocolError → U → List ℕ → U → List ℕ → Type 0) (writes : U → I → List ℕ → U → Type 0) (unwritten_so : ProtocolError → U → I → U → Type 0) where
+  pub asked_in_order : (v w : View U Q I E) (steps : List (Step Q I E)) → IsRun reads given nothing breaks lacks seen leaves writes unwritten_so v steps w → AsksInOrder v steps w
   asked_in_order v w [] is = append-nil (option_to_list v.waiting) ∙ sym (ap (λ x. option_to_list x.waiting) is)
   asked_in_order v w (read came answer ∷ steps) is =
       line (option_to_list v.waiting) (option_to_list (item_read answer)) [] (option_to_list is.0.waiting) (items_in steps) (calls_in steps) (option_to_list w.waiting)
@@ -50,7 +50,7 @@ module _ {U Q I E R : Type 0} (reads : U → List ℕ → R → Type 0) (given :
   asked_in_order v w (told error ∷ steps) is =
       quiet (option_to_list v.waiting) (option_to_list is.0.waiting) (items_in steps) (calls_in steps) (option_to_list w.waiting) (ap option_to_list (ap (λ x. x.waiting) is.1.1)) (asked_in_order is.0 w steps is.2)
 
-  pub taken_in_order : (v w : View U Q I E) (steps : List (Step Q I E)) → IsRun reads given nothing breaks lacks seen leaves writes v steps w → TakesInOrder v steps w
+  pub taken_in_order : (v w : View U Q I E) (steps : List (Step Q I E)) → IsRun reads given nothing breaks lacks seen leaves writes unwritten_so v steps w → TakesInOrder v steps w
   taken_in_order v w [] is = append-nil v.queue ∙ sym (ap (λ x. x.queue) is)
   taken_in_order v w (read came answer ∷ steps) is =
       quiet v.queue is.0.queue (queued_in steps) (taken_in steps) w.queue (ap (λ x. x.queue) is.1.5) (taken_in_order is.0 w steps is.2)
@@ -78,7 +78,7 @@ module _ {U Q I E R : Type 0} (reads : U → List ℕ → R → Type 0) (given :
   taken_in_order v w (told error ∷ steps) is =
       quiet v.queue is.0.queue (queued_in steps) (taken_in steps) w.queue (ap (λ x. x.queue) is.1.1) (taken_in_order is.0 w steps is.2)
 
-  pub sent_in_order : (v w : View U Q I E) (steps : List (Step Q I E)) → IsRun reads given nothing breaks lacks seen leaves writes v steps w → SendsInOrder v steps w
+  pub sent_in_order : (v w : View U Q I E) (steps : List (Step Q I E)) → IsRun reads given nothing breaks lacks seen leaves writes unwritten_so v steps w → SendsInOrder v steps w
   sent_in_order v w [] is = append-nil v.unsent ∙ sym (ap (λ x. x.unsent) is)
   sent_in_order v w (read came answer ∷ steps) is =
       quiet v.unsent is.0.unsent (texts_in steps) (sent_in steps) w.unsent (ap (λ x. x.unsent) is.1.5) (sent_in_order is.0 w steps is.2)
@@ -103,7 +103,7 @@ module _ {U Q I E R : Type 0} (reads : U → List ℕ → R → Type 0) (given :
   sent_in_order v w (told error ∷ steps) is =
       quiet v.unsent is.0.unsent (texts_in steps) (sent_in steps) w.unsent (ap (λ x. x.unsent) is.1.1) (sent_in_order is.0 w steps is.2)
 
-  calls_known : (v w : View U Q I E) (steps : List (Step Q I E)) → IsRun reads given nothing breaks lacks seen leaves writes v steps w → Grows v.service.called w.service.called (calls_in steps)
+  calls_known : (v w : View U Q I E) (steps : List (Step Q I E)) → IsRun reads given nothing breaks lacks seen leaves writes unwritten_so v steps w → Grows v.service.called w.service.called (calls_in steps)
   calls_known v w [] is = subst (λ x. Grows v.service.called x.service.called []) (sym is) (grown-none v.service.called)
   calls_known v w (read came answer ∷ steps) is = still v.service.called is.0.service.called w.service.called (calls_in steps) (ap (λ x. x.service.called) is.1.5) (calls_known is.0 w steps is.2)
   calls_known v w (ready answer ∷ steps) is = still v.service.called is.0.service.called w.service.called (calls_in steps) (is.1.2.called) (calls_known is.0 w steps is.2)
@@ -116,7 +116,7 @@ module _ {U Q I E R : Type 0} (reads : U → List ℕ → R → Type 0) (given :
   calls_known v w (flushed gave answer ∷ steps) is = still v.service.called is.0.service.called w.service.called (calls_in steps) (ap (λ x. x.service.called) is.1.1) (calls_known is.0 w steps is.2)
   calls_known v w (told error ∷ steps) is = still v.service.called is.0.service.called w.service.called (calls_in steps) (ap (λ x. x.service.called) is.1.1) (calls_known is.0 w steps is.2)
 
-  came_known : (v w : View U Q I E) (steps : List (Step Q I E)) → IsRun reads given nothing breaks lacks seen leaves writes v steps w → Grows v.wire.received w.wire.received (came_in steps)
+  came_known : (v w : View U Q I E) (steps : List (Step Q I E)) → IsRun reads given nothing breaks lacks seen leaves writes unwritten_so v steps w → Grows v.wire.received w.wire.received (came_in steps)
   came_known v w [] is = subst (λ x. Grows v.wire.received x.wire.received []) (sym is) (grown-none v.wire.received)
   came_known v w (read came answer ∷ steps) is = grown came (came_in steps) v.wire.received is.0.wire.received w.wire.received (is.1.4.1.received) (came_known is.0 w steps is.2)
   came_known v w (ready answer ∷ steps) is = still v.wire.received is.0.wire.received w.wire.received (came_in steps) (ap (λ x. x.wire.received) is.1.3) (came_known is.0 w steps is.2)
@@ -129,7 +129,7 @@ module _ {U Q I E R : Type 0} (reads : U → List ℕ → R → Type 0) (given :
   came_known v w (flushed gave answer ∷ steps) is = still v.wire.received is.0.wire.received w.wire.received (came_in steps) (is.1.0.1.others.received) (came_known is.0 w steps is.2)
   came_known v w (told error ∷ steps) is = still v.wire.received is.0.wire.received w.wire.received (came_in steps) (ap (λ x. x.wire.received) is.1.1) (came_known is.0 w steps is.2)
 
-  sent_known : (v w : View U Q I E) (steps : List (Step Q I E)) → IsRun reads given nothing breaks lacks seen leaves writes v steps w → Grows v.wire.sent w.wire.sent (sent_in steps)
+  sent_known : (v w : View U Q I E) (steps : List (Step Q I E)) → IsRun reads given nothing breaks lacks seen leaves writes unwritten_so v steps w → Grows v.wire.sent w.wire.sent (sent_in steps)
   sent_known v w [] is = subst (λ x. Grows v.wire.sent x.wire.sent []) (sym is) (grown-none v.wire.sent)
   sent_known v w (read came answer ∷ steps) is = still v.wire.sent is.0.wire.sent w.wire.sent (sent_in steps) (is.1.4.1.others.sent) (sent_known is.0 w steps is.2)
   sent_known v w (ready answer ∷ steps) is = still v.wire.sent is.0.wire.sent w.wire.sent (sent_in steps) (ap (λ x. x.wire.sent) is.1.3) (sent_known is.0 w steps is.2)
@@ -142,5 +142,5 @@ module _ {U Q I E R : Type 0} (reads : U → List ℕ → R → Type 0) (given :
   sent_known v w (flushed gave answer ∷ steps) is = grown gave (sent_in steps) v.wire.sent is.0.wire.sent w.wire.sent (is.1.0.1.sent) (sent_known is.0 w steps is.2)
   sent_known v w (told error ∷ steps) is = still v.wire.sent is.0.wire.sent w.wire.sent (sent_in steps) (ap (λ x. x.wire.sent) is.1.1) (sent_known is.0 w steps is.2)
 
-  pub tells : (v w : View U Q I E) (steps : List (Step Q I E)) → IsRun reads given nothing breaks lacks seen leaves writes v steps w → Tells v steps w
+  pub tells : (v w : View U Q I E) (steps : List (Step Q I E)) → IsRun reads given nothing breaks lacks seen leaves writes unwritten_so v steps w → Tells v steps w
   tells v w steps is = record { called = calls_known v w steps is; received = came_known v w steps is; sent = sent_known v w steps is }

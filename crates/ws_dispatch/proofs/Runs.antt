@@ -64,8 +64,8 @@ waited before now Pending is = is.0
 
 module _ {U Q I E R : Type 0} (reads : U → List ℕ → R → Type 0) (given : Q → R → R) (nothing : R)
     (breaks : ProtocolError → R → Type 0) (lacks : ProtocolError → Type 0) (seen : U → List ℕ → Type 0)
-    (leaves : ProtocolError → U → List ℕ → U → List ℕ → Type 0) (writes : U → I → List ℕ → U → Type 0) where
-  pub step_later : (v w : View U Q I E) (d : Step Q I E) → IsStep reads given nothing breaks lacks seen leaves writes v d w → Later v w
+    (leaves : ProtocolError → U → List ℕ → U → List ℕ → Type 0) (writes : U → I → List ℕ → U → Type 0) (unwritten_so : ProtocolError → U → I → U → Type 0) where
+  pub step_later : (v w : View U Q I E) (d : Step Q I E) → IsStep reads given nothing breaks lacks seen leaves writes unwritten_so v d w → Later v w
   step_later v w (read came answer) is =
       let items = is.4.1 in
       let service : w.service ≡ v.service = ap (λ x. x.service) is.5 in
@@ -103,12 +103,12 @@ module _ {U Q I E R : Type 0} (reads : U → List ℕ → R → Type 0) (given :
       }
   step_later v w (told error) is = still v w (ap (λ x. x.wire) is.1) (ap (λ x. x.service) is.1)
 
-  pub run_later : (v w : View U Q I E) (steps : List (Step Q I E)) → IsRun reads given nothing breaks lacks seen leaves writes v steps w → Later v w
+  pub run_later : (v w : View U Q I E) (steps : List (Step Q I E)) → IsRun reads given nothing breaks lacks seen leaves writes unwritten_so v steps w → Later v w
   run_later v w [] is = subst (λ x. Later v x) (sym is) (later-refl v)
   run_later v w (d ∷ steps) is = later-trans v is.0 w (step_later v is.0 d is.1) (run_later is.0 w steps is.2)
 
   -- one run behind another
-  pub run_on : (v u w : View U Q I E) (s t : List (Step Q I E)) → IsRun reads given nothing breaks lacks seen leaves writes v s u
-      → IsRun reads given nothing breaks lacks seen leaves writes u t w → IsRun reads given nothing breaks lacks seen leaves writes v (s ++ t) w
-  run_on v u w [] t first then = subst (λ x. IsRun reads given nothing breaks lacks seen leaves writes x t w) first then
+  pub run_on : (v u w : View U Q I E) (s t : List (Step Q I E)) → IsRun reads given nothing breaks lacks seen leaves writes unwritten_so v s u
+      → IsRun reads given nothing breaks lacks seen leaves writes unwritten_so u t w → IsRun reads given nothing breaks lacks seen leaves writes unwritten_so v (s ++ t) w
+  run_on v u w [] t first then = subst (λ x. IsRun reads given nothing breaks lacks seen leaves writes unwritten_so x t w) first then
   run_on v u w (d ∷ s) t first then = (first.0, first.1, run_on first.0 u w s t first.2 then)

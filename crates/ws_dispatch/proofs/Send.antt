@@ -30,42 +30,42 @@ waits_of cx (inr is) = inr (is.0, asked_again cx is.1)
 
 module _ {U Q I E R : Type 0} (reads : U → List ℕ → R → Type 0) (given : Q → R → R) (nothing : R)
     (breaks : ProtocolError → R → Type 0) (lacks : ProtocolError → Type 0) (seen : U → List ℕ → Type 0)
-    (leaves : ProtocolError → U → List ℕ → U → List ℕ → Type 0) (writes : U → I → List ℕ → U → Type 0) (v w : View U Q I E) where
+    (leaves : ProtocolError → U → List ℕ → U → List ℕ → Type 0) (writes : U → I → List ℕ → U → Type 0) (unwritten_so : ProtocolError → U → I → U → Type 0) (v w : View U Q I E) where
   pub told_sent : (error : E) → v.failing ≡ Some error → v.unsent ≡ [] → w ≡ record v { failing = None }
-      → EndSays reads given nothing breaks lacks seen leaves writes v w (Err (Service error))
+      → EndSays reads given nothing breaks lacks seen leaves writes unwritten_so v w (Err (Service error))
   told_sent error fails sent is = (told error ∷ [], (w, (fails, is), refl), inl (([], refl, tt), ap (λ x. x.unsent) is ∙ sent))
 
 module _ {U Q I E R : Type 0} (reads : U → List ℕ → R → Type 0) (given : Q → R → R) (nothing : R)
     (breaks : ProtocolError → R → Type 0) (lacks : ProtocolError → Type 0) (seen : U → List ℕ → Type 0)
-    (leaves : ProtocolError → U → List ℕ → U → List ℕ → Type 0) (writes : U → I → List ℕ → U → Type 0) (v w : View U Q I E) (cx : Context) where
+    (leaves : ProtocolError → U → List ℕ → U → List ℕ → Type 0) (writes : U → I → List ℕ → U → Type 0) (unwritten_so : ProtocolError → U → I → U → Type 0) (v w : View U Q I E) (cx : Context) where
   pub flush_counted : (answer : Poll (Result Unit config.Failed)) → IsFlushGood answer → Flushes v.wire w.wire cx.is_woken v.unsent w.unsent answer
-      → w ≡ record v { wire = w.wire; unsent = w.unsent } → TurnSays reads given nothing breaks lacks seen leaves writes v w cx Counted
+      → w ≡ record v { wire = w.wire; unsent = w.unsent } → TurnSays reads given nothing breaks lacks seen leaves writes unwritten_so v w cx Counted
   flush_counted answer good says is = (flushed says.0 answer ∷ [], (w, ((cx.is_woken, says.1), is), refl), ((good, tt), omega arith))
 
   pub flush_failed : (x : config.Failed) → w.failing ≡ None → Flushes v.wire w.wire cx.is_woken v.unsent w.unsent (Ready (Err x))
-      → w ≡ record v { wire = w.wire; unsent = w.unsent } → TurnSays reads given nothing breaks lacks seen leaves writes v w cx (Over (Err (Encoder protocol.Io)))
+      → w ≡ record v { wire = w.wire; unsent = w.unsent } → TurnSays reads given nothing breaks lacks seen leaves writes unwritten_so v w cx (Over (Err (Encoder protocol.Io)))
   flush_failed x none says is = (flushed says.0 (Ready (Err x)) ∷ [], (w, ((cx.is_woken, says.1), is), refl), (none, inr (inl (refl, (says.0, x, ([], refl, tt), says.1.answers)))))
 
   pub flush_idle : IsEnding w → Flushes {E = config.Failed} v.wire w.wire cx.is_woken v.unsent w.unsent Pending
-      → w ≡ record v { wire = w.wire; unsent = w.unsent } → TurnSays reads given nothing breaks lacks seen leaves writes v w cx Idle
+      → w ≡ record v { wire = w.wire; unsent = w.unsent } → TurnSays reads given nothing breaks lacks seen leaves writes unwritten_so v w cx Idle
   flush_idle ending says is = (flushed says.0 Pending ∷ [], (w, ((cx.is_woken, says.1), is), refl), ((tt, tt), inr (record { ending = ending; gave = says.0; last = ([], refl, tt); writing = waits_of cx says.1.answers })))
 
   pub wrote_counted : (message : I) (text : List ℕ) → IsOpen v → v.queue ≡ Ok (Item message) ∷ w.queue → writes v.codec message text w.codec
       → w ≡ record v { codec = w.codec; unsent = v.unsent ++ text; queue = w.queue }
-      → TurnSays reads given nothing breaks lacks seen leaves writes v w cx Counted
+      → TurnSays reads given nothing breaks lacks seen leaves writes unwritten_so v w cx Counted
   wrote_counted message text so queue writes is = (wrote message text ∷ [], (w, (so, queue, writes, is), refl), ((tt, tt), omega arith))
 
   pub unwritten_over : (message : I) (error : ProtocolError) → IsOpen v → v.queue ≡ Ok (Item message) ∷ w.queue
-      → w ≡ record v { codec = w.codec; queue = w.queue }
-      → TurnSays reads given nothing breaks lacks seen leaves writes v w cx (Over (Err (Encoder error)))
-  unwritten_over message error so queue is = (unwritten message error ∷ [], (w, (so, queue, is), refl), (ap (λ x. x.failing) is ∙ so.no_error, inl (message, ([], refl, tt))))
+      → w ≡ record v { codec = w.codec; queue = w.queue } → unwritten_so error v.codec message w.codec
+      → TurnSays reads given nothing breaks lacks seen leaves writes unwritten_so v w cx (Over (Err (Encoder error)))
+  unwritten_over message error so queue is why = (unwritten message error ∷ [], (w, (so, queue, is, why), refl), (ap (λ x. x.failing) is ∙ so.no_error, inl (message, ([], refl, tt))))
 
   pub closed_counted : IsOpen v → v.queue ≡ Ok Close ∷ w.queue → w ≡ record v { queue = w.queue; closing = true }
-      → TurnSays reads given nothing breaks lacks seen leaves writes v w cx Counted
+      → TurnSays reads given nothing breaks lacks seen leaves writes unwritten_so v w cx Counted
   closed_counted so queue is = (closed ∷ [], (w, (so, queue, is), refl), ((tt, tt), omega arith))
 
   pub failed_counted : (error : E) → IsOpen v → v.queue ≡ Err error ∷ w.queue → w ≡ record v { queue = w.queue; failing = Some error }
-      → TurnSays reads given nothing breaks lacks seen leaves writes v w cx Counted
+      → TurnSays reads given nothing breaks lacks seen leaves writes unwritten_so v w cx Counted
   failed_counted error so queue is = (failed error ∷ [], (w, (so, queue, is), refl), ((tt, tt), omega arith))
 
   still_settled : w.queue ≡ v.queue → w.unsent ≡ v.unsent → IsSettled v → IsSettled w
@@ -73,8 +73,8 @@ module _ {U Q I E R : Type 0} (reads : U → List ℕ → R → Type 0) (given :
   still_settled queue unsent (inr full) = inr (subst (λ l. 8192 ≤ length l) (sym unsent) full)
 
   -- a turn that only serves, since nothing is buffered
-  pub served : (turn : Turn E) → IsSettled v → v.unsent ≡ [] → ServeSays reads given nothing breaks lacks seen leaves writes v w cx turn
-      → TurnSays reads given nothing breaks lacks seen leaves writes v w cx turn
+  pub served : (turn : Turn E) → IsSettled v → v.unsent ≡ [] → ServeSays reads given nothing breaks lacks seen leaves writes unwritten_so v w cx turn
+      → TurnSays reads given nothing breaks lacks seen leaves writes unwritten_so v w cx turn
   served Counted settled sent says = says
   served (Over result) settled sent says = says
   served Idle settled sent says = (
@@ -95,11 +95,11 @@ module _ {U Q I E R : Type 0} (reads : U → List ℕ → R → Type 0) (given :
 
 module _ {U Q I E R : Type 0} (reads : U → List ℕ → R → Type 0) (given : Q → R → R) (nothing : R)
     (breaks : ProtocolError → R → Type 0) (lacks : ProtocolError → Type 0) (seen : U → List ℕ → Type 0)
-    (leaves : ProtocolError → U → List ℕ → U → List ℕ → Type 0) (writes : U → I → List ℕ → U → Type 0) (v u w : View U Q I E) (cx : Context) where
+    (leaves : ProtocolError → U → List ℕ → U → List ℕ → Type 0) (writes : U → I → List ℕ → U → Type 0) (unwritten_so : ProtocolError → U → I → U → Type 0) (v u w : View U Q I E) (cx : Context) where
   -- a flush failed, and then the error was told
   pub flush_told : (x : config.Failed) (error : E) → Flushes v.wire u.wire cx.is_woken v.unsent u.unsent (Ready (Err x))
       → u ≡ record v { wire = u.wire; unsent = u.unsent } → u.failing ≡ Some error → w ≡ record u { failing = None }
-      → TurnSays reads given nothing breaks lacks seen leaves writes v w cx (Over (Err (Service error)))
+      → TurnSays reads given nothing breaks lacks seen leaves writes unwritten_so v w cx (Over (Err (Service error)))
   flush_told x error says is fails then = (
     flushed says.0 (Ready (Err x)) ∷ told error ∷ [],
     (u, ((cx.is_woken, says.1), is), (w, (fails, then), refl)),
@@ -113,12 +113,12 @@ module _ {U Q I E R : Type 0} (reads : U → List ℕ → R → Type 0) (given :
 
   later_by : (gave : List ℕ) → Gave {E = config.Failed} v.wire u.wire cx.is_woken v.unsent gave u.unsent Pending
       → u ≡ record v { wire = u.wire; unsent = u.unsent } → Later v u
-  later_by gave gives is = step_later reads given nothing breaks lacks seen leaves writes v u (flushed gave Pending) ((cx.is_woken, gives), is)
+  later_by gave gives is = step_later reads given nothing breaks lacks seen leaves writes unwritten_so v u (flushed gave Pending) ((cx.is_woken, gives), is)
 
   -- a flush that was pending, and then a turn that serves
   pub flush_served : (turn : Turn E) (last : Context) → Keeps cx last → Flushes {E = config.Failed} v.wire u.wire cx.is_woken v.unsent u.unsent Pending
-      → u ≡ record v { wire = u.wire; unsent = u.unsent } → IsSettled u → ServeSays reads given nothing breaks lacks seen leaves writes u w last turn
-      → TurnSays reads given nothing breaks lacks seen leaves writes v w last turn
+      → u ≡ record v { wire = u.wire; unsent = u.unsent } → IsSettled u → ServeSays reads given nothing breaks lacks seen leaves writes unwritten_so u w last turn
+      → TurnSays reads given nothing breaks lacks seen leaves writes unwritten_so v w last turn
   flush_served Counted last kept flushes is settled says =
       (flushed flushes.0 Pending ∷ says.0, (u, ((cx.is_woken, flushes.1), is), says.1), ((tt, says.2.0), omega arith))
   flush_served (Over result) last kept flushes is settled says = (
@@ -138,9 +138,9 @@ module _ {U Q I E R : Type 0} (reads : U → List ℕ → R → Type 0) (given :
         writing = inr (
           flushes.0,
           refl,
-          waiting_still last flushes.0 (run_later reads given nothing breaks lacks seen leaves writes u w says.0 says.1) kept (waits_of cx flushes.1.answers),
+          waiting_still last flushes.0 (run_later reads given nothing breaks lacks seen leaves writes unwritten_so u w says.0 says.1) kept (waits_of cx flushes.1.answers),
         );
-        queue = still_settled reads given nothing breaks lacks seen leaves writes u w last says.2.2 says.2.3 settled;
+        queue = still_settled reads given nothing breaks lacks seen leaves writes unwritten_so u w last says.2.2 says.2.3 settled;
         needs = needs_behind v u w (flushed flushes.0 Pending ∷ []) says.0 (later_by flushes.0 flushes.1 is) (tt, tt) last says.0 w.calling w.waiting w.ended says.2.1;
       }),
     ),

@@ -48,9 +48,9 @@ clash is = cc
 
 module _ {U Q I E R : Type 0} (reads : U → List ℕ → R → Type 0) (given : Q → R → R) (nothing : R)
     (breaks : ProtocolError → R → Type 0) (lacks : ProtocolError → Type 0) (seen : U → List ℕ → Type 0)
-    (leaves : ProtocolError → U → List ℕ → U → List ℕ → Type 0) (writes : U → I → List ℕ → U → Type 0) (v w : View U Q I E) (cx : Context) where
+    (leaves : ProtocolError → U → List ℕ → U → List ℕ → Type 0) (writes : U → I → List ℕ → U → Type 0) (unwritten_so : ProtocolError → U → I → U → Type 0) (v w : View U Q I E) (cx : Context) where
   -- the run of one step
-  pub one : (d : Step Q I E) → IsStep reads given nothing breaks lacks seen leaves writes v d w → IsRun reads given nothing breaks lacks seen leaves writes v (d ∷ []) w
+  pub one : (d : Step Q I E) → IsStep reads given nothing breaks lacks seen leaves writes unwritten_so v d w → IsRun reads given nothing breaks lacks seen leaves writes unwritten_so v (d ∷ []) w
   one d is = (w, is, refl)
 
   -- a read, after which all but this is as before
@@ -58,7 +58,7 @@ module _ {U Q I E R : Type 0} (reads : U → List ℕ → R → Type 0) (given :
       → (woken : Bool) (came : List ℕ) → Items reads given nothing breaks lacks seen leaves v.wire w.wire woken v.codec v.unread came w.codec w.unread answer
       → w.unsent ≡ v.unsent → w.service ≡ v.service → w.waiting ≡ item_read answer → w.calling ≡ v.calling → w.queue ≡ v.queue
       → w.ended ≡ end_read answer → w.closing ≡ v.closing → w.failing ≡ v.failing
-      → IsRun reads given nothing breaks lacks seen leaves writes v (read came answer ∷ []) w
+      → IsRun reads given nothing breaks lacks seen leaves writes unwritten_so v (read came answer ∷ []) w
   was_read answer so waiting calling ended woken came items d e f g h i j k =
       one (read came answer) (
         so,
@@ -82,7 +82,7 @@ module _ {U Q I E R : Type 0} (reads : U → List ℕ → R → Type 0) (given :
       → ItemSays reads given nothing breaks lacks seen leaves v.wire w.wire cx.is_woken v.codec v.unread w.codec w.unread Pending
       → w.unsent ≡ v.unsent → w.service ≡ v.service → w.waiting ≡ v.waiting → w.calling ≡ v.calling → w.queue ≡ v.queue
       → w.ended ≡ v.ended → w.closing ≡ v.closing → w.failing ≡ v.failing
-      → ServeSays reads given nothing breaks lacks seen leaves writes v w cx Idle
+      → ServeSays reads given nothing breaks lacks seen leaves writes unwritten_so v w cx Idle
   read_pending so waiting calling ended says d e f g h i j k = (
     read says.0 Pending ∷ [],
     was_read Pending so waiting calling ended cx.is_woken says.0 says.1 d e (f ∙ none_waits v.waiting waiting) g h (i ∙ ended) j k,
@@ -93,7 +93,7 @@ module _ {U Q I E R : Type 0} (reads : U → List ℕ → R → Type 0) (given :
       → ItemSays reads given nothing breaks lacks seen leaves v.wire w.wire cx.is_woken v.codec v.unread w.codec w.unread answer
       → w.unsent ≡ v.unsent → w.service ≡ v.service → w.waiting ≡ item_read answer → w.calling ≡ v.calling → w.queue ≡ v.queue
       → w.ended ≡ end_read answer → w.closing ≡ v.closing → w.failing ≡ v.failing
-      → ServeSays reads given nothing breaks lacks seen leaves writes v w cx Counted
+      → ServeSays reads given nothing breaks lacks seen leaves writes unwritten_so v w cx Counted
   read_counted answer good so waiting calling ended says d e f g h i j k = (
     read says.0 answer ∷ [],
     was_read answer so waiting calling ended cx.is_woken says.0 says.1 d e f g h i j k,
@@ -105,7 +105,7 @@ module _ {U Q I E R : Type 0} (reads : U → List ℕ → R → Type 0) (given :
       → error ≡ read_error cause
       → w.unsent ≡ v.unsent → w.service ≡ v.service → w.waiting ≡ v.waiting → w.calling ≡ v.calling → w.queue ≡ v.queue
       → w.ended ≡ v.ended → w.closing ≡ v.closing → w.failing ≡ v.failing
-      → ServeSays reads given nothing breaks lacks seen leaves writes v w cx (Over (Err (Decoder error)))
+      → ServeSays reads given nothing breaks lacks seen leaves writes unwritten_so v w cx (Over (Err (Decoder error)))
   read_refused cause error so waiting calling ended says is d e f g h i j k = (
     read says.0 (Ready (Some (Err cause))) ∷ [],
     was_read (Ready (Some (Err cause))) so waiting calling ended cx.is_woken says.0 says.1 d e (f ∙ none_waits v.waiting waiting) g h (i ∙ ended) j k,
@@ -115,7 +115,7 @@ module _ {U Q I E R : Type 0} (reads : U → List ℕ → R → Type 0) (given :
   serves : (answer : Poll (Result Unit E)) → TakesNone answer → IsOpen v → v.calling ≡ false → ReadySays v.service w.service answer
       → w.wire ≡ v.wire → w.codec ≡ v.codec → w.unread ≡ v.unread → w.unsent ≡ v.unsent → w.waiting ≡ v.waiting → w.calling ≡ v.calling
       → w.queue ≡ v.queue → w.ended ≡ v.ended → w.closing ≡ v.closing → w.failing ≡ error_of_ready answer
-      → IsStep reads given nothing breaks lacks seen leaves writes v (ready answer) w
+      → IsStep reads given nothing breaks lacks seen leaves writes unwritten_so v (ready answer) w
   serves answer none so calling says a b c d f g h i j k =
       (so, calling, says, same_view (record v { service = w.service; failing = error_of_ready answer }) w a b c d refl f g h i j k, none)
 
@@ -128,7 +128,7 @@ module _ {U Q I E R : Type 0} (reads : U → List ℕ → R → Type 0) (given :
   pub ready_pending : IsOpen v → v.calling ≡ false → is_some v.waiting ≡ true → ReadySays v.service w.service Pending
       → w.wire ≡ v.wire → w.codec ≡ v.codec → w.unread ≡ v.unread → w.unsent ≡ v.unsent → w.waiting ≡ v.waiting → w.calling ≡ v.calling
       → w.queue ≡ v.queue → w.ended ≡ v.ended → w.closing ≡ v.closing → w.failing ≡ v.failing
-      → ServeSays reads given nothing breaks lacks seen leaves writes v w cx Idle
+      → ServeSays reads given nothing breaks lacks seen leaves writes unwritten_so v w cx Idle
   ready_pending so calling waiting says a b c d f g h i j k = (
     ready Pending ∷ [],
     one (ready Pending) (serves Pending tt so calling says a b c d f g h i j (k ∙ so.no_error)),
@@ -138,14 +138,14 @@ module _ {U Q I E R : Type 0} (reads : U → List ℕ → R → Type 0) (given :
   pub ready_failed : (error : E) → IsOpen v → v.calling ≡ false → ReadySays v.service w.service (Ready (Err error))
       → w.wire ≡ v.wire → w.codec ≡ v.codec → w.unread ≡ v.unread → w.unsent ≡ v.unsent → w.waiting ≡ v.waiting → w.calling ≡ v.calling
       → w.queue ≡ v.queue → w.ended ≡ v.ended → w.closing ≡ v.closing → w.failing ≡ Some error
-      → ServeSays reads given nothing breaks lacks seen leaves writes v w cx Counted
+      → ServeSays reads given nothing breaks lacks seen leaves writes unwritten_so v w cx Counted
   ready_failed error so calling says a b c d f g h i j k =
       (ready (Ready (Err error)) ∷ [], one (ready (Ready (Err error))) (serves (Ready (Err error)) tt so calling says a b c d f g h i j k), omega arith)
 
   call_polled : (answer : Poll (Result I E)) → IsOpen v → v.calling ≡ true → AnswerSays v.service w.service answer
       → w.wire ≡ v.wire → w.codec ≡ v.codec → w.unread ≡ v.unread → w.unsent ≡ v.unsent → w.waiting ≡ v.waiting → w.calling ≡ still_called answer
       → w.queue ≡ v.queue ++ answer_queued answer → w.ended ≡ v.ended → w.closing ≡ v.closing → w.failing ≡ error_of_answer answer
-      → IsRun reads given nothing breaks lacks seen leaves writes v (answered answer ∷ []) w
+      → IsRun reads given nothing breaks lacks seen leaves writes unwritten_so v (answered answer ∷ []) w
   call_polled answer so calling says a b c d f g h i j k =
       one (answered answer) (
         so,
@@ -163,7 +163,7 @@ module _ {U Q I E R : Type 0} (reads : U → List ℕ → R → Type 0) (given :
   pub call_pending : IsOpen v → v.calling ≡ true → AnswerSays v.service w.service Pending
       → w.wire ≡ v.wire → w.codec ≡ v.codec → w.unread ≡ v.unread → w.unsent ≡ v.unsent → w.waiting ≡ v.waiting → w.calling ≡ true
       → w.queue ≡ v.queue → w.ended ≡ v.ended → w.closing ≡ v.closing → w.failing ≡ v.failing
-      → ServeSays reads given nothing breaks lacks seen leaves writes v w cx Idle
+      → ServeSays reads given nothing breaks lacks seen leaves writes unwritten_so v w cx Idle
   call_pending so calling says a b c d f g h i j k = (
     answered Pending ∷ [],
     call_polled Pending so calling says a b c d f g (h ∙ sym (append-nil v.queue)) i j (k ∙ so.no_error),
@@ -173,16 +173,16 @@ module _ {U Q I E R : Type 0} (reads : U → List ℕ → R → Type 0) (given :
   pub call_answered : (answer : Result I E) → IsOpen v → v.calling ≡ true → AnswerSays v.service w.service (Ready answer)
       → w.wire ≡ v.wire → w.codec ≡ v.codec → w.unread ≡ v.unread → w.unsent ≡ v.unsent → w.waiting ≡ v.waiting → w.calling ≡ false
       → w.queue ≡ v.queue ++ answer_queued (Ready answer) → w.ended ≡ v.ended → w.closing ≡ v.closing → w.failing ≡ error_of_answer (Ready answer)
-      → ServeSays reads given nothing breaks lacks seen leaves writes v w cx Counted
+      → ServeSays reads given nothing breaks lacks seen leaves writes unwritten_so v w cx Counted
   call_answered answer so calling says a b c d f g h i j k =
       (answered (Ready answer) ∷ [], call_polled (Ready answer) so calling says a b c d f g h i j k, ((tt, tt), omega arith))
 
-  pub no_room : w ≡ v → IsOpen v → v.calling ≡ true → ServeSays reads given nothing breaks lacks seen leaves writes v w cx (Over (Err (Encoder protocol.NoMemory)))
+  pub no_room : w ≡ v → IsOpen v → v.calling ≡ true → ServeSays reads given nothing breaks lacks seen leaves writes unwritten_so v w cx (Over (Err (Encoder protocol.NoMemory)))
   no_room is so calling = ([], is, (ap (λ x. x.failing) is ∙ so.no_error, inr (inr (refl, tt, ap (λ x. x.calling) is ∙ calling))))
 
   pub asked : (between : Serving Q I E) (item : Q) → IsOpen v → v.calling ≡ false → v.waiting ≡ Some item → ReadySays v.service between (Ready (Ok tt))
       → CallSays between w.service item → w ≡ record v { service = w.service; waiting = None; calling = true }
-      → ServeSays reads given nothing breaks lacks seen leaves writes v w cx Counted
+      → ServeSays reads given nothing breaks lacks seen leaves writes unwritten_so v w cx Counted
   asked between item so calling waiting readies calls is = (
     called item ∷ [],
     one (called item) (so, waiting, calling, record { between = between; is_ready = readies; begun = calls }, is),

@@ -169,22 +169,22 @@ PollAnswers v w cx steps Pending = AllContinue steps × (IsStuck v w cx steps �
 
 module _ {U Q I E R : Type 0} (reads : U → List ℕ → R → Type 0) (given : Q → R → R) (nothing : R)
     (breaks : ProtocolError → R → Type 0) (lacks : ProtocolError → Type 0) (seen : U → List ℕ → Type 0)
-    (leaves : ProtocolError → U → List ℕ → U → List ℕ → Type 0) (writes : U → I → List ℕ → U → Type 0) where
+    (leaves : ProtocolError → U → List ℕ → U → List ℕ → Type 0) (writes : U → I → List ℕ → U → Type 0) (unwritten_so : ProtocolError → U → I → U → Type 0) where
   -- a turn is a run of steps
   abbrev pub TurnSays : View U Q I E → View U Q I E → Context → Turn E → Type 0
   TurnSays v w cx result =
-      (steps : List (Step Q I E)) × IsRun reads given nothing breaks lacks seen leaves writes v steps w × TurnAnswers v w cx steps result
+      (steps : List (Step Q I E)) × IsRun reads given nothing breaks lacks seen leaves writes unwritten_so v steps w × TurnAnswers v w cx steps result
 
   abbrev pub ServeSays : View U Q I E → View U Q I E → Context → Turn E → Type 0
   ServeSays v w cx result =
-      (steps : List (Step Q I E)) × IsRun reads given nothing breaks lacks seen leaves writes v steps w × ServeAnswers v w cx steps result
+      (steps : List (Step Q I E)) × IsRun reads given nothing breaks lacks seen leaves writes unwritten_so v steps w × ServeAnswers v w cx steps result
 
   -- the last turn is one, too
   abbrev pub EndSays : View U Q I E → View U Q I E → Result Unit (DispatcherError E) → Type 0
   EndSays v w result =
-      (steps : List (Step Q I E)) × IsRun reads given nothing breaks lacks seen leaves writes v steps w × Ended v w steps result
+      (steps : List (Step Q I E)) × IsRun reads given nothing breaks lacks seen leaves writes unwritten_so v steps w × Ended v w steps result
 
   -- a poll is a run of steps
   abbrev pub PollSays : View U Q I E → View U Q I E → Context → Poll (Result Unit (DispatcherError E)) → Type 0
   PollSays v w cx result =
-      (steps : List (Step Q I E)) × IsRun reads given nothing breaks lacks seen leaves writes v steps w × PollAnswers v w cx steps result
+      (steps : List (Step Q I E)) × IsRun reads given nothing breaks lacks seen leaves writes unwritten_so v steps w × PollAnswers v w cx steps result

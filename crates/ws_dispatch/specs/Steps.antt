@@ -84,9 +84,17 @@ pub record Begins {Q I E : Type 0} (old new : Serving Q I E) (item : Q) : Type 0
   pub is_ready : ReadySays old between (Ready (Ok tt))
   pub begun : CallSays between new item
 
+-- Why a message is not written: the codec refuses it, or there was no memory, and then the codec is as before. After it
+-- the codec is as it says.
+pub record Unwritten {U I E : Type 0} (refuses : E → U → I → Type 0) (lacks : E → Type 0) (leaves : E → U → U → Type 0)
+    (e : E) (old : U) (message : I) (new : U) : Type 0 where
+  pub refused : ¬ (lacks e) → refuses e old message
+  pub lacking : lacks e → new ≡ old
+  pub left : leaves e old new
+
 module _ {U Q I E R : Type 0} (reads : U → List ℕ → R → Type 0) (given : Q → R → R) (nothing : R)
     (breaks : ProtocolError → R → Type 0) (lacks : ProtocolError → Type 0) (seen : U → List ℕ → Type 0)
-    (leaves : ProtocolError → U → List ℕ → U → List ℕ → Type 0) (writes : U → I → List ℕ → U → Type 0) where
+    (leaves : ProtocolError → U → List ℕ → U → List ℕ → Type 0) (writes : U → I → List ℕ → U → Type 0) (unwritten_so : ProtocolError → U → I → U → Type 0) where
   -- What a step takes, and what it leaves: all but what is named stays.
   abbrev pub IsStep : View U Q I E → Step Q I E → View U Q I E → Type 0
   IsStep v (read came answer) w =
@@ -107,6 +115,7 @@ module _ {U Q I E R : Type 0} (reads : U → List ℕ → R → Type 0) (given :
       × (w ≡ record v { codec = w.codec; unsent = v.unsent ++ text; queue = w.queue })
   IsStep v (unwritten message error) w =
       IsOpen v × (v.queue ≡ Ok (Item message) ∷ w.queue) × (w ≡ record v { codec = w.codec; queue = w.queue })
+      × unwritten_so error v.codec message w.codec
   IsStep v closed w = IsOpen v × (v.queue ≡ Ok Close ∷ w.queue) × (w ≡ record v { queue = w.queue; closing = true })
   IsStep v (failed error) w = IsOpen v × (v.queue ≡ Err error ∷ w.queue) × (w ≡ record v { queue = w.queue; failing = Some error })
   IsStep v (flushed gave answer) w =

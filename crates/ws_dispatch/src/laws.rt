@@ -1,6 +1,6 @@
 //! What the steps of every run keep in order.
 ghost use Rattle.ws_dispatch.specs.View.{View};
-ghost use Rattle.ws_dispatch.specs.Steps.{Step, IsRun};
+ghost use Rattle.ws_dispatch.specs.Steps.{Step, IsRun, Unwritten};
 ghost use Rattle.ws_dispatch.specs.Order.{IsClean, KeepsReading, ReadsAll, AsksInOrder, TakesInOrder, SendsInOrder, Tells};
 ghost use Rattle.std.specs.Prelude.{List};
 
@@ -13,13 +13,13 @@ pub fn runs_keep_order<U, I: Drop, E: Drop>()
 where
     U: Decoder<Error = ProtocolError> + Encoder<I, Error = ProtocolError>,
     ensures asks { (v w : View U U.Item I E) (steps : List (Step U.Item I E))
-        → IsRun U.reads U.given U.nothing U.breaks U.lacks U.seen U.leaves U.writes v steps w → AsksInOrder v steps w }
+        → IsRun U.reads U.given U.nothing U.breaks U.Decoder.lacks U.seen U.Decoder.leaves U.writes (Unwritten U.refuses U.Encoder.lacks U.Encoder.leaves) v steps w → AsksInOrder v steps w }
     ensures takes { (v w : View U U.Item I E) (steps : List (Step U.Item I E))
-        → IsRun U.reads U.given U.nothing U.breaks U.lacks U.seen U.leaves U.writes v steps w → TakesInOrder v steps w }
+        → IsRun U.reads U.given U.nothing U.breaks U.Decoder.lacks U.seen U.Decoder.leaves U.writes (Unwritten U.refuses U.Encoder.lacks U.Encoder.leaves) v steps w → TakesInOrder v steps w }
     ensures sends { (v w : View U U.Item I E) (steps : List (Step U.Item I E))
-        → IsRun U.reads U.given U.nothing U.breaks U.lacks U.seen U.leaves U.writes v steps w → SendsInOrder v steps w }
+        → IsRun U.reads U.given U.nothing U.breaks U.Decoder.lacks U.seen U.Decoder.leaves U.writes (Unwritten U.refuses U.Encoder.lacks U.Encoder.leaves) v steps w → SendsInOrder v steps w }
     ensures tells { (v w : View U U.Item I E) (steps : List (Step U.Item I E))
-        → IsRun U.reads U.given U.nothing U.breaks U.lacks U.seen U.leaves U.writes v steps w → Tells v steps w }
+        → IsRun U.reads U.given U.nothing U.breaks U.Decoder.lacks U.seen U.Decoder.leaves U.writes (Unwritten U.refuses U.Encoder.lacks U.Encoder.leaves) v steps w → Tells v steps w }
 {}
 
 /// Over every run in which nothing was refused, the items that were read are those that the bytes say that stood there
@@ -29,5 +29,5 @@ pub fn items_are_those_of_the_bytes<U, I: Drop, E: Drop>()
 where
     U: Decoder<Error = ProtocolError> + Encoder<I, Error = ProtocolError>,
     ensures { KeepsReading U.reads U.writes → (v w : View U U.Item I E) (steps : List (Step U.Item I E))
-        → IsRun U.reads U.given U.nothing U.breaks U.lacks U.seen U.leaves U.writes v steps w → IsClean steps → ReadsAll U.reads U.given v steps w }
+        → IsRun U.reads U.given U.nothing U.breaks U.Decoder.lacks U.seen U.Decoder.leaves U.writes (Unwritten U.refuses U.Encoder.lacks U.Encoder.leaves) v steps w → IsClean steps → ReadsAll U.reads U.given v steps w }
 {}

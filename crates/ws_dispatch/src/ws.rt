@@ -1,17 +1,19 @@
 //! A dispatcher of WebSocket frames.
 ghost use Rattle.std.specs.Prelude.{◌≡◌, [], true, false};
 ghost use Rattle.ws_frames.specs.CodecState.{codec_server, codec_limit, codec_reading, codec_sending};
-ghost use Rattle.ws_frames.specs.Framing.{Reads, Writes};
+ghost use Rattle.ws_frames.specs.Framing.{Reads, Writes, Forbids};
+ghost use Rattle.ws_frames.specs.declared.error.ProtocolError.TheVariants as errors;
 ghost use Rattle.ws_dispatch.specs.Order.{KeepsReading};
 ghost use Rattle.ws_dispatch.specs.View.{view_of, view_begun};
 ghost use Rattle.ws_dispatch.specs.Polls.{MayBePolled};
+ghost use Rattle.ws_dispatch.specs.Steps.{Unwritten};
 
 use crate::inner;
 use http_services::Service;
 use http_wires::{Framed, Wire};
 use rand_core::Rng;
 use std::alloc::Global;
-use ws_frames::{Codec, Frame, Message, NoWords};
+use ws_frames::{Codec, Frame, Message, NoWords, ProtocolError};
 
 /// A service over the frames of a WebSocket, as a server (RFC 6455): each frame that is read goes to it, and its answers
 /// are written. The parameters are the service and its call, the wire, and why the service fails.
@@ -36,4 +38,10 @@ where
 /// A codec of frames that has written a message reads as before.
 pub fn writing_leaves_what_is_read<R: Rng>()
     ensures { KeepsReading (Reads {R = R}) (Writes R.stream) }
+{}
+
+/// A codec of frames that can't write a message never answers that a wire failed.
+pub fn no_message_fails_the_wire<R: Rng>()
+    ensures { (error : ProtocolError) (old new : Codec R) (message : Message)
+        → Unwritten (Forbids {R = R}) (λ e. e ≡ errors.NoMemory) (λ e before after. after ≡ before) error old message new → ¬ (error ≡ errors.Io) }
 {}

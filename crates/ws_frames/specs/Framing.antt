@@ -1,6 +1,7 @@
 -- What bytes say to a codec, and the text that one writes.
 use Rattle.std.specs.Prelude.{◌≡◌, ℕ, List, [], ◌∷◌, Option, Some, None, IsSome}
-use Rattle.std.proofs.Common.{sym, subst, ◌∙◌}
+use Rattle.std.proofs.Common.{refl, sym, subst, ◌∙◌}
+use Rattle.std.proofs.lemmas.Bool.{false≢true}
 use Rattle.rand_core.specs.Stream.{Stream}
 use Rattle.h1_model.specs.Frame as model
 use Rattle.h1_model.specs.FrameText.{front_frame, send_error}
@@ -62,4 +63,4 @@ Forbids error codec message =
 pub forbidden_has_no_text : {R : Type 0} (stream : R → Stream) (old new : Codec R) (message : Message) (text : List ℕ) (error : ProtocolError)
     → Forbids error old message → ¬ (Writes stream old message text new)
 forbidden_has_no_text stream old new message text error forbids wrote =
-    subst (λ (o : Option model.ProtocolError). IsSome o) (sym forbids.1 ∙ wrote.0) tt
+    false≢true (subst (λ (o : Option model.ProtocolError). IsSome o) (sym forbids.1 ∙ wrote.0) refl)

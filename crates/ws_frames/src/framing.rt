@@ -9,6 +9,7 @@ use rand_core::Rng;
 impl<R> Decoder for Codec<R> {
     ghost use Rattle.std.specs.Prelude.{◌≡◌, ⊤, false};
     ghost use Rattle.ws_frames.specs.CodecState.{with_reading};
+    ghost use Rattle.ws_frames.specs.declared.codec.Codec.{Codec};
     ghost use Rattle.ws_frames.specs.Framing.{Frames, Reads, given, no_frames, Breaks, LeftAfter};
     ghost use Rattle.ws_frames.specs.declared.error.ProtocolError.TheVariants as errors;
 

@@ -22,6 +22,7 @@ pub(crate) fn next_item<T: Wire, U: Decoder>(
 ) -> Poll<Option<Result<U::Item, FramedError<U::Error>>>>
     ensures says { ItemSays U.reads U.given U.nothing U.breaks U.lacks U.seen U.leaves (T.wiring io.old) (T.wiring io.new) cx.new.is_woken
         codec.old unread.old.items codec.new unread.new.items result }
+    ensures beside { U.beside codec.new ≡ U.beside codec.old }
     ensures registered { OnPending result (IsArmed cx.new) }
     ensures kept { Keeps cx.old cx.new }
 {

@@ -3,6 +3,7 @@ ghost use Rattle.std.specs.Prelude.{◌≡◌};
 ghost use Rattle.futures.specs.Poll.{OnPending};
 ghost use Rattle.futures.specs.Task.{IsArmed, Keeps};
 ghost use Rattle.ws_dispatch.specs.View.{view_of};
+ghost use Rattle.ws_dispatch.specs.Steps.{Unwritten};
 ghost use Rattle.ws_dispatch.specs.Polls.{MayBePolled, PollSays};
 
 use super::dispatcher::{Dispatcher, Turn};
@@ -28,7 +29,7 @@ where
     /// After an error it may be polled again.
     pub fn poll(&mut self, cx: &mut Context<'_>) -> Poll<Result<(), DispatcherError<S::Error>>>
         requires open { MayBePolled S.calling self.old }
-        ensures says { PollSays U.reads U.given U.nothing U.breaks U.lacks U.seen U.leaves U.writes (view_of T.wiring S.served self.old) (view_of T.wiring S.served self.new) cx.new result }
+        ensures says { PollSays U.reads U.given U.nothing U.breaks U.Decoder.lacks U.seen U.Decoder.leaves U.writes (Unwritten U.refuses U.Encoder.lacks U.Encoder.leaves) (view_of T.wiring S.served self.old) (view_of T.wiring S.served self.new) cx.new result }
         ensures open { MayBePolled S.calling self.new }
         ensures registered { OnPending result (IsArmed cx.new) }
         ensures kept { Keeps cx.old cx.new }

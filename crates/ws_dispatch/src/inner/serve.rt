@@ -2,7 +2,7 @@
 ghost use Rattle.std.specs.Prelude.{◌≡◌, ◌⊎◌, true, false, [], is_some};
 ghost use Rattle.futures.specs.Task.{IsArmed, Keeps};
 ghost use Rattle.ws_dispatch.specs.View.{view_of};
-ghost use Rattle.ws_dispatch.specs.Steps.{IsOpen};
+ghost use Rattle.ws_dispatch.specs.Steps.{IsOpen, Unwritten};
 ghost use Rattle.ws_dispatch.specs.Polls.{MayBePolled, IsSettled, OnIdle, ServeSays, read_error};
 
 use super::dispatcher::{Dispatcher, End, Turn};
@@ -27,7 +27,7 @@ where
         requires is_open { IsOpen (view_of T.wiring S.served self.old) }
         requires settled { IsSettled (view_of T.wiring S.served self.old) }
         requires armed { ((view_of T.wiring S.served self.old).unsent ≡ []) ⊎ IsArmed cx.old }
-        ensures says { ServeSays U.reads U.given U.nothing U.breaks U.lacks U.seen U.leaves U.writes (view_of T.wiring S.served self.old) (view_of T.wiring S.served self.new) cx.new result }
+        ensures says { ServeSays U.reads U.given U.nothing U.breaks U.Decoder.lacks U.seen U.Decoder.leaves U.writes (Unwritten U.refuses U.Encoder.lacks U.Encoder.leaves) (view_of T.wiring S.served self.old) (view_of T.wiring S.served self.new) cx.new result }
         ensures open { MayBePolled S.calling self.new }
         ensures registered { OnIdle result (IsArmed cx.new) }
         ensures kept { Keeps cx.old cx.new }
@@ -52,7 +52,7 @@ where
         requires open { MayBePolled S.calling self.old }
         requires is_open { IsOpen (view_of T.wiring S.served self.old) }
         requires calling { is_some self.old.call ≡ true }
-        ensures says { ServeSays U.reads U.given U.nothing U.breaks U.lacks U.seen U.leaves U.writes (view_of T.wiring S.served self.old) (view_of T.wiring S.served self.new) cx.new result }
+        ensures says { ServeSays U.reads U.given U.nothing U.breaks U.Decoder.lacks U.seen U.Decoder.leaves U.writes (Unwritten U.refuses U.Encoder.lacks U.Encoder.leaves) (view_of T.wiring S.served self.old) (view_of T.wiring S.served self.new) cx.new result }
         ensures open { MayBePolled S.calling self.new }
         ensures registered { OnIdle result (IsArmed cx.new) }
         ensures kept { Keeps cx.old cx.new }
@@ -85,7 +85,7 @@ where
         requires is_open { IsOpen (view_of T.wiring S.served self.old) }
         requires calling { is_some self.old.call ≡ false }
         requires waiting { is_some self.old.waiting ≡ true }
-        ensures says { ServeSays U.reads U.given U.nothing U.breaks U.lacks U.seen U.leaves U.writes (view_of T.wiring S.served self.old) (view_of T.wiring S.served self.new) cx.new result }
+        ensures says { ServeSays U.reads U.given U.nothing U.breaks U.Decoder.lacks U.seen U.Decoder.leaves U.writes (Unwritten U.refuses U.Encoder.lacks U.Encoder.leaves) (view_of T.wiring S.served self.old) (view_of T.wiring S.served self.new) cx.new result }
         ensures open { MayBePolled S.calling self.new }
         ensures registered { OnIdle result (IsArmed cx.new) }
         ensures kept { Keeps cx.old cx.new }
@@ -113,7 +113,7 @@ where
         requires calling { is_some self.old.call ≡ false }
         requires waiting { is_some self.old.waiting ≡ false }
         requires goes_on { self.old.ended ≡ false }
-        ensures says { ServeSays U.reads U.given U.nothing U.breaks U.lacks U.seen U.leaves U.writes (view_of T.wiring S.served self.old) (view_of T.wiring S.served self.new) cx.new result }
+        ensures says { ServeSays U.reads U.given U.nothing U.breaks U.Decoder.lacks U.seen U.Decoder.leaves U.writes (Unwritten U.refuses U.Encoder.lacks U.Encoder.leaves) (view_of T.wiring S.served self.old) (view_of T.wiring S.served self.new) cx.new result }
         ensures open { MayBePolled S.calling self.new }
         ensures registered { OnIdle result (IsArmed cx.new) }
         ensures kept { Keeps cx.old cx.new }

@@ -2,7 +2,7 @@
 ghost use Rattle.std.specs.Prelude.{◌≡◌, [], IsTrue, IsFalse};
 ghost use Rattle.futures.specs.Task.{IsArmed, Keeps};
 ghost use Rattle.ws_dispatch.specs.View.{view_of};
-ghost use Rattle.ws_dispatch.specs.Steps.{IsOpen};
+ghost use Rattle.ws_dispatch.specs.Steps.{IsOpen, Unwritten};
 ghost use Rattle.ws_dispatch.specs.Polls.{MayBePolled, IsEnding, OnIdle, EndSays, TurnSays};
 
 use super::dispatcher::{Dispatcher, End, Turn};
@@ -25,7 +25,7 @@ where
     /// One turn.
     pub(crate) fn turn(&mut self, cx: &mut Context<'_>) -> Turn<S::Error>
         requires open { MayBePolled S.calling self.old }
-        ensures says { TurnSays U.reads U.given U.nothing U.breaks U.lacks U.seen U.leaves U.writes (view_of T.wiring S.served self.old) (view_of T.wiring S.served self.new) cx.new result }
+        ensures says { TurnSays U.reads U.given U.nothing U.breaks U.Decoder.lacks U.seen U.Decoder.leaves U.writes (Unwritten U.refuses U.Encoder.lacks U.Encoder.leaves) (view_of T.wiring S.served self.old) (view_of T.wiring S.served self.new) cx.new result }
         ensures open { MayBePolled S.calling self.new }
         ensures registered { OnIdle result (IsArmed cx.new) }
         ensures kept { Keeps cx.old cx.new }
@@ -49,7 +49,7 @@ where
     fn finish(&mut self, cx: &mut Context<'_>) -> Turn<S::Error>
         requires open { MayBePolled S.calling self.old }
         requires ending { IsEnding (view_of T.wiring S.served self.old) }
-        ensures says { TurnSays U.reads U.given U.nothing U.breaks U.lacks U.seen U.leaves U.writes (view_of T.wiring S.served self.old) (view_of T.wiring S.served self.new) cx.new result }
+        ensures says { TurnSays U.reads U.given U.nothing U.breaks U.Decoder.lacks U.seen U.Decoder.leaves U.writes (Unwritten U.refuses U.Encoder.lacks U.Encoder.leaves) (view_of T.wiring S.served self.old) (view_of T.wiring S.served self.new) cx.new result }
         ensures open { MayBePolled S.calling self.new }
         ensures registered { OnIdle result (IsArmed cx.new) }
         ensures kept { Keeps cx.old cx.new }
@@ -76,7 +76,7 @@ where
         requires open { MayBePolled S.calling self.old }
         requires ending { IsEnding (view_of T.wiring S.served self.old) }
         requires sent { (view_of T.wiring S.served self.old).unsent ≡ [] }
-        ensures says { EndSays U.reads U.given U.nothing U.breaks U.lacks U.seen U.leaves U.writes (view_of T.wiring S.served self.old) (view_of T.wiring S.served self.new) result }
+        ensures says { EndSays U.reads U.given U.nothing U.breaks U.Decoder.lacks U.seen U.Decoder.leaves U.writes (Unwritten U.refuses U.Encoder.lacks U.Encoder.leaves) (view_of T.wiring S.served self.old) (view_of T.wiring S.served self.new) result }
         ensures open { MayBePolled S.calling self.new }
     {
         match mem::replace(&mut self.end, End::Open) {

@@ -2,7 +2,7 @@
 ghost use Rattle.std.specs.Prelude.{IsTrue};
 ghost use Rattle.futures.specs.Task.{IsArmed, Keeps};
 ghost use Rattle.ws_dispatch.specs.View.{view_of};
-ghost use Rattle.ws_dispatch.specs.Steps.{IsOpen};
+ghost use Rattle.ws_dispatch.specs.Steps.{IsOpen, Unwritten};
 ghost use Rattle.ws_dispatch.specs.Polls.{MayBePolled, IsSettled, OnIdle, TurnSays};
 
 use super::dispatcher::{Dispatcher, End, Turn};
@@ -26,7 +26,7 @@ where
     pub(super) fn take(&mut self, cx: &mut Context<'_>) -> Turn<S::Error>
         requires open { MayBePolled S.calling self.old }
         requires is_open { IsOpen (view_of T.wiring S.served self.old) }
-        ensures says { TurnSays U.reads U.given U.nothing U.breaks U.lacks U.seen U.leaves U.writes (view_of T.wiring S.served self.old) (view_of T.wiring S.served self.new) cx.new result }
+        ensures says { TurnSays U.reads U.given U.nothing U.breaks U.Decoder.lacks U.seen U.Decoder.leaves U.writes (Unwritten U.refuses U.Encoder.lacks U.Encoder.leaves) (view_of T.wiring S.served self.old) (view_of T.wiring S.served self.new) cx.new result }
         ensures open { MayBePolled S.calling self.new }
         ensures registered { OnIdle result (IsArmed cx.new) }
         ensures kept { Keeps cx.old cx.new }
@@ -56,7 +56,7 @@ where
         requires open { MayBePolled S.calling self.old }
         requires is_open { IsOpen (view_of T.wiring S.served self.old) }
         requires settled { IsSettled (view_of T.wiring S.served self.old) }
-        ensures says { TurnSays U.reads U.given U.nothing U.breaks U.lacks U.seen U.leaves U.writes (view_of T.wiring S.served self.old) (view_of T.wiring S.served self.new) cx.new result }
+        ensures says { TurnSays U.reads U.given U.nothing U.breaks U.Decoder.lacks U.seen U.Decoder.leaves U.writes (Unwritten U.refuses U.Encoder.lacks U.Encoder.leaves) (view_of T.wiring S.served self.old) (view_of T.wiring S.served self.new) cx.new result }
         ensures open { MayBePolled S.calling self.new }
         ensures registered { OnIdle result (IsArmed cx.new) }
         ensures kept { Keeps cx.old cx.new }

@@ -1,4 +1,4 @@
-use Rattle.std.proofs.Common.{◌≡◌, ap, Ok, rules, ◌++◌}
+use Rattle.std.proofs.Common.{◌≡◌, ◌∙◌, ap, Ok, rules, ◌++◌}
 use Rattle.http_wires.proofs.ReadOn.{item_says, more_read, end_says, fault_says}
 use Rattle.http_wires.proofs.framed.read.next_item.Goals as goal
 
@@ -49,5 +49,6 @@ loop-turn-preserved g c =
             c.loop-turn.cx.is_woken c.decode.new.self c.decode.new.src.items goes (c.in-Ok-None.ensures.waiting (ap Ok c.in-Ok-None.field-0-is))
             c.in-Ok-None.ensures.seen (g.T.Wire.wiring c.read_piece.new.io) says.0 c.read_piece.new.unread.items c.in-Ready-Ok.count says.1 (search rules),
       );
+      beside = c.decode.ensures.beside ∙ inv.beside;
       kept = search rules;
     }

@@ -3,12 +3,13 @@ use Rattle.futures.specs.Task.{Keeps}
 use Rattle.ws_dispatch.specs.View.{view_of}
 use Rattle.ws_dispatch.specs.Steps.{Step, IsRun}
 use Rattle.ws_dispatch.specs.Polls.{MayBePolled, AllContinue}
+use Rattle.ws_dispatch.specs.Steps.{Unwritten}
 use Rattle.ws_dispatch.proofs.inner.poll.Dispatcher+S+S+Call+T+U+U+Item+I+S+Error.poll.Given as goal
 
 abbrev pub invariant-loop-turn : goal.invariant-loop-turn
 invariant-loop-turn g l = record {
   run : (steps : List (Step g.row.U-Item.Denot g.row.I.Denot g.row.S-Error.Denot))
-      × IsRun g.U.Decoder.reads g.U.Decoder.given g.U.Decoder.nothing g.U.Decoder.breaks g.U.Decoder.lacks g.U.Decoder.seen g.U.Decoder.leaves g.U.Encoder.writes
+      × IsRun g.U.Decoder.reads g.U.Decoder.given g.U.Decoder.nothing g.U.Decoder.breaks g.U.Decoder.lacks g.U.Decoder.seen g.U.Decoder.leaves g.U.Encoder.writes (Unwritten g.U.Encoder.refuses g.U.Encoder.lacks g.U.Encoder.leaves)
       (view_of g.T.Wire.wiring g.S.Service.served l.fn.self) steps (view_of g.T.Wire.wiring g.S.Service.served l.self)
       × AllContinue steps
       × (l.turn ≤ length steps);
