@@ -44,10 +44,11 @@ abbrev pub section_of : machine.Rest → List ℕ
 section_of (machine.chunks_rest place section) = section
 section_of rest = []
 
--- a pull that tells the end or a fault needs no memory, and one that gives nothing none, where it has no text of a
--- trailer section to keep
+-- a pull that gives the end, a fault or a broken rule needs no memory, and one that gives nothing none, where it has no
+-- text of a trailer section to keep
 abbrev pub IsLight : machine.Rest → Outcome → machine.Rest → Type 0
 IsLight old on.body_ended rest = ⊤
 IsLight old (on.broken_by fault) rest = ⊤
+IsLight old (on.protocol error) rest = ⊤
 IsLight old on.pending rest = section_of rest ≡ section_of old
 IsLight old o rest = ⊥

@@ -73,7 +73,8 @@ impl Section {
 pub(crate) fn whole_text(alloc: Global, kept: &[u8], more: &[u8]) -> Result<Bytes, NoMemory>
     ensures { IfOk result (λ text. text ≡ (kept.now ++ more.now) ++ crlf_bytes) }
 {
-    let mut text = Vec::new(alloc);
+    let len = kept.len().saturating_add(more.len()).saturating_add(2);
+    let mut text = Vec::with_capacity(alloc, len)?;
     text.extend_from_slice(kept)?;
     text.extend_from_slice(more)?;
     text.extend_from_slice(b"\r\n")?;

@@ -48,7 +48,7 @@ fn read_lines(alloc: Global, text: &Bytes, fields: &[HeaderSpan]) -> Result<Head
     requires lines { All IsLine (map (header_bytes text.now) fields.now) }
     ensures { IfOk result (λ headers. headers ≡ header_map (map line_header (map (header_bytes text.now) fields.now))) }
 {
-    let mut headers = HeaderMap::new(alloc);
+    let mut headers = HeaderMap::with_capacity(alloc, fields.len())?;
     for field in fields {
         let (name, value) = read_line(alloc, text, *field)?;
         headers.append(name, value)?;
