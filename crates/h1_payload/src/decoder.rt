@@ -103,8 +103,8 @@ impl PayloadDecoder {
     ///
     /// `None` comes where the bytes have no further byte of the body, nor its end: these bytes are passed. `Invalid`
     /// comes where the bytes break the grammar of chunks; from then on it comes for good, and the bytes stay.
-    /// Where memory ran out, all is as it was. The end and a fault need no memory, and neither does a `None`, but for the text of a
-    /// trailer section that is kept.
+    /// Where memory ran out, all is as it was. The end and a fault need no memory, and neither does a `None`, but for the
+    /// text of a trailer section that is kept.
     pub fn decode(&mut self, src: &mut BytesMut) -> Result<Option<PayloadItem>, DecodeError>
         ensures decoded { IsDecoded self.old src.old.items result self.new src.new.items }
         ensures goes_on { IfOk result (λ answer. GoesOn Reads given self.old src.old.items (in_front Reads given answer) self.new src.new.items) }
