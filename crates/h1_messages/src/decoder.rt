@@ -17,7 +17,7 @@ use http_types::ParseError;
 use std::alloc::Global;
 use std::marker::{Model, PhantomData};
 
-/// Reads the heads of messages from bytes that come in pieces, each with what reads the body behind it. `T` says which
+/// Reads the heads of messages from bytes that come in pieces, each with what reads the body after it. `T` says which
 /// messages: requests are `HeadItem`s, answers `ResponseItem`s. Of an answer it gives the body that its lines frame: whoever
 /// asked by HEAD reads none.
 ///
@@ -46,7 +46,7 @@ impl<T> MessageDecoder<T> {
         MessageDecoder::with_limit(DEFAULT_HOLD_SIZE)
     }
 
-    /// A decoder of heads that end within so many bytes, counted from behind the message before, with the empty lines
+    /// A decoder of heads that end within `limit` bytes, counted from the end of the message before, with the empty lines
     /// in front of a head.
     pub fn with_limit(limit: usize) -> Self
         ensures limit { result.limit ≡ limit }
@@ -61,7 +61,7 @@ impl<T> MessageDecoder<T> {
 }
 
 impl<T: ReadHead> MessageDecoder<T> {
-    /// The next head, once it is whole, with what reads the body behind it. The head is taken off the front of
+    /// The next head, once it is whole, with what reads the body after it. The head is taken off the front of
     /// `src`, with the empty lines before it. Its bytes are copied once, so that a refusal leaves `src`, and so that what
     /// keeps the head doesn't keep the read buffer.
     ///
@@ -70,8 +70,8 @@ impl<T: ReadHead> MessageDecoder<T> {
     /// many, or it has more than 96 header lines; and else what `T::read_head` refuses, in its order. The only other
     /// error is `NoMemory`. An error changes nothing.
     ///
-    /// Behind a `None` the next call goes on in the same bytes, with any others behind them, and looks only at these.
-    /// Where other bytes stand there in place of those that it has seen, the answer says nothing. Behind a head it has
+    /// After a `None` the next call goes on in the same bytes, with any others after them, and looks only at these.
+    /// Where other bytes stand there in place of those that it has seen, the answer says nothing. After a head it has
     /// seen nothing: whatever was taken of the bytes in between, as the body, the next call finds the next head.
     pub fn decode(&mut self, src: &mut BytesMut) -> Result<Option<(T, PayloadType)>, ParseError>
         ensures none { HasSeen self.old src.old.items → ((result ≡ Ok None) ↔ IsWaiting self.old.limit src.old.items) }
@@ -103,7 +103,7 @@ impl<T: ReadHead> MessageDecoder<T> {
     }
 }
 
-/// What the head says that the bytes are, and what reads the body behind it.
+/// What the head says that the bytes are, and what reads the body after it.
 fn read_item<T: ReadHead>(alloc: Global, piece: &[u8]) -> Result<(T, PayloadType), ParseError>
     ensures item { IfOk result (IsItemOf T.kind piece.now) }
     ensures fault { IfErr result (λ e. UnlessNoMemory e (T.kind.reads piece.now (says_fault (fault_of e)))) }

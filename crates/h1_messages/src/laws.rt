@@ -6,7 +6,7 @@ ghost use Rattle.h1_messages.specs.Heads.{Search, HasSeen, Item, Stop, refused, 
 
 use crate::read_head::ReadHead;
 
-/// Fed in any pieces, a decoder that has seen nothing gives the heads of all bytes, one behind the other.
+/// Fed in any pieces, a decoder that has seen nothing gives the heads of all bytes, one after another.
 pub fn heads_are_given<T: ReadHead>()
     ensures { (search : Search) (calls : List (Fed Search (Item T))) (z : List ℕ) (r : Heads T)
         → ((bytes : List ℕ) → HasSeen search bytes)

@@ -1,4 +1,4 @@
-//! Messages from bytes that come in pieces: each head as soon as it is whole, with what reads the body behind it.
+//! Messages from bytes that come in pieces: each head as soon as it is whole, with what reads the body after it.
 //! All that is wanted for it stands here: the scan and the heads of `h1_decode`, the bodies of `h1_payload`.
 //!
 //! # Example

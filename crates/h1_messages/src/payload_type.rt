@@ -6,7 +6,7 @@ ghost use Rattle.h1_messages.specs.Heads.{payload_of};
 use h1_payload::PayloadDecoder;
 use http_framing::BodyKind;
 
-/// What reads the body behind a head, which begins with the next byte.
+/// What reads the body after a head, which begins with the next byte.
 #[derive(Debug, Drop)]
 pub enum PayloadType {
     /// There is no body.

@@ -15,7 +15,7 @@ pub trait ReadHead: Sized + Drop {
     // What a piece is read as, what a head says of it, and why a piece is refused.
     ghost kind: { Kind Self };
 
-    /// What the head says that `piece` is. A piece that is none is refused; the only other error is `NoMemory`.
+    /// What the head says that `piece` is. A piece that is no head is refused; the only other error is `NoMemory`.
     fn read_head(alloc: Global, piece: Bytes) -> Result<Self, ParseError>
         ensures head { IfOk result (λ item. (h : kind.Head) × kind.reads piece (says_head h) × kind.says item h) }
         ensures fault { IfErr result (λ e. UnlessNoMemory e (kind.reads piece (says_fault (fault_of e)))) }

@@ -15,7 +15,7 @@ pub enum ChunkedState {
     /// In the digits of a size.
     Size,
 
-    /// In the blanks behind them.
+    /// In the blanks after them.
     SizeLws,
 
     /// In an extension.
@@ -27,7 +27,7 @@ pub enum ChunkedState {
     /// In the bytes of a chunk.
     Body,
 
-    /// In front of the CR behind them.
+    /// In front of the CR after them.
     BodyCr,
 
     /// In front of the LF there.
@@ -42,7 +42,7 @@ pub enum ChunkedState {
     /// In front of the LF that ends the body.
     EndLf,
 
-    /// Behind the body.
+    /// After the body.
     End,
 }
 
@@ -52,7 +52,7 @@ impl ChunkedState {
     /// and gives `Trailer`.
     ///
     /// `Pending` comes exactly where a byte is wanted and none is there, and `Invalid` exactly where the next byte breaks
-    /// the grammar of chunks. After these and after want of memory all is as before.
+    /// the grammar of chunks. After these, and where memory ran out, all is as before.
     pub fn step(
         &self,
         body: &mut BytesMut,
@@ -90,7 +90,7 @@ impl ChunkedState {
     }
 }
 
-/// The state at a place behind a byte.
+/// The state at a place after a byte.
 fn state_at(place: Place) -> ChunkedState
     ensures { result ≡ state_at (place_of place) }
 {
@@ -184,7 +184,7 @@ fn step_body(
     }
 }
 
-/// The state behind bytes of a chunk, of which so many are missing.
+/// The state after bytes of a chunk, of which `size` are missing.
 fn behind_bytes(size: u64) -> ChunkedState
     ensures { result ≡ behind_bytes size }
 {

@@ -83,7 +83,7 @@ impl ChunkReader {
     }
 
     /// Takes what comes next: all bytes of the current chunk that are there, and else the trailers, the end or a fault.
-    /// It passes what it read, but for a fault, which leaves all as it was. So does want of memory.
+    /// It passes what it read, but for a fault, which leaves all as it was, and so does a call that finds no memory.
     pub(crate) fn take(
         &mut self,
         unread: &mut BytesMut,

@@ -39,7 +39,7 @@ impl Model for PayloadDecoder {
 }
 
 impl PayloadDecoder {
-    /// A body of so many bytes. It takes no memory.
+    /// A body of `x` bytes. It takes no memory.
     pub fn length(x: u64) -> Self
         ensures { result ≡ record { rest = (if x == 0 then no_rest else fixed_rest x); is_broken = false } }
     {
@@ -99,12 +99,12 @@ impl PayloadDecoder {
     }
 
     /// The next piece of the body, once it is there: all bytes of the current chunk that are there, or of another body;
-    /// then the trailers, where there are some; then the end, again and again. It passes no byte behind the body.
+    /// then the trailers, where there are some; then the end, again and again. It passes no byte after the body.
     ///
     /// `None` comes where the bytes have no further byte of the body, nor its end: these bytes are passed. `Invalid`
-    /// comes where the bytes break the grammar of chunks; from then on it comes for good, and the bytes stay. Want of
-    /// memory leaves all as it was. The end and a fault need no memory, and neither does a `None`, but for the text of a
-    /// trailer section that is kept.
+    /// comes where the bytes break the grammar of chunks; from then on it comes for good, and the bytes stay.
+    /// Where memory ran out, all is as it was. The end and a fault need no memory, and neither does a `None`, but for the
+    /// text of a trailer section that is kept.
     pub fn decode(&mut self, src: &mut BytesMut) -> Result<Option<PayloadItem>, DecodeError>
         ensures decoded { IsDecoded self.old src.old.items result self.new src.new.items }
         ensures goes_on { IfOk result (λ answer. GoesOn Reads given self.old src.old.items (in_front Reads given answer) self.new src.new.items) }

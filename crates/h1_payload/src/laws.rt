@@ -12,7 +12,7 @@ ghost use Rattle.h1_payload.specs.Decoding.{Decoding, Payload, Reads, given, chu
 ghost use Rattle.h1_payload.specs.declared.item.PayloadItem.{PayloadItem};
 ghost use Rattle.h1_payload.specs.Fitting.{Fits, GivesSome};
 
-/// A whole body fits, and behind a pull what is left fits as well.
+/// A whole body fits, and after a pull what is left fits as well.
 pub fn rests_fit()
     ensures whole { (kind : BodyKind) → Fits (whole_rest kind) }
     ensures pulled { (is_ended : Bool) (rest : Rest) (bytes : List ℕ) (p : pulls.Pulled) → Fits rest → IsPull is_ended rest bytes p → Fits p.rest }
@@ -43,8 +43,8 @@ pub fn chunks_are_given()
         → all_told Reads given calls p ≡ chunked_payload t rest }
 {}
 
-/// A decoder of so many bytes gives the first ones, in whatever pieces they come, and then the end, and takes no byte
-/// behind them.
+/// A decoder of a stated length gives the first bytes, in whatever pieces they come, and then the end, and takes no byte
+/// after them.
 pub fn a_length_is_given()
     ensures { (n : ℕ) (calls : List (Fed Decoding PayloadItem)) (z : List ℕ) (p : Payload)
         → AreFed Reads given (record { rest = whole_rest (fixed_body n); is_broken = false }) [] calls

@@ -26,7 +26,7 @@ pub(crate) fn pass_body(start: Place, bytes: &[u8]) -> (usize, Place)
     (at, place)
 }
 
-/// Passes as many bytes of a chunk as are there, or the usual ones between two chunks, or one byte. Behind a body, and
+/// Passes as many bytes of a chunk as are there, or the usual ones between two chunks, or one byte. After a body, and
 /// where it is broken, it passes none.
 #[inline(always)]
 fn pass_next(place: Place, bytes: &[u8], at: usize) -> Option<(usize, Place)>
@@ -56,7 +56,7 @@ fn pass_between(place: Place, bytes: &[u8], at: usize) -> (usize, Place)
     (at + 1, place.step(bytes[at]))
 }
 
-/// Passes the bytes of a chunk that are there, where so many follow the first.
+/// Passes the bytes of a chunk that are there, where `more` follow the first.
 fn pass_chunk(more: u64, bytes: &[u8], at: usize) -> (usize, Place)
     requires { at < length bytes.now }
     ensures { LeadsTo (in_bytes more) bytes.now at result.0 (place_of result.1) }

@@ -24,7 +24,7 @@ pub(crate) enum Line {
     /// In its value.
     Value,
 
-    /// Behind its CR.
+    /// After its CR.
     Cr,
 }
 
@@ -34,31 +34,31 @@ pub(crate) enum Place {
     /// In a line that says a size, which is this so far.
     Size(u64),
 
-    /// In the blanks behind the digits of this size.
+    /// In the blanks after the digits of this size.
     Blanks(u64),
 
-    /// In the extension behind this size.
+    /// In the extension after this size.
     Extension(u64),
 
-    /// Behind the CR of the line of this size.
+    /// After the CR of the line of this size.
     SizeCr(u64),
 
     /// In front of a byte of a chunk, which this many follow.
     Bytes(u64),
 
-    /// Behind the bytes of a chunk.
+    /// After the bytes of a chunk.
     BytesEnd,
 
-    /// Behind the CR that follows these.
+    /// After the CR that follows these.
     BytesCr,
 
-    /// In a trailer section, which may still have so many lines, and so many bytes.
+    /// In a trailer section, with the number of lines, and that of bytes, which it may still have.
     Section(Line, usize, usize),
 
-    /// Behind the CR of the empty line.
+    /// After the CR of the empty line.
     EndCr,
 
-    /// Behind the body.
+    /// After the body.
     Done,
 
     /// Nowhere in a body.
@@ -66,7 +66,7 @@ pub(crate) enum Place {
 }
 
 impl Line {
-    /// The numbers of a section that is here, with so many lines and bytes to come.
+    /// The numbers of a section that is here, with this number of lines and that of bytes to come.
     fn numbers(self, lines: usize, room: usize) -> [u64; 3]
         ensures { result ≡ section_numbers (line_of self) lines room }
     {
@@ -110,7 +110,7 @@ impl Place {
         MAX_TRAILER_BYTES,
     );
 
-    /// The place behind one more byte.
+    /// The place after one more byte.
     #[inline(always)]
     pub(crate) fn step(self, byte: u8) -> Place
         ensures { place_of result ≡ step (place_of self) byte }
@@ -164,7 +164,7 @@ fn expect(wanted: u8, byte: u8, next: Place) -> Place
     if byte == wanted { next } else { Place::Broken }
 }
 
-/// Behind the digits of a size.
+/// After the digits of a size.
 fn after_digits(size: u64, byte: u8) -> Place
     ensures { place_of result ≡ after_digits size byte }
 {
@@ -207,7 +207,7 @@ fn extension_step(size: u64, byte: u8) -> Place
     }
 }
 
-/// Behind a size line.
+/// After a size line.
 #[inline(always)]
 pub(crate) fn after_line(size: u64) -> Place
     ensures { place_of result ≡ after_line size }
@@ -219,7 +219,7 @@ pub(crate) fn after_line(size: u64) -> Place
     }
 }
 
-/// Behind a byte of a chunk.
+/// After a byte of a chunk.
 #[inline(always)]
 fn bytes_step(more: u64) -> Place
     ensures { place_of result ≡ bytes_step more }
@@ -243,7 +243,7 @@ fn needs(at: Line) -> usize
     }
 }
 
-/// Behind a byte of the section, where the rest of its line has room.
+/// After a byte of the section, where the rest of its line has room.
 fn with_room(to: Line, lines: usize, room: usize) -> Place
     ensures { place_of result ≡ with_room (line_of to) lines room }
 {
@@ -254,7 +254,7 @@ fn with_room(to: Line, lines: usize, room: usize) -> Place
     }
 }
 
-/// Behind one more byte of a trailer section.
+/// After one more byte of a trailer section.
 fn section_step(at: Line, lines: usize, room: usize, byte: u8) -> Place
     ensures { place_of result ≡ section_step (line_of at) lines room byte }
 {
@@ -280,7 +280,7 @@ fn start_step(lines: usize, room: usize, byte: u8) -> Place
     }
 }
 
-/// A byte of a name, or the colon behind it.
+/// A byte of a name, or the colon after it.
 fn name_step(lines: usize, room: usize, byte: u8) -> Place
     ensures { place_of result ≡ section_step in_name lines room byte }
 {
@@ -294,7 +294,7 @@ fn name_step(lines: usize, room: usize, byte: u8) -> Place
     }
 }
 
-/// A byte of a value, or the CR behind it.
+/// A byte of a value, or the CR after it.
 fn value_step(lines: usize, room: usize, byte: u8) -> Place
     ensures { place_of result ≡ section_step in_value lines room byte }
 {

@@ -21,13 +21,13 @@ pub enum Pulled {
     /// These bytes, of which there is one at least. They share the memory of the buffer.
     Bytes(Bytes),
 
-    /// The trailers, of which there is one at least: behind them the body has ended (RFC 7230, section 4.1.2).
+    /// The trailers, of which there is one at least: after them the body has ended (RFC 7230, section 4.1.2).
     Trailers(HeaderMap),
 
     /// The body has ended.
     End,
 
-    /// The body is none.
+    /// The body is broken.
     Broken(BodyFault),
 
     /// Nothing before more bytes are read.
@@ -46,7 +46,7 @@ impl Pulled {
         }
     }
 
-    /// Whether the body is none.
+    /// Whether the body is broken.
     pub(crate) fn is_fault(&self) -> bool
         ensures { result ≡ is_fault self.now }
     {

@@ -145,7 +145,7 @@ impl Rest {
     /// the current chunk, that is there, as a shared piece; and else trailers, the end or a fault. What it gives is
     /// passed, and so is what it read of chunks, but for a fault.
     ///
-    /// `has_ended` says that no bytes will follow. Want of memory leaves all as it was. The end and a fault need no
+    /// `has_ended` says that no bytes will follow. Where memory ran out, all is as it was. The end and a fault need no
     /// memory, and neither does a pull that gives nothing, but for the text of a trailer section that it keeps.
     ///
     /// Once a body in chunks was passed over, a trailer section that it is in has no text any more, and its trailers
@@ -250,7 +250,7 @@ fn pull_raw(unread: &mut BytesMut, has_ended: bool) -> Result<Pulled, NoMemory>
     }
 }
 
-/// Of a body of so many bytes, those that are there, and what is left of it.
+/// Of a body of `len` bytes, those that are there, and what is left of it.
 fn pull_fixed(len: u64, unread: &mut BytesMut, has_ended: bool) -> Result<(Pulled, Left), NoMemory>
     ensures pulled { IfOk result (λ answer. IsPulled (pull_fixed has_ended len unread.old.items) answer.0
         (rest_of answer.1) unread.new.items) }
@@ -298,7 +298,7 @@ fn pass_left(left: &mut Left, unread: &mut BytesMut, has_ended: bool)
     }
 }
 
-/// What is left of a body of so many bytes, once those that are there are passed.
+/// What is left of a body of `len` bytes, once those that are there are passed.
 fn pass_fixed(len: u64, unread: &mut BytesMut) -> Left
     ensures rest { rest_of result ≡ (pass_rest false (fixed_rest len) unread.old.items).rest }
     ensures unread { unread.new.items ≡ (pass_rest false (fixed_rest len) unread.old.items).unread }

@@ -11,7 +11,7 @@ use crate::size_line::pass_usual;
 /// What comes next, by where it stands in the bytes.
 #[derive(Clone, Copy, Debug, PartialEq, Eq)]
 pub(crate) enum Found {
-    /// Bytes of a chunk, from the first index up to the second; and the place behind them.
+    /// Bytes of a chunk, from the first index up to the second; and the place after them.
     Chunk(usize, usize, Place),
 
     /// Nothing yet: all bytes lead to this place.
@@ -58,7 +58,7 @@ fn plain(at: usize, found: Found) -> Scan
     }
 }
 
-/// Passes what is none of a chunk or of a trailer line, and says how many bytes, and the place behind them.
+/// Passes what is none of a chunk or of a trailer line, and says how many bytes, and the place after them.
 fn pass_quiet(start: Place, bytes: &[u8]) -> (usize, Place)
     ensures { IsPassed start bytes.now result.0 result.1 }
 {
@@ -75,7 +75,7 @@ fn pass_quiet(start: Place, bytes: &[u8]) -> (usize, Place)
     (at, place)
 }
 
-/// The bytes of a chunk that are there, from an index on, where so many follow the first.
+/// The bytes of a chunk that are there, from an index on, where `more` follow the first.
 fn find_chunk(more: u64, bytes: &[u8], at: usize) -> Found
     requires { at ≤ length bytes.now }
     ensures value { take_next (in_bytes more) (drop at bytes.now) ≡ nothing_noted (next_of bytes.now result) }
@@ -108,7 +108,7 @@ fn scan_section(line: Line, lines: usize, room: usize, bytes: &[u8], at: usize) 
     }
 }
 
-/// Passes the bytes of trailer lines, and says how many, and the place in the section behind them.
+/// Passes the bytes of trailer lines, and says how many, and the place in the section after them.
 fn pass_lines(line: Line, lines: usize, room: usize, bytes: &[u8]) -> (usize, Place)
     ensures { IsLinesPassed (in_section (line_of line) lines room) bytes.now result.0 result.1 }
 {
@@ -123,7 +123,7 @@ fn pass_lines(line: Line, lines: usize, room: usize, bytes: &[u8]) -> (usize, Pl
     (bytes.len(), place)
 }
 
-/// What comes next behind trailer lines: where there is a byte, it ends the section.
+/// What comes next after trailer lines: where there is a byte, it ends the section.
 fn find_end(place: Place, bytes: &[u8], at: usize) -> Found
     requires within { at ≤ length bytes.now }
     requires lines { is_section (place_of place) ≡ true }
@@ -141,7 +141,7 @@ fn find_end(place: Place, bytes: &[u8], at: usize) -> Found
     }
 }
 
-/// What comes next behind the CR of the empty line.
+/// What comes next after the CR of the empty line.
 fn find_line_feed(bytes: &[u8], at: usize) -> Found
     requires { at ≤ length bytes.now }
     ensures value { take_next end_cr (drop at bytes.now) ≡ nothing_noted (next_of bytes.now result) }

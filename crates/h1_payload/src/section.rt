@@ -69,7 +69,7 @@ impl Section {
     }
 }
 
-/// The text of a section that came in two parts, and the empty line behind it.
+/// The text of a section that came in two parts, and the empty line after it.
 pub(crate) fn whole_text(alloc: Global, kept: &[u8], more: &[u8]) -> Result<Bytes, NoMemory>
     ensures { IfOk result (λ text. text ≡ (kept.now ++ more.now) ++ crlf_bytes) }
 {

@@ -1,4 +1,4 @@
-//! The usual bytes between two chunks: the line end behind the first, and a size line of digits alone. A digit costs
+//! The usual bytes between two chunks: the line end after the first, and a size line of digits alone. A digit costs
 //! little here, where no place is kept between two of them.
 ghost use Rattle.std.specs.Prelude.{◌≤◌, length};
 ghost use Rattle.std.specs.Bool.{OnTrue};
@@ -9,7 +9,7 @@ ghost use Rattle.h1_payload.specs.QuietWays.{LeadsQuietly, HasLineEnd};
 use crate::place::{Place, after_line};
 use httparse::parse_hex_digit;
 
-/// Passes these bytes, from an index on, as far as they are the usual ones, and says up to where, and the place behind
+/// Passes these bytes, from an index on, as far as they are the usual ones, and says up to where, and the place after
 /// them. Of other bytes it may pass none.
 #[inline(always)]
 pub(crate) fn pass_usual(start: Place, bytes: &[u8], from: usize) -> (usize, Place)

@@ -15,7 +15,7 @@ use std::alloc::{AllocError, Global};
 /// The shortest trailer line: a byte of a name, a colon and a line end.
 const MIN_LINE_BYTES: usize = 4;
 
-/// The map of the lines of a section, of which this is the text with the empty line behind it. A text that is no
+/// The map of the lines of a section, of which this is the text with the empty line after it. A text that is no
 /// such section gives an empty map.
 pub(crate) fn read_trailers(alloc: Global, text: &Bytes) -> Result<HeaderMap, NoMemory>
     requires { length text.now ≤ 8194 }

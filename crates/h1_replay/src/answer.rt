@@ -17,7 +17,7 @@ use std::alloc::Global;
 // What stands between a header's name and its value.
 const EQUALS: u8 = b'=';
 
-/// The answer that the words behind a line's first one name.
+/// The answer that the words after a line's first one name.
 pub fn answer(alloc: Global, mut words: Pieces<'_>) -> Result<Event, LineError>
     ensures { Reads result (answer_of words.entry) }
 {
@@ -51,7 +51,7 @@ fn marked_head(alloc: Global, status: StatusCode, marks: Marks) -> ResponseHead
     head
 }
 
-// A reason behind a slash, where the first word is one, and headers.
+// A reason after a slash, where the first word is one, and headers.
 fn put_words(alloc: Global, head: &mut ResponseHead, mut words: Pieces<'_>) -> Result<(), LineError>
     ensures { ReadsInto result (with_words words.entry head.old) head.new }
 {

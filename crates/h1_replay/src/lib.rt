@@ -38,7 +38,7 @@
 //! # Contract
 //!
 //! The status and the text of an answer are those of the script's one trace, or name the first line or event that has
-//! none, and nothing is written before the whole text is made; only want of memory may come at any time.
+//! none, and nothing is written before the whole text is made; only an answer that memory ran out may come at any time.
 #![tactic(auto)]
 
 mod answer;

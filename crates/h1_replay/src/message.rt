@@ -10,7 +10,7 @@ use bytes::Bytes;
 use h1_connection::{CloseCode, CloseReason, Event, Item, Message, SentMessage};
 use std::alloc::Global;
 
-/// The message that the words behind a line's first one name.
+/// The message that the words after a line's first one name.
 pub fn send(alloc: Global, mut words: Pieces<'_>) -> Result<Event, LineError>
     ensures { Reads result (send_of words.entry) }
 {
@@ -23,7 +23,7 @@ pub fn send(alloc: Global, mut words: Pieces<'_>) -> Result<Event, LineError>
     }
 }
 
-// A message by its kind and the words behind it.
+// A message by its kind and the words after it.
 fn message(alloc: Global, kind: &[u8], words: Pieces<'_>) -> Result<Message, LineError>
     ensures { ReadsMessage result (message_of kind.now words.entry) }
 {

@@ -7,7 +7,7 @@ use std::marker::Model;
 /// The pieces of a text between its marks. A clause sees the list of those that are left.
 #[derive(Drop)]
 pub struct Pieces<'a> {
-    // What stands behind the last mark, until the last piece was given.
+    // What stands after the last mark, until the last piece was given.
     rest: Option<&'a [u8]>,
     mark: u8,
 }
@@ -70,7 +70,7 @@ ghost use Rattle.std.specs.List.{slice_split};
 ghost use Rattle.std.specs.Option.{option_copied};
 ghost use Rattle.h1_replay.specs.Pieces.{pieces_left};
 
-/// The piece in front of the first `mark`, and what stands behind that mark, where there is one.
+/// The piece in front of the first `mark`, and what stands after that mark, where there is one.
 fn first_piece(text: &[u8], mark: u8) -> (&[u8], Option<&[u8]>)
     ensures { slice_split (λ b. b == mark) text.now ≡ result.0.now ∷ pieces_left mark (option_copied result.1) }
 {

@@ -14,8 +14,8 @@ use std::alloc::Global;
 
 /// Answers the program's words: reads `input` to its end as a script and writes its report. The
 /// answer is the exit status: 0 for a report, 1 for wrong words, 2 for a bad line, 3 for a misplaced
-/// event, 4 for a failed read, 5 for a failed write, 6 for more than 16777216 bytes of input, 7 for
-/// want of memory. Nothing is written before the whole text is made.
+/// event, 4 for a failed read, 5 for a failed write, 6 for more than 16777216 bytes of input, 7 where
+/// memory ran out. Nothing is written before the whole text is made.
 pub fn run<S: Source, K: Sink>(alloc: Global, words: &[String], input: &mut S, output: &mut K) -> u8
     ensures known { result ≤ 7 }
 
@@ -27,12 +27,12 @@ pub fn run<S: Source, K: Sink>(alloc: Global, words: &[String], input: &mut S, o
     ensures cut { result ≡ 5 → ((status : ℕ) × (text : List ℕ) × IsAnswer (map (λ w. string_bytes w) words.now) (S.left input.old) (S.left input.new) status text
         × AppendsPrefix (K.given output.old) (K.given output.new) text) }
 
-    // Faults are told only where there were any.
+    // Faults are named only where there were any.
     ensures read_fault { result ≡ 4 → Rose (S.faults input.old) (S.faults input.new) }
     ensures write_fault { result ≡ 5 → Rose (K.faults output.old) (K.faults output.new) }
 
     // Where no end fails, a script whose every event is allowed gets 0, and another one 3 with the place of the first
-    // that isn't; but for want of memory, which is 7.
+    // that isn't; but for 7, where memory ran out.
     ensures complete { IsReplay (map (λ w. string_bytes w) words.now) → IsGood (S.left input.old)
         → NoEndFailed (S.faults input.old) (S.faults input.new) (K.faults output.old) (K.faults output.new)
         → (result ≡ 0) ⊎ (result ≡ 7) }

@@ -68,7 +68,7 @@ fn put_outcome(alloc: Global, text: &mut Vec<u8>, noted: &Noted) -> Result<(), N
     }
 }
 
-// A word behind a name.
+// A word after a name.
 fn put_named(text: &mut Vec<u8>, name: &[u8], word: &[u8]) -> Result<(), NoMemory>
     ensures { OnOk result (text.new.items ≡ text.old.items ++ name.now ++ word.now) }
 {
@@ -76,7 +76,7 @@ fn put_named(text: &mut Vec<u8>, name: &[u8], word: &[u8]) -> Result<(), NoMemor
     text.extend_from_slice(word)
 }
 
-// Bytes in hex behind a name.
+// Bytes in hex after a name.
 fn put_named_hex(
     alloc: Global,
     text: &mut Vec<u8>,
@@ -115,7 +115,7 @@ fn put_body_part(text: &mut Vec<u8>, item: &HeadItem) -> Result<(), NoMemory>
     put_spaced(text, expect_word(item.head.expect()))
 }
 
-// A word behind a blank.
+// A word after a blank.
 fn put_spaced(text: &mut Vec<u8>, word: &[u8]) -> Result<(), NoMemory>
     ensures { OnOk result (text.new.items ≡ text.old.items ++ spaced word.now) }
 {

@@ -54,7 +54,7 @@ pub fn read_script(alloc: Global, text: &[u8]) -> Result<Script, ScriptError>
     Ok(Script { config, events })
 }
 
-// As many events as the text can have at most, each on a line of its own of four bytes or more behind the first one.
+// As many events as the text can have at most, each on a line of its own of four bytes or more after the first one.
 // With that much room from the start the events never move.
 fn most_events(text: &[u8]) -> usize {
     memchr_iter(LINE_FEED, text).count().min(text.len() / 4 + 1)
@@ -69,7 +69,7 @@ fn without_last_feed(text: &[u8]) -> &[u8]
     }
 }
 
-// The events of the second line and those behind it.
+// The events of the second line and those after it.
 fn event_lines(
     alloc: Global,
     hold_size: usize,

@@ -36,7 +36,7 @@ fn put_fragment(alloc: Global, text: &mut Vec<u8>, item: &Item) -> Result<(), No
     }
 }
 
-// A payload in hex behind a kind.
+// A payload in hex after a kind.
 fn put_payload(
     alloc: Global,
     text: &mut Vec<u8>,

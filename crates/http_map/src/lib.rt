@@ -45,7 +45,7 @@
 //! # Contract
 //!
 //! A clause sees a map as the list of its names, each with the list of its values: every call gives
-//! exactly what that list gives, and leaves what it says; want of memory leaves the map as it was.
+//! exactly what that list gives, and leaves what it says; a call that finds no memory leaves the map as it was.
 #![tactic(auto)]
 
 mod any_case;

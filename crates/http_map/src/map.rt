@@ -51,7 +51,7 @@ impl HeaderMap {
         }
     }
 
-    /// An empty map that asked for room for so many names.
+    /// An empty map that asked for room for `capacity` names.
     pub fn with_capacity(alloc: Global, capacity: usize) -> Result<HeaderMap, NoMemory>
         ensures empty { IfOk result (λ map. map ≡ []) }
         ensures no_memory_needed { capacity ≡ 0 → IsOk result }

@@ -89,7 +89,7 @@ impl Names {
         }
     }
 
-    /// No names, with room for so many.
+    /// No names, with room for `capacity` of them.
     pub(crate) fn with_capacity(alloc: Global, capacity: usize) -> Result<Names, NoMemory>
         ensures empty { IfOk result (λ names. names ≡ []) }
         ensures no_memory_needed { capacity ≡ 0 → IsOk result }
@@ -199,7 +199,7 @@ impl Names {
         }
     }
 
-    /// Asks for room for so many more names. Where there is none yet and they would be too many for a list, they
+    /// Asks for room for `additional` more names. Where there is none yet and they would be too many for a list, they
     /// are hashed from the first on.
     pub(crate) fn reserve(&mut self, additional: usize) -> Result<(), NoMemory>
         ensures { self.new ≡ self.old }

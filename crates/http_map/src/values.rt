@@ -95,7 +95,7 @@ impl Values {
         }
     }
 
-    /// Adds a last value. It grows first, so want of memory changes nothing.
+    /// Adds a last value. It grows first, so nothing changes where there is no memory.
     pub(crate) fn push(&mut self, alloc: Global, value: HeaderValue) -> Result<(), NoMemory>
         ensures ok { OnOk result (self.new ≡ self.old ++ value ∷ []) }
         ensures err { OnErr result (self.new ≡ self.old) }

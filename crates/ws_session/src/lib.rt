@@ -1,4 +1,4 @@
-//! The upgrade of a connection to WebSocket (RFC 6455, section 4.2), and the frames behind it without a connection.
+//! The upgrade of a connection to WebSocket (RFC 6455, section 4.2), and the frames after it without a connection.
 //!
 //! [`verify_handshake`] says whether a request asks for the upgrade as it has to, and the first check that fails otherwise,
 //! and [`accept_key_of`] is the answer to its key; neither takes memory. [`handshake`] gives the whole answer, and
@@ -22,7 +22,8 @@
 //! # Contract
 //!
 //! A request is judged by the head that it was read from, and also by its own method and headers. The frames of a session
-//! are those of all bytes that were pushed; a broken rule is answered again for good; want of memory changes nothing.
+//! are those of all bytes that were pushed; a broken rule is answered again for good; where memory ran out,
+//! nothing changes.
 #![tactic(auto)]
 
 mod answer;

@@ -52,7 +52,7 @@ impl Session {
         }
     }
 
-    /// Adds bytes behind those that were pushed before. Where memory ran out, nothing changes.
+    /// Adds bytes after those that were pushed before. Where memory ran out, nothing changes.
     pub fn push(&mut self, bytes: &[u8]) -> Result<(), NoMemory>
         ensures ok { OnOk result (self.new ≡ with_unread (self.old.unread ++ bytes.now) self.old) }
         ensures err { OnErr result (self.new ≡ self.old) }
@@ -63,7 +63,7 @@ impl Session {
         self.extend(bytes)
     }
 
-    /// Adds bytes behind those that aren't read.
+    /// Adds bytes after those that aren't read.
     fn extend(&mut self, bytes: &[u8]) -> Result<(), NoMemory>
         ensures ok { OnOk result (self.new ≡ with_unread (self.old.unread ++ bytes.now) self.old) }
         ensures err { OnErr result (self.new ≡ self.old) }

@@ -31,7 +31,7 @@ impl HeaderMap {
     }
 
     /// Puts the value in place of all those under the name, whose place among the names stays, and
-    /// gives the old ones. A name that was not there comes last. Only such a name may want memory,
+    /// gives the old ones. A name that was not there comes last. Only such a name may need memory,
     /// and where there is none the map is left as it was.
     pub fn insert(&mut self, name: HeaderName, val: HeaderValue) -> Result<Removed, NoMemory>
         ensures ok { OnOk result (self.new ≡ insert self.old name val) }
@@ -60,8 +60,8 @@ impl HeaderMap {
         self.len < usize::MAX || self.names.contains(name.as_bytes())
     }
 
-    /// Adds a last value to those of the name, or the name at the end. It grows first, so want of
-    /// memory leaves the map as it was.
+    /// Adds a last value to those of the name, or the name at the end. It grows first, so that
+    /// the map stays as it was where memory ran out.
     #[inline(always)]
     pub fn append(&mut self, key: HeaderName, value: HeaderValue) -> Result<(), NoMemory>
         ensures ok { OnOk result (self.new ≡ append self.old key value) }
@@ -91,7 +91,7 @@ impl HeaderMap {
         removed
     }
 
-    /// Asks for room for so many more names. For more than 32 in an empty map it is a table at once, to which no
+    /// Asks for room for `additional` more names. For more than 32 in an empty map it is a table at once, to which no
     /// name is copied later.
     pub fn reserve(&mut self, additional: usize) -> Result<(), NoMemory>
         ensures { self.new ≡ self.old }

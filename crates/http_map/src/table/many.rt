@@ -16,7 +16,7 @@ use std::alloc::Global;
 
 pub(super) type Hashed = IndexMap<HeaderName, Values>;
 
-// No names, with room for so many. It is out of the way of few.
+// No names, with room for `capacity` of them. It is out of the way of few.
 #[inline(never)]
 pub(super) fn with_capacity(alloc: Global, capacity: usize) -> Result<Box<Hashed>, NoMemory>
     ensures { IfOk result (λ names. names.value.entries ≡ []) }
