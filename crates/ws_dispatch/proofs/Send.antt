@@ -1,5 +1,5 @@
 -- Steps of a turn that writes and sends.
-use Rattle.std.proofs.Common.{◌≡◌, ◌≤◌, ◌⊎◌, ◌++◌, ℕ, Bool, true, Some, None, List, [], ◌∷◌, length, Result, Ok, Err, inl, inr, refl, sym, ap, ◌∙◌, subst, arith}
+use Rattle.std.proofs.Common.{◌≡◌, ◌≤◌, ◌⊎◌, ◌++◌, ℕ, true, Some, None, List, [], ◌∷◌, length, Result, Ok, Err, inl, inr, refl, sym, ap, ◌∙◌, subst, arith}
 use Rattle.futures.specs.declared.task.Poll.{Poll}
 use Rattle.futures.specs.Task.{Lasting, Holds, Keeps}
 use Rattle.futures.specs.declared.task.Poll.TheVariants.{Ready, Pending}
@@ -11,7 +11,7 @@ use Rattle.http_wires.specs.Flushes.{Gave, Flushes}
 use Rattle.ws_frames.specs.declared.error.ProtocolError.{ProtocolError}
 use Rattle.ws_frames.specs.declared.error.ProtocolError.TheVariants as protocol
 use Rattle.ws_dispatch.specs.View.{View, IsSent}
-use Rattle.ws_dispatch.specs.Steps.{Step, IsOpen, is_unflushed, wrote, unwritten, closed, failed, flushed, told}
+use Rattle.ws_dispatch.specs.Steps.{IsOpen, is_unflushed, wrote, unwritten, closed, failed, flushed, told}
 use Rattle.ws_dispatch.specs.Polls.{AskedAgain, IsFlushGood, FlushWaits, IsEnding, IsSettled, TurnSays, ServeSays, EndSays}
 use Rattle.ws_dispatch.specs.declared.inner.queue.Message.TheVariants.{Item, Close}
 use Rattle.ws_dispatch.specs.declared.inner.dispatcher.Turn.{Turn}

@@ -1,5 +1,5 @@
 -- Steps of a turn that serves.
-use Rattle.std.proofs.Common.{◌≡◌, ◌⊎◌, ◌++◌, ℕ, Bool, true, false, Option, Some, None, is_some, List, [], ◌∷◌, Result, Ok, Err, inl, inr, refl, sym, ap, ◌∙◌, arith, append-nil}
+use Rattle.std.proofs.Common.{◌≡◌, ◌++◌, ℕ, Bool, true, false, Option, Some, None, is_some, List, [], ◌∷◌, Result, Ok, Err, inl, inr, refl, sym, ap, ◌∙◌, arith, append-nil}
 use Rattle.futures.specs.declared.task.Poll.{Poll}
 use Rattle.futures.specs.declared.task.Poll.TheVariants.{Ready, Pending}
 use Rattle.futures.specs.declared.task.context.Context.{Context}
@@ -11,7 +11,7 @@ use Rattle.http_wires.specs.declared.framed.error.FramedError.{FramedError}
 use Rattle.ws_frames.specs.declared.error.ProtocolError.{ProtocolError}
 use Rattle.ws_frames.specs.declared.error.ProtocolError.TheVariants as protocol
 use Rattle.ws_dispatch.specs.View.{View}
-use Rattle.ws_dispatch.specs.Steps.{Step, Reading, IsOpen, Begins, IsStep, IsRun, TakesNone, item_read, end_read, error_of_ready, error_of_answer, answer_queued, still_called, read, ready, called, answered}
+use Rattle.ws_dispatch.specs.Steps.{Step, Reading, IsOpen, IsStep, IsRun, TakesNone, item_read, end_read, error_of_ready, error_of_answer, answer_queued, still_called, read, ready, called, answered}
 use Rattle.ws_dispatch.specs.Polls.{IsReadGood, ReadWaits, NeedsOf, ServeSays, read_error}
 use Rattle.ws_dispatch.specs.declared.inner.queue.Message.{Message}
 use Rattle.ws_dispatch.specs.declared.inner.dispatcher.Turn.TheVariants.{Counted, Idle, Over}
