@@ -1,5 +1,5 @@
 -- Steps of a turn that writes and sends.
-use Rattle.std.proofs.Common.{◌≡◌, ◌≤◌, ◌⊎◌, ◌++◌, ℕ, Bool, true, Some, None, List, [], ◌∷◌, length, Result, Ok, Err, inl, inr, refl, sym, ap, ◌∙◌, subst, arith}
+use Rattle.std.proofs.Common.{◌≡◌, ◌≤◌, ◌⊎◌, ◌++◌, ℕ, true, Some, None, List, [], ◌∷◌, length, Result, Ok, Err, inl, inr, refl, sym, ap, ◌∙◌, subst, arith}
 use Rattle.futures.specs.declared.task.Poll.{Poll}
 use Rattle.futures.specs.Task.{Lasting, Holds, Keeps}
 use Rattle.futures.specs.declared.task.Poll.TheVariants.{Ready, Pending}
@@ -10,8 +10,8 @@ use Rattle.http_config.specs.declared.failed.Failed as config
 use Rattle.http_wires.specs.Flushes.{Gave, Flushes}
 use Rattle.ws_frames.specs.declared.error.ProtocolError.{ProtocolError}
 use Rattle.ws_frames.specs.declared.error.ProtocolError.TheVariants as protocol
-use Rattle.ws_dispatch.specs.View.{View}
-use Rattle.ws_dispatch.specs.Steps.{Step, IsOpen, wrote, unwritten, closed, failed, flushed, told}
+use Rattle.ws_dispatch.specs.View.{View, IsSent}
+use Rattle.ws_dispatch.specs.Steps.{IsOpen, is_unflushed, wrote, unwritten, closed, failed, flushed, told}
 use Rattle.ws_dispatch.specs.Polls.{AskedAgain, IsFlushGood, FlushWaits, IsEnding, IsSettled, TurnSays, ServeSays, EndSays}
 use Rattle.ws_dispatch.specs.declared.inner.queue.Message.TheVariants.{Item, Close}
 use Rattle.ws_dispatch.specs.declared.inner.dispatcher.Turn.{Turn}
@@ -31,23 +31,23 @@ waits_of cx (inr is) = inr (is.0, asked_again cx is.1)
 module _ {U Q I E R : Type 0} (reads : U → List ℕ → R → Type 0) (given : Q → R → R) (nothing : R)
     (breaks : ProtocolError → R → Type 0) (lacks : ProtocolError → Type 0) (seen : U → List ℕ → Type 0)
     (leaves : ProtocolError → U → List ℕ → U → List ℕ → Type 0) (writes : U → I → List ℕ → U → Type 0) (unwritten_so : ProtocolError → U → I → U → Type 0) (v w : View U Q I E) where
-  pub told_sent : (error : E) → v.failing ≡ Some error → v.unsent ≡ [] → w ≡ record v { failing = None }
+  pub told_sent : (error : E) → v.failing ≡ Some error → IsSent v → w ≡ record v { failing = None }
       → EndSays reads given nothing breaks lacks seen leaves writes unwritten_so v w (Err (Service error))
-  told_sent error fails sent is = (told error ∷ [], (w, (fails, is), refl), inl (([], refl, tt), ap (λ x. x.unsent) is ∙ sent))
+  told_sent error fails sent is = (told error ∷ [], (w, (fails, is), refl), inl (([], refl, tt), record { unsent = ap (λ x. x.unsent) is ∙ sent.unsent; flushed = ap (λ x. x.flushing) is ∙ sent.flushed }))
 
 module _ {U Q I E R : Type 0} (reads : U → List ℕ → R → Type 0) (given : Q → R → R) (nothing : R)
     (breaks : ProtocolError → R → Type 0) (lacks : ProtocolError → Type 0) (seen : U → List ℕ → Type 0)
     (leaves : ProtocolError → U → List ℕ → U → List ℕ → Type 0) (writes : U → I → List ℕ → U → Type 0) (unwritten_so : ProtocolError → U → I → U → Type 0) (v w : View U Q I E) (cx : Context) where
   pub flush_counted : (answer : Poll (Result Unit config.Failed)) → IsFlushGood answer → Flushes v.wire w.wire cx.is_woken v.unsent w.unsent answer
-      → w ≡ record v { wire = w.wire; unsent = w.unsent } → TurnSays reads given nothing breaks lacks seen leaves writes unwritten_so v w cx Counted
+      → w ≡ record v { wire = w.wire; unsent = w.unsent; flushing = is_unflushed answer } → TurnSays reads given nothing breaks lacks seen leaves writes unwritten_so v w cx Counted
   flush_counted answer good says is = (flushed says.0 answer ∷ [], (w, ((cx.is_woken, says.1), is), refl), ((good, tt), omega arith))
 
   pub flush_failed : (x : config.Failed) → w.failing ≡ None → Flushes v.wire w.wire cx.is_woken v.unsent w.unsent (Ready (Err x))
-      → w ≡ record v { wire = w.wire; unsent = w.unsent } → TurnSays reads given nothing breaks lacks seen leaves writes unwritten_so v w cx (Over (Err (Encoder protocol.Io)))
+      → w ≡ record v { wire = w.wire; unsent = w.unsent; flushing = true } → TurnSays reads given nothing breaks lacks seen leaves writes unwritten_so v w cx (Over (Err (Encoder protocol.Io)))
   flush_failed x none says is = (flushed says.0 (Ready (Err x)) ∷ [], (w, ((cx.is_woken, says.1), is), refl), (none, inr (inl (refl, (says.0, x, ([], refl, tt), says.1.answers)))))
 
   pub flush_idle : IsEnding w → Flushes {E = config.Failed} v.wire w.wire cx.is_woken v.unsent w.unsent Pending
-      → w ≡ record v { wire = w.wire; unsent = w.unsent } → TurnSays reads given nothing breaks lacks seen leaves writes unwritten_so v w cx Idle
+      → w ≡ record v { wire = w.wire; unsent = w.unsent; flushing = true } → TurnSays reads given nothing breaks lacks seen leaves writes unwritten_so v w cx Idle
   flush_idle ending says is = (flushed says.0 Pending ∷ [], (w, ((cx.is_woken, says.1), is), refl), ((tt, tt), inr (record { ending = ending; gave = says.0; last = ([], refl, tt); writing = waits_of cx says.1.answers })))
 
   pub wrote_counted : (message : I) (text : List ℕ) → IsOpen v → v.queue ≡ Ok (Item message) ∷ w.queue → writes v.codec message text w.codec
@@ -72,8 +72,8 @@ module _ {U Q I E R : Type 0} (reads : U → List ℕ → R → Type 0) (given :
   still_settled queue unsent (inl none) = inl (queue ∙ none)
   still_settled queue unsent (inr full) = inr (subst (λ l. 8192 ≤ length l) (sym unsent) full)
 
-  -- a turn that only serves, since nothing is buffered
-  pub served : (turn : Turn E) → IsSettled v → v.unsent ≡ [] → ServeSays reads given nothing breaks lacks seen leaves writes unwritten_so v w cx turn
+  -- a turn that only serves, since all is sent
+  pub served : (turn : Turn E) → IsSettled v → IsSent v → ServeSays reads given nothing breaks lacks seen leaves writes unwritten_so v w cx turn
       → TurnSays reads given nothing breaks lacks seen leaves writes unwritten_so v w cx turn
   served Counted settled sent says = says
   served (Over result) settled sent says = says
@@ -86,7 +86,7 @@ module _ {U Q I E R : Type 0} (reads : U → List ℕ → R → Type 0) (given :
         flush = [];
         need = says.0;
         last = ([], refl, tt);
-        writing = inl (refl, says.2.3 ∙ sent);
+        writing = inl (refl, record { unsent = says.2.3 ∙ sent.unsent; flushed = says.2.4 ∙ sent.flushed });
         queue = still_settled says.2.2 says.2.3 settled;
         needs = says.2.1;
       }),
@@ -98,7 +98,7 @@ module _ {U Q I E R : Type 0} (reads : U → List ℕ → R → Type 0) (given :
     (leaves : ProtocolError → U → List ℕ → U → List ℕ → Type 0) (writes : U → I → List ℕ → U → Type 0) (unwritten_so : ProtocolError → U → I → U → Type 0) (v u w : View U Q I E) (cx : Context) where
   -- a flush failed, and then the error was told
   pub flush_told : (x : config.Failed) (error : E) → Flushes v.wire u.wire cx.is_woken v.unsent u.unsent (Ready (Err x))
-      → u ≡ record v { wire = u.wire; unsent = u.unsent } → u.failing ≡ Some error → w ≡ record u { failing = None }
+      → u ≡ record v { wire = u.wire; unsent = u.unsent; flushing = true } → u.failing ≡ Some error → w ≡ record u { failing = None }
       → TurnSays reads given nothing breaks lacks seen leaves writes unwritten_so v w cx (Over (Err (Service error)))
   flush_told x error says is fails then = (
     flushed says.0 (Ready (Err x)) ∷ told error ∷ [],
@@ -112,12 +112,12 @@ module _ {U Q I E R : Type 0} (reads : U → List ℕ → R → Type 0) (given :
   waiting_still last gave later kept (inr spent) = inr (spent.0, λ source. kept (Lasting.hears source) (spent.1 source))
 
   later_by : (gave : List ℕ) → Gave {E = config.Failed} v.wire u.wire cx.is_woken v.unsent gave u.unsent Pending
-      → u ≡ record v { wire = u.wire; unsent = u.unsent } → Later v u
+      → u ≡ record v { wire = u.wire; unsent = u.unsent; flushing = true } → Later v u
   later_by gave gives is = step_later reads given nothing breaks lacks seen leaves writes unwritten_so v u (flushed gave Pending) ((cx.is_woken, gives), is)
 
   -- a flush that was pending, and then a turn that serves
   pub flush_served : (turn : Turn E) (last : Context) → Keeps cx last → Flushes {E = config.Failed} v.wire u.wire cx.is_woken v.unsent u.unsent Pending
-      → u ≡ record v { wire = u.wire; unsent = u.unsent } → IsSettled u → ServeSays reads given nothing breaks lacks seen leaves writes unwritten_so u w last turn
+      → u ≡ record v { wire = u.wire; unsent = u.unsent; flushing = true } → IsSettled u → ServeSays reads given nothing breaks lacks seen leaves writes unwritten_so u w last turn
       → TurnSays reads given nothing breaks lacks seen leaves writes unwritten_so v w last turn
   flush_served Counted last kept flushes is settled says =
       (flushed flushes.0 Pending ∷ says.0, (u, ((cx.is_woken, flushes.1), is), says.1), ((tt, says.2.0), omega arith))

@@ -1,5 +1,5 @@
 -- Steps of a turn that serves.
-use Rattle.std.proofs.Common.{◌≡◌, ◌⊎◌, ◌++◌, ℕ, Bool, true, false, Option, Some, None, is_some, List, [], ◌∷◌, Result, Ok, Err, inl, inr, refl, sym, ap, ◌∙◌, arith, append-nil}
+use Rattle.std.proofs.Common.{◌≡◌, ◌++◌, ℕ, Bool, true, false, Option, Some, None, is_some, List, [], ◌∷◌, Result, Ok, Err, inl, inr, refl, sym, ap, ◌∙◌, arith, append-nil}
 use Rattle.futures.specs.declared.task.Poll.{Poll}
 use Rattle.futures.specs.declared.task.Poll.TheVariants.{Ready, Pending}
 use Rattle.futures.specs.declared.task.context.Context.{Context}
@@ -11,33 +11,34 @@ use Rattle.http_wires.specs.declared.framed.error.FramedError.{FramedError}
 use Rattle.ws_frames.specs.declared.error.ProtocolError.{ProtocolError}
 use Rattle.ws_frames.specs.declared.error.ProtocolError.TheVariants as protocol
 use Rattle.ws_dispatch.specs.View.{View}
-use Rattle.ws_dispatch.specs.Steps.{Step, Reading, IsOpen, Begins, IsStep, IsRun, TakesNone, item_read, end_read, error_of_ready, error_of_answer, answer_queued, still_called, read, ready, called, answered}
+use Rattle.ws_dispatch.specs.Steps.{Step, Reading, IsOpen, IsStep, IsRun, TakesNone, item_read, end_read, error_of_ready, error_of_answer, answer_queued, still_called, read, ready, called, answered}
 use Rattle.ws_dispatch.specs.Polls.{IsReadGood, ReadWaits, NeedsOf, ServeSays, read_error}
 use Rattle.ws_dispatch.specs.declared.inner.queue.Message.{Message}
 use Rattle.ws_dispatch.specs.declared.inner.dispatcher.Turn.TheVariants.{Counted, Idle, Over}
 use Rattle.ws_dispatch.specs.declared.error.DispatcherError.TheVariants.{Encoder, Decoder}
 
 -- a view by its parts
-made : {U Q I E : Type 0} → Wiring → U → List ℕ → List ℕ → Serving Q I E → Option Q → Bool → List (Result (Message I) E) → Bool → Bool → Option E → View U Q I E
-made a b c d e f g h i j k = record { wire = a; codec = b; unread = c; unsent = d; service = e; waiting = f; calling = g; queue = h; ended = i; closing = j; failing = k }
+made : {U Q I E : Type 0} → Wiring → U → List ℕ → List ℕ → Serving Q I E → Option Q → Bool → List (Result (Message I) E) → Bool → Bool → Option E → Bool → View U Q I E
+made a b c d e f g h i j k l = record { wire = a; codec = b; unread = c; unsent = d; service = e; waiting = f; calling = g; queue = h; ended = i; closing = j; failing = k; flushing = l }
 
 -- two views that agree in each part are one
 pub same_view : {U Q I E : Type 0} (v w : View U Q I E) → w.wire ≡ v.wire → w.codec ≡ v.codec → w.unread ≡ v.unread → w.unsent ≡ v.unsent
     → w.service ≡ v.service → w.waiting ≡ v.waiting → w.calling ≡ v.calling → w.queue ≡ v.queue → w.ended ≡ v.ended
-    → w.closing ≡ v.closing → w.failing ≡ v.failing → w ≡ v
+    → w.closing ≡ v.closing → w.failing ≡ v.failing → w.flushing ≡ v.flushing → w ≡ v
 unfolding made
-same_view v w a b c d e f g h i j k =
-    ap (λ x. made x w.codec w.unread w.unsent w.service w.waiting w.calling w.queue w.ended w.closing w.failing) a
-    ∙ ap (λ x. made v.wire x w.unread w.unsent w.service w.waiting w.calling w.queue w.ended w.closing w.failing) b
-    ∙ ap (λ x. made v.wire v.codec x w.unsent w.service w.waiting w.calling w.queue w.ended w.closing w.failing) c
-    ∙ ap (λ x. made v.wire v.codec v.unread x w.service w.waiting w.calling w.queue w.ended w.closing w.failing) d
-    ∙ ap (λ x. made v.wire v.codec v.unread v.unsent x w.waiting w.calling w.queue w.ended w.closing w.failing) e
-    ∙ ap (λ x. made v.wire v.codec v.unread v.unsent v.service x w.calling w.queue w.ended w.closing w.failing) f
-    ∙ ap (λ x. made v.wire v.codec v.unread v.unsent v.service v.waiting x w.queue w.ended w.closing w.failing) g
-    ∙ ap (λ x. made v.wire v.codec v.unread v.unsent v.service v.waiting v.calling x w.ended w.closing w.failing) h
-    ∙ ap (λ x. made v.wire v.codec v.unread v.unsent v.service v.waiting v.calling v.queue x w.closing w.failing) i
-    ∙ ap (λ x. made v.wire v.codec v.unread v.unsent v.service v.waiting v.calling v.queue v.ended x w.failing) j
-    ∙ ap (λ x. made v.wire v.codec v.unread v.unsent v.service v.waiting v.calling v.queue v.ended v.closing x) k
+same_view v w a b c d e f g h i j k l =
+    ap (λ x. made x w.codec w.unread w.unsent w.service w.waiting w.calling w.queue w.ended w.closing w.failing w.flushing) a
+    ∙ ap (λ x. made v.wire x w.unread w.unsent w.service w.waiting w.calling w.queue w.ended w.closing w.failing w.flushing) b
+    ∙ ap (λ x. made v.wire v.codec x w.unsent w.service w.waiting w.calling w.queue w.ended w.closing w.failing w.flushing) c
+    ∙ ap (λ x. made v.wire v.codec v.unread x w.service w.waiting w.calling w.queue w.ended w.closing w.failing w.flushing) d
+    ∙ ap (λ x. made v.wire v.codec v.unread v.unsent x w.waiting w.calling w.queue w.ended w.closing w.failing w.flushing) e
+    ∙ ap (λ x. made v.wire v.codec v.unread v.unsent v.service x w.calling w.queue w.ended w.closing w.failing w.flushing) f
+    ∙ ap (λ x. made v.wire v.codec v.unread v.unsent v.service v.waiting x w.queue w.ended w.closing w.failing w.flushing) g
+    ∙ ap (λ x. made v.wire v.codec v.unread v.unsent v.service v.waiting v.calling x w.ended w.closing w.failing w.flushing) h
+    ∙ ap (λ x. made v.wire v.codec v.unread v.unsent v.service v.waiting v.calling v.queue x w.closing w.failing w.flushing) i
+    ∙ ap (λ x. made v.wire v.codec v.unread v.unsent v.service v.waiting v.calling v.queue v.ended x w.failing w.flushing) j
+    ∙ ap (λ x. made v.wire v.codec v.unread v.unsent v.service v.waiting v.calling v.queue v.ended v.closing x w.flushing) k
+    ∙ ap (λ x. made v.wire v.codec v.unread v.unsent v.service v.waiting v.calling v.queue v.ended v.closing v.failing x) l
 
 pub none_waits : {A : Type 0} (x : Option A) → is_some x ≡ false → x ≡ None
 none_waits None is = refl
@@ -57,16 +58,16 @@ module _ {U Q I E R : Type 0} (reads : U → List ℕ → R → Type 0) (given :
   was_read : (answer : Reading Q) → IsOpen v → is_some v.waiting ≡ false → v.calling ≡ false → v.ended ≡ false
       → (woken : Bool) (came : List ℕ) → Items reads given nothing breaks lacks seen leaves v.wire w.wire woken v.codec v.unread came w.codec w.unread answer
       → w.unsent ≡ v.unsent → w.service ≡ v.service → w.waiting ≡ item_read answer → w.calling ≡ v.calling → w.queue ≡ v.queue
-      → w.ended ≡ end_read answer → w.closing ≡ v.closing → w.failing ≡ v.failing
+      → w.ended ≡ end_read answer → w.closing ≡ v.closing → w.failing ≡ v.failing → w.flushing ≡ v.flushing
       → IsRun reads given nothing breaks lacks seen leaves writes unwritten_so v (read came answer ∷ []) w
-  was_read answer so waiting calling ended woken came items d e f g h i j k =
+  was_read answer so waiting calling ended woken came items d e f g h i j k l =
       one (read came answer) (
         so,
         none_waits v.waiting waiting,
         calling,
         ended,
         (woken, items),
-        same_view (record v { wire = w.wire; codec = w.codec; unread = w.unread; waiting = item_read answer; ended = end_read answer }) w refl refl refl d e f g h i j k,
+        same_view (record v { wire = w.wire; codec = w.codec; unread = w.unread; waiting = item_read answer; ended = end_read answer }) w refl refl refl d e f g h i j k l,
       )
 
   needs_read : w.calling ≡ false → w.waiting ≡ None → w.ended ≡ false → (came : List ℕ) → ReadWaits v w cx came
@@ -81,22 +82,22 @@ module _ {U Q I E R : Type 0} (reads : U → List ℕ → R → Type 0) (given :
   pub read_pending : IsOpen v → is_some v.waiting ≡ false → v.calling ≡ false → v.ended ≡ false
       → ItemSays reads given nothing breaks lacks seen leaves v.wire w.wire cx.is_woken v.codec v.unread w.codec w.unread Pending
       → w.unsent ≡ v.unsent → w.service ≡ v.service → w.waiting ≡ v.waiting → w.calling ≡ v.calling → w.queue ≡ v.queue
-      → w.ended ≡ v.ended → w.closing ≡ v.closing → w.failing ≡ v.failing
+      → w.ended ≡ v.ended → w.closing ≡ v.closing → w.failing ≡ v.failing → w.flushing ≡ v.flushing
       → ServeSays reads given nothing breaks lacks seen leaves writes unwritten_so v w cx Idle
-  read_pending so waiting calling ended says d e f g h i j k = (
+  read_pending so waiting calling ended says d e f g h i j k l = (
     read says.0 Pending ∷ [],
-    was_read Pending so waiting calling ended cx.is_woken says.0 says.1 d e (f ∙ none_waits v.waiting waiting) g h (i ∙ ended) j k,
-    ((tt, tt), needs_read (g ∙ calling) (f ∙ none_waits v.waiting waiting) (i ∙ ended) says.0 (waits_so says.0 says.1.answers), h, d),
+    was_read Pending so waiting calling ended cx.is_woken says.0 says.1 d e (f ∙ none_waits v.waiting waiting) g h (i ∙ ended) j k l,
+    ((tt, tt), needs_read (g ∙ calling) (f ∙ none_waits v.waiting waiting) (i ∙ ended) says.0 (waits_so says.0 says.1.answers), h, d, l),
   )
 
   pub read_counted : (answer : Reading Q) → IsReadGood answer → IsOpen v → is_some v.waiting ≡ false → v.calling ≡ false → v.ended ≡ false
       → ItemSays reads given nothing breaks lacks seen leaves v.wire w.wire cx.is_woken v.codec v.unread w.codec w.unread answer
       → w.unsent ≡ v.unsent → w.service ≡ v.service → w.waiting ≡ item_read answer → w.calling ≡ v.calling → w.queue ≡ v.queue
-      → w.ended ≡ end_read answer → w.closing ≡ v.closing → w.failing ≡ v.failing
+      → w.ended ≡ end_read answer → w.closing ≡ v.closing → w.failing ≡ v.failing → w.flushing ≡ v.flushing
       → ServeSays reads given nothing breaks lacks seen leaves writes unwritten_so v w cx Counted
-  read_counted answer good so waiting calling ended says d e f g h i j k = (
+  read_counted answer good so waiting calling ended says d e f g h i j k l = (
     read says.0 answer ∷ [],
-    was_read answer so waiting calling ended cx.is_woken says.0 says.1 d e f g h i j k,
+    was_read answer so waiting calling ended cx.is_woken says.0 says.1 d e f g h i j k l,
     ((good, tt), omega arith),
   )
 
@@ -104,20 +105,20 @@ module _ {U Q I E R : Type 0} (reads : U → List ℕ → R → Type 0) (given :
       → ItemSays reads given nothing breaks lacks seen leaves v.wire w.wire cx.is_woken v.codec v.unread w.codec w.unread (Ready (Some (Err cause)))
       → error ≡ read_error cause
       → w.unsent ≡ v.unsent → w.service ≡ v.service → w.waiting ≡ v.waiting → w.calling ≡ v.calling → w.queue ≡ v.queue
-      → w.ended ≡ v.ended → w.closing ≡ v.closing → w.failing ≡ v.failing
+      → w.ended ≡ v.ended → w.closing ≡ v.closing → w.failing ≡ v.failing → w.flushing ≡ v.flushing
       → ServeSays reads given nothing breaks lacks seen leaves writes unwritten_so v w cx (Over (Err (Decoder error)))
-  read_refused cause error so waiting calling ended says is d e f g h i j k = (
+  read_refused cause error so waiting calling ended says is d e f g h i j k l = (
     read says.0 (Ready (Some (Err cause))) ∷ [],
-    was_read (Ready (Some (Err cause))) so waiting calling ended cx.is_woken says.0 says.1 d e (f ∙ none_waits v.waiting waiting) g h (i ∙ ended) j k,
+    was_read (Ready (Some (Err cause))) so waiting calling ended cx.is_woken says.0 says.1 d e (f ∙ none_waits v.waiting waiting) g h (i ∙ ended) j k l,
     (says.0, cause, ([], refl, tt), is),
   )
 
   serves : (answer : Poll (Result Unit E)) → TakesNone answer → IsOpen v → v.calling ≡ false → ReadySays v.service w.service answer
       → w.wire ≡ v.wire → w.codec ≡ v.codec → w.unread ≡ v.unread → w.unsent ≡ v.unsent → w.waiting ≡ v.waiting → w.calling ≡ v.calling
-      → w.queue ≡ v.queue → w.ended ≡ v.ended → w.closing ≡ v.closing → w.failing ≡ error_of_ready answer
+      → w.queue ≡ v.queue → w.ended ≡ v.ended → w.closing ≡ v.closing → w.failing ≡ error_of_ready answer → w.flushing ≡ v.flushing
       → IsStep reads given nothing breaks lacks seen leaves writes unwritten_so v (ready answer) w
-  serves answer none so calling says a b c d f g h i j k =
-      (so, calling, says, same_view (record v { service = w.service; failing = error_of_ready answer }) w a b c d refl f g h i j k, none)
+  serves answer none so calling says a b c d f g h i j k l =
+      (so, calling, says, same_view (record v { service = w.service; failing = error_of_ready answer }) w a b c d refl f g h i j k l, none)
 
   needs_ready : (calling : Bool) (waiting : Option Q) (ended : Bool) → calling ≡ false → is_some waiting ≡ true
       → Rose v.service.ready_waits w.service.ready_waits → NeedsOf calling waiting ended v w cx (ready Pending ∷ [])
@@ -127,32 +128,32 @@ module _ {U Q I E R : Type 0} (reads : U → List ℕ → R → Type 0) (given :
 
   pub ready_pending : IsOpen v → v.calling ≡ false → is_some v.waiting ≡ true → ReadySays v.service w.service Pending
       → w.wire ≡ v.wire → w.codec ≡ v.codec → w.unread ≡ v.unread → w.unsent ≡ v.unsent → w.waiting ≡ v.waiting → w.calling ≡ v.calling
-      → w.queue ≡ v.queue → w.ended ≡ v.ended → w.closing ≡ v.closing → w.failing ≡ v.failing
+      → w.queue ≡ v.queue → w.ended ≡ v.ended → w.closing ≡ v.closing → w.failing ≡ v.failing → w.flushing ≡ v.flushing
       → ServeSays reads given nothing breaks lacks seen leaves writes unwritten_so v w cx Idle
-  ready_pending so calling waiting says a b c d f g h i j k = (
+  ready_pending so calling waiting says a b c d f g h i j k l = (
     ready Pending ∷ [],
-    one (ready Pending) (serves Pending tt so calling says a b c d f g h i j (k ∙ so.no_error)),
-    ((tt, tt), needs_ready w.calling w.waiting w.ended (g ∙ calling) (ap is_some f ∙ waiting) says.ready_waits.1, h, d),
+    one (ready Pending) (serves Pending tt so calling says a b c d f g h i j (k ∙ so.no_error) l),
+    ((tt, tt), needs_ready w.calling w.waiting w.ended (g ∙ calling) (ap is_some f ∙ waiting) says.ready_waits.1, h, d, l),
   )
 
   pub ready_failed : (error : E) → IsOpen v → v.calling ≡ false → ReadySays v.service w.service (Ready (Err error))
       → w.wire ≡ v.wire → w.codec ≡ v.codec → w.unread ≡ v.unread → w.unsent ≡ v.unsent → w.waiting ≡ v.waiting → w.calling ≡ v.calling
-      → w.queue ≡ v.queue → w.ended ≡ v.ended → w.closing ≡ v.closing → w.failing ≡ Some error
+      → w.queue ≡ v.queue → w.ended ≡ v.ended → w.closing ≡ v.closing → w.failing ≡ Some error → w.flushing ≡ v.flushing
       → ServeSays reads given nothing breaks lacks seen leaves writes unwritten_so v w cx Counted
-  ready_failed error so calling says a b c d f g h i j k =
-      (ready (Ready (Err error)) ∷ [], one (ready (Ready (Err error))) (serves (Ready (Err error)) tt so calling says a b c d f g h i j k), omega arith)
+  ready_failed error so calling says a b c d f g h i j k l =
+      (ready (Ready (Err error)) ∷ [], one (ready (Ready (Err error))) (serves (Ready (Err error)) tt so calling says a b c d f g h i j k l), omega arith)
 
   call_polled : (answer : Poll (Result I E)) → IsOpen v → v.calling ≡ true → AnswerSays v.service w.service answer
       → w.wire ≡ v.wire → w.codec ≡ v.codec → w.unread ≡ v.unread → w.unsent ≡ v.unsent → w.waiting ≡ v.waiting → w.calling ≡ still_called answer
-      → w.queue ≡ v.queue ++ answer_queued answer → w.ended ≡ v.ended → w.closing ≡ v.closing → w.failing ≡ error_of_answer answer
+      → w.queue ≡ v.queue ++ answer_queued answer → w.ended ≡ v.ended → w.closing ≡ v.closing → w.failing ≡ error_of_answer answer → w.flushing ≡ v.flushing
       → IsRun reads given nothing breaks lacks seen leaves writes unwritten_so v (answered answer ∷ []) w
-  call_polled answer so calling says a b c d f g h i j k =
+  call_polled answer so calling says a b c d f g h i j k l =
       one (answered answer) (
         so,
         calling,
         says,
         same_view (record v { service = w.service; calling = still_called answer; queue = v.queue ++ answer_queued answer; failing = error_of_answer answer })
-            w a b c d refl f g h i j k,
+            w a b c d refl f g h i j k l,
       )
 
   needs_call : (calling : Bool) (waiting : Option Q) (ended : Bool) → calling ≡ true
@@ -162,20 +163,20 @@ module _ {U Q I E R : Type 0} (reads : U → List ℕ → R → Type 0) (given :
 
   pub call_pending : IsOpen v → v.calling ≡ true → AnswerSays v.service w.service Pending
       → w.wire ≡ v.wire → w.codec ≡ v.codec → w.unread ≡ v.unread → w.unsent ≡ v.unsent → w.waiting ≡ v.waiting → w.calling ≡ true
-      → w.queue ≡ v.queue → w.ended ≡ v.ended → w.closing ≡ v.closing → w.failing ≡ v.failing
+      → w.queue ≡ v.queue → w.ended ≡ v.ended → w.closing ≡ v.closing → w.failing ≡ v.failing → w.flushing ≡ v.flushing
       → ServeSays reads given nothing breaks lacks seen leaves writes unwritten_so v w cx Idle
-  call_pending so calling says a b c d f g h i j k = (
+  call_pending so calling says a b c d f g h i j k l = (
     answered Pending ∷ [],
-    call_polled Pending so calling says a b c d f g (h ∙ sym (append-nil v.queue)) i j (k ∙ so.no_error),
-    ((tt, tt), needs_call w.calling w.waiting w.ended g says.call_waits.1, h, d),
+    call_polled Pending so calling says a b c d f g (h ∙ sym (append-nil v.queue)) i j (k ∙ so.no_error) l,
+    ((tt, tt), needs_call w.calling w.waiting w.ended g says.call_waits.1, h, d, l),
   )
 
   pub call_answered : (answer : Result I E) → IsOpen v → v.calling ≡ true → AnswerSays v.service w.service (Ready answer)
       → w.wire ≡ v.wire → w.codec ≡ v.codec → w.unread ≡ v.unread → w.unsent ≡ v.unsent → w.waiting ≡ v.waiting → w.calling ≡ false
-      → w.queue ≡ v.queue ++ answer_queued (Ready answer) → w.ended ≡ v.ended → w.closing ≡ v.closing → w.failing ≡ error_of_answer (Ready answer)
+      → w.queue ≡ v.queue ++ answer_queued (Ready answer) → w.ended ≡ v.ended → w.closing ≡ v.closing → w.failing ≡ error_of_answer (Ready answer) → w.flushing ≡ v.flushing
       → ServeSays reads given nothing breaks lacks seen leaves writes unwritten_so v w cx Counted
-  call_answered answer so calling says a b c d f g h i j k =
-      (answered (Ready answer) ∷ [], call_polled (Ready answer) so calling says a b c d f g h i j k, ((tt, tt), omega arith))
+  call_answered answer so calling says a b c d f g h i j k l =
+      (answered (Ready answer) ∷ [], call_polled (Ready answer) so calling says a b c d f g h i j k l, ((tt, tt), omega arith))
 
   pub no_room : w ≡ v → IsOpen v → v.calling ≡ true → ServeSays reads given nothing breaks lacks seen leaves writes unwritten_so v w cx (Over (Err (Encoder protocol.NoMemory)))
   no_room is so calling = ([], is, (ap (λ x. x.failing) is ∙ so.no_error, inr (inr (refl, tt, ap (λ x. x.calling) is ∙ calling))))

@@ -1,5 +1,5 @@
 -- A turn behind those before it.
-use Rattle.std.proofs.Common.{◌≤◌, ◌+◌, ◌++◌, ℕ, Bool, List, length, Result, inl, arith, length-append}
+use Rattle.std.proofs.Common.{◌≤◌, ◌+◌, ◌++◌, ℕ, List, length, Result, inl, arith, length-append}
 use Rattle.futures.specs.declared.task.Poll.TheVariants.{Ready, Pending}
 use Rattle.futures.specs.declared.task.context.Context.{Context}
 use Rattle.ws_frames.specs.declared.error.ProtocolError.{ProtocolError}

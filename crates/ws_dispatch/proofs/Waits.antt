@@ -3,7 +3,7 @@ use Rattle.std.proofs.Common.{◌≡◌, ℕ, Bool, true, false, Option, Some, N
 use Rattle.futures.specs.declared.task.Poll.TheVariants.{Pending}
 use Rattle.http_bodies.proofs.Histories.{rose_since}
 use Rattle.futures.specs.declared.task.context.Context.{Context}
-use Rattle.ws_dispatch.specs.View.{View}
+use Rattle.ws_dispatch.specs.View.{View, IsSent}
 use Rattle.ws_dispatch.specs.Steps.{Step, flushed}
 use Rattle.ws_dispatch.specs.Polls.{AllContinue, FlushWaits, ReadWaits, NeedsOf, IsStuck, EndsWith, FlushFailed, Ended}
 use Rattle.ws_dispatch.specs.declared.error.DispatcherError.{DispatcherError}
@@ -36,8 +36,8 @@ module _ {U Q I E : Type 0} (v u w : View U Q I E) (s t : List (Step Q I E)) (la
   needs_behind cx last false None true is = is
 
   unsent_behind : (cx : Context) (flush : List (Step Q I E))
-      → ((flush ≡ []) × (w.unsent ≡ [])) ⊎ ((gave : List ℕ) × (flush ≡ flushed gave Pending ∷ []) × FlushWaits u w cx gave)
-      → ((flush ≡ []) × (w.unsent ≡ [])) ⊎ ((gave : List ℕ) × (flush ≡ flushed gave Pending ∷ []) × FlushWaits v w cx gave)
+      → ((flush ≡ []) × IsSent w) ⊎ ((gave : List ℕ) × (flush ≡ flushed gave Pending ∷ []) × FlushWaits u w cx gave)
+      → ((flush ≡ []) × IsSent w) ⊎ ((gave : List ℕ) × (flush ≡ flushed gave Pending ∷ []) × FlushWaits v w cx gave)
   unsent_behind cx flush (inl none) = inl none
   unsent_behind cx flush (inr waits) = inr (waits.0, waits.1, flush_behind cx waits.0 waits.2)
 

@@ -12,7 +12,7 @@ use Rattle.http_wires.specs.declared.framed.error.FramedError.{FramedError}
 use Rattle.http_wires.specs.declared.framed.error.FramedError.TheVariants as framed
 use Rattle.ws_frames.specs.declared.error.ProtocolError.{ProtocolError}
 use Rattle.ws_frames.specs.declared.error.ProtocolError.TheVariants as protocol
-use Rattle.ws_dispatch.specs.View.{View}
+use Rattle.ws_dispatch.specs.View.{View, IsSent}
 use Rattle.ws_dispatch.specs.Steps.{Step, Reading, IsRun, read, ready, called, answered, wrote, unwritten, closed, failed, flushed, told}
 use Rattle.ws_dispatch.specs.declared.error.DispatcherError.{DispatcherError}
 use Rattle.ws_dispatch.specs.declared.error.DispatcherError.TheVariants.{Service, Encoder, Decoder}
@@ -78,20 +78,21 @@ abbrev pub ReadWaits : {U Q I E : Type 0} → View U Q I E → View U Q I E → 
 ReadWaits v w cx came = Rose v.wire.read_waits w.wire.read_waits ⊎ ((64 ≤ length came) × (cx.is_woken ≡ true))
 
 -- The first that applies was pending, in the last step: the call in progress; the service, while an item waits; the
--- wire's reading, while its input hasn't ended. After that something is still buffered, and nothing else is needed.
+-- wire's reading, while its input hasn't ended. After that something is still buffered or not passed on, and nothing else
+-- is needed.
 abbrev pub NeedsOf : {U Q I E : Type 0} → Bool → Option Q → Bool → View U Q I E → View U Q I E → Context → List (Step Q I E) → Type 0
 NeedsOf true item ended v w cx last = (last ≡ answered Pending ∷ []) × Rose v.service.call_waits w.service.call_waits
 NeedsOf false (Some item) ended v w cx last = (last ≡ ready Pending ∷ []) × Rose v.service.ready_waits w.service.ready_waits
 NeedsOf false None false v w cx last = (came : List ℕ) × (last ≡ read came Pending ∷ []) × ReadWaits v w cx came
-NeedsOf false None true v w cx last = (last ≡ []) × ¬ (w.unsent ≡ [])
+NeedsOf false None true v w cx last = (last ≡ []) × ¬ (IsSent w)
 
--- Nothing more can be done: straight before the end nothing was buffered, or a flush was pending; then what is needed
+-- Nothing more can be done: straight before the end all was sent, or a flush was pending; then what is needed
 -- was pending; and nothing more can be buffered.
 pub record IsStuckOpen {U Q I E : Type 0} (v w : View U Q I E) (cx : Context) (steps : List (Step Q I E)) : Type 0 where
   pub flush : List (Step Q I E)
   pub need : List (Step Q I E)
   pub last : EndsWith steps (flush ++ need)
-  pub writing : ((flush ≡ []) × (w.unsent ≡ [])) ⊎ ((gave : List ℕ) × (flush ≡ flushed gave Pending ∷ []) × FlushWaits v w cx gave)
+  pub writing : ((flush ≡ []) × IsSent w) ⊎ ((gave : List ℕ) × (flush ≡ flushed gave Pending ∷ []) × FlushWaits v w cx gave)
   pub queue : (w.queue ≡ []) ⊎ (8192 ≤ length w.unsent)
   pub needs : NeedsOf w.calling w.waiting w.ended v w cx need
 
@@ -132,8 +133,8 @@ FlushFailed v w steps last =
 -- waits: a message that couldn't be written, a flush that failed, or no memory for the answer of the call in progress. A
 -- read that gave an error.
 abbrev pub Ended : {U Q I E : Type 0} → View U Q I E → View U Q I E → List (Step Q I E) → Result Unit (DispatcherError E) → Type 0
-Ended v w steps (Ok x) = AllContinue steps × (w.unsent ≡ []) × (w.failing ≡ None) × ((w.closing ≡ true) ⊎ IsFinished w)
-Ended v w steps (Err (Service e)) = (EndsWith steps (told e ∷ []) × (w.unsent ≡ [])) ⊎ FlushFailed v w steps (told e ∷ [])
+Ended v w steps (Ok x) = AllContinue steps × IsSent w × (w.failing ≡ None) × ((w.closing ≡ true) ⊎ IsFinished w)
+Ended v w steps (Err (Service e)) = (EndsWith steps (told e ∷ []) × IsSent w) ⊎ FlushFailed v w steps (told e ∷ [])
 Ended {U} {Q} {I} {E} v w steps (Err (Encoder e)) =
     (w.failing ≡ None) × (((message : I) × EndsWith steps (unwritten message e ∷ []))
     ⊎ (((e ≡ protocol.Io) × FlushFailed v w steps []) ⊎ ((e ≡ protocol.NoMemory) × AllContinue steps × (w.calling ≡ true))))
@@ -150,6 +151,7 @@ TurnAnswers v w cx steps (Over result) = Ended v w steps result
 abbrev pub ServeAnswers : {U Q I E : Type 0} → View U Q I E → View U Q I E → Context → List (Step Q I E) → Turn E → Type 0
 ServeAnswers v w cx steps Counted = AllContinue steps × (1 ≤ length steps)
 ServeAnswers v w cx steps Idle = AllContinue steps × NeedsOf w.calling w.waiting w.ended v w cx steps × (w.queue ≡ v.queue) × (w.unsent ≡ v.unsent)
+    × (w.flushing ≡ v.flushing)
 ServeAnswers v w cx steps (Over result) = Ended v w steps result
 
 -- this holds where nothing more can be done

@@ -73,6 +73,12 @@ abbrev pub still_called : {I E : Type 0} → Poll (Result I E) → Bool
 still_called (Ready x) = false
 still_called Pending = true
 
+-- a flush isn't done
+abbrev pub is_unflushed : Poll (Result Unit Failed) → Bool
+is_unflushed (Ready (Ok x)) = false
+is_unflushed (Ready (Err e)) = true
+is_unflushed Pending = true
+
 -- nothing keeps it from going on
 pub record IsOpen {U Q I E : Type 0} (v : View U Q I E) : Type 0 where
   pub no_close : v.closing ≡ false
@@ -119,7 +125,7 @@ module _ {U Q I E R : Type 0} (reads : U → List ℕ → R → Type 0) (given :
   IsStep v closed w = IsOpen v × (v.queue ≡ Ok Close ∷ w.queue) × (w ≡ record v { queue = w.queue; closing = true })
   IsStep v (failed error) w = IsOpen v × (v.queue ≡ Err error ∷ w.queue) × (w ≡ record v { queue = w.queue; failing = Some error })
   IsStep v (flushed gave answer) w =
-      ((woken : Bool) × Gave v.wire w.wire woken v.unsent gave w.unsent answer) × (w ≡ record v { wire = w.wire; unsent = w.unsent })
+      ((woken : Bool) × Gave v.wire w.wire woken v.unsent gave w.unsent answer) × (w ≡ record v { wire = w.wire; unsent = w.unsent; flushing = is_unflushed answer })
   IsStep v (told error) w = (v.failing ≡ Some error) × (w ≡ record v { failing = None })
 
   -- one step after another

@@ -1,5 +1,5 @@
 -- What a dispatcher keeps, and what is known of what it stands on.
-use Rattle.std.specs.Prelude.{Bool, true, false, ℕ, Option, Some, None, is_some, List, [], ◌∷◌, ◌++◌, Result}
+use Rattle.std.specs.Prelude.{◌≡◌, Bool, true, false, ℕ, Option, Some, None, is_some, List, [], ◌∷◌, ◌++◌, Result}
 use Rattle.http_services.specs.Serving.{Serving}
 use Rattle.http_wires.specs.Parts.{Parts}
 use Rattle.http_wires.specs.Wiring.{Wiring}
@@ -11,7 +11,8 @@ use Rattle.ws_dispatch.specs.declared.inner.dispatcher.End.TheVariants.{Open, Cl
 
 -- The wire; the codec, the bytes that were read and not decoded, and those that were written and not sent; the service;
 -- the item that it is to be asked next, and whether a call is in progress; the queue; that the input has ended; that a
--- Close was taken; and the error that is to be reported.
+-- Close was taken; the error that is to be reported; and that the last flush isn't done, so that the wire may hold bytes
+-- that it hasn't passed on.
 pub record View (U Q I E : Type 0) : Type 0 where
   pub wire : Wiring
   pub codec : U
@@ -24,6 +25,7 @@ pub record View (U Q I E : Type 0) : Type 0 where
   pub ended : Bool
   pub closing : Bool
   pub failing : Option E
+  pub flushing : Bool
 
 abbrev pub is_closed : {E : Type 0} → End E → Bool
 is_closed Closed = true
@@ -49,6 +51,7 @@ view_of wiring served w =
       ended = w.ended;
       closing = is_closed w.end;
       failing = error_kept w.end;
+      flushing = w.flushing;
     }
 
 -- a new dispatcher over this framed wire and this service, with this queue
@@ -66,9 +69,15 @@ view_begun wiring framed service queue =
       ended = false;
       closing = false;
       failing = None;
+      flushing = false;
     }
 
--- the same with this at the end of the queue
+-- nothing is buffered, and the wire has passed on all that it took, as far as it said so
+pub record IsSent {U Q I E : Type 0} (v : View U Q I E) : Type 0 where
+  pub unsent : v.unsent ≡ []
+  pub flushed : v.flushing ≡ false
+
+-- the view with this at the end of the queue
 abbrev pub with_queued : {U Q I E : Type 0} → Result (Message I) E → View U Q I E → View U Q I E
 with_queued item v = record v { queue = v.queue ++ item ∷ [] }
 

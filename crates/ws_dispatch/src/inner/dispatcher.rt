@@ -52,6 +52,7 @@ pub struct Dispatcher<S, C, T, U, Q, I, E> {
     pub(super) queue: Queue<I, E>,
     pub(super) ended: bool,
     pub(super) end: End<E>,
+    pub(super) flushing: bool,
 }
 
 impl<S, T, U, I> Dispatcher<S, S::Call, T, U, U::Item, I, S::Error>
@@ -91,6 +92,7 @@ where
             queue: rx,
             ended: false,
             end: End::Open,
+            flushing: false,
         }
     }
 

@@ -1,7 +1,7 @@
 //! The service is asked, and its input is read.
-ghost use Rattle.std.specs.Prelude.{◌≡◌, ◌⊎◌, true, false, [], is_some};
+ghost use Rattle.std.specs.Prelude.{◌≡◌, ◌⊎◌, true, false, is_some};
 ghost use Rattle.futures.specs.Task.{IsArmed, Keeps};
-ghost use Rattle.ws_dispatch.specs.View.{view_of};
+ghost use Rattle.ws_dispatch.specs.View.{view_of, IsSent};
 ghost use Rattle.ws_dispatch.specs.Steps.{IsOpen, Unwritten};
 ghost use Rattle.ws_dispatch.specs.Polls.{MayBePolled, IsSettled, OnIdle, ServeSays, read_error};
 
@@ -26,7 +26,7 @@ where
         requires open { MayBePolled S.calling self.old }
         requires is_open { IsOpen (view_of T.wiring S.served self.old) }
         requires settled { IsSettled (view_of T.wiring S.served self.old) }
-        requires armed { ((view_of T.wiring S.served self.old).unsent ≡ []) ⊎ IsArmed cx.old }
+        requires armed { IsSent (view_of T.wiring S.served self.old) ⊎ IsArmed cx.old }
         ensures says { ServeSays U.reads U.given U.nothing U.breaks U.Decoder.lacks U.seen U.Decoder.leaves U.writes (Unwritten U.refuses U.Encoder.lacks U.Encoder.leaves) (view_of T.wiring S.served self.old) (view_of T.wiring S.served self.new) cx.new result }
         ensures open { MayBePolled S.calling self.new }
         ensures registered { OnIdle result (IsArmed cx.new) }
@@ -41,7 +41,7 @@ where
         if !self.ended {
             return self.read(cx);
         }
-        if self.framed.is_write_buf_empty() {
+        if self.is_sent() {
             return Turn::Over(Ok(()));
         }
         Turn::Idle

@@ -1,7 +1,7 @@
 //! One turn of a dispatcher.
-ghost use Rattle.std.specs.Prelude.{◌≡◌, [], IsTrue, IsFalse};
+ghost use Rattle.std.specs.Prelude.{IsTrue, IsFalse};
 ghost use Rattle.futures.specs.Task.{IsArmed, Keeps};
-ghost use Rattle.ws_dispatch.specs.View.{view_of};
+ghost use Rattle.ws_dispatch.specs.View.{view_of, IsSent};
 ghost use Rattle.ws_dispatch.specs.Steps.{IsOpen, Unwritten};
 ghost use Rattle.ws_dispatch.specs.Polls.{MayBePolled, IsEnding, OnIdle, EndSays, TurnSays};
 
@@ -54,12 +54,16 @@ where
         ensures registered { OnIdle result (IsArmed cx.new) }
         ensures kept { Keeps cx.old cx.new }
     {
-        if self.framed.is_write_buf_empty() {
+        if self.is_sent() {
             return Turn::Over(self.tell());
         }
+        self.flushing = true;
         match self.framed.flush(cx) {
             Poll::Pending => Turn::Idle,
-            Poll::Ready(Ok(())) => Turn::Counted,
+            Poll::Ready(Ok(())) => {
+                self.flushing = false;
+                Turn::Counted
+            }
             Poll::Ready(Err(Failed)) => match mem::replace(&mut self.end, End::Open) {
                 End::Failed(error) => Turn::Over(Err(DispatcherError::Service(error))),
                 End::Closed => {
@@ -75,7 +79,7 @@ where
     fn tell(&mut self) -> Result<(), DispatcherError<S::Error>>
         requires open { MayBePolled S.calling self.old }
         requires ending { IsEnding (view_of T.wiring S.served self.old) }
-        requires sent { (view_of T.wiring S.served self.old).unsent ≡ [] }
+        requires sent { IsSent (view_of T.wiring S.served self.old) }
         ensures says { EndSays U.reads U.given U.nothing U.breaks U.Decoder.lacks U.seen U.Decoder.leaves U.writes (Unwritten U.refuses U.Encoder.lacks U.Encoder.leaves) (view_of T.wiring S.served self.old) (view_of T.wiring S.served self.new) result }
         ensures open { MayBePolled S.calling self.new }
     {

@@ -1,7 +1,7 @@
 //! What is queued is written and sent.
-ghost use Rattle.std.specs.Prelude.{IsTrue};
+ghost use Rattle.std.specs.Prelude.{IsTrue, ◌↔◌};
 ghost use Rattle.futures.specs.Task.{IsArmed, Keeps};
-ghost use Rattle.ws_dispatch.specs.View.{view_of};
+ghost use Rattle.ws_dispatch.specs.View.{view_of, IsSent};
 ghost use Rattle.ws_dispatch.specs.Steps.{IsOpen, Unwritten};
 ghost use Rattle.ws_dispatch.specs.Polls.{MayBePolled, IsSettled, OnIdle, TurnSays};
 
@@ -61,11 +61,15 @@ where
         ensures registered { OnIdle result (IsArmed cx.new) }
         ensures kept { Keeps cx.old cx.new }
     {
-        if self.framed.is_write_buf_empty() {
+        if self.is_sent() {
             return self.serve(cx);
         }
+        self.flushing = true;
         match self.framed.flush(cx) {
-            Poll::Ready(Ok(())) => Turn::Counted,
+            Poll::Ready(Ok(())) => {
+                self.flushing = false;
+                Turn::Counted
+            }
             Poll::Ready(Err(Failed)) => {
                 Turn::Over(Err(DispatcherError::Encoder(ProtocolError::Io)))
             }
@@ -77,6 +81,13 @@ where
                 }
             }
         }
+    }
+
+    /// Whether nothing is buffered and no flush is to be done.
+    pub(super) fn is_sent(&self) -> bool
+        ensures { IsTrue result ↔ IsSent (view_of T.wiring S.served self.now) }
+    {
+        self.framed.is_write_buf_empty() && !self.flushing
     }
 
     /// Whether nothing more can be buffered.

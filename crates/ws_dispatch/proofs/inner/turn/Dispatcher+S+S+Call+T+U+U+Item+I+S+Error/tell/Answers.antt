@@ -13,4 +13,4 @@ returns-in-Failed-clause-says g c =
     let was = sym c.replace.ensures.value ∙ c.in-Failed.is in
     told_sent g.U.Decoder.reads g.U.Decoder.given g.U.Decoder.nothing g.U.Decoder.breaks g.U.Decoder.lacks g.U.Decoder.seen g.U.Decoder.leaves g.U.Encoder.writes (Unwritten g.U.Encoder.refuses g.U.Encoder.lacks g.U.Encoder.leaves) v w
     c.in-Failed.error (ap error_kept was) c.requires.sent
-    (same_view (record v { failing = None }) w refl refl refl refl refl refl refl refl refl (ap is_closed c.replace.ensures.after ∙ sym (ap is_closed was)) (ap error_kept c.replace.ensures.after))
+    (same_view (record v { failing = None }) w refl refl refl refl refl refl refl refl refl (ap is_closed c.replace.ensures.after ∙ sym (ap is_closed was)) (ap error_kept c.replace.ensures.after) refl)
