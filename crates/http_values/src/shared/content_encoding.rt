@@ -10,7 +10,7 @@ use crate::header::Header;
 use crate::read::{FromText, ReadError};
 use crate::utils::from_one_raw_str;
 use http_types::header::names::CONTENT_ENCODING;
-use http_types::header::{TryIntoHeaderValue, ValueError, value_of_str};
+use http_types::header::{TryIntoHeaderValue, ValueError};
 use http_types::{HeaderName, HeaderValue, HttpMessage, ParseError};
 use std::alloc::Global;
 use std::fmt;
@@ -68,8 +68,11 @@ impl ContentEncoding {
 impl TryIntoHeaderValue for ContentEncoding {
     ghost field_value = { λ coding. plain_value (coding_text coding) };
 
-    fn try_into_value(self, alloc: Global) -> Result<HeaderValue, ValueError> {
-        value_of_str(alloc, self.as_str())
+    /// The registered name, without a copy.
+    fn try_into_value(self, _alloc: Global) -> Result<HeaderValue, ValueError> {
+        let value = self.to_header_value();
+        let _valid = value.as_bytes();
+        Ok(value)
     }
 }
 

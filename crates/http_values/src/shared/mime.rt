@@ -11,7 +11,7 @@ ghost use Rattle.http_values.specs.MimeValue.{mime_text, SaysMime, SameMime};
 use crate::read::{FromText, ReadError};
 use http_header::is_token_char;
 use http_types::HeaderValue;
-use http_types::header::{TryIntoHeaderValue, ValueError, value_of_str};
+use http_types::header::{TryIntoHeaderValue, ValueError};
 use std::alloc::{AllocError, Global};
 use std::{fmt, str};
 
@@ -312,8 +312,15 @@ impl fmt::Display for Mime {
 impl TryIntoHeaderValue for Mime {
     ghost field_value = { λ m. plain_value (mime_text m) };
 
+    /// The text that was read, without a copy.
     fn try_into_value(self, alloc: Global) -> Result<HeaderValue, ValueError> {
-        value_of_str(alloc, self.text.as_str())
+        let Mime {
+            text,
+            kind: _,
+            subtype: _,
+            params: _,
+        } = self;
+        text.try_into_value(alloc)
     }
 }
 
