@@ -1,13 +1,18 @@
 -- The errors of pieces that are no text of the grammar.
-use Rattle.std.proofs.Common.{◌≡◌, ℕ, Bool, true, false, List, refl, sym, ap, ◌∙◌, subst}
+use Rattle.std.proofs.Common.{◌≡◌, ◌≤◌, ℕ, Bool, true, false, List, [], refl, sym, ap, ◌∙◌, subst}
 use Rattle.std.specs.Prelude.{nat_lt, if◌then◌else◌}
 use Rattle.std.proofs.lemmas.Bool.{ltb-true, ltb-false}
 use Rattle.http_types.specs.declared.error.ParseError.{ParseError}
 use Rattle.http_types.specs.declared.error.ParseError.TheVariants.{TooLarge, Version, Status, Header}
+use Rattle.httparse.specs.Grammar.{RequestHead, ReadsRequest}
 use Rattle.h1_model.specs.HeadPiece.{header_lines}
 use Rattle.h1_model.specs.Limits.{MAX_HEADER_LINES}
 use Rattle.h1_decode.specs.Refusal.{IsNoText}
-use Rattle.h1_decode.specs.WholeHead.{IsOfGrammar, HasNoText, RefusesText}
+use Rattle.h1_decode.specs.WholeHead.{IsOfGrammar, RefusesText}
+
+-- no text of the grammar is the piece, where it hasn't too many lines
+abbrev pub HasNoText : List ℕ → Type 0
+HasNoText piece = header_lines piece ≤ MAX_HEADER_LINES → (text : RequestHead) → ¬ (ReadsRequest piece text [])
 
 -- an error of the grammar says that the piece is no text of it
 of_grammar : (piece : List ℕ) (e : ParseError) → IsOfGrammar e → IsNoText piece → RefusesText e piece
