@@ -6,10 +6,9 @@ use Rattle.h1_model.specs.FrameText.{FrameStart, frame_start, start_error, lengt
 use Rattle.h1_model.specs.Limits.{MAX_FRAME}
 use Rattle.h1_model.specs.Laws.FrameSize.{frame_length}
 use Rattle.ws_frames.specs.Parsed.{late_reader, short as too_few, known, head_behind, waits, refuses, parsed_body, parsed_header}
-use Rattle.ws_frames.specs.Judged.{front_of_parsed}
 use Rattle.ws_frames.specs.Header.{IsReadable}
 use Rattle.ws_frames.specs.Fronts.{early_reader, is_partial, early_header, early_head, early}
-use Rattle.ws_frames.proofs.ParsedFronts.{same_test, enough_judged}
+use Rattle.ws_frames.proofs.ParsedFronts.{front_of_parsed, same_test, enough_judged}
 
 -- a frame whose header is known: wide is that it is above the limit
 header_judged : (server u wide : Bool) (limit : ℕ) (header : FrameHeader) (bytes body : List ℕ) (k : ℕ)

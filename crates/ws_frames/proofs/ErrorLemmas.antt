@@ -7,11 +7,10 @@ use Rattle.ws_frames.specs.declared.error.ProtocolError.TheVariants as errors
 use Rattle.ws_frames.specs.declared.kind.Kind.{Kind}
 use Rattle.ws_frames.specs.declared.kind.Kind.TheVariants as kinds
 use Rattle.ws_frames.specs.Refusal.{error_of}
-use Rattle.ws_frames.specs.Close.{ErrorSays}
 use Rattle.ws_frames.specs.Codec.{kind_frame}
 use Rattle.ws_frames.specs.CodecState.{Failed}
 use Rattle.ws_frames.specs.Fronts.{IsFrontError}
-use Rattle.ws_frames.proofs.KindLemmas.{not_memory}
+use Rattle.ws_frames.proofs.KindLemmas.{ErrorSays, not_memory}
 
 -- a rule that is broken
 pub rule_said : (judged : Result frames.Frame frames.ProtocolError) (e : ProtocolError) → ErrorSays e judged → e ≡ error_of judged

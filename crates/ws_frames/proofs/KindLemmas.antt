@@ -1,11 +1,22 @@
 -- The kind of a frame says what it is.
-use Rattle.std.proofs.Common.{◌≢◌, Bool, true, false, refl}
+use Rattle.std.proofs.Common.{◌≡◌, ◌≢◌, ℕ, Bool, true, false, List, Result, Ok, Err, refl}
+use Rattle.ws_frames.specs.declared.error.ProtocolError.{ProtocolError}
 use Rattle.ws_frames.specs.declared.error.ProtocolError.TheVariants as errors
+use Rattle.ws_frames.specs.declared.kind.Kind.{Kind}
 use Rattle.ws_frames.specs.Refusal.{refusal}
 use Rattle.h1_model.specs.Frame as frames
 use Rattle.h1_model.specs.FrameText.{Opcode, continuation_opcode, text_opcode, binary_opcode, close_opcode, ping_opcode, pong_opcode, unknown_opcode}
 use Rattle.ws_frames.specs.Judged.{judged_taken}
-use Rattle.ws_frames.specs.Codec.{kind_judged, KindSays}
+use Rattle.ws_frames.specs.Codec.{kind_judged, kind_frame}
+
+-- an error for a broken rule
+abbrev pub ErrorSays : ProtocolError → Result frames.Frame frames.ProtocolError → Type 0
+ErrorSays e what = (rule : frames.ProtocolError) × (what ≡ Err rule) × (e ≡ refusal rule)
+
+-- the kind says what a frame with any payload is, or which rule it breaks
+abbrev pub KindSays : Result Kind ProtocolError → (List ℕ → Result frames.Frame frames.ProtocolError) → Type 0
+KindSays (Ok kind) judged = (payload : List ℕ) → judged payload ≡ kind_frame kind payload
+KindSays (Err e) judged = (payload : List ℕ) → ErrorSays e (judged payload)
 
 -- for each opcode, the last frame of a message or not, inside one or not
 pub kind_says : (u fin : Bool) (op : Opcode) → KindSays (kind_judged u fin op) (judged_taken u fin op)

@@ -7,7 +7,7 @@ use Rattle.h1_model.specs.FrameText.{big_endian, is_close_code, description_of}
 use Rattle.ws_frames.specs.declared.error.ProtocolError.{ProtocolError}
 use Rattle.ws_frames.specs.declared.proto.CloseReason.{CloseReason}
 use Rattle.ws_frames.specs.Protocol.{close_number, close_code}
-use Rattle.ws_frames.specs.Refusal.{refusal, error_of}
+use Rattle.ws_frames.specs.Refusal.{error_of}
 
 -- what a reason says
 abbrev pub reason_says : CloseReason → model.CloseReason
@@ -17,10 +17,6 @@ reason_says reason = record { code = close_number reason.code; description = opt
 abbrev pub HasName : Option CloseReason → Type 0
 HasName None = Unit {0}
 HasName (Some reason) = reason.code ≡ close_code (close_number reason.code)
-
--- an error for a broken rule
-abbrev pub ErrorSays : ProtocolError → Result model.Frame model.ProtocolError → Type 0
-ErrorSays e what = (rule : model.ProtocolError) × (what ≡ Err rule) × (e ≡ refusal rule)
 
 -- what was read of the payload, or the rule that it breaks; memory may be wanting where it breaks none
 abbrev pub CloseSays : Result (Option CloseReason) ProtocolError → Result model.Frame model.ProtocolError → Type 0

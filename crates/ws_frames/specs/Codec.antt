@@ -12,7 +12,7 @@ use Rattle.ws_frames.specs.declared.message.Frame.TheVariants as frames
 use Rattle.ws_frames.specs.declared.kind.Kind.{Kind}
 use Rattle.ws_frames.specs.declared.kind.Kind.TheVariants as kinds
 use Rattle.ws_frames.specs.Refusal.{error_of}
-use Rattle.ws_frames.specs.Close.{reason_says, HasName, ErrorSays}
+use Rattle.ws_frames.specs.Close.{reason_says, HasName}
 
 -- a fragment
 abbrev pub item_says : Item → model.Frame
@@ -77,11 +77,6 @@ kind_judged under_way false continuation_opcode = if under_way then Ok kinds.Con
 kind_judged under_way false text_opcode = if under_way then Err errors.ContinuationStarted else Ok kinds.FirstText
 kind_judged under_way false binary_opcode = if under_way then Err errors.ContinuationStarted else Ok kinds.FirstBinary
 kind_judged under_way false opcode = Err (errors.ContinuationFragment (code_of (opcode_of (opcode_number opcode))))
-
--- the kind says what a frame with any payload is, or which rule it breaks
-abbrev pub KindSays : Result Kind ProtocolError → (List ℕ → Result model.Frame model.ProtocolError) → Type 0
-KindSays (Ok kind) judged = (payload : List ℕ) → judged payload ≡ kind_frame kind payload
-KindSays (Err e) judged = (payload : List ℕ) → ErrorSays e (judged payload)
 
 -- the bytes with this payload in the place of as many
 abbrev pub with_payload : ℕ → List ℕ → ℕ → List ℕ → List ℕ

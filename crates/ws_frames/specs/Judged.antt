@@ -1,16 +1,9 @@
 -- A frame that was taken, judged by its place among fragments, and a Close by its payload.
 use Rattle.std.specs.Prelude.{ℕ, Bool, List, if◌then◌else◌, Result}
 use Rattle.h1_model.specs.Frame as model
-use Rattle.h1_model.specs.FrameText.{Opcode, finished_frame, unfinished_frame, Front, partial, breaks, front_of_judged}
-use Rattle.ws_frames.specs.Parsed.{Parsed, waits, refuses, takes}
+use Rattle.h1_model.specs.FrameText.{Opcode, finished_frame, unfinished_frame}
 
 -- the frame with a payload, the last one of its message or not
 abbrev pub judged_taken : Bool → Bool → Opcode → List ℕ → Result model.Frame model.ProtocolError
 judged_taken under_way is_final opcode payload =
     if is_final then finished_frame under_way opcode payload else unfinished_frame under_way opcode payload
-
--- what stands at the front, by what is taken from it
-abbrev pub front_of_parsed : Bool → Parsed → Front
-front_of_parsed under_way waits = partial
-front_of_parsed under_way (refuses e dropped) = breaks e
-front_of_parsed under_way (takes is_final opcode payload len) = front_of_judged len (judged_taken under_way is_final opcode payload)

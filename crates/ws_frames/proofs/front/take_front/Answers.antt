@@ -3,9 +3,9 @@ use Rattle.std.proofs.Common.{◌≡◌, ℕ, ◌+◌, List, refl, sym, ap, ◌�
 use Rattle.h1_model.specs.FrameText.{Front, front_of_judged}
 use Rattle.ws_frames.specs.Fronts.{early, IsFrontError}
 use Rattle.ws_frames.specs.Header.{payload_at}
-use Rattle.ws_frames.specs.Judged.{front_of_parsed}
 use Rattle.ws_frames.specs.Parsed.{takes}
 use Rattle.ws_frames.specs.Protocol.{opcode_written}
+use Rattle.ws_frames.proofs.ParsedFronts.{front_of_parsed}
 use Rattle.ws_frames.proofs.ErrorLemmas.{front_fails}
 use Rattle.ws_frames.proofs.EarlyFronts.{front_is_early}
 use Rattle.ws_frames.proofs.front.take_front.Goals as goal

@@ -1,7 +1,7 @@
 -- What was found is what stands at the front.
 use Rattle.std.proofs.Common.{sym, ap, ◌∙◌}
 use Rattle.ws_frames.specs.Fronts.{is_partial}
-use Rattle.ws_frames.specs.Judged.{front_of_parsed}
+use Rattle.ws_frames.proofs.ParsedFronts.{front_of_parsed}
 use Rattle.ws_frames.proofs.EarlyFronts.{front_is_early, judged_is_there}
 use Rattle.ws_frames.proofs.front.waits_for_frame.Goals as goal
 

@@ -1,11 +1,10 @@
 -- What the kind says, the frame says.
 use Rattle.std.proofs.Common.{refl, sym, ap, ◌∙◌, subst}
-use Rattle.ws_frames.specs.Codec.{KindSays}
 use Rattle.ws_frames.specs.Header.{payload_at}
 use Rattle.ws_frames.specs.Judged.{judged_taken}
 use Rattle.ws_frames.specs.Protocol.{opcode_written}
 use Rattle.ws_frames.specs.Refusal.{error_of}
-use Rattle.ws_frames.proofs.KindLemmas.{kind_says}
+use Rattle.ws_frames.proofs.KindLemmas.{KindSays, kind_says}
 use Rattle.ws_frames.proofs.ErrorLemmas.{rule_said}
 use Rattle.ws_frames.proofs.take.take_judged.Goals as goal
 

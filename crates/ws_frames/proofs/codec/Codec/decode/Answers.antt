@@ -4,11 +4,10 @@ use Rattle.h1_model.specs.FrameText.{Front, front_of_judged}
 use Rattle.ws_frames.specs.declared.error.ProtocolError.TheVariants as errors
 use Rattle.ws_frames.specs.CodecState.{codec_server, codec_limit, codec_reading, cost, Failed}
 use Rattle.ws_frames.specs.Header.{payload_at}
-use Rattle.ws_frames.specs.Judged.{front_of_parsed}
 use Rattle.ws_frames.specs.Parsed.{Parsed, takes, parsed}
 use Rattle.ws_frames.specs.Protocol.{opcode_written}
 use Rattle.ws_frames.proofs.ErrorLemmas.{memory_fails, rule_fails}
-use Rattle.ws_frames.proofs.ParsedFronts.{front_is_parsed}
+use Rattle.ws_frames.proofs.ParsedFronts.{front_of_parsed, front_is_parsed}
 use Rattle.ws_frames.proofs.codec.Codec.decode.Goals as goal
 
 pub returns-in-Waits-clause-frame : goal.returns-in-Waits-clause-frame
