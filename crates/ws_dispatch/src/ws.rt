@@ -1,6 +1,6 @@
 //! A dispatcher of WebSocket frames.
-ghost use Rattle.std.specs.Prelude.{◌≡◌, [], true, false};
-ghost use Rattle.ws_frames.specs.CodecState.{codec_server, codec_limit, codec_reading, codec_sending};
+ghost use Rattle.std.specs.Prelude.{◌≡◌, ℕ, List, [], true, false};
+ghost use Rattle.ws_frames.specs.CodecState.{codec_server, codec_limit, codec_reading, codec_sending, with_reading};
 ghost use Rattle.ws_frames.specs.Framing.{Reads, Writes, Forbids};
 ghost use Rattle.ws_frames.specs.declared.error.ProtocolError.TheVariants as errors;
 ghost use Rattle.ws_dispatch.specs.Order.{KeepsReading};
@@ -38,6 +38,13 @@ where
 /// A codec of frames that has written a message reads as before.
 pub fn writing_leaves_what_is_read<R: Rng>()
     ensures { KeepsReading (Reads {R = R}) (Writes R.stream) }
+{}
+
+/// A codec of frames that has read, and keeps what it has beside its reading, writes as before, and reads on after that.
+pub fn reading_leaves_what_is_written<R: Rng>()
+    ensures { (before after new : Codec R) (message : Message) (text : List ℕ)
+        → with_reading false after ≡ with_reading false before → Writes R.stream before message text new
+        → Writes R.stream after message text (with_reading (codec_reading after) new) }
 {}
 
 /// A codec of frames that can't write a message never answers that a wire failed.
