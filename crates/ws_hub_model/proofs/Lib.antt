@@ -1,0 +1,4 @@
+pub mod StepViews
+pub mod RowLemmas
+pub mod GoodRows
+pub mod GoodHubs

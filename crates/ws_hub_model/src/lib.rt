@@ -1,0 +1,4 @@
+//! Chat rooms over WebSocket.
+#![tactic(auto)]
+
+pub mod rooms;
