@@ -1,5 +1,5 @@
 -- Each row of a hub is as it should be, whatever came.
-use Rattle.std.proofs.Common.{◌≡◌, ℕ, ◌⊎◌, Bool, true, false, List, [], ◌∷◌, ◌++◌, IsTrue, drop, Option, Some, None, refl, sym, ap, ◌∙◌, subst, inl, inr, ◌==◌, if◌then◌else◌, arith}
+use Rattle.std.proofs.Common.{◌≡◌, ℕ, ◌⊎◌, Bool, true, false, List, [], ◌∷◌, ◌++◌, IsTrue, Option, Some, None, refl, sym, ap, ◌∙◌, subst, inl, inr, ◌==◌, if◌then◌else◌, arith}
 use Rattle.std.specs.Prelude.{filter, not, ◌&&◌, ◌||◌, is_some}
 use Rattle.std.specs.List.{flat_map}
 use Rattle.std.proofs.lemmas.Bool.{cases_Bool, eqb-true}
@@ -16,15 +16,15 @@ use Rattle.h1_model.specs.Sums.{Step, request, is_open, is_upgraded, is_sending,
 use Rattle.h1_model.specs.Past.{ParsedStep, steps}
 use Rattle.h1_model.specs.Closing.{closing}
 use Rattle.h1_model.specs.Allowed.{asks_raw, has_room}
-use Rattle.ws_hub_model.specs.Hub.{opens, Move, core_of}
-use Rattle.ws_hub_model.specs.Member.{Member, is_in, Effect, effect_in, heard, with_effect, with_step, with_end, own_row, row_behind}
+use Rattle.ws_hub_model.specs.Hub.{opens, core_of}
+use Rattle.ws_hub_model.specs.Member.{Member, is_in, effect_in, heard, with_step, own_row}
 use Rattle.ws_hub_model.specs.Seen.{Seen, members_of, row_of}
 use Rattle.ws_hub_model.specs.Turn.{request_event, socket_event, tried, turn_event}
 use Rattle.ws_hub_model.specs.Due.{Said, said_with, said_at, is_for, due_messages, due, sent_by, sent_frames, sent_to}
 use Rattle.ws_hub_model.specs.Trace.{is_fed, core_trace, IsTurnEvent, IsHubTrace}
 use Rattle.ws_hub_model.proofs.StepViews.{Moved, view_of, core_opening, core_own, core_other}
 use Rattle.ws_hub_model.proofs.RowLemmas.{row_opening, row_moved}
-use Rattle.ws_hub_model.proofs.GoodRows.{Unfinished, GoodRow, Fits, frame_fits, with_due, effect_good, room_good, end_good, send_good, more_due, own_due, heard_good}
+use Rattle.ws_hub_model.proofs.GoodRows.{Unfinished, GoodRow, Fits, frame_fits, effect_good, room_good, end_good, send_good, more_due, own_due, heard_good}
 
 -- ---- which frame a turn sends
 
@@ -180,13 +180,13 @@ own_moved setting j s before m same g =
     let asked = request (core_trace m.move.number before) in
     let effect = effect_in mover m.move.step.outcome in
     let dues : due j (s ∷ before) ≡ due j before =
-        due_moved setting j s before m
-        ∙ ap (λ (l : List Frame). due j before ++ l) (own_due j m.move.number mover.room effect (row_of j before) (row_of j (s ∷ before)) same)
-        ∙ append-nil (due j before) in
+    due_moved setting j s before m
+    ∙ ap (λ (l : List Frame). due j before ++ l) (own_due j m.move.number mover.room effect (row_of j before) (row_of j (s ∷ before)) same)
+    ∙ append-nil (due j before) in
     let row : row_of j (s ∷ before) ≡ own_row asked s.closes m.move.step (row_of j before) = row_moved setting s before m j ∙ rw same refl in
     let first : SendsFirst m.move.step.event (row_of j before).waiting =
-        subst (λ (k : ℕ). SendsFirst m.move.step.event (row_of k before).waiting) (sym (eqb-true j m.move.number same))
-        (first_sent setting before m.move.number m.move.step.event m.from) in
+    subst (λ (k : ℕ). SendsFirst m.move.step.event (row_of k before).waiting) (sym (eqb-true j m.move.number same))
+    (first_sent setting before m.move.number m.move.step.event m.from) in
     good_at j (s ∷ before) (m.move.step ∷ core_trace j before) (due j before) (own_row asked s.closes m.move.step (row_of j before))
     (core_own setting j s before m same) dues row
     (own_good (sent_to j before) (is_sending (core_trace j before)) (due j before) asked s.closes m.move.step (row_of j before) g first)
@@ -198,9 +198,9 @@ other_moved setting j s before m other g mover_good =
     let effect = effect_in mover m.move.step.outcome in
     let row : row_of j (s ∷ before) ≡ heard effect mover.room (row_of j before) = row_moved setting s before m j ∙ rw other refl in
     let dues : due j (s ∷ before)
-        ≡ due j before ++ more_due j m.move.number mover.room effect (row_of j before) (heard effect mover.room (row_of j before)) =
-        due_moved setting j s before m
-        ∙ ap (λ (r : Member). due j before ++ more_due j m.move.number mover.room effect (row_of j before) r) row in
+    ≡ due j before ++ more_due j m.move.number mover.room effect (row_of j before) (heard effect mover.room (row_of j before)) =
+    due_moved setting j s before m
+    ∙ ap (λ (r : Member). due j before ++ more_due j m.move.number mover.room effect (row_of j before) r) row in
     good_at j (s ∷ before) (core_trace j before)
     (due j before ++ more_due j m.move.number mover.room effect (row_of j before) (heard effect mover.room (row_of j before)))
     (heard effect mover.room (row_of j before))

@@ -1,5 +1,5 @@
 -- What holds of each row of a hub, and why each change of a row keeps it.
-use Rattle.std.proofs.Common.{◌≡◌, ℕ, zero, suc, ◌+◌, ◌<◌, ◌≤◌, ◌⊎◌, Bool, true, false, List, [], ◌∷◌, ◌++◌, length, drop, Option, Some, None, refl, sym, ap, ◌∙◌, subst, inl, inr, ◌==◌, if◌then◌else◌, arith, append_assoc}
+use Rattle.std.proofs.Common.{◌≡◌, ℕ, ◌+◌, ◌≤◌, ◌⊎◌, Bool, true, false, List, [], ◌∷◌, ◌++◌, length, drop, Option, None, refl, sym, ap, ◌∙◌, subst, inl, inr, ◌==◌, if◌then◌else◌, arith, append_assoc}
 use Rattle.std.specs.Prelude.{filter, nat_le, nat_lt, not, ◌&&◌, ◌||◌}
 use Rattle.std.specs.List.{flat_map}
 use Rattle.std.specs.Str.{is_utf8}
@@ -157,7 +157,7 @@ one_more_close : (sent waiting : List Frame) (f : Frame) → filter is_close (se
     → length (filter is_close (sent ++ (waiting ++ f ∷ []))) ≤ 1
 one_more_close sent waiting f e =
     let same : filter is_close (sent ++ (waiting ++ f ∷ [])) ≡ filter is_close (f ∷ []) =
-        more_waits is_close sent waiting (f ∷ []) ∙ ap (λ (l : List Frame). l ++ filter is_close (f ∷ [])) e in
+    more_waits is_close sent waiting (f ∷ []) ∙ ap (λ (l : List Frame). l ++ filter is_close (f ∷ [])) e in
     subst (λ (l : List Frame). length l ≤ 1) (sym same) (at_most_one is_close f)
 
 pub leaving_good : (sent : List Frame) (sending : Bool) (due : List Frame) (m : Member) (f : Frame)
@@ -199,9 +199,9 @@ answer_good : (sent : List Frame) (sending : Bool) (due : List Frame) (m : Membe
     → GoodRow sent sending due m → Answers m.has_left f → GoodRow sent sending due (put (f ∷ []) m)
 answer_good sent sending due m f g a = elim (cases_Bool (nat_le (length m.waiting + length (f ∷ [])) MAX_WAITING)) [
   | inl fits ↦ rw fits
-    (with_due sent sending (due ++ filter is_data (f ∷ [])) due (record m { waiting = m.waiting ++ f ∷ [] })
-    (ap (λ (l : List Frame). due ++ l) a.no_data ∙ append-nil due)
-    (put_fits sent sending due m (f ∷ []) g a.is_in (a.runs false) a.closes (leb-true (length m.waiting + length (f ∷ [])) MAX_WAITING fits)))
+      (with_due sent sending (due ++ filter is_data (f ∷ [])) due (record m { waiting = m.waiting ++ f ∷ [] })
+      (ap (λ (l : List Frame). due ++ l) a.no_data ∙ append-nil due)
+      (put_fits sent sending due m (f ∷ []) g a.is_in (a.runs false) a.closes (leb-true (length m.waiting + length (f ∷ [])) MAX_WAITING fits)))
   | inr full ↦ rw full (leaving_good sent sending due m policy_close g (policy_leaves m.has_left a.is_in))
 ]
 
@@ -311,11 +311,11 @@ unheard_due : (j i : ℕ) (room : Option (List ℕ)) (fs : List Frame) (m : Memb
     → more_due j i room (says fs) m m ≡ []
 unheard_due j i room fs m e = elim (cases_Bool (is_in m)) [
   | inl inside ↦
-    let elsewhere : is_same_room room m.room ≡ false = rw inside at e in
-    elim (cases_Bool (j == i)) [
-      | inl same ↦ rw (inside, same) refl
-      | inr other ↦ rw (inside, other, elsewhere) refl
-    ]
+      let elsewhere : is_same_room room m.room ≡ false = rw inside at e in
+      elim (cases_Bool (j == i)) [
+        | inl same ↦ rw (inside, same) refl
+        | inr other ↦ rw (inside, other, elsewhere) refl
+      ]
   | inr outside ↦ rw outside refl
 ]
 
@@ -336,14 +336,14 @@ said_good j i room sent sending due fs m g w other inside here =
     let stays = in_not_left m inside in
     elim (cases_Bool (nat_le (length m.waiting + length fs) MAX_WAITING)) [
       | inl fits ↦ rw fits
-        (with_due sent sending (due ++ filter is_data fs) (due ++ more_due j i room (says fs) m (record m { waiting = m.waiting ++ fs }))
-        (record m { waiting = m.waiting ++ fs })
-        (ap (λ (l : List Frame). due ++ l) (w.datas ∙ sym (heard_due j i room fs m (m.waiting ++ fs) other inside here)))
-        (put_fits sent sending due m fs g stays w.runs w.closes (leb-true (length m.waiting + length fs) MAX_WAITING fits)))
+          (with_due sent sending (due ++ filter is_data fs) (due ++ more_due j i room (says fs) m (record m { waiting = m.waiting ++ fs }))
+          (record m { waiting = m.waiting ++ fs })
+          (ap (λ (l : List Frame). due ++ l) (w.datas ∙ sym (heard_due j i room fs m (m.waiting ++ fs) other inside here)))
+          (put_fits sent sending due m fs g stays w.runs w.closes (leb-true (length m.waiting + length fs) MAX_WAITING fits)))
       | inr full ↦ rw full
-        (unchanged_good sent sending due (more_due j i room (says fs) m (leaving policy_close m)) (leaving policy_close m)
-        (rw inside refl)
-        (leaving_good sent sending due m policy_close g (policy_leaves m.has_left stays)))
+          (unchanged_good sent sending due (more_due j i room (says fs) m (leaving policy_close m)) (leaving policy_close m)
+          (rw inside refl)
+          (leaving_good sent sending due m policy_close g (policy_leaves m.has_left stays)))
     ]
 
 pub heard_good : (j i : ℕ) (room : Option (List ℕ)) (sent : List Frame) (sending : Bool) (due : List Frame) (e : Effect) (left : Bool) (m : Member)
@@ -352,12 +352,12 @@ pub heard_good : (j i : ℕ) (room : Option (List ℕ)) (sent : List Frame) (sen
 heard_good j i room sent sending due (says fs) left m g fits other =
     elim (cases_Bool (is_in m && is_same_room room m.room)) [
       | inl hears ↦
-        elim (cases_Bool (is_in m)) [
-          | inl inside ↦
-            let here : is_same_room room m.room ≡ true = rw inside at hears in
-            rw hears (said_good j i room sent sending due fs m g fits other inside here)
-          | inr outside ↦ absurd (let e : false ≡ true = rw outside at hears in cc)
-        ]
+          elim (cases_Bool (is_in m)) [
+            | inl inside ↦
+                let here : is_same_room room m.room ≡ true = rw inside at hears in
+                rw hears (said_good j i room sent sending due fs m g fits other inside here)
+            | inr outside ↦ absurd (let e : false ≡ true = rw outside at hears in cc)
+          ]
       | inr not_heard ↦ rw not_heard (unchanged_good sent sending due (more_due j i room (says fs) m m) m (unheard_due j i room fs m not_heard) g)
     ]
 heard_good j i room sent sending due (keeps fs) left m g fits other =

@@ -1,5 +1,5 @@
 -- What a step makes of each row.
-use Rattle.std.proofs.Common.{◌≡◌, ℕ, zero, suc, ◌+◌, ◌<◌, ◌≤◌, ◌⊎◌, Bool, true, false, List, [], ◌∷◌, ◌++◌, length, Option, Some, None, refl, sym, ap, ◌∙◌, subst, inl, inr, ◌==◌, if◌then◌else◌, arith}
+use Rattle.std.proofs.Common.{◌≡◌, ℕ, zero, suc, ◌+◌, ◌<◌, ◌≤◌, Bool, false, List, [], ◌∷◌, ◌++◌, length, Option, Some, None, refl, sym, ap, ◌∙◌, subst, inl, inr, ◌==◌, arith}
 use Rattle.std.proofs.lemmas.Bool.{cases_Bool, eqb-true, ltb-true, ltb-false}
 use Rattle.std.proofs.lemmas.List.{length-append}
 use Rattle.std.specs.Prelude.{nat_lt}
@@ -8,7 +8,7 @@ use Rattle.h1_model.specs.Sums.{request}
 use Rattle.ws_hub_model.specs.Hub.{HubEvent, opens, feeds, turns, HubStep, counted, open_count, Move, move_of}
 use Rattle.ws_hub_model.specs.Member.{Member, newcomer, Effect, says, keeps, answers, leaves_with, nothing, heard, row_behind, member_at, rows_from, with_opened, rows_behind}
 use Rattle.ws_hub_model.specs.Seen.{Seen, steps_of, members_of, row_of}
-use Rattle.ws_hub_model.specs.Trace.{core_trace, IsHubTrace}
+use Rattle.ws_hub_model.specs.Trace.{core_trace}
 use Rattle.ws_hub_model.proofs.StepViews.{Moved}
 
 pub member_at-append : (j : ℕ) (ms : List Member) → member_at j (ms ++ newcomer ∷ []) ≡ member_at j ms
@@ -84,17 +84,17 @@ row_moved setting s before m j =
     let change = row_behind (request (core_trace m.move.number before)) s.closes m.move (row_of m.move.number before) in
     elim (cases_Bool (nat_lt j (length (members_of before)))) [
       | inl within ↦
-        rw (m.rows (members_of before), m.is)
-        (let at : j < length (members_of before) = ltb-true j (length (members_of before)) within in
-        let here : 0 + j ≡ j = omega arith in
-        rows_in 0 j change (members_of before) at ∙ ap (λ (n : ℕ). change n (row_of j before)) here)
+          rw (m.rows (members_of before), m.is)
+          (let at : j < length (members_of before) = ltb-true j (length (members_of before)) within in
+          let here : 0 + j ≡ j = omega arith in
+          rows_in 0 j change (members_of before) at ∙ ap (λ (n : ℕ). change n (row_of j before)) here)
       | inr out ↦
-        rw (m.rows (members_of before), m.is)
-        (let past : length (members_of before) ≤ j = ltb-false j (length (members_of before)) out in
-        let none : row_of j before ≡ newcomer = member_out j (members_of before) past in
-        let same_length = length-rows_from 0 change (members_of before) in
-        let other : (j == m.move.number) ≡ false = unequal j m.move.number (omega arith) in
-        subst (λ (row : Member). member_at j (rows_from 0 change (members_of before)) ≡ change j row) (sym none)
-        (member_out j (rows_from 0 change (members_of before)) (omega (arith, same_length))
-        ∙ sym (row_unknown (request (core_trace m.move.number before)) s.closes m.move (row_of m.move.number before) j other)))
+          rw (m.rows (members_of before), m.is)
+          (let past : length (members_of before) ≤ j = ltb-false j (length (members_of before)) out in
+          let none : row_of j before ≡ newcomer = member_out j (members_of before) past in
+          let same_length = length-rows_from 0 change (members_of before) in
+          let other : (j == m.move.number) ≡ false = unequal j m.move.number (omega arith) in
+          subst (λ (row : Member). member_at j (rows_from 0 change (members_of before)) ≡ change j row) (sym none)
+          (member_out j (rows_from 0 change (members_of before)) (omega (arith, same_length))
+          ∙ sym (row_unknown (request (core_trace m.move.number before)) s.closes m.move (row_of m.move.number before) j other)))
     ]

@@ -1,10 +1,9 @@
 -- What a step of a hub is: an opening, or a move of one connection; and what happens to one connection is a trace.
-use Rattle.std.proofs.Common.{◌≡◌, ℕ, ◌⊎◌, Bool, true, false, List, [], ◌∷◌, IsTrue, Option, Some, refl, sym, subst, inl, inr, ◌==◌}
+use Rattle.std.proofs.Common.{◌≡◌, ℕ, ◌⊎◌, Bool, true, false, List, [], ◌∷◌, IsTrue, Some, refl, sym, subst, inl, inr, ◌==◌}
 use Rattle.std.proofs.lemmas.Bool.{cases_Bool, eqb-true}
 use Rattle.h1_model.specs.Setting.{Setting}
-use Rattle.h1_model.specs.Sums.{Step}
 use Rattle.h1_model.specs.Trace.{IsAllowed, IsOutcome, IsTrace}
-use Rattle.ws_hub_model.specs.Hub.{HubEvent, opens, feeds, turns, HubOutcome, opened, core, HubStep, Move, move_by, core_of}
+use Rattle.ws_hub_model.specs.Hub.{HubEvent, opens, feeds, turns, HubOutcome, opened, core, Move, move_by, core_of}
 use Rattle.ws_hub_model.specs.Member.{Member, with_opened}
 use Rattle.ws_hub_model.specs.Seen.{Seen}
 use Rattle.ws_hub_model.specs.Trace.{is_fed, core_trace, IsTurnEvent, GoesOn, IsHubStep, IsHubTrace}
@@ -62,10 +61,11 @@ core_other setting i s before m e = rw (m.is, e) refl
 pub own_step : (setting : Setting) (i : ℕ) (s : Seen) (before : List Seen) (m : Moved setting before s.step.event s.step.outcome s.closes)
     → (i == m.move.number) ≡ true → IsTrace setting (core_trace i before) → IsTrace setting (m.move.step ∷ core_trace i before)
 own_step setting i s before m e x =
-    let number : m.move.number ≡ i = sym (eqb-true i m.move.number e) in
-    (subst (λ (k : ℕ). IsAllowed setting (core_trace k before) m.move.step.event) number m.goes.allowed,
+    let number : m.move.number ≡ i = sym (eqb-true i m.move.number e) in (
+      subst (λ (k : ℕ). IsAllowed setting (core_trace k before) m.move.step.event) number m.goes.allowed,
       subst (λ (k : ℕ). IsOutcome setting (core_trace k before) m.move.step.event m.move.step.outcome) number m.goes.answers,
-      x)
+      x,
+    )
 
 pub core_is_trace : (setting : Setting) (seen : List Seen) (i : ℕ) → IsHubTrace setting seen → IsTrace setting (core_trace i seen)
 unfolding core_of

@@ -5,3 +5,4 @@ pub mod Seen
 pub mod Turn
 pub mod Due
 pub mod Trace
+pub mod Laws

@@ -8,7 +8,7 @@ use Rattle.h1_model.specs.Frame as frames
 use Rattle.h1_model.specs.Event.{Event, Outcome}
 use Rattle.h1_model.specs.Event as on
 use Rattle.h1_model.specs.Sums.{Step, request}
-use Rattle.ws_hub_model.specs.Hub.{HubEvent, opens, HubStep, Move, move_of, core_of}
+use Rattle.ws_hub_model.specs.Hub.{HubEvent, opens, HubStep, Move, core_of}
 use Rattle.ws_hub_model.specs.Room.{room_of}
 
 -- the most frames that messages and pongs bring a waiting list to; the Close of who leaves may be one more

@@ -8,7 +8,7 @@ use Rattle.h1_model.specs.Sums.{Step}
 use Rattle.h1_model.specs.Past.{ParsedStep}
 use Rattle.h1_model.specs.Closing.{closing}
 use Rattle.h1_model.specs.Trace.{IsPastOf, IsAllowed, IsOutcome}
-use Rattle.ws_hub_model.specs.Hub.{HubEvent, opens, feeds, turns, HubOutcome, opened, core, HubStep, MAX_CONNECTIONS, open_count, core_of}
+use Rattle.ws_hub_model.specs.Hub.{HubEvent, opens, feeds, turns, HubOutcome, opened, core, MAX_CONNECTIONS, open_count, core_of}
 use Rattle.ws_hub_model.specs.Seen.{Seen, steps_of, row_of}
 use Rattle.ws_hub_model.specs.Turn.{turn_event}
 

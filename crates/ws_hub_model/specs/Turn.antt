@@ -1,7 +1,6 @@
 -- The event of a turn: the first rule that applies.
 use Rattle.std.specs.Prelude.{ℕ, ◌-◌, Bool, true, false, not, ◌||◌, List, [], ◌∷◌, codes, min, if◌then◌else◌, Option, Some, None, is_some}
 use Rattle.std.specs.Option.{option_or}
-use Rattle.h1_model.specs.Request.{Header}
 use Rattle.h1_model.specs.Setting.{Setting}
 use Rattle.h1_model.specs.Limits.{MAX_FRAME_HEAD}
 use Rattle.h1_model.specs.Answer.{AnswerHead, size_of}
