@@ -2,7 +2,7 @@
 ghost use Rattle.std.specs.Prelude.{◌≡◌, ◌<◌, ◌++◌, ◌∷◌, [], ℕ, Some, true, length, drop, slice_get, OnOk, OnErr};
 ghost use Rattle.std.specs.Option.{option_copied};
 ghost use Rattle.ws_frames.specs.Codec.{frame_says};
-ghost use Rattle.ws_hub_model.specs.Member.{newcomer, with_end, member_at, rows_from};
+ghost use Rattle.ws_hub_model.specs.Member.{newcomer, says, heard, with_end, member_at, rows_from};
 ghost use Rattle.ws_rooms.specs.Rows.{only, others_hear, spoken};
 
 use crate::line::Line;
@@ -108,18 +108,27 @@ impl Rooms {
 
 // All but the one with this number hear what is said in a room.
 fn tell(
-    rows: &mut [Row],
+    rows: &mut Vec<Row>,
     number: usize,
     room: &Option<Bytes>,
     lines: &[Line],
 ) -> Result<(), NoMemory>
-    ensures { OnOk result (rows.new ≡ rows_from 0 (others_hear number room.now lines.now) rows.old) }
+    ensures { OnOk result (rows.new.items ≡ rows_from 0 (others_hear number room.now lines.now) rows.old.items) }
 {
     for index in 0..rows.len() {
-        let row = &mut rows[index];
-        if index != number && row.is_in_room(room) {
-            row.put(lines)?;
+        if index != number {
+            hear(&mut rows[index], room, lines)?;
         }
+    }
+    Ok(())
+}
+
+// A member hears what is said in a room.
+fn hear(row: &mut Row, room: &Option<Bytes>, lines: &[Line]) -> Result<(), NoMemory>
+    ensures { OnOk result (row.new ≡ heard (says lines.now) room.now row.old) }
+{
+    if row.is_in_room(room) {
+        row.put(lines)?;
     }
     Ok(())
 }

@@ -304,7 +304,17 @@ fn is_bad_text(alloc: Global, lines: &[Line]) -> Result<bool, NoMemory>
         return Ok(false);
     }
     let bytes = joined(alloc, lines)?;
-    Ok(str::from_utf8(bytes.as_slice()).is_err())
+    Ok(!is_utf8_text(bytes.as_slice()))
+}
+
+// Whether the bytes are UTF-8.
+fn is_utf8_text(bytes: &[u8]) -> bool
+    ensures { result ≡ is_utf8 bytes.now }
+{
+    match str::from_utf8(bytes) {
+        Ok(_) => true,
+        Err(_) => false,
+    }
 }
 
 // The payloads, one after another.
