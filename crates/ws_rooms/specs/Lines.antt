@@ -1,7 +1,7 @@
 -- What a line says: the frame that it sends.
-use Rattle.std.specs.Prelude.{◌≡◌, Bool, true, false, List, Option, Some, None}
+use Rattle.std.specs.Prelude.{◌≡◌, List, Option, Some, None}
 use Rattle.h1_model.specs.Frame as model
-use Rattle.ws_hub_model.specs.Member.{Effect, says, keeps, answers, leaves_with, nothing}
+use Rattle.ws_hub_model.specs.Member.{Effect, says}
 
 -- the frame of a message; of nothing there is no line
 abbrev pub frame_in : model.Message → model.Frame

@@ -1,8 +1,8 @@
 -- What the calls of a table make of its rows.
-use Rattle.std.specs.Prelude.{◌≡◌, ℕ, ◌≤◌, ◌==◌, Bool, List, Option, if◌then◌else◌, drop}
+use Rattle.std.specs.Prelude.{◌≡◌, ℕ, ◌≤◌, ◌==◌, List, Option, if◌then◌else◌}
 use Rattle.h1_model.specs.Frame.{Frame}
 use Rattle.h1_model.specs.Event as on
-use Rattle.ws_hub_model.specs.Member.{Member, Effect, says, effect_in, heard, with_effect, with_end, member_at, rows_from, byte_count, MAX_PART_BYTES}
+use Rattle.ws_hub_model.specs.Member.{Member, says, effect_in, heard, with_effect, byte_count, MAX_PART_BYTES}
 
 -- the count is that of the parts, of which there are not too many
 pub record CountsParts (count : ℕ) (parts : List Frame) : Type 0 where

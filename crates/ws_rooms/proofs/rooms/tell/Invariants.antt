@@ -1,5 +1,3 @@
-use Rattle.std.proofs.Common.{◌≡◌, ◌<◌, ◌≤◌, ℕ, length}
-use Rattle.ws_hub_model.specs.Member.{member_at}
 use Rattle.ws_rooms.specs.Rows.{others_hear}
 use Rattle.ws_rooms.proofs.rooms.tell.Given as goal
 use Rattle.ws_rooms.proofs.RowLists.{ChangedBelow}
