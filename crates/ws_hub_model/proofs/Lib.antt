@@ -6,3 +6,4 @@ pub mod SendLemmas
 pub mod TurnLemmas
 pub mod HubLemmas
 pub mod OrderLemmas
+pub mod AskLemmas

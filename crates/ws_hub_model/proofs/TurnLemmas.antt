@@ -157,11 +157,11 @@ open_unanswered true false false true e n h = absurd (let x = h refl in cc)
 open_unanswered true false false false e n h = refl
 
 -- an open request that isn't upgraded has no answer
-unanswered : (trace : List Step) → Tame trace → is_open trace ≡ true → is_upgraded trace ≡ false → is_unanswered trace ≡ true
+pub unanswered : (trace : List Step) → Tame trace → is_open trace ≡ true → is_upgraded trace ≡ false → is_unanswered trace ≡ true
 unanswered trace tame is_opened not_up =
     open_unanswered (is_some (request trace)) (is_upgraded trace) (is_complete trace) (is_some (answered trace)) is_opened not_up tame.whole
 
-limit_fits : (setting : Setting) → MAX_FRAME_HEAD ≤ setting.hold_size → nat_le (accept_limit setting + MAX_FRAME_HEAD) setting.hold_size ≡ true
+pub limit_fits : (setting : Setting) → MAX_FRAME_HEAD ≤ setting.hold_size → nat_le (accept_limit setting + MAX_FRAME_HEAD) setting.hold_size ≡ true
 limit_fits setting h = le-leb (accept_limit setting + MAX_FRAME_HEAD) setting.hold_size (omega arith)
 
 socket_allowed : (setting : Setting) (trace : List Step) (room : Bool) (waiting : List Frame) → room ≡ has_room setting trace

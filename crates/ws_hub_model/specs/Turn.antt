@@ -1,5 +1,5 @@
 -- The event of a turn: the first rule that applies.
-use Rattle.std.specs.Prelude.{ℕ, ◌-◌, Bool, true, false, not, ◌||◌, List, [], ◌∷◌, codes, min, if◌then◌else◌, Option, Some, None, is_some}
+use Rattle.std.specs.Prelude.{ℕ, ◌-◌, Bool, true, false, not, ◌&&◌, ◌||◌, List, [], ◌∷◌, codes, min, if◌then◌else◌, Option, Some, None, is_some}
 use Rattle.std.specs.Option.{option_or}
 use Rattle.h1_model.specs.Setting.{Setting}
 use Rattle.h1_model.specs.Limits.{MAX_FRAME_HEAD}
@@ -77,3 +77,19 @@ turn_event setting past waiting =
     if is_some (closing setting past) || not (is_open (steps past)) then on.next
     else (if is_upgraded (steps past) then socket_event (has_room setting (steps past)) waiting
     else request_event setting (asks_raw (request (steps past))) (tried (steps past)))
+
+-- ---- the same by questions
+
+-- the answer to a request that isn't upgraded
+abbrev pub answer_head : Option HandshakeError → AnswerHead
+answer_head (Some e) = refusal_head e
+answer_head None = plain_head 404
+
+-- The event of a turn by what is allowed: the next request; else an upgrade that wasn't tried; else an answer; else the
+-- frame that waits first; else the next frame.
+abbrev pub asked_event : (Event → Bool) → Setting → Option HandshakeError → List Frame → Event
+asked_event allows setting refusal waiting =
+    if allows on.next then on.next
+    else (if not (is_some refusal) && allows (on.accept (accept_limit setting)) then on.accept (accept_limit setting)
+    else (if allows (on.answer (answer_head refusal) (size_of 0)) then on.answer (answer_head refusal) (size_of 0)
+    else socket_event (allows (on.send frames.nop)) waiting))

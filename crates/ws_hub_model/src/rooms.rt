@@ -6,11 +6,14 @@ ghost use Rattle.h1_model.specs.Limits.{MAX_FRAME_HEAD};
 ghost use Rattle.h1_model.specs.Setting.{Setting};
 ghost use Rattle.h1_model.specs.Event.{Event};
 ghost use Rattle.h1_model.specs.Sums.{request};
-ghost use Rattle.h1_model.specs.Allowed.{is_over};
-ghost use Rattle.h1_model.specs.Trace.{IsAllowed, IsTrace};
+ghost use Rattle.h1_model.specs.Frame.{Frame};
+ghost use Rattle.h1_model.specs.Past.{ParsedStep};
+ghost use Rattle.h1_model.specs.Allowed.{is_over, is_allowed};
+ghost use Rattle.h1_model.specs.Trace.{IsPastOf, IsAllowed, IsTrace};
 ghost use Rattle.ws_hub_model.specs.Hub.{opens, Move, move_of};
 ghost use Rattle.ws_hub_model.specs.Member.{MAX_WAITING, row_behind};
 ghost use Rattle.ws_hub_model.specs.Seen.{Seen, row_of};
+ghost use Rattle.ws_hub_model.specs.Turn.{tried, turn_event, asked_event};
 ghost use Rattle.ws_hub_model.specs.Due.{messages, due_messages, due, sent_to, is_data, is_close};
 ghost use Rattle.ws_hub_model.specs.Trace.{core_trace, IsTurnEvent, IsHubTrace};
 ghost use Rattle.ws_hub_model.specs.Laws.{IsNoRefusal, IsPartOf};
@@ -30,6 +33,15 @@ pub fn events_fix_the_trace()
 pub fn each_turn_is_allowed()
     ensures { (setting : Setting) (seen : List Seen) (i : ℕ) (event : Event) → MAX_FRAME_HEAD ≤ setting.hold_size → IsHubTrace setting seen
         → IsFalse (is_over (core_trace i seen)) → IsTurnEvent setting seen i event → IsAllowed setting (core_trace i seen) event }
+{}
+
+/// The rules of a turn are questions for what is allowed: whether the next request may be asked for, else whether an upgrade
+/// that wasn't tried may be accepted, else whether an answer may come, else whether the first frame that waits may be sent.
+/// The next frame is taken where none of them may.
+pub fn a_turn_asks()
+    ensures { (setting : Setting) (seen : List Seen) (i : ℕ) (past : List ParsedStep) (waiting : List Frame) → MAX_FRAME_HEAD ≤ setting.hold_size
+        → IsHubTrace setting seen → IsFalse (is_over (core_trace i seen)) → IsPastOf setting (core_trace i seen) past
+        → turn_event setting past waiting ≡ asked_event (is_allowed setting past) setting (tried (core_trace i seen)) waiting }
 {}
 
 /// No frame that a hub sends is refused: fragments of two messages never mix.
