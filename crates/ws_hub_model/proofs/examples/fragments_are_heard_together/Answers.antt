@@ -1,0 +1,12 @@
+use Rattle.std.proofs.Common.{refl}
+use Rattle.std.specs.Str.{is_utf8, chars}
+use Rattle.std.specs.Char.{encode_utf8}
+use Rattle.h1_model.specs.Sums.{request}
+use Rattle.ws_hub_model.specs.Hub.{core_of}
+use Rattle.ws_hub_model.specs.Seen.{members_of}
+use Rattle.ws_hub_model.specs.Due.{due_messages, sent_frames}
+use Rattle.ws_hub_model.proofs.examples.fragments_are_heard_together.Goals as goal
+
+pub returns : goal.returns
+unfolding is_utf8 chars encode_utf8 request core_of members_of due_messages sent_frames
+returns c = (refl, refl)

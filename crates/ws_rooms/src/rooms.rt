@@ -1,0 +1,134 @@
+//! The table of all members.
+ghost use Rattle.std.specs.Prelude.{◌≡◌, ◌<◌, ◌++◌, ◌∷◌, [], ℕ, Some, true, length, drop, slice_get, OnOk, OnErr};
+ghost use Rattle.std.specs.Option.{option_copied};
+ghost use Rattle.ws_frames.specs.Codec.{frame_says};
+ghost use Rattle.ws_hub_model.specs.Member.{newcomer, says, heard, with_end, member_at, rows_from};
+ghost use Rattle.ws_rooms.specs.Rows.{only, others_hear, spoken};
+
+use crate::line::Line;
+use crate::row::Row;
+use bytes::Bytes;
+use std::alloc::Global;
+use std::marker::Model;
+use ws_frames::{Frame, NoMemory};
+
+/// The rows of all connections, by their numbers from 0 on. A clause sees it as the list of the model's rows.
+///
+/// After want of memory a table is of no use: a message may have come to some members and not to others.
+#[derive(Drop)]
+pub struct Rooms {
+    alloc: Global,
+    rows: Vec<Row>,
+}
+
+impl Model for Rooms {
+    ghost use Rattle.std.specs.Prelude.{List};
+    ghost use Rattle.ws_hub_model.specs.Member.{Member};
+
+    ghost Value = { List Member };
+
+    ghost view = { λ r. r.rows.items };
+}
+
+impl Rooms {
+    /// A table without a row.
+    pub fn new(alloc: Global) -> Rooms
+        ensures { result ≡ [] }
+    {
+        Rooms {
+            alloc,
+            rows: Vec::new(alloc),
+        }
+    }
+
+    /// How many rows there are.
+    pub fn len(&self) -> usize
+        ensures { result ≡ length self.now }
+    {
+        self.rows.len()
+    }
+
+    /// Adds a row that has joined no room. Where memory ran out, there is none more.
+    pub fn open(&mut self) -> Result<(), NoMemory>
+        ensures ok { OnOk result (self.new ≡ self.old ++ newcomer ∷ []) }
+        ensures err { OnErr result (self.new ≡ self.old) }
+    {
+        self.rows.push(Row::new(self.alloc))?;
+        Ok(())
+    }
+
+    /// The connection with this number joins a room.
+    pub fn join(&mut self, number: usize, room: Bytes)
+        requires known { number < length self.old }
+        ensures { self.new ≡ rows_from 0 (only number (λ m. record m { room = Some room })) self.old }
+    {
+        let row = &mut self.rows[number];
+        row.join(room);
+    }
+
+    /// It leaves, as its connection closes.
+    pub fn leave(&mut self, number: usize)
+        requires known { number < length self.old }
+        ensures { self.new ≡ rows_from 0 (only number (with_end true)) self.old }
+    {
+        let row = &mut self.rows[number];
+        row.leave();
+    }
+
+    /// The first frame that waits to be sent to it.
+    pub fn front(&self, number: usize) -> Option<&Line>
+        requires known { number < length self.now }
+        ensures { option_copied result ≡ slice_get (member_at number self.now).waiting 0 }
+    {
+        self.rows[number].front()
+    }
+
+    /// The first frame that waits was sent to it.
+    pub fn sent(&mut self, number: usize)
+        requires known { number < length self.old }
+        ensures { self.new ≡ rows_from 0 (only number (λ m. record m { waiting = drop 1 m.waiting })) self.old }
+    {
+        let row = &mut self.rows[number];
+        row.sent();
+    }
+
+    /// A frame of it has its effect: on its own row, and, where it completes a message, on those of the others in its room.
+    pub fn speak(&mut self, number: usize, frame: Frame) -> Result<(), NoMemory>
+        requires known { number < length self.old }
+        ensures { OnOk result (self.new ≡ rows_from 0 (spoken number (member_at number self.old) (frame_says frame)) self.old) }
+    {
+        let row = &mut self.rows[number];
+        let Some(lines) = row.take(frame)? else {
+            return Ok(());
+        };
+        let room = row.share_room()?;
+        tell(&mut self.rows, number, &room, lines.as_slice())
+    }
+}
+
+// All but the one with this number hear what is said in a room.
+fn tell(
+    rows: &mut Vec<Row>,
+    number: usize,
+    room: &Option<Bytes>,
+    lines: &[Line],
+) -> Result<(), NoMemory>
+    ensures { OnOk result (rows.new.items ≡ rows_from 0 (others_hear number room.now lines.now) rows.old.items) }
+{
+    for index in 0..rows.len() {
+        if index != number {
+            hear(&mut rows[index], room, lines)?;
+        }
+    }
+    Ok(())
+}
+
+// A member hears what is said in a room.
+fn hear(row: &mut Row, room: &Option<Bytes>, lines: &[Line]) -> Result<(), NoMemory>
+    ensures { OnOk result (row.new ≡ heard (says lines.now) room.now row.old) }
+{
+    if row.is_in_room(room) {
+        row.put(lines)?;
+    }
+    Ok(())
+}
