@@ -3,13 +3,13 @@ use Rattle.std.specs.Prelude.{ℕ, ◌==◌, ◌||◌, List, [], ◌∷◌, take
 use Rattle.http_uri.specs.ByteClasses.{is_delimiter, slash}
 use Rattle.http_uri.specs.Grammar.{without_fragment, path_of}
 
--- what stands behind the first `://`
+-- what stands after the first `://`
 abbrev pub behind_scheme : List ℕ → Option (List ℕ)
 behind_scheme [] = None
 behind_scheme (b ∷ bytes) =
     if bytes_eq (take 3 (b ∷ bytes)) (codes "://") then Some (drop 3 (b ∷ bytes)) else behind_scheme bytes
 
--- what stands behind an authority: the text from its first `/`, `?` or `#` on
+-- what stands after an authority: the text from its first `/`, `?` or `#` on
 abbrev pub behind_authority : List ℕ → List ℕ
 behind_authority [] = []
 behind_authority (b ∷ bytes) = if is_delimiter b then b ∷ bytes else behind_authority bytes

@@ -3,7 +3,7 @@ use Rattle.std.specs.Prelude.{ℕ, Bool, List, [], ◌∷◌, map}
 use Rattle.ws_hub_model.specs.Hub.{HubStep, move_of}
 use Rattle.ws_hub_model.specs.Member.{Member, with_opened, rows_behind, member_at}
 
--- a step, and whether the connection that it moves closes behind it
+-- a step, and whether the connection that it moves closes after it
 pub record Seen : Type 0 where
   pub step : HubStep
   pub closes : Bool

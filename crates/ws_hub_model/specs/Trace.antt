@@ -30,7 +30,7 @@ abbrev pub IsTurnEvent : Setting → List Seen → ℕ → Event → Type 0
 IsTurnEvent setting before i event =
     (past : List ParsedStep) × IsPastOf setting (core_trace i before) past × (event ≡ turn_event setting past (row_of i before).waiting)
 
--- whether the connection closes behind this trace
+-- whether the connection closes after this trace
 abbrev pub Closes : Setting → List Step → Bool → Type 0
 Closes setting trace closes =
     (past : List ParsedStep) × IsPastOf setting trace past × (closes ≡ is_some (closing setting past))

@@ -69,7 +69,7 @@ pub fn who_left_is_silent()
         × ((row_of 1 after).waiting ≡ []) }
 {}
 
-/// The last frame of a connection that closes behind it is still said; then the member is out, and hears nothing.
+/// The last frame of a connection that closes after it is still said; then the member is out, and hears nothing.
 pub fn the_last_frame_is_said()
     ensures { let last : List Seen = turn true 0 on.pull (on.frame (frames.text (codes "a"))) ∷ three in
         let after : List Seen = speaks 1 (frames.text (codes "b")) ∷ last in

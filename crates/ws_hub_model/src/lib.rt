@@ -8,7 +8,7 @@
 //! - `specs/Hub.antt`: what happens to a hub, and the trace of one connection. `specs/Trace.antt`: which steps may follow
 //!   one another, over the traces of `h1_model`.
 //! - `specs/Turn.antt`: the event of a turn. `specs/Room.antt`: the room of a target. `specs/Member.antt`: what a frame
-//!   does, and what a step makes of the row of each member. `specs/Seen.antt`: the rows behind a list of steps.
+//!   does, and what a step makes of the row of each member. `specs/Seen.antt`: the rows after a list of steps.
 //! - `specs/Due.antt`: what is due to a member, by what others said; and what was sent to it.
 //! - [`rooms`]: the laws. [`examples`]: small exchanges with all their values.
 #![tactic(auto)]

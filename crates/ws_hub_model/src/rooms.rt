@@ -1,4 +1,4 @@
-//! Laws of a hub: what holds behind all that may happen to it.
+//! Laws of a hub: what holds after all that may happen to it.
 
 ghost use Rattle.std.specs.Prelude.{◌≡◌, ◌≤◌, ◌+◌, ◌==◌, List, ◌∷◌, ◌++◌, ℕ, length, map, filter, Some, IsFalse};
 ghost use Rattle.std.specs.List.{AllByRecursion};

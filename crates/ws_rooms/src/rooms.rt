@@ -14,7 +14,7 @@ use ws_frames::{Frame, NoMemory};
 
 /// The rows of all connections, by their numbers from 0 on. A clause sees it as the list of the model's rows.
 ///
-/// After want of memory a table is of no use: a message may have come to some members and not to others.
+/// Once memory ran out, a table is of no use: a message may have come to some members and not to others.
 #[derive(Drop)]
 pub struct Rooms {
     alloc: Global,

@@ -234,7 +234,7 @@ impl Row {
         Ok(None)
     }
 
-    // A part that isn't the last is kept behind the others, unless they are too many or too long.
+    // A part that isn't the last is kept after the others, unless they are too many or too long.
     fn keep(&mut self, line: Line) -> Result<(), NoMemory>
         ensures { OnOk result (self.new ≡ with_effect (kept (self.old.parts ++ line ∷ [])) self.old) }
     {
@@ -273,7 +273,7 @@ impl Row {
     }
 }
 
-// The lines behind those that wait.
+// The lines after those that wait.
 fn add(waiting: &mut VecDeque<Line>, lines: &[Line]) -> Result<(), NoMemory>
     ensures { OnOk result (waiting.new.items ≡ waiting.old.items ++ lines.now) }
 {

@@ -20,7 +20,7 @@ asking target = record {
   expects = false;
 }
 
--- a turn, behind which the connection goes on or closes
+-- a turn, after which the connection goes on or closes
 abbrev pub turn : Bool → ℕ → Event → Outcome → Seen
 turn closes i event outcome = record { step = record { event = turns i; outcome = core event outcome }; closes = closes }
 
