@@ -7,7 +7,8 @@ use Rattle.http_values.specs.declared.shared.language_tag.LanguageTag.{LanguageT
 use Rattle.http_values.specs.declared.shared.extended.ExtendedValue.{ExtendedValue}
 use Rattle.http_values.specs.declared.shared.language_tag.Place.TheVariants.{Start}
 use Rattle.http_values.specs.LanguageTag.{IsLanguageTag, is_x}
-use Rattle.http_values.specs.LanguageTagPlaces.{after_start, subtags, Leads}
+use Rattle.http_values.specs.LanguageTagPlaces.{after_start}
+use Rattle.http_values.proofs.TagSteps.{subtags, Leads}
 use Rattle.http_values.specs.Charset.{IsNamed, charset_text}
 use Rattle.http_values.specs.ExtendedValue.{IsTagPart, SaysExtended, SameTag}
 use Rattle.http_values.proofs.CharsetLemmas.{keeps_its_label}

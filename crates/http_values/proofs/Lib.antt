@@ -14,6 +14,7 @@ pub mod PrintedQuality
 pub mod QualityItemLemmas
 pub mod QualityLemmas
 pub mod TagPaths
+pub mod TagSteps
 pub mod TagTests
 pub mod TagTexts
 pub mod TagTrees

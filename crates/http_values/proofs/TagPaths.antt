@@ -9,7 +9,8 @@ use Rattle.http_values.specs.declared.shared.language_tag.Place.{Place}
 use Rattle.http_values.specs.declared.shared.language_tag.Place.TheVariants.{Start, Language, Script, Region, Variant, Singleton, Extension, PrivateStart, Private}
 use Rattle.http_values.specs.LanguageTag.{is_letters, is_letters_or_digits, is_region, is_variant, is_x, is_singleton, EachPasses, NonePasses, ExtensionPart, extension_subtags, IsExtensionPart, PrivatePart, subtag_if, private_if, IsPrivateIf, Langtag, langtag_subtags, IsLangtag, IsLanguage, TagTree, Common, tree_subtags, IsTagTree}
 use Rattle.http_values.specs.LanguageTag.{Private as Alone}
-use Rattle.http_values.specs.LanguageTagPlaces.{after_variant, after_region, after_script, after_language, after_start, may_end, Leads}
+use Rattle.http_values.specs.LanguageTagPlaces.{after_variant, after_region, after_script, after_language, after_start, may_end}
+use Rattle.http_values.proofs.TagSteps.{Leads}
 use Rattle.http_values.proofs.TagTests.{long, other_length, x_long, singleton_long, x_is_no_singleton, region_long, variant_long, no_region, no_variant, region_is_no_extlang, variant_is_no_script}
 
 -- a choice between two places, by its test

@@ -10,7 +10,8 @@ use Rattle.std.proofs.lemmas.List.Splits.{slice_split_none, slice_split_at, join
 use Rattle.http_values.specs.declared.shared.language_tag.Place.{Place}
 use Rattle.http_values.specs.declared.shared.language_tag.Place.TheVariants.{Start, Language, Script, Region, Variant, Singleton, Extension, PrivateStart, Private}
 use Rattle.http_values.specs.LanguageTag.{is_letters, is_letters_or_digits, is_digits, is_region, is_variant, is_x, is_singleton, tree_subtags, IsLanguageTag}
-use Rattle.http_values.specs.LanguageTagPlaces.{after_variant, after_region, after_script, after_language, after_start, next_place, subtags, Leads}
+use Rattle.http_values.specs.LanguageTagPlaces.{after_variant, after_region, after_script, after_language, after_start, next_place}
+use Rattle.http_values.proofs.TagSteps.{subtags, Leads}
 use Rattle.http_values.proofs.TagTests.{or_cases, passes}
 use Rattle.http_values.proofs.TagTrees.{dead_end, chosen, tree_of}
 use Rattle.http_values.proofs.TagPaths.{tree_leads}

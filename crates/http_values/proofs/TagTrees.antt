@@ -8,7 +8,8 @@ use Rattle.http_values.specs.declared.shared.language_tag.Place.{Place}
 use Rattle.http_values.specs.declared.shared.language_tag.Place.TheVariants.{Start, Language, Script, Region, Variant, Singleton, Extension, PrivateStart, Private}
 use Rattle.http_values.specs.LanguageTag.{is_letters, is_letters_or_digits, is_region, is_variant, is_x, is_singleton, EachPasses, NonePasses, ExtensionPart, extension_subtags, IsExtensionPart, PrivatePart, IsPrivatePart, subtag_if, private_if, IsPrivateIf, Langtag, IsLangtag, IsLanguage, TagTree, Common, tree_subtags, IsTagTree}
 use Rattle.http_values.specs.LanguageTag.{Private as Alone}
-use Rattle.http_values.specs.LanguageTagPlaces.{after_variant, after_region, after_script, after_language, after_start, Leads}
+use Rattle.http_values.specs.LanguageTagPlaces.{after_variant, after_region, after_script, after_language, after_start}
+use Rattle.http_values.proofs.TagSteps.{Leads}
 use Rattle.http_values.proofs.TagTests.{and_of}
 
 -- nothing follows a subtag that leads nowhere

@@ -1,7 +1,6 @@
 -- How a language tag is read, subtag by subtag: each rule reads one subtag, and says after which place it may stand and
 -- which place it leads to.
-use Rattle.std.specs.Prelude.{ℕ, ◌-◌, Bool, true, false, ◌&&◌, List, IsTrue, Option, Some, None, ◌==◌, nat_lt, if◌then◌else◌, fold}
-use Rattle.std.specs.List.{slice_split}
+use Rattle.std.specs.Prelude.{ℕ, ◌-◌, Bool, true, false, ◌&&◌, List, Option, Some, None, nat_lt, if◌then◌else◌}
 use Rattle.http_values.specs.declared.shared.language_tag.Place.{Place}
 use Rattle.http_values.specs.declared.shared.language_tag.Place.TheVariants.{Start, Language, Script, Region, Variant, Singleton, Extension, PrivateStart, Private}
 use Rattle.http_values.specs.LanguageTag.{is_letters, is_letters_or_digits, is_region, is_variant, is_x, is_singleton}
@@ -42,26 +41,9 @@ next_place Extension s = if is_letters_or_digits 2 8 s then Some Extension else 
 next_place PrivateStart s = if is_letters_or_digits 1 8 s then Some Private else None
 next_place Private s = if is_letters_or_digits 1 8 s then Some Private else None
 
--- the same from where an earlier subtag led, if anywhere
-abbrev pub step : Option Place → List ℕ → Option Place
-step None s = None
-step (Some place) s = next_place place s
-
 -- whether a tag may end there: not where a further subtag must follow
 abbrev pub may_end : Place → Bool
 may_end Start = false
 may_end Singleton = false
 may_end PrivateStart = false
 may_end _ = true
-
-abbrev pub ends : Option Place → Bool
-ends None = false
-ends (Some place) = may_end place
-
--- the subtags of a text
-abbrev pub subtags : List ℕ → List (List ℕ)
-subtags text = slice_split (λ b. b == 45) text
-
--- from this place on the subtags lead to one where a tag may end
-abbrev pub Leads : Option Place → List (List ℕ) → Type 0
-Leads place parts = IsTrue (ends (fold step place parts))

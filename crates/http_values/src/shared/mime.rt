@@ -179,10 +179,10 @@ fn are_parameters(text: &[u8]) -> bool
     true
 }
 
+// The parameters of the text. Where memory ran out, it is not known whether the text is that of parameters.
 fn read_parameters(alloc: Global, text: &[u8]) -> Result<Vec<Parameter>, ReadError>
-    requires { (params : List (List ℕ × List ℕ)) × AreParameters text.now params }
     ensures ok { IfOk result (λ params. AreParameters text.now (pairs_of params.items)) }
-    ensures err { IfErr result (λ e. e ≡ ReadError.NoMemory) }
+    ensures invalid { IsErrOf result ReadError.Invalid → ¬ ((params : List (List ℕ × List ℕ)) × AreParameters text.now params) }
 {
     let mut params = Vec::new(alloc);
     let mut rest = text;
@@ -202,6 +202,19 @@ fn read_parameters(alloc: Global, text: &[u8]) -> Result<Vec<Parameter>, ReadErr
         rest = behind;
     }
     Ok(params)
+}
+
+// The parameters of the text. It is read a second time only where memory ran out.
+fn parameters_of(alloc: Global, text: &[u8]) -> Result<Vec<Parameter>, ReadError>
+    ensures ok { IfOk result (λ params. AreParameters text.now (pairs_of params.items)) }
+    ensures invalid { IsErrOf result ReadError.Invalid ↔ ¬ ((params : List (List ℕ × List ℕ)) × AreParameters text.now params) }
+{
+    match read_parameters(alloc, text) {
+        Ok(params) => Ok(params),
+        Err(ReadError::Invalid) => Err(ReadError::Invalid),
+        Err(ReadError::NoMemory) if are_parameters(text) => Err(ReadError::NoMemory),
+        Err(ReadError::NoMemory) => Err(ReadError::Invalid),
+    }
 }
 
 // Equal parameters.
@@ -277,11 +290,9 @@ impl FromText for Mime {
         let Some((kind, subtype, rest)) = cut_essence(s.as_bytes()) else {
             return Err(ReadError::Invalid);
         };
-        if !are_parameters(rest) {
-            return Err(ReadError::Invalid);
-        }
-        let Ok(params) = read_parameters(alloc, rest) else {
-            return Err(ReadError::NoMemory);
+        let params = match parameters_of(alloc, rest) {
+            Ok(params) => params,
+            Err(error) => return Err(error),
         };
         let Ok(kind) = owned(alloc, kind) else {
             return Err(ReadError::NoMemory);

@@ -3,7 +3,7 @@ use Rattle.std.specs.Prelude.{fold}
 use Rattle.std.proofs.lemmas.Iterator.{items_from_drains}
 use Rattle.std.proofs.lemmas.Iterator.Splits.{YieldsList-from_str_split}
 use Rattle.http_values.specs.declared.shared.language_tag.Place.TheVariants.{Start}
-use Rattle.http_values.specs.LanguageTagPlaces.{step, ends, subtags}
+use Rattle.http_values.proofs.TagSteps.{step, ends, subtags}
 use Rattle.http_values.proofs.TagTexts.{is_tag, tag_leads}
 use Rattle.http_values.proofs.shared.language_tag.is_language_tag.Goals as goal
 

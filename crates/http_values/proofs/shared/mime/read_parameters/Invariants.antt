@@ -7,7 +7,7 @@ use Rattle.http_values.proofs.shared.mime.read_parameters.Given as goal
 abbrev pub invariant-loop-rest : goal.invariant-loop-rest
 invariant-loop-rest l =
     ((qs : List (List ℕ × List ℕ)) → AreParameters l.rest qs → AreParameters l.text (pairs_of l.params.items ++ qs))
-    × ((qs : List (List ℕ × List ℕ)) × AreParameters l.rest qs)
+    × ((ps : List (List ℕ × List ℕ)) → AreParameters l.text ps → (qs : List (List ℕ × List ℕ)) × AreParameters l.rest qs)
 
 abbrev pub decreases-loop-rest : goal.decreases-loop-rest
 decreases-loop-rest l = length l.rest

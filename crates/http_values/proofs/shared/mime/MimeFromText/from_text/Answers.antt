@@ -22,37 +22,33 @@ pub owned-requires-2 : goal.owned-requires-2
 owned-requires-2 c =
     let h = c.in-Some.ensures in record { ascii = run_ascii Token h.behind c.in-Some.subtype.now c.in-Some.rest.now h.subtype_is.run }
 
-pub returns-then-not-are_parameters-clause-invalid : goal.returns-then-not-are_parameters-clause-invalid
-returns-then-not-are_parameters-clause-invalid c = (
-  λ _ h.
+pub returns-in-Err-clause-invalid : goal.returns-in-Err-clause-invalid
+returns-in-Err-clause-invalid c = (
+  λ bad h.
       let P : List ℕ → Type 0 = λ t. IsEssenceCut t c.in-Some.kind.now c.in-Some.subtype.now c.in-Some.rest.now in
       no_parameters_is_none c.args.s.now c.in-Some.kind.now c.in-Some.subtype.now c.in-Some.rest.now (subst P c.as_bytes.ensures.value c.in-Some.ensures)
-      (λ params. let bad = c.if-not-are_parameters.ensures.1 params in cc (bad)) h,
-  λ _. refl,
-)
-
-pub returns-in_default-read_parameters-clause-invalid : goal.returns-in_default-read_parameters-clause-invalid
-returns-in_default-read_parameters-clause-invalid c = (
-  λ bad _. cc (bad),
-  λ none. absurd (none (some_mime c.args.s.now c.as_bytes.result.now c.in-Some.kind.now c.in-Some.subtype.now c.in-Some.rest.now c.as_bytes.ensures.value c.in-Some.ensures (c.if-not-are_parameters.ensures.0 refl))),
+      (c.in-Err.ensures.invalid.0 (cc bad)) h,
+  λ none.
+      let bad = c.in-Err.ensures.invalid.1 (λ params.
+      none (some_mime c.args.s.now c.as_bytes.result.now c.in-Some.kind.now c.in-Some.subtype.now c.in-Some.rest.now c.as_bytes.ensures.value c.in-Some.ensures params)) in cc (bad),
 )
 
 pub returns-in_default-owned-clause-invalid : goal.returns-in_default-owned-clause-invalid
 returns-in_default-owned-clause-invalid c = (
   λ bad _. cc (bad),
-  λ none. absurd (none (some_mime c.args.s.now c.as_bytes.result.now c.in-Some.kind.now c.in-Some.subtype.now c.in-Some.rest.now c.as_bytes.ensures.value c.in-Some.ensures (c.if-not-are_parameters.ensures.0 refl))),
+  λ none. absurd (none (some_mime c.args.s.now c.as_bytes.result.now c.in-Some.kind.now c.in-Some.subtype.now c.in-Some.rest.now c.as_bytes.ensures.value c.in-Some.ensures (_, c.in-Ok.ensures.ok))),
 )
 
 pub returns-in_default-owned-2-clause-invalid : goal.returns-in_default-owned-2-clause-invalid
 returns-in_default-owned-2-clause-invalid c = (
   λ bad _. cc (bad),
-  λ none. absurd (none (some_mime c.args.s.now c.as_bytes.result.now c.in-Some.kind.now c.in-Some.subtype.now c.in-Some.rest.now c.as_bytes.ensures.value c.in-Some.ensures (c.if-not-are_parameters.ensures.0 refl))),
+  λ none. absurd (none (some_mime c.args.s.now c.as_bytes.result.now c.in-Some.kind.now c.in-Some.subtype.now c.in-Some.rest.now c.as_bytes.ensures.value c.in-Some.ensures (_, c.in-Ok.ensures.ok))),
 )
 
 pub returns-in_default-from_str-clause-invalid : goal.returns-in_default-from_str-clause-invalid
 returns-in_default-from_str-clause-invalid c = (
   λ bad _. cc (bad),
-  λ none. absurd (none (some_mime c.args.s.now c.as_bytes.result.now c.in-Some.kind.now c.in-Some.subtype.now c.in-Some.rest.now c.as_bytes.ensures.value c.in-Some.ensures (c.if-not-are_parameters.ensures.0 refl))),
+  λ none. absurd (none (some_mime c.args.s.now c.as_bytes.result.now c.in-Some.kind.now c.in-Some.subtype.now c.in-Some.rest.now c.as_bytes.ensures.value c.in-Some.ensures (_, c.in-Ok.ensures.ok))),
 )
 
 pub returns-clause-ok : goal.returns-clause-ok
@@ -63,10 +59,10 @@ returns-clause-ok c = record {
 }
 
 pub returns-clause-readable : goal.returns-clause-readable
-returns-clause-readable c = some_mime c.args.s.now c.as_bytes.result.now c.in-Some.kind.now c.in-Some.subtype.now c.in-Some.rest.now c.as_bytes.ensures.value c.in-Some.ensures (c.if-not-are_parameters.ensures.0 refl)
+returns-clause-readable c = some_mime c.args.s.now c.as_bytes.result.now c.in-Some.kind.now c.in-Some.subtype.now c.in-Some.rest.now c.as_bytes.ensures.value c.in-Some.ensures (_, c.in-Ok.ensures.ok)
 
 pub returns-clause-invalid : goal.returns-clause-invalid
 returns-clause-invalid c = (
   λ bad _. cc (bad),
-  λ none. absurd (none (some_mime c.args.s.now c.as_bytes.result.now c.in-Some.kind.now c.in-Some.subtype.now c.in-Some.rest.now c.as_bytes.ensures.value c.in-Some.ensures (c.if-not-are_parameters.ensures.0 refl))),
+  λ none. absurd (none (some_mime c.args.s.now c.as_bytes.result.now c.in-Some.kind.now c.in-Some.subtype.now c.in-Some.rest.now c.as_bytes.ensures.value c.in-Some.ensures (_, c.in-Ok.ensures.ok))),
 )
