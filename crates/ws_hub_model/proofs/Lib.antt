@@ -7,3 +7,4 @@ pub mod TurnLemmas
 pub mod HubLemmas
 pub mod OrderLemmas
 pub mod AskLemmas
+pub mod RoomLemmas

@@ -1,5 +1,5 @@
 -- The room that a request names: the path of its target, as it stands there (RFC 7230, section 5.3).
-use Rattle.std.specs.Prelude.{ℕ, ◌==◌, ◌||◌, List, [], ◌∷◌, take, drop, slice_index, codes, bytes_eq, if◌then◌else◌, Option, Some, None}
+use Rattle.std.specs.Prelude.{ℕ, ◌==◌, not, ◌||◌, List, [], ◌∷◌, length, take, drop, slice_index, codes, bytes_eq, if◌then◌else◌, Option, Some, None, is_some}
 use Rattle.http_uri.specs.ByteClasses.{is_delimiter, slash}
 use Rattle.http_uri.specs.Grammar.{without_fragment, path_of}
 
@@ -24,3 +24,7 @@ abbrev pub room_of : List ℕ → List ℕ
 room_of target =
     if (slice_index target 0 == slash) || bytes_eq target (codes "*") then path_of (without_fragment target)
     else absolute_path (behind_scheme target)
+
+-- the path of a target with these parts, as `http_uri` gives it: a target that is an authority alone has none
+abbrev pub parts_path : Option (List ℕ) → List ℕ → List ℕ
+parts_path scheme kept = if not (length kept == 0) || is_some scheme then path_of kept else []

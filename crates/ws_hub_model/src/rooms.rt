@@ -1,6 +1,6 @@
 //! Laws of a hub: what holds after all that may happen to it.
 
-ghost use Rattle.std.specs.Prelude.{◌≡◌, ◌≤◌, ◌+◌, ◌==◌, List, ◌∷◌, ◌++◌, ℕ, length, map, filter, Some, IsFalse};
+ghost use Rattle.std.specs.Prelude.{◌≡◌, ◌≤◌, ◌+◌, ◌==◌, List, ◌∷◌, ◌++◌, ℕ, length, map, filter, Option, Some, IsFalse};
 ghost use Rattle.std.specs.List.{AllByRecursion};
 ghost use Rattle.h1_model.specs.Limits.{MAX_FRAME_HEAD};
 ghost use Rattle.h1_model.specs.Setting.{Setting};
@@ -10,6 +10,8 @@ ghost use Rattle.h1_model.specs.Frame.{Frame};
 ghost use Rattle.h1_model.specs.Past.{ParsedStep};
 ghost use Rattle.h1_model.specs.Allowed.{is_over, is_allowed};
 ghost use Rattle.h1_model.specs.Trace.{IsPastOf, IsAllowed, IsTrace};
+ghost use Rattle.http_uri.specs.Grammar.{IsUriText};
+ghost use Rattle.ws_hub_model.specs.Room.{parts_path, room_of};
 ghost use Rattle.ws_hub_model.specs.Hub.{opens, Move, move_of};
 ghost use Rattle.ws_hub_model.specs.Member.{MAX_WAITING, row_behind};
 ghost use Rattle.ws_hub_model.specs.Seen.{Seen, row_of};
@@ -17,6 +19,12 @@ ghost use Rattle.ws_hub_model.specs.Turn.{tried, turn_event, asked_event};
 ghost use Rattle.ws_hub_model.specs.Due.{messages, due_messages, due, sent_to, is_data, is_close};
 ghost use Rattle.ws_hub_model.specs.Trace.{core_trace, IsTurnEvent, IsHubTrace};
 ghost use Rattle.ws_hub_model.specs.Laws.{IsNoRefusal, IsPartOf};
+
+/// The room of a target is the path of the parts that it is read as.
+pub fn rooms_are_paths()
+    ensures { (target : List ℕ) (scheme authority : Option (List ℕ)) (kept : List ℕ) → IsUriText target scheme authority kept
+        → room_of target ≡ parts_path scheme kept }
+{}
 
 /// What happens to one connection of a hub is a trace of that connection.
 pub fn cores_are_traces()
