@@ -1,0 +1,91 @@
+//! The next item of messages that follow one another.
+ghost use Rattle.std.specs.Prelude.{◌≡◌};
+ghost use Rattle.h1_framed.specs.Answers.{IsNexted, IsHeadNexted, IsNoted};
+ghost use Rattle.h1_framed.specs.Messages.{body_of};
+
+use crate::message::Message;
+use crate::piece::{Piece, next_piece};
+use bytes::BytesMut;
+use h1_messages::{MessageDecoder, PayloadType, ReadHead};
+use h1_payload::{DecodeError, PayloadDecoder};
+use http_types::{HeaderMap, ParseError};
+
+/// The next item, once it is there: of the body that is open, and else the next head. `is_bare` says that no head has a
+/// body. An end brings the body's trailers, which any other item takes away.
+pub(crate) fn next_message<T: ReadHead>(
+    heads: &mut MessageDecoder<T>,
+    body: &mut Option<PayloadDecoder>,
+    trailers: &mut Option<HeaderMap>,
+    is_bare: bool,
+    src: &mut BytesMut,
+) -> Result<Option<Message<T>>, ParseError>
+    ensures { IsNexted T.kind is_bare (record { search = heads.old; body = body.old }) src.old.items trailers.old result
+        (record { search = heads.new; body = body.new }) src.new.items trailers.new }
+{
+    match body {
+        Some(open) => {
+            let piece = next_piece(open, src);
+            note_piece(piece, body, trailers)
+        }
+        None => next_head(heads, body, trailers, is_bare, src),
+    }
+}
+
+/// Notes a piece of the body that is open.
+fn note_piece<T>(
+    piece: Result<Option<Piece>, DecodeError>,
+    body: &mut Option<PayloadDecoder>,
+    trailers: &mut Option<HeaderMap>,
+) -> Result<Option<Message<T>>, ParseError>
+    ensures { IsNoted piece body.old trailers.old result body.new trailers.new }
+{
+    match piece {
+        Ok(Some(Piece::Bytes(bytes))) => {
+            *trailers = None;
+            Ok(Some(Message::Chunk(Some(bytes))))
+        }
+        Ok(Some(Piece::End(map))) => {
+            *body = None;
+            *trailers = map;
+            Ok(Some(Message::Chunk(None)))
+        }
+        Ok(None) => Ok(None),
+        Err(DecodeError::Invalid) => Err(ParseError::Chunk),
+        Err(DecodeError::NoMemory) => Err(ParseError::NoMemory),
+    }
+}
+
+/// The next head, behind which its body is open.
+fn next_head<T: ReadHead>(
+    heads: &mut MessageDecoder<T>,
+    body: &mut Option<PayloadDecoder>,
+    trailers: &mut Option<HeaderMap>,
+    is_bare: bool,
+    src: &mut BytesMut,
+) -> Result<Option<Message<T>>, ParseError>
+    ensures { IsHeadNexted T.kind is_bare heads.old body.old trailers.old src.old.items result heads.new body.new trailers.new src.new.items }
+{
+    match heads.decode(src) {
+        Ok(Some((item, payload))) => {
+            *body = body_of(is_bare, payload);
+            *trailers = None;
+            Ok(Some(Message::Item(item)))
+        }
+        Ok(None) => Ok(None),
+        Err(error) => Err(error),
+    }
+}
+
+/// What reads the body behind a head, if one follows.
+fn body_of(is_bare: bool, payload: PayloadType) -> Option<PayloadDecoder>
+    ensures { result ≡ body_of is_bare payload }
+{
+    if is_bare {
+        return None;
+    }
+    match payload {
+        PayloadType::None => None,
+        PayloadType::Payload(body) => Some(body),
+        PayloadType::Stream(body) => Some(body),
+    }
+}
