@@ -8,8 +8,30 @@ ghost use Rattle.h1_codec.specs.Meaning.{model_type, minor_of};
 ghost use Rattle.h1_messages.specs.Heads.{HasSeen};
 ghost use Rattle.h1_framed.specs.Answers.{HasTrailers};
 ghost use Rattle.h1_framed.specs.Messages.{given, nothing, Breaks};
-ghost use Rattle.h1_framed.specs.State.{codec_settings, codec_standing, codec_trailers, codec_asked, codec_connection, codec_moment, codec_encoding,
-    with_now, without_trailers, KeepsWriting, KeepsAll, is_enabled, allowed, CodecReads, HasLookedAt, CodecLeft, HasAsked, IsHeadWritten, begun, Writes, Refuses, with_answer};
+ghost use Rattle.h1_framed.specs.State.{
+  codec_settings,
+  codec_standing,
+  codec_trailers,
+  codec_asked,
+  codec_connection,
+  codec_moment,
+  codec_encoding,
+  with_now,
+  without_trailers,
+  KeepsWriting,
+  KeepsAll,
+  is_enabled,
+  allowed,
+  CodecReads,
+  HasLookedAt,
+  CodecLeft,
+  HasAsked,
+  IsHeadWritten,
+  begun,
+  Writes,
+  Refuses,
+  with_answer,
+};
 
 use crate::message::{Message, MessageType};
 use crate::next::next_message;
@@ -157,7 +179,13 @@ impl Codec {
         ensures writing { KeepsWriting self.old self.new }
         ensures limit { (codec_standing self.new).search.limit ≡ (codec_standing self.old).search.limit }
     {
-        match next_message(&mut self.heads, &mut self.body, &mut self.trailers, false, src) {
+        match next_message(
+            &mut self.heads,
+            &mut self.body,
+            &mut self.trailers,
+            false,
+            src,
+        ) {
             Ok(Some(Message::Item(item))) => {
                 self.note(&item);
                 Ok(Some(Message::Item(item)))

@@ -2,24 +2,26 @@
 ghost use Rattle.std.specs.Prelude.{◌≡◌};
 ghost use Rattle.h1_framed.specs.Answers.{IsNexted, IsHeadNexted, IsNoted};
 ghost use Rattle.h1_framed.specs.Messages.{body_of};
+ghost use Rattle.h1_messages.specs.Kinds.{requests};
 
 use crate::message::Message;
 use crate::piece::{Piece, next_piece};
 use bytes::BytesMut;
-use h1_messages::{MessageDecoder, PayloadType, ReadHead};
+use h1_decode::HeadItem;
+use h1_messages::{MessageDecoder, PayloadType};
 use h1_payload::{DecodeError, PayloadDecoder};
 use http_types::{HeaderMap, ParseError};
 
 /// The next item, once it is there: of the body that is open, and else the next head. `is_bare` says that no head has a
 /// body. An end brings the body's trailers, which any other item takes away.
-pub(crate) fn next_message<T: ReadHead>(
-    heads: &mut MessageDecoder<T>,
+pub(crate) fn next_message(
+    heads: &mut MessageDecoder<HeadItem>,
     body: &mut Option<PayloadDecoder>,
     trailers: &mut Option<HeaderMap>,
     is_bare: bool,
     src: &mut BytesMut,
-) -> Result<Option<Message<T>>, ParseError>
-    ensures { IsNexted T.kind is_bare (record { search = heads.old; body = body.old }) src.old.items trailers.old result
+) -> Result<Option<Message<HeadItem>>, ParseError>
+    ensures { IsNexted requests is_bare (record { search = heads.old; body = body.old }) src.old.items trailers.old result
         (record { search = heads.new; body = body.new }) src.new.items trailers.new }
 {
     match body {
@@ -32,11 +34,11 @@ pub(crate) fn next_message<T: ReadHead>(
 }
 
 /// Notes a piece of the body that is open.
-fn note_piece<T>(
+fn note_piece(
     piece: Result<Option<Piece>, DecodeError>,
     body: &mut Option<PayloadDecoder>,
     trailers: &mut Option<HeaderMap>,
-) -> Result<Option<Message<T>>, ParseError>
+) -> Result<Option<Message<HeadItem>>, ParseError>
     ensures { IsNoted piece body.old trailers.old result body.new trailers.new }
 {
     match piece {
@@ -56,14 +58,14 @@ fn note_piece<T>(
 }
 
 /// The next head, behind which its body is open.
-fn next_head<T: ReadHead>(
-    heads: &mut MessageDecoder<T>,
+fn next_head(
+    heads: &mut MessageDecoder<HeadItem>,
     body: &mut Option<PayloadDecoder>,
     trailers: &mut Option<HeaderMap>,
     is_bare: bool,
     src: &mut BytesMut,
-) -> Result<Option<Message<T>>, ParseError>
-    ensures { IsHeadNexted T.kind is_bare heads.old body.old trailers.old src.old.items result heads.new body.new trailers.new src.new.items }
+) -> Result<Option<Message<HeadItem>>, ParseError>
+    ensures { IsHeadNexted requests is_bare heads.old body.old trailers.old src.old.items result heads.new body.new trailers.new src.new.items }
 {
     match heads.decode(src) {
         Ok(Some((item, payload))) => {

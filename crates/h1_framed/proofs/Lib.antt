@@ -1,0 +1,5 @@
+pub mod Ends
+pub mod PieceLemmas
+pub mod OpenBodies
+pub mod NextHeads
+pub mod Writing
