@@ -73,12 +73,19 @@ with_encoding encoding c = record c { encoder = encoding }
 abbrev pub with_answer : ConnectionType → Encoding → Codec → Codec
 with_answer kind encoding c = record c { connection = kind; encoder = encoding }
 
--- nothing but what is read
-abbrev pub KeepsWriting : Codec → Codec → Type 0
-KeepsWriting old new =
-    (codec_settings new ≡ codec_settings old) × (codec_moment new ≡ codec_moment old) × (codec_encoding new ≡ codec_encoding old)
+-- what no decode changes: the settings, the moment, and how far the body of the answer is
+pub record Writing : Type 0 where
+  pub settings : Settings
+  pub moment : ℕ
+  pub encoding : Encoding
 
--- nothing but what is read, and what is asked is as it was
+abbrev pub codec_writing : Codec → Writing
+codec_writing c = record { settings = codec_settings c; moment = codec_moment c; encoding = codec_encoding c }
+
+abbrev pub KeepsWriting : Codec → Codec → Type 0
+KeepsWriting old new = codec_writing new ≡ codec_writing old
+
+-- and what is asked is as it was
 abbrev pub KeepsAll : Codec → Codec → Type 0
 KeepsAll old new =
     KeepsWriting old new × (codec_asked new ≡ codec_asked old) × (codec_connection new ≡ codec_connection old)

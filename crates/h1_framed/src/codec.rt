@@ -227,8 +227,10 @@ impl Codec {
         match item {
             Message::Item((response, size)) => self.encode_head(response.head(), size, dst),
             Message::Chunk(Some(bytes)) => {
-                self.encoder.encode_chunk(bytes.as_slice(), dst)?;
-                Ok(())
+                match self.encoder.encode_chunk(bytes.as_slice(), dst) {
+                    Ok(_) => Ok(()),
+                    Err(_) => Err(EncodeError::NoMemory),
+                }
             }
             Message::Chunk(None) => self.encoder.encode_eof(dst),
         }
@@ -249,7 +251,7 @@ impl Codec {
         let asked = Asked::new(self.version, self.is_head, self.is_raw, self.asked);
         let connection = type_of(self.keep_alive_enabled(), false, asked, head, size);
         let now = self.now.min(LAST_MOMENT);
-        self.encoder.encode(
+        match self.encoder.encode(
             dst,
             head,
             self.is_head,
@@ -258,9 +260,13 @@ impl Codec {
             size,
             connection,
             now,
-        )?;
-        self.connection = connection;
-        Ok(())
+        ) {
+            Ok(()) => {
+                self.connection = connection;
+                Ok(())
+            }
+            Err(error) => Err(error),
+        }
     }
 
     /// What follows the head that was decoded last.

@@ -20,6 +20,7 @@
 #![tactic(auto)]
 
 mod codec;
+mod framing;
 mod message;
 mod next;
 mod piece;
