@@ -17,7 +17,7 @@ use Rattle.h1_messages.proofs.GoingOn.{seen_front, next_append}
 use Rattle.h1_messages.proofs.Refusals.{none_too_long, one_stop}
 use Rattle.h1_framed.specs.declared.message.Message.{Message}
 use Rattle.h1_framed.specs.declared.message.Message.TheVariants.{Item}
-use Rattle.h1_framed.specs.Answers.{IsNexted}
+use Rattle.h1_framed.specs.Answers.{IsNexted, IsHeadGiven, IsHeadBeside, as_message}
 use Rattle.h1_framed.specs.Messages.{Part, no_part, Told, Breaks, body_of, Behind, IsPart, AreMessages, HasLooked, Standing}
 
 -- what follows a body may be said in another way
@@ -73,7 +73,6 @@ module _ {I : Type 0} (k : Kind I) (one : IsOneReading k) (is_bare : Bool) where
         λ seen.
             let (s, e, next, is, left) = taken (seen_front old.position bytes z seen) in
             let fits = next.piece.in_range in
-            let S = (r.messages ≡ []) × (r.stop ≡ waits) in
             let here : IsPart (body_of is_bare kind) (rest ++ z) r.part (λ l. HasSeen new l → AreMessages k is_bare new.limit l r.messages r.stop) ((r.messages ≡ []) × (r.stop ≡ waits)) =
             subst (λ (b : Option Decoding). IsPart b (rest ++ z) r.part (λ l. HasSeen new l → AreMessages k is_bare new.limit l r.messages r.stop) ((r.messages ≡ []) × (r.stop ≡ waits)))
             opens reads in
@@ -87,11 +86,11 @@ module _ {I : Type 0} (k : Kind I) (one : IsOneReading k) (is_bare : Bool) where
               next_append old.limit bytes z s e next,
               subst (λ (p : List ℕ). IsItemOf k p (item, kind)) (sym (slice_range-append bytes z s e next.piece.ordered fits)) is,
               subst (λ (b : List ℕ). IsPart (body_of is_bare kind) b r.part (λ l. AreMessages k is_bare old.limit l r.messages r.stop) ((r.messages ≡ []) × (r.stop ≡ waits)))
-              (ap (λ (l : List ℕ). l ++ z) left ∙ sym (drop-append-le e bytes z fits)) there,
+                  (ap (λ (l : List ℕ). l ++ z) left ∙ sym (drop-append-le e bytes z fits)) there,
             ),
       );
       waiting = λ e. absurd (cc e);
-      refused = tt;
+      refusing = tt;
       lacking = tt;
       left = tt;
       looked = λ seen more. looked_by body (rest ++ more);
@@ -117,7 +116,7 @@ module _ {I : Type 0} (k : Kind I) (one : IsOneReading k) (is_bare : Bool) where
       waiting = λ e seen said (is, on).
           let none = none_read old.limit bytes said.messages said.stop (waiting seen) (on seen) in
           λ i. record { part = is i; messages = none.0 i; stop = none.1 i };
-      refused = tt;
+      refusing = tt;
       lacking = tt;
       left = tt;
       looked = λ seen more. subst (λ (l : List ℕ). HasSeen new (l ++ more)) (sym stays) (seen_on seen more);
@@ -134,7 +133,7 @@ module _ {I : Type 0} (k : Kind I) (one : IsOneReading k) (is_bare : Bool) where
         record {
           goes_on = tt;
           waiting = λ e. absurd (cc e);
-          refused = λ known seen said (is, on).
+          refusing = λ known seen said (is, on).
               let none = refusal_read old.limit bytes (fault_of error) said.messages said.stop (fault seen known) (on seen) in
               let told : ◌≡◌ {A = Told I} said (record { part = no_part; messages = []; stop = refused (fault_of error) }) =
               λ i. record { part = is i; messages = none.0 i; stop = none.1 i } in
@@ -151,3 +150,19 @@ module _ {I : Type 0} (k : Kind I) (one : IsOneReading k) (is_bare : Bool) where
         other_error chunk (inl (long, is)) = let never : ◌≡◌ {A = ParseError} errors.Chunk errors.TooLarge = sym chunk ∙ is in cc never
         other_error chunk (inr (s, e, next, refuses)) =
             no_chunk (slice_range bytes s e) (subst (λ (x : ParseError). k.refuses x (slice_range bytes s e)) chunk refuses)
+
+    -- the item that a head is, behind what its decoder answered
+    pub head_given : (no_chunk : (piece : List ℕ) → ¬ (k.refuses errors.Chunk piece)) (head : Result (Option I) ParseError) (body : Option Decoding) (now : Option Entries)
+        → IsHeadGiven k is_bare old bytes head new body rest → IsHeadBeside head None before body now → new.limit ≡ old.limit
+        → IsNexted k is_bare (closed old) bytes before (as_message head) (record { search = new; body = body }) rest now
+    head_given no_chunk (Ok (Some item)) body now (kind, opens, taken, anew) gone same =
+        subst (λ (n : Option Entries). IsNexted k is_bare (closed old) bytes before (Ok (Some (Item item))) (record { search = new; body = body }) rest n) (sym gone)
+        (head_came item kind body taken anew same opens)
+    head_given no_chunk (Ok None) body now (waiting, seen_on, stays) (was, kept) same =
+        subst (λ (n : Option Entries). IsNexted k is_bare (closed old) bytes before (Ok None) (record { search = new; body = body }) rest n) (sym kept)
+        (subst (λ (b : Option Decoding). IsNexted k is_bare (closed old) bytes before (Ok None) (record { search = new; body = b }) rest before) (sym was)
+        (none_came waiting seen_on stays same))
+    head_given no_chunk (Err error) body now (cause, fault, as_before, stays) (was, kept) same =
+        subst (λ (n : Option Entries). IsNexted k is_bare (closed old) bytes before (Err error) (record { search = new; body = body }) rest n) (sym kept)
+        (subst (λ (b : Option Decoding). IsNexted k is_bare (closed old) bytes before (Err error) (record { search = new; body = b }) rest before) (sym was)
+        (error_came error cause fault no_chunk as_before stays))

@@ -50,7 +50,7 @@ module _ {I : Type 0} (k : Kind I) (is_bare : Bool) (search : Search) (d left : 
       on,
     );
     waiting = λ e. absurd (cc e);
-    refused = tt;
+    refusing = tt;
     lacking = tt;
     left = tt;
     looked = λ seen more. seen;
@@ -63,7 +63,7 @@ module _ {I : Type 0} (k : Kind I) (is_bare : Bool) (search : Search) (d left : 
   end_came trailers ends = record {
     goes_on = λ z r (is, on). (record { body = []; trailers = unwrap_or trailers []; ending = ends_before (rest ++ z) }, ends.reads z, refl, on);
     waiting = λ e. absurd (cc e);
-    refused = tt;
+    refusing = tt;
     lacking = tt;
     left = tt;
     looked = λ seen more. seen (rest ++ more);
@@ -84,7 +84,7 @@ module _ {I : Type 0} (k : Kind I) (is_bare : Bool) (search : Search) (d left : 
     goes_on = λ z r (p, reads, is, on). (p, goes z p reads, is, on);
     waiting = λ e seen said (p, reads, is, on). told_by said p (no_payload goes_on)
         (λ left. HasSeen search left → AreMessages k is_bare search.limit left said.messages said.stop) is (none p reads) on (λ x. x);
-    refused = tt;
+    refusing = tt;
     lacking = tt;
     left = tt;
     looked = λ seen more. seen;
@@ -97,7 +97,7 @@ module _ {I : Type 0} (k : Kind I) (is_bare : Bool) (search : Search) (d left : 
   fault_came (refused, broken, same) = record {
     goes_on = tt;
     waiting = λ e. absurd (cc e);
-    refused = λ known seen said (p, reads, is, on). told_by said p (no_payload is_broken)
+    refusing = λ known seen said (p, reads, is, on). told_by said p (no_payload is_broken)
         (λ left. HasSeen search left → AreMessages k is_bare search.limit left said.messages said.stop) is
         (refused [] p (subst (λ (l : List ℕ). bodies.Reads d l p) (sym (append-nil bytes)) reads)) on (λ x. x);
     lacking = λ e. absurd (cc e);
@@ -114,7 +114,7 @@ module _ {I : Type 0} (k : Kind I) (is_bare : Bool) (search : Search) (d left : 
       record {
         goes_on = tt;
         waiting = λ e. absurd (cc e);
-        refused = λ known. absurd (known refl);
+        refusing = λ known. absurd (known refl);
         lacking = λ e. (as_before, stays);
         left = (stays, inl as_before);
         looked = tt;

@@ -18,17 +18,6 @@ use Rattle.h1_framed.specs.State.{Sent, Writes, Refuses, IsHeadWritten, codec_as
 use Rattle.h1_framed.specs.declared.codec.Codec.{Codec}
 use Rattle.h1_framed.specs.declared.message.Message.TheVariants.{Item, Chunk}
 
-pub refused_is_not_written : (old new : Codec) (item : Sent) (text : List ℕ) (error : EncodeError) → Refuses error old item → ¬ (Writes old item text new)
-refused_is_not_written old new (Chunk None) text (Short n) refuses writes = omega (arith, refuses.0, refuses.1, writes.0)
-refused_is_not_written old new (Chunk None) text no_version refuses writes = refuses
-refused_is_not_written old new (Chunk None) text NoMemory refuses writes = refuses
-refused_is_not_written old new (Chunk (Some bytes)) text (Short n) refuses writes = refuses
-refused_is_not_written old new (Chunk (Some bytes)) text no_version refuses writes = refuses
-refused_is_not_written old new (Chunk (Some bytes)) text NoMemory refuses writes = refuses
-refused_is_not_written old new (Item sent) text (Short n) refuses writes = refuses
-refused_is_not_written old new (Item sent) text no_version refuses writes = refuses
-refused_is_not_written old new (Item sent) text NoMemory refuses writes = refuses
-
 -- a head is not written only where memory ran out
 pub only_memory : (result : Result Unit EncodeError) → ((result ≡ Err no_version) ↔ (true ≡ false)) → ((n : ℕ) → ¬ (result ≡ Err (Short n)))
     → IfErr result (λ e. e ≡ NoMemory)
@@ -58,6 +47,6 @@ pub head_is_written : (old new : Codec) (head : ResponseParts) (size : BodySize)
     → IsHeadWritten old head size (answer_text head old.is_raw old.version size (codec_connection new) (codec_moment old)) new
 head_is_written old new head size types setting same = (
   ap (λ (kind : model.ConnectionType). head_text (codec_asked old).minor (answer_of head) (shape_of (codec_asked old) (answer_of head) (size_of size)) (size_of size) kind (codec_moment old))
-  (types setting same),
+      (types setting same),
   types setting same,
 )

@@ -9,12 +9,14 @@ use Rattle.h1_payload.specs.Decoding as bodies
 use Rattle.h1_payload.specs.declared.item.DecodeError.{DecodeError}
 use Rattle.h1_payload.specs.declared.item.DecodeError.TheVariants.{Invalid, NoMemory}
 use Rattle.h1_messages.specs.Kind.{Kind}
-use Rattle.h1_messages.specs.Heads.{Search}
+use Rattle.h1_decode.specs.Refusal.{UnlessNoMemory, fault_of}
+use Rattle.h1_messages.specs.Heads.{Search, HasSeen, IsNextItem, IsWaiting, RefusesNext, refused, Stops}
+use Rattle.h1_messages.specs.declared.payload_type.PayloadType.{PayloadType}
 use Rattle.h1_framed.specs.declared.message.Message.{Message}
 use Rattle.h1_framed.specs.declared.message.Message.TheVariants.{Item, Chunk}
 use Rattle.h1_framed.specs.declared.piece.Piece.{Piece}
 use Rattle.h1_framed.specs.declared.piece.Piece.TheVariants.{Bytes, End}
-use Rattle.h1_framed.specs.Messages.{Told, given, nothing, Breaks, Standing, Reads, Looked}
+use Rattle.h1_framed.specs.Messages.{Told, given, nothing, Breaks, body_of, Standing, Reads, Looked}
 
 -- After an error the bytes stay. All else stays too, but for a body that broke: it is broken for good.
 abbrev pub LeftAfter : ParseError → Standing → List ℕ → Standing → List ℕ → Type 0
@@ -36,7 +38,7 @@ pub record IsNexted {I : Type 0} (k : Kind I) (is_bare : Bool) (old : Standing) 
     (result : Result (Option (Message I)) ParseError) (new : Standing) (rest : List ℕ) (now : Option Entries) : Type 0 where
   pub goes_on : IfOk result (λ answer. GoesOn (Reads k is_bare) given old bytes (in_front (Reads k is_bare) given answer) new rest)
   pub waiting : result ≡ Ok None → Looked old bytes → OnlySays (Reads k is_bare) old bytes (λ (said : Told I). said ≡ nothing)
-  pub refused : IfErr result (λ e. ¬ (e ≡ errors.NoMemory) → Looked old bytes → OnlySays (Reads k is_bare) old bytes (Breaks e))
+  pub refusing : IfErr result (λ e. ¬ (e ≡ errors.NoMemory) → Looked old bytes → OnlySays (Reads k is_bare) old bytes (Breaks e))
   pub lacking : IfErr result (λ e. e ≡ errors.NoMemory → (new ≡ old) × (rest ≡ bytes))
   pub left : IfErr result (λ e. LeftAfter e old bytes new rest)
   pub looked : OnOk result (Looked old bytes → (more : List ℕ) → Looked new (rest ++ more))
@@ -53,8 +55,25 @@ IsNoted (Ok None) body before result after now = (result ≡ Ok None) × (after 
 IsNoted (Err Invalid) body before result after now = (result ≡ Err errors.Chunk) × (after ≡ body) × (now ≡ before)
 IsNoted (Err NoMemory) body before result after now = (result ≡ Err errors.NoMemory) × (after ≡ body) × (now ≡ before)
 
--- the same where no body is open
-abbrev pub IsHeadNexted : {I : Type 0} → Kind I → Bool → Search → Option Decoding → Option Entries → List ℕ
-    → Result (Option (Message I)) ParseError → Search → Option Decoding → Option Entries → List ℕ → Type 0
-IsHeadNexted k is_bare search body before bytes result after now_open now rest =
-    body ≡ None → IsNexted k is_bare (record { search = search; body = None }) bytes before result (record { search = after; body = now_open }) rest now
+-- a head as an item of a message
+abbrev pub as_message : {I : Type 0} → Result (Option I) ParseError → Result (Option (Message I)) ParseError
+as_message (Ok (Some item)) = Ok (Some (Item item))
+as_message (Ok None) = Ok None
+as_message (Err e) = Err e
+
+-- the next head with its body, none yet, or why it is refused
+abbrev pub IsHeadGiven : {I : Type 0} → Kind I → Bool → Search → List ℕ → Result (Option I) ParseError → Search → Option Decoding → List ℕ → Type 0
+IsHeadGiven k is_bare old bytes (Ok (Some item)) new body rest =
+    (kind : PayloadType) × (body ≡ body_of is_bare kind) × (HasSeen old bytes → IsNextItem k old.limit bytes rest (item, kind))
+    × ((b : List ℕ) → HasSeen new b)
+IsHeadGiven k is_bare old bytes (Ok None) new body rest =
+    (HasSeen old bytes → IsWaiting old.limit bytes) × (HasSeen old bytes → (more : List ℕ) → HasSeen new (bytes ++ more)) × (rest ≡ bytes)
+IsHeadGiven k is_bare old bytes (Err e) new body rest =
+    (HasSeen old bytes → UnlessNoMemory e (RefusesNext k e old.limit bytes))
+    × (HasSeen old bytes → UnlessNoMemory e (Stops k old.limit bytes (refused (fault_of e)))) × (new ≡ old) × (rest ≡ bytes)
+
+-- trailers go with a head, and else all that is beside it stays
+abbrev pub IsHeadBeside : {I : Type 0} → Result (Option I) ParseError → Option Decoding → Option Entries → Option Decoding → Option Entries → Type 0
+IsHeadBeside (Ok (Some item)) was before body now = now ≡ None
+IsHeadBeside (Ok None) was before body now = (body ≡ was) × (now ≡ before)
+IsHeadBeside (Err e) was before body now = (body ≡ was) × (now ≡ before)

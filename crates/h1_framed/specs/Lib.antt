@@ -2,3 +2,4 @@ pub mod Messages
 pub mod Pieces
 pub mod Answers
 pub mod State
+pub mod Refused

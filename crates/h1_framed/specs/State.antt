@@ -27,6 +27,9 @@ use Rattle.h1_framed.specs.Answers.{LeftAfter}
 use Rattle.h1_framed.specs.Messages.{Told, Standing, Reads, Looked}
 use Rattle.h1_framed.specs.declared.codec.Codec.{Codec}
 use Rattle.h1_framed.specs.declared.codec.TheConstants.{LAST_MOMENT}
+use Rattle.h1_payload.specs.Decoding.{Decoding}
+use Rattle.h1_framed.specs.declared.message.MessageType.{MessageType}
+use Rattle.h1_framed.specs.declared.message.MessageType.TheVariants as kind
 use Rattle.h1_framed.specs.declared.message.Message.{Message}
 use Rattle.h1_framed.specs.declared.message.Message.TheVariants.{Item, Chunk}
 
@@ -124,6 +127,12 @@ HasAsked old (Some (Item item)) new =
     ((piece : List ℕ) (h : Head) → IsReading piece (head_is h) → SaysHead item h → codec_asked new ≡ asked_of h)
     × (model_type (codec_connection new) ≡ model_type (allowed (is_enabled (codec_settings old).keep_alive) new.asked))
 HasAsked old answer new = (codec_asked new ≡ codec_asked old) × (codec_connection new ≡ codec_connection old)
+
+-- what is left to come of a message whose body is raw or not, where this of it is open
+abbrev pub left_to_come : Bool → Option Decoding → MessageType
+left_to_come true body = kind.Stream
+left_to_come false None = kind.None
+left_to_come false (Some d) = kind.Payload
 
 -- ---- writing
 

@@ -269,8 +269,10 @@ impl Codec {
         }
     }
 
-    /// What follows the head that was decoded last.
-    pub fn message_type(&self) -> MessageType {
+    /// What is left to come of the message that was decoded last.
+    pub fn message_type(&self) -> MessageType
+        ensures { result ≡ left_to_come (codec_asked self.now).is_raw (codec_standing self.now).body }
+    {
         if self.is_raw {
             return MessageType::Stream;
         }

@@ -46,7 +46,7 @@ impl Encoder<Message<(Response<()>, BodySize)>> for Codec {
     ghost use Rattle.std.specs.Prelude.{◌≡◌};
     ghost use Rattle.h1_codec.specs.declared.error.EncodeError.TheVariants as errors;
     ghost use Rattle.h1_framed.specs.State.{Writes, Refuses};
-    ghost use Rattle.h1_framed.proofs.Writing.{refused_is_not_written};
+    ghost use Rattle.h1_framed.specs.Refused.{refused_is_not_written};
 
     type Error = EncodeError;
 
@@ -66,5 +66,5 @@ impl Encoder<Message<(Response<()>, BodySize)>> for Codec {
         Codec::encode(self, item, dst)
     }
 
-    ghost excludes = { refused_is_not_written };
+    ghost excludes = { λ old new item text error. refused_is_not_written old new item text error };
 }

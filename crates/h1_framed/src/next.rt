@@ -1,6 +1,6 @@
 //! The next item of messages that follow one another.
 ghost use Rattle.std.specs.Prelude.{◌≡◌};
-ghost use Rattle.h1_framed.specs.Answers.{IsNexted, IsHeadNexted, IsNoted};
+ghost use Rattle.h1_framed.specs.Answers.{IsNexted, IsHeadGiven, IsHeadBeside, IsNoted, as_message};
 ghost use Rattle.h1_framed.specs.Messages.{body_of};
 ghost use Rattle.h1_messages.specs.Kinds.{requests};
 
@@ -8,7 +8,7 @@ use crate::message::Message;
 use crate::piece::{Piece, next_piece};
 use bytes::BytesMut;
 use h1_decode::HeadItem;
-use h1_messages::{MessageDecoder, PayloadType};
+use h1_messages::{MessageDecoder, PayloadType, ReadHead};
 use h1_payload::{DecodeError, PayloadDecoder};
 use http_types::{HeaderMap, ParseError};
 
@@ -29,7 +29,10 @@ pub(crate) fn next_message(
             let piece = next_piece(open, src);
             note_piece(piece, body, trailers)
         }
-        None => next_head(heads, body, trailers, is_bare, src),
+        None => {
+            let head = next_head(heads, body, trailers, is_bare, src);
+            as_message(head)
+        }
     }
 }
 
@@ -57,22 +60,37 @@ fn note_piece(
     }
 }
 
-/// The next head, behind which its body is open.
-fn next_head(
-    heads: &mut MessageDecoder<HeadItem>,
+/// The next head, behind which its body is open. `is_bare` says that no head has a body.
+pub(crate) fn next_head<T: ReadHead>(
+    heads: &mut MessageDecoder<T>,
     body: &mut Option<PayloadDecoder>,
     trailers: &mut Option<HeaderMap>,
     is_bare: bool,
     src: &mut BytesMut,
-) -> Result<Option<Message<HeadItem>>, ParseError>
-    ensures { IsHeadNexted requests is_bare heads.old body.old trailers.old src.old.items result heads.new body.new trailers.new src.new.items }
+) -> Result<Option<T>, ParseError>
+    ensures given { IsHeadGiven T.kind is_bare heads.old src.old.items result heads.new body.new src.new.items }
+    ensures others { IsHeadBeside result body.old trailers.old body.new trailers.new }
+    ensures limit { heads.new.limit ≡ heads.old.limit }
 {
     match heads.decode(src) {
         Ok(Some((item, payload))) => {
             *body = body_of(is_bare, payload);
             *trailers = None;
-            Ok(Some(Message::Item(item)))
+            Ok(Some(item))
         }
+        Ok(None) => Ok(None),
+        Err(error) => Err(error),
+    }
+}
+
+/// A head as an item of a message.
+fn as_message(
+    head: Result<Option<HeadItem>, ParseError>,
+) -> Result<Option<Message<HeadItem>>, ParseError>
+    ensures { result ≡ as_message head }
+{
+    match head {
+        Ok(Some(item)) => Ok(Some(Message::Item(item))),
         Ok(None) => Ok(None),
         Err(error) => Err(error),
     }
