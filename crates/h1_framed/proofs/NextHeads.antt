@@ -39,7 +39,7 @@ breaks_by e told other is = is
 
 module _ {I : Type 0} (k : Kind I) (one : IsOneReading k) (is_bare : Bool) where
   -- where no head is whole nothing is read
-  none_read : (limit : ℕ) (bytes : List ℕ) (ms : List (I × Part)) (stop : Stop) → IsWaiting limit bytes → AreMessages k is_bare limit bytes ms stop
+  pub none_read : (limit : ℕ) (bytes : List ℕ) (ms : List (I × Part)) (stop : Stop) → IsWaiting limit bytes → AreMessages k is_bare limit bytes ms stop
       → (ms ≡ []) × (stop ≡ waits)
   none_read limit bytes [] waits waiting said = (refl, refl)
   none_read limit bytes [] (refused fault) waiting (inl (long, is)) = absurd (omega (arith, waiting.1, long.0))
@@ -47,7 +47,7 @@ module _ {I : Type 0} (k : Kind I) (one : IsOneReading k) (is_bare : Bool) where
   none_read limit bytes (m ∷ ms) stop waiting (s, e, kind, next, is, part) = absurd (waiting.0 s e next.piece)
 
   -- where a head is refused nothing else is read
-  refusal_read : (limit : ℕ) (bytes : List ℕ) (fault : Fault) (ms : List (I × Part)) (stop : Stop) → Stops k limit bytes (refused fault)
+  pub refusal_read : (limit : ℕ) (bytes : List ℕ) (fault : Fault) (ms : List (I × Part)) (stop : Stop) → Stops k limit bytes (refused fault)
       → AreMessages k is_bare limit bytes ms stop → (ms ≡ []) × (stop ≡ refused fault)
   refusal_read limit bytes fault [] stop stops said = (refl, (one_stop k one limit bytes fault [] stop stops said).1)
   refusal_read limit bytes fault (m ∷ ms) stop (inl (long, is)) (s, e, kind, next, said, part) = absurd (none_too_long limit bytes s e long next)

@@ -3,3 +3,4 @@ pub mod Pieces
 pub mod Answers
 pub mod State
 pub mod Refused
+pub mod Sameness

@@ -21,6 +21,7 @@
 
 mod codec;
 mod framing;
+pub mod laws;
 mod message;
 mod next;
 mod piece;
