@@ -10,7 +10,7 @@ use Rattle.h1_model.specs.Parse.{connection_reader}
 use Rattle.h1_machine.specs.Kept.{Rest, no_rest, raw_rest, fixed_rest, chunks_rest, frames_rest}
 use Rattle.h1_machine.specs.Pull.{Pulled, pull_fixed, pull_raw, pull_front, EndsWith, IsPullOfChunks, IsPull}
 
--- behind the trailers and behind the end nothing is left
+-- after the trailers and after the end nothing is left
 abbrev pub LeavesNone : Outcome → Rest → Type 0
 LeavesNone on.body_ended rest = rest ≡ no_rest
 LeavesNone (on.trailers headers) rest = rest ≡ no_rest

@@ -3,4 +3,4 @@ pub mod PieceLemmas
 pub mod OpenBodies
 pub mod NextHeads
 pub mod Writing
-pub mod OneTold
+pub mod OneSaid

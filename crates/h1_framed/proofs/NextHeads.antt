@@ -18,24 +18,24 @@ use Rattle.h1_messages.proofs.Refusals.{none_too_long, one_stop}
 use Rattle.h1_framed.specs.declared.message.Message.{Message}
 use Rattle.h1_framed.specs.declared.message.Message.TheVariants.{Item}
 use Rattle.h1_framed.specs.Answers.{IsNexted, IsHeadGiven, IsHeadBeside, as_message}
-use Rattle.h1_framed.specs.Messages.{Part, no_part, Told, Breaks, body_of, Behind, IsPart, AreMessages, HasLooked, Standing}
+use Rattle.h1_framed.specs.Messages.{Part, no_part, Messages, Breaks, body_of, After, IsPart, AreMessages, HasLooked, Standing}
 
 -- what follows a body may be said in another way
-behind_by : (ending : Ending) (G H : List ℕ → Type 0) (S : Type 0) → ((left : List ℕ) → G left → H left) → Behind ending G S → Behind ending H S
-behind_by goes_on G H S f x = x
-behind_by is_broken G H S f x = x
-behind_by (ends_before left) G H S f x = f left x
+after_by : (ending : Ending) (G H : List ℕ → Type 0) (S : Type 0) → ((left : List ℕ) → G left → H left) → After ending G S → After ending H S
+after_by goes_on G H S f x = x
+after_by is_broken G H S f x = x
+after_by (ends_before left) G H S f x = f left x
 
 part_by : (body : Option Decoding) (bytes : List ℕ) (part : Part) (G H : List ℕ → Type 0) (S : Type 0) → ((left : List ℕ) → G left → H left)
     → IsPart body bytes part G S → IsPart body bytes part H S
 part_by None bytes part G H S f (is, on) = (is, f bytes on)
-part_by (Some d) bytes part G H S f (p, reads, is, on) = (p, reads, is, behind_by p.ending G H S f on)
+part_by (Some d) bytes part G H S f (p, reads, is, on) = (p, reads, is, after_by p.ending G H S f on)
 
 -- an error other than that of chunks says that the next head is refused
-breaks_by : {I : Type 0} (e : ParseError) (told : Told I) → ¬ (e ≡ errors.Chunk)
-    → told ≡ record { part = no_part; messages = []; stop = refused (fault_of e) } → Breaks e told
-breaks_by errors.Chunk told other is = absurd (other refl)
-breaks_by e told other is = is
+breaks_by : {I : Type 0} (e : ParseError) (all : Messages I) → ¬ (e ≡ errors.Chunk)
+    → all ≡ record { part = no_part; messages = []; stop = refused (fault_of e) } → Breaks e all
+breaks_by errors.Chunk all other is = absurd (other refl)
+breaks_by e all other is = is
 
 module _ {I : Type 0} (k : Kind I) (one : IsOneReading k) (is_bare : Bool) where
   -- where no head is whole nothing is read
@@ -135,9 +135,9 @@ module _ {I : Type 0} (k : Kind I) (one : IsOneReading k) (is_bare : Bool) where
           waiting = λ e. absurd (cc e);
           refusing = λ known seen said (is, on).
               let none = refusal_read old.limit bytes (fault_of error) said.messages said.stop (fault seen known) (on seen) in
-              let told : ◌≡◌ {A = Told I} said (record { part = no_part; messages = []; stop = refused (fault_of error) }) =
+              let all : ◌≡◌ {A = Messages I} said (record { part = no_part; messages = []; stop = refused (fault_of error) }) =
               λ i. record { part = is i; messages = none.0 i; stop = none.1 i } in
-              breaks_by error said (λ chunk. other_error chunk (cause seen known)) told;
+              breaks_by error said (λ chunk. other_error chunk (cause seen known)) all;
           lacking = λ e. (as_before, stays);
           left = (stays, inl as_before);
           looked = tt;
@@ -151,7 +151,7 @@ module _ {I : Type 0} (k : Kind I) (one : IsOneReading k) (is_bare : Bool) where
         other_error chunk (inr (s, e, next, refuses)) =
             no_chunk (slice_range bytes s e) (subst (λ (x : ParseError). k.refuses x (slice_range bytes s e)) chunk refuses)
 
-    -- the item that a head is, behind what its decoder answered
+    -- the item that a head is, after what its decoder answered
     pub head_given : (no_chunk : (piece : List ℕ) → ¬ (k.refuses errors.Chunk piece)) (head : Result (Option I) ParseError) (body : Option Decoding) (now : Option Entries)
         → IsHeadGiven k is_bare old bytes head new body rest → IsHeadBeside head None before body now → new.limit ≡ old.limit
         → IsNexted k is_bare (closed old) bytes before (as_message head) (record { search = new; body = body }) rest now

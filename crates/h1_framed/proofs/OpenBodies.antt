@@ -17,15 +17,15 @@ use Rattle.h1_framed.specs.declared.message.Message.TheVariants.{Item, Chunk}
 use Rattle.h1_framed.specs.declared.piece.Piece.{Piece}
 use Rattle.h1_framed.specs.declared.piece.Piece.TheVariants.{Bytes, End}
 use Rattle.h1_framed.specs.Answers.{IsNexted, IsNoted}
-use Rattle.h1_framed.specs.Messages.{a_fault, Part, no_part, Told, nothing, part_of, Behind, AreMessages, Standing}
+use Rattle.h1_framed.specs.Messages.{a_fault, Part, no_part, Messages, nothing, part_of, After, AreMessages, Standing}
 use Rattle.h1_framed.specs.Pieces.{IsPiece}
 
--- a body that says this, and behind which nothing is read
-told_by : {I : Type 0} (said : Told I) (p q : Payload) (G : List ℕ → Type 0) → said.part ≡ part_of p → p ≡ q
-    → Behind p.ending G ((said.messages ≡ []) × (said.stop ≡ waits)) → ((on : Behind q.ending G ((said.messages ≡ []) × (said.stop ≡ waits))) → (said.messages ≡ []) × (said.stop ≡ waits))
-    → ◌≡◌ {A = Told I} said (record { part = part_of q; messages = []; stop = waits })
-told_by said p q G is same on stays =
-    let none = stays (subst (λ (r : Payload). Behind r.ending G ((said.messages ≡ []) × (said.stop ≡ waits))) same on) in
+-- a body that says this, and after which nothing is read
+stops_so : {I : Type 0} (said : Messages I) (p q : Payload) (G : List ℕ → Type 0) → said.part ≡ part_of p → p ≡ q
+    → After p.ending G ((said.messages ≡ []) × (said.stop ≡ waits)) → ((on : After q.ending G ((said.messages ≡ []) × (said.stop ≡ waits))) → (said.messages ≡ []) × (said.stop ≡ waits))
+    → ◌≡◌ {A = Messages I} said (record { part = part_of q; messages = []; stop = waits })
+stops_so said p q G is same on stays =
+    let none = stays (subst (λ (r : Payload). After r.ending G ((said.messages ≡ []) × (said.stop ≡ waits))) same on) in
     λ i. record { part = (is ∙ ap part_of same) i; messages = none.0 i; stop = none.1 i }
 
 module _ {I : Type 0} (k : Kind I) (is_bare : Bool) (search : Search) (d left : Decoding) (bytes rest : List ℕ) (before : Option Entries) where
@@ -82,7 +82,7 @@ module _ {I : Type 0} (k : Kind I) (is_bare : Bool) (search : Search) (d left : 
   none_came : IsPiece d bytes (Ok None) left rest → Nexted (Ok None) (Some left) before
   none_came (goes, none) = record {
     goes_on = λ z r (p, reads, is, on). (p, goes z p reads, is, on);
-    waiting = λ e seen said (p, reads, is, on). told_by said p (no_payload goes_on)
+    waiting = λ e seen said (p, reads, is, on). stops_so said p (no_payload goes_on)
         (λ left. HasSeen search left → AreMessages k is_bare search.limit left said.messages said.stop) is (none p reads) on (λ x. x);
     refusing = tt;
     lacking = tt;
@@ -97,7 +97,7 @@ module _ {I : Type 0} (k : Kind I) (is_bare : Bool) (search : Search) (d left : 
   fault_came (refused, broken, same) = record {
     goes_on = tt;
     waiting = λ e. absurd (cc e);
-    refusing = λ known seen said (p, reads, is, on). told_by said p (no_payload is_broken)
+    refusing = λ known seen said (p, reads, is, on). stops_so said p (no_payload is_broken)
         (λ left. HasSeen search left → AreMessages k is_bare search.limit left said.messages said.stop) is
         (refused [] p (subst (λ (l : List ℕ). bodies.Reads d l p) (sym (append-nil bytes)) reads)) on (λ x. x);
     lacking = λ e. absurd (cc e);

@@ -16,7 +16,7 @@ use Rattle.h1_framed.specs.declared.message.Message.{Message}
 use Rattle.h1_framed.specs.declared.message.Message.TheVariants.{Item, Chunk}
 use Rattle.h1_framed.specs.declared.piece.Piece.{Piece}
 use Rattle.h1_framed.specs.declared.piece.Piece.TheVariants.{Bytes, End}
-use Rattle.h1_framed.specs.Messages.{Told, given, nothing, Breaks, body_of, Standing, Reads, Looked}
+use Rattle.h1_framed.specs.Messages.{Messages, given, nothing, Breaks, body_of, Standing, Reads, Looked}
 
 -- After an error the bytes stay. All else stays too, but for a body that broke: it is broken for good.
 abbrev pub LeftAfter : ParseError → Standing → List ℕ → Standing → List ℕ → Type 0
@@ -37,7 +37,7 @@ HasTrailers old bytes before (Some (Chunk None)) now =
 pub record IsNexted {I : Type 0} (k : Kind I) (is_bare : Bool) (old : Standing) (bytes : List ℕ) (before : Option Entries)
     (result : Result (Option (Message I)) ParseError) (new : Standing) (rest : List ℕ) (now : Option Entries) : Type 0 where
   pub goes_on : IfOk result (λ answer. GoesOn (Reads k is_bare) given old bytes (in_front (Reads k is_bare) given answer) new rest)
-  pub waiting : result ≡ Ok None → Looked old bytes → OnlySays (Reads k is_bare) old bytes (λ (said : Told I). said ≡ nothing)
+  pub waiting : result ≡ Ok None → Looked old bytes → OnlySays (Reads k is_bare) old bytes (λ (said : Messages I). said ≡ nothing)
   pub refusing : IfErr result (λ e. ¬ (e ≡ errors.NoMemory) → Looked old bytes → OnlySays (Reads k is_bare) old bytes (Breaks e))
   pub lacking : IfErr result (λ e. e ≡ errors.NoMemory → (new ≡ old) × (rest ≡ bytes))
   pub left : IfErr result (λ e. LeftAfter e old bytes new rest)

@@ -1,7 +1,7 @@
 -- That bytes say the same.
 use Rattle.std.specs.Prelude.{◌≡◌, List, [], ◌∷◌, ⊤}
 use Rattle.h1_messages.specs.Kind.{Kind}
-use Rattle.h1_framed.specs.Messages.{Part, Told}
+use Rattle.h1_framed.specs.Messages.{Part, Messages}
 
 -- item by item, the same head is said, and the same came of its body
 abbrev pub SayTheSame : {I : Type 0} → Kind I → List (I × Part) → List (I × Part) → Type 0
@@ -10,7 +10,7 @@ SayTheSame k (x ∷ xs) (y ∷ ys) = ((head : k.Head) × k.says x.0 head × k.sa
 SayTheSame k xs ys = ⊥
 
 -- the same in all parts
-pub record AreTheSame {I : Type 0} (k : Kind I) (s t : Told I) : Type 0 where
+pub record AreTheSame {I : Type 0} (k : Kind I) (s t : Messages I) : Type 0 where
   pub part : s.part ≡ t.part
   pub messages : SayTheSame k s.messages t.messages
   pub stop : s.stop ≡ t.stop

@@ -24,7 +24,7 @@ use Rattle.h1_decode.specs.HeadItem.{SaysHead}
 use Rattle.h1_decode.specs.declared.decoder.HeadItem.{HeadItem}
 use Rattle.h1_messages.specs.Kinds.{requests}
 use Rattle.h1_framed.specs.Answers.{LeftAfter}
-use Rattle.h1_framed.specs.Messages.{Told, Standing, Reads, Looked}
+use Rattle.h1_framed.specs.Messages.{Messages, Standing, Reads, Looked}
 use Rattle.h1_framed.specs.declared.codec.Codec.{Codec}
 use Rattle.h1_framed.specs.declared.codec.TheConstants.{LAST_MOMENT}
 use Rattle.h1_payload.specs.Decoding.{Decoding}
@@ -95,7 +95,7 @@ KeepsAll old new =
 
 -- ---- reading
 
--- the connection is kept behind an answer
+-- the connection is kept after an answer
 abbrev pub is_enabled : KeepAlive → Bool
 is_enabled (Timeout duration) = true
 is_enabled Os = true
@@ -109,8 +109,8 @@ allowed false Close = Close
 allowed false Upgrade = Upgrade
 
 -- from where the codec stands, bytes say this
-abbrev pub CodecReads : Codec → List ℕ → Told HeadItem → Type 0
-CodecReads c bytes told = Reads requests false (codec_standing c) bytes told
+abbrev pub CodecReads : Codec → List ℕ → Messages HeadItem → Type 0
+CodecReads c bytes all = Reads requests false (codec_standing c) bytes all
 
 -- they begin with those that it looked at and did not take
 abbrev pub HasLookedAt : Codec → List ℕ → Type 0

@@ -166,7 +166,7 @@ impl Codec {
     ///
     /// A body that breaks the grammar of chunks is `ParseError::Chunk`, from then on for good. Else an error is that of the
     /// next head (`MessageDecoder::decode`) or `NoMemory`, and all is as before. Bytes that `None` or an error left must be
-    /// there at the next call, with any others behind them.
+    /// there at the next call, with any others after them.
     pub fn decode(&mut self, src: &mut BytesMut) -> Result<Option<Message<HeadItem>>, ParseError>
         ensures goes_on { IfOk result (λ answer. GoesOn CodecReads given self.old src.old.items (in_front CodecReads given answer) self.new src.new.items) }
         ensures waiting { result ≡ Ok None → HasLookedAt self.old src.old.items → OnlySays CodecReads self.old src.old.items (λ said. said ≡ nothing) }
@@ -209,7 +209,7 @@ impl Codec {
         );
     }
 
-    /// Writes an item behind what `dst` holds: the head of an answer, with the size of its body; bytes of the body; or its
+    /// Writes an item after what `dst` holds: the head of an answer, with the size of its body; bytes of the body; or its
     /// end. The head is that of the definitions for the request and the moment. Bytes beyond a stated length are cut, and
     /// after HEAD no byte of a body goes out. Of a body in chunks empty bytes are the end, which is written once.
     ///
@@ -236,7 +236,7 @@ impl Codec {
         }
     }
 
-    /// Writes a head, behind which its body begins.
+    /// Writes a head, after which its body begins.
     fn encode_head(
         &mut self,
         head: &ResponseHead,

@@ -10,14 +10,14 @@ use http_types::{ParseError, Response};
 impl Decoder for Codec {
     ghost use Rattle.std.specs.Prelude.{◌≡◌};
     ghost use Rattle.http_types.specs.declared.error.ParseError.TheVariants as errors;
-    ghost use Rattle.h1_framed.specs.Messages.{Told, given, nothing, Breaks};
+    ghost use Rattle.h1_framed.specs.Messages.{Messages, given, nothing, Breaks};
     ghost use Rattle.h1_framed.specs.State.{CodecReads, HasLookedAt, CodecLeft, Writing, codec_writing};
 
     type Item = Message<HeadItem>;
 
     type Error = ParseError;
 
-    ghost Said = { Told HeadItem };
+    ghost Said = { Messages HeadItem };
 
     ghost reads = { CodecReads };
 

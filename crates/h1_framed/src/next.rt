@@ -60,7 +60,7 @@ fn note_piece(
     }
 }
 
-/// The next head, behind which its body is open. `is_bare` says that no head has a body.
+/// The next head, after which its body is open. `is_bare` says that no head has a body.
 pub(crate) fn next_head<T: ReadHead>(
     heads: &mut MessageDecoder<T>,
     body: &mut Option<PayloadDecoder>,
@@ -96,7 +96,7 @@ fn as_message(
     }
 }
 
-/// What reads the body behind a head, if one follows.
+/// What reads the body after a head, if one follows.
 fn body_of(is_bare: bool, payload: PayloadType) -> Option<PayloadDecoder>
     ensures { result ≡ body_of is_bare payload }
 {

@@ -9,15 +9,15 @@ use Rattle.h1_messages.specs.Kind.{Reading, says_head, Kind, IsOneReading}
 use Rattle.h1_messages.specs.Heads.{Search, HasSeen, payload_of, Stop, waits, refused}
 use Rattle.h1_messages.specs.declared.payload_type.PayloadType.{PayloadType}
 use Rattle.h1_messages.proofs.Refusals.{one_reading_of_all}
-use Rattle.h1_framed.specs.Messages.{Part, Told, part_of, body_of, Behind, IsPart, AreMessages, Standing, Reads}
+use Rattle.h1_framed.specs.Messages.{Part, Messages, part_of, body_of, After, IsPart, AreMessages, Standing, Reads}
 use Rattle.h1_framed.specs.Sameness.{SayTheSame, AreTheSame}
 use Rattle.h1_framed.proofs.NextHeads.{none_read, refusal_read}
 
-one_behind : (ending : Ending) (G H : List ℕ → Type 0) (S T Q : Type 0) → ((left : List ℕ) → G left → H left → Q) → (S → T → Q)
-    → Behind ending G S → Behind ending H T → Q
-one_behind goes_on G H S T Q f g x y = g x y
-one_behind is_broken G H S T Q f g x y = g x y
-one_behind (ends_before left) G H S T Q f g x y = f left x y
+one_after : (ending : Ending) (G H : List ℕ → Type 0) (S T Q : Type 0) → ((left : List ℕ) → G left → H left → Q) → (S → T → Q)
+    → After ending G S → After ending H T → Q
+one_after goes_on G H S T Q f g x y = g x y
+one_after is_broken G H S T Q f g x y = g x y
+one_after (ends_before left) G H S T Q f g x y = f left x y
 
 -- one thing came of a body, and what follows is one thing
 one_part : (body : Option Decoding) (bytes : List ℕ) (x y : Part) (G H : List ℕ → Type 0) (S T Q : Type 0)
@@ -25,7 +25,7 @@ one_part : (body : Option Decoding) (bytes : List ℕ) (x y : Part) (G H : List 
 one_part None bytes x y G H S T Q f g (is, on) (is', on') = (is ∙ sym is', f bytes on on')
 one_part (Some d) bytes x y G H S T Q f g (p, reads, is, on) (p', reads', is', on') =
     let same : p ≡ p' = one_payload d bytes p p' reads reads' in
-    (is ∙ ap part_of same ∙ sym is', one_behind p'.ending G H S T Q f g (subst (λ (q : Payload). Behind q.ending G S) same on) on')
+    (is ∙ ap part_of same ∙ sym is', one_after p'.ending G H S T Q f g (subst (λ (q : Payload). After q.ending G S) same on) on')
 
 module _ {I : Type 0} (k : Kind I) (one : IsOneReading k) (is_bare : Bool) where
   no_more : (limit : ℕ) (bytes : List ℕ) (s t : Stop) (n : I × Part) (ns : List (I × Part)) → AreMessages k is_bare limit bytes [] s
@@ -61,9 +61,9 @@ module _ {I : Type 0} (k : Kind I) (one : IsOneReading k) (is_bare : Bool) where
         rest.1.1,
       )
 
-  pub one_told : (standing : Standing) (bytes : List ℕ) (s t : Told I) → ((b : List ℕ) → HasSeen standing.search b)
+  pub one_said : (standing : Standing) (bytes : List ℕ) (s t : Messages I) → ((b : List ℕ) → HasSeen standing.search b)
       → Reads k is_bare standing bytes s → Reads k is_bare standing bytes t → AreTheSame k s t
-  one_told standing bytes s t seen a b =
+  one_said standing bytes s t seen a b =
       let both = one_part standing.body bytes s.part t.part
       (λ left. HasSeen standing.search left → AreMessages k is_bare standing.search.limit left s.messages s.stop)
       (λ left. HasSeen standing.search left → AreMessages k is_bare standing.search.limit left t.messages t.stop)
