@@ -64,7 +64,7 @@ body_of false payload.None = None
 body_of false (payload.Payload d) = Some d
 body_of false (payload.Stream d) = Some d
 
--- in front of these bytes a body has ended and the rest goes on so, or it stays so
+-- where the body ends so: what goes on in front of these bytes, or what stays
 abbrev pub After : Ending → (List ℕ → Type 0) → Type 0 → Type 0
 After goes_on goes stays = stays
 After is_broken goes stays = stays

@@ -56,7 +56,7 @@ codec_connection c = c.connection
 
 -- the moment of the date lines, in milliseconds since 1970
 abbrev pub codec_moment : Codec → ℕ
-codec_moment c = min c.now LAST_MOMENT
+codec_moment c = min c.moment LAST_MOMENT
 
 -- how far the body of the answer is
 abbrev pub codec_encoding : Codec → Encoding
@@ -65,7 +65,7 @@ codec_encoding c = c.encoder
 -- ---- what its calls change
 
 abbrev pub with_now : ℕ → Codec → Codec
-with_now now c = record c { now = now }
+with_now now c = record c { moment = now }
 
 abbrev pub without_trailers : Codec → Codec
 without_trailers c = record c { trailers = None }

@@ -31,6 +31,7 @@ ghost use Rattle.h1_framed.specs.State.{
   Writes,
   Refuses,
   with_answer,
+  left_to_come,
 };
 
 use crate::message::{Message, MessageType};
@@ -61,7 +62,7 @@ pub struct Codec {
     is_raw: bool,
     asked: ConnectionType,
     connection: ConnectionType,
-    now: u64,
+    moment: u64,
     encoder: MessageEncoder<ResponseHead>,
 }
 
@@ -89,7 +90,7 @@ impl Codec {
             is_raw: false,
             asked: ConnectionType::Close,
             connection: ConnectionType::Close,
-            now: 0,
+            moment: 0,
             encoder: MessageEncoder::new(),
         }
     }
@@ -127,7 +128,7 @@ impl Codec {
     pub fn set_now(&mut self, now: u64)
         ensures { self.new ≡ with_now now self.old }
     {
-        self.now = now;
+        self.moment = now;
     }
 
     /// Frames the next answers for another request: whether it is HEAD, whether its body is raw, its version, and what it
@@ -250,7 +251,7 @@ impl Codec {
     {
         let asked = Asked::new(self.version, self.is_head, self.is_raw, self.asked);
         let connection = type_of(self.keep_alive_enabled(), false, asked, head, size);
-        let now = self.now.min(LAST_MOMENT);
+        let now = self.moment.min(LAST_MOMENT);
         match self.encoder.encode(
             dst,
             head,

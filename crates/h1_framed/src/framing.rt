@@ -10,6 +10,7 @@ use http_types::{ParseError, Response};
 impl Decoder for Codec {
     ghost use Rattle.std.specs.Prelude.{◌≡◌};
     ghost use Rattle.http_types.specs.declared.error.ParseError.TheVariants as errors;
+    ghost use Rattle.h1_decode.specs.declared.decoder.HeadItem.{HeadItem};
     ghost use Rattle.h1_framed.specs.Messages.{Messages, given, nothing, Breaks};
     ghost use Rattle.h1_framed.specs.State.{CodecReads, HasLookedAt, CodecLeft, Writing, codec_writing};
 
