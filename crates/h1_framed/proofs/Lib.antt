@@ -4,3 +4,4 @@ pub mod OpenBodies
 pub mod NextHeads
 pub mod Writing
 pub mod OneSaid
+pub mod Asking

@@ -1,7 +1,7 @@
 -- What is answered where no body is open, by the answer of the decoder of heads.
-use Rattle.std.proofs.Common.{◌≡◌, ℕ, Bool, List, [], ◌∷◌, ◌++◌, length, drop, slice_range, inl, inr, refl, sym, ap, ◌∙◌, subst, arith}
+use Rattle.std.proofs.Common.{◌≡◌, ℕ, Bool, List, [], ◌∷◌, ◌++◌, length, drop, slice_range, ◌↔◌, inl, inr, refl, sym, ap, ◌∙◌, subst, arith}
 use Rattle.std.proofs.lemmas.List.{drop-append-le}
-use Rattle.std.specs.Prelude.{Option, Some, None, Result, Ok, Err}
+use Rattle.std.specs.Prelude.{Option, Some, None, Result, Ok, Err, OnOk}
 use Rattle.http_map.specs.HeaderMap.{Entries}
 use Rattle.http_types.specs.declared.error.ParseError.{ParseError}
 use Rattle.http_types.specs.declared.error.ParseError.TheVariants as errors
@@ -36,6 +36,15 @@ breaks_by : {I : Type 0} (e : ParseError) (all : Messages I) → ¬ (e ≡ error
     → all ≡ record { part = no_part; messages = []; stop = refused (fault_of e) } → Breaks e all
 breaks_by errors.Chunk all other is = absurd (other refl)
 breaks_by e all other is = is
+
+-- no head, as its decoder answers it
+pub waits_given : {I : Type 0} (k : Kind I) (is_bare : Bool) (old new : Search) (bytes rest : List ℕ) (body : Option Decoding)
+    (result : Result (Option (I × PayloadType)) ParseError) → result ≡ Ok None → (HasSeen old bytes → (result ≡ Ok None) ↔ IsWaiting old.limit bytes)
+    → OnOk result (HasSeen old bytes → (more : List ℕ) → HasSeen new (rest ++ more)) → rest ≡ bytes → IsHeadGiven k is_bare old bytes (Ok None) new body rest
+waits_given {I} k is_bare old new bytes rest body result is none seen_on stays =
+    let on : HasSeen old bytes → (more : List ℕ) → HasSeen new (rest ++ more) =
+    subst (λ (r : Result (Option (I × PayloadType)) ParseError). OnOk r (HasSeen old bytes → (more : List ℕ) → HasSeen new (rest ++ more))) is seen_on in
+    (λ seen. (none seen).0 is, λ seen more. subst (λ (l : List ℕ). HasSeen new (l ++ more)) stays (on seen more), stays)
 
 module _ {I : Type 0} (k : Kind I) (one : IsOneReading k) (is_bare : Bool) where
   -- where no head is whole nothing is read

@@ -81,3 +81,18 @@ module _ (old : Decoding) (bytes : List ℕ) (new : Decoding) (rest : List ℕ) 
         (spent_reads new (rest ++ z) (decoded_spent old.is_broken old bytes (items.Trailers entries) new rest tt decoded)));
     some = some;
   }
+
+  -- the same of an answer that is one of these
+  pub end_answered : (result : Result (Option PayloadItem) DecodeError) → result ≡ Ok (Some items.Eof) → IsDecoded old bytes result new rest
+      → IfOk result (λ answer. GoesOn Reads given old bytes (in_front Reads given answer) new rest) → IsEnd old bytes rest None
+  end_answered result is decoded goes_on =
+      ended_by_end (subst (λ (r : Result (Option PayloadItem) DecodeError). IsDecoded old bytes r new rest) is decoded)
+      (subst (λ (r : Result (Option PayloadItem) DecodeError). IfOk r (λ answer. GoesOn Reads given old bytes (in_front Reads given answer) new rest)) is goes_on)
+
+  pub trailers_answered : (entries : Entries) (result : Result (Option PayloadItem) DecodeError) → result ≡ Ok (Some (items.Trailers entries))
+      → IsDecoded old bytes result new rest → IfOk result (λ answer. GoesOn Reads given old bytes (in_front Reads given answer) new rest) → IfOk result HasSome
+      → IsEnd old bytes rest (Some entries)
+  trailers_answered entries result is decoded goes_on some =
+      ended_by_trailers entries (subst (λ (r : Result (Option PayloadItem) DecodeError). IsDecoded old bytes r new rest) is decoded)
+      (subst (λ (r : Result (Option PayloadItem) DecodeError). IfOk r (λ answer. GoesOn Reads given old bytes (in_front Reads given answer) new rest)) is goes_on)
+      (subst (λ (r : Result (Option PayloadItem) DecodeError). IfOk r HasSome) is some)

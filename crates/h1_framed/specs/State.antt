@@ -17,7 +17,7 @@ use Rattle.h1_model.specs.Answer.{Asked, asked_of, shape_of, type_of}
 use Rattle.h1_model.specs.Setting.{Setting, keeps}
 use Rattle.h1_model.specs.Text.{answer_head_text}
 use Rattle.h1_codec.specs.Encoding.{Encoding, of_length, first_encoding, encoded, behind, end_of, ended, missing_of}
-use Rattle.h1_codec.specs.Meaning.{answer_of, size_of, model_type, minor_of}
+use Rattle.h1_codec.specs.Meaning.{answer_of, size_of, model_type, connection_type_of, minor_of}
 use Rattle.h1_codec.specs.declared.error.EncodeError.{EncodeError}
 use Rattle.h1_codec.specs.declared.error.EncodeError.TheVariants.{Short}
 use Rattle.h1_decode.specs.HeadItem.{SaysHead}
@@ -125,7 +125,7 @@ CodecLeft error old bytes new rest =
 abbrev pub HasAsked : Codec → Option (Message HeadItem) → Codec → Type 0
 HasAsked old (Some (Item item)) new =
     ((piece : List ℕ) (h : Head) → IsReading piece (head_is h) → SaysHead item h → codec_asked new ≡ asked_of h)
-    × (model_type (codec_connection new) ≡ model_type (allowed (is_enabled (codec_settings old).keep_alive) new.asked))
+    × (codec_connection new ≡ allowed (is_enabled (codec_settings old).keep_alive) (connection_type_of (codec_asked new).connection))
 HasAsked old answer new = (codec_asked new ≡ codec_asked old) × (codec_connection new ≡ codec_connection old)
 
 -- what is left to come of a message whose body is raw or not, where this of it is open

@@ -191,7 +191,9 @@ impl Codec {
                 self.note(&item);
                 Ok(Some(Message::Item(item)))
             }
-            answer => answer,
+            Ok(Some(Message::Chunk(piece))) => Ok(Some(Message::Chunk(piece))),
+            Ok(None) => Ok(None),
+            Err(error) => Err(error),
         }
     }
 
