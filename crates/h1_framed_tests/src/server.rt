@@ -1,9 +1,6 @@
 use bytes::{Bytes, BytesMut};
-use futures::task::Poll;
-use futures::test::MockTask;
 use h1_framed::{Codec, Message, MessageType};
 use http_framing::BodySize;
-use http_wires::{Framed, MemWire};
 use http_types::{ConnectionType, ParseError, Response, ServiceConfig, Version};
 use std::test::Fail;
 
@@ -12,7 +9,8 @@ const DATE: &str = "date: Thu, 01 Jan 1970 00:00:00 GMT\r\n";
 // A request with a body in chunks and trailers, byte by byte, and a second request behind it.
 #[test]
 fn a_body_in_chunks_comes_byte_by_byte(rt: HostRuntime) -> Result<(), Fail> {
-    let text = b"POST /a HTTP/1.1\r\ntransfer-encoding: chunked\r\n\r\n4\r\ndata\r\n0\r\nx: 1\r\n\r\nHEAD / HTTP/1.0\r\n\r\n";
+    let text =
+        b"POST /a HTTP/1.1\r\ntransfer-encoding: chunked\r\n\r\n4\r\ndata\r\n0\r\nx: 1\r\n\r\nHEAD / HTTP/1.0\r\n\r\n";
     let mut codec = Codec::new(ServiceConfig::default());
     let mut src = BytesMut::new(rt.alloc());
     let mut heads = 0_u32;
@@ -47,47 +45,19 @@ fn an_answer_is_framed_for_its_request(rt: HostRuntime) -> Result<(), Fail> {
     codec.encode(head, &mut out).ok().ok_or("refused")?;
     let body = Message::Chunk(Some(Bytes::copy_from_slice(rt.alloc(), b"hi there")?));
     codec.encode(body, &mut out).ok().ok_or("refused")?;
-    codec.encode(Message::Chunk(None), &mut out).ok().ok_or("refused")?;
-    codec.encode(Message::Chunk(None), &mut out).ok().ok_or("refused")?;
+    codec
+        .encode(Message::Chunk(None), &mut out)
+        .ok()
+        .ok_or("refused")?;
+    codec
+        .encode(Message::Chunk(None), &mut out)
+        .ok()
+        .ok_or("refused")?;
     let mut text = BytesMut::new(rt.alloc());
     text.extend_from_slice(b"HTTP/1.1 200 OK\r\ncontent-length: 2\r\nconnection: close\r\n")?;
     text.extend_from_slice(DATE.as_bytes())?;
     text.extend_from_slice(b"\r\nhi")?;
     assert_eq!(rt; out.as_slice(), text.as_slice());
-    Ok(())
-}
-
-#[test]
-fn a_framed_codec_answers_a_request_in_two_pieces(rt: HostRuntime) -> Result<(), Fail> {
-    let task = MockTask::new(&rt)?;
-    let mut pieces = Vec::new(rt.alloc());
-    pieces.push(Bytes::from_static(b"GET /a HTTP/1.1\r"))?;
-    pieces.push(Bytes::from_static(b"\n\r\n"))?;
-    let wire = MemWire::new(
-        rt.alloc(),
-        pieces,
-        Vec::new(rt.alloc()),
-        Vec::new(rt.alloc()),
-    );
-    let mut framed = Framed::new(rt.alloc(), wire, Codec::new(ServiceConfig::default()));
-    let item = task.enter(|cx| framed.next_item(cx));
-    let is_head = match &item {
-        Poll::Ready(Some(Ok(Message::Item(item)))) => item.target.as_slice() == b"/a".as_slice(),
-        _ => false,
-    };
-    assert!(rt; is_head);
-    let head = Message::Item((Response::ok(rt.alloc()), BodySize::Sized(2)));
-    framed.write(head).ok().ok_or("refused")?;
-    let body = Message::Chunk(Some(Bytes::from_static(b"hi")));
-    framed.write(body).ok().ok_or("refused")?;
-    framed.write(Message::Chunk(None)).ok().ok_or("refused")?;
-    let flushed = task.enter(|cx| framed.flush(cx));
-    assert!(rt; matches!(flushed, Poll::Ready(Ok(()))));
-    let mut text = BytesMut::new(rt.alloc());
-    text.extend_from_slice(b"HTTP/1.1 200 OK\r\ncontent-length: 2\r\n")?;
-    text.extend_from_slice(DATE.as_bytes())?;
-    text.extend_from_slice(b"\r\nhi")?;
-    assert_eq!(rt; framed.io_mut().sent(), text.as_slice());
     Ok(())
 }
 
@@ -116,8 +86,14 @@ fn the_answer_to_head_has_no_body(rt: HostRuntime) -> Result<(), Fail> {
     codec.encode(head, &mut out).ok().ok_or("refused")?;
     let body = Message::Chunk(Some(Bytes::from_static(b"hi")));
     codec.encode(body, &mut out).ok().ok_or("refused")?;
-    codec.encode(Message::Chunk(None), &mut out).ok().ok_or("refused")?;
+    codec
+        .encode(Message::Chunk(None), &mut out)
+        .ok()
+        .ok_or("refused")?;
     assert!(rt; codec.keep_alive() && !codec.upgrade() && codec.keep_alive_enabled());
-    assert_eq!(rt; out.as_slice(), b"HTTP/1.0 200 OK\r\ncontent-length: 2\r\nconnection: keep-alive\r\ndate: Thu, 01 Jan 1970 00:00:01 GMT\r\n\r\n".as_slice());
+    assert_eq!(rt;
+        out.as_slice(),
+        b"HTTP/1.0 200 OK\r\ncontent-length: 2\r\nconnection: keep-alive\r\ndate: Thu, 01 Jan 1970 00:00:01 GMT\r\n\r\n".as_slice()
+    );
     Ok(())
 }
