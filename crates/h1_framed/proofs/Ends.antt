@@ -1,5 +1,5 @@
 -- A pull that gives trailers or the end leaves nothing of the body.
-use Rattle.std.proofs.Common.{◌≡◌, ℕ, Bool, true, false, List, [], ◌∷◌, ◌++◌, refl, sym, subst}
+use Rattle.std.proofs.Common.{◌≡◌, ℕ, Bool, false, List, [], ◌∷◌, ◌++◌, refl, sym, subst}
 use Rattle.std.specs.Prelude.{⊤}
 use Rattle.h1_chunks.specs.Place.{Place}
 use Rattle.h1_chunks.specs.TakeNext.{Next, chunk, waits, ended, breaks, take_next}

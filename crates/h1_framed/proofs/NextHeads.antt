@@ -1,5 +1,5 @@
 -- What is answered where no body is open, by the answer of the decoder of heads.
-use Rattle.std.proofs.Common.{◌≡◌, ℕ, Bool, List, [], ◌∷◌, ◌++◌, length, drop, slice_range, ◌↔◌, inl, inr, refl, sym, ap, ◌∙◌, subst, arith}
+use Rattle.std.proofs.Common.{◌≡◌, ℕ, Bool, List, [], ◌∷◌, ◌++◌, slice_range, ◌↔◌, inl, inr, refl, sym, ap, ◌∙◌, subst, arith}
 use Rattle.std.proofs.lemmas.List.{drop-append-le}
 use Rattle.std.specs.Prelude.{Option, Some, None, Result, Ok, Err, OnOk}
 use Rattle.http_map.specs.HeaderMap.{Entries}
@@ -11,11 +11,10 @@ use Rattle.h1_model.specs.Request.{Fault}
 use Rattle.h1_model.proofs.HeadPieceLemmas.{head_piece_unique, slice_range-append}
 use Rattle.h1_payload.specs.Decoding.{Decoding}
 use Rattle.h1_messages.specs.Kind.{Reading, says_head, says_fault, Kind, IsOneReading}
-use Rattle.h1_messages.specs.Heads.{Search, HasSeen, IsItemOf, IsNext, IsNextItem, IsWaiting, IsTooLong, RefusesNext, Stop, waits, refused, Stops}
+use Rattle.h1_messages.specs.Heads.{Search, HasSeen, IsItemOf, IsNextItem, IsWaiting, RefusesNext, Stop, waits, refused, Stops}
 use Rattle.h1_messages.specs.declared.payload_type.PayloadType.{PayloadType}
 use Rattle.h1_messages.proofs.GoingOn.{seen_front, next_append}
 use Rattle.h1_messages.proofs.Refusals.{none_too_long, one_stop}
-use Rattle.h1_framed.specs.declared.message.Message.{Message}
 use Rattle.h1_framed.specs.declared.message.Message.TheVariants.{Item}
 use Rattle.h1_framed.specs.Answers.{IsNexted, IsHeadGiven, IsHeadBeside, as_message}
 use Rattle.h1_framed.specs.Messages.{Part, no_part, Messages, Breaks, body_of, After, IsPart, AreMessages, HasLooked, Standing}

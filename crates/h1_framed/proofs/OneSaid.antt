@@ -1,12 +1,12 @@
 -- Bytes say one thing to a codec.
-use Rattle.std.proofs.Common.{◌≡◌, ℕ, Bool, List, [], ◌∷◌, drop, slice_range, refl, sym, ap, ◌∙◌, subst}
+use Rattle.std.proofs.Common.{◌≡◌, ℕ, Bool, List, [], ◌∷◌, drop, slice_range, sym, ap, ◌∙◌, subst}
 use Rattle.std.specs.Prelude.{Option, Some, None}
 use Rattle.h1_chunks.specs.Reading.{Ending, goes_on, is_broken, ends_before}
 use Rattle.h1_model.proofs.HeadPieceLemmas.{head_piece_unique}
 use Rattle.h1_payload.specs.Decoding.{Decoding, Payload}
 use Rattle.h1_payload.proofs.Whole.{one_payload}
 use Rattle.h1_messages.specs.Kind.{Reading, says_head, Kind, IsOneReading}
-use Rattle.h1_messages.specs.Heads.{Search, HasSeen, payload_of, Stop, waits, refused}
+use Rattle.h1_messages.specs.Heads.{HasSeen, payload_of, Stop, waits, refused}
 use Rattle.h1_messages.specs.declared.payload_type.PayloadType.{PayloadType}
 use Rattle.h1_messages.proofs.Refusals.{one_reading_of_all}
 use Rattle.h1_framed.specs.Messages.{Part, Messages, part_of, body_of, After, IsPart, AreMessages, Standing, Reads}

@@ -1,6 +1,6 @@
 -- What is answered while a body is open, by the piece of it that came next.
-use Rattle.std.proofs.Common.{◌≡◌, ℕ, Bool, List, [], ◌∷◌, ◌++◌, refl, sym, ap, ◌∙◌, subst, inl, inr, append-nil}
-use Rattle.std.specs.Prelude.{Option, Some, None, Result, Ok, Err, unwrap_or, true}
+use Rattle.std.proofs.Common.{◌≡◌, ℕ, Bool, List, [], ◌++◌, refl, sym, ap, ◌∙◌, subst, inl, inr, append-nil}
+use Rattle.std.specs.Prelude.{Option, Some, None, Result, Ok, Err, unwrap_or}
 use Rattle.http_map.specs.HeaderMap.{Entries}
 use Rattle.http_types.specs.declared.error.ParseError.{ParseError}
 use Rattle.http_types.specs.declared.error.ParseError.TheVariants as errors
@@ -11,13 +11,13 @@ use Rattle.h1_payload.specs.declared.item.DecodeError.{DecodeError}
 use Rattle.h1_payload.specs.declared.item.DecodeError.TheVariants.{Invalid, NoMemory}
 use Rattle.h1_payload.proofs.Whole.{one_payload}
 use Rattle.h1_messages.specs.Kind.{Kind}
-use Rattle.h1_messages.specs.Heads.{Search, HasSeen, Stop, waits}
+use Rattle.h1_messages.specs.Heads.{Search, HasSeen, waits}
 use Rattle.h1_framed.specs.declared.message.Message.{Message}
-use Rattle.h1_framed.specs.declared.message.Message.TheVariants.{Item, Chunk}
+use Rattle.h1_framed.specs.declared.message.Message.TheVariants.{Chunk}
 use Rattle.h1_framed.specs.declared.piece.Piece.{Piece}
 use Rattle.h1_framed.specs.declared.piece.Piece.TheVariants.{Bytes, End}
 use Rattle.h1_framed.specs.Answers.{IsNexted, IsNoted}
-use Rattle.h1_framed.specs.Messages.{a_fault, Part, no_part, Messages, nothing, part_of, After, AreMessages, Standing}
+use Rattle.h1_framed.specs.Messages.{Part, Messages, part_of, After, AreMessages, Standing}
 use Rattle.h1_framed.specs.Pieces.{IsPiece}
 
 -- a body that says this, and after which nothing is read

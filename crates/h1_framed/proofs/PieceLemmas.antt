@@ -1,17 +1,16 @@
 -- The piece that a decoder of bodies gives.
-use Rattle.std.proofs.Common.{◌≡◌, ℕ, ◌<◌, Bool, true, false, List, [], ◌∷◌, ◌++◌, length, refl, sym, ap, ◌∙◌, subst, append-nil}
-use Rattle.std.specs.Prelude.{Option, Some, None, Result, Ok, Err, IfOk, ⊤}
+use Rattle.std.proofs.Common.{◌≡◌, ℕ, ◌<◌, Bool, true, false, List, [], ◌++◌, length, refl, sym, ◌∙◌, subst, append-nil}
+use Rattle.std.specs.Prelude.{Option, Some, None, Result, Ok, IfOk, ⊤}
 use Rattle.http_framing.specs.AnyPieces.{GoesOn, in_front}
 use Rattle.http_map.specs.HeaderMap.{Entries}
 use Rattle.h1_chunks.specs.Reading.{ends_before}
 use Rattle.h1_machine.specs.Kept.{Rest, no_rest}
 use Rattle.h1_machine.specs.Pull as pulls
 use Rattle.h1_model.specs.Event.{Outcome}
-use Rattle.h1_payload.specs.Decoding.{Decoding, Payload, no_payload, Reads, ReadsBy, given, HasSome, item_of, IsDecoded, IsDecodedBy, IsWaiting, IsRefused}
+use Rattle.h1_payload.specs.Decoding.{Decoding, no_payload, Reads, ReadsBy, given, HasSome, item_of, IsDecoded, IsDecodedBy}
 use Rattle.h1_payload.specs.Answers.{is_fault}
 use Rattle.h1_payload.specs.Rests.{IsPulled}
 use Rattle.h1_payload.specs.declared.item.DecodeError.{DecodeError}
-use Rattle.h1_payload.specs.declared.item.DecodeError.TheVariants.{Invalid, NoMemory}
 use Rattle.h1_payload.specs.declared.item.PayloadItem.{PayloadItem}
 use Rattle.h1_payload.specs.declared.item.PayloadItem.TheVariants as items
 use Rattle.h1_payload.specs.declared.pulled.Pulled.{Pulled}

@@ -1,6 +1,6 @@
 -- The end of a body, as an encoder writes or refuses it.
-use Rattle.std.proofs.Common.{◌≡◌, ℕ, ◌<◌, ◌++◌, zero, suc, Bool, true, false, List, ◌↔◌, refl, sym, ap, ◌∙◌, subst, arith}
-use Rattle.std.specs.Prelude.{Option, Some, None, Result, Ok, Err, IfErr, OnOk}
+use Rattle.std.proofs.Common.{◌≡◌, ℕ, ◌<◌, ◌++◌, zero, suc, List, ◌↔◌, refl, sym, ap, ◌∙◌, subst, arith}
+use Rattle.std.specs.Prelude.{None, Result, Ok, Err, IfErr, OnOk}
 use Rattle.h1_codec.specs.Encoding.{Encoding, missing_of, end_of, ended}
 use Rattle.h1_codec.specs.declared.error.EncodeError.{EncodeError}
 use Rattle.h1_codec.specs.declared.error.EncodeError.TheVariants.{Short, Version as no_version, NoMemory}

@@ -3,7 +3,7 @@ use Rattle.std.specs.Prelude.{◌≡◌, ℕ, ◌<◌, true, List, [], ◌++◌,
 use Rattle.http_framing.specs.AnyPieces.{GoesOn}
 use Rattle.http_map.specs.HeaderMap.{Entries}
 use Rattle.h1_chunks.specs.Reading.{ends_before}
-use Rattle.h1_payload.specs.Decoding.{Decoding, Payload, Reads, given, IsWaiting, IsRefused}
+use Rattle.h1_payload.specs.Decoding.{Decoding, Reads, given, IsWaiting, IsRefused}
 use Rattle.h1_payload.specs.declared.item.DecodeError.{DecodeError}
 use Rattle.h1_payload.specs.declared.item.DecodeError.TheVariants.{Invalid, NoMemory}
 use Rattle.h1_framed.specs.declared.piece.Piece.{Piece}

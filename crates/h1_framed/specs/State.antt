@@ -1,9 +1,8 @@
 -- What a server's codec keeps, and what its calls do to it.
-use Rattle.std.specs.Prelude.{◌≡◌, ℕ, ◌<◌, Bool, true, false, List, [], min, if◌then◌else◌, Option, Some, None}
+use Rattle.std.specs.Prelude.{◌≡◌, ℕ, ◌<◌, Bool, true, false, List, min, if◌then◌else◌, Option, Some, None}
 use Rattle.http_config.specs.Config.{Settings}
 use Rattle.http_config.specs.declared.keep_alive.KeepAlive.{KeepAlive}
 use Rattle.http_config.specs.declared.keep_alive.KeepAlive.TheVariants.{Timeout, Os, Disabled}
-use Rattle.http_framing.specs.AnyPieces.{GoesOn}
 use Rattle.http_framing.specs.declared.body.size.BodySize.{BodySize}
 use Rattle.http_map.specs.HeaderMap.{Entries}
 use Rattle.http_types.specs.Response.{FullResponse}

@@ -1,4 +1,4 @@
-use Rattle.std.proofs.Common.{◌≡◌, List, ℕ, ap}
+use Rattle.std.proofs.Common.{◌≡◌, ap}
 use Rattle.std.specs.Prelude.{None, Ok}
 use Rattle.h1_framed.proofs.NextHeads.{waits_given}
 use Rattle.h1_framed.proofs.next.next_head.Goals as goal
