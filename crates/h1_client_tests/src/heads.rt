@@ -13,7 +13,7 @@ enum Meaning {
     Fault,
 }
 
-fn meaning(alloc: Global, head: &[u8], is_head: bool) -> Result<Meaning, NoMemory> {
+fn meaning_of(alloc: Global, head: &[u8], is_head: bool) -> Result<Meaning, NoMemory> {
     match read_answer(alloc, head, 0, head.len(), 8192) {
         Ok(item) if is_interim(&item) => Ok(Meaning::Interim),
         Ok(item) if closes_after(false, is_head, &item) => {
@@ -31,13 +31,13 @@ fn meaning(alloc: Global, head: &[u8], is_head: bool) -> Result<Meaning, NoMemor
 fn answers_to_get(rt: HostRuntime) -> Result<(), Fail> {
     let alloc = rt.alloc();
     let length = b"HTTP/1.1 200 OK\r\ncontent-length: 2\r\n\r\n";
-    assert!(rt; meaning(alloc, length, false)? == Meaning::Stays(BodyKind::Length(2)));
+    assert!(rt; meaning_of(alloc, length, false)? == Meaning::Stays(BodyKind::Length(2)));
     let open = b"HTTP/1.1 200 OK\r\n\r\n";
-    assert!(rt; meaning(alloc, open, false)? == Meaning::Closes(BodyKind::Raw));
+    assert!(rt; meaning_of(alloc, open, false)? == Meaning::Closes(BodyKind::Raw));
     let unchanged = b"HTTP/1.1 304 Not Modified\r\ncontent-length: 2\r\n\r\n";
-    assert!(rt; meaning(alloc, unchanged, false)? == Meaning::Stays(BodyKind::None));
+    assert!(rt; meaning_of(alloc, unchanged, false)? == Meaning::Stays(BodyKind::None));
     let interim = b"HTTP/1.1 103 Early Hints\r\n\r\n";
-    assert!(rt; meaning(alloc, interim, false)? == Meaning::Interim);
+    assert!(rt; meaning_of(alloc, interim, false)? == Meaning::Interim);
     Ok(())
 }
 
@@ -45,10 +45,10 @@ fn answers_to_get(rt: HostRuntime) -> Result<(), Fail> {
 fn answers_to_head(rt: HostRuntime) -> Result<(), Fail> {
     let alloc = rt.alloc();
     let length = b"HTTP/1.1 200 OK\r\ncontent-length: 2\r\n\r\n";
-    assert!(rt; meaning(alloc, length, true)? == Meaning::Stays(BodyKind::None));
+    assert!(rt; meaning_of(alloc, length, true)? == Meaning::Stays(BodyKind::None));
     let open = b"HTTP/1.1 200 OK\r\n\r\n";
-    assert!(rt; meaning(alloc, open, true)? == Meaning::Stays(BodyKind::None));
+    assert!(rt; meaning_of(alloc, open, true)? == Meaning::Stays(BodyKind::None));
     let last = b"HTTP/1.1 200 OK\r\nconnection: Close\r\n\r\n";
-    assert!(rt; meaning(alloc, last, true)? == Meaning::Closes(BodyKind::None));
+    assert!(rt; meaning_of(alloc, last, true)? == Meaning::Closes(BodyKind::None));
     Ok(())
 }

@@ -30,20 +30,34 @@ fn text(
 #[test]
 fn a_request_without_a_body(rt: HostRuntime) -> Result<(), Fail> {
     let text = text(rt.alloc(), BodySize::None, ConnectionType::KeepAlive, false)?;
-    assert!(rt; text.as_slice() == b"GET / HTTP/1.1\r\nhost: example.org\r\ncontent-type: text/plain\r\ndate: Thu, 01 Jan 1970 00:00:00 GMT\r\n\r\n".as_slice());
+    assert!(rt;
+        text.as_slice()
+            == b"GET / HTTP/1.1\r\nhost: example.org\r\ncontent-type: text/plain\r\ndate: Thu, 01 Jan 1970 00:00:00 GMT\r\n\r\n".as_slice()
+    );
     Ok(())
 }
 
 #[test]
 fn a_request_with_a_length(rt: HostRuntime) -> Result<(), Fail> {
-    let text = text(rt.alloc(), BodySize::Sized(12), ConnectionType::Close, false)?;
-    assert!(rt; text.as_slice() == b"GET / HTTP/1.1\r\ncontent-length: 12\r\nconnection: close\r\nhost: example.org\r\ncontent-type: text/plain\r\ndate: Thu, 01 Jan 1970 00:00:00 GMT\r\n\r\n".as_slice());
+    let text = text(
+        rt.alloc(),
+        BodySize::Sized(12),
+        ConnectionType::Close,
+        false,
+    )?;
+    assert!(rt;
+        text.as_slice()
+            == b"GET / HTTP/1.1\r\ncontent-length: 12\r\nconnection: close\r\nhost: example.org\r\ncontent-type: text/plain\r\ndate: Thu, 01 Jan 1970 00:00:00 GMT\r\n\r\n".as_slice()
+    );
     Ok(())
 }
 
 #[test]
 fn a_request_in_chunks_and_camel_case(rt: HostRuntime) -> Result<(), Fail> {
     let text = text(rt.alloc(), BodySize::Stream, ConnectionType::Upgrade, true)?;
-    assert!(rt; text.as_slice() == b"GET / HTTP/1.1\r\nTransfer-Encoding: chunked\r\nConnection: Upgrade\r\nHost: example.org\r\nContent-Type: text/plain\r\nDate: Thu, 01 Jan 1970 00:00:00 GMT\r\n\r\n".as_slice());
+    assert!(rt;
+        text.as_slice()
+            == b"GET / HTTP/1.1\r\nTransfer-Encoding: chunked\r\nConnection: Upgrade\r\nHost: example.org\r\nContent-Type: text/plain\r\nDate: Thu, 01 Jan 1970 00:00:00 GMT\r\n\r\n".as_slice()
+    );
     Ok(())
 }

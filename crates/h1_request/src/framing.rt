@@ -14,11 +14,7 @@ use http_framing::BodySize;
 use http_types::{ConnectionType, NoMemory, Version};
 
 /// The line end of the request line, and the line that frames the body, if there is one (RFC 7230, section 3.3).
-pub(crate) fn put_framing(
-    out: &mut BytesMut,
-    camel: bool,
-    size: BodySize,
-) -> Result<(), NoMemory>
+pub(crate) fn put_framing(out: &mut BytesMut, camel: bool, size: BodySize) -> Result<(), NoMemory>
     ensures ok { OnOk result (out.new.items ≡ out.old.items
         ++ (crlf_bytes ++ texts.size_line camel (asked_shape (size_of size)) (size_of size))) }
     ensures err { OnErr result (out.new.items ≡ out.old.items) }

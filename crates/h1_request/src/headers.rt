@@ -6,8 +6,8 @@ ghost use Rattle.h1_codec.specs.Lines.{Grows, goes_out, pairs_text, has_date, is
 
 use crate::camel::put_camel_case;
 use bytes::BytesMut;
-use http_types::header::{HeaderMap, HeaderName, HeaderValue};
 use http_types::NoMemory;
+use http_types::header::{HeaderMap, HeaderName, HeaderValue};
 
 /// Puts the headers that go out, name by name, and tells whether one was a date. None frames a body, and none speaks of the
 /// connection: lines of their own do.
