@@ -52,6 +52,9 @@ pub struct Body<S: TimedSource, K: TimedSink> {
 
     // The handler reads the open request's body.
     pub(crate) is_wanted: bool,
+
+    // The connection ends with the open request's answer.
+    pub(crate) closes: bool,
 }
 
 impl<S: TimedSource, K: TimedSink> Model for Body<S, K> {
@@ -84,6 +87,7 @@ impl<S: TimedSource, K: TimedSink> Body<S, K> {
             writes: Pace::new(),
             kind: BodyKind::None,
             is_wanted: false,
+            closes: false,
         }
     }
 
@@ -101,6 +105,7 @@ impl<S: TimedSource, K: TimedSink> Body<S, K> {
             writes: _,
             kind: _,
             is_wanted: _,
+            closes: _,
         } = self;
         (source, sink)
     }
@@ -139,17 +144,24 @@ impl<S: TimedSource, K: TimedSink> Body<S, K> {
         Err(HandleError::Stalled)
     }
 
-    // A request was handed out, whose body ends so. Its bytes are waited for from now on.
-    pub(crate) fn begin_request(&mut self, kind: BodyKind) {
+    // A request was handed out, whose body ends so, and with whose answer the connection ends or not. The body's bytes
+    // are waited for from now on.
+    pub(crate) fn begin_request(&mut self, kind: BodyKind, closes: bool) {
         self.kind = kind;
+        self.closes = closes;
         self.is_wanted = false;
         self.reads = Pace::new();
     }
 
     // Passes over a body that the handler doesn't read, where it is small enough and comes soon. Else the answer says
     // that the connection ends with it: a client that isn't told so would send its next request into it. A raw body ends
-    // with the connection alone, and of a client that waits for leave none comes.
+    // with the connection alone, and of a client that waits for leave none comes. Where the connection ends with the
+    // answer anyway, no body is waited for.
     pub(crate) fn settle(&mut self, head: &mut ResponseHead) -> Result<(), HandleError> {
+        if self.closes {
+            head.set_connection_type(ConnectionType::Close);
+            return Ok(());
+        }
         if self.is_wanted || !self.connection.can_pull() {
             return Ok(());
         }

@@ -1,7 +1,11 @@
 //! One connection, served to its end.
+ghost use Rattle.std.specs.Prelude.{◌≡◌};
+ghost use Rattle.h1_blocking.specs.Judged.{doubt_if};
+
 use crate::{Answer, Body, HandleError, Handler, Incoming, Limits};
 use h1_connection::{End, NextKind};
 use h1_decode::{HeadItem, HeadRoom};
+use h1_judge::{HeadDoubt, check_head};
 use h1_net::{SocketSink, SocketSource, TimedSink, TimedSource, close_orderly, prepare};
 use http_types::{ResponseHead, ServiceConfig, StatusCode};
 use std::alloc::Global;
@@ -69,12 +73,7 @@ fn serve<S: TimedSource, K: TimedSink, H: Handler>(
             return Err(HandleError::Misplaced);
         }
         match body.next_head(&mut item, &mut room)? {
-            NextKind::Head => {
-                body.begin_request(item.body);
-                let request = Incoming::new(&item, peer, body.moment());
-                let handled = handler.handle(&request, body, Answer::new());
-                complete(alloc, body, handled)?;
-            }
+            NextKind::Head => take(alloc, body, &item, peer, handler)?,
             NextKind::Pending => {
                 body.flush()?;
                 let _came = body.fill()?;
@@ -88,6 +87,37 @@ fn serve<S: TimedSource, K: TimedSink, H: Handler>(
         }
     }
     Err(HandleError::Stalled)
+}
+
+// Takes a request that was handed out: it goes to the handler, and is answered; or where its head is refused, it is
+// answered and no handler sees it.
+fn take<S: TimedSource, K: TimedSink, H: Handler>(
+    alloc: Global,
+    body: &mut Body<S, K>,
+    item: &HeadItem,
+    peer: Option<SocketAddr>,
+    handler: &mut H,
+) -> Result<(), HandleError> {
+    let doubt = judged(item, body.limits.judges_heads);
+    body.begin_request(item.body, doubt.is_some());
+    if let Some(status) = doubt.and_then(|doubt| doubt.status()) {
+        return Answer::new().empty(body, ResponseHead::new(alloc, status));
+    }
+    let request = Incoming::new(item, peer, body.moment());
+    let handled = handler.handle(&request, body, Answer::new());
+    complete(alloc, body, handled)
+}
+
+// The first doubt about a head, where heads are judged. A doubt with a status refuses the head, and after an answer to any
+// head with a doubt the connection ends.
+fn judged(item: &HeadItem, judges_heads: bool) -> Option<HeadDoubt>
+    ensures { result ≡ doubt_if judges_heads item.now }
+{
+    if judges_heads {
+        check_head(item).err()
+    } else {
+        None
+    }
 }
 
 // Sees to it that the request is answered once the handler has returned.
