@@ -1,1 +1,5 @@
-mod ServedLemmas
+pub mod ServedLemmas
+pub mod Followed
+pub mod Answered
+pub mod Handled
+pub mod Written

@@ -1,6 +1,9 @@
 //! One connection, served to its end.
-ghost use Rattle.std.specs.Prelude.{◌≡◌};
-ghost use Rattle.h1_blocking.specs.Judged.{doubt_if};
+ghost use Rattle.std.specs.Prelude.{◌≡◌, ◌∷◌, [], OnOk, option_and_then};
+ghost use Rattle.h1_decode.specs.declared.decoder.HeadItem.{HeadItem};
+ghost use Rattle.h1_judge.specs.Judgement.{status_of};
+ghost use Rattle.h1_blocking.specs.Judged.{doubt_if, status_after};
+ghost use Rattle.h1_blocking.specs.Served.{Answers, Follows, MayAnswer, Notes, Serves, admitted};
 
 use crate::{Answer, Body, HandleError, Handler, Incoming, Limits};
 use h1_connection::{End, NextKind};
@@ -39,12 +42,15 @@ pub fn host_stream<R: Clock, H: Handler>(
 
 /// Serves a connection to its end, and says why it ended. Each request goes to the handler, one after the other. All that
 /// waits to be written is written before the end, and where there is an error, as much as the peer takes.
+#[tactic(auto, using(crate::proofs::Followed::follows_none, crate::proofs::Followed::follows_then, crate::proofs::Handled::handles_none, crate::proofs::Handled::handles_then, crate::proofs::Handled::handles_one, crate::proofs::Handled::handles_to_end))]
 pub fn host_connection<S: TimedSource, K: TimedSink, H: Handler>(
     alloc: Global,
     body: &mut Body<S, K>,
     peer: Option<SocketAddr>,
     handler: &mut H,
-) -> Result<End, HandleError> {
+) -> Result<End, HandleError>
+    ensures serves { Serves body.old (H.handled handler.old) result body.new (H.handled handler.new) }
+{
     let ended = serve(alloc, body, peer, handler);
     match ended {
         Ok(_) => {}
@@ -58,12 +64,15 @@ pub fn host_connection<S: TimedSource, K: TimedSink, H: Handler>(
 }
 
 // Serves a connection to its end, or to the first error.
+#[tactic(auto, using(crate::proofs::Followed::follows_none, crate::proofs::Followed::follows_then, crate::proofs::Handled::handles_none, crate::proofs::Handled::handles_then, crate::proofs::Handled::handles_one, crate::proofs::Handled::handles_to_end))]
 fn serve<S: TimedSource, K: TimedSink, H: Handler>(
     alloc: Global,
     body: &mut Body<S, K>,
     peer: Option<SocketAddr>,
     handler: &mut H,
-) -> Result<End, HandleError> {
+) -> Result<End, HandleError>
+    ensures serves { Serves body.old (H.handled handler.old) result body.new (H.handled handler.new) }
+{
     let mut item = HeadItem::new(alloc);
     let mut room = HeadRoom::new();
     body.tick()?;
@@ -80,7 +89,8 @@ fn serve<S: TimedSource, K: TimedSink, H: Handler>(
             }
             // The answer that says so waits to be written.
             NextKind::Fault(_) => {}
-            NextKind::Closed(end) => return Ok(end),
+            NextKind::Closed(end) if body.has_written_all() => return Ok(end),
+            NextKind::Closed(_) => return Err(HandleError::Misplaced),
         }
         if handler.is_ending() && body.connection.can_drain() {
             body.drain();
@@ -91,16 +101,20 @@ fn serve<S: TimedSource, K: TimedSink, H: Handler>(
 
 // Takes a request that was handed out: it goes to the handler, and is answered; or where its head is refused, it is
 // answered and no handler sees it.
+#[tactic(auto, using(crate::proofs::Followed::follows_none, crate::proofs::Followed::follows_then, crate::proofs::Answered::answers_follow, crate::proofs::Answered::answers_then, crate::proofs::Answered::then_answers, crate::proofs::Handled::notes_refused, crate::proofs::Handled::notes_admitted))]
 fn take<S: TimedSource, K: TimedSink, H: Handler>(
     alloc: Global,
     body: &mut Body<S, K>,
     item: &HeadItem,
     peer: Option<SocketAddr>,
     handler: &mut H,
-) -> Result<(), HandleError> {
+) -> Result<(), HandleError>
+    ensures handled { Notes (H.handled handler.old) (H.handled handler.new) (admitted body.old.judges (item.now ∷ [])) }
+    ensures follows { Follows body.old body.new }
+{
     let doubt = judged(item, body.limits.judges_heads);
     body.begin_request(item.body, doubt.is_some());
-    if let Some(status) = doubt.and_then(|doubt| doubt.status()) {
+    if let Some(status) = refusal(doubt) {
         return Answer::new().empty(body, ResponseHead::new(alloc, status));
     }
     let request = Incoming::new(item, peer, body.moment());
@@ -120,12 +134,26 @@ fn judged(item: &HeadItem, judges_heads: bool) -> Option<HeadDoubt>
     }
 }
 
+// The status of the answer that refuses a head.
+fn refusal(doubt: Option<HeadDoubt>) -> Option<StatusCode>
+    ensures { result ≡ option_and_then status_of doubt }
+{
+    match doubt {
+        Some(doubt) => doubt.status(),
+        None => None,
+    }
+}
+
 // Sees to it that the request is answered once the handler has returned.
+#[tactic(auto, using(crate::proofs::Followed::follows_none, crate::proofs::Followed::follows_then, crate::proofs::Answered::answers_follow, crate::proofs::Answered::answers_then, crate::proofs::Answered::then_answers))]
 fn complete<S: TimedSource, K: TimedSink>(
     alloc: Global,
     body: &mut Body<S, K>,
     handled: Result<(), HandleError>,
-) -> Result<(), HandleError> {
+) -> Result<(), HandleError>
+    ensures follows { Follows body.old body.new }
+    ensures answers { MayAnswer body.old.state → OnOk result (Answers (status_after handled) body.old body.new) }
+{
     let status = match handled {
         Err(error @ (HandleError::Lost | HandleError::Stalled)) => return Err(error),
         Err(HandleError::BrokenBody) => StatusCode::BAD_REQUEST,
