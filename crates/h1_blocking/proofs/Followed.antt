@@ -1,6 +1,6 @@
 -- What is served goes on twice.
 use Rattle.std.specs.Prelude.{◌≡◌, List, [], ◌++◌}
-use Rattle.std.proofs.Common.{refl, sym, ap, ◌∙◌, append_assoc}
+use Rattle.std.proofs.Common.{refl, sym, ap, subst, ◌∙◌, append_assoc}
 use Rattle.h1_model.specs.Sums.{Step}
 use Rattle.h1_blocking.specs.Served.{Line, Base, IsServedBehind, Follows}
 
@@ -15,6 +15,9 @@ behind_then base next before a b x y = record {
 -- nothing has happened
 pub follows_none : (a : Line) → Follows a a
 follows_none a = record { goes = λ base served. record { more = []; served = served; longer = refl } }
+
+pub follows_equal : (a b : Line) → b ≡ a → Follows a b
+follows_equal a b same = subst (λ (l : Line). Follows a l) (sym same) (follows_none a)
 
 pub follows_then : (a b c : Line) → Follows a b → Follows b c → Follows a c
 follows_then a b c first second = record {

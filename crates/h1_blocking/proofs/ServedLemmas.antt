@@ -7,7 +7,7 @@ use Rattle.std.proofs.lemmas.List.{take-append-le}
 use Rattle.h1_model.specs.Event.{Event, Outcome}
 use Rattle.h1_model.specs.Event as on
 use Rattle.h1_model.specs.Request.{Head, Fault}
-use Rattle.h1_model.specs.End.{End}
+use Rattle.h1_model.specs.End as ends
 use Rattle.h1_model.specs.Sums.{Step, step_taken, step_written, taken, written}
 use Rattle.h1_connection.specs.State.{State, Stands, GoesOn, Is, ReadsIn}
 use Rattle.h1_connection.specs.Ticks.{expiry_of}
@@ -18,6 +18,7 @@ use Rattle.h1_payload.specs.declared.pulled.Pulled.{Pulled}
 use Rattle.h1_payload.specs.declared.pulled.Pulled.TheVariants as pulled
 use Rattle.h1_connection.specs.Heads.{SaysNext, with_head}
 use Rattle.h1_connection.specs.Meaning.{end_of, fault_of}
+use Rattle.h1_connection.specs.declared.event.End.{End}
 use Rattle.h1_connection.specs.declared.error.ReadFromError.{ReadFromError}
 use Rattle.h1_connection.specs.declared.error.ReadFromError.TheVariants as read_error
 use Rattle.h1_connection.specs.declared.connection.heads.NextKind.{NextKind}
@@ -243,26 +244,47 @@ fault_moves f o is = subst (λ (o : Outcome). Moves on.next o [] [] []) (sym is)
 pending_moves : (o : Outcome) → o ≡ on.pending → Moves on.next o [] [] []
 pending_moves o is = subst (λ (o : Outcome). Moves on.next o [] [] []) (sym is) (record { takes = refl; writes = refl; hands = refl })
 
-closed_moves : (end : End) (o : Outcome) → o ≡ on.closed end → Moves on.next o [] [] []
+closed_moves : (end : ends.End) (o : Outcome) → o ≡ on.closed end → Moves on.next o [] [] []
 closed_moves end o is = subst (λ (o : Outcome). Moves on.next o [] [] []) (sym is) (record { takes = refl; writes = refl; hands = refl })
 
 pub handed_out : (was old new : Line) (kind : NextKind) (item : HeadItem) → old ≡ was → GoesOn old.state on.next (SaysNext (with_head item kind)) new.state
-    → new.left ≡ old.left → new.given ≡ old.given → new.judges ≡ old.judges → HandsOut was new (Ok kind) item
-handed_out was old new next_kind.Head item seen goes left given judges = subst (λ (l : Line). HandsOutOne l new item) seen (record {
-  goes = λ base served.
-    let (o, says, is, stands) = goes served.trace served.stands in (
-      says.0,
-      says.1,
-      (step_behind base old new on.next o [] [] (says.0 ∷ []) (base.handed ++ (says.0 ∷ [])) served stands (head_moves says.0 o says.2) refl
-          (keeps_left old new left) (keeps_given old new given) judges).0,
-    );
-})
-handed_out was old new (next_kind.Fault fault) item seen goes left given judges =
-    seen_as was old new seen (quietly old new on.next _ goes (fault_moves (fault_of fault)) left given judges)
-handed_out was old new next_kind.Pending item seen goes left given judges = seen_as was old new seen (quietly old new on.next _ goes pending_moves left given judges)
-handed_out was old new (next_kind.Closed end) item seen goes left given judges =
-    seen_adds was old new on.next (on.closed (end_of end)) seen
-    (quietly_adds old new on.next (on.closed (end_of end)) goes (closed_moves (end_of end) _ refl) left given judges)
+    → new.left ≡ old.left → new.given ≡ old.given → new.judges ≡ old.judges → HandsOut was new kind item
+handed_out was old new next_kind.Head item seen goes left given judges = record {
+  head = λ is. subst (λ (l : Line). HandsOutOne l new item) seen (record {
+    goes = λ base served.
+      let (o, says, is, stands) = goes served.trace served.stands in (
+        says.0,
+        says.1,
+        (step_behind base old new on.next o [] [] (says.0 ∷ []) (base.handed ++ (says.0 ∷ [])) served stands (head_moves says.0 o says.2) refl
+            (keeps_left old new left) (keeps_given old new given) judges).0,
+      );
+  });
+  fault = λ f is. absurd (cc is);
+  pending = λ is. absurd (cc is);
+  closed = λ end is. absurd (cc is);
+}
+handed_out was old new (next_kind.Fault fault) item seen goes left given judges = record {
+  head = λ is. absurd (cc is);
+  fault = λ f is. seen_as was old new seen (quietly old new on.next _ goes (fault_moves (fault_of fault)) left given judges);
+  pending = λ is. absurd (cc is);
+  closed = λ end is. absurd (cc is);
+}
+handed_out was old new next_kind.Pending item seen goes left given judges = record {
+  head = λ is. absurd (cc is);
+  fault = λ f is. absurd (cc is);
+  pending = λ is. seen_as was old new seen (quietly old new on.next _ goes pending_moves left given judges);
+  closed = λ end is. absurd (cc is);
+}
+handed_out was old new (next_kind.Closed end) item seen goes left given judges = record {
+  head = λ is. absurd (cc is);
+  fault = λ f is. absurd (cc is);
+  pending = λ is. absurd (cc is);
+  closed = λ e is.
+    let same : end ≡ e = cc is in
+    subst (λ (x : End). Adds on.next (on.closed (end_of x)) was new) same
+    (seen_adds was old new on.next (on.closed (end_of end)) seen
+    (quietly_adds old new on.next (on.closed (end_of end)) goes (closed_moves (end_of end) _ refl) left given judges));
+}
 
 -- the first bytes of a stretch of what waits went into the sink
 pub stretch_written : (old new : Line) (count : ℕ) (front rest waiting : List ℕ) → count ≤ length front → front ++ rest ≡ waiting

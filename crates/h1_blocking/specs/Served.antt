@@ -1,6 +1,6 @@
 -- What a connection that is served stands for: what came out of its source, what went into its sink, which requests were
 -- handed out, and which of them the handler was given.
-use Rattle.std.specs.Prelude.{◌≡◌, ℕ, Bool, true, false, ◌==◌, List, [], ◌∷◌, ◌++◌, if◌then◌else◌, Option, Some, None, is_none, option_and_then, Result, Ok, Err, ⊤}
+use Rattle.std.specs.Prelude.{◌≡◌, ℕ, Bool, true, false, ◌==◌, List, [], ◌∷◌, ◌++◌, if◌then◌else◌, Option, Some, None, is_none, option_and_then, ⊤}
 use Rattle.std.specs.List.{list_any}
 use Rattle.std.specs.Io.KnownBytes.{Consumes, Appends}
 use Rattle.h1_model.specs.Event.{Event, Outcome}
@@ -11,13 +11,13 @@ use Rattle.h1_model.specs.Text.{text}
 use Rattle.h1_connection.specs.Meaning.{setting_of, end_of}
 use Rattle.h1_connection.specs.State.{State, IsAllowed, Stands}
 use Rattle.h1_connection.specs.declared.event.End.{End}
+use Rattle.h1_connection.specs.declared.event.HeadFault.{HeadFault}
 use Rattle.h1_connection.specs.declared.connection.heads.NextKind.{NextKind}
 use Rattle.h1_connection.specs.declared.connection.heads.NextKind.TheVariants as next_kind
 use Rattle.h1_decode.specs.HeadItem.{SaysHead}
 use Rattle.h1_decode.specs.declared.decoder.HeadItem.{HeadItem}
 use Rattle.h1_judge.specs.Judgement.{status_of}
 use Rattle.h1_blocking.specs.Judged.{doubt_if}
-use Rattle.std.specs.declared.alloc.AllocError.{AllocError}
 
 -- a connection, what is left in its source and what its sink was given, where they tell it, and whether heads are judged
 pub record Line : Type 0 where
@@ -114,13 +114,12 @@ pub record HandsOutOne (old new : Line) (item : HeadItem) : Type 0 where
   pub goes : (base : Base) (served : IsServed base old)
       → (h : Head) × SaysHead item h × IsServedBehind (record base { handed = base.handed ++ (h ∷ []) }) served.trace new
 
--- a request, or none; and that the connection has ended where it says so
-abbrev pub HandsOut : Line → Line → Result NextKind AllocError → HeadItem → Type 0
-HandsOut old new (Ok next_kind.Head) item = HandsOutOne old new item
-HandsOut old new (Ok (next_kind.Fault fault)) item = Follows old new
-HandsOut old new (Ok next_kind.Pending) item = Follows old new
-HandsOut old new (Ok (next_kind.Closed end)) item = Adds on.next (on.closed (end_of end)) old new
-HandsOut old new (Err e) item = Follows old new
+-- what was told of the next request: one, or none, or that the connection has ended
+pub record HandsOut (old new : Line) (kind : NextKind) (item : HeadItem) : Type 0 where
+  pub head : kind ≡ next_kind.Head → HandsOutOne old new item
+  pub fault : (f : HeadFault) → kind ≡ next_kind.Fault f → Follows old new
+  pub pending : kind ≡ next_kind.Pending → Follows old new
+  pub closed : (end : End) → kind ≡ next_kind.Closed end → Adds on.next (on.closed (end_of end)) old new
 
 -- the requests that were handed out behind this trace are these, and those of them that aren't refused went to the
 -- handler, once and in order
@@ -141,6 +140,14 @@ pub record Handles (old : Line) (was : Option (List HeadItem)) (new : Line) (now
 pub record IsWritten (state : State) : Type 0 where
   pub all : (trace : List Step) → Stands state trace → written trace ≡ text (setting_of state.settings) trace
 
+-- The connection ended for this reason: that is the last that happened, no request is handed out, and the bytes written are
+-- the text of all answers.
+pub record EndsFor (end : End) (old new : Line) : Type 0 where
+  pub goes : (base : Base) (served : IsServed base old)
+      → (behind : IsServedBehind base served.trace new) × (last : List Step)
+      × (behind.served.trace ≡ record { event = on.next; outcome = on.closed (end_of end) } ∷ last)
+      × (written behind.served.trace ≡ text (setting_of new.state.settings) behind.served.trace)
+
 -- the requests went to the handler; the last that happened is that the connection ended, for this reason; and the bytes
 -- written are the text of all answers
 pub record IsHandledToEnd (base : Base) (before : List Step) (was now : Option (List HeadItem)) (end : End) (line : Line) : Type 0 where
@@ -152,8 +159,3 @@ pub record IsHandledToEnd (base : Base) (before : List Step) (was now : Option (
 -- what is served goes to the handler until its end
 pub record HandlesToEnd (old : Line) (was : Option (List HeadItem)) (end : End) (new : Line) (now : Option (List HeadItem)) : Type 0 where
   pub goes : (base : Base) (served : IsServed base old) → IsHandledToEnd base served.trace was now end new
-
--- to its end, or to an error
-abbrev pub Serves : {E : Type 0} → Line → Option (List HeadItem) → Result End E → Line → Option (List HeadItem) → Type 0
-Serves old was (Ok end) new now = HandlesToEnd old was end new now
-Serves old was (Err e) new now = Handles old was new now

@@ -1,9 +1,9 @@
 //! One connection, served to its end.
-ghost use Rattle.std.specs.Prelude.{◌≡◌, ◌∷◌, [], OnOk, option_and_then};
+ghost use Rattle.std.specs.Prelude.{◌≡◌, ◌∷◌, [], IfOk, IfSome, OnOk, option_and_then};
 ghost use Rattle.h1_decode.specs.declared.decoder.HeadItem.{HeadItem};
 ghost use Rattle.h1_judge.specs.Judgement.{status_of};
 ghost use Rattle.h1_blocking.specs.Judged.{doubt_if, status_after};
-ghost use Rattle.h1_blocking.specs.Served.{Answers, Follows, MayAnswer, Notes, Serves, admitted};
+ghost use Rattle.h1_blocking.specs.Served.{Answers, Follows, Handles, HandlesToEnd, MayAnswer, Notes, admitted};
 
 use crate::{Answer, Body, HandleError, Handler, Incoming, Limits};
 use h1_connection::{End, NextKind};
@@ -42,14 +42,15 @@ pub fn host_stream<R: Clock, H: Handler>(
 
 /// Serves a connection to its end, and says why it ended. Each request goes to the handler, one after the other. All that
 /// waits to be written is written before the end, and where there is an error, as much as the peer takes.
-#[tactic(auto, using(crate::proofs::Followed::follows_none, crate::proofs::Followed::follows_then, crate::proofs::Handled::handles_none, crate::proofs::Handled::handles_then, crate::proofs::Handled::handles_one, crate::proofs::Handled::handles_to_end))]
+#[tactic(auto, using(crate::proofs::Handled::handles_then))]
 pub fn host_connection<S: TimedSource, K: TimedSink, H: Handler>(
     alloc: Global,
     body: &mut Body<S, K>,
     peer: Option<SocketAddr>,
     handler: &mut H,
 ) -> Result<End, HandleError>
-    ensures serves { Serves body.old (H.handled handler.old) result body.new (H.handled handler.new) }
+    ensures handles { Handles body.old (H.handled handler.old) body.new (H.handled handler.new) }
+    ensures ends { IfOk result (λ end. HandlesToEnd body.old (H.handled handler.old) end body.new (H.handled handler.new)) }
 {
     let ended = serve(alloc, body, peer, handler);
     match ended {
@@ -64,39 +65,62 @@ pub fn host_connection<S: TimedSource, K: TimedSink, H: Handler>(
 }
 
 // Serves a connection to its end, or to the first error.
-#[tactic(auto, using(crate::proofs::Followed::follows_none, crate::proofs::Followed::follows_then, crate::proofs::Handled::handles_none, crate::proofs::Handled::handles_then, crate::proofs::Handled::handles_one, crate::proofs::Handled::handles_to_end))]
+#[tactic(auto, using(crate::proofs::Handled::handles_then))]
 fn serve<S: TimedSource, K: TimedSink, H: Handler>(
     alloc: Global,
     body: &mut Body<S, K>,
     peer: Option<SocketAddr>,
     handler: &mut H,
 ) -> Result<End, HandleError>
-    ensures serves { Serves body.old (H.handled handler.old) result body.new (H.handled handler.new) }
+    ensures handles { Handles body.old (H.handled handler.old) body.new (H.handled handler.new) }
+    ensures ends { IfOk result (λ end. HandlesToEnd body.old (H.handled handler.old) end body.new (H.handled handler.new)) }
 {
     let mut item = HeadItem::new(alloc);
     let mut room = HeadRoom::new();
     body.tick()?;
     for _ in 0..u64::MAX {
-        body.flush_if_due()?;
-        if !body.connection.can_next() {
-            return Err(HandleError::Misplaced);
-        }
-        match body.next_head(&mut item, &mut room)? {
-            NextKind::Head => take(alloc, body, &item, peer, handler)?,
-            NextKind::Pending => {
-                body.flush()?;
-                let _came = body.fill()?;
-            }
-            // The answer that says so waits to be written.
-            NextKind::Fault(_) => {}
-            NextKind::Closed(end) if body.has_written_all() => return Ok(end),
-            NextKind::Closed(_) => return Err(HandleError::Misplaced),
+        if let Some(end) = turn(alloc, body, &mut item, &mut room, peer, handler)? {
+            return Ok(end);
         }
         if handler.is_ending() && body.connection.can_drain() {
             body.drain();
         }
     }
     Err(HandleError::Stalled)
+}
+
+// Asks for the next request, and takes it; or waits until more has come. It says why the connection has ended, where it
+// has.
+fn turn<S: TimedSource, K: TimedSink, H: Handler>(
+    alloc: Global,
+    body: &mut Body<S, K>,
+    item: &mut HeadItem,
+    room: &mut HeadRoom,
+    peer: Option<SocketAddr>,
+    handler: &mut H,
+) -> Result<Option<End>, HandleError>
+    ensures handles { Handles body.old (H.handled handler.old) body.new (H.handled handler.new) }
+    ensures ends { IfOk result (λ ended. IfSome ended (λ end. HandlesToEnd body.old (H.handled handler.old) end body.new (H.handled handler.new))) }
+{
+    body.flush_if_due()?;
+    if !body.connection.can_next() {
+        return Err(HandleError::Misplaced);
+    }
+    match body.next_head(item, room)? {
+        NextKind::Head => {
+            take(alloc, body, item, peer, handler)?;
+            Ok(None)
+        }
+        NextKind::Pending => {
+            body.flush()?;
+            let _came = body.fill()?;
+            Ok(None)
+        }
+        // The answer that says so waits to be written.
+        NextKind::Fault(_) => Ok(None),
+        NextKind::Closed(end) if body.has_written_all() => Ok(Some(end)),
+        NextKind::Closed(_) => Err(HandleError::Misplaced),
+    }
 }
 
 // Takes a request that was handed out: it goes to the handler, and is answered; or where its head is refused, it is

@@ -57,7 +57,8 @@ impl<S: TimedSource, K: TimedSink> Body<S, K> {
         room: &mut HeadRoom,
     ) -> Result<NextKind, NoMemory>
         requires can_next { IsNextAllowed self.old.state }
-        ensures hands_out { HandsOut self.old self.new result item.new }
+        ensures hands_out { IfOk result (λ kind. HandsOut self.old self.new kind item.new) }
+        ensures err { OnErr result (self.new ≡ self.old) }
     {
         let kind = self.connection.next_into(item, room)?;
         Ok(kind)

@@ -1,4 +1,4 @@
-use Rattle.std.proofs.Common.{refl, ap}
+use Rattle.std.proofs.Common.{Err, refl, ap}
 use Rattle.h1_blocking.proofs.ServedLemmas.{read_in, seen_as, failed, kept_left, keeps_equal}
 use Rattle.h1_blocking.proofs.body.Body.read_bytes.Goals as goal
 
@@ -10,5 +10,5 @@ returns-clause-follows g c =
 pub returns-in_err-count-clause-follows : goal.returns-in_err-count-clause-follows
 returns-in_err-count-clause-follows g c =
     failed _ _ _ c.self.view_is c.in_err-count.ensures.err
-    (kept_left _ _ _ c.in_err-count.ensures.left (λ other. ap g.S.Source.left (c.in_err-count.ensures.unasked other)))
+    (kept_left _ _ _ (λ is. c.in_err-count.ensures.left (ap Err is)) (λ other. ap g.S.Source.left (c.in_err-count.ensures.unasked other)))
     (keeps_equal _ _ refl) refl
