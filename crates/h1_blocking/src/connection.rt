@@ -82,9 +82,7 @@ fn serve<S: TimedSource, K: TimedSink, H: Handler>(
         if let Some(end) = turn(alloc, body, &mut item, &mut room, peer, handler)? {
             return Ok(end);
         }
-        if handler.is_ending() && body.connection.can_drain() {
-            body.drain();
-        }
+        body.drain_where(handler.is_ending());
     }
     Err(HandleError::Stalled)
 }

@@ -113,6 +113,16 @@ impl<S: TimedSource, K: TimedSink> Body<S, K> {
         !self.connection.stretch().is_empty() && self.connection.can_write()
     }
 
+    /// Where the server is to end, no further request is taken.
+    #[tactic(auto, using(crate::proofs::Followed::follows_none, crate::proofs::Followed::follows_then))]
+    pub(crate) fn drain_where(&mut self, is_ending: bool)
+        ensures follows { Follows self.old self.new }
+    {
+        if is_ending && self.connection.can_drain() {
+            self.drain();
+        }
+    }
+
     /// Whether all that was to be written was written.
     pub(crate) fn has_written_all(&self) -> bool
         ensures { IsTrue result → IsWritten self.now.state }
