@@ -34,8 +34,8 @@ any_second p (x ∷ xs) ys is = or_second (p x) (list_any p (xs ++ ys)) (any_sec
 pub answered_here : (a b : Line) (head : AnswerHead) (size : BodySize) (o : Outcome) → Adds (on.answer head size) o a b → Answers head.status a b
 answered_here a b head size o adds = record {
   goes = λ base served.
-    let (behind, is) = adds.goes base served in
-    (behind, ap (λ (m : List Step). list_any (λ s. answers_with head.status s.event) m) is ∙ or_first _ _ (eq-eqb head.status head.status refl));
+      let (behind, is) = adds.goes base served in
+      (behind, ap (λ (m : List Step). list_any (λ s. answers_with head.status s.event) m) is ∙ or_first _ _ (eq-eqb head.status head.status refl));
 }
 
 pub answers_follow : (status : ℕ) (a b : Line) → Answers status a b → Follows a b
@@ -44,15 +44,15 @@ answers_follow status a b answers = record { goes = λ base served. (answers.goe
 pub answers_then : (status : ℕ) (a b c : Line) → Answers status a b → Follows b c → Answers status a c
 answers_then status a b c answers follows = record {
   goes = λ base served.
-    let x = answers.goes base served in
-    let y = follows.goes base x.0.served in
-    (behind_then base base served.trace b c x.0 y, any_second (λ s. answers_with status s.event) y.more x.0.more x.1);
+      let x = answers.goes base served in
+      let y = follows.goes base x.0.served in
+      (behind_then base base served.trace b c x.0 y, any_second (λ s. answers_with status s.event) y.more x.0.more x.1);
 }
 
 pub then_answers : (status : ℕ) (a b c : Line) → Follows a b → Answers status b c → Answers status a c
 then_answers status a b c follows answers = record {
   goes = λ base served.
-    let x = follows.goes base served in
-    let y = answers.goes base x.served in
-    (behind_then base base served.trace b c x y.0, any_first (λ s. answers_with status s.event) y.0.more x.more y.1);
+      let x = follows.goes base served in
+      let y = answers.goes base x.served in
+      (behind_then base base served.trace b c x y.0, any_first (λ s. answers_with status s.event) y.0.more x.more y.1);
 }

@@ -80,15 +80,15 @@ handles_follow a b was follows = record {
 pub handles_then : (a b c : Line) (was now : Option (List HeadItem)) → Handles a was b now → Follows b c → Handles a was c now
 handles_then a b c was now handles follows = record {
   goes = λ base served.
-    let x = handles.goes base served in
-    let y = follows.goes (record base { handed = base.handed ++ x.heads }) x.behind.served in
-    record {
-      heads = x.heads;
-      items = x.items;
-      said = x.said;
-      noted = x.noted;
-      behind = behind_then _ _ served.trace b c x.behind y;
-    };
+      let x = handles.goes base served in
+      let y = follows.goes (record base { handed = base.handed ++ x.heads }) x.behind.served in
+      record {
+        heads = x.heads;
+        items = x.items;
+        said = x.said;
+        noted = x.noted;
+        behind = behind_then _ _ served.trace b c x.behind y;
+      };
 }
 
 -- one request
@@ -96,14 +96,14 @@ pub handles_one : (a b c : Line) (was now : Option (List HeadItem)) (item : Head
     → Notes was now (admitted b.judges (item ∷ [])) → Follows b c → Handles a was c now
 handles_one a b c was now item one noted follows = record {
   goes = λ base served.
-    let (h, says, y) = one.goes base served in
-    record {
-      heads = h ∷ [];
-      items = item ∷ [];
-      said = (says, tt);
-      noted = subst (λ (j : Bool). Notes was now (admitted j (item ∷ []))) y.served.judges noted;
-      behind = behind_then _ _ served.trace b c y (follows.goes (record base { handed = base.handed ++ (h ∷ []) }) y.served);
-    };
+      let (h, says, y) = one.goes base served in
+      record {
+        heads = h ∷ [];
+        items = item ∷ [];
+        said = (says, tt);
+        noted = subst (λ (j : Bool). Notes was now (admitted j (item ∷ []))) y.served.judges noted;
+        behind = behind_then _ _ served.trace b c y (follows.goes (record base { handed = base.handed ++ (h ∷ []) }) y.served);
+      };
 }
 
 -- the same requests, in another list
@@ -138,8 +138,8 @@ handled_both base before b c was mid now x y = record {
 pub handles_both : (a b c : Line) (was mid now : Option (List HeadItem)) → Handles a was b mid → Handles b mid c now → Handles a was c now
 handles_both a b c was mid now first second = record {
   goes = λ base served.
-    let x = first.goes base served in
-    handled_both base served.trace b c was mid now x (second.goes (record base { handed = base.handed ++ x.heads }) x.behind.served);
+      let x = first.goes base served in
+      handled_both base served.trace b c was mid now x (second.goes (record base { handed = base.handed ++ x.heads }) x.behind.served);
 }
 
 -- ---- the end
@@ -151,38 +151,38 @@ adds_follow e o a b adds = record { goes = λ base served. (adds.goes base serve
 pub ends_here : (a b : Line) (end : End) → Adds on.next (on.closed (end_of end)) a b → IsWritten b.state → EndsFor end a b
 ends_here a b end adds all = record {
   goes = λ base served.
-    let (y, is) = adds.goes base served in (
-      y,
-      served.trace,
-      y.longer ∙ ap (λ (l : List Step). l ++ served.trace) is,
-      all.all y.served.trace y.served.stands,
-    );
+      let (y, is) = adds.goes base served in (
+        y,
+        served.trace,
+        y.longer ∙ ap (λ (l : List Step). l ++ served.trace) is,
+        all.all y.served.trace y.served.stands,
+      );
 }
 
 pub to_its_end : (a b c : Line) (was now : Option (List HeadItem)) (end : End) → Handles a was b now → EndsFor end b c → HandlesToEnd a was end c now
 to_its_end a b c was now end handles ends = record {
   goes = λ base served.
-    let x = handles.goes base served in
-    let (y, last, is, all) = ends.goes (record base { handed = base.handed ++ x.heads }) x.behind.served in
-    record {
-      handled = record { heads = x.heads; items = x.items; said = x.said; noted = x.noted; behind = behind_then _ _ served.trace b c x.behind y };
-      last = last;
-      ended = is;
-      all_written = all;
-    };
+      let x = handles.goes base served in
+      let (y, last, is, all) = ends.goes (record base { handed = base.handed ++ x.heads }) x.behind.served in
+      record {
+        handled = record { heads = x.heads; items = x.items; said = x.said; noted = x.noted; behind = behind_then _ _ served.trace b c x.behind y };
+        last = last;
+        ended = is;
+        all_written = all;
+      };
 }
 
 pub both_to_end : (a b c : Line) (was mid now : Option (List HeadItem)) (end : End) → Handles a was b mid → HandlesToEnd b mid end c now → HandlesToEnd a was end c now
 both_to_end a b c was mid now end first second = record {
   goes = λ base served.
-    let x = first.goes base served in
-    let y = second.goes (record base { handed = base.handed ++ x.heads }) x.behind.served in
-    record {
-      handled = handled_both base served.trace b c was mid now x y.handled;
-      last = y.last;
-      ended = y.ended;
-      all_written = y.all_written;
-    };
+      let x = first.goes base served in
+      let y = second.goes (record base { handed = base.handed ++ x.heads }) x.behind.served in
+      record {
+        handled = handled_both base served.trace b c was mid now x y.handled;
+        last = y.last;
+        ended = y.ended;
+        all_written = y.all_written;
+      };
 }
 
 pub at_some : (P : End → Type 0) (o : Option End) (e : End) → o ≡ Some e → IfSome o P → P e

@@ -69,11 +69,11 @@ keeps_equal None b same = tt
 keeps_equal (Some ps) None same = absurd (cc same)
 keeps_equal (Some ps) (Some qs) same = sym (cc same)
 
-same_left : (a : Option (List ℕ)) → Consumes a a []
+pub same_left : (a : Option (List ℕ)) → Consumes a a []
 same_left None = tt
 same_left (Some ps) = refl
 
-same_given : (a : Option (List ℕ)) → Appends a a []
+pub same_given : (a : Option (List ℕ)) → Appends a a []
 same_given None = tt
 same_given (Some ps) = sym (append-nil ps)
 
@@ -90,20 +90,23 @@ pub step_behind : (base : Base) (old new : Line) (e : Event) (o : Outcome) (came
     → Stands new.state (record { event = e; outcome = o } ∷ served.trace) → Moves e o came went hs → base.handed ++ hs ≡ next
     → Consumes old.left new.left came → Appends old.given new.given went → new.judges ≡ old.judges
     → (behind : IsServedBehind (record base { handed = next }) served.trace new) × (behind.more ≡ record { event = e; outcome = o } ∷ [])
-step_behind base old new e o came went hs next served stands m is lost got judges = (record {
-  more = record { event = e; outcome = o } ∷ [];
-  served = record {
-    trace = record { event = e; outcome = o } ∷ served.trace;
-    stands = stands;
-    came = subst (λ (l : List ℕ). Consumes base.left new.left l) (ap (λ (l : List ℕ). taken served.trace ++ l) (sym m.takes) ∙ sym (taken_behind e o served.trace))
-        (consumes_more _ _ _ _ _ served.came lost);
-    went = subst (λ (l : List ℕ). Appends base.given new.given l) (ap (λ (l : List ℕ). written served.trace ++ l) (sym m.writes) ∙ sym (written_behind e o served.trace))
-        (appends_more _ _ _ _ _ served.went got);
-    handed = heads_behind e o served.trace ∙ ap (λ (l : List Head). l ++ head_in o) served.handed ∙ ap (λ (l : List Head). base.handed ++ l) m.hands ∙ is;
-    judges = judges ∙ served.judges;
-  };
-  longer = refl;
-}, refl)
+step_behind base old new e o came went hs next served stands m is lost got judges = (
+  record {
+    more = record { event = e; outcome = o } ∷ [];
+    served = record {
+      trace = record { event = e; outcome = o } ∷ served.trace;
+      stands = stands;
+      came = subst (λ (l : List ℕ). Consumes base.left new.left l) (ap (λ (l : List ℕ). taken served.trace ++ l) (sym m.takes) ∙ sym (taken_behind e o served.trace))
+          (consumes_more _ _ _ _ _ served.came lost);
+      went = subst (λ (l : List ℕ). Appends base.given new.given l) (ap (λ (l : List ℕ). written served.trace ++ l) (sym m.writes) ∙ sym (written_behind e o served.trace))
+          (appends_more _ _ _ _ _ served.went got);
+      handed = heads_behind e o served.trace ∙ ap (λ (l : List Head). l ++ head_in o) served.handed ∙ ap (λ (l : List Head). base.handed ++ l) m.hands ∙ is;
+      judges = judges ∙ served.judges;
+    };
+    longer = refl;
+  },
+  refl,
+)
 
 keeps_left : (old new : Line) → new.left ≡ old.left → Consumes old.left new.left []
 keeps_left old new left = subst (λ (l : Option (List ℕ)). Consumes old.left l []) (sym left) (same_left old.left)
@@ -117,8 +120,8 @@ pub followed_by : (old new : Line) (e : Event) (Says : Outcome → Type 0) (came
     → Follows old new
 followed_by old new e Says came went goes moves lost got judges = record {
   goes = λ base served.
-    let (o, says, is, stands) = goes served.trace served.stands in
-    (step_behind base old new e o came went [] base.handed served stands (moves o says) (append-nil base.handed) lost got judges).0;
+      let (o, says, is, stands) = goes served.trace served.stands in
+      (step_behind base old new e o came went [] base.handed served stands (moves o says) (append-nil base.handed) lost got judges).0;
 }
 
 -- an event that neither takes nor writes bytes, nor hands out a request
@@ -132,10 +135,10 @@ pub quietly_adds : (old new : Line) (e : Event) (o : Outcome) → GoesOn old.sta
     → new.left ≡ old.left → new.given ≡ old.given → new.judges ≡ old.judges → Adds e o old new
 quietly_adds old new e o goes moves left given judges = record {
   goes = λ base served.
-    let (out, says, is, stands) = goes served.trace served.stands in
-    step_behind base old new e o [] [] [] base.handed served
-    (subst (λ (x : Outcome). Stands new.state (record { event = e; outcome = x } ∷ served.trace)) says stands)
-    moves (append-nil base.handed) (keeps_left old new left) (keeps_given old new given) judges;
+      let (out, says, is, stands) = goes served.trace served.stands in
+      step_behind base old new e o [] [] [] base.handed served
+      (subst (λ (x : Outcome). Stands new.state (record { event = e; outcome = x } ∷ served.trace)) says stands)
+      moves (append-nil base.handed) (keeps_left old new left) (keeps_given old new given) judges;
 }
 
 -- ---- what each event moves
@@ -252,12 +255,12 @@ pub handed_out : (was old new : Line) (kind : NextKind) (item : HeadItem) → ol
 handed_out was old new next_kind.Head item seen goes left given judges = record {
   head = λ is. subst (λ (l : Line). HandsOutOne l new item) seen (record {
     goes = λ base served.
-      let (o, says, is, stands) = goes served.trace served.stands in (
-        says.0,
-        says.1,
-        (step_behind base old new on.next o [] [] (says.0 ∷ []) (base.handed ++ (says.0 ∷ [])) served stands (head_moves says.0 o says.2) refl
-            (keeps_left old new left) (keeps_given old new given) judges).0,
-      );
+        let (o, says, is, stands) = goes served.trace served.stands in (
+          says.0,
+          says.1,
+          (step_behind base old new on.next o [] [] (says.0 ∷ []) (base.handed ++ (says.0 ∷ [])) served stands (head_moves says.0 o says.2) refl
+              (keeps_left old new left) (keeps_given old new given) judges).0,
+        );
   });
   fault = λ f is. absurd (cc is);
   pending = λ is. absurd (cc is);
@@ -280,10 +283,10 @@ handed_out was old new (next_kind.Closed end) item seen goes left given judges =
   fault = λ f is. absurd (cc is);
   pending = λ is. absurd (cc is);
   closed = λ e is.
-    let same : end ≡ e = cc is in
-    subst (λ (x : End). Adds on.next (on.closed (end_of x)) was new) same
-    (seen_adds was old new on.next (on.closed (end_of end)) seen
-    (quietly_adds old new on.next (on.closed (end_of end)) goes (closed_moves (end_of end) _ refl) left given judges));
+      let same : end ≡ e = cc is in
+      subst (λ (x : End). Adds on.next (on.closed (end_of x)) was new) same
+      (seen_adds was old new on.next (on.closed (end_of end)) seen
+      (quietly_adds old new on.next (on.closed (end_of end)) goes (closed_moves (end_of end) _ refl) left given judges));
 }
 
 -- the first bytes of a stretch of what waits went into the sink

@@ -15,7 +15,7 @@ none_left (x ∷ l) is = absurd (cc is)
 pub all_is_written : (state : State) → ((trace : List Step) → Stands state trace → 0 ≡ length (buffered (setting_of state.settings) trace)) → IsWritten state
 all_is_written state none = record {
   all = λ trace stands.
-    sym (append-nil (written trace))
-    ∙ ap (λ (l : List ℕ). written trace ++ l) (sym (none_left _ (none trace stands)))
-    ∙ written_buffered (setting_of state.settings) trace stands.traced;
+      sym (append-nil (written trace))
+      ∙ ap (λ (l : List ℕ). written trace ++ l) (sym (none_left _ (none trace stands)))
+      ∙ written_buffered (setting_of state.settings) trace stands.traced;
 }

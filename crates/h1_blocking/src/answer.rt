@@ -143,10 +143,7 @@ impl Writer {
 
     /// The body is whole.
     #[tactic(auto, using(crate::proofs::Followed::follows_none, crate::proofs::Followed::follows_then))]
-    pub fn end<S: TimedSource, K: TimedSink>(
-        self,
-        body: &mut Body<S, K>,
-    ) -> Result<(), HandleError>
+    pub fn end<S: TimedSource, K: TimedSink>(self, body: &mut Body<S, K>) -> Result<(), HandleError>
         ensures follows { Follows body.old body.new }
     {
         let Writer { _open: () } = self;

@@ -71,6 +71,7 @@ impl<S: TimedSource, K: TimedSink> Model for Body<S, K> {
 
 impl<S: TimedSource, K: TimedSink> Body<S, K> {
     /// A connection over this source and this sink, to which nothing has come yet.
+    #[tactic(auto, using(crate::proofs::Began::begins))]
     pub fn new(
         alloc: Global,
         config: ServiceConfig,

@@ -9,9 +9,9 @@ loop-preserved g c =
     let start = c.args.self.now in
     let pulled : Follows start c.pull.new.self = follows_then _ _ _ c.loop.invariant.follows c.in_ok-bytes.ensures.follows in
     elim c.match-branch-2.branch [
-      in-Bytes+else-count-left+in-Some-1 w ↦ record { follows = subst (λ (l : Line). Follows start l) (sym w.self-is) pulled }
-    | in-Bytes+else-count-left+in-None-1 w ↦ record { follows = subst (λ (l : Line). Follows start l) (sym w.self-is) pulled }
-    | in-Pending+else-count-self+else-time_since-ge-PATIENCE+in_ok-flush-in-Pending+in_ok-fill-in-Pending+else-not-branch w ↦ record {
+      | in-Bytes+else-count-left+in-Some-1 w ↦ record { follows = subst (λ (l : Line). Follows start l) (sym w.self-is) pulled }
+      | in-Bytes+else-count-left+in-None-1 w ↦ record { follows = subst (λ (l : Line). Follows start l) (sym w.self-is) pulled }
+      | in-Pending+else-count-self+else-time_since-ge-PATIENCE+in_ok-flush-in-Pending+in_ok-fill-in-Pending+else-not-branch w ↦ record {
         follows = subst (λ (l : Line). Follows start l) (sym w.self-is)
             (follows_then _ _ _ (follows_then _ _ _ pulled w.in_ok-flush-in-Pending.ensures.follows) w.in_ok-fill-in-Pending.ensures.follows);
       }
