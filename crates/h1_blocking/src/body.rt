@@ -71,7 +71,6 @@ impl<S: TimedSource, K: TimedSink> Model for Body<S, K> {
 
 impl<S: TimedSource, K: TimedSink> Body<S, K> {
     /// A connection over this source and this sink, to which nothing has come yet.
-    #[tactic(auto, using(crate::proofs::Began::begins))]
     pub fn new(
         alloc: Global,
         config: ServiceConfig,
@@ -82,9 +81,10 @@ impl<S: TimedSource, K: TimedSink> Body<S, K> {
         ensures value { result ≡ record { state = fresh_state config; left = S.left source; given = K.given sink; judges = limits.judges_heads } }
         ensures begins { IsServed (record { left = S.left source; given = K.given sink; judges = limits.judges_heads; handed = [] }) result }
     {
+        let connection = Connection::new(alloc, config);
         let start = Start::of(&source);
         Body {
-            connection: Connection::new(alloc, config),
+            connection,
             source,
             sink,
             limits,
