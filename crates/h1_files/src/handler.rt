@@ -1,6 +1,6 @@
 //! What is answered to which request.
-ghost use Rattle.std.specs.Prelude.{None, ◌∷◌, []};
-ghost use Rattle.h1_blocking.specs.Served.{Follows, Notes};
+ghost use Rattle.std.specs.Prelude.{None};
+ghost use Rattle.h1_blocking.specs.Served.{Follows};
 
 use crate::found::{Found, Unlisted, entries, is_file, look, open};
 use crate::reply::{Sent, add, add_range, file_head, page_head};
@@ -274,7 +274,7 @@ impl FileHandler {
         let mut left = if is_head { 0 } else { length };
         for _ in 0..length {
             if left == 0 {
-                break;
+                return writer.end(body);
             }
             let limit = usize::try_from(left)
                 .unwrap_or(usize::MAX)

@@ -1,6 +1,6 @@
 //! What is answered to which request.
-ghost use Rattle.std.specs.Prelude.{None, ◌∷◌, []};
-ghost use Rattle.h1_blocking.specs.Served.{Follows, Notes};
+ghost use Rattle.std.specs.Prelude.{None};
+ghost use Rattle.h1_blocking.specs.Served.{Follows};
 
 use h1_blocking::{Answer, Body, HandleError, Handler, Handlers, Incoming, Piece};
 use h1_net::{TimedSink, TimedSource};
@@ -87,7 +87,7 @@ fn echo<S: TimedSource, K: TimedSink>(
     for _ in 0..u64::MAX {
         match body.read() {
             Ok(Piece::Bytes(bytes)) => writer = writer.write(body, bytes.as_slice())?,
-            Ok(Piece::Trailers(_) | Piece::End) => break,
+            Ok(Piece::Trailers(_) | Piece::End) => return writer.end(body),
             Err(error) => {
                 writer.fail(body);
                 return Err(error);
