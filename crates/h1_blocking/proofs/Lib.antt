@@ -1,1 +1,6 @@
-mod ServedLemmas
+pub mod Answered
+pub mod Began
+pub mod Followed
+pub mod Handled
+pub mod ServedLemmas
+pub mod Written

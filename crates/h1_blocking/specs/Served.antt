@@ -1,23 +1,30 @@
--- What a connection that is served stands for: what came out of its source, what went into its sink, and which requests
--- were handed out.
-use Rattle.std.specs.Prelude.{◌≡◌, ℕ, List, [], ◌∷◌, ◌++◌, Option, Some, None, Result, Ok, Err, ⊤}
+-- What a connection that is served stands for: what came out of its source, what went into its sink, which requests were
+-- handed out, and which of them the handler was given.
+use Rattle.std.specs.Prelude.{◌≡◌, ℕ, Bool, true, false, ◌==◌, List, [], ◌∷◌, ◌++◌, if◌then◌else◌, Option, Some, None, is_none, option_and_then, ⊤}
+use Rattle.std.specs.List.{list_any}
 use Rattle.std.specs.Io.KnownBytes.{Consumes, Appends}
 use Rattle.h1_model.specs.Event.{Event, Outcome}
 use Rattle.h1_model.specs.Event as on
 use Rattle.h1_model.specs.Request.{Head}
 use Rattle.h1_model.specs.Sums.{Step, taken, written}
-use Rattle.h1_connection.specs.State.{State, Stands}
+use Rattle.h1_model.specs.Text.{text}
+use Rattle.h1_connection.specs.Meaning.{setting_of, end_of}
+use Rattle.h1_connection.specs.State.{State, IsAllowed, Stands}
+use Rattle.h1_connection.specs.declared.event.End.{End}
+use Rattle.h1_connection.specs.declared.event.HeadFault.{HeadFault}
 use Rattle.h1_connection.specs.declared.connection.heads.NextKind.{NextKind}
 use Rattle.h1_connection.specs.declared.connection.heads.NextKind.TheVariants as next_kind
 use Rattle.h1_decode.specs.HeadItem.{SaysHead}
 use Rattle.h1_decode.specs.declared.decoder.HeadItem.{HeadItem}
-use Rattle.std.specs.declared.alloc.AllocError.{AllocError}
+use Rattle.h1_judge.specs.Judgement.{status_of}
+use Rattle.h1_blocking.specs.Judged.{doubt_if}
 
--- a connection, what is left in its source and what its sink was given, where they tell it
+-- a connection, what is left in its source and what its sink was given, where they tell it, and whether heads are judged
 pub record Line : Type 0 where
   pub state : State
   pub left : Option (List ℕ)
   pub given : Option (List ℕ)
+  pub judges : Bool
 
 abbrev pub head_in : Outcome → List Head
 head_in (on.head h) = h ∷ []
@@ -32,6 +39,7 @@ heads (s ∷ before) = heads before ++ head_in s.outcome
 pub record Base : Type 0 where
   pub left : Option (List ℕ)
   pub given : Option (List ℕ)
+  pub judges : Bool
   pub handed : List Head
 
 -- There is a trace of the connection's whose bytes taken are those that came out of the source, whose bytes written are
@@ -42,10 +50,40 @@ pub record IsServed (base : Base) (line : Line) : Type 0 where
   pub came : Consumes base.left line.left (taken trace)
   pub went : Appends base.given line.given (written trace)
   pub handed : heads trace ≡ base.handed
+  pub judges : line.judges ≡ base.judges
+
+-- it is served behind this trace: its own is that one, and then these steps
+pub record IsServedBehind (base : Base) (before : List Step) (line : Line) : Type 0 where
+  pub more : List Step
+  pub served : IsServed base line
+  pub longer : served.trace ≡ more ++ before
 
 -- what is served goes on, and no request is handed out
-abbrev pub Follows : Line → Line → Type 0
-Follows old new = (base : Base) → IsServed base old → IsServed base new
+pub record Follows (old new : Line) : Type 0 where
+  pub goes : (base : Base) (served : IsServed base old) → IsServedBehind base served.trace new
+
+-- ---- one event
+
+-- this event came, with this outcome, and nothing else
+pub record Adds (event : Event) (outcome : Outcome) (old new : Line) : Type 0 where
+  pub goes : (base : Base) (served : IsServed base old)
+      → (behind : IsServedBehind base served.trace new) × (behind.more ≡ record { event = event; outcome = outcome } ∷ [])
+
+-- ---- answers
+
+-- the open request may be answered, by whatever head and body
+abbrev pub MayAnswer : State → Type 0
+MayAnswer state = (head : _) (size : _) → IsAllowed state (on.answer head size)
+
+-- an answer with this status was begun
+abbrev pub answers_with : ℕ → Event → Bool
+answers_with status (on.answer head size) = head.status == status
+answers_with status _ = false
+
+-- what is served goes on, no request is handed out, and an answer with this status is begun
+pub record Answers (status : ℕ) (old new : Line) : Type 0 where
+  pub goes : (base : Base) (served : IsServed base old)
+      → (behind : IsServedBehind base served.trace new) × (list_any (λ s. answers_with status s.event) behind.more ≡ true)
 
 -- ---- requests
 
@@ -56,33 +94,68 @@ SayHeads [] (h ∷ hs) = ⊥
 SayHeads (item ∷ items) [] = ⊥
 SayHeads (item ∷ items) (h ∷ hs) = SaysHead item h × SayHeads items hs
 
--- what a handler was handed, where it tells it, grew by these
+-- what a handler was given, where it tells it, grew by these
 abbrev pub Notes : Option (List HeadItem) → Option (List HeadItem) → List HeadItem → Type 0
 Notes None now items = ⊤
 Notes (Some was) None items = ⊥
 Notes (Some was) (Some now) items = now ≡ was ++ items
 
+-- no doubt refuses the head, or heads aren't judged
+abbrev pub is_admitted : Bool → HeadItem → Bool
+is_admitted judges item = is_none (option_and_then status_of (doubt_if judges item))
+
+-- the requests that go to the handler: all whose heads aren't refused, in order
+abbrev pub admitted : Bool → List HeadItem → List HeadItem
+admitted judges [] = []
+admitted judges (item ∷ items) = if is_admitted judges item then item ∷ admitted judges items else admitted judges items
+
 -- the item says a head, which is handed out behind the others
-abbrev pub HandsOutOne : Line → Line → HeadItem → Type 0
-HandsOutOne old new item =
-    (base : Base) → IsServed base old → (h : Head) × SaysHead item h × IsServed (record base { handed = base.handed ++ (h ∷ []) }) new
+pub record HandsOutOne (old new : Line) (item : HeadItem) : Type 0 where
+  pub goes : (base : Base) (served : IsServed base old)
+      → (h : Head) × SaysHead item h × IsServedBehind (record base { handed = base.handed ++ (h ∷ []) }) served.trace new
 
--- a request, or none and all that waited is written where the connection has ended
-abbrev pub HandsOut : Line → Line → Result NextKind AllocError → HeadItem → Type 0
-HandsOut old new (Ok next_kind.Head) item = HandsOutOne old new item
-HandsOut old new (Ok (next_kind.Fault fault)) item = Follows old new
-HandsOut old new (Ok next_kind.Pending) item = Follows old new
-HandsOut old new (Ok (next_kind.Closed end)) item = Follows old new
-HandsOut old new (Err e) item = Follows old new
+-- what was told of the next request: one, or none, or that the connection has ended
+pub record HandsOut (old new : Line) (kind : NextKind) (item : HeadItem) : Type 0 where
+  pub head : kind ≡ next_kind.Head → HandsOutOne old new item
+  pub fault : (f : HeadFault) → kind ≡ next_kind.Fault f → Follows old new
+  pub pending : kind ≡ next_kind.Pending → Follows old new
+  pub closed : (end : End) → kind ≡ next_kind.Closed end → Adds on.next (on.closed (end_of end)) old new
 
--- the requests that a handler was handed are those that were handed out
-pub record IsHandled (base : Base) (was now : Option (List HeadItem)) (line : Line) : Type 0 where
+-- the requests that were handed out behind this trace are these, and those of them that aren't refused went to the
+-- handler, once and in order
+pub record IsHandled (base : Base) (before : List Step) (was now : Option (List HeadItem)) (line : Line) : Type 0 where
   pub heads : List Head
   pub items : List HeadItem
   pub said : SayHeads items heads
-  pub noted : Notes was now items
-  pub served : IsServed (record base { handed = base.handed ++ heads }) line
+  pub noted : Notes was now (admitted base.judges items)
+  pub behind : IsServedBehind (record base { handed = base.handed ++ heads }) before line
 
--- each request that is handed out goes to the handler, once and in order
-abbrev pub Handles : Line → Option (List HeadItem) → Line → Option (List HeadItem) → Type 0
-Handles old was new now = (base : Base) → IsServed base old → IsHandled base was now new
+-- each request that is handed out and isn't refused goes to the handler, once and in order
+pub record Handles (old : Line) (was : Option (List HeadItem)) (new : Line) (now : Option (List HeadItem)) : Type 0 where
+  pub goes : (base : Base) (served : IsServed base old) → IsHandled base served.trace was now new
+
+-- ---- the end
+
+-- of each trace that the connection stands for, all that was to be written was written
+pub record IsWritten (state : State) : Type 0 where
+  pub all : (trace : List Step) → Stands state trace → written trace ≡ text (setting_of state.settings) trace
+
+-- The connection ended for this reason: that is the last that happened, no request is handed out, and the bytes written are
+-- the text of all answers.
+pub record EndsFor (end : End) (old new : Line) : Type 0 where
+  pub goes : (base : Base) (served : IsServed base old)
+      → (behind : IsServedBehind base served.trace new) × (last : List Step)
+      × (behind.served.trace ≡ record { event = on.next; outcome = on.closed (end_of end) } ∷ last)
+      × (written behind.served.trace ≡ text (setting_of new.state.settings) behind.served.trace)
+
+-- the requests went to the handler; the last that happened is that the connection ended, for this reason; and the bytes
+-- written are the text of all answers
+pub record IsHandledToEnd (base : Base) (before : List Step) (was now : Option (List HeadItem)) (end : End) (line : Line) : Type 0 where
+  pub handled : IsHandled base before was now line
+  pub last : List Step
+  pub ended : handled.behind.served.trace ≡ record { event = on.next; outcome = on.closed (end_of end) } ∷ last
+  pub all_written : written handled.behind.served.trace ≡ text (setting_of line.state.settings) handled.behind.served.trace
+
+-- what is served goes to the handler until its end
+pub record HandlesToEnd (old : Line) (was : Option (List HeadItem)) (end : End) (new : Line) (now : Option (List HeadItem)) : Type 0 where
+  pub goes : (base : Base) (served : IsServed base old) → IsHandledToEnd base served.trace was now end new

@@ -1,4 +1,7 @@
 //! The answer to the open request.
+ghost use Rattle.std.specs.Prelude.{OnOk};
+ghost use Rattle.h1_blocking.specs.Served.{Answers, Follows};
+
 use crate::{Body, HandleError};
 use h1_net::{TimedSink, TimedSource};
 use http_framing::BodySize;
@@ -25,53 +28,73 @@ impl Answer {
     }
 
     /// Answers with a head and a whole body. A small answer goes out in one write.
+    #[tactic(auto, using(crate::proofs::Followed::follows_none, crate::proofs::Followed::follows_then, crate::proofs::Answered::answered_here, crate::proofs::Answered::answers_follow, crate::proofs::Answered::answers_then, crate::proofs::Answered::then_answers))]
     pub fn whole<S: TimedSource, K: TimedSink>(
         self,
         body: &mut Body<S, K>,
         head: ResponseHead,
         bytes: &[u8],
-    ) -> Result<(), HandleError> {
+    ) -> Result<(), HandleError>
+        ensures follows { Follows body.old body.new }
+        ensures answers { OnOk result (Answers head.status body.old body.new) }
+    {
         let writer = self.sized(body, head, bytes.len() as u64)?;
         let writer = writer.write(body, bytes)?;
         writer.end(body)
     }
 
     /// Begins an answer whose body has so many bytes (RFC 7230, section 3.3.2).
+    #[tactic(auto, using(crate::proofs::Followed::follows_none, crate::proofs::Followed::follows_then, crate::proofs::Answered::answered_here, crate::proofs::Answered::answers_follow, crate::proofs::Answered::answers_then, crate::proofs::Answered::then_answers))]
     pub fn sized<S: TimedSource, K: TimedSink>(
         self,
         body: &mut Body<S, K>,
         head: ResponseHead,
         length: u64,
-    ) -> Result<Writer, HandleError> {
+    ) -> Result<Writer, HandleError>
+        ensures follows { Follows body.old body.new }
+        ensures answers { OnOk result (Answers head.status body.old body.new) }
+    {
         self.begin(body, head, BodySize::Sized(length))
     }
 
     /// Begins an answer whose body's length isn't known: it is sent in chunks to a client that knows them, and else ends
     /// with the connection (RFC 7230, section 4.1).
+    #[tactic(auto, using(crate::proofs::Followed::follows_none, crate::proofs::Followed::follows_then, crate::proofs::Answered::answered_here, crate::proofs::Answered::answers_follow, crate::proofs::Answered::answers_then, crate::proofs::Answered::then_answers))]
     pub fn stream<S: TimedSource, K: TimedSink>(
         self,
         body: &mut Body<S, K>,
         head: ResponseHead,
-    ) -> Result<Writer, HandleError> {
+    ) -> Result<Writer, HandleError>
+        ensures follows { Follows body.old body.new }
+        ensures answers { OnOk result (Answers head.status body.old body.new) }
+    {
         self.begin(body, head, BodySize::Stream)
     }
 
     /// Answers with a head alone, as 304 is (RFC 7232, section 4.1).
+    #[tactic(auto, using(crate::proofs::Followed::follows_none, crate::proofs::Followed::follows_then, crate::proofs::Answered::answered_here, crate::proofs::Answered::answers_follow, crate::proofs::Answered::answers_then, crate::proofs::Answered::then_answers))]
     pub fn empty<S: TimedSource, K: TimedSink>(
         self,
         body: &mut Body<S, K>,
         head: ResponseHead,
-    ) -> Result<(), HandleError> {
+    ) -> Result<(), HandleError>
+        ensures follows { Follows body.old body.new }
+        ensures answers { OnOk result (Answers head.status body.old body.new) }
+    {
         let writer = self.begin(body, head, BodySize::ZERO)?;
         writer.end(body)
     }
 
+    #[tactic(auto, using(crate::proofs::Followed::follows_none, crate::proofs::Followed::follows_then, crate::proofs::Answered::answered_here, crate::proofs::Answered::answers_follow, crate::proofs::Answered::answers_then, crate::proofs::Answered::then_answers))]
     fn begin<S: TimedSource, K: TimedSink>(
         self,
         body: &mut Body<S, K>,
         mut head: ResponseHead,
         size: BodySize,
-    ) -> Result<Writer, HandleError> {
+    ) -> Result<Writer, HandleError>
+        ensures follows { Follows body.old body.new }
+        ensures answers { OnOk result (Answers head.status body.old body.new) }
+    {
         body.settle(&mut head)?;
         body.tick()?;
         if !body.connection.can_answer() {
@@ -84,11 +107,14 @@ impl Answer {
 
 impl Writer {
     /// Sends the next bytes of the body. They are gathered, and written once there is no more room.
+    #[tactic(auto, using(crate::proofs::Followed::follows_none, crate::proofs::Followed::follows_then))]
     pub fn write<S: TimedSource, K: TimedSink>(
         self,
         body: &mut Body<S, K>,
         bytes: &[u8],
-    ) -> Result<Writer, HandleError> {
+    ) -> Result<Writer, HandleError>
+        ensures follows { Follows body.old body.new }
+    {
         match body.send(bytes) {
             Ok(()) => Ok(self),
             Err(error) => {
@@ -99,10 +125,13 @@ impl Writer {
     }
 
     /// Writes what was gathered now, as a client that waits for each piece wants it.
+    #[tactic(auto, using(crate::proofs::Followed::follows_none, crate::proofs::Followed::follows_then))]
     pub fn flush<S: TimedSource, K: TimedSink>(
         self,
         body: &mut Body<S, K>,
-    ) -> Result<Writer, HandleError> {
+    ) -> Result<Writer, HandleError>
+        ensures follows { Follows body.old body.new }
+    {
         match body.flush() {
             Ok(()) => Ok(self),
             Err(error) => {
@@ -113,10 +142,10 @@ impl Writer {
     }
 
     /// The body is whole.
-    pub fn end<S: TimedSource, K: TimedSink>(
-        self,
-        body: &mut Body<S, K>,
-    ) -> Result<(), HandleError> {
+    #[tactic(auto, using(crate::proofs::Followed::follows_none, crate::proofs::Followed::follows_then))]
+    pub fn end<S: TimedSource, K: TimedSink>(self, body: &mut Body<S, K>) -> Result<(), HandleError>
+        ensures follows { Follows body.old body.new }
+    {
         let Writer { _open: () } = self;
         if body.connection.can_end_answer() {
             body.end_answer()?;
@@ -125,7 +154,10 @@ impl Writer {
     }
 
     /// The body can't be completed: the connection ends, and the client sees that bytes are missing.
-    pub fn fail<S: TimedSource, K: TimedSink>(self, body: &mut Body<S, K>) {
+    #[tactic(auto, using(crate::proofs::Followed::follows_none, crate::proofs::Followed::follows_then))]
+    pub fn fail<S: TimedSource, K: TimedSink>(self, body: &mut Body<S, K>)
+        ensures follows { Follows body.old body.new }
+    {
         let Writer { _open: () } = self;
         body.fail_answer();
     }
@@ -133,7 +165,10 @@ impl Writer {
 
 impl<S: TimedSource, K: TimedSink> Body<S, K> {
     // Hands in bytes of the answer's body, piece by piece, each once there is room for it.
-    fn send(&mut self, bytes: &[u8]) -> Result<(), HandleError> {
+    #[tactic(auto, using(crate::proofs::Followed::follows_none, crate::proofs::Followed::follows_then))]
+    fn send(&mut self, bytes: &[u8]) -> Result<(), HandleError>
+        ensures follows { Follows self.old self.new }
+    {
         for piece in bytes.chunks(PIECE) {
             if self.connection.write_room() == 0 {
                 self.flush()?;
@@ -146,7 +181,10 @@ impl<S: TimedSource, K: TimedSink> Body<S, K> {
         Ok(())
     }
 
-    pub(crate) fn fail_answer(&mut self) {
+    #[tactic(auto, using(crate::proofs::Followed::follows_none, crate::proofs::Followed::follows_then))]
+    pub(crate) fn fail_answer(&mut self)
+        ensures follows { Follows self.old self.new }
+    {
         if self.connection.can_end_answer() {
             self.break_answer();
         }

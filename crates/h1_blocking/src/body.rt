@@ -1,4 +1,8 @@
 //! The body of the open request, and the connection that it comes over.
+ghost use Rattle.std.specs.Prelude.{◌≡◌, []};
+ghost use Rattle.h1_connection.specs.State.{fresh_state};
+ghost use Rattle.h1_blocking.specs.Served.{Line, Follows, IsServed};
+
 use crate::clock::Start;
 use crate::pace::Pace;
 use crate::{HandleError, Limits};
@@ -52,6 +56,9 @@ pub struct Body<S: TimedSource, K: TimedSink> {
 
     // The handler reads the open request's body.
     pub(crate) is_wanted: bool,
+
+    // The connection ends with the open request's answer.
+    pub(crate) closes: bool,
 }
 
 impl<S: TimedSource, K: TimedSink> Model for Body<S, K> {
@@ -59,7 +66,7 @@ impl<S: TimedSource, K: TimedSink> Model for Body<S, K> {
 
     ghost Value = { Line };
 
-    ghost view = { λ b. record { state = b.connection; left = S.left b.source; given = K.given b.sink } };
+    ghost view = { λ b. record { state = b.connection; left = S.left b.source; given = K.given b.sink; judges = b.limits.judges_heads } };
 }
 
 impl<S: TimedSource, K: TimedSink> Body<S, K> {
@@ -70,10 +77,14 @@ impl<S: TimedSource, K: TimedSink> Body<S, K> {
         limits: Limits,
         source: S,
         sink: K,
-    ) -> Body<S, K> {
+    ) -> Body<S, K>
+        ensures value { result ≡ record { state = fresh_state config; left = S.left source; given = K.given sink; judges = limits.judges_heads } }
+        ensures begins { IsServed (record { left = S.left source; given = K.given sink; judges = limits.judges_heads; handed = [] }) result }
+    {
+        let connection = Connection::new(alloc, config);
         let start = Start::of(&source);
         Body {
-            connection: Connection::new(alloc, config),
+            connection,
             source,
             sink,
             limits,
@@ -84,11 +95,15 @@ impl<S: TimedSource, K: TimedSink> Body<S, K> {
             writes: Pace::new(),
             kind: BodyKind::None,
             is_wanted: false,
+            closes: false,
         }
     }
 
     /// The source and the sink.
-    pub fn into_parts(self) -> (S, K) {
+    pub fn into_parts(self) -> (S, K)
+        ensures left { S.left result.0 ≡ self.left }
+        ensures given { K.given result.1 ≡ self.given }
+    {
         let Body {
             connection: _,
             source,
@@ -101,13 +116,17 @@ impl<S: TimedSource, K: TimedSink> Body<S, K> {
             writes: _,
             kind: _,
             is_wanted: _,
+            closes: _,
         } = self;
         (source, sink)
     }
 
     /// The handler will read the body, also once its answer has begun: where the client waits for leave to send it, it
     /// gets leave (RFC 7231, section 5.1.1). `read` says the same, so this is for a handler that begins its answer first.
-    pub fn want(&mut self) -> Result<(), HandleError> {
+    #[tactic(auto, using(crate::proofs::Followed::follows_none, crate::proofs::Followed::follows_then))]
+    pub fn want(&mut self) -> Result<(), HandleError>
+        ensures follows { Follows self.old self.new }
+    {
         self.is_wanted = true;
         if self.connection.can_continue() {
             self.send_continue()?;
@@ -119,7 +138,10 @@ impl<S: TimedSource, K: TimedSink> Body<S, K> {
     /// has no body, or its end was given, it is `End`.
     ///
     /// `BrokenBody` where the body is none, `Stalled` where nothing comes for too long, `Lost` and `NoMemory`.
-    pub fn read(&mut self) -> Result<Piece, HandleError> {
+    #[tactic(auto, using(crate::proofs::Followed::follows_none, crate::proofs::Followed::follows_then))]
+    pub fn read(&mut self) -> Result<Piece, HandleError>
+        ensures follows { Follows self.old self.new }
+    {
         self.want()?;
         for _ in 0..u64::MAX {
             if !self.connection.can_pull() {
@@ -139,17 +161,30 @@ impl<S: TimedSource, K: TimedSink> Body<S, K> {
         Err(HandleError::Stalled)
     }
 
-    // A request was handed out, whose body ends so. Its bytes are waited for from now on.
-    pub(crate) fn begin_request(&mut self, kind: BodyKind) {
+    // A request was handed out, whose body ends so, and with whose answer the connection ends or not. The body's bytes
+    // are waited for from now on.
+    pub(crate) fn begin_request(&mut self, kind: BodyKind, closes: bool)
+        ensures same { self.new ≡ self.old }
+    {
         self.kind = kind;
+        self.closes = closes;
         self.is_wanted = false;
         self.reads = Pace::new();
     }
 
     // Passes over a body that the handler doesn't read, where it is small enough and comes soon. Else the answer says
     // that the connection ends with it: a client that isn't told so would send its next request into it. A raw body ends
-    // with the connection alone, and of a client that waits for leave none comes.
-    pub(crate) fn settle(&mut self, head: &mut ResponseHead) -> Result<(), HandleError> {
+    // with the connection alone, and of a client that waits for leave none comes. Where the connection ends with the
+    // answer anyway, no body is waited for.
+    #[tactic(auto, using(crate::proofs::Followed::follows_none, crate::proofs::Followed::follows_then))]
+    pub(crate) fn settle(&mut self, head: &mut ResponseHead) -> Result<(), HandleError>
+        ensures follows { Follows self.old self.new }
+        ensures status { head.new.status ≡ head.old.status }
+    {
+        if self.closes {
+            head.set_connection_type(ConnectionType::Close);
+            return Ok(());
+        }
         if self.is_wanted || !self.connection.can_pull() {
             return Ok(());
         }
@@ -162,7 +197,10 @@ impl<S: TimedSource, K: TimedSink> Body<S, K> {
 
     // Whether the body was passed over. Its bytes are counted, and those that were read for it, as of chunks with long
     // extensions.
-    fn pass_over(&mut self) -> Result<bool, HandleError> {
+    #[tactic(auto, using(crate::proofs::Followed::follows_none, crate::proofs::Followed::follows_then))]
+    fn pass_over(&mut self) -> Result<bool, HandleError>
+        ensures follows { Follows self.old self.new }
+    {
         let mut left = self.limits.drop;
         let (first, begin) = (self.taken, self.source.uptime());
         for _ in 0..u64::MAX {

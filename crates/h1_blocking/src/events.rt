@@ -1,9 +1,9 @@
 //! What may happen to a connection that is served, each with what it leaves.
-ghost use Rattle.std.specs.Prelude.{◌≡◌, ◌++◌, [], ◌∷◌, List, ℕ, length, IfOk, OnErr};
+ghost use Rattle.std.specs.Prelude.{◌≡◌, ◌++◌, [], ◌∷◌, List, ℕ, length, IfOk, OnOk, OnErr};
 ghost use Rattle.h1_codec.specs.Meaning.{answer_of, size_of};
 ghost use Rattle.h1_model.specs.Event as on;
 ghost use Rattle.h1_connection.specs.State.{IsAllowed, IsNextAllowed};
-ghost use Rattle.h1_blocking.specs.Served.{Follows, HandsOut};
+ghost use Rattle.h1_blocking.specs.Served.{Adds, Follows, HandsOut};
 
 use crate::Body;
 use h1_connection::{Expiry, NextKind, Pulled, ReadFromError};
@@ -57,7 +57,8 @@ impl<S: TimedSource, K: TimedSink> Body<S, K> {
         room: &mut HeadRoom,
     ) -> Result<NextKind, NoMemory>
         requires can_next { IsNextAllowed self.old.state }
-        ensures hands_out { HandsOut self.old self.new result item.new }
+        ensures hands_out { IfOk result (λ kind. HandsOut self.old self.new kind item.new) }
+        ensures err { OnErr result (self.new ≡ self.old) }
     {
         let kind = self.connection.next_into(item, room)?;
         Ok(kind)
@@ -89,7 +90,8 @@ impl<S: TimedSource, K: TimedSink> Body<S, K> {
         size: BodySize,
     ) -> Result<(), NoMemory>
         requires can_answer { IsAllowed self.old.state (on.answer (answer_of head.now) (size_of size)) }
-        ensures follows { Follows self.old self.new }
+        ensures adds { OnOk result (Adds (on.answer (answer_of head.now) (size_of size)) on.done self.old self.new) }
+        ensures err { OnErr result (self.new ≡ self.old) }
     {
         self.connection.answer(head, size)?;
         Ok(())

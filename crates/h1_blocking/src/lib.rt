@@ -7,6 +7,8 @@
 //! struct Hello { alloc: Global }
 //!
 //! impl Handler for Hello {
+//!     ghost handled = { λ _. None };
+//!
 //!     fn handle<S: TimedSource, K: TimedSink>(
 //!         &mut self, request: &Incoming<'_>, body: &mut Body<S, K>, answer: Answer,
 //!     ) -> Result<(), HandleError> {
@@ -20,7 +22,8 @@
 //!
 //! # Contract
 //!
-//! The README has the table of what is proved, what is tested and what isn't either.
+//! `host_connection` hands each request to its handler once and in order, and says why the connection has ended only once
+//! all answers are written. The README has the table of what is proved, what is tested and what isn't either.
 #![tactic(auto)]
 
 mod answer;

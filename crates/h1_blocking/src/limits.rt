@@ -24,11 +24,15 @@ pub struct Limits {
 
     /// How many milliseconds connections that are still open may take at the server's end.
     pub end: u64,
+
+    /// Each head is judged once more before its handler is asked, by the rules of RFC 9110 and RFC 9112 that the
+    /// connection doesn't know: a head that they refuse is answered with 400, and no handler sees it.
+    pub judges_heads: bool,
 }
 
 impl Default for Limits {
     /// 10,000 connections, 1024 bytes in each 30 seconds, bodies of 64 KiB that are dropped, 2 seconds and 256 KiB after
-    /// the last answer, 10 seconds at the end.
+    /// the last answer, 10 seconds at the end, and heads that are judged.
     fn default() -> Limits {
         Limits {
             connections: 10_000,
@@ -40,6 +44,7 @@ impl Default for Limits {
                 bytes: 262_144,
             },
             end: 10_000,
+            judges_heads: true,
         }
     }
 }

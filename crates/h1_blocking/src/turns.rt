@@ -1,7 +1,8 @@
 //! When bytes are read and written, and what time it is.
-ghost use Rattle.std.specs.Prelude.{ℕ, IsTrue};
+ghost use Rattle.std.specs.Prelude.{◌≡◌, ℕ, IsTrue};
 ghost use Rattle.h1_model.specs.Event as on;
 ghost use Rattle.h1_connection.specs.State.{IsAllowed};
+ghost use Rattle.h1_blocking.specs.Served.{Follows, IsWritten};
 
 use crate::pace::Pace;
 use crate::{Body, HandleError};
@@ -30,7 +31,10 @@ impl<S: TimedSource, K: TimedSink> Body<S, K> {
     }
 
     /// Tells the connection what time it is. It says whether no time has run out.
-    pub(crate) fn tick(&mut self) -> Result<(), HandleError> {
+    #[tactic(auto, using(crate::proofs::Followed::follows_none, crate::proofs::Followed::follows_then))]
+    pub(crate) fn tick(&mut self) -> Result<(), HandleError>
+        ensures follows { Follows self.old self.new }
+    {
         let Some(moment) = self.moment() else {
             return Ok(());
         };
@@ -44,7 +48,10 @@ impl<S: TimedSource, K: TimedSink> Body<S, K> {
     }
 
     /// Reads what has come, or that nothing more does, or that time has passed. It says whether something has come.
-    pub(crate) fn fill(&mut self) -> Result<bool, HandleError> {
+    #[tactic(auto, using(crate::proofs::Followed::follows_none, crate::proofs::Followed::follows_then))]
+    pub(crate) fn fill(&mut self) -> Result<bool, HandleError>
+        ensures follows { Follows self.old self.new }
+    {
         self.wait_for(self.patience());
         let (first, begin) = (self.taken, self.source.uptime());
         let came = self.read_once()?;
@@ -55,7 +62,10 @@ impl<S: TimedSource, K: TimedSink> Body<S, K> {
     }
 
     /// Writes all that waits. While the peer takes nothing, what it sends is read, as far as there is room for it.
-    pub(crate) fn flush(&mut self) -> Result<(), HandleError> {
+    #[tactic(auto, using(crate::proofs::Followed::follows_none, crate::proofs::Followed::follows_then))]
+    pub(crate) fn flush(&mut self) -> Result<(), HandleError>
+        ensures follows { Follows self.old self.new }
+    {
         for _ in 0..u64::MAX {
             if !self.has_unwritten() {
                 return Ok(());
@@ -74,7 +84,10 @@ impl<S: TimedSource, K: TimedSink> Body<S, K> {
     }
 
     /// Writes what the peer takes at once of what waits.
-    pub(crate) fn flush_at_once(&mut self) {
+    #[tactic(auto, using(crate::proofs::Followed::follows_none, crate::proofs::Followed::follows_then))]
+    pub(crate) fn flush_at_once(&mut self)
+        ensures follows { Follows self.old self.new }
+    {
         for _ in 0..u64::MAX {
             if !self.has_unwritten() || self.write_stretch().is_err() {
                 return;
@@ -83,7 +96,10 @@ impl<S: TimedSource, K: TimedSink> Body<S, K> {
     }
 
     /// Writes what waits where it has to be written now: where the connection closes, and where no more may wait.
-    pub(crate) fn flush_if_due(&mut self) -> Result<(), HandleError> {
+    #[tactic(auto, using(crate::proofs::Followed::follows_none, crate::proofs::Followed::follows_then))]
+    pub(crate) fn flush_if_due(&mut self) -> Result<(), HandleError>
+        ensures follows { Follows self.old self.new }
+    {
         if self.connection.closing().is_some() || self.connection.write_room() == 0 {
             return self.flush();
         }
@@ -97,8 +113,28 @@ impl<S: TimedSource, K: TimedSink> Body<S, K> {
         !self.connection.stretch().is_empty() && self.connection.can_write()
     }
 
+    /// Where the server is to end, no further request is taken.
+    #[tactic(auto, using(crate::proofs::Followed::follows_none, crate::proofs::Followed::follows_then))]
+    pub(crate) fn drain_where(&mut self, is_ending: bool)
+        ensures follows { Follows self.old self.new }
+    {
+        if is_ending && self.connection.can_drain() {
+            self.drain();
+        }
+    }
+
+    /// Whether all that was to be written was written.
+    pub(crate) fn has_written_all(&self) -> bool
+        ensures { IsTrue result → IsWritten self.now.state }
+    {
+        self.connection.buffered() == 0
+    }
+
     // The peer took nothing for a while.
-    fn read_meanwhile(&mut self) -> Result<(), HandleError> {
+    #[tactic(auto, using(crate::proofs::Followed::follows_none, crate::proofs::Followed::follows_then))]
+    fn read_meanwhile(&mut self) -> Result<(), HandleError>
+        ensures follows { Follows self.old self.new }
+    {
         self.tick()?;
         self.wait_for(0);
         let _came = self.read_once()?;
@@ -107,7 +143,10 @@ impl<S: TimedSource, K: TimedSink> Body<S, K> {
     }
 
     // Reads once. It says whether something has come, be it the input's end or that no more may be held.
-    fn read_once(&mut self) -> Result<bool, HandleError> {
+    #[tactic(auto, using(crate::proofs::Followed::follows_none, crate::proofs::Followed::follows_then))]
+    fn read_once(&mut self) -> Result<bool, HandleError>
+        ensures follows { Follows self.old self.new }
+    {
         if !self.connection.can_read() {
             return Ok(true);
         }
@@ -131,7 +170,9 @@ impl<S: TimedSource, K: TimedSink> Body<S, K> {
     }
 
     // Tells the source how long it may wait, where it doesn't know.
-    fn wait_for(&mut self, milliseconds: u64) {
+    fn wait_for(&mut self, milliseconds: u64)
+        ensures same { self.new ≡ self.old }
+    {
         if self.waits != Some(milliseconds) {
             self.source.wait_at_most(milliseconds);
             self.waits = Some(milliseconds);
@@ -139,7 +180,9 @@ impl<S: TimedSource, K: TimedSink> Body<S, K> {
     }
 
     // So many bytes came after so many milliseconds. Where a time of the config runs, that alone ends the connection.
-    fn note_read(&mut self, waited: u64, count: u64) -> Result<(), HandleError> {
+    fn note_read(&mut self, waited: u64, count: u64) -> Result<(), HandleError>
+        ensures same { self.new ≡ self.old }
+    {
         if self.connection.deadline().is_some() {
             self.reads = Pace::new();
             return Ok(());
@@ -152,7 +195,9 @@ impl<S: TimedSource, K: TimedSink> Body<S, K> {
     }
 
     // So many bytes were taken after so many milliseconds.
-    fn note_write(&mut self, waited: u64, count: u64) -> Result<(), HandleError> {
+    fn note_write(&mut self, waited: u64, count: u64) -> Result<(), HandleError>
+        ensures same { self.new ≡ self.old }
+    {
         let limits = self.limits;
         if self.writes.note(waited, count, limits.stall, limits.least) {
             return Err(HandleError::Stalled);

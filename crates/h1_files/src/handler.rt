@@ -1,4 +1,7 @@
 //! What is answered to which request.
+ghost use Rattle.std.specs.Prelude.{None};
+ghost use Rattle.h1_blocking.specs.Served.{Follows};
+
 use crate::found::{Found, Unlisted, entries, is_file, look, open};
 use crate::reply::{Sent, add, add_range, file_head, page_head};
 use crate::shared::Shared;
@@ -63,6 +66,10 @@ impl Handlers for FileHandlers {
 }
 
 impl Handler for FileHandler {
+    // It keeps no list of its requests.
+    ghost handled = { λ _. None };
+
+    #[tactic(auto, using(h1_blocking::proofs::Followed::follows_none, h1_blocking::proofs::Followed::follows_then))]
     fn handle<S: TimedSource, K: TimedSink>(
         &mut self,
         request: &Incoming<'_>,
@@ -88,12 +95,15 @@ impl Handler for FileHandler {
 }
 
 impl FileHandler {
+    #[tactic(auto, using(h1_blocking::proofs::Followed::follows_none, h1_blocking::proofs::Followed::follows_then))]
     fn answer<S: TimedSource, K: TimedSink>(
         &mut self,
         head: &RequestHead,
         body: &mut Body<S, K>,
         answer: Answer,
-    ) -> Result<Sent, HandleError> {
+    ) -> Result<Sent, HandleError>
+        ensures follows { Follows body.old body.new }
+    {
         if head.method != Method::GET && head.method != Method::HEAD {
             return self.refuse(StatusCode::METHOD_NOT_ALLOWED, body, answer);
         }
@@ -121,12 +131,15 @@ impl FileHandler {
     }
 
     // Answers with a status and a page that says it.
+    #[tactic(auto, using(h1_blocking::proofs::Followed::follows_none, h1_blocking::proofs::Followed::follows_then))]
     fn refuse<S: TimedSource, K: TimedSink>(
         &mut self,
         status: StatusCode,
         body: &mut Body<S, K>,
         answer: Answer,
-    ) -> Result<Sent, HandleError> {
+    ) -> Result<Sent, HandleError>
+        ensures follows { Follows body.old body.new }
+    {
         let mut head = page_head(self.alloc, status)?;
         if status == StatusCode::METHOD_NOT_ALLOWED {
             add(self.alloc, &mut head, ALLOW, "GET, HEAD")?;
@@ -136,12 +149,15 @@ impl FileHandler {
     }
 
     // Sends the client to a folder's place with a slash at its end, since the links of its page start there.
+    #[tactic(auto, using(h1_blocking::proofs::Followed::follows_none, h1_blocking::proofs::Followed::follows_then))]
     fn redirect<S: TimedSource, K: TimedSink>(
         &mut self,
         request: &RequestHead,
         body: &mut Body<S, K>,
         answer: Answer,
-    ) -> Result<Sent, HandleError> {
+    ) -> Result<Sent, HandleError>
+        ensures follows { Follows body.old body.new }
+    {
         let alloc = self.alloc;
         let place = match place_of(alloc, request.uri.path(), request.uri.query()) {
             Ok(place) => place,
@@ -156,13 +172,16 @@ impl FileHandler {
     }
 
     // Answers with a folder's index.html, or with a page of its names.
+    #[tactic(auto, using(h1_blocking::proofs::Followed::follows_none, h1_blocking::proofs::Followed::follows_then))]
     fn folder<S: TimedSource, K: TimedSink>(
         &mut self,
         request: &RequestHead,
         path: &FilePath,
         body: &mut Body<S, K>,
         answer: Answer,
-    ) -> Result<Sent, HandleError> {
+    ) -> Result<Sent, HandleError>
+        ensures follows { Follows body.old body.new }
+    {
         let Ok(index) = path.child("index.html") else {
             return Err(HandleError::NoMemory);
         };
@@ -187,13 +206,16 @@ impl FileHandler {
     }
 
     // Answers with a file, or a part of it, or that the client has it.
+    #[tactic(auto, using(h1_blocking::proofs::Followed::follows_none, h1_blocking::proofs::Followed::follows_then))]
     fn file<S: TimedSource, K: TimedSink>(
         &mut self,
         request: &RequestHead,
         path: &FilePath,
         body: &mut Body<S, K>,
         answer: Answer,
-    ) -> Result<Sent, HandleError> {
+    ) -> Result<Sent, HandleError>
+        ensures follows { Follows body.old body.new }
+    {
         let alloc = self.alloc;
         let mut file = match open(&self.rt, path) {
             Ok(file) => file,
@@ -229,6 +251,7 @@ impl FileHandler {
     }
 
     // Sends so many bytes of a file, piece by piece.
+    #[tactic(auto, using(h1_blocking::proofs::Followed::follows_none, h1_blocking::proofs::Followed::follows_then))]
     fn send<S: TimedSource, K: TimedSink>(
         &mut self,
         file: &mut File,
@@ -238,7 +261,9 @@ impl FileHandler {
         head: ResponseHead,
         body: &mut Body<S, K>,
         answer: Answer,
-    ) -> Result<(), HandleError> {
+    ) -> Result<(), HandleError>
+        ensures follows { Follows body.old body.new }
+    {
         if self.piece.is_empty() {
             self.piece.resize(PIECE, 0)?;
         }
@@ -249,7 +274,7 @@ impl FileHandler {
         let mut left = if is_head { 0 } else { length };
         for _ in 0..length {
             if left == 0 {
-                break;
+                return writer.end(body);
             }
             let limit = usize::try_from(left)
                 .unwrap_or(usize::MAX)
@@ -270,13 +295,16 @@ impl FileHandler {
     }
 }
 
+#[tactic(auto, using(h1_blocking::proofs::Followed::follows_none, h1_blocking::proofs::Followed::follows_then))]
 fn send_page<S: TimedSource, K: TimedSink>(
     head: ResponseHead,
     status: StatusCode,
     page: &str,
     body: &mut Body<S, K>,
     answer: Answer,
-) -> Result<Sent, HandleError> {
+) -> Result<Sent, HandleError>
+    ensures follows { Follows body.old body.new }
+{
     answer.whole(body, head, page.as_bytes())?;
     Ok(Sent {
         status,

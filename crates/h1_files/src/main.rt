@@ -130,14 +130,9 @@ where
     }
     let mut handlers = FileHandlers::new(system, shared);
     let config = ServiceConfig::default();
-    match host(
-        rt,
-        alloc,
-        listener,
-        config,
-        &mut handlers,
-        Limits::default(),
-    ) {
+    let mut limits = Limits::default();
+    limits.judges_heads = !options.is_lax;
+    match host(rt, alloc, listener, config, &mut handlers, limits) {
         Ok(()) => ExitCode::SUCCESS,
         Err(_) => ExitCode::from(NO_MEMORY),
     }

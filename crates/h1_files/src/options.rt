@@ -12,6 +12,7 @@ Serves the files of a folder over HTTP/1.
   --bind ADDRESS       the address to listen on, of IPv4 or IPv6: 127.0.0.1 by default, which only this machine
                        reaches; 0.0.0.0 and :: are all
   --dotfiles           serve and list names that begin with a dot, too
+  --lax                answer requests too whose head RFC 9110 or 9112 refuses
   --requests N         end after N requests
   --until-input-ends   end where the standard input ends
   --help               print this and end
@@ -37,6 +38,9 @@ pub struct Options<'a> {
 
     /// Names that begin with a dot are served and listed.
     pub shows_dots: bool,
+
+    /// Heads that RFC 9110 or RFC 9112 refuses are answered too.
+    pub is_lax: bool,
 
     /// After how many requests the server ends.
     pub requests: Option<u64>,
@@ -73,12 +77,14 @@ pub fn read(words: &[String]) -> Result<Command<'_>, UsageError> {
     let mut requests = None;
     let mut until_input_ends = false;
     let mut shows_dots = false;
+    let mut is_lax = false;
     let mut rest = words.iter();
     while let Some(word) = rest.next() {
         match word.as_str() {
             "--help" | "-h" => return Ok(Command::Help),
             "--version" => return Ok(Command::Version),
             "--dotfiles" => shows_dots = true,
+            "--lax" => is_lax = true,
             "--until-input-ends" => until_input_ends = true,
             "--bind" => address = Some(rest.next().ok_or(UsageError::Bind)?.as_str()),
             "--requests" => {
@@ -101,6 +107,7 @@ pub fn read(words: &[String]) -> Result<Command<'_>, UsageError> {
         folder,
         address: address.unwrap_or("127.0.0.1"),
         shows_dots,
+        is_lax,
         requests,
         until_input_ends,
     }))

@@ -1,4 +1,7 @@
 //! What is answered to which request.
+ghost use Rattle.std.specs.Prelude.{None};
+ghost use Rattle.h1_blocking.specs.Served.{Follows};
+
 use h1_blocking::{Answer, Body, HandleError, Handler, Handlers, Incoming, Piece};
 use h1_net::{TimedSink, TimedSource};
 use http_framing::BodyKind;
@@ -42,6 +45,10 @@ impl Handlers for Hellos {
 }
 
 impl Handler for Hello {
+    // It keeps no list of its requests.
+    ghost handled = { λ _. None };
+
+    #[tactic(auto, using(h1_blocking::proofs::Followed::follows_none, h1_blocking::proofs::Followed::follows_then))]
     fn handle<S: TimedSource, K: TimedSink>(
         &mut self,
         request: &Incoming<'_>,
@@ -62,12 +69,15 @@ impl Handler for Hello {
 }
 
 // Sends the request's body back, piece by piece as it comes.
+#[tactic(auto, using(h1_blocking::proofs::Followed::follows_none, h1_blocking::proofs::Followed::follows_then))]
 fn echo<S: TimedSource, K: TimedSink>(
     request: &Incoming<'_>,
     head: ResponseHead,
     body: &mut Body<S, K>,
     answer: Answer,
-) -> Result<(), HandleError> {
+) -> Result<(), HandleError>
+    ensures follows { Follows body.old body.new }
+{
     body.want()?;
     let mut writer = match request.body() {
         BodyKind::None => answer.sized(body, head, 0)?,
@@ -77,7 +87,7 @@ fn echo<S: TimedSource, K: TimedSink>(
     for _ in 0..u64::MAX {
         match body.read() {
             Ok(Piece::Bytes(bytes)) => writer = writer.write(body, bytes.as_slice())?,
-            Ok(Piece::Trailers(_) | Piece::End) => break,
+            Ok(Piece::Trailers(_) | Piece::End) => return writer.end(body),
             Err(error) => {
                 writer.fail(body);
                 return Err(error);

@@ -1,7 +1,6 @@
 //! The machine's moment as a clock.
 ghost use Rattle.std.specs.Prelude.{◌≡◌, ◌<◌, nat_lt};
 ghost use Rattle.h1_model.specs.Limits.{MAX_MOMENT};
-ghost use Rattle.h1_net.specs.Moments.{last_moment};
 
 use crate::clock::moment;
 use http_wires::Clock;
@@ -20,6 +19,8 @@ pub struct SystemClock<R> {
 }
 
 impl<R: time::Clock> SystemClock<R> {
+    ghost use Rattle.h1_net.specs.Moments.{last_moment};
+
     /// A clock that has given no moment.
     pub fn new(rt: R) -> SystemClock<R>
         ensures fresh { last_moment result ≡ 0 }
@@ -29,6 +30,8 @@ impl<R: time::Clock> SystemClock<R> {
 }
 
 impl<R: time::Clock + Drop> Clock for SystemClock<R> {
+    ghost use Rattle.h1_net.specs.Moments.{last_moment};
+
     ghost last = { last_moment };
 
     ghost may_give = { λ _ given. nat_lt given MAX_MOMENT };

@@ -4,4 +4,4 @@ use Rattle.h1_blocking.proofs.ServedLemmas.{quietly, done_moves, seen_as}
 use Rattle.h1_blocking.proofs.body.Body.break_answer.Goals as goal
 
 pub returns : goal.returns
-returns g c = record { follows = seen_as _ _ _ c.self.view_is (quietly _ _ (on.body_error) _ c.fail_answer.ensures.stands (done_moves (on.body_error) refl) refl refl) }
+returns g c = record { follows = seen_as _ _ _ c.self.view_is (quietly _ _ (on.body_error) _ c.fail_answer.ensures.stands (done_moves (on.body_error) refl) refl refl refl) }

@@ -1,7 +1,10 @@
 use Rattle.std.proofs.Common.{refl, sym}
 use Rattle.h1_model.specs.Event as on
-use Rattle.h1_blocking.proofs.ServedLemmas.{quietly, pull_moves, seen_as}
+use Rattle.h1_blocking.proofs.ServedLemmas.{quietly, pull_moves, seen_as, unchanged}
 use Rattle.h1_blocking.proofs.body.Body.pull.Goals as goal
 
 pub returns : goal.returns
-returns g c = record { follows = seen_as _ _ _ c.self.view_is (quietly _ _ on.pull _ c.in_ok-pulled.ensures.stands (pull_moves _) refl refl) }
+returns g c = record { follows = seen_as _ _ _ c.self.view_is (quietly _ _ on.pull _ c.in_ok-pulled.ensures.stands (pull_moves _) refl refl refl) }
+
+pub returns-in_err-pulled : goal.returns-in_err-pulled
+returns-in_err-pulled g c = record { follows = unchanged _ _ _ c.self.view_is c.in_err-pulled.ensures.err refl refl refl }
