@@ -1,14 +1,14 @@
 -- The room of a target is the path of its parts.
-use Rattle.std.proofs.Common.{◌≡◌, ◌<◌, ◌≤◌, ℕ, zero, suc, ◌+◌, ◌⊎◌, Bool, true, false, List, [], ◌∷◌, ◌++◌, length, IsTrue, Option, Some, None, refl, sym, ap, ◌∙◌, subst, inl, inr, ◌==◌, if◌then◌else◌, arith, append_assoc}
-use Rattle.std.specs.Prelude.{not, ◌||◌, ◌&&◌, is_some, bytes_eq, codes, take, drop, slice_index, All}
+use Rattle.std.proofs.Common.{◌≡◌, ◌<◌, ℕ, zero, suc, ◌+◌, ◌⊎◌, Bool, true, false, List, [], ◌∷◌, ◌++◌, length, Option, Some, None, refl, sym, ap, ◌∙◌, subst, inl, inr, ◌==◌, if◌then◌else◌, arith, append_assoc}
+use Rattle.std.specs.Prelude.{not, ◌||◌, bytes_eq, codes, take, slice_index}
 use Rattle.std.specs.List.{AllByRecursion}
 use Rattle.std.proofs.lemmas.Bool.{cases_Bool, eqb-true, eq-eqb}
 use Rattle.std.proofs.lemmas.List.{length-take}
 use Rattle.std.proofs.lemmas.List.Elements.{recursion_from_All}
 use Rattle.std.proofs.lemmas.Slice.Eq.{bytes_eq-Decides}
 use Rattle.http_uri.specs.ByteClasses.{is_authority_byte, is_scheme_byte, is_delimiter, slash, question_mark, hash_sign, colon, asterisk}
-use Rattle.http_uri.specs.Grammar.{IsAuthority, IsTail, IsAbsoluteForm, StartsOrigin, IsUriText, without_fragment, path_of}
-use Rattle.ws_hub_model.specs.Room.{behind_scheme, behind_authority, absolute_path, parts_path, room_of}
+use Rattle.http_uri.specs.Grammar.{IsAuthority, IsTail, StartsOrigin, IsUriText, without_fragment, path_of}
+use Rattle.ws_hub_model.specs.Room.{behind_scheme, behind_authority, parts_path, room_of}
 
 -- ---- bytes
 
@@ -38,28 +38,28 @@ authority_bytes text a = all_of text (λ i below. (a.bytes i below).byte)
 second_differs : (b c : ℕ) (more : List ℕ) → (c == slash) ≡ false → bytes_eq (take 3 (b ∷ c ∷ more)) (codes "://") ≡ false
 second_differs b c more e = elim (cases_Bool (bytes_eq (take 3 (b ∷ c ∷ more)) (codes "://"))) [
   | inl same ↦
-    absurd
-    (let all : b ∷ c ∷ take 1 more ≡ 58 ∷ 47 ∷ 47 ∷ [] = (bytes_eq-Decides (take 3 (b ∷ c ∷ more)) (codes "://")).0 same in
-    let at : c ≡ slash = cc in
-    let bad : true ≡ false = sym (eq-eqb c slash at) ∙ e in cc)
+      absurd
+      (let all : b ∷ c ∷ take 1 more ≡ 58 ∷ 47 ∷ 47 ∷ [] = (bytes_eq-Decides (take 3 (b ∷ c ∷ more)) (codes "://")).0 same in
+      let at : c ≡ slash = cc in
+      let bad : true ≡ false = sym (eq-eqb c slash at) ∙ e in cc)
   | inr other ↦ other
 ]
 
 one_differs : (b : ℕ) → bytes_eq (take 3 (b ∷ [])) (codes "://") ≡ false
 one_differs b = elim (cases_Bool (bytes_eq (take 3 (b ∷ [])) (codes "://"))) [
   | inl same ↦
-    absurd
-    (let all : b ∷ [] ≡ 58 ∷ 47 ∷ 47 ∷ [] = (bytes_eq-Decides (take 3 (b ∷ [])) (codes "://")).0 same in cc)
+      absurd
+      (let all : b ∷ [] ≡ 58 ∷ 47 ∷ 47 ∷ [] = (bytes_eq-Decides (take 3 (b ∷ [])) (codes "://")).0 same in cc)
   | inr other ↦ other
 ]
 
 first_differs : (b : ℕ) (more : List ℕ) → (b == colon) ≡ false → bytes_eq (take 3 (b ∷ more)) (codes "://") ≡ false
 first_differs b more e = elim (cases_Bool (bytes_eq (take 3 (b ∷ more)) (codes "://"))) [
   | inl same ↦
-    absurd
-    (let all : b ∷ take 2 more ≡ 58 ∷ 47 ∷ 47 ∷ [] = (bytes_eq-Decides (take 3 (b ∷ more)) (codes "://")).0 same in
-    let at : b ≡ colon = cc in
-    let bad : true ≡ false = sym (eq-eqb b colon at) ∙ e in cc)
+      absurd
+      (let all : b ∷ take 2 more ≡ 58 ∷ 47 ∷ 47 ∷ [] = (bytes_eq-Decides (take 3 (b ∷ more)) (codes "://")).0 same in
+      let at : b ≡ colon = cc in
+      let bad : true ≡ false = sym (eq-eqb b colon at) ∙ e in cc)
   | inr other ↦ other
 ]
 
@@ -112,10 +112,10 @@ starts_no_path : (name rest : List ℕ) → AllByRecursion (λ b. is_scheme_byte
 starts_no_path [] rest h = refl
 starts_no_path (n ∷ ns) rest h = elim (cases_Bool (bytes_eq ((n ∷ ns) ++ (codes "://" ++ rest)) (codes "*"))) [
   | inl same ↦
-    absurd
-    (let all : n ∷ (ns ++ (codes "://" ++ rest)) ≡ 42 ∷ [] = (bytes_eq-Decides ((n ∷ ns) ++ (codes "://" ++ rest)) (codes "*")).0 same in
-    let at : n ≡ asterisk = cc in
-    let bad : true ≡ false = sym (eq-eqb n asterisk at) ∙ outside is_scheme_byte asterisk n refl h.0 in cc)
+      absurd
+      (let all : n ∷ (ns ++ (codes "://" ++ rest)) ≡ 42 ∷ [] = (bytes_eq-Decides ((n ∷ ns) ++ (codes "://" ++ rest)) (codes "*")).0 same in
+      let at : n ≡ asterisk = cc in
+      let bad : true ≡ false = sym (eq-eqb n asterisk at) ∙ outside is_scheme_byte asterisk n refl h.0 in cc)
   | inr other ↦ rw (outside is_scheme_byte slash n refl h.0, other) refl
 ]
 
@@ -140,7 +140,7 @@ room_is_path text (Some scheme) None kept x = absurd x.1
 room_is_path text (Some scheme) (Some authority) kept x =
     let form = x.1 in
     let spelled : text ≡ form.name ++ (codes "://" ++ (authority ++ form.tail)) =
-        form.spelled ∙ append_assoc (form.name ++ codes "://") authority form.tail ∙ append_assoc form.name (codes "://") (authority ++ form.tail) in
+    form.spelled ∙ append_assoc (form.name ++ codes "://") authority form.tail ∙ append_assoc form.name (codes "://") (authority ++ form.tail) in
     ap room_of spelled
     ∙ absolute_room form.name authority form.tail kept (recursion_from_All _ form.name form.is_scheme.0) (authority_bytes authority form.is_authority) form.is_tail
     ∙ with_scheme kept scheme
