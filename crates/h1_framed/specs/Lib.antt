@@ -1,0 +1,6 @@
+pub mod Messages
+pub mod Pieces
+pub mod Answers
+pub mod State
+pub mod Refused
+pub mod Sameness

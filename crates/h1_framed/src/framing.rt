@@ -1,0 +1,71 @@
+//! The codec as a decoder and an encoder like any other.
+use crate::codec::Codec;
+use crate::message::Message;
+use bytes::BytesMut;
+use h1_codec::EncodeError;
+use h1_decode::HeadItem;
+use http_framing::{BodySize, Decoder, Encoder};
+use http_types::{ParseError, Response};
+
+impl Decoder for Codec {
+    ghost use Rattle.std.specs.Prelude.{◌≡◌};
+    ghost use Rattle.http_types.specs.declared.error.ParseError.TheVariants as errors;
+    ghost use Rattle.h1_decode.specs.declared.decoder.HeadItem.{HeadItem};
+    ghost use Rattle.h1_framed.specs.Messages.{Messages, given, nothing, Breaks};
+    ghost use Rattle.h1_framed.specs.State.{CodecReads, HasLookedAt, CodecLeft, Writing, codec_writing};
+
+    type Item = Message<HeadItem>;
+
+    type Error = ParseError;
+
+    ghost Said = { Messages HeadItem };
+
+    ghost reads = { CodecReads };
+
+    ghost given = { given };
+
+    ghost nothing = { nothing };
+
+    ghost breaks = { Breaks };
+
+    ghost lacks = { λ error. error ≡ errors.NoMemory };
+
+    ghost seen = { HasLookedAt };
+
+    ghost leaves = { CodecLeft };
+
+    ghost Beside = { Writing };
+
+    ghost beside = { codec_writing };
+
+    fn decode(&mut self, src: &mut BytesMut) -> Result<Option<Message<HeadItem>>, ParseError> {
+        Codec::decode(self, src)
+    }
+}
+
+impl Encoder<Message<(Response<()>, BodySize)>> for Codec {
+    ghost use Rattle.std.specs.Prelude.{◌≡◌};
+    ghost use Rattle.h1_codec.specs.declared.error.EncodeError.TheVariants as errors;
+    ghost use Rattle.h1_framed.specs.State.{Writes, Refuses};
+    ghost use Rattle.h1_framed.specs.Refused.{refused_is_not_written};
+
+    type Error = EncodeError;
+
+    ghost writes = { Writes };
+
+    ghost refuses = { Refuses };
+
+    ghost lacks = { λ error. error ≡ errors.NoMemory };
+
+    ghost leaves = { λ _ old new. new ≡ old };
+
+    fn encode(
+        &mut self,
+        item: Message<(Response<()>, BodySize)>,
+        dst: &mut BytesMut,
+    ) -> Result<(), EncodeError> {
+        Codec::encode(self, item, dst)
+    }
+
+    ghost excludes = { λ old new item text error. refused_is_not_written old new item text error };
+}
