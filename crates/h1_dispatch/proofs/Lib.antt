@@ -1,2 +1,4 @@
 pub mod Runs
 pub mod Turns
+pub mod Moves
+pub mod Begins

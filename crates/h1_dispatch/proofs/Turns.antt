@@ -12,7 +12,7 @@ use Rattle.http_types.specs.declared.error.DispatchError.{DispatchError}
 use Rattle.h1_dispatch.specs.declared.dispatcher.Ending.TheVariants.{Closed, Abandoned}
 use Rattle.h1_dispatch.specs.declared.dispatcher.Turn.{Turn}
 use Rattle.h1_dispatch.specs.declared.dispatcher.Turn.TheVariants.{Counted, Idle, Over}
-use Rattle.h1_dispatch.specs.View.{View, Asking, closes, allows_next, allows_answer, HasNoOutput}
+use Rattle.h1_dispatch.specs.View.{View, Asking, closes, allows_next, allows_answer, HasNoOutput, HasNoInput}
 use Rattle.h1_dispatch.specs.Steps.{Step, IsStep, IsRun, written, shut, next, ready, called, answered}
 use Rattle.h1_dispatch.specs.Polls.{Continues, AllContinue, IsShut, Ended, result_of, counts, Awaits, Looks, Serves, Reads, IsIdle, IsHeld, IsStuckRunning, IsStuckShutting, IsStuck, GoesOn, Ends, TurnSays, ServeSays, AfterSays, EndSays, StepSays, IsReadIdle, ReadingSays, IsSpent, Waits, TurnsSay}
 use Rattle.h1_dispatch.proofs.Runs.{one, goes_by, ends_by, goes_after, ends_after}
@@ -144,12 +144,12 @@ called_awaits : (u : View) (allows : Bool) (served : List Step) → allows ≡ t
 called_awaits u true served is calling waits = subst (λ c. Awaits c u.waiting served) calling waits.1
 called_awaits u false served is calling waits = absurd (cc is)
 
+same_request : (a b : Asking) → Some a ≡ Some b → b ≡ a
+same_request a b e = cc e
+
 awaits_called : (calling : Bool) (waiting : Option Asking) (request : Asking) (served : List Step) → calling ≡ false → waiting ≡ Some request → served ≡ answered Pending ∷ []
     → Awaits calling waiting (called request ∷ served)
-awaits_called false (Some other) request served no is so = inr (ap (λ l. called request ∷ l) so ∙ ap (λ r. called r ∷ answered Pending ∷ []) (only other request is))
-  where
-    only : (a b : Asking) → Some a ≡ Some b → b ≡ a
-    only a b e = cc e
+awaits_called false (Some other) request served no is so = inr (ap (λ l. called request ∷ l) so ∙ ap (λ r. called r ∷ answered Pending ∷ []) (same_request other request is))
 awaits_called false None request served no is so = absurd (cc is)
 awaits_called true waiting request served no is so = absurd (cc no)
 
@@ -171,9 +171,9 @@ called_then v u w request (Over result) is may allowed reply calling waiting now
 -- ---- after the writing
 
 pub open_then : (v w : View) (turn : Turn) → closes v ≡ false → ServeSays v w turn → AfterSays v w turn
-open_then v w Counted open says = says
-open_then v w Idle open says = inr (open, says)
-open_then v w (Over result) open says = says
+open_then v w Counted so says = says
+open_then v w Idle so says = inr (so, says)
+open_then v w (Over result) so says = says
 
 pub end_then : (v w : View) (turn : Turn) → EndSays v w turn → AfterSays v w turn
 end_then v w Counted says = says
@@ -199,3 +199,11 @@ turns_idle v u w cx n goes says = inl (record { last = u; goes = record { steps 
 
 pub turns_over : (v u w : View) (cx : Context) (n : ℕ) (result : Result Unit DispatchError) → GoesOn v u n → TurnSays u w (Over result) → TurnsSay v w cx (Ready result)
 turns_over v u w cx n result goes says = ends_after v u w n result goes says
+
+-- ---- nothing to be done
+
+pub held_idle : (v : View) (turn : Turn) → turn ≡ Idle → IsHeld v v → AfterSays v v turn
+held_idle v turn is held = subst (λ t. AfterSays v v t) (sym is) (inl held)
+
+pub nothing_read : (v : View) (turn : Turn) → turn ≡ Idle → HasNoInput v → ReadingSays v v turn
+nothing_read v turn is none = subst (λ t. ReadingSays v v t) (sym is) (record { reading = []; reads = refl; no_input = inr (refl, none) })

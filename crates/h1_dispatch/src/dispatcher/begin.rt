@@ -21,8 +21,10 @@ where
         ensures says { BeginSays (view_of T.wiring S.served L.noted self.old) moment (view_of T.wiring S.served L.noted self.new) result }
         ensures open { MayBePolled S.calling self.new }
     {
-        self.tick(moment)?;
-        self.tell_drain()
+        match self.tick(moment) {
+            Ok(()) => self.tell_drain(),
+            Err(error) => Err(error),
+        }
     }
 
     fn tick(&mut self, moment: u64) -> Result<(), NoMemory>

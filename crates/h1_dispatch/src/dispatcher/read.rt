@@ -31,7 +31,10 @@ where
         ensures kept { Keeps cx.old cx.new }
     {
         let room = self.line.connection().read_room();
-        if room == 0 || !self.line.connection().can_read() {
+        if room == 0 {
+            return wake(cx);
+        }
+        if !self.line.connection().can_read() {
             return wake(cx);
         }
         let mut buf = [0; READ_SIZE];
@@ -49,7 +52,10 @@ where
         ensures kept { Keeps cx.old cx.new }
     {
         let room = self.line.connection().read_room();
-        if room == 0 || !self.line.connection().can_read() {
+        if room == 0 {
+            return Turn::Idle;
+        }
+        if !self.line.connection().can_read() {
             return Turn::Idle;
         }
         let mut buf = [0; READ_SIZE];

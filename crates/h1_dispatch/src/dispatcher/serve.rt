@@ -30,7 +30,10 @@ where
         if self.line.connection().can_answer() {
             return self.respond(cx);
         }
-        if self.waiting.is_none() && self.line.connection().can_next() {
+        if self.waiting.is_some() {
+            return self.read_alone(cx);
+        }
+        if self.line.connection().can_next() {
             return self.next(cx);
         }
         self.read_alone(cx)

@@ -1,9 +1,10 @@
 // What is buffered is written, and a connection that closes is asked for its end.
-ghost use Rattle.std.specs.Prelude.{◌≡◌, ◌⊎◌, Some, None, true};
+ghost use Rattle.std.specs.Prelude.{◌≡◌, ◌⊎◌, ℕ, Some, None, true};
 ghost use Rattle.futures.specs.Task.{IsArmed, Keeps};
 ghost use Rattle.h1_machine.specs.Local.{closing_by};
+ghost use Rattle.h1_model.specs.Event as on;
 ghost use Rattle.h1_connection.specs.Meaning.{setting_of, end_of};
-ghost use Rattle.h1_dispatch.specs.View.{view_of, MayBePolled, allows_next, HasNoOutput};
+ghost use Rattle.h1_dispatch.specs.View.{view_of, MayBePolled, allows, allows_next, HasNoOutput};
 ghost use Rattle.h1_dispatch.specs.Polls.{OnIdle, TurnSays, AfterSays, EndSays};
 
 use crate::dispatcher::read::wake;
@@ -31,9 +32,25 @@ where
         ensures registered { OnIdle result (IsArmed cx.new) }
         ensures kept { Keeps cx.old cx.new }
     {
-        if self.line.connection().buffered() == 0 || !self.line.connection().can_write() {
+        if self.line.connection().buffered() == 0 {
             return self.go_on(cx);
         }
+        if !self.line.connection().can_write() {
+            return self.go_on(cx);
+        }
+        self.give(cx)
+    }
+
+    /// Gives the wire what waits.
+    fn give(&mut self, cx: &mut Context<'_>) -> Turn
+        requires open { MayBePolled S.calling self.old }
+        requires running { self.old.ending ≡ None }
+        requires allowed { (count : ℕ) → allows (view_of T.wiring S.served L.noted self.old) (on.write count) ≡ true }
+        ensures says { TurnSays (view_of T.wiring S.served L.noted self.old) (view_of T.wiring S.served L.noted self.new) result }
+        ensures open { MayBePolled S.calling self.new }
+        ensures registered { OnIdle result (IsArmed cx.new) }
+        ensures kept { Keeps cx.old cx.new }
+    {
         match self.wire.poll_write(self.line.connection().front(), cx) {
             Poll::Pending => self.go_on(cx),
             Poll::Ready(Err(Failed)) => Turn::Over(Err(DispatchError::Io)),
