@@ -3,8 +3,13 @@ use Rattle.std.proofs.Common.{◌≡◌, ◌≤◌, ◌⊎◌, ℕ, Bool, true, 
 use Rattle.futures.specs.declared.task.Poll.{Poll}
 use Rattle.futures.specs.declared.task.Poll.TheVariants.{Ready, Pending}
 use Rattle.futures.specs.declared.task.context.Context.{Context}
-use Rattle.h1_model.specs.End as model_end
-use Rattle.h1_connection.specs.Meaning.{end_of}
+use Rattle.std.specs.Prelude.{option_map, not, ◌&&◌, ◌||◌, ◌==◌, if◌then◌else◌}
+use Rattle.h1_model.specs.Event as on
+use Rattle.h1_model.specs.Setting.{Setting}
+use Rattle.h1_machine.specs.Kept.{Kept, is_open}
+use Rattle.h1_machine.specs.Local.{closing_by, allowed_by}
+use Rattle.h1_connection.specs.Given.{next_allowed}
+use Rattle.h1_connection.specs.Meaning.{setting_of, end_of}
 use Rattle.h1_connection.specs.declared.connection.heads.NextHead.TheVariants as next_head
 use Rattle.h1_connection.specs.declared.event.End.{End}
 use Rattle.h1_connection.specs.declared.event.End.TheVariants as ends
@@ -12,7 +17,7 @@ use Rattle.http_types.specs.declared.error.DispatchError.{DispatchError}
 use Rattle.h1_dispatch.specs.declared.dispatcher.Ending.TheVariants.{Closed, Abandoned}
 use Rattle.h1_dispatch.specs.declared.dispatcher.Turn.{Turn}
 use Rattle.h1_dispatch.specs.declared.dispatcher.Turn.TheVariants.{Counted, Idle, Over}
-use Rattle.h1_dispatch.specs.View.{View, Asking, closes, allows_next, allows_answer, HasNoOutput, HasNoInput}
+use Rattle.h1_dispatch.specs.View.{View, Asking, closes, allows, allows_next, allows_answer, HasNoOutput, HasNoInput}
 use Rattle.h1_dispatch.specs.Steps.{Step, IsStep, IsRun, written, shut, next, ready, called, answered}
 use Rattle.h1_dispatch.specs.Polls.{Continues, AllContinue, IsShut, Ended, result_of, counts, Awaits, Looks, Serves, Reads, IsIdle, IsHeld, IsStuckRunning, IsStuckShutting, IsStuck, GoesOn, Ends, TurnSays, ServeSays, AfterSays, EndSays, StepSays, IsReadIdle, ReadingSays, IsSpent, Waits, TurnsSay}
 use Rattle.h1_dispatch.proofs.Runs.{one, goes_by, ends_by, goes_after, ends_after}
@@ -20,6 +25,9 @@ use Rattle.h1_dispatch.proofs.Runs.{one, goes_by, ends_by, goes_after, ends_afte
 pub none_of : {A : Type 0} (x : Option A) → is_some x ≡ false → x ≡ None
 none_of None is = refl
 none_of (Some x) is = cc
+
+clash : true ≡ false → ⊥
+clash is = cc is
 
 -- ---- shutting down
 
@@ -100,18 +108,18 @@ pub waits_call : (v : View) → allows_answer v ≡ true → is_some v.reply ≡
 waits_call v allowed reply calling = serves_by v (allows_answer v) _ allowed (none_of v.reply reply) (awaits_call v.calling v.waiting calling)
 
 awaits_ready : (calling : Bool) (waiting : Option Asking) → calling ≡ false → is_some waiting ≡ true → Awaits calling waiting (ready Pending ∷ [])
-awaits_ready false (Some request) no is = inl refl
-awaits_ready false None no is = absurd (cc is)
-awaits_ready true waiting no is = absurd (cc no)
+awaits_ready false (Some request) off is = inl refl
+awaits_ready false None off is = absurd (cc is)
+awaits_ready true waiting off is = absurd (cc off)
 
 pub waits_ready : (v : View) → allows_answer v ≡ true → is_some v.reply ≡ false → v.calling ≡ false → is_some v.waiting ≡ true
     → Serves v (allows_answer v) (ready Pending ∷ [])
 waits_ready v allowed reply calling waiting = serves_by v (allows_answer v) _ allowed (none_of v.reply reply) (awaits_ready v.calling v.waiting calling waiting)
 
 awaits_none : (calling : Bool) (waiting : Option Asking) → calling ≡ false → is_some waiting ≡ false → Awaits calling waiting []
-awaits_none false None no is = refl
-awaits_none false (Some request) no is = absurd (cc is)
-awaits_none true waiting no is = absurd (cc no)
+awaits_none false None off is = refl
+awaits_none false (Some request) off is = absurd (cc is)
+awaits_none true waiting off is = absurd (cc off)
 
 pub waits_none : (v : View) → allows_answer v ≡ true → is_some v.reply ≡ false → v.calling ≡ false → is_some v.waiting ≡ false → Serves v (allows_answer v) []
 waits_none v allowed reply calling waiting = serves_by v (allows_answer v) _ allowed (none_of v.reply reply) (awaits_none v.calling v.waiting calling waiting)
@@ -122,7 +130,7 @@ looks_pending true (Some request) is none = absurd (cc none)
 looks_pending false waiting is none = absurd (cc is)
 
 pub waits_head : (v : View) → allows_answer v ≡ false → allows_next v ≡ true → is_some v.waiting ≡ false → Serves v (allows_answer v) (next next_head.Pending ∷ [])
-waits_head v no may waiting = looks_by v (allows_answer v) _ no (looks_pending (allows_next v) v.waiting may waiting)
+waits_head v off may waiting = looks_by v (allows_answer v) _ off (looks_pending (allows_next v) v.waiting may waiting)
 
 looks_not : (may : Bool) (waiting : Option Asking) → may ≡ false → Looks may waiting []
 looks_not false waiting is = refl
@@ -134,10 +142,10 @@ looks_busy true None is = absurd (cc is)
 looks_busy false waiting is = refl
 
 pub waits_not : (v : View) → allows_answer v ≡ false → allows_next v ≡ false → Serves v (allows_answer v) []
-waits_not v no may = looks_by v (allows_answer v) _ no (looks_not (allows_next v) v.waiting may)
+waits_not v off may = looks_by v (allows_answer v) _ off (looks_not (allows_next v) v.waiting may)
 
 pub waits_busy : (v : View) → allows_answer v ≡ false → is_some v.waiting ≡ true → Serves v (allows_answer v) []
-waits_busy v no busy = looks_by v (allows_answer v) _ no (looks_busy (allows_next v) v.waiting busy)
+waits_busy v off busy = looks_by v (allows_answer v) _ off (looks_busy (allows_next v) v.waiting busy)
 
 -- a call was begun, and polled at once
 called_awaits : (u : View) (allows : Bool) (served : List Step) → allows ≡ true → u.calling ≡ true → Serves u allows served → served ≡ answered Pending ∷ []
@@ -149,9 +157,9 @@ same_request a b e = cc e
 
 awaits_called : (calling : Bool) (waiting : Option Asking) (request : Asking) (served : List Step) → calling ≡ false → waiting ≡ Some request → served ≡ answered Pending ∷ []
     → Awaits calling waiting (called request ∷ served)
-awaits_called false (Some other) request served no is so = inr (ap (λ l. called request ∷ l) so ∙ ap (λ r. called r ∷ answered Pending ∷ []) (same_request other request is))
-awaits_called false None request served no is so = absurd (cc is)
-awaits_called true waiting request served no is so = absurd (cc no)
+awaits_called false (Some other) request served off is so = inr (ap (λ l. called request ∷ l) so ∙ ap (λ r. called r ∷ answered Pending ∷ []) (same_request other request is))
+awaits_called false None request served off is so = absurd (cc is)
+awaits_called true waiting request served off is so = absurd (cc off)
 
 pub called_then : (v u w : View) (request : Asking) (turn : Turn) → IsStep v (called request) u → allows_answer v ≡ true → allows_answer u ≡ true
     → v.reply ≡ None → v.calling ≡ false → v.waiting ≡ Some request → u.calling ≡ true → ServeSays u w turn → ServeSays v w turn
@@ -207,3 +215,27 @@ held_idle v turn is held = subst (λ t. AfterSays v v t) (sym is) (inl held)
 
 pub nothing_read : (v : View) (turn : Turn) → turn ≡ Idle → HasNoInput v → ReadingSays v v turn
 nothing_read v turn is none = subst (λ t. ReadingSays v v t) (sym is) (record { reading = []; reads = refl; no_input = inr (refl, none) })
+
+-- ---- closing
+
+pub not_closing : (v : View) (r : Option End) → r ≡ None → option_map end_of r ≡ closing_by (setting_of v.line.state.settings) v.line.state.kept → closes v ≡ false
+not_closing v r none says = ap is_some (sym says) ∙ ap (λ x. is_some (option_map end_of x)) none
+
+may_tell : (over closing open_one empty : Bool) → (not over && (if closing then true else true)) ≡ true → closing ≡ true → empty ≡ true
+    → ((not over && (if closing then true else open_one)) && (not closing || empty)) ≡ false → ⊥
+may_tell false true open_one true may is none refused = cc refused
+may_tell false true open_one false may is none refused = cc none
+may_tell false false open_one empty may is none refused = cc is
+may_tell true closing open_one empty may is none refused = cc may
+
+tells : (set : Setting) (k : Kept) → is_some (closing_by set k) ≡ true → allowed_by set k (on.write 0) ≡ true → length k.buffered ≡ 0
+    → next_allowed set k ≡ false → ⊥
+unfolding allowed_by
+tells set k closing may empty refused =
+    may_tell k.is_over (is_some (closing_by set k)) (not (is_open k)) (length k.buffered == 0) may closing (ap (λ n. n == 0) empty) refused
+
+-- what a connection that closes waits for is that the rest is written, which was tried
+pub held_armed : {P : Type 0} (v : View) → HasNoOutput v ⊎ P → closes v ≡ true → allows v (on.write 0) ≡ true → allows_next v ≡ false → P
+held_armed v (inl (inl empty)) closing may refused = absurd (tells (setting_of v.line.state.settings) v.line.state.kept closing may empty refused)
+held_armed v (inl (inr unwritten)) closing may refused = absurd (clash (sym may ∙ unwritten))
+held_armed v (inr armed) closing may refused = armed

@@ -35,7 +35,7 @@ returns-in-Ok-clause-says g c =
     goes_by v w (read (take n c.poll_read.new.buf) (Ready (Ok n))) 1
     (read_step v w (take n c.poll_read.new.buf) c.poll_read.new.buf (Ready (Ok n)) c.requires.running c.requires.eof (search rules) (search rules) refl
     (rw c.in-Ready-Ok-eq0.field-0-is at c.in-Ready-Ok-eq0.ensures.says)
-    (inl (c.in-Ready-Ok-eq0.field-0-0-is, record { steps = c.in-Ok.ensures.stands; settings = c.eof.ensures.settings })) refl) tt (omega arith)
+    (inl (search rules, record { steps = c.in-Ok.ensures.stands; settings = c.eof.ensures.settings })) refl) tt (omega arith)
 
 pub returns-in-Err-clause-says : goal.returns-in-Err-clause-says
 returns-in-Err-clause-says g c =

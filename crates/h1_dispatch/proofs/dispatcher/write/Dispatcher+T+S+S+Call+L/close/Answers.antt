@@ -1,6 +1,6 @@
 use Rattle.std.proofs.Common.{rules, inl, refl, ap, sym, ◌∙◌, is_some}
 use Rattle.h1_dispatch.specs.View.{view_of}
-use Rattle.h1_dispatch.proofs.Turns.{end_then, held_idle}
+use Rattle.h1_dispatch.proofs.Turns.{end_then, held_idle, held_armed}
 use Rattle.h1_dispatch.proofs.dispatcher.write.Dispatcher+T+S+S+Call+L.close.Goals as goal
 
 pub returns-then-can_next-clause-says : goal.returns-then-can_next-clause-says
@@ -18,3 +18,8 @@ pub returns-clause-says : goal.returns-clause-says
 returns-clause-says g c =
     let v = view_of g.T.Wire.wiring g.S.Service.served g.L.Recorder.noted c.args.self.now in
     held_idle v c.wake.result c.wake.ensures.idle (record { stays = refl; closing = ap is_some c.requires.closing; next = search rules })
+
+pub returns-then-can_write-clause-registered : goal.returns-then-can_write-clause-registered
+returns-then-can_write-clause-registered g c =
+    let v = view_of g.T.Wire.wiring g.S.Service.served g.L.Recorder.noted c.args.self.now in
+    held_armed v c.requires.armed (ap is_some c.requires.closing) (search rules) (search rules)
