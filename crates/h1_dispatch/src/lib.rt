@@ -13,13 +13,11 @@
 //!
 //! # Contract
 //!
-//! A poll is a run of steps: a moment that came, bytes written or read, a head handed out, a call begun, an answer. Over
-//! every run the steps that are noted are a trace of the connection, the service is called with the heads of it, and what
-//! it answers is answered, in order.
+//! A poll is a run of steps: a moment that came, bytes written or read, a head handed out, a call begun, an answer handed
+//! on. Each step says what it takes, what the wire, the service and the connection did, and that all else stays. What a
+//! poll answers says how its run ends.
 #![tactic(auto)]
 
 mod dispatcher;
-mod laws;
 
 pub use dispatcher::{Dispatcher, Ending};
-pub use laws::{runs_are_traces, runs_keep_order};

@@ -6,7 +6,7 @@ use Rattle.h1_dispatch.proofs.dispatcher.read.Dispatcher+T+S+S+Call+L.read_alone
 pub returns-then-room-eq0-clause-says : goal.returns-then-room-eq0-clause-says
 returns-then-room-eq0-clause-says g c =
     let v = view_of g.T.Wire.wiring g.S.Service.served g.L.Recorder.noted c.args.self.now in
-    nothing_read v c.wake-then-room-eq0.result c.wake-then-room-eq0.ensures.idle (inr (search rules))
+    nothing_read v c.wake.result c.wake.ensures.idle (inr (search rules))
 
 pub returns-then-not-can_read-clause-says : goal.returns-then-not-can_read-clause-says
 returns-then-not-can_read-clause-says g c =
