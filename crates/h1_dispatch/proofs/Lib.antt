@@ -3,3 +3,4 @@ pub mod Turns
 pub mod Moves
 pub mod Begins
 pub mod Traces
+pub mod Orders

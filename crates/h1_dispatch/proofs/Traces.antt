@@ -144,12 +144,12 @@ took v w came buf (Ready (Ok n)) fits are says (inl end) =
     })
 took v w came buf (Ready (Ok n)) fits are says (inr some) =
     went v w (on.read came) (Is (on.took some.1.0)) some.1.1 (λ out is machine.
-      let all = took_all (setting_of v.line.state.settings) v.line.state.kept w.line.state.kept came out
-          (subst (λ l. length l ≤ room v) (sym are) (short n buf (room v) fits)) machine in
-      record {
-        received = subst (λ l. Grows v.wire.received w.wire.received l) (sym (ap (λ o. step_taken (on.read came) o) all ∙ all_taken came ∙ are)) says.received;
-        sent = subst (λ l. Grows v.wire.sent w.wire.sent l) (sym (ap step_written is)) (same_grows _ _ says.sent);
-      })
+    let all = took_all (setting_of v.line.state.settings) v.line.state.kept w.line.state.kept came out
+    (subst (λ l. length l ≤ room v) (sym are) (short n buf (room v) fits)) machine in
+    record {
+      received = subst (λ l. Grows v.wire.received w.wire.received l) (sym (ap (λ o. step_taken (on.read came) o) all ∙ all_taken came ∙ are)) says.received;
+      sent = subst (λ l. Grows v.wire.sent w.wire.sent l) (sym (ap step_written is)) (same_grows _ _ says.sent);
+    })
 took v w came buf (Ready (Err e)) fits are says same = still v w same says.received (same_grows _ _ says.sent)
 took v w came buf Pending fits are says same = still v w same says.received (same_grows _ _ says.sent)
 

@@ -2,3 +2,4 @@ pub mod View
 pub mod Steps
 pub mod Polls
 pub mod Traces
+pub mod Order

@@ -15,11 +15,12 @@
 //!
 //! A poll is a run of steps: a moment that came, bytes written or read, a head handed out, a call begun, an answer handed
 //! on. Each step says what it takes, what the wire, the service and the connection did, and that all else stays. What a
-//! poll answers says how its run ends. Over every run the steps that were noted are a trace of the connection.
+//! poll answers says how its run ends. Over every run the steps that were noted are a trace of the connection,
+//! and requests and answers keep their order.
 #![tactic(auto)]
 
 mod dispatcher;
 mod laws;
 
 pub use dispatcher::{Dispatcher, Ending};
-pub use laws::runs_are_traces;
+pub use laws::{runs_are_traces, runs_keep_order};

@@ -16,9 +16,11 @@ pub returns-in-Ok-clause-says : goal.returns-in-Ok-clause-says
 returns-in-Ok-clause-says g c =
     let v = view_of g.T.Wire.wiring g.S.Service.served g.L.Recorder.noted c.args.self.now in
     let w = view_of g.T.Wire.wiring g.S.Service.served g.L.Recorder.noted (record c.args.self.now { line = c.answer.new.self; reply = c.take.new.self }) in
-    goes_by v w (replied c.in-Some.response) 1
-    (sym c.take.ensures.value ∙ c.in-Some.is, record { steps = rw c.head.ensures at c.in-Ok.ensures.stands; settings = c.answer.ensures.settings },
-    ap (λ x. record v { line = w.line; reply = x }) c.take.ensures.after) tt (omega arith)
+    goes_by v w (replied c.in-Some.response) 1 (
+      sym c.take.ensures.value ∙ c.in-Some.is,
+      record { steps = rw c.head.ensures at c.in-Ok.ensures.stands; settings = c.answer.ensures.settings },
+      ap (λ x. record v { line = w.line; reply = x }) c.take.ensures.after,
+    ) tt (omega arith)
 
 pub returns-in-Err-clause-says : goal.returns-in-Err-clause-says
 returns-in-Err-clause-says g c =
