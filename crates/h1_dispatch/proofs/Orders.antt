@@ -7,7 +7,7 @@ use Rattle.http_bodies.proofs.Histories.{grown, grown-none}
 use Rattle.http_services.specs.Serving.{Serving}
 use Rattle.h1_dispatch.specs.View.{View, Asking, Answer}
 use Rattle.h1_dispatch.specs.Steps.{Step, IsStep, IsRun, still_waiting, ticked, drained, written, read, shut, next, closed, ready, called, answered, dropped, replied, failed, failed_write, failed_read}
-use Rattle.h1_dispatch.specs.Order.{step_requests, step_calls, step_answers, step_replies, LeavesBy, Leave, requests, calls, answers, replies, KeepsOrder}
+use Rattle.h1_dispatch.specs.Order.{step_requests, step_calls, step_answers, step_replies, LeavesRefused, LeavesBy, Leave, requests, calls, answers, replies, KeepsOrder}
 
 -- what one step keeps
 record Keeps (v : View) (d : Step) (w : View) : Type 0 where
@@ -48,9 +48,9 @@ handed v w d leaves b c e none waits reply service = record {
 }
 
 gone : (v w : View) (answer : Poll (Result Unit Answer)) → w.waiting ≡ still_waiting answer v.waiting
-    → (left : List Asking) × (option_to_list v.waiting ++ [] ≡ left ++ option_to_list w.waiting)
-gone v w (Ready x) is = (option_to_list v.waiting, ap (λ x. option_to_list v.waiting ++ option_to_list x) (sym is))
-gone v w Pending is = ([], same_list v.waiting w.waiting is)
+    → (left : List Asking) × LeavesRefused answer left × (option_to_list v.waiting ++ [] ≡ left ++ option_to_list w.waiting)
+gone v w (Ready x) is = (option_to_list v.waiting, tt, ap (λ x. option_to_list v.waiting ++ option_to_list x) (sym is))
+gone v w Pending is = ([], refl, same_list v.waiting w.waiting is)
 
 -- an answer is there now, where none was
 now_there : (v w : View) (d : Step) → v.reply ≡ None → option_to_list w.reply ≡ step_answers d → step_replies d ≡ []
@@ -70,8 +70,8 @@ step_keeps v w (ready answer) is =
     let left = gone v w answer (ap (λ (x : View). x.waiting) is.3) in
     record {
       left = left.0;
-      leaves = tt;
-      waits = left.1;
+      leaves = left.1;
+      waits = left.2;
       replied_so = now_there v w (ready answer) is.0.2 (ap (λ (x : View). option_to_list x.reply) is.3) refl;
       called_so = told v w is.2.called;
     }

@@ -43,10 +43,15 @@ abbrev pub replies : List Step → List Answer
 replies [] = []
 replies (d ∷ steps) = step_replies d ++ replies steps
 
--- the requests that went from waiting by this step: the one that was called, or whichever the service refused
+-- what goes where the service was asked whether it takes a call: the request that waits, if it refused
+abbrev pub LeavesRefused : Poll (Result Unit Answer) → List Asking → Type 0
+LeavesRefused (Ready x) left = ⊤
+LeavesRefused Pending left = left ≡ []
+
+-- the requests that went from waiting by this step: the one that was called, or the one that was refused
 abbrev pub LeavesBy : Step → List Asking → Type 0
 LeavesBy (called request) left = left ≡ request ∷ []
-LeavesBy (ready answer) left = ⊤
+LeavesBy (ready answer) left = LeavesRefused answer left
 LeavesBy step left = left ≡ []
 
 abbrev pub Leave : List Step → List Asking → Type 0
