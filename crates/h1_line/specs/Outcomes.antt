@@ -3,9 +3,7 @@ use Rattle.h1_connection.specs.declared.connection.heads.NextHead.{NextHead}
 use Rattle.h1_connection.specs.declared.connection.heads.NextHead.TheVariants as next
 use Rattle.h1_connection.specs.declared.event.Outcome.{Outcome}
 use Rattle.h1_connection.specs.declared.event.Outcome.TheVariants as out
-use Rattle.h1_connection.specs.declared.event.PayloadError.{PayloadError}
 use Rattle.h1_connection.specs.declared.event.PayloadError.TheVariants.{Incomplete, EncodingCorrupted}
-use Rattle.h1_payload.specs.declared.pulled.BodyFault.{BodyFault}
 use Rattle.h1_payload.specs.declared.pulled.BodyFault.TheVariants as fault
 use Rattle.h1_payload.specs.declared.pulled.Pulled.{Pulled}
 use Rattle.h1_payload.specs.declared.pulled.Pulled.TheVariants as pulled
@@ -25,8 +23,3 @@ pulled_outcome pulled.End = out.BodyEnd
 pulled_outcome (pulled.Broken fault.Corrupted) = out.Broken EncodingCorrupted
 pulled_outcome (pulled.Broken fault.Incomplete) = out.Broken Incomplete
 pulled_outcome pulled.Pending = out.Pending
-
--- the fault of a body that an error tells
-abbrev pub told_fault : PayloadError → BodyFault
-told_fault EncodingCorrupted = fault.Corrupted
-told_fault Incomplete = fault.Incomplete

@@ -12,9 +12,7 @@ ghost use Rattle.h1_connection.specs.Unsent.{SendsNoPiece, SendsNoEnd};
 ghost use Rattle.h1_line.specs.Line.{line_of, LineStands, LineSteps, LineFails};
 
 use crate::Recorder;
-use crate::outcomes::{
-    next_of_outcome, outcome_of_next, outcome_of_pull, outcome_of_tick, pulled_of_outcome,
-};
+use crate::outcomes::{outcome_of_next, outcome_of_tick};
 use h1_connection::{
     BodySize, Boxed, Bytes, Connection, Event, Expiry, NextHead, NoMemory, Outcome, Pulled,
     ResponseHead, ServiceConfig,
@@ -142,7 +140,7 @@ impl<L: Recorder> Line<L> {
         self.recorder.note(&Event::Eof, &Outcome::Done)
     }
 
-    /// Hands out the next request's head, or that the connection has ended.
+    /// Hands out the next request's head, or that the connection has ended. A head is copied for a recorder that listens.
     pub fn next(&mut self) -> Result<NextHead, NoMemory>
         requires can_next { IsNextAllowed self.old.connection }
         ensures stands { IfOk result (λ next. LineSteps (line_of L.noted self.old) on.next (SaysNext next) (line_of L.noted self.new)) }
@@ -155,9 +153,9 @@ impl<L: Recorder> Line<L> {
         if !self.recorder.listens() {
             return Ok(next);
         }
-        let outcome = outcome_of_next(next);
+        let outcome = outcome_of_next(&next)?;
         self.recorder.note(&Event::Next, &outcome)?;
-        Ok(next_of_outcome(outcome))
+        Ok(next)
     }
 
     /// The first bytes that wait were written to the peer. They are copied for a recorder that listens.

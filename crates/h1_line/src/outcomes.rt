@@ -1,75 +1,36 @@
-// What the calls of a connection answer, as outcomes and back.
-ghost use Rattle.std.specs.Prelude.{◌≡◌};
+// What the calls of a connection answer, as outcomes.
+ghost use Rattle.std.specs.Prelude.{◌≡◌, IfOk};
 ghost use Rattle.h1_model.specs.Event as on;
-ghost use Rattle.h1_payload.specs.Rests.{SaysPulled};
-ghost use Rattle.h1_connection.specs.Heads.{SaysNext};
 ghost use Rattle.h1_connection.specs.Meaning.{SaysOutcome};
 ghost use Rattle.h1_connection.specs.Ticks.{expiry_of};
-ghost use Rattle.h1_connection.specs.declared.connection.heads.NextHead.{NextHead};
-ghost use Rattle.h1_payload.specs.declared.pulled.Pulled.{Pulled};
-ghost use Rattle.h1_line.specs.Outcomes.{next_outcome, pulled_outcome, told_fault};
+ghost use Rattle.h1_line.specs.Outcomes.{next_outcome, pulled_outcome};
 
-use h1_connection::{BodyFault, Expiry, NextHead, Outcome, PayloadError, Pulled};
+use h1_connection::{BodyFault, Expiry, NextHead, NoMemory, Outcome, PayloadError, Pulled};
 
-/// What came where the next head was asked for.
-pub(crate) fn outcome_of_next(next: NextHead) -> Outcome
-    ensures { result ≡ next_outcome next }
+/// What came where the next head was asked for. A head is copied.
+pub(crate) fn outcome_of_next(next: &NextHead) -> Result<Outcome, NoMemory>
+    ensures { IfOk result (λ outcome. outcome ≡ next_outcome next.now) }
 {
-    match next {
-        NextHead::Head(item) => Outcome::Head(item),
-        NextHead::Fault(fault) => Outcome::Fault(fault),
+    Ok(match next {
+        NextHead::Head(item) => Outcome::Head(item.copy()?),
+        NextHead::Fault(fault) => Outcome::Fault(*fault),
         NextHead::Pending => Outcome::Pending,
-        NextHead::Closed(end) => Outcome::Closed(end),
-    }
+        NextHead::Closed(end) => Outcome::Closed(*end),
+    })
 }
 
-/// And back: only the outcomes of a next head are given here.
-pub(crate) fn next_of_outcome(outcome: Outcome) -> NextHead
-    ensures { (next : NextHead) → outcome ≡ next_outcome next → result ≡ next }
+/// What a pull gave. Bytes are shared, trailers copied.
+pub(crate) fn outcome_of_pull(pulled: &Pulled) -> Result<Outcome, NoMemory>
+    ensures { IfOk result (λ outcome. outcome ≡ pulled_outcome pulled.now) }
 {
-    match outcome {
-        Outcome::Head(item) => NextHead::Head(item),
-        Outcome::Fault(fault) => NextHead::Fault(fault),
-        Outcome::Closed(end) => NextHead::Closed(end),
-        _ => NextHead::Pending,
-    }
-}
-
-/// What a pull gave.
-pub(crate) fn outcome_of_pull(pulled: Pulled) -> Outcome
-    ensures { result ≡ pulled_outcome pulled }
-{
-    match pulled {
-        Pulled::Bytes(bytes) => Outcome::Bytes(bytes),
-        Pulled::Trailers(trailers) => Outcome::Trailers(trailers),
+    Ok(match pulled {
+        Pulled::Bytes(bytes) => Outcome::Bytes(bytes.clone()?),
+        Pulled::Trailers(trailers) => Outcome::Trailers(trailers.copy()?),
         Pulled::End => Outcome::BodyEnd,
         Pulled::Broken(BodyFault::Corrupted) => Outcome::Broken(PayloadError::EncodingCorrupted),
         Pulled::Broken(BodyFault::Incomplete) => Outcome::Broken(PayloadError::Incomplete),
         Pulled::Pending => Outcome::Pending,
-    }
-}
-
-/// And back: only the outcomes of a pull are given here.
-pub(crate) fn pulled_of_outcome(outcome: Outcome) -> Pulled
-    ensures { (pulled : Pulled) → outcome ≡ pulled_outcome pulled → result ≡ pulled }
-{
-    match outcome {
-        Outcome::Bytes(bytes) => Pulled::Bytes(bytes),
-        Outcome::Trailers(trailers) => Pulled::Trailers(trailers),
-        Outcome::BodyEnd => Pulled::End,
-        Outcome::Broken(error) => Pulled::Broken(fault_of(error)),
-        _ => Pulled::Pending,
-    }
-}
-
-// The fault of a body that this error tells.
-fn fault_of(error: PayloadError) -> BodyFault
-    ensures { result ≡ told_fault error }
-{
-    match error {
-        PayloadError::EncodingCorrupted => BodyFault::Corrupted,
-        PayloadError::Incomplete => BodyFault::Incomplete,
-    }
+    })
 }
 
 /// What a tick told.

@@ -8,7 +8,7 @@ ghost use Rattle.h1_line.specs.Line.{line_of, LineSteps, LineFails};
 
 use crate::Recorder;
 use crate::line::Line;
-use crate::outcomes::{outcome_of_pull, pulled_of_outcome};
+use crate::outcomes::outcome_of_pull;
 use h1_connection::{Event, NoMemory, Outcome, Pulled};
 use std::alloc::Global;
 
@@ -26,9 +26,9 @@ impl<L: Recorder> Line<L> {
         if !self.recorder.listens() {
             return Ok(pulled);
         }
-        let outcome = outcome_of_pull(pulled);
+        let outcome = outcome_of_pull(&pulled)?;
         self.recorder.note(&Event::Pull, &outcome)?;
-        Ok(pulled_of_outcome(outcome))
+        Ok(pulled)
     }
 
     /// The rest of the open request's body isn't wanted.

@@ -1,10 +1,8 @@
-use Rattle.std.proofs.Common.{sym, refl, subst}
+use Rattle.std.proofs.Common.{sym, refl}
 use Rattle.h1_model.specs.Event as on
 use Rattle.h1_connection.specs.Heads.{SaysNext}
-use Rattle.h1_connection.specs.declared.connection.heads.NextHead.{NextHead}
 use Rattle.h1_connection.specs.declared.event.Event.TheVariants.{Next}
-use Rattle.h1_line.specs.Line.{LineSteps}
-use Rattle.h1_line.proofs.Lines.{any_err, unheard, next_says_by, line_steps, line_steps_unheard, fails_before, fails_after}
+use Rattle.h1_line.proofs.Lines.{any_err, unheard, next_says_by, line_steps, line_steps_unheard, fails_before, fails_after, fails_unnoted}
 use Rattle.h1_line.proofs.line.Line.next.Goals as goal
 
 pub returns-then-not-listens-clause-stands : goal.returns-then-not-listens-clause-stands
@@ -14,15 +12,17 @@ returns-then-not-listens-clause-stands g c =
 
 pub returns-clause-stands : goal.returns-clause-stands
 returns-clause-stands g c =
-    rw (sym c.self.view_is) (subst (λ (n : NextHead). LineSteps (record { state = c.self.inside.connection; noted = g.L.Recorder.noted c.self.inside.recorder }) on.next (SaysNext n) (record { state = c.next.new.self; noted = g.L.Recorder.noted c.note.new.self }))
-    (sym (c.next_of_outcome.ensures c.in_ok-next.next c.outcome_of_next-outcome.ensures))
-    (line_steps c.self.inside.connection c.next.new.self _ _ (record { event = Next; outcome = c.outcome_of_next-outcome.result }) on.next (SaysNext c.in_ok-next.next)
+    rw (sym c.self.view_is) (line_steps c.self.inside.connection c.next.new.self _ _ (record { event = Next; outcome = c.in_ok-outcome.outcome }) on.next (SaysNext c.in_ok-next.next)
     c.in_ok-next.ensures.stands c.in_ok-next.ensures.settings c.in_ok-note.ensures.ok
-    (λ out says. record { event = refl; outcome = next_says_by c.in_ok-next.next c.outcome_of_next-outcome.result out c.outcome_of_next-outcome.ensures says })))
+    (λ out says. record { event = refl; outcome = next_says_by c.in_ok-next.next c.in_ok-outcome.outcome out c.in_ok-outcome.ensures says }))
 
 pub returns-in_err-note-clause-err : goal.returns-in_err-note-clause-err
 returns-in_err-note-clause-err g c =
     rw (sym c.self.view_is) (any_err _ (fails_after c.self.inside.connection c.next.new.self _ _ on.next (SaysNext c.in_ok-next.next) c.in_ok-next.ensures.stands c.in_err-note.ensures.err))
+
+pub returns-in_err-outcome-clause-err : goal.returns-in_err-outcome-clause-err
+returns-in_err-outcome-clause-err g c =
+    rw (sym c.self.view_is) (any_err _ (fails_unnoted c.self.inside.connection c.next.new.self _ on.next (SaysNext c.in_ok-next.next) c.in_ok-next.ensures.stands))
 
 pub returns-in_err-next-clause-err : goal.returns-in_err-next-clause-err
 returns-in_err-next-clause-err g c =

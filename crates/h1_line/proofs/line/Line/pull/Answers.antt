@@ -1,10 +1,8 @@
-use Rattle.std.proofs.Common.{sym, refl, subst}
+use Rattle.std.proofs.Common.{sym, refl}
 use Rattle.h1_model.specs.Event as on
 use Rattle.h1_payload.specs.Rests.{SaysPulled}
-use Rattle.h1_payload.specs.declared.pulled.Pulled.{Pulled}
 use Rattle.h1_connection.specs.declared.event.Event.TheVariants.{Pull}
-use Rattle.h1_line.specs.Line.{LineSteps}
-use Rattle.h1_line.proofs.Lines.{any_err, unheard, pull_says_by, line_steps, line_steps_unheard, fails_before, fails_after}
+use Rattle.h1_line.proofs.Lines.{any_err, unheard, pull_says_by, line_steps, line_steps_unheard, fails_before, fails_after, fails_unnoted}
 use Rattle.h1_line.proofs.line.Line.pull.Goals as goal
 
 pub returns-then-not-listens-clause-stands : goal.returns-then-not-listens-clause-stands
@@ -14,15 +12,17 @@ returns-then-not-listens-clause-stands g c =
 
 pub returns-clause-stands : goal.returns-clause-stands
 returns-clause-stands g c =
-    rw (sym c.self.view_is) (subst (λ (n : Pulled). LineSteps (record { state = c.self.inside.connection; noted = g.L.Recorder.noted c.self.inside.recorder }) on.pull (SaysPulled n) (record { state = c.pull.new.self; noted = g.L.Recorder.noted c.note.new.self }))
-    (sym (c.pulled_of_outcome.ensures c.in_ok-pulled.pulled c.outcome_of_pull-outcome.ensures))
-    (line_steps c.self.inside.connection c.pull.new.self _ _ (record { event = Pull; outcome = c.outcome_of_pull-outcome.result }) on.pull (SaysPulled c.in_ok-pulled.pulled)
+    rw (sym c.self.view_is) (line_steps c.self.inside.connection c.pull.new.self _ _ (record { event = Pull; outcome = c.in_ok-outcome.outcome }) on.pull (SaysPulled c.in_ok-pulled.pulled)
     c.in_ok-pulled.ensures.stands c.in_ok-pulled.ensures.settings c.in_ok-note.ensures.ok
-    (λ out says. record { event = refl; outcome = pull_says_by c.in_ok-pulled.pulled c.outcome_of_pull-outcome.result out c.outcome_of_pull-outcome.ensures says })))
+    (λ out says. record { event = refl; outcome = pull_says_by c.in_ok-pulled.pulled c.in_ok-outcome.outcome out c.in_ok-outcome.ensures says }))
 
 pub returns-in_err-note-clause-err : goal.returns-in_err-note-clause-err
 returns-in_err-note-clause-err g c =
     rw (sym c.self.view_is) (any_err _ (fails_after c.self.inside.connection c.pull.new.self _ _ on.pull (SaysPulled c.in_ok-pulled.pulled) c.in_ok-pulled.ensures.stands c.in_err-note.ensures.err))
+
+pub returns-in_err-outcome-clause-err : goal.returns-in_err-outcome-clause-err
+returns-in_err-outcome-clause-err g c =
+    rw (sym c.self.view_is) (any_err _ (fails_unnoted c.self.inside.connection c.pull.new.self _ on.pull (SaysPulled c.in_ok-pulled.pulled) c.in_ok-pulled.ensures.stands))
 
 pub returns-in_err-pulled-clause-err : goal.returns-in_err-pulled-clause-err
 returns-in_err-pulled-clause-err g c =

@@ -1,0 +1,6 @@
+pub mod Runs
+pub mod Turns
+pub mod Moves
+pub mod Begins
+pub mod Traces
+pub mod Orders

@@ -1,0 +1,5 @@
+pub mod View
+pub mod Steps
+pub mod Polls
+pub mod Traces
+pub mod Order

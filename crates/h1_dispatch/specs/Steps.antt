@@ -1,0 +1,166 @@
+-- The steps of a dispatcher.
+use Rattle.std.specs.Prelude.{◌≡◌, ◌≤◌, ◌<◌, ◌⊎◌, ℕ, Bool, true, false, Option, Some, None, List, [], ◌∷◌, length, take, ⊤, Result, Ok, Err}
+use Rattle.futures.specs.declared.task.Poll.{Poll}
+use Rattle.futures.specs.declared.task.Poll.TheVariants.{Ready, Pending}
+use Rattle.http_config.specs.declared.Failed.{Failed}
+use Rattle.http_services.specs.Serving.{Serving, ReadySays, CallSays, AnswerSays}
+use Rattle.http_wires.specs.Wiring.{ReadSays, WriteSays, ShutSays, moved}
+use Rattle.h1_codec.specs.Meaning.{answer_of}
+use Rattle.h1_model.specs.Answer as answers
+use Rattle.h1_model.specs.Event as on
+use Rattle.h1_machine.specs.Local.{closing_by}
+use Rattle.h1_connection.specs.Heads.{SaysNext}
+use Rattle.h1_connection.specs.Meaning.{setting_of, end_of}
+use Rattle.h1_connection.specs.State.{Is}
+use Rattle.h1_connection.specs.Ticks.{expiry_of}
+use Rattle.h1_connection.specs.declared.connection.heads.NextHead.{NextHead}
+use Rattle.h1_connection.specs.declared.connection.heads.NextHead.TheVariants as next_head
+use Rattle.h1_connection.specs.declared.connection.ticks.Expiry.{Expiry}
+use Rattle.h1_connection.specs.declared.connection.ticks.Expiry.TheVariants as expiries
+use Rattle.h1_connection.specs.declared.event.End.{End}
+use Rattle.h1_line.specs.Line.{LineView, LineSteps, LineFails}
+use Rattle.h1_dispatch.specs.declared.dispatcher.Ending.{Ending}
+use Rattle.h1_dispatch.specs.declared.dispatcher.Ending.TheVariants.{Closed, Abandoned}
+use Rattle.h1_dispatch.specs.View.{View, Asking, Answer, closes, allows, buffered, room}
+
+-- A step. A moment came; the drain came; the wire was given what waits to be written; it was asked for bytes, and these
+-- came; it was shut down; the next head was asked for; the connection closes, and told its end; the service was asked
+-- whether it takes a call, and takes none; it takes one, and the call was begun; a call was polled; the rest of a body was
+-- dropped; the answer was handed on. Or memory ran out: for an event, or for that of bytes which the wire had moved.
+pub data Step : Type 0 where
+  ticked : (moment : ℕ) → (expiry : Expiry) → Step
+  drained : Step
+  written : (answer : Poll (Result ℕ Failed)) → Step
+  read : (came : List ℕ) → (answer : Poll (Result ℕ Failed)) → Step
+  shut : (answer : Poll (Result Unit Failed)) → Step
+  next : (head : NextHead) → Step
+  closed : (end : End) → Step
+  ready : (answer : Poll (Result Unit Answer)) → Step
+  called : (request : Asking) → Step
+  answered : (answer : Poll (Result Answer Answer)) → Step
+  dropped : Step
+  replied : (answer : Answer) → Step
+  failed : (event : on.Event) → Step
+  failed_write : (count : ℕ) → Step
+  failed_read : (came : List ℕ) → (event : on.Event) → Step
+
+-- the event came to the connection, was noted, and had such an outcome; its settings stay
+pub record Goes (old : LineView) (event : on.Event) (Says : on.Outcome → Type 0) (new : LineView) : Type 0 where
+  pub steps : LineSteps old event Says new
+  pub settings : new.state.settings ≡ old.state.settings
+
+-- how it has ended after a tick
+abbrev pub ending_at : Expiry → Option Ending → Option Ending
+ending_at expiries.None ending = ending
+ending_at (expiries.Expired end) ending = ending
+ending_at expiries.Abandoned ending = Some Abandoned
+
+-- the connection after the wire took bytes: those were written
+abbrev pub Wrote : LineView → LineView → Poll (Result ℕ Failed) → Type 0
+Wrote old new (Ready (Ok n)) =
+    (n ≤ length old.state.kept.buffered) × Goes old (on.write n) (Is (on.gave (take n old.state.kept.buffered))) new
+Wrote old new (Ready (Err e)) = new ≡ old
+Wrote old new Pending = new ≡ old
+
+-- the connection after bytes came: they were read; of none the input's end
+abbrev pub Took : LineView → LineView → List ℕ → Poll (Result ℕ Failed) → Type 0
+Took old new came (Ready (Ok n)) =
+    ((n ≡ 0) × Goes old on.eof (Is on.done) new) ⊎ ((0 < n) × ((count : ℕ) × Goes old (on.read came) (Is (on.took count)) new))
+Took old new came (Ready (Err e)) = new ≡ old
+Took old new came Pending = new ≡ old
+
+-- the request that waits after the next head was asked for
+abbrev pub request_at : NextHead → Option Asking
+request_at (next_head.Head item) = Some (record { head = item.head; payload = None; own = tt })
+request_at (next_head.Fault fault) = None
+request_at next_head.Pending = None
+request_at (next_head.Closed end) = None
+
+abbrev pub ending_told : NextHead → Option Ending
+ending_told (next_head.Head item) = None
+ending_told (next_head.Fault fault) = None
+ending_told next_head.Pending = None
+ending_told (next_head.Closed end) = Some (Closed end)
+
+-- a service that takes no call: it is asked again, or its error is the answer
+abbrev pub TakesNone : Poll (Result Unit Answer) → Type 0
+TakesNone (Ready (Ok x)) = ⊥
+TakesNone (Ready (Err e)) = ⊤
+TakesNone Pending = ⊤
+
+abbrev pub still_waiting : Poll (Result Unit Answer) → Option Asking → Option Asking
+still_waiting (Ready x) waiting = None
+still_waiting Pending waiting = waiting
+
+abbrev pub refusal_of : Poll (Result Unit Answer) → Option Answer
+refusal_of (Ready (Ok x)) = None
+refusal_of (Ready (Err e)) = Some e
+refusal_of Pending = None
+
+-- a call that answered isn't in progress any more, and its answer, also where it is an error, is to be handed on
+abbrev pub still_called : Poll (Result Answer Answer) → Bool
+still_called (Ready x) = false
+still_called Pending = true
+
+abbrev pub reply_of : Poll (Result Answer Answer) → Option Answer
+reply_of (Ready (Ok x)) = Some x
+reply_of (Ready (Err e)) = Some e
+reply_of Pending = None
+
+-- the service said that it takes a call, and then this one was begun
+pub record Begins (old new : Serving Asking Answer Answer) (request : Asking) : Type 0 where
+  pub between : Serving Asking Answer Answer
+  pub is_ready : ReadySays old between (Ready (Ok tt))
+  pub begun : CallSays between new request
+
+-- nothing is asked of the service while an answer wasn't handed on
+abbrev pub IsAsked : View → Type 0
+IsAsked v = (v.ending ≡ None) × (v.calling ≡ false) × (v.reply ≡ None)
+
+-- What a step takes, and what it leaves: all but what is named stays.
+abbrev pub IsStep : View → Step → View → Type 0
+IsStep v (ticked moment expiry) w =
+    Goes v.line (on.tick moment) (Is (expiry_of expiry)) w.line
+    × (w ≡ record v { line = w.line; ending = ending_at expiry v.ending })
+IsStep v drained w = Goes v.line on.drain (Is on.done) w.line × (w ≡ record v { line = w.line })
+IsStep v (written answer) w =
+    (v.ending ≡ None) × WriteSays v.wire w.wire answer (buffered v) × Wrote v.line w.line answer
+    × (w ≡ record v { line = w.line; wire = w.wire })
+IsStep v (read came answer) w =
+    (v.ending ≡ None) × (allows v on.eof ≡ true)
+    × ((buf : List ℕ) × (0 < length buf) × (length buf ≤ room v) × (came ≡ moved answer buf) × ReadSays v.wire w.wire answer buf)
+    × Took v.line w.line came answer × (w ≡ record v { line = w.line; wire = w.wire })
+IsStep v (shut answer) w =
+    ((end : End) × (v.ending ≡ Some (Closed end))) × ShutSays v.wire w.wire answer × (w ≡ record v { wire = w.wire })
+IsStep v (next head) w =
+    (v.ending ≡ None) × (v.waiting ≡ None) × Goes v.line on.next (SaysNext head) w.line
+    × (w ≡ record v { line = w.line; waiting = request_at head; ending = ending_told head })
+IsStep v (closed end) w =
+    (v.ending ≡ None) × (closing_by (setting_of v.line.state.settings) v.line.state.kept ≡ Some (end_of end))
+    × ((head : NextHead) × Goes v.line on.next (SaysNext head) w.line)
+    × (w ≡ record v { line = w.line; ending = Some (Closed end) })
+IsStep v (ready answer) w =
+    IsAsked v × TakesNone answer × ReadySays v.service w.service answer
+    × (w ≡ record v { service = w.service; waiting = still_waiting answer v.waiting; reply = refusal_of answer })
+IsStep v (called request) w =
+    IsAsked v × (v.waiting ≡ Some request) × Begins v.service w.service request
+    × (w ≡ record v { service = w.service; waiting = None; calling = true })
+IsStep v (answered answer) w =
+    (v.ending ≡ None) × (v.calling ≡ true) × (v.reply ≡ None) × AnswerSays v.service w.service answer
+    × (w ≡ record v { service = w.service; calling = still_called answer; reply = reply_of answer })
+IsStep v dropped w = Goes v.line on.drop_body (Is on.done) w.line × (w ≡ record v { line = w.line })
+IsStep v (replied answer) w =
+    (v.reply ≡ Some answer) × Goes v.line (on.answer (answer_of answer.head) (answers.size_of 0)) (Is on.done) w.line
+    × (w ≡ record v { line = w.line; reply = None })
+IsStep v (failed event) w = LineFails v.line event w.line × (w ≡ record v { line = w.line })
+IsStep v (failed_write count) w =
+    WriteSays {E = Failed} v.wire w.wire (Ready (Ok count)) (buffered v) × LineFails v.line (on.write count) w.line
+    × (w ≡ record v { line = w.line; wire = w.wire })
+IsStep v (failed_read came event) w =
+    ((buf : List ℕ) × (count : ℕ) × (came ≡ take count buf) × ReadSays {E = Failed} v.wire w.wire (Ready (Ok count)) buf) × LineFails v.line event w.line
+    × (w ≡ record v { line = w.line; wire = w.wire })
+
+-- one step after another
+abbrev pub IsRun : View → List Step → View → Type 0
+IsRun v [] w = w ≡ v
+IsRun v (step ∷ steps) w = (u : View) × IsStep v step u × IsRun u steps w

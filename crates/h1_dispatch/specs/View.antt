@@ -1,0 +1,120 @@
+-- What a dispatcher keeps, and what is known of what it stands on.
+use Rattle.std.specs.Prelude.{◌≡◌, ◌-◌, ◌⊎◌, ℕ, Bool, true, false, Option, Some, None, is_some, List, [], length, ⊤}
+use Rattle.http_config.specs.Config.{Settings}
+use Rattle.http_types.specs.Request.{RequestParts}
+use Rattle.http_types.specs.Response.{FullResponse}
+use Rattle.http_services.specs.Serving.{Serving, Calling}
+use Rattle.http_wires.specs.Wiring.{Wiring}
+use Rattle.h1_machine.specs.Local.{closing_by, allowed_by}
+use Rattle.h1_model.specs.Answer.{size_none}
+use Rattle.h1_model.specs.Event as on
+use Rattle.h1_connection.specs.Given.{next_allowed}
+use Rattle.h1_connection.specs.Meaning.{setting_of}
+use Rattle.h1_connection.specs.State.{fresh_state}
+use Rattle.h1_connection.specs.Steps.{Pair}
+use Rattle.h1_line.specs.Line.{LineView, line_of}
+use Rattle.h1_dispatch.specs.declared.dispatcher.Dispatcher.{Dispatcher}
+use Rattle.h1_dispatch.specs.declared.dispatcher.Ending.{Ending}
+
+-- what a service is asked, and what it answers: a response, also where it refuses
+abbrev pub Asking : Type 0
+Asking = RequestParts Unit Unit
+
+abbrev pub Answer : Type 0
+Answer = FullResponse Unit
+
+-- The connection with the steps that were noted; the wire; the service; the request that it is to be called with next,
+-- and whether a call is in progress; the answer that wasn't handed on yet; how the connection has ended; and that it is
+-- to be drained.
+pub record View : Type 0 where
+  pub line : LineView
+  pub wire : Wiring
+  pub service : Serving Asking Answer Answer
+  pub waiting : Option Asking
+  pub calling : Bool
+  pub reply : Option Answer
+  pub ending : Option Ending
+  pub draining : Bool
+
+abbrev pub view_of : {T S C L : Type 0} → (T → Wiring) → (S → Serving Asking Answer Answer) → (L → Option (List Pair)) → Dispatcher T S C L → View
+view_of wiring served noted d =
+    record {
+      line = line_of noted d.line;
+      wire = wiring d.wire;
+      service = served d.service;
+      waiting = d.waiting;
+      calling = is_some d.call;
+      reply = d.reply;
+      ending = d.ending;
+      draining = d.is_draining;
+    }
+
+-- a new dispatcher over this wire and this service
+abbrev pub view_begun : Wiring → Serving Asking Answer Answer → Settings → Option (List Pair) → View
+view_begun wire service settings noted =
+    record {
+      line = record { state = fresh_state settings; noted = noted };
+      wire = wire;
+      service = service;
+      waiting = None;
+      calling = false;
+      reply = None;
+      ending = None;
+      draining = false;
+    }
+
+-- the same, to be drained
+abbrev pub with_drain : View → View
+with_drain v = record v { draining = true }
+
+-- the wire, the service and the recorder
+abbrev pub parts_of : {T S C L : Type 0} → Dispatcher T S C L → T × S × L
+parts_of d = (d.wire, d.service, d.line.recorder)
+
+-- a call in progress may be polled
+abbrev pub IsCallOpen : {C : Type 0} → (C → Calling Asking) → Option C → Type 0
+IsCallOpen calling None = ⊤
+IsCallOpen calling (Some call) = (calling call).is_open ≡ true
+
+abbrev pub MayBePolled : {T S C L : Type 0} → (C → Calling Asking) → Dispatcher T S C L → Type 0
+MayBePolled calling d = IsCallOpen calling d.call
+
+-- ---- of the connection
+
+-- it closes
+abbrev pub closes : View → Bool
+closes v = is_some (closing_by (setting_of v.line.state.settings) v.line.state.kept)
+
+-- the event may come
+abbrev pub allows : View → on.Event → Bool
+allows v event = allowed_by (setting_of v.line.state.settings) v.line.state.kept event
+
+-- the next head may be asked for; where it closes, only once all is written
+abbrev pub allows_next : View → Bool
+allows_next v = next_allowed (setting_of v.line.state.settings) v.line.state.kept
+
+-- the open request may be answered, which doesn't depend on the answer
+abbrev pub any_answer : on.Event
+any_answer =
+    on.answer
+    (record { status = 200; reason = None; closes = false; keeps_alive = false; upgrades = false; no_chunking = false; in_camel_case = false; headers = [] })
+    size_none
+
+abbrev pub allows_answer : View → Bool
+allows_answer v = allows v any_answer
+
+-- the bytes that wait to be written
+abbrev pub buffered : View → List ℕ
+buffered v = v.line.state.kept.buffered
+
+-- how many more bytes may be held
+abbrev pub room : View → ℕ
+room v = v.line.state.settings.h1_hold_size - length v.line.state.kept.unread
+
+-- nothing waits to be written, or nothing may be written any more
+abbrev pub HasNoOutput : View → Type 0
+HasNoOutput v = (length (buffered v) ≡ 0) ⊎ (allows v (on.write 0) ≡ false)
+
+-- no byte may be read, or none held
+abbrev pub HasNoInput : View → Type 0
+HasNoInput v = (allows v on.eof ≡ false) ⊎ (room v ≡ 0)

@@ -1,0 +1,124 @@
+//! A dispatcher, and what it keeps.
+ghost use Rattle.std.specs.Prelude.{◌≡◌, ◌⊎◌, None, Some, []};
+ghost use Rattle.h1_machine.specs.Deadline.{deadline_by};
+ghost use Rattle.h1_connection.specs.Meaning.{setting_of};
+ghost use Rattle.h1_line.specs.Line.{LineStands};
+ghost use Rattle.h1_dispatch.specs.View.{view_of, view_begun, with_drain, parts_of, MayBePolled};
+
+use h1_connection::End;
+use h1_line::{Line, Recorder};
+use http_services::Service;
+use http_types::{Request, Response, ServiceConfig};
+use http_wires::Wire;
+use std::alloc::Global;
+
+mod answer;
+mod begin;
+mod poll;
+mod read;
+mod serve;
+mod turns;
+mod write;
+
+/// How a connection has ended: nothing more is asked of it.
+#[derive(Clone, Copy, Debug, PartialEq, Eq)]
+pub enum Ending {
+    /// It told its end. The wire is to be shut down.
+    Closed(End),
+
+    /// The peer took too long to take what was left. The wire isn't shut down.
+    Abandoned,
+}
+
+/// A service over a wire, by one connection of HTTP/1: each request goes to the service, and its answer is written.
+///
+/// The parameters are the wire, the service and its call, and who notes the steps of the connection. An answer has a head
+/// and no body. The body of a request isn't read: what is left of it is dropped when the request is answered.
+#[derive(Drop)]
+pub struct Dispatcher<T, S, C, L> {
+    line: Line<L>,
+    wire: T,
+    service: S,
+    lent: (),
+    waiting: Option<Request<(), ()>>,
+    call: Option<C>,
+    reply: Option<Response<()>>,
+    ending: Option<Ending>,
+    is_draining: bool,
+}
+
+impl<T, S, L> Dispatcher<T, S, S::Call, L>
+where
+    T: Wire,
+    S: Service<Request<(), ()>, Response = Response<()>, Error = Response<()>, Lent = ()>,
+    L: Recorder,
+{
+    /// A dispatcher of a connection to which nothing has come. It takes no memory.
+    pub fn new(
+        alloc: Global,
+        wire: T,
+        service: S,
+        config: ServiceConfig,
+        recorder: L,
+    ) -> Dispatcher<T, S, S::Call, L>
+        ensures view { view_of T.wiring S.served L.noted result ≡ view_begun (T.wiring wire) (S.served service) config (L.noted recorder) }
+        ensures stands { (L.noted recorder ≡ None) ⊎ (L.noted recorder ≡ Some []) → LineStands (view_of T.wiring S.served L.noted result).line [] }
+        ensures open { MayBePolled S.calling result }
+    {
+        Dispatcher {
+            line: Line::new(alloc, config, recorder),
+            wire,
+            service,
+            lent: (),
+            waiting: None,
+            call: None,
+            reply: None,
+            ending: None,
+            is_draining: false,
+        }
+    }
+
+    /// Has the connection end once no request is open. The next poll tells it so, where it doesn't close yet.
+    pub fn drain(&mut self)
+        ensures view { view_of T.wiring S.served L.noted self.new ≡ with_drain (view_of T.wiring S.served L.noted self.old) }
+        ensures open { MayBePolled S.calling self.old → MayBePolled S.calling self.new }
+    {
+        self.is_draining = true;
+    }
+
+    /// The least moment at which a poll would tell that a time has run out, in milliseconds after the start of 1970, where
+    /// one would. Who drives the dispatcher polls it then, if it isn't woken before.
+    pub fn deadline(&self) -> Option<u64>
+        ensures { result ≡ deadline_by (setting_of (view_of T.wiring S.served L.noted self.now).line.state.settings) (view_of T.wiring S.served L.noted self.now).line.state.kept }
+    {
+        self.line.connection().deadline()
+    }
+
+    /// The service.
+    pub fn service(&self) -> &S
+        ensures { S.served result.now ≡ (view_of T.wiring S.served L.noted self.now).service }
+    {
+        &self.service
+    }
+
+    /// The wire, the service, and who noted the steps. A call in progress is dropped.
+    pub fn into_parts(self) -> (T, S, L)
+        ensures { result ≡ parts_of self }
+    {
+        let (_connection, recorder) = self.line.into_parts();
+        (self.wire, self.service, recorder)
+    }
+}
+
+/// What a turn came to.
+#[derive(Drop)]
+enum Turn {
+    /// A step was noted; another turn may do more.
+    Counted,
+
+    /// Nothing more can be done until the task is woken.
+    Idle,
+
+    /// The poll ends.
+    Over(Result<(), http_types::DispatchError>),
+}

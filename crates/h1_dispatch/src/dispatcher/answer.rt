@@ -1,0 +1,101 @@
+// The call in progress, and its answer.
+ghost use Rattle.std.specs.Prelude.{◌≡◌, None, true, false, is_some};
+ghost use Rattle.futures.specs.Task.{IsArmed, Keeps};
+ghost use Rattle.h1_dispatch.specs.View.{view_of, MayBePolled, allows_answer};
+ghost use Rattle.h1_dispatch.specs.Polls.{OnIdle, ServeSays, EndSays, StepSays};
+
+use crate::dispatcher::{Dispatcher, Turn};
+use futures::task::{Context, Poll};
+use h1_connection::BodySize;
+use h1_line::Recorder;
+use http_services::Service;
+use http_types::{DispatchError, Request, Response};
+use http_wires::Wire;
+
+impl<T, S, L> Dispatcher<T, S, S::Call, L>
+where
+    T: Wire,
+    S: Service<Request<(), ()>, Response = Response<()>, Error = Response<()>, Lent = ()>,
+    L: Recorder,
+{
+    /// Polls the call in progress, and hands its answer on.
+    pub(super) fn answer(&mut self, cx: &mut Context<'_>) -> Turn
+        requires open { MayBePolled S.calling self.old }
+        requires running { self.old.ending ≡ None }
+        requires allowed { allows_answer (view_of T.wiring S.served L.noted self.old) ≡ true }
+        requires unanswered { is_some self.old.reply ≡ false }
+        requires calling { is_some self.old.call ≡ true }
+        ensures says { ServeSays (view_of T.wiring S.served L.noted self.old) (view_of T.wiring S.served L.noted self.new) result }
+        ensures open { MayBePolled S.calling self.new }
+        ensures registered { OnIdle result (IsArmed cx.new) }
+        ensures kept { Keeps cx.old cx.new }
+    {
+        let Some(mut call) = self.call.take() else {
+            unreachable!()
+        };
+        match self.service.poll_call(&mut call, &mut self.lent, cx) {
+            Poll::Pending => {
+                self.call = Some(call);
+                self.read_on(cx)
+            }
+            Poll::Ready(Ok(response)) => {
+                self.reply = Some(response);
+                self.hand_on()
+            }
+            Poll::Ready(Err(response)) => {
+                self.reply = Some(response);
+                self.hand_on()
+            }
+        }
+    }
+
+    /// Drops what is left of the request's body, and hands the answer on.
+    pub(super) fn hand_on(&mut self) -> Turn
+        requires open { MayBePolled S.calling self.old }
+        requires allowed { allows_answer (view_of T.wiring S.served L.noted self.old) ≡ true }
+        requires answered { is_some self.old.reply ≡ true }
+        ensures says { EndSays (view_of T.wiring S.served L.noted self.old) (view_of T.wiring S.served L.noted self.new) result }
+        ensures open { MayBePolled S.calling self.new }
+    {
+        if !self.line.connection().can_pull() {
+            return self.put_reply();
+        }
+        match self.line.drop_body() {
+            Ok(()) => self.put_reply_if_allowed(),
+            Err(_) => Turn::Over(Err(DispatchError::NoMemory)),
+        }
+    }
+
+    /// After the drop the answer is allowed still, as the next turn would see.
+    fn put_reply_if_allowed(&mut self) -> Turn
+        requires open { MayBePolled S.calling self.old }
+        requires answered { is_some self.old.reply ≡ true }
+        ensures says { StepSays (view_of T.wiring S.served L.noted self.old) (view_of T.wiring S.served L.noted self.new) result }
+        ensures open { MayBePolled S.calling self.new }
+    {
+        if !self.line.connection().can_answer() {
+            return Turn::Counted;
+        }
+        self.put_reply()
+    }
+
+    /// Hands the answer on to the connection. It has no body.
+    fn put_reply(&mut self) -> Turn
+        requires open { MayBePolled S.calling self.old }
+        requires allowed { allows_answer (view_of T.wiring S.served L.noted self.old) ≡ true }
+        requires answered { is_some self.old.reply ≡ true }
+        ensures says { EndSays (view_of T.wiring S.served L.noted self.old) (view_of T.wiring S.served L.noted self.new) result }
+        ensures open { MayBePolled S.calling self.new }
+    {
+        let Some(response) = self.reply.take() else {
+            unreachable!()
+        };
+        match self.line.answer(response.head(), BodySize::ZERO) {
+            Ok(()) => Turn::Counted,
+            Err(_) => {
+                self.reply = Some(response);
+                Turn::Over(Err(DispatchError::NoMemory))
+            }
+        }
+    }
+}

@@ -1,0 +1,120 @@
+// The next head is asked for, and the service.
+ghost use Rattle.std.specs.Prelude.{◌≡◌, None, true, false, is_some};
+ghost use Rattle.futures.specs.Task.{IsArmed, Keeps};
+ghost use Rattle.h1_dispatch.specs.View.{view_of, MayBePolled, closes, allows_next, allows_answer};
+ghost use Rattle.h1_dispatch.specs.Polls.{OnIdle, ServeSays};
+
+use crate::dispatcher::{Dispatcher, Ending, Turn};
+use futures::task::{Context, Poll};
+use h1_connection::NextHead;
+use h1_line::Recorder;
+use http_services::Service;
+use http_types::{DispatchError, Request, Response};
+use http_wires::Wire;
+
+impl<T, S, L> Dispatcher<T, S, S::Call, L>
+where
+    T: Wire,
+    S: Service<Request<(), ()>, Response = Response<()>, Error = Response<()>, Lent = ()>,
+    L: Recorder,
+{
+    /// Goes on with the open request, or else the next head, or else the input.
+    pub(super) fn serve(&mut self, cx: &mut Context<'_>) -> Turn
+        requires open { MayBePolled S.calling self.old }
+        requires running { self.old.ending ≡ None }
+        ensures says { ServeSays (view_of T.wiring S.served L.noted self.old) (view_of T.wiring S.served L.noted self.new) result }
+        ensures open { MayBePolled S.calling self.new }
+        ensures registered { OnIdle result (IsArmed cx.new) }
+        ensures kept { Keeps cx.old cx.new }
+    {
+        if self.line.connection().can_answer() {
+            return self.respond(cx);
+        }
+        if self.waiting.is_some() {
+            return self.read_alone(cx);
+        }
+        if self.line.connection().can_next() {
+            return self.next(cx);
+        }
+        self.read_alone(cx)
+    }
+
+    /// Goes on with the open request: its answer, its call, or the service.
+    fn respond(&mut self, cx: &mut Context<'_>) -> Turn
+        requires open { MayBePolled S.calling self.old }
+        requires running { self.old.ending ≡ None }
+        requires allowed { allows_answer (view_of T.wiring S.served L.noted self.old) ≡ true }
+        ensures says { ServeSays (view_of T.wiring S.served L.noted self.old) (view_of T.wiring S.served L.noted self.new) result }
+        ensures open { MayBePolled S.calling self.new }
+        ensures registered { OnIdle result (IsArmed cx.new) }
+        ensures kept { Keeps cx.old cx.new }
+    {
+        if self.reply.is_some() {
+            return self.hand_on();
+        }
+        if self.call.is_some() {
+            return self.answer(cx);
+        }
+        if self.waiting.is_some() {
+            return self.ask(cx);
+        }
+        self.read_alone(cx)
+    }
+
+    /// Asks for the next head.
+    fn next(&mut self, cx: &mut Context<'_>) -> Turn
+        requires open { MayBePolled S.calling self.old }
+        requires running { self.old.ending ≡ None }
+        requires free { is_some self.old.waiting ≡ false }
+        requires unanswered { allows_answer (view_of T.wiring S.served L.noted self.old) ≡ false }
+        requires allowed { allows_next (view_of T.wiring S.served L.noted self.old) ≡ true }
+        ensures says { ServeSays (view_of T.wiring S.served L.noted self.old) (view_of T.wiring S.served L.noted self.new) result }
+        ensures open { MayBePolled S.calling self.new }
+        ensures registered { OnIdle result (IsArmed cx.new) }
+        ensures kept { Keeps cx.old cx.new }
+    {
+        match self.line.next() {
+            Ok(NextHead::Head(item)) => {
+                self.waiting = Some(Request::new(item.head, ()));
+                Turn::Counted
+            }
+            Ok(NextHead::Fault(_)) => Turn::Counted,
+            Ok(NextHead::Pending) => self.read_alone(cx),
+            Ok(NextHead::Closed(end)) => {
+                self.ending = Some(Ending::Closed(end));
+                Turn::Counted
+            }
+            Err(_) => Turn::Over(Err(DispatchError::NoMemory)),
+        }
+    }
+
+    /// Begins a call with the request that waits, once the service takes one.
+    fn ask(&mut self, cx: &mut Context<'_>) -> Turn
+        requires open { MayBePolled S.calling self.old }
+        requires running { self.old.ending ≡ None }
+        requires allowed { allows_answer (view_of T.wiring S.served L.noted self.old) ≡ true }
+        requires unanswered { is_some self.old.reply ≡ false }
+        requires calling { is_some self.old.call ≡ false }
+        requires waiting { is_some self.old.waiting ≡ true }
+        ensures says { ServeSays (view_of T.wiring S.served L.noted self.old) (view_of T.wiring S.served L.noted self.new) result }
+        ensures open { MayBePolled S.calling self.new }
+        ensures registered { OnIdle result (IsArmed cx.new) }
+        ensures kept { Keeps cx.old cx.new }
+    {
+        match self.service.poll_ready(cx) {
+            Poll::Pending => self.read_on(cx),
+            Poll::Ready(Err(response)) => {
+                self.waiting = None;
+                self.reply = Some(response);
+                self.hand_on()
+            }
+            Poll::Ready(Ok(())) => {
+                let Some(request) = self.waiting.take() else {
+                    unreachable!()
+                };
+                self.call = Some(self.service.call(request));
+                self.answer(cx)
+            }
+        }
+    }
+}
