@@ -1,0 +1,5 @@
+//! Tests of the codecs: what no clause says, and each call once with ample memory.
+#![tactic(auto)]
+
+#[cfg(test)]
+mod server;
