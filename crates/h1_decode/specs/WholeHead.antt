@@ -33,10 +33,6 @@ pub record BeginsWithHead (bytes : List ℕ) : Type 0 where
   pub reads : ReadsRequest bytes text rest
   pub few : length text.fields ≤ MAX_HEADER_LINES
 
--- which text of the grammar the piece would be, were it none of too many lines
-abbrev pub HasNoText : List ℕ → Type 0
-HasNoText piece = header_lines piece ≤ MAX_HEADER_LINES → (text : RequestHead) → ¬ (ReadsRequest piece text [])
-
 -- an error of the grammar, where the piece hasn't too many lines
 abbrev pub IsOfGrammar : ParseError → Type 0
 IsOfGrammar Version = Unit {0}
