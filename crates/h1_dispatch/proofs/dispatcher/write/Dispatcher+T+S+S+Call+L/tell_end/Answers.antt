@@ -5,16 +5,18 @@ use Rattle.h1_dispatch.specs.View.{view_of}
 use Rattle.h1_dispatch.specs.Steps.{closed, failed}
 use Rattle.h1_dispatch.proofs.Runs.{goes_by, lacks}
 use Rattle.h1_dispatch.proofs.dispatcher.write.Dispatcher+T+S+S+Call+L.tell_end.Goals as goal
+use Rattle.h1_dispatch.proofs.dispatcher.write.Dispatcher+T+S+S+Call+L.tell_end.Goals.{in-Ok, in-Err}
 
-pub returns-in-Ok-clause-says : goal.returns-in-Ok-clause-says
-returns-in-Ok-clause-says g c =
+pub returns-clause-says : goal.returns-clause-says
+returns-clause-says g c =
     let v = view_of g.T.Wire.wiring g.S.Service.served g.L.Recorder.noted c.args.self.now in
-    let w = view_of g.T.Wire.wiring g.S.Service.served g.L.Recorder.noted (record c.args.self.now { line = c.next.new.self; ending = Some (Closed c.args.end) }) in
-    goes_by v w (closed c.args.end) 1
-    (c.requires.running, c.requires.closing, (c.in-Ok.field-0, record { steps = c.in-Ok.ensures.stands; settings = c.next.ensures.settings }), refl) tt (omega arith)
-
-pub returns-in-Err-clause-says : goal.returns-in-Err-clause-says
-returns-in-Err-clause-says g c =
-    let v = view_of g.T.Wire.wiring g.S.Service.served g.L.Recorder.noted c.args.self.now in
-    let w = view_of g.T.Wire.wiring g.S.Service.served g.L.Recorder.noted (record c.args.self.now { line = c.next.new.self }) in
-    lacks v w (failed on.next) (c.in-Err.ensures.err, refl) (inl (on.next, ([], refl, tt)))
+    elim c.match-next.branch [
+      | in-Ok w ↦
+          (let u = view_of g.T.Wire.wiring g.S.Service.served g.L.Recorder.noted (record c.args.self.now { line = c.next.new.self; ending = Some (Closed c.args.end) }) in
+          rw (w.self-is, w.result-is)
+          (goes_by v u (closed c.args.end) 1
+          (c.requires.running, c.requires.closing, (w.in-Ok.field-0, record { steps = w.in-Ok.ensures.stands; settings = c.next.ensures.settings }), refl) tt (omega arith)))
+      | in-Err w ↦
+          (let u = view_of g.T.Wire.wiring g.S.Service.served g.L.Recorder.noted (record c.args.self.now { line = c.next.new.self }) in
+          rw (w.self-is, w.result-is) (lacks v u (failed on.next) (w.in-Err.ensures.err, refl) (inl (on.next, ([], refl, tt)))))
+    ]
