@@ -101,6 +101,10 @@ module _ {I : Type 0} (k : Kind I) (one : IsOneReading k) (is_bare : Bool) where
       refusing = tt;
       lacking = tt;
       left = tt;
+      cause = tt;
+      item = λ seen. (kind, opens, taken seen);
+      some = tt;
+      ended = tt;
       looked = λ seen more. looked_by body (rest ++ more);
       trailers = refl;
       kept = tt;
@@ -127,6 +131,10 @@ module _ {I : Type 0} (k : Kind I) (one : IsOneReading k) (is_bare : Bool) where
       refusing = tt;
       lacking = tt;
       left = tt;
+      cause = tt;
+      item = tt;
+      some = tt;
+      ended = tt;
       looked = λ seen more. subst (λ (l : List ℕ). HasSeen new (l ++ more)) (sym stays) (seen_on seen more);
       trailers = refl;
       kept = tt;
@@ -147,7 +155,11 @@ module _ {I : Type 0} (k : Kind I) (one : IsOneReading k) (is_bare : Bool) where
               λ i. record { part = is i; messages = none.0 i; stop = none.1 i } in
               breaks_by error said (λ chunk. other_error chunk (cause seen known)) all;
           lacking = λ e. (as_before, stays);
-          left = (stays, inl as_before);
+          left = (stays, as_before);
+          cause = λ none. cause;
+          item = tt;
+          some = tt;
+          ended = tt;
           looked = tt;
           trailers = tt;
           kept = refl;

@@ -1,5 +1,5 @@
 -- What is answered while a body is open, by the piece of it that came next.
-use Rattle.std.proofs.Common.{◌≡◌, ℕ, Bool, List, [], ◌++◌, refl, sym, ap, ◌∙◌, subst, inl, inr, append-nil}
+use Rattle.std.proofs.Common.{◌≡◌, ℕ, ◌<◌, Bool, List, [], ◌∷◌, ◌++◌, length, refl, sym, ap, ◌∙◌, subst, append-nil, arith}
 use Rattle.std.specs.Prelude.{Option, Some, None, Result, Ok, Err, unwrap_or}
 use Rattle.http_map.specs.HeaderMap.{Entries}
 use Rattle.http_types.specs.declared.error.ParseError.{ParseError}
@@ -17,7 +17,7 @@ use Rattle.h1_framed.specs.declared.message.Message.TheVariants.{Chunk}
 use Rattle.h1_framed.specs.declared.piece.Piece.{Piece}
 use Rattle.h1_framed.specs.declared.piece.Piece.TheVariants.{Bytes, End}
 use Rattle.h1_framed.specs.Answers.{IsNexted, IsNoted}
-use Rattle.h1_framed.specs.Messages.{Part, Messages, part_of, After, AreMessages, Standing}
+use Rattle.h1_framed.specs.Messages.{Closing, closing_of, chunk_in_front, end_in_front, Part, Messages, part_of, After, AreMessages, Standing}
 use Rattle.h1_framed.specs.Pieces.{IsPiece}
 
 -- a body that says this, and after which nothing is read
@@ -27,6 +27,11 @@ stops_so : {I : Type 0} (said : Messages I) (p q : Payload) (G : List ℕ → Ty
 stops_so said p q G is same on stays =
     let none = stays (subst (λ (r : Payload). After r.ending G ((said.messages ≡ []) × (said.stop ≡ waits))) same on) in
     λ i. record { part = (is ∙ ap part_of same) i; messages = none.0 i; stop = none.1 i }
+
+-- a chunk of one byte at least leaves what follows the body
+closes_on : (b : List ℕ) (closing : Closing) → 0 < length b → chunk_in_front b closing ≡ closing
+closes_on [] closing some = absurd (omega (arith, some))
+closes_on (x ∷ b) closing some = refl
 
 module _ {I : Type 0} (k : Kind I) (is_bare : Bool) (search : Search) (d left : Decoding) (bytes rest : List ℕ) (before : Option Entries) where
   abbrev at : Option Decoding → Standing
@@ -42,17 +47,22 @@ module _ {I : Type 0} (k : Kind I) (is_bare : Bool) (search : Search) (d left : 
       (subst (λ (y : Option Decoding). Nexted r y now) (sym f) (subst (λ (y : Option Entries). Nexted r a y) (sym g) x))
 
   bytes_came : (b : List ℕ) → IsPiece d bytes (Ok (Some (Bytes b))) left rest → Nexted (Ok (Some (Chunk (Some b)))) (Some left) None
-  bytes_came b goes = record {
+  bytes_came b (goes, some) = record {
     goes_on = λ z r (p, reads, is, on). (
       record p { body = b ++ p.body },
       goes z p reads,
-      ap (λ (q : Part). record { bytes = b ++ q.bytes; closing = q.closing }) is,
+      ap (λ (q : Part). record { bytes = b ++ q.bytes; closing = chunk_in_front b q.closing }) is
+          ∙ ap (λ (c : Closing). record { bytes = b ++ p.body; closing = c }) (closes_on b (closing_of p.ending) some),
       on,
     );
     waiting = λ e. absurd (cc e);
     refusing = tt;
     lacking = tt;
     left = tt;
+    cause = tt;
+    item = tt;
+    some = some;
+    ended = tt;
     looked = λ seen more. seen;
     trailers = refl;
     kept = tt;
@@ -61,11 +71,15 @@ module _ {I : Type 0} (k : Kind I) (is_bare : Bool) (search : Search) (d left : 
 
   end_came : (trailers : Option Entries) → IsPiece d bytes (Ok (Some (End trailers))) left rest → Nexted (Ok (Some (Chunk None))) None trailers
   end_came trailers ends = record {
-    goes_on = λ z r (is, on). (record { body = []; trailers = unwrap_or trailers []; ending = ends_before (rest ++ z) }, ends.reads z, refl, on);
+    goes_on = λ z r (is, on). (record { body = []; trailers = unwrap_or trailers []; ending = ends_before (rest ++ z) }, ends.reads z, ap (λ (q : Part). record { bytes = []; closing = end_in_front q.bytes q.closing }) is, on);
     waiting = λ e. absurd (cc e);
     refusing = tt;
     lacking = tt;
     left = tt;
+    cause = tt;
+    item = tt;
+    some = tt;
+    ended = refl;
     looked = λ seen more. seen (rest ++ more);
     trailers = (
       ends.some,
@@ -87,6 +101,10 @@ module _ {I : Type 0} (k : Kind I) (is_bare : Bool) (search : Search) (d left : 
     refusing = tt;
     lacking = tt;
     left = tt;
+    cause = tt;
+    item = tt;
+    some = tt;
+    ended = tt;
     looked = λ seen more. seen;
     trailers = refl;
     kept = tt;
@@ -101,7 +119,11 @@ module _ {I : Type 0} (k : Kind I) (is_bare : Bool) (search : Search) (d left : 
         (λ left. HasSeen search left → AreMessages k is_bare search.limit left said.messages said.stop) is
         (refused [] p (subst (λ (l : List ℕ). bodies.Reads d l p) (sym (append-nil bytes)) reads)) on (λ x. x);
     lacking = λ e. absurd (cc e);
-    left = (same, inr (refl, left, broken, refl));
+    left = (same, (left, broken, refl));
+    cause = λ never. absurd (cc never);
+    item = tt;
+    some = tt;
+    ended = tt;
     looked = tt;
     trailers = tt;
     kept = refl;
@@ -116,7 +138,11 @@ module _ {I : Type 0} (k : Kind I) (is_bare : Bool) (search : Search) (d left : 
         waiting = λ e. absurd (cc e);
         refusing = λ known. absurd (known refl);
         lacking = λ e. (as_before, stays);
-        left = (stays, inl as_before);
+        left = (stays, as_before);
+        cause = λ never. absurd (cc never);
+        item = tt;
+        some = tt;
+        ended = tt;
         looked = tt;
         trailers = tt;
         kept = refl;

@@ -1,5 +1,5 @@
 -- What is answered where messages follow one another.
-use Rattle.std.specs.Prelude.{◌≡◌, ◌⊎◌, ℕ, Bool, true, List, [], ◌++◌, Option, Some, None, Result, Ok, Err, IfOk, IfErr, IfSome, OnOk, unwrap_or, ◌<◌, length}
+use Rattle.std.specs.Prelude.{◌≡◌, ⊤, ℕ, Bool, true, List, [], ◌++◌, Option, Some, None, Result, Ok, Err, IfOk, IfErr, IfSome, OnOk, unwrap_or, ◌<◌, length}
 use Rattle.http_framing.specs.AnyPieces.{GoesOn, OnlySays, in_front}
 use Rattle.http_map.specs.HeaderMap.{Entries}
 use Rattle.http_types.specs.declared.error.ParseError.{ParseError}
@@ -18,11 +18,34 @@ use Rattle.h1_framed.specs.declared.piece.Piece.{Piece}
 use Rattle.h1_framed.specs.declared.piece.Piece.TheVariants.{Bytes, End}
 use Rattle.h1_framed.specs.Messages.{Messages, given, nothing, Breaks, body_of, Standing, Reads, Looked}
 
+-- an open body that broke is broken for good, and else all stays
+abbrev pub StaysAfter : Option Decoding → ParseError → Standing → Standing → Type 0
+StaysAfter (Some d) errors.Chunk old new = (broken : Decoding) × (broken.is_broken ≡ true) × (new ≡ record old { body = Some broken })
+StaysAfter body error old new = new ≡ old
+
 -- After an error the bytes stay. All else stays too, but for a body that broke: it is broken for good.
 abbrev pub LeftAfter : ParseError → Standing → List ℕ → Standing → List ℕ → Type 0
-LeftAfter error old bytes new rest =
-    (rest ≡ bytes)
-    × ((new ≡ old) ⊎ ((error ≡ errors.Chunk) × (d : Decoding) × (d.is_broken ≡ true) × (new ≡ record old { body = Some d })))
+LeftAfter error old bytes new rest = (rest ≡ bytes) × StaysAfter old.body error old new
+
+-- a chunk has one byte at least
+abbrev pub HasBytes : {I : Type 0} → Option (Message I) → Type 0
+HasBytes (Some (Chunk (Some b))) = 0 < length b
+HasBytes answer = ⊤
+
+-- after a body's end no body is open
+abbrev pub HasEnded : {I : Type 0} → Option (Message I) → Standing → Type 0
+HasEnded (Some (Chunk None)) new = new.body ≡ None
+HasEnded answer new = ⊤
+
+-- a head is the next one of the bytes, and its body is then open
+abbrev pub IsHead : {I : Type 0} → Kind I → Bool → Standing → List ℕ → Option (Message I) → Standing → List ℕ → Type 0
+IsHead k is_bare old bytes (Some (Item i)) new rest =
+    Looked old bytes → (kind : PayloadType) × (new.body ≡ body_of is_bare kind) × IsNextItem k old.search.limit bytes rest (i, kind)
+IsHead k is_bare old bytes answer new rest = ⊤
+
+-- where no body is open, the error names why the next head is refused
+abbrev pub IsCauseAt : {I : Type 0} → Kind I → Standing → List ℕ → ParseError → Type 0
+IsCauseAt k old bytes error = old.body ≡ None → Looked old bytes → UnlessNoMemory error (RefusesNext k error old.search.limit bytes)
 
 -- the trailers that an end brings are those that the bytes say of the body; any other item takes them away
 abbrev pub HasTrailers : {I : Type 0} → Standing → List ℕ → Option Entries → Option (Message I) → Option Entries → Type 0
@@ -41,6 +64,10 @@ pub record IsNexted {I : Type 0} (k : Kind I) (is_bare : Bool) (old : Standing) 
   pub refusing : IfErr result (λ e. ¬ (e ≡ errors.NoMemory) → Looked old bytes → OnlySays (Reads k is_bare) old bytes (Breaks e))
   pub lacking : IfErr result (λ e. e ≡ errors.NoMemory → (new ≡ old) × (rest ≡ bytes))
   pub left : IfErr result (λ e. LeftAfter e old bytes new rest)
+  pub cause : IfErr result (IsCauseAt k old bytes)
+  pub item : IfOk result (λ answer. IsHead k is_bare old bytes answer new rest)
+  pub some : IfOk result HasBytes
+  pub ended : IfOk result (λ answer. HasEnded answer new)
   pub looked : OnOk result (Looked old bytes → (more : List ℕ) → Looked new (rest ++ more))
   pub trailers : IfOk result (λ answer. HasTrailers old bytes before answer now)
   pub kept : IfErr result (λ e. now ≡ before)

@@ -13,9 +13,9 @@ use Rattle.h1_messages.specs.declared.payload_type.PayloadType.TheVariants as pa
 use Rattle.h1_framed.specs.declared.message.Message.{Message}
 use Rattle.h1_framed.specs.declared.message.Message.TheVariants.{Item, Chunk}
 
--- what follows the bytes of a body: nothing yet, its end, or that it is broken
+-- what follows the bytes of a body: nothing yet, its end, or that it is broken; and what no bytes say
 pub data Closing : Type 0 where
-  no_end an_end a_fault : Closing
+  no_end an_end a_fault never_said : Closing
 
 -- the bytes of a body, and what follows them; where a head has no body, nothing does
 pub record Part : Type 0 where
@@ -31,11 +31,21 @@ pub record Messages (I : Type 0) : Type 0 where
   pub messages : List (I × Part)
   pub stop : Stop
 
+-- what follows a body with this chunk in front: no bytes say an empty one
+abbrev pub chunk_in_front : List ℕ → Closing → Closing
+chunk_in_front [] closing = never_said
+chunk_in_front (b ∷ bytes) closing = closing
+
+-- what follows a body that has its end in front: no bytes say more of it after the end
+abbrev pub end_in_front : List ℕ → Closing → Closing
+end_in_front [] no_end = an_end
+end_in_front bytes closing = never_said
+
 -- an item in front of what is said
 abbrev pub given : {I : Type 0} → Message I → Messages I → Messages I
 given (Item i) t = record { part = no_part; messages = (i, t.part) ∷ t.messages; stop = t.stop }
-given (Chunk (Some bytes)) t = record t { part = record { bytes = bytes ++ t.part.bytes; closing = t.part.closing } }
-given (Chunk None) t = record t { part = record { bytes = []; closing = an_end } }
+given (Chunk (Some bytes)) t = record t { part = record { bytes = bytes ++ t.part.bytes; closing = chunk_in_front bytes t.part.closing } }
+given (Chunk None) t = record t { part = record { bytes = []; closing = end_in_front t.part.bytes t.part.closing } }
 
 -- no item yet
 abbrev pub nothing : {I : Type 0} → Messages I

@@ -16,7 +16,7 @@ pub record IsEnd (old : Decoding) (bytes rest : List ℕ) (trailers : Option Ent
 
 -- bytes of the body, its end, nothing yet, or why there is none
 abbrev pub IsPiece : Decoding → List ℕ → Result (Option Piece) DecodeError → Decoding → List ℕ → Type 0
-IsPiece old bytes (Ok (Some (Bytes b))) new rest = GoesOn Reads given old bytes (λ p. record p { body = b ++ p.body }) new rest
+IsPiece old bytes (Ok (Some (Bytes b))) new rest = GoesOn Reads given old bytes (λ p. record p { body = b ++ p.body }) new rest × (0 < length b)
 IsPiece old bytes (Ok (Some (End trailers))) new rest = IsEnd old bytes rest trailers
 IsPiece old bytes (Ok None) new rest = GoesOn Reads given old bytes (λ p. p) new rest × IsWaiting old bytes
 IsPiece old bytes (Err Invalid) new rest = IsRefused old bytes × (new.is_broken ≡ true) × (rest ≡ bytes)

@@ -6,7 +6,8 @@ ghost use Rattle.h1_model.specs.Request as model;
 ghost use Rattle.h1_codec.specs.Encoding.{of_length};
 ghost use Rattle.h1_codec.specs.Meaning.{model_type, minor_of};
 ghost use Rattle.h1_messages.specs.Heads.{HasSeen};
-ghost use Rattle.h1_framed.specs.Answers.{HasTrailers};
+ghost use Rattle.h1_framed.specs.Answers.{HasTrailers, HasBytes, HasEnded, IsHead, IsCauseAt};
+ghost use Rattle.h1_messages.specs.Kinds.{requests};
 ghost use Rattle.h1_framed.specs.Messages.{given, nothing, Breaks};
 ghost use Rattle.h1_framed.specs.State.{
   codec_settings,
@@ -172,6 +173,10 @@ impl Codec {
         ensures goes_on { IfOk result (λ answer. GoesOn CodecReads given self.old src.old.items (in_front CodecReads given answer) self.new src.new.items) }
         ensures waiting { result ≡ Ok None → HasLookedAt self.old src.old.items → OnlySays CodecReads self.old src.old.items (λ said. said ≡ nothing) }
         ensures refused { IfErr result (λ e. ¬ (e ≡ ParseError.NoMemory) → HasLookedAt self.old src.old.items → OnlySays CodecReads self.old src.old.items (Breaks e)) }
+        ensures cause { IfErr result (IsCauseAt requests (codec_standing self.old) src.old.items) }
+        ensures item { IfOk result (λ answer. IsHead requests false (codec_standing self.old) src.old.items answer (codec_standing self.new) src.new.items) }
+        ensures some { IfOk result HasBytes }
+        ensures ended { IfOk result (λ answer. HasEnded answer (codec_standing self.new)) }
         ensures lacking { IfErr result (λ e. e ≡ ParseError.NoMemory → (self.new ≡ self.old) × (src.new.items ≡ src.old.items)) }
         ensures left { IfErr result (λ e. CodecLeft e self.old src.old.items self.new src.new.items) }
         ensures seen { OnOk result (HasLookedAt self.old src.old.items → (more : List ℕ) → HasLookedAt self.new (src.new.items ++ more)) }

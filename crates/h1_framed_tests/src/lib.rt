@@ -2,4 +2,6 @@
 #![tactic(auto)]
 
 #[cfg(test)]
+mod framed;
+#[cfg(test)]
 mod server;
