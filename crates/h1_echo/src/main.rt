@@ -13,6 +13,10 @@ fn main(rt: HostRuntime) -> ExitCode {
     let config = ServiceConfigBuilder::new().build();
     match serve::serve(rt.alloc(), config, &mut input, &mut output) {
         Ok(_) => ExitCode::SUCCESS,
-        Err(_) => ExitCode::FAILURE,
+        Err(error) => {
+            // Where it can't be said, the status still tells that the connection wasn't served to its end.
+            let _ = eprintln!(rt; "h1_echo: {error}");
+            ExitCode::FAILURE
+        }
     }
 }

@@ -21,6 +21,10 @@ pub enum ServeError {
     #[error("a write failed")]
     Write,
 
+    /// The next request can't be asked for here: bytes are left that can't be written.
+    #[error("the next request can't be asked for")]
+    Misplaced,
+
     /// More turns passed than are counted.
     #[error("there is no end of it")]
     Endless,
@@ -49,7 +53,7 @@ pub fn serve<S: Source, K: Sink>(
     for _ in 0..u64::MAX {
         write_out(&mut connection, output)?;
         if !connection.can_next() {
-            return Err(ServeError::Endless);
+            return Err(ServeError::Misplaced);
         }
         match connection.next()? {
             NextHead::Head(_) => {
