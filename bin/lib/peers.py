@@ -2,8 +2,12 @@
 import select, socket, threading, time
 from checks import check, connect, differs, has, read_all, run, statuses_of
 
-# For how many seconds a peer stalls that the server has to end.
+# Within so many seconds the server has to end a peer that stalls: it does after 30 of them.
 STALL = 45
+
+# The same of a peer that takes nothing. First the buffers between both fill; then there are 30 seconds that they count for,
+# and 30 in which nothing moves.
+DEAF = 120
 GET = b"GET / HTTP/1.1\r\nhost: a\r\n\r\n"
 
 # Of the server of few connections, and of the one of few descriptors.
@@ -133,7 +137,7 @@ def deaf_client(hello, pid):
             sock.settimeout(1)
             data = b"GET / HTTP/1.1\r\nhost: a\r\n\r\n" * 1000
             sent = 0
-            while sent < 1000 * len(data) and time.monotonic() - begin < STALL:
+            while sent < 1000 * len(data) and time.monotonic() - begin < DEAF:
                 try:
                     sent += sock.send(data)
                 except socket.timeout:
@@ -141,7 +145,7 @@ def deaf_client(hello, pid):
                 except OSError:
                     break
                 most = max(most, memory_of(pid) if pid else 0)
-        if time.monotonic() - begin >= STALL:
+        if time.monotonic() - begin >= DEAF:
             return "it isn't ended"
         return None if most - before < 2048 else f"{most - before} KiB were taken"
     check("socket that asks a million times and reads nothing", make)
