@@ -2,8 +2,12 @@
 import select, socket, threading, time
 from checks import check, connect, differs, has, read_all, run, statuses_of
 
-# For how many seconds a peer stalls that the server has to end.
+# Within so many seconds the server has to end a peer that stalls: it does after 30 of them.
 STALL = 45
+
+# The same of a peer that takes nothing. First the buffers between both fill; then there are 30 seconds that they count for,
+# and 30 in which nothing moves.
+DEAF = 120
 GET = b"GET / HTTP/1.1\r\nhost: a\r\n\r\n"
 
 # Of the server of few connections, and of the one of few descriptors.
@@ -133,7 +137,7 @@ def deaf_client(hello, pid):
             sock.settimeout(1)
             data = b"GET / HTTP/1.1\r\nhost: a\r\n\r\n" * 1000
             sent = 0
-            while sent < 1000 * len(data) and time.monotonic() - begin < STALL:
+            while sent < 1000 * len(data) and time.monotonic() - begin < DEAF:
                 try:
                     sent += sock.send(data)
                 except socket.timeout:
@@ -141,7 +145,7 @@ def deaf_client(hello, pid):
                 except OSError:
                     break
                 most = max(most, memory_of(pid) if pid else 0)
-        if time.monotonic() - begin >= STALL:
+        if time.monotonic() - begin >= DEAF:
             return "it isn't ended"
         return None if most - before < 2048 else f"{most - before} KiB were taken"
     check("socket that asks a million times and reads nothing", make)
@@ -206,25 +210,32 @@ def limited_clients(address):
         check(f"curl above {CONNECTIONS} connections, twenty times", asked)
 
 
-def scarce_clients(address):
-    """A server of so few descriptors that not each connection has one."""
+def scarce_clients(address, name, get, statuses):
+    """A server of so few descriptors that not each connection has one: those that have none wait, and each is answered by
+    one of these statuses. Once all have ended, it serves as before."""
     def make():
         held = []
         try:
             for _ in range(3 * DESCRIPTORS):
                 held.append(connect(address))
-                held[-1].sendall(GET)
+                held[-1].sendall(get)
             time.sleep(2)
             served = select.select(held, [], [], 0)[0]
             if not 0 < len(served) < DESCRIPTORS:
                 return f"{len(served)} of {len(held)} are served by {DESCRIPTORS} descriptors"
             # Each that ends makes room for one that waits.
             for sock in served + [sock for sock in held if sock not in served]:
-                if not sock.recv(65536).startswith(b"HTTP/1.1 200"):
-                    return "one that waited isn't served"
+                seen = sock.recv(65536)
+                if seen[9:12] not in statuses:
+                    return f"{seen[:100]} to one of them"
                 sock.close()
         finally:
             close_all(held)
+        first_served(address).close()
         for _ in range(100):
-            first_served(address).close()
-    check(f"socket, {3 * DESCRIPTORS} connections to a server of {DESCRIPTORS} descriptors: all are served, and a hundred after them", make)
+            with connect(address) as sock:
+                sock.sendall(get)
+                seen = sock.recv(65536)
+            if seen[9:12] != b"200":
+                return f"{seen[:100]} after them"
+    check(f"socket, {3 * DESCRIPTORS} connections to {name} of {DESCRIPTORS} descriptors, and a hundred after them", make)
