@@ -1,10 +1,9 @@
 -- Single steps, by what the calls of a turn ensure.
-use Rattle.std.proofs.Common.{◌≡◌, ◌<◌, ◌≤◌, ◌⊎◌, ℕ, Bool, true, false, Option, Some, None, is_some, List, [], ◌∷◌, length, take, Result, Ok, Err, inl, inr, refl, sym, ap, ◌∙◌, subst, arith}
+use Rattle.std.proofs.Common.{◌≡◌, ◌<◌, ◌≤◌, ℕ, true, false, None, is_some, List, length, Result, ap, ◌∙◌}
 use Rattle.futures.specs.declared.task.Poll.{Poll}
-use Rattle.futures.specs.declared.task.Poll.TheVariants.{Ready, Pending}
 use Rattle.http_config.specs.declared.Failed.{Failed}
-use Rattle.http_services.specs.Serving.{Serving, ReadySays, CallSays, AnswerSays}
-use Rattle.http_wires.specs.Wiring.{ReadSays, WriteSays, moved}
+use Rattle.http_services.specs.Serving.{AnswerSays}
+use Rattle.http_wires.specs.Wiring.{ReadSays, moved}
 use Rattle.h1_model.specs.Answer.{AnswerHead, BodySize}
 use Rattle.h1_model.specs.Event as on
 use Rattle.h1_model.specs.Setting.{Setting}
@@ -12,10 +11,9 @@ use Rattle.h1_machine.specs.Kept.{Kept}
 use Rattle.h1_machine.specs.Local.{allowed_by}
 use Rattle.h1_connection.specs.Heads.{SaysNext}
 use Rattle.h1_connection.specs.declared.connection.heads.NextHead.{NextHead}
-use Rattle.h1_line.specs.Line.{LineSteps, LineFails}
-use Rattle.h1_dispatch.specs.declared.dispatcher.Ending.{Ending}
-use Rattle.h1_dispatch.specs.View.{View, Asking, Answer, allows, any_answer, buffered, room}
-use Rattle.h1_dispatch.specs.Steps.{Step, Goes, IsStep, Took, Begins, IsAsked, TakesNone, request_at, ending_told, still_called, reply_of, read, next, ready, called, answered, failed}
+use Rattle.h1_line.specs.Line.{LineSteps}
+use Rattle.h1_dispatch.specs.View.{View, Answer, allows, any_answer, room}
+use Rattle.h1_dispatch.specs.Steps.{IsStep, Took, request_at, ending_told, still_called, reply_of, read, next, answered}
 use Rattle.h1_dispatch.proofs.Turns.{none_of}
 
 -- whether an answer is allowed doesn't depend on it

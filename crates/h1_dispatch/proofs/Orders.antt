@@ -1,5 +1,5 @@
 -- A run keeps requests and answers in order.
-use Rattle.std.proofs.Common.{◌≡◌, Option, Some, None, List, [], ◌∷◌, ◌++◌, option_to_list, Result, Ok, Err, inl, inr, refl, sym, ap, ◌∙◌, subst, append_assoc, append-nil}
+use Rattle.std.proofs.Common.{◌≡◌, Option, None, List, [], ◌∷◌, ◌++◌, option_to_list, Result, refl, sym, ap, ◌∙◌, subst, append_assoc, append-nil}
 use Rattle.futures.specs.declared.task.Poll.{Poll}
 use Rattle.futures.specs.declared.task.Poll.TheVariants.{Ready, Pending}
 use Rattle.http_bodies.specs.Told.{Grows}
@@ -7,7 +7,7 @@ use Rattle.http_bodies.proofs.Histories.{grown, grown-none}
 use Rattle.http_services.specs.Serving.{Serving}
 use Rattle.h1_dispatch.specs.View.{View, Asking, Answer}
 use Rattle.h1_dispatch.specs.Steps.{Step, IsStep, IsRun, still_waiting, ticked, drained, written, read, shut, next, closed, ready, called, answered, dropped, replied, failed, failed_write, failed_read}
-use Rattle.h1_dispatch.specs.Order.{step_requests, step_calls, step_answers, step_replies, LeavesRefused, LeavesBy, Leave, requests, calls, answers, replies, KeepsOrder}
+use Rattle.h1_dispatch.specs.Order.{step_requests, step_calls, step_answers, step_replies, LeavesRefused, LeavesBy, requests, calls, answers, replies, KeepsOrder}
 
 -- what one step keeps
 record Keeps (v : View) (d : Step) (w : View) : Type 0 where

@@ -1,5 +1,5 @@
 -- Runs of steps one after the other, and how they end.
-use Rattle.std.proofs.Common.{◌≡◌, ◌≤◌, ◌+◌, ℕ, List, [], ◌∷◌, ◌++◌, Result, Ok, Err, inl, inr, refl, sym, ap, ◌∙◌, subst, arith}
+use Rattle.std.proofs.Common.{◌≡◌, ◌≤◌, ◌+◌, ℕ, List, [], ◌∷◌, ◌++◌, Result, Ok, Err, inl, inr, refl, ap, subst, arith}
 use Rattle.http_types.specs.declared.error.DispatchError.{DispatchError}
 use Rattle.http_types.specs.declared.error.DispatchError.TheVariants as error
 use Rattle.h1_dispatch.specs.View.{View}

@@ -21,7 +21,7 @@ use Rattle.h1_connection.specs.declared.event.End.{End}
 use Rattle.h1_line.specs.Line.{LineView, LineSteps, LineFails}
 use Rattle.h1_dispatch.specs.declared.dispatcher.Ending.{Ending}
 use Rattle.h1_dispatch.specs.declared.dispatcher.Ending.TheVariants.{Closed, Abandoned}
-use Rattle.h1_dispatch.specs.View.{View, Asking, Answer, closes, allows, buffered, room}
+use Rattle.h1_dispatch.specs.View.{View, Asking, Answer, allows, buffered, room}
 
 -- A step. A moment came; the drain came; the wire was given what waits to be written; it was asked for bytes, and these
 -- came; it was shut down; the next head was asked for; the connection closes, and told its end; the service was asked

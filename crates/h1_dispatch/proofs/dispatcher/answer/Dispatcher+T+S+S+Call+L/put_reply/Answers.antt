@@ -2,9 +2,8 @@ use Rattle.std.proofs.Common.{Some, [], refl, sym, ap, ◌∙◌, inl, arith}
 use Rattle.h1_codec.specs.Meaning.{answer_of}
 use Rattle.h1_model.specs.Answer as answers
 use Rattle.h1_model.specs.Event as on
-use Rattle.http_types.specs.ResponseHead.{ResponseParts}
 use Rattle.h1_dispatch.specs.View.{view_of}
-use Rattle.h1_dispatch.specs.Steps.{replied, failed, Goes}
+use Rattle.h1_dispatch.specs.Steps.{replied, failed}
 use Rattle.h1_dispatch.proofs.Runs.{goes_by, lacks}
 use Rattle.h1_dispatch.proofs.Moves.{any_allowed}
 use Rattle.h1_dispatch.proofs.dispatcher.answer.Dispatcher+T+S+S+Call+L.put_reply.Goals as goal

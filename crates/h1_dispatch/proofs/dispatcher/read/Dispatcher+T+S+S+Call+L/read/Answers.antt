@@ -1,4 +1,4 @@
-use Rattle.std.proofs.Common.{rules, Ok, Err, [], ◌∷◌, refl, sym, ap, inl, inr, arith, take}
+use Rattle.std.proofs.Common.{rules, Ok, Err, [], ◌∷◌, refl, inl, inr, arith, take}
 use Rattle.futures.specs.declared.task.Poll.TheVariants.{Ready, Pending}
 use Rattle.http_types.specs.declared.error.DispatchError.TheVariants.{Io}
 use Rattle.h1_model.specs.Event as on

@@ -1,7 +1,7 @@
-use Rattle.std.proofs.Common.{Some, None, true, Ok, Err, refl, sym, ap, ◌∙◌}
+use Rattle.std.proofs.Common.{Some, None, true, Err, refl, sym, ap, ◌∙◌}
 use Rattle.futures.specs.declared.task.Poll.TheVariants.{Ready, Pending}
 use Rattle.h1_dispatch.specs.View.{view_of}
-use Rattle.h1_dispatch.specs.Steps.{ready, called}
+use Rattle.h1_dispatch.specs.Steps.{ready}
 use Rattle.h1_dispatch.proofs.Turns.{none_of, waits_ready, pending_then, step_then, called_then}
 use Rattle.h1_dispatch.proofs.dispatcher.serve.Dispatcher+T+S+S+Call+L.ask.Goals as goal
 

@@ -1,4 +1,4 @@
-use Rattle.std.proofs.Common.{Some, None, Ok, [], refl, sym, ap, ◌∙◌, inl, arith}
+use Rattle.std.proofs.Common.{Some, [], refl, ap, inl, arith}
 use Rattle.h1_model.specs.Event as on
 use Rattle.h1_connection.specs.declared.connection.heads.NextHead.TheVariants as next_head
 use Rattle.h1_dispatch.specs.declared.dispatcher.Ending.TheVariants.{Closed}

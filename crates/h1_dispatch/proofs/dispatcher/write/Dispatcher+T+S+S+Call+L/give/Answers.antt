@@ -1,5 +1,5 @@
-use Rattle.std.proofs.Common.{rules, Ok, Err, [], refl, sym, inl, inr, arith, subst}
-use Rattle.futures.specs.declared.task.Poll.TheVariants.{Ready, Pending}
+use Rattle.std.proofs.Common.{Ok, Err, [], refl, inl, inr, arith}
+use Rattle.futures.specs.declared.task.Poll.TheVariants.{Ready}
 use Rattle.http_types.specs.declared.error.DispatchError.TheVariants.{Io}
 use Rattle.h1_dispatch.specs.View.{view_of}
 use Rattle.h1_dispatch.specs.Steps.{written, failed_write}
