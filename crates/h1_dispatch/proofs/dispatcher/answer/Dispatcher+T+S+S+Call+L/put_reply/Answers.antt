@@ -16,6 +16,7 @@ returns-in-Ok-clause-says g c =
     let v = view_of g.T.Wire.wiring g.S.Service.served g.L.Recorder.noted c.args.self.now in
     let w = view_of g.T.Wire.wiring g.S.Service.served g.L.Recorder.noted (record c.args.self.now { line = c.answer.new.self; reply = c.take.new.self }) in
     goes_by v w (replied c.in-Some.response) 1 (
+      c.requires.running,
       sym c.take.ensures.value ∙ c.in-Some.is,
       record { steps = rw c.head.ensures at c.in-Ok.ensures.stands; settings = c.answer.ensures.settings },
       ap (λ x. record v { line = w.line; reply = x }) c.take.ensures.after,
@@ -27,5 +28,5 @@ returns-in-Err-clause-says g c =
     let w = view_of g.T.Wire.wiring g.S.Service.served g.L.Recorder.noted (record c.args.self.now { line = c.answer.new.self; reply = Some c.in-Some.response }) in
     let event = on.answer (answer_of c.in-Some.response.head) (answers.size_of 0) in
     lacks v w (failed event)
-    (rw c.head.ensures at c.in-Err.ensures.err, ap (λ x. record v { line = w.line; reply = x }) (sym (sym c.take.ensures.value ∙ c.in-Some.is)))
-    (inl (event, ([], refl, tt)))
+    ((c.requires.running, (c.in-Some.response, sym c.take.ensures.value ∙ c.in-Some.is, refl, refl)), rw c.head.ensures at c.in-Err.ensures.err, ap (λ x. record v { line = w.line; reply = x }) (sym (sym c.take.ensures.value ∙ c.in-Some.is)))
+    (inl (event, tt, ([], refl, tt)))
