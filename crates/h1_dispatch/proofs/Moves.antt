@@ -1,10 +1,10 @@
 -- Single steps, by what the calls of a turn ensure.
-use Rattle.std.proofs.Common.{◌≡◌, ◌<◌, ◌≤◌, ◌⊎◌, ℕ, Bool, true, false, Option, Some, None, is_some, List, [], ◌∷◌, length, take, Result, Ok, Err, inl, inr, refl, sym, ap, ◌∙◌, subst, arith}
+use Rattle.std.proofs.Common.{◌≡◌, ◌<◌, ◌≤◌, ℕ, true, false, None, is_some, List, length, take, Result, Ok, ap, ◌∙◌}
 use Rattle.futures.specs.declared.task.Poll.{Poll}
-use Rattle.futures.specs.declared.task.Poll.TheVariants.{Ready, Pending}
+use Rattle.futures.specs.declared.task.Poll.TheVariants.{Ready}
 use Rattle.http_config.specs.declared.Failed.{Failed}
-use Rattle.http_services.specs.Serving.{Serving, ReadySays, CallSays, AnswerSays}
-use Rattle.http_wires.specs.Wiring.{ReadSays, WriteSays, moved}
+use Rattle.http_services.specs.Serving.{AnswerSays}
+use Rattle.http_wires.specs.Wiring.{ReadSays, moved}
 use Rattle.h1_model.specs.Answer.{AnswerHead, BodySize}
 use Rattle.h1_model.specs.Event as on
 use Rattle.h1_model.specs.Setting.{Setting}
@@ -13,9 +13,8 @@ use Rattle.h1_machine.specs.Local.{allowed_by}
 use Rattle.h1_connection.specs.Heads.{SaysNext}
 use Rattle.h1_connection.specs.declared.connection.heads.NextHead.{NextHead}
 use Rattle.h1_line.specs.Line.{LineSteps, LineFails}
-use Rattle.h1_dispatch.specs.declared.dispatcher.Ending.{Ending}
-use Rattle.h1_dispatch.specs.View.{View, Asking, Answer, allows, any_answer, buffered, room}
-use Rattle.h1_dispatch.specs.Steps.{Step, Goes, IsStep, Took, Begins, IsAsked, TakesNone, request_at, ending_told, still_called, reply_of, read, next, ready, called, answered, failed}
+use Rattle.h1_dispatch.specs.View.{View, Answer, allows, allows_next, allows_answer, any_answer, room}
+use Rattle.h1_dispatch.specs.Steps.{IsStep, Took, IsOfRead, request_at, ending_told, still_called, reply_of, read, next, answered, failed_read}
 use Rattle.h1_dispatch.proofs.Turns.{none_of}
 
 -- whether an answer is allowed doesn't depend on it
@@ -28,11 +27,17 @@ pub read_step : (v w : View) (came buf : List ℕ) (answer : Poll (Result ℕ Fa
     → IsStep v (read came answer) w
 read_step v w came buf answer running may some fits moves says took same = (running, may, (buf, some, fits, moves, says), took, same)
 
-pub polled : (v w : View) (answer : Poll (Result Answer Answer)) → v.ending ≡ None → v.calling ≡ true → is_some v.reply ≡ false → AnswerSays v.service w.service answer
+pub read_fails : (v w : View) (came buf : List ℕ) (count : ℕ) (event : on.Event) → v.ending ≡ None → allows v on.eof ≡ true → 0 < length buf → length buf ≤ room v
+    → came ≡ take count buf → ReadSays {E = Failed} v.wire w.wire (Ready (Ok count)) buf → IsOfRead count came event → LineFails v.line event w.line
+    → w ≡ record v { line = w.line; wire = w.wire } → IsStep v (failed_read came event) w
+read_fails v w came buf count event running may some fits moves says is fails same = (running, may, (buf, count, some, fits, moves, says, is), fails, same)
+
+pub polled : (v w : View) (answer : Poll (Result Answer Answer)) → v.ending ≡ None → allows_answer v ≡ true → v.calling ≡ true → is_some v.reply ≡ false → AnswerSays v.service w.service answer
     → w ≡ record v { service = w.service; calling = w.calling; reply = w.reply } → w.calling ≡ still_called answer → w.reply ≡ reply_of answer
     → IsStep v (answered answer) w
-polled v w answer running calling reply says same calls replies = (
+polled v w answer running allowed calling reply says same calls replies = (
   running,
+  allowed,
   calling,
   none_of v.reply reply,
   says,
@@ -40,12 +45,13 @@ polled v w answer running calling reply says same calls replies = (
       ∙ ap (λ x. record v { service = w.service; calling = still_called answer; reply = x }) replies,
 )
 
-pub asked_next : (v w : View) (head : NextHead) → v.ending ≡ None → is_some v.waiting ≡ false → LineSteps v.line on.next (SaysNext head) w.line
+pub asked_next : (v w : View) (head : NextHead) → v.ending ≡ None → is_some v.waiting ≡ false → allows_next v ≡ true → LineSteps v.line on.next (SaysNext head) w.line
     → w.line.state.settings ≡ v.line.state.settings → w ≡ record v { line = w.line; waiting = w.waiting; ending = w.ending }
     → w.waiting ≡ request_at head → w.ending ≡ ending_told head → IsStep v (next head) w
-asked_next v w head running free steps settings same waits ends = (
+asked_next v w head running free allowed steps settings same waits ends = (
   running,
   none_of v.waiting free,
+  allowed,
   record { steps = steps; settings = settings },
   same ∙ ap (λ x. record v { line = w.line; waiting = x; ending = w.ending }) waits
       ∙ ap (λ x. record v { line = w.line; waiting = request_at head; ending = x }) ends,

@@ -1,5 +1,5 @@
 -- A run keeps requests and answers in order.
-use Rattle.std.proofs.Common.{◌≡◌, Option, Some, None, List, [], ◌∷◌, ◌++◌, option_to_list, Result, Ok, Err, inl, inr, refl, sym, ap, ◌∙◌, subst, append_assoc, append-nil}
+use Rattle.std.proofs.Common.{◌≡◌, Option, None, List, [], ◌∷◌, ◌++◌, option_to_list, Result, refl, sym, ap, ◌∙◌, subst, append_assoc, append-nil}
 use Rattle.futures.specs.declared.task.Poll.{Poll}
 use Rattle.futures.specs.declared.task.Poll.TheVariants.{Ready, Pending}
 use Rattle.http_bodies.specs.Told.{Grows}
@@ -7,7 +7,7 @@ use Rattle.http_bodies.proofs.Histories.{grown, grown-none}
 use Rattle.http_services.specs.Serving.{Serving}
 use Rattle.h1_dispatch.specs.View.{View, Asking, Answer}
 use Rattle.h1_dispatch.specs.Steps.{Step, IsStep, IsRun, still_waiting, ticked, drained, written, read, shut, next, closed, ready, called, answered, dropped, replied, failed, failed_write, failed_read}
-use Rattle.h1_dispatch.specs.Order.{step_requests, step_calls, step_answers, step_replies, LeavesRefused, LeavesBy, Leave, requests, calls, answers, replies, KeepsOrder}
+use Rattle.h1_dispatch.specs.Order.{step_requests, step_calls, step_answers, step_replies, LeavesRefused, LeavesBy, requests, calls, answers, replies, KeepsOrder}
 
 -- what one step keeps
 record Keeps (v : View) (d : Step) (w : View) : Type 0 where
@@ -60,20 +60,20 @@ now_there v w d none is off = ap (λ x. option_to_list x ++ step_answers d) none
 step_keeps : (v w : View) (d : Step) → IsStep v d w → Keeps v d w
 step_keeps v w (ticked moment expiry) is = apart v w _ refl refl refl refl refl (ap (λ (x : View). x.waiting) is.1) (ap (λ (x : View). x.reply) is.1) (ap (λ (x : View). x.service) is.1)
 step_keeps v w drained is = apart v w _ refl refl refl refl refl (ap (λ (x : View). x.waiting) is.1) (ap (λ (x : View). x.reply) is.1) (ap (λ (x : View). x.service) is.1)
-step_keeps v w (written answer) is = apart v w _ refl refl refl refl refl (ap (λ (x : View). x.waiting) is.3) (ap (λ (x : View). x.reply) is.3) (ap (λ (x : View). x.service) is.3)
+step_keeps v w (written answer) is = apart v w _ refl refl refl refl refl (ap (λ (x : View). x.waiting) is.4) (ap (λ (x : View). x.reply) is.4) (ap (λ (x : View). x.service) is.4)
 step_keeps v w (read came answer) is = apart v w _ refl refl refl refl refl (ap (λ (x : View). x.waiting) is.4) (ap (λ (x : View). x.reply) is.4) (ap (λ (x : View). x.service) is.4)
 step_keeps v w (shut answer) is = apart v w _ refl refl refl refl refl (ap (λ (x : View). x.waiting) is.2) (ap (λ (x : View). x.reply) is.2) (ap (λ (x : View). x.service) is.2)
 step_keeps v w (next head) is =
-    handed v w (next head) refl refl refl refl is.1 (ap (λ (x : View). option_to_list x.waiting) is.3) (ap (λ (x : View). x.reply) is.3) (ap (λ (x : View). x.service) is.3)
-step_keeps v w (closed end) is = apart v w _ refl refl refl refl refl (ap (λ (x : View). x.waiting) is.3) (ap (λ (x : View). x.reply) is.3) (ap (λ (x : View). x.service) is.3)
+    handed v w (next head) refl refl refl refl is.1 (ap (λ (x : View). option_to_list x.waiting) is.4) (ap (λ (x : View). x.reply) is.4) (ap (λ (x : View). x.service) is.4)
+step_keeps v w (closed end) is = apart v w _ refl refl refl refl refl (ap (λ (x : View). x.waiting) is.4) (ap (λ (x : View). x.reply) is.4) (ap (λ (x : View). x.service) is.4)
 step_keeps v w (ready answer) is =
-    let left = gone v w answer (ap (λ (x : View). x.waiting) is.3) in
+    let left = gone v w answer (ap (λ (x : View). x.waiting) is.4) in
     record {
       left = left.0;
       leaves = left.1;
       waits = left.2;
-      replied_so = now_there v w (ready answer) is.0.2 (ap (λ (x : View). option_to_list x.reply) is.3) refl;
-      called_so = told v w is.2.called;
+      replied_so = now_there v w (ready answer) is.0.2 (ap (λ (x : View). option_to_list x.reply) is.4) refl;
+      called_so = told v w is.3.called;
     }
 step_keeps v w (called request) is = record {
   left = request ∷ [];
@@ -85,21 +85,21 @@ step_keeps v w (called request) is = record {
 step_keeps v w (answered answer) is = record {
   left = [];
   leaves = refl;
-  waits = same_list v.waiting w.waiting (ap (λ (x : View). x.waiting) is.4);
-  replied_so = now_there v w (answered answer) is.2 (ap (λ (x : View). option_to_list x.reply) is.4) refl;
-  called_so = told v w is.3.called;
+  waits = same_list v.waiting w.waiting (ap (λ (x : View). x.waiting) is.5);
+  replied_so = now_there v w (answered answer) is.3 (ap (λ (x : View). option_to_list x.reply) is.5) refl;
+  called_so = told v w is.4.called;
 }
-step_keeps v w dropped is = apart v w _ refl refl refl refl refl (ap (λ (x : View). x.waiting) is.1) (ap (λ (x : View). x.reply) is.1) (ap (λ (x : View). x.service) is.1)
+step_keeps v w dropped is = apart v w _ refl refl refl refl refl (ap (λ (x : View). x.waiting) is.3) (ap (λ (x : View). x.reply) is.3) (ap (λ (x : View). x.service) is.3)
 step_keeps v w (replied answer) is = record {
   left = [];
   leaves = refl;
-  waits = same_list v.waiting w.waiting (ap (λ (x : View). x.waiting) is.2);
-  replied_so = ap (λ x. option_to_list x ++ []) is.0 ∙ ap (λ (x : View). answer ∷ option_to_list x.reply) (sym is.2);
-  called_so = same_calls v w (ap (λ (x : View). x.service) is.2);
+  waits = same_list v.waiting w.waiting (ap (λ (x : View). x.waiting) is.3);
+  replied_so = ap (λ x. option_to_list x ++ []) is.1 ∙ ap (λ (x : View). answer ∷ option_to_list x.reply) (sym is.3);
+  called_so = same_calls v w (ap (λ (x : View). x.service) is.3);
 }
-step_keeps v w (failed event) is = apart v w _ refl refl refl refl refl (ap (λ (x : View). x.waiting) is.1) (ap (λ (x : View). x.reply) is.1) (ap (λ (x : View). x.service) is.1)
-step_keeps v w (failed_write count) is = apart v w _ refl refl refl refl refl (ap (λ (x : View). x.waiting) is.2) (ap (λ (x : View). x.reply) is.2) (ap (λ (x : View). x.service) is.2)
-step_keeps v w (failed_read came event) is = apart v w _ refl refl refl refl refl (ap (λ (x : View). x.waiting) is.2) (ap (λ (x : View). x.reply) is.2) (ap (λ (x : View). x.service) is.2)
+step_keeps v w (failed event) is = apart v w _ refl refl refl refl refl (ap (λ (x : View). x.waiting) is.2) (ap (λ (x : View). x.reply) is.2) (ap (λ (x : View). x.service) is.2)
+step_keeps v w (failed_write count) is = apart v w _ refl refl refl refl refl (ap (λ (x : View). x.waiting) is.4) (ap (λ (x : View). x.reply) is.4) (ap (λ (x : View). x.service) is.4)
+step_keeps v w (failed_read came event) is = apart v w _ refl refl refl refl refl (ap (λ (x : View). x.waiting) is.4) (ap (λ (x : View). x.reply) is.4) (ap (λ (x : View). x.service) is.4)
 
 -- what came in front goes out in front
 queued : {A : Type 0} (a b c in_first in_rest out_first out_rest : List A) → a ++ in_first ≡ out_first ++ b → b ++ in_rest ≡ out_rest ++ c

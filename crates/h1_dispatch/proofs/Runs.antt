@@ -1,5 +1,5 @@
 -- Runs of steps one after the other, and how they end.
-use Rattle.std.proofs.Common.{◌≡◌, ◌≤◌, ◌+◌, ℕ, List, [], ◌∷◌, ◌++◌, Result, Ok, Err, inl, inr, refl, sym, ap, ◌∙◌, subst, arith}
+use Rattle.std.proofs.Common.{◌≡◌, ◌≤◌, ◌+◌, ℕ, List, [], ◌∷◌, ◌++◌, Result, Ok, Err, inl, inr, refl, ap, subst, arith}
 use Rattle.http_types.specs.declared.error.DispatchError.{DispatchError}
 use Rattle.http_types.specs.declared.error.DispatchError.TheVariants as error
 use Rattle.h1_dispatch.specs.View.{View}
@@ -40,7 +40,7 @@ io_on d s goes (failure, inr (inl reads)) = (failure, inr (inl (reads.0, ends_on
 io_on d s goes (failure, inr (inr shuts)) = (failure, inr (inr (ends_on d _ s goes shuts)))
 
 memory_on : (d : Step) (s : List Step) → Continues d → IsOutOfMemory s → IsOutOfMemory (d ∷ s)
-memory_on d s goes (inl is) = inl (is.0, ends_on d _ s goes is.1)
+memory_on d s goes (inl is) = inl (is.0, is.1, ends_on d _ s goes is.2)
 memory_on d s goes (inr (inl is)) = inr (inl (is.0, ends_on d _ s goes is.1))
 memory_on d s goes (inr (inr is)) = inr (inr (is.0, is.1, ends_on d _ s goes is.2))
 

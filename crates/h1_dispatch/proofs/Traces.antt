@@ -1,5 +1,5 @@
 -- A run is a trace of the connection.
-use Rattle.std.proofs.Common.{◌≡◌, ◌<◌, ◌≤◌, ◌⊎◌, ℕ, ◌-◌, List, [], ◌∷◌, ◌++◌, length, take, Option, Some, None, Result, Ok, Err, inl, inr, refl, sym, ap, ◌∙◌, subst, append_assoc, append-nil, arith}
+use Rattle.std.proofs.Common.{◌≡◌, ◌≤◌, ℕ, ◌-◌, List, [], ◌∷◌, ◌++◌, length, take, Option, Result, Ok, Err, inl, inr, refl, sym, ap, ◌∙◌, subst, append_assoc, append-nil, arith}
 use Rattle.std.proofs.lemmas.List.{length-take, take_all}
 use Rattle.futures.specs.declared.task.Poll.{Poll}
 use Rattle.futures.specs.declared.task.Poll.TheVariants.{Ready, Pending}
@@ -24,7 +24,7 @@ use Rattle.h1_connection.specs.declared.connection.ticks.Expiry.TheVariants as e
 use Rattle.h1_line.specs.Line.{LineView, LineStands}
 use Rattle.h1_dispatch.specs.View.{View, buffered, room}
 use Rattle.h1_dispatch.specs.Steps.{Step, Goes, Wrote, Took, IsStep, IsRun, ticked, drained, written as wrote, read, shut, next, closed, ready, called, answered, dropped, replied, failed, failed_write, failed_read}
-use Rattle.h1_dispatch.specs.Traces.{IsNoted, AllNoted, Follows, AreTraces}
+use Rattle.h1_dispatch.specs.Traces.{IsNoted, AllNoted, AreTraces}
 
 -- ---- sums
 
@@ -160,16 +160,16 @@ step_follows : (v w : View) (d : Step) → IsNoted d → IsStep v d w → AreTra
 step_follows v w (ticked moment expiry) noted is =
     went v w (on.tick moment) (Is (expiry_of expiry)) is.0 (λ out says machine. quiet v w (on.tick moment) out (ap (λ (x : View). x.wire) is.1) refl (ap step_written says ∙ no_bytes expiry))
 step_follows v w drained noted is = done v w on.drain (ap (λ (x : View). x.wire) is.1) refl is.0
-step_follows v w (wrote answer) noted is = gave v w answer is.1 is.2
+step_follows v w (wrote answer) noted is = gave v w answer is.2 is.3
 step_follows v w (read came answer) noted is = took v w came is.2.0 answer is.2.2 is.2.3 is.2.4 is.3
 step_follows v w (shut answer) noted is = still v w (ap (λ (x : View). x.line) is.2) (same_grows _ _ is.1.received) (same_grows _ _ is.1.sent)
-step_follows v w (next head) noted is = asked v w head (ap (λ (x : View). x.wire) is.3) is.2
-step_follows v w (closed end) noted is = asked v w is.2.0 (ap (λ (x : View). x.wire) is.3) is.2.1
-step_follows v w (ready answer) noted is = wire_same v w (ap (λ (x : View). x.line) is.3) (ap (λ (x : View). x.wire) is.3)
+step_follows v w (next head) noted is = asked v w head (ap (λ (x : View). x.wire) is.4) is.3
+step_follows v w (closed end) noted is = asked v w is.3.0 (ap (λ (x : View). x.wire) is.4) is.3.1
+step_follows v w (ready answer) noted is = wire_same v w (ap (λ (x : View). x.line) is.4) (ap (λ (x : View). x.wire) is.4)
 step_follows v w (called request) noted is = wire_same v w (ap (λ (x : View). x.line) is.3) (ap (λ (x : View). x.wire) is.3)
-step_follows v w (answered answer) noted is = wire_same v w (ap (λ (x : View). x.line) is.4) (ap (λ (x : View). x.wire) is.4)
-step_follows v w dropped noted is = done v w on.drop_body (ap (λ (x : View). x.wire) is.1) refl is.0
-step_follows v w (replied answer) noted is = done v w _ (ap (λ (x : View). x.wire) is.2) refl is.1
+step_follows v w (answered answer) noted is = wire_same v w (ap (λ (x : View). x.line) is.5) (ap (λ (x : View). x.wire) is.5)
+step_follows v w dropped noted is = done v w on.drop_body (ap (λ (x : View). x.wire) is.3) refl is.2
+step_follows v w (replied answer) noted is = done v w _ (ap (λ (x : View). x.wire) is.3) refl is.2
 step_follows v w (failed event) noted is = absurd noted
 step_follows v w (failed_write count) noted is = absurd noted
 step_follows v w (failed_read came event) noted is = absurd noted

@@ -1,6 +1,5 @@
 -- What the parts of a turn say, one after the other.
-use Rattle.std.proofs.Common.{◌≡◌, ◌≤◌, ◌⊎◌, ℕ, Bool, true, false, Option, Some, None, is_some, List, [], ◌∷◌, ◌++◌, length, Result, Ok, Err, inl, inr, refl, sym, ap, ◌∙◌, subst, arith}
-use Rattle.futures.specs.declared.task.Poll.{Poll}
+use Rattle.std.proofs.Common.{◌≡◌, ◌≤◌, ◌⊎◌, ℕ, Bool, true, false, Option, Some, None, is_some, List, [], ◌∷◌, length, Result, Ok, inl, inr, refl, sym, ap, ◌∙◌, subst, arith}
 use Rattle.futures.specs.declared.task.Poll.TheVariants.{Ready, Pending}
 use Rattle.futures.specs.declared.task.context.Context.{Context}
 use Rattle.std.specs.Prelude.{option_map, not, ◌&&◌, ◌||◌, ◌==◌, if◌then◌else◌}
@@ -14,12 +13,12 @@ use Rattle.h1_connection.specs.declared.connection.heads.NextHead.TheVariants as
 use Rattle.h1_connection.specs.declared.event.End.{End}
 use Rattle.h1_connection.specs.declared.event.End.TheVariants as ends
 use Rattle.http_types.specs.declared.error.DispatchError.{DispatchError}
-use Rattle.h1_dispatch.specs.declared.dispatcher.Ending.TheVariants.{Closed, Abandoned}
+use Rattle.h1_dispatch.specs.declared.dispatcher.Ending.TheVariants.{Closed}
 use Rattle.h1_dispatch.specs.declared.dispatcher.Turn.{Turn}
 use Rattle.h1_dispatch.specs.declared.dispatcher.Turn.TheVariants.{Counted, Idle, Over}
 use Rattle.h1_dispatch.specs.View.{View, Asking, closes, allows, allows_next, allows_answer, HasNoOutput, HasNoInput}
-use Rattle.h1_dispatch.specs.Steps.{Step, IsStep, IsRun, written, shut, next, ready, called, answered}
-use Rattle.h1_dispatch.specs.Polls.{Continues, AllContinue, IsShut, Ended, result_of, counts, Awaits, Looks, Serves, Reads, IsIdle, IsHeld, IsStuckRunning, IsStuckShutting, IsStuck, GoesOn, Ends, TurnSays, ServeSays, AfterSays, EndSays, StepSays, IsReadIdle, ReadingSays, IsSpent, Waits, TurnsSay}
+use Rattle.h1_dispatch.specs.Steps.{Step, IsStep, written, shut, next, ready, called, answered}
+use Rattle.h1_dispatch.specs.Polls.{Continues, IsShut, Ended, result_of, counts, Awaits, Looks, Serves, IsHeld, GoesOn, Ends, TurnSays, ServeSays, AfterSays, EndSays, StepSays, ReadingSays, TurnsSay}
 use Rattle.h1_dispatch.proofs.Runs.{one, goes_by, ends_by, goes_after, ends_after}
 
 pub none_of : {A : Type 0} (x : Option A) → is_some x ≡ false → x ≡ None

@@ -1,5 +1,5 @@
 -- What a poll of a dispatcher answers.
-use Rattle.std.specs.Prelude.{◌≡◌, ◌≤◌, ◌+◌, ◌⊎◌, ◌++◌, ◌∷◌, ℕ, Bool, true, false, Option, Some, None, is_some, List, [], length, ⊤, Result, Ok, Err}
+use Rattle.std.specs.Prelude.{◌≡◌, ◌≤◌, ◌+◌, ◌⊎◌, ◌++◌, ◌∷◌, ℕ, Bool, true, false, Option, Some, None, List, [], ⊤, Result, Ok, Err}
 use Rattle.std.specs.List.{AllByRecursion}
 use Rattle.futures.specs.declared.task.Poll.{Poll}
 use Rattle.futures.specs.declared.task.Poll.TheVariants.{Ready, Pending}
@@ -14,7 +14,6 @@ use Rattle.h1_connection.specs.declared.connection.heads.NextHead.TheVariants as
 use Rattle.h1_connection.specs.declared.connection.ticks.Expiry.{Expiry}
 use Rattle.h1_connection.specs.declared.event.End.{End}
 use Rattle.h1_connection.specs.declared.event.End.TheVariants as ends
-use Rattle.h1_dispatch.specs.declared.dispatcher.Ending.{Ending}
 use Rattle.h1_dispatch.specs.declared.dispatcher.Ending.TheVariants.{Closed, Abandoned}
 use Rattle.h1_dispatch.specs.declared.dispatcher.Turn.{Turn}
 use Rattle.h1_dispatch.specs.declared.dispatcher.Turn.TheVariants.{Counted, Idle, Over}
@@ -113,10 +112,16 @@ IsIo steps =
     (failure : Failed) × (EndsWith steps (written (Ready (Err failure)))
     ⊎ (((came : List ℕ) × EndsWith steps (read came (Ready (Err failure)))) ⊎ EndsWith steps (shut (Ready (Err failure)))))
 
+-- a turn tells neither a moment nor the drain
+abbrev pub IsOfTurn : on.Event → Type 0
+IsOfTurn (on.tick moment) = ⊥
+IsOfTurn on.drain = ⊥
+IsOfTurn event = ⊤
+
 -- memory ran out in the last step
 abbrev pub IsOutOfMemory : List Step → Type 0
 IsOutOfMemory steps =
-    ((event : on.Event) × EndsWith steps (failed event))
+    ((event : on.Event) × IsOfTurn event × EndsWith steps (failed event))
     ⊎ (((count : ℕ) × EndsWith steps (failed_write count)) ⊎ ((came : List ℕ) × (event : on.Event) × EndsWith steps (failed_read came event)))
 
 -- Why a poll ended: each error has its cause.
@@ -279,11 +284,9 @@ pub record IsBegun (v : View) (moment : ℕ) (w : View) : Type 0 where
   pub drains : Drains between w
 
 -- memory ran out in one of them
-pub record BeginFails (v : View) (moment : ℕ) (w : View) : Type 0 where
-  pub event : on.Event
-  pub between : View
-  pub before : (between ≡ v) ⊎ Ticks v moment between
-  pub fails : IsStep between (failed event) w
+abbrev pub BeginFails : View → ℕ → View → Type 0
+BeginFails v moment w =
+    IsStep v (failed (on.tick moment)) w ⊎ ((between : View) × Ticks v moment between × IsStep between (failed on.drain) w)
 
 abbrev pub TickSays : {A E : Type 0} → View → ℕ → View → Result A E → Type 0
 TickSays v moment w (Ok x) = Ticks v moment w

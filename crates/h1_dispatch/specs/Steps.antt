@@ -1,5 +1,5 @@
 -- The steps of a dispatcher.
-use Rattle.std.specs.Prelude.{◌≡◌, ◌≤◌, ◌<◌, ◌⊎◌, ℕ, Bool, true, false, Option, Some, None, List, [], ◌∷◌, length, take, ⊤, Result, Ok, Err}
+use Rattle.std.specs.Prelude.{◌≡◌, ◌≤◌, ◌<◌, ◌⊎◌, ℕ, Bool, true, false, Option, Some, None, is_some, List, [], ◌∷◌, length, take, ⊤, Result, Ok, Err}
 use Rattle.futures.specs.declared.task.Poll.{Poll}
 use Rattle.futures.specs.declared.task.Poll.TheVariants.{Ready, Pending}
 use Rattle.http_config.specs.declared.Failed.{Failed}
@@ -21,7 +21,7 @@ use Rattle.h1_connection.specs.declared.event.End.{End}
 use Rattle.h1_line.specs.Line.{LineView, LineSteps, LineFails}
 use Rattle.h1_dispatch.specs.declared.dispatcher.Ending.{Ending}
 use Rattle.h1_dispatch.specs.declared.dispatcher.Ending.TheVariants.{Closed, Abandoned}
-use Rattle.h1_dispatch.specs.View.{View, Asking, Answer, closes, allows, buffered, room}
+use Rattle.h1_dispatch.specs.View.{View, Asking, Answer, allows, allows_next, allows_answer, buffered, room}
 
 -- A step. A moment came; the drain came; the wire was given what waits to be written; it was asked for bytes, and these
 -- came; it was shut down; the next head was asked for; the connection closes, and told its end; the service was asked
@@ -113,9 +113,25 @@ pub record Begins (old new : Serving Asking Answer Answer) (request : Asking) : 
   pub is_ready : ReadySays old between (Ready (Ok tt))
   pub begun : CallSays between new request
 
--- nothing is asked of the service while an answer wasn't handed on
+-- the service is asked where the open request may be answered, which it may not while the connection closes, and nothing
+-- is asked while an answer wasn't handed on
 abbrev pub IsAsked : View → Type 0
-IsAsked v = (v.ending ≡ None) × (v.calling ≡ false) × (v.reply ≡ None)
+IsAsked v = (v.ending ≡ None) × (v.calling ≡ false) × (v.reply ≡ None) × (allows_answer v ≡ true)
+
+-- memory ran out for one of these: the moment, the drain where it was asked for, the next head, the rest of a body where
+-- the answer is there, or this answer
+abbrev pub MayFail : View → on.Event → Type 0
+MayFail v (on.tick moment) = ⊤
+MayFail v on.drain = v.draining ≡ true
+MayFail v on.next = (v.ending ≡ None) × (allows_next v ≡ true)
+MayFail v on.drop_body = (v.ending ≡ None) × (is_some v.reply ≡ true)
+MayFail v (on.answer head size) =
+    (v.ending ≡ None) × ((answer : Answer) × (v.reply ≡ Some answer) × (head ≡ answer_of answer.head) × (size ≡ answers.size_of 0))
+MayFail v event = ⊥
+
+-- so many bytes that came are told as bytes; none as the input's end
+abbrev pub IsOfRead : ℕ → List ℕ → on.Event → Type 0
+IsOfRead count came event = ((count ≡ 0) × (event ≡ on.eof)) ⊎ ((0 < count) × (event ≡ on.read came))
 
 -- What a step takes, and what it leaves: all but what is named stays.
 abbrev pub IsStep : View → Step → View → Type 0
@@ -124,7 +140,7 @@ IsStep v (ticked moment expiry) w =
     × (w ≡ record v { line = w.line; ending = ending_at expiry v.ending })
 IsStep v drained w = Goes v.line on.drain (Is on.done) w.line × (w ≡ record v { line = w.line })
 IsStep v (written answer) w =
-    (v.ending ≡ None) × WriteSays v.wire w.wire answer (buffered v) × Wrote v.line w.line answer
+    (v.ending ≡ None) × (0 < length (buffered v)) × WriteSays v.wire w.wire answer (buffered v) × Wrote v.line w.line answer
     × (w ≡ record v { line = w.line; wire = w.wire })
 IsStep v (read came answer) w =
     (v.ending ≡ None) × (allows v on.eof ≡ true)
@@ -133,31 +149,37 @@ IsStep v (read came answer) w =
 IsStep v (shut answer) w =
     ((end : End) × (v.ending ≡ Some (Closed end))) × ShutSays v.wire w.wire answer × (w ≡ record v { wire = w.wire })
 IsStep v (next head) w =
-    (v.ending ≡ None) × (v.waiting ≡ None) × Goes v.line on.next (SaysNext head) w.line
+    (v.ending ≡ None) × (v.waiting ≡ None) × (allows_next v ≡ true) × Goes v.line on.next (SaysNext head) w.line
     × (w ≡ record v { line = w.line; waiting = request_at head; ending = ending_told head })
 IsStep v (closed end) w =
     (v.ending ≡ None) × (closing_by (setting_of v.line.state.settings) v.line.state.kept ≡ Some (end_of end))
-    × ((head : NextHead) × Goes v.line on.next (SaysNext head) w.line)
+    × (allows_next v ≡ true) × ((head : NextHead) × Goes v.line on.next (SaysNext head) w.line)
     × (w ≡ record v { line = w.line; ending = Some (Closed end) })
 IsStep v (ready answer) w =
-    IsAsked v × TakesNone answer × ReadySays v.service w.service answer
+    IsAsked v × (is_some v.waiting ≡ true) × TakesNone answer × ReadySays v.service w.service answer
     × (w ≡ record v { service = w.service; waiting = still_waiting answer v.waiting; reply = refusal_of answer })
 IsStep v (called request) w =
     IsAsked v × (v.waiting ≡ Some request) × Begins v.service w.service request
     × (w ≡ record v { service = w.service; waiting = None; calling = true })
 IsStep v (answered answer) w =
-    (v.ending ≡ None) × (v.calling ≡ true) × (v.reply ≡ None) × AnswerSays v.service w.service answer
+    (v.ending ≡ None) × (allows_answer v ≡ true) × (v.calling ≡ true) × (v.reply ≡ None) × AnswerSays v.service w.service answer
     × (w ≡ record v { service = w.service; calling = still_called answer; reply = reply_of answer })
-IsStep v dropped w = Goes v.line on.drop_body (Is on.done) w.line × (w ≡ record v { line = w.line })
+IsStep v dropped w =
+    (v.ending ≡ None) × (is_some v.reply ≡ true) × Goes v.line on.drop_body (Is on.done) w.line
+    × (w ≡ record v { line = w.line })
 IsStep v (replied answer) w =
-    (v.reply ≡ Some answer) × Goes v.line (on.answer (answer_of answer.head) (answers.size_of 0)) (Is on.done) w.line
+    (v.ending ≡ None) × (v.reply ≡ Some answer) × Goes v.line (on.answer (answer_of answer.head) (answers.size_of 0)) (Is on.done) w.line
     × (w ≡ record v { line = w.line; reply = None })
-IsStep v (failed event) w = LineFails v.line event w.line × (w ≡ record v { line = w.line })
+IsStep v (failed event) w = MayFail v event × LineFails v.line event w.line × (w ≡ record v { line = w.line })
 IsStep v (failed_write count) w =
-    WriteSays {E = Failed} v.wire w.wire (Ready (Ok count)) (buffered v) × LineFails v.line (on.write count) w.line
+    (v.ending ≡ None) × (0 < length (buffered v)) × WriteSays {E = Failed} v.wire w.wire (Ready (Ok count)) (buffered v)
+    × LineFails v.line (on.write count) w.line
     × (w ≡ record v { line = w.line; wire = w.wire })
 IsStep v (failed_read came event) w =
-    ((buf : List ℕ) × (count : ℕ) × (came ≡ take count buf) × ReadSays {E = Failed} v.wire w.wire (Ready (Ok count)) buf) × LineFails v.line event w.line
+    (v.ending ≡ None) × (allows v on.eof ≡ true)
+    × ((buf : List ℕ) × (count : ℕ) × (0 < length buf) × (length buf ≤ room v) × (came ≡ take count buf)
+    × ReadSays {E = Failed} v.wire w.wire (Ready (Ok count)) buf × IsOfRead count came event)
+    × LineFails v.line event w.line
     × (w ≡ record v { line = w.line; wire = w.wire })
 
 -- one step after another

@@ -6,7 +6,7 @@ use Rattle.h1_model.specs.Sums as sums
 use Rattle.h1_model.specs.Sums.{taken, written}
 use Rattle.h1_line.specs.Line.{LineStands}
 use Rattle.h1_dispatch.specs.View.{View}
-use Rattle.h1_dispatch.specs.Steps.{Step, IsRun, failed, failed_write, failed_read}
+use Rattle.h1_dispatch.specs.Steps.{Step, failed, failed_write, failed_read}
 
 -- memory didn't run out in this step
 abbrev pub IsNoted : Step → Type 0

@@ -52,6 +52,7 @@ where
     /// Drops what is left of the request's body, and hands the answer on.
     pub(super) fn hand_on(&mut self) -> Turn
         requires open { MayBePolled S.calling self.old }
+        requires running { self.old.ending ≡ None }
         requires allowed { allows_answer (view_of T.wiring S.served L.noted self.old) ≡ true }
         requires answered { is_some self.old.reply ≡ true }
         ensures says { EndSays (view_of T.wiring S.served L.noted self.old) (view_of T.wiring S.served L.noted self.new) result }
@@ -69,6 +70,7 @@ where
     /// After the drop the answer is allowed still, as the next turn would see.
     fn put_reply_if_allowed(&mut self) -> Turn
         requires open { MayBePolled S.calling self.old }
+        requires running { self.old.ending ≡ None }
         requires answered { is_some self.old.reply ≡ true }
         ensures says { StepSays (view_of T.wiring S.served L.noted self.old) (view_of T.wiring S.served L.noted self.new) result }
         ensures open { MayBePolled S.calling self.new }
@@ -82,6 +84,7 @@ where
     /// Hands the answer on to the connection. It has no body.
     fn put_reply(&mut self) -> Turn
         requires open { MayBePolled S.calling self.old }
+        requires running { self.old.ending ≡ None }
         requires allowed { allows_answer (view_of T.wiring S.served L.noted self.old) ≡ true }
         requires answered { is_some self.old.reply ≡ true }
         ensures says { EndSays (view_of T.wiring S.served L.noted self.old) (view_of T.wiring S.served L.noted self.new) result }

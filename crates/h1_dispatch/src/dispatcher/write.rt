@@ -1,10 +1,10 @@
 // What is buffered is written, and a connection that closes is asked for its end.
-ghost use Rattle.std.specs.Prelude.{◌≡◌, ◌⊎◌, ℕ, Some, None, true};
+ghost use Rattle.std.specs.Prelude.{◌≡◌, ◌<◌, ◌⊎◌, ℕ, Some, None, true, length};
 ghost use Rattle.futures.specs.Task.{IsArmed, Keeps};
 ghost use Rattle.h1_machine.specs.Local.{closing_by};
 ghost use Rattle.h1_model.specs.Event as on;
 ghost use Rattle.h1_connection.specs.Meaning.{setting_of, end_of};
-ghost use Rattle.h1_dispatch.specs.View.{view_of, MayBePolled, allows, allows_next, HasNoOutput};
+ghost use Rattle.h1_dispatch.specs.View.{view_of, MayBePolled, allows, allows_next, buffered, HasNoOutput};
 ghost use Rattle.h1_dispatch.specs.Polls.{OnIdle, TurnSays, AfterSays, EndSays};
 
 use crate::dispatcher::read::wake;
@@ -45,6 +45,7 @@ where
     fn give(&mut self, cx: &mut Context<'_>) -> Turn
         requires open { MayBePolled S.calling self.old }
         requires running { self.old.ending ≡ None }
+        requires some { 0 < length (buffered (view_of T.wiring S.served L.noted self.old)) }
         requires allowed { (count : ℕ) → allows (view_of T.wiring S.served L.noted self.old) (on.write count) ≡ true }
         ensures says { TurnSays (view_of T.wiring S.served L.noted self.old) (view_of T.wiring S.served L.noted self.new) result }
         ensures open { MayBePolled S.calling self.new }

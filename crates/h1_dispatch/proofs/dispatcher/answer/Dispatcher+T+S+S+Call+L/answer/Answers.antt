@@ -12,7 +12,7 @@ returns-in-Pending-clause-says g c =
     let u = view_of g.T.Wire.wiring g.S.Service.served g.L.Recorder.noted (record c.args.self.now { service = c.poll_call.new.self; lent = c.poll_call.new.lent; call = Some c.poll_call.new.call }) in
     let w = view_of g.T.Wire.wiring g.S.Service.served g.L.Recorder.noted c.read_on.new.self in
     pending_then v u w (answered Pending) c.read_on.result
-    (polled v u Pending c.requires.running c.requires.calling c.requires.unanswered c.in-Pending.ensures.says refl refl (none_of v.reply c.requires.unanswered)) tt
+    (polled v u Pending c.requires.running c.requires.allowed c.requires.calling c.requires.unanswered c.in-Pending.ensures.says refl refl (none_of v.reply c.requires.unanswered)) tt
     (waits_call v c.requires.allowed c.requires.unanswered c.requires.calling) c.read_on.ensures.says
 
 pub returns-in-Ready-Ok-clause-says : goal.returns-in-Ready-Ok-clause-says
@@ -21,7 +21,7 @@ returns-in-Ready-Ok-clause-says g c =
     let u = view_of g.T.Wire.wiring g.S.Service.served g.L.Recorder.noted (record c.args.self.now { service = c.poll_call.new.self; lent = c.poll_call.new.lent; call = c.take.new.self; reply = Some c.in-Ready-Ok.response }) in
     let w = view_of g.T.Wire.wiring g.S.Service.served g.L.Recorder.noted c.hand_on.new.self in
     step_then v u w (answered (Ready (Ok c.in-Ready-Ok.response))) c.hand_on.result
-    (polled v u (Ready (Ok c.in-Ready-Ok.response)) c.requires.running c.requires.calling c.requires.unanswered (rw c.in-Ready-Ok.field-0-is at c.in-Ready-Ok.ensures.says) refl (ap is_some c.take.ensures.after) refl) tt
+    (polled v u (Ready (Ok c.in-Ready-Ok.response)) c.requires.running c.requires.allowed c.requires.calling c.requires.unanswered (rw c.in-Ready-Ok.field-0-is at c.in-Ready-Ok.ensures.says) refl (ap is_some c.take.ensures.after) refl) tt
     c.hand_on.ensures.says
 
 pub returns-clause-says : goal.returns-clause-says
@@ -30,5 +30,5 @@ returns-clause-says g c =
     let u = view_of g.T.Wire.wiring g.S.Service.served g.L.Recorder.noted (record c.args.self.now { service = c.poll_call.new.self; lent = c.poll_call.new.lent; call = c.take.new.self; reply = Some c.in-Ready-Err.response }) in
     let w = view_of g.T.Wire.wiring g.S.Service.served g.L.Recorder.noted c.hand_on-in-Ready-Err.new.self in
     step_then v u w (answered (Ready (Err c.in-Ready-Err.response))) c.hand_on-in-Ready-Err.result
-    (polled v u (Ready (Err c.in-Ready-Err.response)) c.requires.running c.requires.calling c.requires.unanswered (rw c.in-Ready-Err.field-0-is at c.in-Ready-Err.ensures.says) refl (ap is_some c.take.ensures.after) refl) tt
+    (polled v u (Ready (Err c.in-Ready-Err.response)) c.requires.running c.requires.allowed c.requires.calling c.requires.unanswered (rw c.in-Ready-Err.field-0-is at c.in-Ready-Err.ensures.says) refl (ap is_some c.take.ensures.after) refl) tt
     c.hand_on-in-Ready-Err.ensures.says

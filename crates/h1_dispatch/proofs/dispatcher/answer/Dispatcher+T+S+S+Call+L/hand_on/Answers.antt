@@ -12,10 +12,10 @@ returns-in-Ok-clause-says g c =
     let u = view_of g.T.Wire.wiring g.S.Service.served g.L.Recorder.noted (record c.args.self.now { line = c.drop_body.new.self }) in
     let w = view_of g.T.Wire.wiring g.S.Service.served g.L.Recorder.noted c.put_reply_if_allowed.new.self in
     drop_then v u w dropped c.put_reply_if_allowed.result
-    (record { steps = c.in-Ok.ensures.stands; settings = c.drop_body.ensures.settings }, refl) tt (omega arith) c.put_reply_if_allowed.ensures.says
+    (c.requires.running, c.requires.answered, record { steps = c.in-Ok.ensures.stands; settings = c.drop_body.ensures.settings }, refl) tt (omega arith) c.put_reply_if_allowed.ensures.says
 
 pub returns-in-Err-clause-says : goal.returns-in-Err-clause-says
 returns-in-Err-clause-says g c =
     let v = view_of g.T.Wire.wiring g.S.Service.served g.L.Recorder.noted c.args.self.now in
     let w = view_of g.T.Wire.wiring g.S.Service.served g.L.Recorder.noted (record c.args.self.now { line = c.drop_body.new.self }) in
-    lacks v w (failed on.drop_body) (c.in-Err.ensures.err, refl) (inl (on.drop_body, ([], refl, tt)))
+    lacks v w (failed on.drop_body) ((c.requires.running, c.requires.answered), c.in-Err.ensures.err, refl) (inl (on.drop_body, tt, ([], refl, tt)))

@@ -1,4 +1,4 @@
-use Rattle.std.proofs.Common.{rules, Some, refl, inr}
+use Rattle.std.proofs.Common.{rules, refl, inr}
 use Rattle.h1_connection.specs.declared.connection.ticks.Expiry.TheVariants as expiries
 use Rattle.h1_dispatch.proofs.dispatcher.begin.Dispatcher+T+S+S+Call+L.tick.Goals as goal
 

@@ -1,4 +1,4 @@
-use Rattle.std.proofs.Common.{rules, inr, arith}
+use Rattle.std.proofs.Common.{rules, arith}
 use Rattle.h1_dispatch.specs.View.{view_of}
 use Rattle.h1_dispatch.proofs.Runs.{goes_none, goes_after}
 use Rattle.h1_dispatch.proofs.Turns.{turns_idle, turns_over}

@@ -1,11 +1,11 @@
-use Rattle.std.proofs.Common.{rules, Ok, Err, [], ◌∷◌, refl, sym, ap, inl, inr, arith, take}
+use Rattle.std.proofs.Common.{rules, Ok, Err, [], ◌∷◌, refl, inl, inr, arith, take}
 use Rattle.futures.specs.declared.task.Poll.TheVariants.{Ready, Pending}
 use Rattle.http_types.specs.declared.error.DispatchError.TheVariants.{Io}
 use Rattle.h1_model.specs.Event as on
 use Rattle.h1_dispatch.specs.View.{view_of}
 use Rattle.h1_dispatch.specs.Steps.{read, failed_read}
 use Rattle.h1_dispatch.proofs.Runs.{one, goes_by, ends_by, lacks}
-use Rattle.h1_dispatch.proofs.Moves.{read_step}
+use Rattle.h1_dispatch.proofs.Moves.{read_step, read_fails}
 use Rattle.h1_dispatch.proofs.dispatcher.read.Dispatcher+T+S+S+Call+L.read.Goals as goal
 
 pub returns-in-Pending-clause-says : goal.returns-in-Pending-clause-says
@@ -43,7 +43,8 @@ returns-in-Err-clause-says g c =
     let w = view_of g.T.Wire.wiring g.S.Service.served g.L.Recorder.noted (record c.args.self.now { wire = c.poll_read.new.self; line = c.eof.new.self }) in
     let n = c.in-Ready-Ok-eq0.field-0-0 in
     lacks v w (failed_read (take n c.poll_read.new.buf) on.eof)
-    ((c.poll_read.new.buf, n, refl, rw c.in-Ready-Ok-eq0.field-0-is at c.in-Ready-Ok-eq0.ensures.says), c.in-Err.ensures.err, refl)
+    (read_fails v w (take n c.poll_read.new.buf) c.poll_read.new.buf n on.eof c.requires.running c.requires.eof (search rules) (search rules) refl
+    (rw c.in-Ready-Ok-eq0.field-0-is at c.in-Ready-Ok-eq0.ensures.says) (inl (search rules, refl)) c.in-Err.ensures.err refl)
     (inr (inr (take n c.poll_read.new.buf, on.eof, ([], refl, tt))))
 
 pub returns-in-Ok-read-clause-says : goal.returns-in-Ok-read-clause-says
@@ -62,5 +63,6 @@ returns-in-Err-read-clause-says g c =
     let w = view_of g.T.Wire.wiring g.S.Service.served g.L.Recorder.noted (record c.args.self.now { wire = c.poll_read.new.self; line = c.read.new.self }) in
     let n = c.in-Ready-Ok.count in
     lacks v w (failed_read (take n c.poll_read.new.buf) (on.read (take n c.poll_read.new.buf)))
-    ((c.poll_read.new.buf, n, refl, rw c.in-Ready-Ok.field-0-is at c.in-Ready-Ok.ensures.says), c.in-Err-read.ensures.err, refl)
+    (read_fails v w (take n c.poll_read.new.buf) c.poll_read.new.buf n (on.read (take n c.poll_read.new.buf)) c.requires.running c.requires.eof (search rules) (search rules) refl
+    (rw c.in-Ready-Ok.field-0-is at c.in-Ready-Ok.ensures.says) (inr (search rules, refl)) c.in-Err-read.ensures.err refl)
     (inr (inr (take n c.poll_read.new.buf, on.read (take n c.poll_read.new.buf), ([], refl, tt))))

@@ -1,4 +1,4 @@
-use Rattle.std.proofs.Common.{Some, [], Ok, Err, refl, inr}
+use Rattle.std.proofs.Common.{[], Err, refl, inr}
 use Rattle.futures.specs.declared.task.Poll.TheVariants.{Ready}
 use Rattle.http_types.specs.declared.error.DispatchError.TheVariants.{Io}
 use Rattle.h1_dispatch.specs.View.{view_of}

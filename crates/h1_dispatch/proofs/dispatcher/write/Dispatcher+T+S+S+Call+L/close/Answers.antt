@@ -1,4 +1,4 @@
-use Rattle.std.proofs.Common.{rules, inl, refl, ap, sym, ◌∙◌, is_some}
+use Rattle.std.proofs.Common.{rules, inl, refl, ap, is_some}
 use Rattle.h1_dispatch.specs.View.{view_of}
 use Rattle.h1_dispatch.proofs.Turns.{end_then, held_idle, held_armed}
 use Rattle.h1_dispatch.proofs.dispatcher.write.Dispatcher+T+S+S+Call+L.close.Goals as goal

@@ -1,4 +1,3 @@
-use Rattle.std.proofs.Common.{rules, ap, sym, ◌∙◌, is_some}
 use Rattle.h1_dispatch.specs.View.{view_of}
 use Rattle.h1_dispatch.proofs.Turns.{open_then, not_closing}
 use Rattle.h1_dispatch.proofs.dispatcher.write.Dispatcher+T+S+S+Call+L.go_on.Goals as goal

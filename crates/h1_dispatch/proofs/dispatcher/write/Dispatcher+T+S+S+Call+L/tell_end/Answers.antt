@@ -15,8 +15,8 @@ returns-clause-says g c =
           (let u = view_of g.T.Wire.wiring g.S.Service.served g.L.Recorder.noted (record c.args.self.now { line = c.next.new.self; ending = Some (Closed c.args.end) }) in
           rw (w.self-is, w.result-is)
           (goes_by v u (closed c.args.end) 1
-          (c.requires.running, c.requires.closing, (w.in-Ok.field-0, record { steps = w.in-Ok.ensures.stands; settings = c.next.ensures.settings }), refl) tt (omega arith)))
+          (c.requires.running, c.requires.closing, c.requires.allowed, (w.in-Ok.field-0, record { steps = w.in-Ok.ensures.stands; settings = c.next.ensures.settings }), refl) tt (omega arith)))
       | in-Err w ↦
           (let u = view_of g.T.Wire.wiring g.S.Service.served g.L.Recorder.noted (record c.args.self.now { line = c.next.new.self }) in
-          rw (w.self-is, w.result-is) (lacks v u (failed on.next) (w.in-Err.ensures.err, refl) (inl (on.next, ([], refl, tt)))))
+          rw (w.self-is, w.result-is) (lacks v u (failed on.next) ((c.requires.running, c.requires.allowed), w.in-Err.ensures.err, refl) (inl (on.next, tt, ([], refl, tt)))))
     ]
