@@ -2,38 +2,39 @@ use bytes::{Bytes, BytesMut};
 use h1_framed::{Codec, Message, MessageType};
 use http_framing::BodySize;
 use http_types::{ConnectionType, ParseError, Response, ServiceConfig, Version};
+use std::alloc::AllocError;
 use std::test::Fail;
 
 const DATE: &str = "date: Thu, 01 Jan 1970 00:00:00 GMT\r\n";
 
-// A request with a body in chunks and trailers, byte by byte, and a second request behind it.
+// Notes the next item, if one is there, and the number of its trailers after an end.
+fn note(codec: &mut Codec, src: &mut BytesMut, notes: &mut BytesMut) -> Result<(), AllocError> {
+    match codec.decode(src) {
+        Ok(None) => Ok(()),
+        Ok(Some(Message::Item(_))) => notes.extend_from_slice(b"head,"),
+        Ok(Some(Message::Chunk(Some(bytes)))) => notes.extend_from_slice(bytes.as_slice()),
+        Ok(Some(Message::Chunk(None))) => match codec.take_trailers() {
+            Some(trailers) if trailers.len() == 1 => notes.extend_from_slice(b",one,"),
+            _ => notes.extend_from_slice(b",others,"),
+        },
+        Err(_) => notes.extend_from_slice(b"refused,"),
+    }
+}
+
+// A request with a body in chunks and trailers, byte by byte, and a second request after it.
 #[test]
 fn a_body_in_chunks_comes_byte_by_byte(rt: HostRuntime) -> Result<(), Fail> {
     let text =
         b"POST /a HTTP/1.1\r\ntransfer-encoding: chunked\r\n\r\n4\r\ndata\r\n0\r\nx: 1\r\n\r\nHEAD / HTTP/1.0\r\n\r\n";
     let mut codec = Codec::new(ServiceConfig::default());
     let mut src = BytesMut::new(rt.alloc());
-    let mut heads = 0_u32;
-    let mut ends = 0_u32;
-    let mut body = BytesMut::new(rt.alloc());
+    let mut notes = BytesMut::new(rt.alloc());
     for byte in text {
         src.extend_from_slice(&[*byte])?;
-        match codec.decode(&mut src).ok().ok_or("refused")? {
-            None => {}
-            Some(Message::Item(_)) => heads = heads.saturating_add(1),
-            Some(Message::Chunk(Some(bytes))) => body.extend_from_slice(bytes.as_slice())?,
-            Some(Message::Chunk(None)) => {
-                ends = ends.saturating_add(1);
-                let trailers = codec.take_trailers().ok_or("no trailers")?;
-                assert_eq!(rt; trailers.len(), 1);
-            }
-        }
+        note(&mut codec, &mut src, &mut notes)?;
     }
-    assert_eq!(rt; heads, 2);
-    assert_eq!(rt; ends, 1);
-    assert_eq!(rt; body.as_slice(), b"data".as_slice());
-    assert!(rt; codec.take_trailers().is_none());
-    assert!(rt; src.is_empty());
+    assert_eq!(rt; notes.as_slice(), b"head,data,one,head,".as_slice());
+    assert!(rt; codec.take_trailers().is_none() && src.is_empty());
     Ok(())
 }
 
