@@ -17,11 +17,7 @@ fn server(alloc: Global, texts: &[&'static [u8]], room: &[usize]) -> Result<Serv
         pieces.push(Bytes::from_static(text))?;
     }
     let wire = MemWire::new(alloc, pieces, room.to_vec(alloc)?, Vec::new(alloc));
-    Ok(Framed::new(
-        alloc,
-        wire,
-        Codec::new(ServiceConfig::default()),
-    ))
+    Ok(Framed::new(alloc, wire, Codec::new(ServiceConfig::default())))
 }
 
 // Notes what the next item is.
@@ -63,7 +59,10 @@ fn a_request_comes_in_pieces(rt: HostRuntime) -> Result<(), Fail> {
     for _ in 0..7 {
         note(&mut framed, &task, &mut notes)?;
     }
-    assert_eq!(rt; notes.as_slice(), b"waits,head,da,ta,abc,end,none".as_slice());
+    assert_eq!(rt;
+        notes.as_slice(),
+        b"waits,head,da,ta,abc,end,none".as_slice()
+    );
     Ok(())
 }
 
