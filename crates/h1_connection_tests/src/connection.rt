@@ -54,6 +54,33 @@ fn a_request_is_answered(rt: HostRuntime) -> Result<(), Fail> {
     Ok(())
 }
 
+// Writes what waits into two slices: whether these are its first bytes and all others, after which the second one is
+// left as it was.
+fn is_written_in_parts(connection: &mut Connection) -> bool {
+    let mut first = [b'.'; 8];
+    let mut rest = [b'.'; 68];
+    if !connection.can_write() {
+        return false;
+    }
+    let begun = connection.write_into(&mut first);
+    if !connection.can_write() {
+        return false;
+    }
+    let ended = connection.write_into(&mut rest);
+    let text = b" 200 OK\r\ncontent-length: 0\r\ndate: Thu, 01 Jan 1970 00:00:00 GMT\r\n\r\n.";
+    begun == 8 && ended == 67 && first == *b"HTTP/1.1" && rest == *text
+}
+
+#[test]
+fn an_answer_is_written_into_slices(rt: HostRuntime) -> Result<(), Fail> {
+    let mut connection = Connection::new(rt.alloc(), ServiceConfigBuilder::new().build());
+    assert!(rt; is_taken(&mut connection)?);
+    let head = ResponseHead::new(rt.alloc(), StatusCode::OK);
+    assert!(rt; is_answered(&mut connection, &head, b"HTTP/1.1 200 OK\r\n")?);
+    assert!(rt; is_written_in_parts(&mut connection));
+    Ok(())
+}
+
 // Answers the open request with a body of two pieces, whose memory may be shared.
 fn answer_in_pieces(connection: &mut Connection, head: &ResponseHead) -> Result<(), NoMemory> {
     if connection.can_answer() {
