@@ -2,7 +2,6 @@
 use Rattle.std.specs.Prelude.{◌≡◌, ℕ, Bool, List, [], Option}
 use Rattle.std.specs.Io.KnownBytes.{Consumes, Appends}
 use Rattle.std.proofs.Common.{refl, sym, subst}
-use Rattle.http_config.specs.Config.{Settings}
 use Rattle.h1_model.specs.Sums.{taken, written}
 use Rattle.h1_machine.proofs.Stands.{fresh_stands}
 use Rattle.h1_connection.specs.Meaning.{setting_of}
@@ -22,11 +21,11 @@ heads_none : heads [] ≡ []
 unfolding heads
 heads_none = refl
 
-pub begins : (state : State) (settings : Settings) (left given : Option (List ℕ)) (judges : Bool) → state ≡ fresh_state settings
+pub begins : (state : State) (like : State) (left given : Option (List ℕ)) (judges : Bool) → state ≡ fresh_state like.settings
     → IsServed (record { left = left; given = given; judges = judges; handed = [] }) (record { state = state; left = left; given = given; judges = judges })
-begins state settings left given judges is = record {
+begins state like left given judges is = record {
   trace = [];
-  stands = subst (λ (s : State). Stands s []) (sym is) (fresh_stands (setting_of settings));
+  stands = subst (λ (s : State). Stands s []) (sym is) (fresh_stands (setting_of like.settings));
   came = subst (λ (l : List ℕ). Consumes left left l) (sym taken_none) (same_left left);
   went = subst (λ (l : List ℕ). Appends given given l) (sym written_none) (same_given given);
   handed = heads_none;

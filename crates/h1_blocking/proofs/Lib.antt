@@ -1,5 +1,6 @@
 pub mod Answered
 pub mod Began
+pub mod Doubts
 pub mod Followed
 pub mod Handled
 pub mod ServedLemmas

@@ -40,7 +40,8 @@ impl Answer {
     {
         let writer = self.sized(body, head, bytes.len() as u64)?;
         let writer = writer.write(body, bytes)?;
-        writer.end(body)
+        writer.end(body)?;
+        Ok(())
     }
 
     /// Begins an answer whose body has so many bytes (RFC 7230, section 3.3.2).
@@ -82,7 +83,8 @@ impl Answer {
         ensures answers { OnOk result (Answers head.status body.old body.new) }
     {
         let writer = self.begin(body, head, BodySize::ZERO)?;
-        writer.end(body)
+        writer.end(body)?;
+        Ok(())
     }
 
     #[tactic(auto, using(crate::proofs::Followed::follows_none, crate::proofs::Followed::follows_then, crate::proofs::Answered::answered_here, crate::proofs::Answered::answers_follow, crate::proofs::Answered::answers_then, crate::proofs::Answered::then_answers))]

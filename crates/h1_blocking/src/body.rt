@@ -54,6 +54,9 @@ pub struct Body<S: TimedSource, K: TimedSink> {
     // Where the open request's body ends.
     pub(crate) kind: BodyKind,
 
+    // The open request has no body, or its body was given to its end.
+    pub(crate) has_ended: bool,
+
     // The handler reads the open request's body.
     pub(crate) is_wanted: bool,
 
@@ -94,6 +97,7 @@ impl<S: TimedSource, K: TimedSink> Body<S, K> {
             reads: Pace::new(),
             writes: Pace::new(),
             kind: BodyKind::None,
+            has_ended: true,
             is_wanted: false,
             closes: false,
         }
@@ -115,6 +119,7 @@ impl<S: TimedSource, K: TimedSink> Body<S, K> {
             reads: _,
             writes: _,
             kind: _,
+            has_ended: _,
             is_wanted: _,
             closes: _,
         } = self;
@@ -135,9 +140,11 @@ impl<S: TimedSource, K: TimedSink> Body<S, K> {
     }
 
     /// What comes next of the body. It waits for it; all that waits to be written is written before. Where the request
-    /// has no body, or its end was given, it is `End`.
+    /// has no body, or its end or its trailers were given, it is `End`.
     ///
-    /// `BrokenBody` where the body is none, `Stalled` where nothing comes for too long, `Lost` and `NoMemory`.
+    /// `BrokenBody` where the body breaks the grammar of chunks, and where the input, or the connection, ends before the
+    /// body does: then also each time that it is asked again. `Stalled` where nothing comes for too long, `Lost` and
+    /// `NoMemory`.
     #[tactic(auto, using(crate::proofs::Followed::follows_none, crate::proofs::Followed::follows_then))]
     pub fn read(&mut self) -> Result<Piece, HandleError>
         ensures follows { Follows self.old self.new }
@@ -145,7 +152,7 @@ impl<S: TimedSource, K: TimedSink> Body<S, K> {
         self.want()?;
         for _ in 0..u64::MAX {
             if !self.connection.can_pull() {
-                return Ok(Piece::End);
+                return self.told_end();
             }
             match self.pull()? {
                 Pulled::Bytes(bytes) => return Ok(Piece::Bytes(bytes)),
@@ -161,11 +168,20 @@ impl<S: TimedSource, K: TimedSink> Body<S, K> {
         Err(HandleError::Stalled)
     }
 
+    // Nothing more can be asked for: the body has ended, or the connection ends before it has.
+    fn told_end(&self) -> Result<Piece, HandleError> {
+        if self.has_ended {
+            return Ok(Piece::End);
+        }
+        Err(HandleError::BrokenBody)
+    }
+
     // A request was handed out, whose body ends so, and with whose answer the connection ends or not. The body's bytes
     // are waited for from now on.
     pub(crate) fn begin_request(&mut self, kind: BodyKind, closes: bool)
         ensures same { self.new ≡ self.old }
     {
+        self.has_ended = kind == BodyKind::None;
         self.kind = kind;
         self.closes = closes;
         self.is_wanted = false;
@@ -188,11 +204,25 @@ impl<S: TimedSource, K: TimedSink> Body<S, K> {
         if self.is_wanted || !self.connection.can_pull() {
             return Ok(());
         }
-        let never_ends = self.kind == BodyKind::Raw || self.connection.can_continue();
-        if never_ends || !self.pass_over()? {
-            head.set_connection_type(ConnectionType::Close);
+        if self.pass_over_if_it_ends()? {
+            return Ok(());
         }
+        head.set_connection_type(ConnectionType::Close);
         Ok(())
+    }
+
+    // Whether the body was passed over; where it can't end, it isn't.
+    #[tactic(auto, using(crate::proofs::Followed::follows_none, crate::proofs::Followed::follows_then))]
+    fn pass_over_if_it_ends(&mut self) -> Result<bool, HandleError>
+        ensures follows { Follows self.old self.new }
+    {
+        if self.kind == BodyKind::Raw {
+            return Ok(false);
+        }
+        if self.connection.can_continue() {
+            return Ok(false);
+        }
+        self.pass_over()
     }
 
     // Whether the body was passed over. Its bytes are counted, and those that were read for it, as of chunks with long

@@ -146,13 +146,16 @@ fn take<S: TimedSource, K: TimedSink, H: Handler>(
 
 // The first doubt about a head, where heads are judged. A doubt with a status refuses the head, and after an answer to any
 // head with a doubt the connection ends.
+#[tactic(auto, using(crate::proofs::Doubts::undoubted, crate::proofs::Doubts::doubted))]
 fn judged(item: &HeadItem, judges_heads: bool) -> Option<HeadDoubt>
     ensures { result ≡ doubt_if judges_heads item.now }
 {
-    if judges_heads {
-        check_head(item).err()
-    } else {
-        None
+    if !judges_heads {
+        return None;
+    }
+    match check_head(item) {
+        Ok(()) => None,
+        Err(doubt) => Some(doubt),
     }
 }
 

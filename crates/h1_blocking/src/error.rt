@@ -16,7 +16,8 @@ pub enum HandleError {
     #[error("the peer neither sends nor takes anything")]
     Stalled,
 
-    /// The request's body ends too early, or breaks the grammar of chunks.
+    /// The request's body breaks the grammar of chunks; or the input, or the connection, ends before the body does. An
+    /// answer that is complete ends the connection too, where the body wasn't read to its end.
     #[error("the request's body is broken")]
     BrokenBody,
 

@@ -71,7 +71,17 @@ impl<S: TimedSource, K: TimedSink> Body<S, K> {
         ensures follows { Follows self.old self.new }
     {
         let pulled = self.connection.pull()?;
-        Ok(pulled)
+        match pulled {
+            Pulled::Trailers(trailers) => {
+                self.has_ended = true;
+                Ok(Pulled::Trailers(trailers))
+            }
+            Pulled::End => {
+                self.has_ended = true;
+                Ok(Pulled::End)
+            }
+            other => Ok(other),
+        }
     }
 
     /// The client gets leave to send its body.

@@ -70,17 +70,26 @@ impl<S: TimedSource, K: TimedSink> Body<S, K> {
             if !self.has_unwritten() {
                 return Ok(());
             }
-            let begin = self.source.uptime();
-            match self.write_stretch() {
-                Ok(count) => self.note_write(self.time_since(begin), count as u64)?,
-                Err(_) if self.sink.is_not_now() => {
-                    self.note_write(self.time_since(begin), 0)?;
-                    self.read_meanwhile()?;
-                }
-                Err(_) => return Err(HandleError::Lost),
-            }
+            self.write_once()?;
         }
         Err(HandleError::Stalled)
+    }
+
+    // Writes once. Where the peer takes nothing, what it sends is read.
+    #[tactic(auto, using(crate::proofs::Followed::follows_none, crate::proofs::Followed::follows_then))]
+    fn write_once(&mut self) -> Result<(), HandleError>
+        requires can_write { (count : ℕ) → IsAllowed self.old.state (on.write count) }
+        ensures follows { Follows self.old self.new }
+    {
+        let begin = self.source.uptime();
+        match self.write_stretch() {
+            Ok(count) => self.note_write(self.time_since(begin), count as u64),
+            Err(_) if self.sink.is_not_now() => {
+                self.note_write(self.time_since(begin), 0)?;
+                self.read_meanwhile()
+            }
+            Err(_) => Err(HandleError::Lost),
+        }
     }
 
     /// Writes what the peer takes at once of what waits.
@@ -89,7 +98,10 @@ impl<S: TimedSource, K: TimedSink> Body<S, K> {
         ensures follows { Follows self.old self.new }
     {
         for _ in 0..u64::MAX {
-            if !self.has_unwritten() || self.write_stretch().is_err() {
+            if !self.has_unwritten() {
+                return;
+            }
+            if self.write_stretch().is_err() {
                 return;
             }
         }
