@@ -1,5 +1,5 @@
 -- Single steps, by what the calls of a turn ensure.
-use Rattle.std.proofs.Common.{◌≡◌, ◌<◌, ◌≤◌, ℕ, true, false, None, is_some, List, length, take, Result, Ok, ap, ◌∙◌}
+use Rattle.std.proofs.Common.{◌≡◌, ◌<◌, ◌≤◌, ℕ, true, false, Some, None, is_some, List, length, take, Result, Ok, ap, ◌∙◌}
 use Rattle.futures.specs.declared.task.Poll.{Poll}
 use Rattle.futures.specs.declared.task.Poll.TheVariants.{Ready}
 use Rattle.http_config.specs.declared.Failed.{Failed}
@@ -13,6 +13,7 @@ use Rattle.h1_machine.specs.Local.{allowed_by}
 use Rattle.h1_connection.specs.Heads.{SaysNext}
 use Rattle.h1_connection.specs.declared.connection.heads.NextHead.{NextHead}
 use Rattle.h1_line.specs.Line.{LineSteps, LineFails}
+use Rattle.h1_dispatch.specs.declared.dispatcher.Ending.TheVariants.{Broken}
 use Rattle.h1_dispatch.specs.View.{View, Answer, allows, allows_next, allows_answer, any_answer, room}
 use Rattle.h1_dispatch.specs.Steps.{IsStep, Took, IsOfRead, request_at, ending_told, still_called, reply_of, read, next, answered, failed_read}
 use Rattle.h1_dispatch.proofs.Turns.{none_of}
@@ -29,7 +30,7 @@ read_step v w came buf answer running may some fits moves says took same = (runn
 
 pub read_fails : (v w : View) (came buf : List ℕ) (count : ℕ) (event : on.Event) → v.ending ≡ None → allows v on.eof ≡ true → 0 < length buf → length buf ≤ room v
     → came ≡ take count buf → ReadSays {E = Failed} v.wire w.wire (Ready (Ok count)) buf → IsOfRead count came event → LineFails v.line event w.line
-    → w ≡ record v { line = w.line; wire = w.wire } → IsStep v (failed_read came event) w
+    → w ≡ record v { line = w.line; wire = w.wire; ending = Some Broken } → IsStep v (failed_read came event) w
 read_fails v w came buf count event running may some fits moves says is fails same = (running, may, (buf, count, some, fits, moves, says, is), fails, same)
 
 pub polled : (v w : View) (answer : Poll (Result Answer Answer)) → v.ending ≡ None → allows_answer v ≡ true → v.calling ≡ true → is_some v.reply ≡ false → AnswerSays v.service w.service answer

@@ -1,7 +1,8 @@
 -- Runs of steps one after the other, and how they end.
-use Rattle.std.proofs.Common.{◌≡◌, ◌≤◌, ◌+◌, ℕ, List, [], ◌∷◌, ◌++◌, Result, Ok, Err, inl, inr, refl, ap, subst, arith}
+use Rattle.std.proofs.Common.{◌≡◌, ◌≤◌, ◌+◌, ℕ, List, [], ◌∷◌, ◌++◌, Some, Result, Ok, Err, inl, inr, refl, ap, subst, arith}
 use Rattle.http_types.specs.declared.error.DispatchError.{DispatchError}
 use Rattle.http_types.specs.declared.error.DispatchError.TheVariants as error
+use Rattle.h1_dispatch.specs.declared.dispatcher.Ending.TheVariants.{Broken}
 use Rattle.h1_dispatch.specs.View.{View}
 use Rattle.h1_dispatch.specs.Steps.{Step, IsStep, IsRun}
 use Rattle.h1_dispatch.specs.Polls.{Continues, AllContinue, EndsWith, IsShut, IsIo, IsOutOfMemory, Ended, counts, progress, GoesOn, Ends}
@@ -47,7 +48,8 @@ memory_on d s goes (inr (inr is)) = inr (inr (is.0, is.1, ends_on d _ s goes is.
 ended_on : (w : View) (d : Step) (s : List Step) (result : Result Unit DispatchError) → Continues d → Ended w s result → Ended w (d ∷ s) result
 ended_on w d s (Ok x) goes is = shut_on w d s (Ok tt) goes is
 ended_on w d s (Err error.Io) goes is = io_on d s goes is
-ended_on w d s (Err error.NoMemory) goes is = memory_on d s goes is
+ended_on w d s (Err error.NoMemory) goes (broken, inl out) = (broken, inl (memory_on d s goes out))
+ended_on w d s (Err error.NoMemory) goes (broken, inr all) = (broken, inr (goes, all))
 ended_on w d s (Err error.DisconnectTimeout) goes is = ((goes, is.0), is.1)
 ended_on w d s (Err error.Body) goes is = shut_on w d s (Err error.Body) goes is
 ended_on w d s (Err error.SlowRequestTimeout) goes is = shut_on w d s (Err error.SlowRequestTimeout) goes is
@@ -89,5 +91,9 @@ ends_after v u w m result a b = record {
 }
 
 -- memory ran out for this event
-pub lacks : (v w : View) (d : Step) → IsStep v d w → IsOutOfMemory (d ∷ []) → Ends v w (Err error.NoMemory)
-lacks v w d is out = ends_by v w d (Err error.NoMemory) is out
+pub lacks : (v w : View) (d : Step) → w.ending ≡ Some Broken → IsStep v d w → IsOutOfMemory (d ∷ []) → Ends v w (Err error.NoMemory)
+lacks v w d broken is out = ends_by v w d (Err error.NoMemory) is (broken, inl out)
+
+-- and where it ran out before
+pub stays_broken : (v : View) → v.ending ≡ Some Broken → Ends v v (Err error.NoMemory)
+stays_broken v broken = record { steps = []; run = refl; ended = (broken, inr tt) }

@@ -14,10 +14,10 @@ use Rattle.h1_connection.specs.declared.connection.heads.NextHead.TheVariants as
 use Rattle.h1_connection.specs.declared.connection.ticks.Expiry.{Expiry}
 use Rattle.h1_connection.specs.declared.event.End.{End}
 use Rattle.h1_connection.specs.declared.event.End.TheVariants as ends
-use Rattle.h1_dispatch.specs.declared.dispatcher.Ending.TheVariants.{Closed, Abandoned}
+use Rattle.h1_dispatch.specs.declared.dispatcher.Ending.TheVariants.{Closed, Abandoned, Broken}
 use Rattle.h1_dispatch.specs.declared.dispatcher.Turn.{Turn}
 use Rattle.h1_dispatch.specs.declared.dispatcher.Turn.TheVariants.{Counted, Idle, Over}
-use Rattle.h1_dispatch.specs.View.{View, Asking, closes, allows, allows_next, allows_answer, HasNoOutput, HasNoInput}
+use Rattle.h1_dispatch.specs.View.{View, Asking, is_broken, closes, allows, allows_next, allows_answer, HasNoOutput, HasNoInput}
 use Rattle.h1_dispatch.specs.Steps.{Step, IsStep, IsRun, ticked, drained, written, read, shut, next, closed, ready, called, answered, dropped, replied, failed, failed_write, failed_read}
 
 -- ---- steps
@@ -128,7 +128,7 @@ IsOutOfMemory steps =
 abbrev pub Ended : View → List Step → Result Unit DispatchError → Type 0
 Ended w steps (Ok x) = IsShut w steps (Ok tt)
 Ended w steps (Err error.Io) = IsIo steps
-Ended w steps (Err error.NoMemory) = IsOutOfMemory steps
+Ended w steps (Err error.NoMemory) = (w.ending ≡ Some Broken) × (IsOutOfMemory steps ⊎ AllContinue steps)
 Ended w steps (Err error.DisconnectTimeout) = AllContinue steps × (w.ending ≡ Some Abandoned)
 Ended w steps (Err error.Body) = IsShut w steps (Err error.Body)
 Ended w steps (Err error.SlowRequestTimeout) = IsShut w steps (Err error.SlowRequestTimeout)
@@ -315,7 +315,13 @@ TurnsSay v w cx (Ready result) = Ends v w result
 TurnsSay v w cx Pending = Waits v w ⊎ IsSpent v w cx
 
 -- memory ran out before the turns, or they came
-abbrev pub PollSays : View → View → Context → ℕ → Poll (Result Unit DispatchError) → Type 0
-PollSays v w cx moment result =
+abbrev pub PollRuns : View → View → Context → ℕ → Poll (Result Unit DispatchError) → Type 0
+PollRuns v w cx moment result =
     ((result ≡ Ready (Err error.NoMemory)) × BeginFails v moment w)
     ⊎ ((u : View) × IsBegun v moment u × TurnsSay u w cx result)
+
+-- a poll: once memory ran out nothing is done any more
+abbrev pub PollSays : View → View → Context → ℕ → Poll (Result Unit DispatchError) → Type 0
+PollSays v w cx moment result =
+    ((is_broken v.ending ≡ true) × (w ≡ v) × (result ≡ Ready (Err error.NoMemory)))
+    ⊎ ((is_broken v.ending ≡ false) × PollRuns v w cx moment result)

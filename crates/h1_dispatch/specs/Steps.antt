@@ -20,7 +20,7 @@ use Rattle.h1_connection.specs.declared.connection.ticks.Expiry.TheVariants as e
 use Rattle.h1_connection.specs.declared.event.End.{End}
 use Rattle.h1_line.specs.Line.{LineView, LineSteps, LineFails}
 use Rattle.h1_dispatch.specs.declared.dispatcher.Ending.{Ending}
-use Rattle.h1_dispatch.specs.declared.dispatcher.Ending.TheVariants.{Closed, Abandoned}
+use Rattle.h1_dispatch.specs.declared.dispatcher.Ending.TheVariants.{Closed, Abandoned, Broken}
 use Rattle.h1_dispatch.specs.View.{View, Asking, Answer, allows, allows_next, allows_answer, buffered, room}
 
 -- A step. A moment came; the drain came; the wire was given what waits to be written; it was asked for bytes, and these
@@ -170,17 +170,17 @@ IsStep v dropped w =
 IsStep v (replied answer) w =
     (v.ending ≡ None) × (v.reply ≡ Some answer) × Goes v.line (on.answer (answer_of answer.head) (answers.size_of 0)) (Is on.done) w.line
     × (w ≡ record v { line = w.line; reply = None })
-IsStep v (failed event) w = MayFail v event × LineFails v.line event w.line × (w ≡ record v { line = w.line })
+IsStep v (failed event) w = MayFail v event × LineFails v.line event w.line × (w ≡ record v { line = w.line; ending = Some Broken })
 IsStep v (failed_write count) w =
     (v.ending ≡ None) × (0 < length (buffered v)) × WriteSays {E = Failed} v.wire w.wire (Ready (Ok count)) (buffered v)
     × LineFails v.line (on.write count) w.line
-    × (w ≡ record v { line = w.line; wire = w.wire })
+    × (w ≡ record v { line = w.line; wire = w.wire; ending = Some Broken })
 IsStep v (failed_read came event) w =
     (v.ending ≡ None) × (allows v on.eof ≡ true)
     × ((buf : List ℕ) × (count : ℕ) × (0 < length buf) × (length buf ≤ room v) × (came ≡ take count buf)
     × ReadSays {E = Failed} v.wire w.wire (Ready (Ok count)) buf × IsOfRead count came event)
     × LineFails v.line event w.line
-    × (w ≡ record v { line = w.line; wire = w.wire })
+    × (w ≡ record v { line = w.line; wire = w.wire; ending = Some Broken })
 
 -- one step after another
 abbrev pub IsRun : View → List Step → View → Type 0

@@ -15,6 +15,7 @@ use Rattle.h1_connection.specs.Steps.{Pair}
 use Rattle.h1_line.specs.Line.{LineView, line_of}
 use Rattle.h1_dispatch.specs.declared.dispatcher.Dispatcher.{Dispatcher}
 use Rattle.h1_dispatch.specs.declared.dispatcher.Ending.{Ending}
+use Rattle.h1_dispatch.specs.declared.dispatcher.Ending.TheVariants.{Closed, Abandoned, Broken}
 
 -- what a service is asked, and what it answers: a response, also where it refuses
 abbrev pub Asking : Type 0
@@ -70,6 +71,13 @@ with_drain v = record v { draining = true }
 -- the wire, the service and the recorder
 abbrev pub parts_of : {T S C L : Type 0} → Dispatcher T S C L → T × S × L
 parts_of d = (d.wire, d.service, d.line.recorder)
+
+-- memory ran out
+abbrev pub is_broken : Option Ending → Bool
+is_broken None = false
+is_broken (Some (Closed end)) = false
+is_broken (Some Abandoned) = false
+is_broken (Some Broken) = true
 
 -- a call in progress may be polled
 abbrev pub IsCallOpen : {C : Type 0} → (C → Calling Asking) → Option C → Type 0

@@ -28,6 +28,9 @@ pub enum Ending {
 
     /// The peer took too long to take what was left. The wire isn't shut down.
     Abandoned,
+
+    /// Memory ran out. The wire isn't shut down, since what it took or gave may be lost.
+    Broken,
 }
 
 /// A service over a wire, by one connection of HTTP/1: each request goes to the service, and its answer is written.

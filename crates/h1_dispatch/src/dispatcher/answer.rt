@@ -4,7 +4,7 @@ ghost use Rattle.futures.specs.Task.{IsArmed, Keeps};
 ghost use Rattle.h1_dispatch.specs.View.{view_of, MayBePolled, allows_answer};
 ghost use Rattle.h1_dispatch.specs.Polls.{OnIdle, ServeSays, EndSays, StepSays};
 
-use crate::dispatcher::{Dispatcher, Turn};
+use crate::dispatcher::{Dispatcher, Ending, Turn};
 use futures::task::{Context, Poll};
 use h1_connection::BodySize;
 use h1_line::Recorder;
@@ -63,7 +63,10 @@ where
         }
         match self.line.drop_body() {
             Ok(()) => self.put_reply_if_allowed(),
-            Err(_) => Turn::Over(Err(DispatchError::NoMemory)),
+            Err(_) => {
+                self.ending = Some(Ending::Broken);
+                Turn::Over(Err(DispatchError::NoMemory))
+            }
         }
     }
 
@@ -97,6 +100,7 @@ where
             Ok(()) => Turn::Counted,
             Err(_) => {
                 self.reply = Some(response);
+                self.ending = Some(Ending::Broken);
                 Turn::Over(Err(DispatchError::NoMemory))
             }
         }

@@ -35,13 +35,17 @@ where
         if !self.line.connection().can_tick(moment) {
             return Ok(());
         }
-        match self.line.tick(moment)? {
-            Expiry::Abandoned => {
+        match self.line.tick(moment) {
+            Ok(Expiry::Abandoned) => {
                 self.ending = Some(Ending::Abandoned);
                 Ok(())
             }
-            Expiry::Expired(_) => Ok(()),
-            Expiry::None => Ok(()),
+            Ok(Expiry::Expired(_)) => Ok(()),
+            Ok(Expiry::None) => Ok(()),
+            Err(error) => {
+                self.ending = Some(Ending::Broken);
+                Err(error)
+            }
         }
     }
 
@@ -56,6 +60,12 @@ where
         if !self.line.connection().can_drain() {
             return Ok(());
         }
-        self.line.drain()
+        match self.line.drain() {
+            Ok(()) => Ok(()),
+            Err(error) => {
+                self.ending = Some(Ending::Broken);
+                Err(error)
+            }
+        }
     }
 }

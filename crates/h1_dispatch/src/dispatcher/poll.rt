@@ -1,10 +1,11 @@
 // A poll of a dispatcher.
+ghost use Rattle.std.specs.Prelude.{◌≡◌};
 ghost use Rattle.futures.specs.Poll.{OnPending};
 ghost use Rattle.futures.specs.Task.{IsArmed, Keeps};
-ghost use Rattle.h1_dispatch.specs.View.{view_of, MayBePolled};
+ghost use Rattle.h1_dispatch.specs.View.{view_of, is_broken, MayBePolled};
 ghost use Rattle.h1_dispatch.specs.Polls.{PollSays, TurnsSay};
 
-use crate::dispatcher::{Dispatcher, Turn};
+use crate::dispatcher::{Dispatcher, Ending, Turn};
 use futures::task::{Context, Poll};
 use h1_line::Recorder;
 use http_services::Service;
@@ -30,7 +31,8 @@ where
     ///
     /// `Parse`, `SlowRequestTimeout` and `Body` where the connection ended by such an end, and the wire is shut down.
     /// `DisconnectTimeout` where the peer took too long to take what was left. `Io` where the wire failed. `NoMemory` where
-    /// memory ran out: what was noted stays a trace, and the last step may not have been noted. No other.
+    /// memory ran out: what was noted stays a trace, and the last step may not have been noted. From then on each poll
+    /// answers `NoMemory` and does nothing. No other.
     pub fn poll(&mut self, moment: u64, cx: &mut Context<'_>) -> Poll<Result<(), DispatchError>>
         requires open { MayBePolled S.calling self.old }
         ensures says { PollSays (view_of T.wiring S.served L.noted self.old) (view_of T.wiring S.served L.noted self.new) cx.new moment result }
@@ -38,9 +40,24 @@ where
         ensures registered { OnPending result (IsArmed cx.new) }
         ensures kept { Keeps cx.old cx.new }
     {
+        if self.is_broken() {
+            return Poll::Ready(Err(DispatchError::NoMemory));
+        }
         match self.begin(moment) {
             Ok(()) => self.turns(cx),
             Err(_) => Poll::Ready(Err(DispatchError::NoMemory)),
+        }
+    }
+
+    // Whether memory ran out.
+    fn is_broken(&self) -> bool
+        ensures { result ≡ is_broken (view_of T.wiring S.served L.noted self.now).ending }
+    {
+        match self.ending {
+            None => false,
+            Some(Ending::Closed(_)) => false,
+            Some(Ending::Abandoned) => false,
+            Some(Ending::Broken) => true,
         }
     }
 

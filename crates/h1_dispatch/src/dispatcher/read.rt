@@ -6,7 +6,7 @@ ghost use Rattle.h1_dispatch.specs.View.{view_of, MayBePolled, allows, room};
 ghost use Rattle.h1_dispatch.specs.Polls.{OnIdle, ReadingSays};
 ghost use Rattle.h1_dispatch.specs.declared.dispatcher.Turn.TheVariants.{Idle};
 
-use crate::dispatcher::{Dispatcher, Turn};
+use crate::dispatcher::{Dispatcher, Ending, Turn};
 use futures::task::{Context, Poll};
 use h1_connection::READ_SIZE;
 use h1_line::Recorder;
@@ -80,11 +80,17 @@ where
             Poll::Ready(Err(Failed)) => Turn::Over(Err(DispatchError::Io)),
             Poll::Ready(Ok(0)) => match self.line.eof() {
                 Ok(()) => Turn::Counted,
-                Err(_) => Turn::Over(Err(DispatchError::NoMemory)),
+                Err(_) => {
+                    self.ending = Some(Ending::Broken);
+                    Turn::Over(Err(DispatchError::NoMemory))
+                }
             },
             Poll::Ready(Ok(count)) => match self.line.read(&buf[..count]) {
                 Ok(_) => Turn::Counted,
-                Err(_) => Turn::Over(Err(DispatchError::NoMemory)),
+                Err(_) => {
+                    self.ending = Some(Ending::Broken);
+                    Turn::Over(Err(DispatchError::NoMemory))
+                }
             },
         }
     }

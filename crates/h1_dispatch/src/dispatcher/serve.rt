@@ -84,7 +84,10 @@ where
                 self.ending = Some(Ending::Closed(end));
                 Turn::Counted
             }
-            Err(_) => Turn::Over(Err(DispatchError::NoMemory)),
+            Err(_) => {
+                self.ending = Some(Ending::Broken);
+                Turn::Over(Err(DispatchError::NoMemory))
+            }
         }
     }
 

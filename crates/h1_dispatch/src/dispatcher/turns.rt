@@ -21,6 +21,7 @@ where
     L: Recorder,
 {
     /// One turn.
+    #[tactic(auto, using(crate::proofs::Runs::stays_broken))]
     pub(super) fn turn(&mut self, cx: &mut Context<'_>) -> Turn
         requires open { MayBePolled S.calling self.old }
         ensures says { TurnSays (view_of T.wiring S.served L.noted self.old) (view_of T.wiring S.served L.noted self.new) result }
@@ -32,6 +33,7 @@ where
             None => self.write(cx),
             Some(Ending::Closed(end)) => self.shut(end, cx),
             Some(Ending::Abandoned) => Turn::Over(Err(DispatchError::DisconnectTimeout)),
+            Some(Ending::Broken) => Turn::Over(Err(DispatchError::NoMemory)),
         }
     }
 

@@ -57,7 +57,10 @@ where
             Poll::Ready(Err(Failed)) => Turn::Over(Err(DispatchError::Io)),
             Poll::Ready(Ok(count)) => match self.line.advance(count) {
                 Ok(()) => Turn::Counted,
-                Err(_) => Turn::Over(Err(DispatchError::NoMemory)),
+                Err(_) => {
+                    self.ending = Some(Ending::Broken);
+                    Turn::Over(Err(DispatchError::NoMemory))
+                }
             },
         }
     }
@@ -112,7 +115,10 @@ where
                 self.ending = Some(Ending::Closed(end));
                 Turn::Counted
             }
-            Err(_) => Turn::Over(Err(DispatchError::NoMemory)),
+            Err(_) => {
+                self.ending = Some(Ending::Broken);
+                Turn::Over(Err(DispatchError::NoMemory))
+            }
         }
     }
 }

@@ -1,5 +1,6 @@
-use Rattle.std.proofs.Common.{[], refl, inl, arith}
+use Rattle.std.proofs.Common.{Some, [], refl, inl, arith}
 use Rattle.h1_model.specs.Event as on
+use Rattle.h1_dispatch.specs.declared.dispatcher.Ending.TheVariants.{Broken}
 use Rattle.h1_dispatch.specs.View.{view_of}
 use Rattle.h1_dispatch.specs.Steps.{dropped, failed}
 use Rattle.h1_dispatch.proofs.Runs.{lacks}
@@ -17,5 +18,5 @@ returns-in-Ok-clause-says g c =
 pub returns-in-Err-clause-says : goal.returns-in-Err-clause-says
 returns-in-Err-clause-says g c =
     let v = view_of g.T.Wire.wiring g.S.Service.served g.L.Recorder.noted c.args.self.now in
-    let w = view_of g.T.Wire.wiring g.S.Service.served g.L.Recorder.noted (record c.args.self.now { line = c.drop_body.new.self }) in
-    lacks v w (failed on.drop_body) ((c.requires.running, c.requires.answered), c.in-Err.ensures.err, refl) (inl (on.drop_body, tt, ([], refl, tt)))
+    let w = view_of g.T.Wire.wiring g.S.Service.served g.L.Recorder.noted (record c.args.self.now { line = c.drop_body.new.self; ending = Some Broken }) in
+    lacks v w (failed on.drop_body) refl ((c.requires.running, c.requires.answered), c.in-Err.ensures.err, refl) (inl (on.drop_body, tt, ([], refl, tt)))

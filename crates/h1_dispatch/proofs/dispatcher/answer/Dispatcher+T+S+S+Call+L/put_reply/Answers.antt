@@ -2,6 +2,7 @@ use Rattle.std.proofs.Common.{Some, [], refl, sym, ap, ◌∙◌, inl, arith}
 use Rattle.h1_codec.specs.Meaning.{answer_of}
 use Rattle.h1_model.specs.Answer as answers
 use Rattle.h1_model.specs.Event as on
+use Rattle.h1_dispatch.specs.declared.dispatcher.Ending.TheVariants.{Broken}
 use Rattle.h1_dispatch.specs.View.{view_of}
 use Rattle.h1_dispatch.specs.Steps.{replied, failed}
 use Rattle.h1_dispatch.proofs.Runs.{goes_by, lacks}
@@ -25,8 +26,8 @@ returns-in-Ok-clause-says g c =
 pub returns-in-Err-clause-says : goal.returns-in-Err-clause-says
 returns-in-Err-clause-says g c =
     let v = view_of g.T.Wire.wiring g.S.Service.served g.L.Recorder.noted c.args.self.now in
-    let w = view_of g.T.Wire.wiring g.S.Service.served g.L.Recorder.noted (record c.args.self.now { line = c.answer.new.self; reply = Some c.in-Some.response }) in
+    let w = view_of g.T.Wire.wiring g.S.Service.served g.L.Recorder.noted (record c.args.self.now { line = c.answer.new.self; reply = Some c.in-Some.response; ending = Some Broken }) in
     let event = on.answer (answer_of c.in-Some.response.head) (answers.size_of 0) in
-    lacks v w (failed event)
-    ((c.requires.running, (c.in-Some.response, sym c.take.ensures.value ∙ c.in-Some.is, refl, refl)), rw c.head.ensures at c.in-Err.ensures.err, ap (λ x. record v { line = w.line; reply = x }) (sym (sym c.take.ensures.value ∙ c.in-Some.is)))
+    lacks v w (failed event) refl
+    ((c.requires.running, (c.in-Some.response, sym c.take.ensures.value ∙ c.in-Some.is, refl, refl)), rw c.head.ensures at c.in-Err.ensures.err, ap (λ x. record v { line = w.line; reply = x; ending = Some Broken }) (sym (sym c.take.ensures.value ∙ c.in-Some.is)))
     (inl (event, tt, ([], refl, tt)))

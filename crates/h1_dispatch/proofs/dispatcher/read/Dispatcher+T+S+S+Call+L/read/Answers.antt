@@ -1,7 +1,8 @@
-use Rattle.std.proofs.Common.{rules, Ok, Err, [], ◌∷◌, refl, inl, inr, arith, take}
+use Rattle.std.proofs.Common.{rules, Some, Ok, Err, [], ◌∷◌, refl, inl, inr, arith, take}
 use Rattle.futures.specs.declared.task.Poll.TheVariants.{Ready, Pending}
 use Rattle.http_types.specs.declared.error.DispatchError.TheVariants.{Io}
 use Rattle.h1_model.specs.Event as on
+use Rattle.h1_dispatch.specs.declared.dispatcher.Ending.TheVariants.{Broken}
 use Rattle.h1_dispatch.specs.View.{view_of}
 use Rattle.h1_dispatch.specs.Steps.{read, failed_read}
 use Rattle.h1_dispatch.proofs.Runs.{one, goes_by, ends_by, lacks}
@@ -40,9 +41,9 @@ returns-in-Ok-clause-says g c =
 pub returns-in-Err-clause-says : goal.returns-in-Err-clause-says
 returns-in-Err-clause-says g c =
     let v = view_of g.T.Wire.wiring g.S.Service.served g.L.Recorder.noted c.args.self.now in
-    let w = view_of g.T.Wire.wiring g.S.Service.served g.L.Recorder.noted (record c.args.self.now { wire = c.poll_read.new.self; line = c.eof.new.self }) in
+    let w = view_of g.T.Wire.wiring g.S.Service.served g.L.Recorder.noted (record c.args.self.now { wire = c.poll_read.new.self; line = c.eof.new.self; ending = Some Broken }) in
     let n = c.in-Ready-Ok-eq0.field-0-0 in
-    lacks v w (failed_read (take n c.poll_read.new.buf) on.eof)
+    lacks v w (failed_read (take n c.poll_read.new.buf) on.eof) refl
     (read_fails v w (take n c.poll_read.new.buf) c.poll_read.new.buf n on.eof c.requires.running c.requires.eof (search rules) (search rules) refl
     (rw c.in-Ready-Ok-eq0.field-0-is at c.in-Ready-Ok-eq0.ensures.says) (inl (search rules, refl)) c.in-Err.ensures.err refl)
     (inr (inr (take n c.poll_read.new.buf, on.eof, ([], refl, tt))))
@@ -60,9 +61,9 @@ returns-in-Ok-read-clause-says g c =
 pub returns-in-Err-read-clause-says : goal.returns-in-Err-read-clause-says
 returns-in-Err-read-clause-says g c =
     let v = view_of g.T.Wire.wiring g.S.Service.served g.L.Recorder.noted c.args.self.now in
-    let w = view_of g.T.Wire.wiring g.S.Service.served g.L.Recorder.noted (record c.args.self.now { wire = c.poll_read.new.self; line = c.read.new.self }) in
+    let w = view_of g.T.Wire.wiring g.S.Service.served g.L.Recorder.noted (record c.args.self.now { wire = c.poll_read.new.self; line = c.read.new.self; ending = Some Broken }) in
     let n = c.in-Ready-Ok.count in
-    lacks v w (failed_read (take n c.poll_read.new.buf) (on.read (take n c.poll_read.new.buf)))
+    lacks v w (failed_read (take n c.poll_read.new.buf) (on.read (take n c.poll_read.new.buf))) refl
     (read_fails v w (take n c.poll_read.new.buf) c.poll_read.new.buf n (on.read (take n c.poll_read.new.buf)) c.requires.running c.requires.eof (search rules) (search rules) refl
     (rw c.in-Ready-Ok.field-0-is at c.in-Ready-Ok.ensures.says) (inr (search rules, refl)) c.in-Err-read.ensures.err refl)
     (inr (inr (take n c.poll_read.new.buf, on.read (take n c.poll_read.new.buf), ([], refl, tt))))

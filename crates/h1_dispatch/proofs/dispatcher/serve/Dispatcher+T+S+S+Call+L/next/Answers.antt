@@ -1,7 +1,7 @@
 use Rattle.std.proofs.Common.{Some, [], refl, ap, inl, arith}
 use Rattle.h1_model.specs.Event as on
 use Rattle.h1_connection.specs.declared.connection.heads.NextHead.TheVariants as next_head
-use Rattle.h1_dispatch.specs.declared.dispatcher.Ending.TheVariants.{Closed}
+use Rattle.h1_dispatch.specs.declared.dispatcher.Ending.TheVariants.{Closed, Broken}
 use Rattle.h1_dispatch.specs.View.{view_of}
 use Rattle.h1_dispatch.specs.Steps.{next, failed}
 use Rattle.h1_dispatch.proofs.Runs.{goes_by, lacks}
@@ -46,5 +46,5 @@ returns-in-Ok-Closed-clause-says g c =
 pub returns-in-Err-clause-says : goal.returns-in-Err-clause-says
 returns-in-Err-clause-says g c =
     let v = view_of g.T.Wire.wiring g.S.Service.served g.L.Recorder.noted c.args.self.now in
-    let w = view_of g.T.Wire.wiring g.S.Service.served g.L.Recorder.noted (record c.args.self.now { line = c.next.new.self }) in
-    lacks v w (failed on.next) ((c.requires.running, c.requires.allowed), c.in-Err.ensures.err, refl) (inl (on.next, tt, ([], refl, tt)))
+    let w = view_of g.T.Wire.wiring g.S.Service.served g.L.Recorder.noted (record c.args.self.now { line = c.next.new.self; ending = Some Broken }) in
+    lacks v w (failed on.next) refl ((c.requires.running, c.requires.allowed), c.in-Err.ensures.err, refl) (inl (on.next, tt, ([], refl, tt)))

@@ -1,6 +1,7 @@
-use Rattle.std.proofs.Common.{Ok, Err, [], refl, inl, inr, arith}
+use Rattle.std.proofs.Common.{Some, Ok, Err, [], refl, inl, inr, arith}
 use Rattle.futures.specs.declared.task.Poll.TheVariants.{Ready}
 use Rattle.http_types.specs.declared.error.DispatchError.TheVariants.{Io}
+use Rattle.h1_dispatch.specs.declared.dispatcher.Ending.TheVariants.{Broken}
 use Rattle.h1_dispatch.specs.View.{view_of}
 use Rattle.h1_dispatch.specs.Steps.{written, failed_write}
 use Rattle.h1_dispatch.proofs.Runs.{goes_by, ends_by, lacks}
@@ -34,7 +35,7 @@ returns-in-Ok-clause-says g c =
 pub returns-in-Err-clause-says : goal.returns-in-Err-clause-says
 returns-in-Err-clause-says g c =
     let v = view_of g.T.Wire.wiring g.S.Service.served g.L.Recorder.noted c.args.self.now in
-    let w = view_of g.T.Wire.wiring g.S.Service.served g.L.Recorder.noted (record c.args.self.now { wire = c.poll_write.new.self; line = c.advance.new.self }) in
-    lacks v w (failed_write c.in-Ready-Ok.count)
+    let w = view_of g.T.Wire.wiring g.S.Service.served g.L.Recorder.noted (record c.args.self.now { wire = c.poll_write.new.self; line = c.advance.new.self; ending = Some Broken }) in
+    lacks v w (failed_write c.in-Ready-Ok.count) refl
     (c.requires.running, c.requires.some, rw (c.in-Ready-Ok.field-0-is, c.front.ensures.value, c.connection.ensures) at c.in-Ready-Ok.ensures.says, c.in-Err.ensures.err, refl)
     (inr (inl (c.in-Ready-Ok.count, ([], refl, tt))))

@@ -1,6 +1,6 @@
 use Rattle.std.proofs.Common.{Some, [], refl, inl, arith}
 use Rattle.h1_model.specs.Event as on
-use Rattle.h1_dispatch.specs.declared.dispatcher.Ending.TheVariants.{Closed}
+use Rattle.h1_dispatch.specs.declared.dispatcher.Ending.TheVariants.{Closed, Broken}
 use Rattle.h1_dispatch.specs.View.{view_of}
 use Rattle.h1_dispatch.specs.Steps.{closed, failed}
 use Rattle.h1_dispatch.proofs.Runs.{goes_by, lacks}
@@ -17,6 +17,6 @@ returns-clause-says g c =
           (goes_by v u (closed c.args.end) 1
           (c.requires.running, c.requires.closing, c.requires.allowed, (w.in-Ok.field-0, record { steps = w.in-Ok.ensures.stands; settings = c.next.ensures.settings }), refl) tt (omega arith)))
       | in-Err w ↦
-          (let u = view_of g.T.Wire.wiring g.S.Service.served g.L.Recorder.noted (record c.args.self.now { line = c.next.new.self }) in
-          rw (w.self-is, w.result-is) (lacks v u (failed on.next) ((c.requires.running, c.requires.allowed), w.in-Err.ensures.err, refl) (inl (on.next, tt, ([], refl, tt)))))
+          (let u = view_of g.T.Wire.wiring g.S.Service.served g.L.Recorder.noted (record c.args.self.now { line = c.next.new.self; ending = Some Broken }) in
+          rw (w.self-is, w.result-is) (lacks v u (failed on.next) refl ((c.requires.running, c.requires.allowed), w.in-Err.ensures.err, refl) (inl (on.next, tt, ([], refl, tt)))))
     ]
