@@ -2,7 +2,7 @@
 ghost use Rattle.std.specs.Prelude.{None};
 ghost use Rattle.h1_blocking.specs.Served.{Follows};
 
-use h1_blocking::{Answer, Body, HandleError, Handler, Handlers, Incoming, Piece};
+use h1_blocking::{Answer, Body, HandleError, Handler, Handlers, Incoming, Piece, Writer};
 use h1_net::{TimedSink, TimedSource};
 use http_framing::BodyKind;
 use http_types::{Method, NoMemory, ResponseHead, StatusCode};
@@ -78,12 +78,7 @@ fn echo<S: TimedSource, K: TimedSink>(
 ) -> Result<(), HandleError>
     ensures follows { Follows body.old body.new }
 {
-    body.want()?;
-    let mut writer = match request.body() {
-        BodyKind::None => answer.sized(body, head, 0)?,
-        BodyKind::Length(length) => answer.sized(body, head, length)?,
-        BodyKind::Chunked | BodyKind::Raw => answer.stream(body, head)?,
-    };
+    let mut writer = begin(request, head, body, answer)?;
     for _ in 0..u64::MAX {
         match body.read() {
             Ok(Piece::Bytes(bytes)) => writer = writer.write(body, bytes.as_slice())?,
@@ -95,4 +90,26 @@ fn echo<S: TimedSource, K: TimedSink>(
         }
     }
     writer.end(body)
+}
+
+// Begins an answer as long as the request's body, or one of which nobody knows yet how long it is.
+#[tactic(auto, using(h1_blocking::proofs::Followed::follows_none, h1_blocking::proofs::Followed::follows_then))]
+fn begin<S: TimedSource, K: TimedSink>(
+    request: &Incoming<'_>,
+    head: ResponseHead,
+    body: &mut Body<S, K>,
+    answer: Answer,
+) -> Result<Writer, HandleError>
+    ensures follows { Follows body.old body.new }
+{
+    body.want()?;
+    let length = match request.body() {
+        BodyKind::None => Some(0),
+        BodyKind::Length(length) => Some(length),
+        BodyKind::Chunked | BodyKind::Raw => None,
+    };
+    if let Some(length) = length {
+        return answer.sized(body, head, length);
+    }
+    answer.stream(body, head)
 }
