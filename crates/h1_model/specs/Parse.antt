@@ -103,11 +103,6 @@ abbrev pub runs_of : Body → List Run
 runs_of (content runs stop) = runs
 runs_of _ = []
 
--- the trailers, of which only an ended body in chunks has some
-abbrev pub trailers_of : Body → List Header
-trailers_of (content runs (ended_at place trailers)) = trailers
-trailers_of _ = []
-
 abbrev pub frames_of : Body → List PlacedFrame
 frames_of (frames placed fail) = placed
 frames_of _ = []
