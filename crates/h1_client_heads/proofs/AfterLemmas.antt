@@ -12,7 +12,7 @@ use Rattle.h1_model.specs.Request.{Header, ConnectionType, close, keep_alive}
 use Rattle.h1_model.specs.RequestHead.{header_of}
 use Rattle.h1_model.specs.LengthTable.{values_of, is_there, named_type, default_type, connection_of}
 use Rattle.h1_decode.specs.HeadItem.{version_of}
-use Rattle.h1_decode.specs.HeadMap.{header_map}
+use Rattle.http_lines.specs.HeaderLines.{header_map}
 use Rattle.h1_client_model.specs.AnswerReading.{Answer, answer_is, IsTextOf, IsAnswerReading}
 use Rattle.h1_client_machine.specs.ClientKept.{is_kept_alive}
 use Rattle.h1_client_heads.proofs.ValueLemmas.{value_bytes, head_values, last_value, trimmed_last}

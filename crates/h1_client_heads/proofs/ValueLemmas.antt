@@ -10,7 +10,7 @@ use Rattle.http_map.proofs.CallerLemmas.{same_bytes, bytes_eq-itself, get_all-ap
 use Rattle.h1_model.specs.Request.{Header}
 use Rattle.h1_model.specs.RequestHead.{header_of}
 use Rattle.h1_model.specs.LengthTable.{values_of}
-use Rattle.h1_decode.specs.HeadMap.{header_map}
+use Rattle.http_lines.specs.HeaderLines.{header_map}
 use Rattle.h1_decode.proofs.TrimLemmas.{trim_ows-again}
 
 -- ---- a map's values

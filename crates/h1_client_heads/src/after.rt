@@ -6,7 +6,7 @@ ghost use Rattle.http_header.specs.Token.{lowercase};
 ghost use Rattle.http_types.specs.Version.{is_below_http11};
 ghost use Rattle.httparse.specs.Grammar.{trim_ows};
 ghost use Rattle.h1_model.specs.LengthTable.{connection_of, is_there, named_type, says, values_of};
-ghost use Rattle.h1_decode.specs.HeadMap.{header_map};
+ghost use Rattle.http_lines.specs.HeaderLines.{header_map};
 ghost use Rattle.h1_model.specs.Request.{ConnectionType, Header};
 ghost use Rattle.h1_client_model.specs.AnswerParse.{is_interim};
 ghost use Rattle.h1_client_model.specs.AnswerReading.{Answer, answer_is, IsAnswerReading};

@@ -15,7 +15,7 @@ use Rattle.ws_session.specs.declared.verify.HandshakeError.{HandshakeError}
 use Rattle.ws_session.specs.declared.verify.HandshakeError.TheVariants as handshake
 use Rattle.h1_codec.specs.Meaning.{size_of, answer_of}
 use Rattle.h1_decode.specs.HeadItem.{SaysHead}
-use Rattle.h1_decode.specs.HeadMap.{header_map}
+use Rattle.http_lines.specs.HeaderLines.{header_map}
 use Rattle.h1_connection.specs.declared.event.End.{End}
 use Rattle.h1_connection.specs.declared.event.End.TheVariants.{Malformed, TooLarge, SlowRequestTimeout, KeepAliveExpired, Protocol, Body, BodyShort, Asked, BrokenBody, UnreadBody, Drained, HalfClosed, InputEnded}
 use Rattle.h1_connection.specs.declared.event.HeadFault.{HeadFault}

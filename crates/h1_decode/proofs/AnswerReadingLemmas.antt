@@ -20,7 +20,8 @@ use Rattle.h1_client_model.specs.LaxText.{unpadded}
 use Rattle.h1_decode.specs.declared.response.ResponseItem.{ResponseItem}
 use Rattle.h1_decode.specs.AnswerParts.{answer_parts_at, answer_headers, answer_from, AreAnswerParts, RefusesAnswerParts}
 use Rattle.h1_decode.specs.AnswerRefusal.{IsWholeAnswerAt, IsEitherText, IsAnswerText, IsNoAnswerText, RefusesAnswerLines, RefusesAnswer}
-use Rattle.h1_decode.specs.Lines.{HasName, HasValue, line_header}
+use Rattle.http_lines.specs.HeaderLines.{HasName, line_header}
+use Rattle.h1_decode.specs.Lines.{HasValue}
 use Rattle.h1_decode.specs.Refusal.{UnlessNoMemory, fault_of}
 use Rattle.h1_decode.specs.ResponseItem.{SaysAnswer}
 use Rattle.h1_decode.specs.WholeHead.{IsOfGrammar}

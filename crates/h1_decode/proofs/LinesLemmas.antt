@@ -3,12 +3,9 @@ use Rattle.std.proofs.Common.{◌≡◌, ℕ, ◌+◌, ◌<◌, List, [], ◌∷
 use Rattle.std.specs.Prelude.{◌⊎◌}
 use Rattle.std.specs.Result.{OnOk, is_ok}
 use Rattle.std.proofs.lemmas.Bool.{false≢true}
-use Rattle.std.proofs.lemmas.List.{length-map, get_or-map, map_more, map_push}
-use Rattle.std.proofs.lemmas.List.Elements.{All-push, All-get_or}
-use Rattle.std.proofs.lemmas.List.Sums.{fold_push}
-use Rattle.http_header.specs.FieldValue.{plain_value}
+use Rattle.std.proofs.lemmas.List.{map_more}
+use Rattle.std.proofs.lemmas.List.Elements.{All-push}
 use Rattle.http_header.specs.Token.{lowercase, IsToken}
-use Rattle.http_map.specs.HeaderMap.{append}
 use Rattle.http_types.specs.declared.error.ParseError.{ParseError}
 use Rattle.http_types.specs.declared.error.ParseError.TheVariants.{Uri, NoMemory}
 use Rattle.http_uri.specs.Uri.{SpellsNone}
@@ -18,45 +15,20 @@ use Rattle.h1_model.specs.Request.{Header}
 use Rattle.h1_model.specs.RequestHead.{IsTarget}
 use Rattle.h1_decode.specs.declared.framing.Framing.{Framing}
 use Rattle.h1_decode.specs.Framing.{TellsLines}
-use Rattle.h1_decode.specs.HeadMap.{header_map}
-use Rattle.h1_decode.specs.Lines.{HasName, HasValue, line_header, RefusesLinesOf}
+use Rattle.http_lines.specs.HeaderLines.{HasName, line_header}
+use Rattle.http_lines.proofs.HeaderLines.{headers_more}
+use Rattle.h1_decode.specs.Lines.{RefusesLinesOf}
 use Rattle.h1_decode.specs.ReadParts.{Parts, RefusesParts}
 use Rattle.h1_decode.specs.Refusal.{UnlessNoMemory, IsHeaderUnlessNoMemory}
 
 module _ (piece : List ℕ) (fields : List HeaderSpan) (i : ℕ) (d : HeaderSpan) (below : i < length fields) where
-  -- of all lines with a name, each has one
-  pub name_at : All HasName (map (header_bytes piece) fields) → HasName (header_bytes piece (get_or fields i d))
-  name_at all =
-      subst HasName (get_or-map (header_bytes piece) fields i d (header_bytes piece d) below)
-      (All-get_or HasName (map (header_bytes piece) fields) i (header_bytes piece d) (rw length-map below) all)
-
-  -- so it is with values
-  pub value_at : All HasValue (map (header_bytes piece) fields) → HasValue (header_bytes piece (get_or fields i d))
-  value_at all =
-      subst HasValue (get_or-map (header_bytes piece) fields i d (header_bytes piece d) below)
-      (All-get_or HasValue (map (header_bytes piece) fields) i (header_bytes piece d) (rw length-map below) all)
-
   -- one more line with a name
   pub names_more : All HasName (map (header_bytes piece) (take i fields)) → HasName (header_bytes piece (get_or fields i d))
       → All HasName (map (header_bytes piece) (take (i + 1) fields))
   names_more all here =
       subst (All HasName) (sym (map_more (header_bytes piece) fields i d below)) (All-push HasName _ _ all here)
 
-  -- one more header
-  headers_more : map line_header (map (header_bytes piece) (take (i + 1) fields))
-      ≡ map line_header (map (header_bytes piece) (take i fields)) ++ line_header (header_bytes piece (get_or fields i d)) ∷ []
-  headers_more =
-      ap (map line_header) (map_more (header_bytes piece) fields i d below)
-      ∙ map_push line_header (map (header_bytes piece) (take i fields)) (header_bytes piece (get_or fields i d))
-
-  pub header_map-more : let line = header_bytes piece (get_or fields i d) in
-      header_map (map line_header (map (header_bytes piece) (take (i + 1) fields)))
-      ≡ append (header_map (map line_header (map (header_bytes piece) (take i fields)))) (line_header line).name (plain_value (line_header line).value)
-  header_map-more =
-      let line = header_bytes piece (get_or fields i d) in
-      ap header_map headers_more
-      ∙ fold_push (λ entries (h : Header). append entries h.name (plain_value h.value)) [] (map line_header (map (header_bytes piece) (take i fields))) (line_header line)
-
+  -- what the lines say together
   pub framing_more : (framing : Framing) (name value : List ℕ)
       → TellsLines framing (map line_header (map (header_bytes piece) (take i fields)) ++ (record { name = name; value = value }) ∷ [])
       → name ≡ lowercase (span_bytes piece (get_or fields i d).name) → value ≡ span_bytes piece (get_or fields i d).value
@@ -67,7 +39,7 @@ module _ (piece : List ℕ) (fields : List HeaderSpan) (i : ℕ) (d : HeaderSpan
       let same : line ≡ line_header (header_bytes piece (get_or fields i d)) =
       ap (λ (n : List ℕ). record { name = n; value = value }) name_is
       ∙ ap (λ (v : List ℕ). record { name = lowercase (span_bytes piece (get_or fields i d).name); value = v }) value_is in
-      subst (TellsLines framing) (ap (λ (l : Header). before ++ l ∷ []) same ∙ sym headers_more) tells
+      subst (TellsLines framing) (ap (λ (l : Header). before ++ l ∷ []) same ∙ sym (headers_more piece fields i d below)) tells
 
 -- what an Ok says, once the result is known to be one
 pub known_ok : {T E P : Type 0} (r : Result T E) → true ≡ is_ok r → OnOk r P → P

@@ -18,7 +18,8 @@ use Rattle.h1_model.specs.RequestHead.{IsReading, IsHeadOf, IsTarget, IsHeaderFi
 use Rattle.h1_decode.specs.declared.decoder.HeadItem.{HeadItem}
 use Rattle.http_framing.specs.Kinds.{kind_of}
 use Rattle.h1_decode.specs.HeadItem.{SaysHead}
-use Rattle.h1_decode.specs.Lines.{HasName, HasValue, line_header}
+use Rattle.http_lines.specs.HeaderLines.{HasName, line_header}
+use Rattle.h1_decode.specs.Lines.{HasValue}
 use Rattle.h1_decode.specs.ReadParts.{parts_at, headers_of, head_of, AreParts, RefusesParts}
 use Rattle.h1_decode.specs.Refusal.{UnlessNoMemory, fault_of, IsTextOf, IsNoText, Refuses}
 use Rattle.h1_decode.specs.WholeHead.{IsWholeHeadAt, RefusesText}

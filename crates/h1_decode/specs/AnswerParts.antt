@@ -8,7 +8,7 @@ use Rattle.httparse.specs.declared.spans.ResponseSpans.{ResponseSpans}
 use Rattle.h1_model.specs.Request.{Header, BodyKind}
 use Rattle.h1_client_model.specs.AnswerReading.{Answer}
 use Rattle.h1_client_model.specs.AnswerTable.{answer_kind, answer_connection}
-use Rattle.h1_decode.specs.Lines.{Line, line_header, HasName}
+use Rattle.http_lines.specs.HeaderLines.{Line, line_header, HasName}
 
 -- the parts of an answer's head as its text has them
 pub record AnswerParts : Type 0 where

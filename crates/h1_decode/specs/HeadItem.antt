@@ -10,7 +10,7 @@ use Rattle.http_types.specs.RequestHead.{request_flags}
 use Rattle.http_framing.specs.Kinds.{kind_of}
 use Rattle.http_uri.specs.Uri.{Spells}
 use Rattle.h1_decode.specs.declared.decoder.HeadItem.{HeadItem}
-use Rattle.h1_decode.specs.HeadMap.{header_map}
+use Rattle.http_lines.specs.HeaderLines.{header_map}
 use Rattle.h1_model.specs.LengthTable.{asked_type}
 use Rattle.h1_model.specs.Request as model
 

@@ -2,7 +2,6 @@ pub mod AnswerParts
 pub mod AnswerRefusal
 pub mod Framing
 pub mod HeadItem
-pub mod HeadMap
 pub mod HeadPosition
 pub mod HeadScan
 pub mod LaxCopy

@@ -9,7 +9,8 @@ use Rattle.httparse.specs.declared.spans.RequestSpans.{RequestSpans}
 use Rattle.h1_model.specs.LengthTable.{body_kind, connection_of, expects_continue}
 use Rattle.h1_model.specs.Request.{Header, BodyKind, Head}
 use Rattle.h1_model.specs.RequestHead.{IsTarget}
-use Rattle.h1_decode.specs.Lines.{Line, line_header, HasName, RefusesLinesOf}
+use Rattle.http_lines.specs.HeaderLines.{Line, line_header, HasName}
+use Rattle.h1_decode.specs.Lines.{RefusesLinesOf}
 
 -- the parts of a head as its text has them
 pub record Parts : Type 0 where

@@ -8,7 +8,7 @@ use Rattle.h1_client_model.specs.AnswerReading.{Answer}
 use Rattle.h1_client_model.specs.AnswerTable.{ends_with_input}
 use Rattle.h1_model.specs.LengthTable.{asked_type}
 use Rattle.h1_decode.specs.HeadItem.{version_of, asked_flags}
-use Rattle.h1_decode.specs.HeadMap.{header_map}
+use Rattle.http_lines.specs.HeaderLines.{header_map}
 use Rattle.h1_decode.specs.declared.response.ResponseItem.{ResponseItem}
 
 -- the marks, with Close where the connection closes

@@ -7,14 +7,15 @@ ghost use Rattle.httparse.specs.Spans.{IsHeaderWithin, IsWithin, header_bytes, s
 ghost use Rattle.h1_decode.specs.Framing.{TellsLines};
 ghost use Rattle.h1_model.specs.LengthTable.{body_kind};
 ghost use Rattle.http_framing.specs.Kinds.{kind_of};
-ghost use Rattle.h1_decode.specs.HeadMap.{header_map};
-ghost use Rattle.h1_decode.specs.Lines.{HasName, HasValue, line_header, RefusesLinesOf};
+ghost use Rattle.http_lines.specs.HeaderLines.{HasName, header_map, line_header};
+ghost use Rattle.h1_decode.specs.Lines.{HasValue, RefusesLinesOf};
 ghost use Rattle.h1_decode.specs.Refusal.{IsHeaderUnlessNoMemory};
 
 use crate::framing::Framing;
 use bytes::Bytes;
 use http_framing::BodyKind;
 use http_header::HeaderNameError;
+use http_lines::known_value;
 use http_types::{HeaderMap, HeaderName, HeaderValue, ParseError};
 use httparse::spans::{HeaderSpan, Span};
 use std::alloc::Global;
@@ -102,7 +103,10 @@ fn read_value(piece: &Bytes, span: Span) -> Result<HeaderValue, ParseError>
     ensures value { IfOk result (λ value. value ≡ plain_value (span_bytes piece.now span)) }
     ensures no_memory { IfErr result (λ e. e ≡ ParseError.NoMemory) }
 {
-    Ok(HeaderValue::from_known_valid(share(piece, span)?))
+    match known_value(piece, span) {
+        Ok(value) => Ok(value),
+        Err(_) => Err(ParseError::NoMemory),
+    }
 }
 
 /// The bytes that the span covers, which share the memory of the piece.
@@ -111,7 +115,7 @@ pub(crate) fn share(piece: &Bytes, span: Span) -> Result<Bytes, ParseError>
     ensures bytes { IfOk result (λ bytes. bytes ≡ span_bytes piece.now span) }
     ensures no_memory { IfErr result (λ e. e ≡ ParseError.NoMemory) }
 {
-    match piece.slice(span.start..span.end) {
+    match http_lines::share(piece, span) {
         Ok(bytes) => Ok(bytes),
         Err(_) => Err(ParseError::NoMemory),
     }

@@ -17,7 +17,7 @@ use Rattle.h1_model.specs.Event as on
 use Rattle.h1_machine.specs.Kept.{Rest, no_rest, raw_rest, fixed_rest, chunks_rest, frames_rest}
 use Rattle.h1_machine.specs.Pull as pulls
 use Rattle.h1_machine.specs.Pull.{pull_fixed, pull_raw, EndsWith, IsPullOfChunks, IsPull}
-use Rattle.h1_payload.specs.HeaderMaps.{header_map}
+use Rattle.http_lines.specs.HeaderLines.{header_map}
 use Rattle.h1_payload.specs.Fitting.{Fits}
 use Rattle.h1_payload.specs.Decoding.{Payload, reading_of, AreTrailers, HasTrailers, IsReadAs}
 

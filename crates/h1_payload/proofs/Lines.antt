@@ -1,10 +1,10 @@
 -- Trailer lines, and the spans that cover them.
-use Rattle.std.proofs.Common.{◌≡◌, ℕ, ◌+◌, ◌*◌, ◌/◌, ◌<◌, ◌≤◌, Bool, List, [], ◌∷◌, ◌++◌, length, get_or, take, drop, map, All, refl, sym, ap, ◌∙◌, subst, arith, append_assoc, length-append, append-nil}
+use Rattle.std.proofs.Common.{◌≡◌, ℕ, ◌+◌, ◌*◌, ◌/◌, ◌<◌, ◌≤◌, Bool, List, [], ◌∷◌, ◌++◌, length, take, drop, map, All, refl, sym, ap, ◌∙◌, subst, arith, append_assoc, length-append, append-nil}
 use Rattle.std.specs.Prelude.{IsTrue, flat_map}
 use Rattle.std.specs.List.{list_all, AllByRecursion}
 use Rattle.std.proofs.lemmas.Bool.{and_parts}
-use Rattle.std.proofs.lemmas.List.{length-map, get_or-map}
-use Rattle.std.proofs.lemmas.List.Elements.{All-nil, All-cons, All-head, All-tail, All-weaker, All-get_or}
+use Rattle.std.proofs.lemmas.List.{length-map}
+use Rattle.std.proofs.lemmas.List.Elements.{All-nil, All-cons, All-head, All-tail, All-weaker}
 use Rattle.http_header.specs.Token as token
 use Rattle.httparse.specs.Ascii.{colon, crlf_bytes}
 use Rattle.httparse.specs.Grammar.{is_value_byte, is_token_byte, crlf, Field, IsField, AllPass, print_field, ReadsSection, LineEnd, print_end}
@@ -14,7 +14,8 @@ use Rattle.httparse.proofs.TrimLemmas.{AllPass-trim_ows}
 use Rattle.h1_chunks.specs.ChunkedText.{Trailer, IsTrailer, trailer_text, section_text}
 use Rattle.h1_model.specs.Request.{Header}
 use Rattle.h1_model.specs.Parse.{trailer_header}
-use Rattle.h1_payload.specs.HeaderMaps.{IsLine, line_header, IsLinesAt}
+use Rattle.http_lines.specs.HeaderLines.{IsLine, line_header}
+use Rattle.h1_payload.specs.HeaderMaps.{IsLinesAt}
 
 -- ---- trailers as fields
 
@@ -111,14 +112,6 @@ spans_lines text spans len count fields last at short =
 -- spans within a part lie within the whole
 pub spans_within : (n m : ℕ) (spans : List HeaderSpan) → n ≤ m → All (IsHeaderWithin n) spans → All (IsHeaderWithin m) spans
 spans_within n m spans less ok = All-weaker (IsHeaderWithin n) (IsHeaderWithin m) (λ s w. ((w.0.0, omega (arith, w.0.1)), (w.1.0, omega (arith, w.1.1)))) spans ok
-
--- ---- one line after another
-
-module _ (text : List ℕ) (spans : List HeaderSpan) (i : ℕ) (d : HeaderSpan) (below : i < length spans) where
-  pub line_at : All IsLine (map (header_bytes text) spans) → IsLine (header_bytes text (get_or spans i d))
-  line_at all =
-      subst IsLine (get_or-map (header_bytes text) spans i d (header_bytes text d) below)
-      (All-get_or IsLine (map (header_bytes text) spans) i (header_bytes text d) (rw length-map below) all)
 
 -- ---- what was parsed
 

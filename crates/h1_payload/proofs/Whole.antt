@@ -13,7 +13,7 @@ use Rattle.h1_model.specs.Request.{fixed_body}
 use Rattle.h1_machine.specs.Kept.{Rest, no_rest, raw_rest, fixed_rest, chunks_rest, frames_rest, whole_rest}
 use Rattle.http_framing.specs.AnyPieces.{Fed, AreFed, LastReads, all_told, all_came}
 use Rattle.http_framing.proofs.AnyPieces.{pieces_are_whole}
-use Rattle.h1_payload.specs.HeaderMaps.{header_map}
+use Rattle.http_lines.specs.HeaderLines.{header_map}
 use Rattle.h1_payload.specs.Fitting.{Fits}
 use Rattle.h1_payload.specs.Decoding.{Decoding, Payload, no_payload, reading_of, AreTrailers, HasTrailers, IsReadAs, Reads, ReadsBy, given, chunked_payload, length_payload}
 use Rattle.h1_payload.specs.declared.item.PayloadItem.{PayloadItem}

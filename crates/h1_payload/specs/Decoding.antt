@@ -9,7 +9,7 @@ use Rattle.h1_machine.specs.Kept as machine
 use Rattle.h1_machine.specs.Kept.{no_rest, raw_rest, fixed_rest, chunks_rest, frames_rest}
 use Rattle.h1_machine.specs.Pull as pulls
 use Rattle.h1_machine.specs.Pull.{IsPull}
-use Rattle.h1_payload.specs.HeaderMaps.{header_map}
+use Rattle.http_lines.specs.HeaderLines.{header_map}
 use Rattle.h1_payload.specs.declared.item.DecodeError.{DecodeError}
 use Rattle.h1_payload.specs.declared.item.DecodeError.TheVariants.{Invalid, NoMemory}
 use Rattle.h1_payload.specs.declared.item.PayloadItem.{PayloadItem}

@@ -1,28 +1,13 @@
--- Header lines in a map.
-use Rattle.std.specs.Prelude.{◌≡◌, ℕ, ◌≤◌, List, [], ◌++◌, length, map, take, fold, All, Option, Some, None}
+-- The lines of a trailer section: in a map, and covered by spans.
+use Rattle.std.specs.Prelude.{◌≡◌, ℕ, ◌≤◌, List, ◌++◌, length, map, take, All, Option, Some, None}
 use Rattle.std.specs.List.{AllByRecursion}
-use Rattle.http_header.specs.FieldName.{IsFieldName}
-use Rattle.http_header.specs.FieldValue.{IsFieldValue, plain_value}
-use Rattle.http_header.specs.Token.{lowercase}
 use Rattle.httparse.specs.Ascii.{crlf_bytes}
 use Rattle.httparse.specs.Spans.{IsHeaderWithin, header_bytes}
 use Rattle.httparse.specs.declared.spans.HeaderSpan.{HeaderSpan}
-use Rattle.http_map.specs.HeaderMap.{Entries, append}
+use Rattle.http_map.specs.HeaderMap.{Entries}
+use Rattle.http_lines.specs.HeaderLines.{IsLine, line_header, header_map}
 use Rattle.h1_chunks.specs.ChunkedText.{Trailer, IsTrailer, section_text}
-use Rattle.h1_model.specs.Request.{Header}
 use Rattle.h1_model.specs.Parse.{trailer_header}
-
--- the headers in a map, line by line
-abbrev pub header_map : List Header → Entries
-header_map headers = fold (λ entries header. append entries header.name (plain_value header.value)) [] headers
-
--- a name, and a value without the white space around it
-abbrev pub IsLine : List ℕ × List ℕ → Type 0
-IsLine line = IsFieldName line.0 × IsFieldValue line.1
-
--- the header that they are: the name in lower case
-abbrev pub line_header : List ℕ × List ℕ → Header
-line_header line = record { name = lowercase line.0; value = line.1 }
 
 -- the map has the lines of the section of which this is the text, with the empty line behind it
 abbrev pub IsMapOf : List ℕ → Entries → Type 0

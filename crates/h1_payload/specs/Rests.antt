@@ -5,7 +5,7 @@ use Rattle.h1_model.specs.Event.{Outcome, corrupted, incomplete}
 use Rattle.h1_model.specs.Event as on
 use Rattle.h1_machine.specs.Kept as machine
 use Rattle.h1_machine.specs.Pull as pulls
-use Rattle.h1_payload.specs.HeaderMaps.{header_map}
+use Rattle.http_lines.specs.HeaderLines.{header_map}
 use Rattle.h1_payload.specs.declared.pulled.BodyFault.{BodyFault}
 use Rattle.h1_payload.specs.declared.pulled.BodyFault.TheVariants.{Corrupted, Incomplete}
 use Rattle.h1_payload.specs.declared.pulled.Pulled.{Pulled}

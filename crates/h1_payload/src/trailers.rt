@@ -1,15 +1,17 @@
 //! The header map of a trailer section (RFC 7230, section 4.1.2).
 ghost use Rattle.std.specs.Prelude.{◌≡◌, ◌≤◌, ◌/◌, length, map, All, IfOk, IfSome};
 ghost use Rattle.http_header.specs.FieldName.{IsFieldName};
-ghost use Rattle.http_header.specs.FieldValue.{IsFieldValue, plain_value};
+ghost use Rattle.http_header.specs.FieldValue.{plain_value};
 ghost use Rattle.http_header.specs.Token.{lowercase};
-ghost use Rattle.httparse.specs.Spans.{IsHeaderWithin, IsWithin, header_bytes, span_bytes};
-ghost use Rattle.h1_payload.specs.HeaderMaps.{header_map, IsLine, line_header, IsMapOf, IsLinesAt, FindsLines};
+ghost use Rattle.httparse.specs.Spans.{IsHeaderWithin, header_bytes, span_bytes};
+ghost use Rattle.http_lines.specs.HeaderLines.{header_map, IsLine, line_header};
+ghost use Rattle.h1_payload.specs.HeaderMaps.{IsMapOf, IsLinesAt, FindsLines};
 
 use bytes::Bytes;
+use http_lines::known_value;
 use http_map::{HeaderMap, HeaderName, HeaderValue, NoMemory};
 use httparse::Status;
-use httparse::spans::{EMPTY_HEADER_SPAN, HeaderSpan, Span, parse_headers};
+use httparse::spans::{EMPTY_HEADER_SPAN, HeaderSpan, parse_headers};
 use std::alloc::{AllocError, Global};
 
 /// The shortest trailer line: a byte of a name, a colon and a line end.
@@ -68,7 +70,7 @@ fn read_line(
     ensures value { IfOk result (λ line. line.1 ≡ plain_value (span_bytes text.now field.value)) }
 {
     let name = read_name(alloc, field.name.of(text.as_slice()))?;
-    let value = read_value(text, field.value)?;
+    let value = known_value(text, field.value)?;
     Ok((name, value))
 }
 
@@ -81,14 +83,4 @@ fn read_name(alloc: Global, src: &[u8]) -> Result<HeaderName, NoMemory>
         Ok(name) => Ok(name),
         Err(_) => Err(AllocError),
     }
-}
-
-/// The bytes that the span covers as a value, which they are. They share the memory of the text.
-fn read_value(text: &Bytes, span: Span) -> Result<HeaderValue, NoMemory>
-    requires within { IsWithin (length text.now) span }
-    requires valid { IsFieldValue (span_bytes text.now span) }
-    ensures { IfOk result (λ value. value ≡ plain_value (span_bytes text.now span)) }
-{
-    let bytes = text.slice(span.start..span.end)?;
-    Ok(HeaderValue::from_known_valid(bytes))
 }

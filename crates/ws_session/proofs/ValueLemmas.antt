@@ -6,7 +6,7 @@ use Rattle.http_map.specs.HeaderMap.{Entries, append, get_all}
 use Rattle.http_map.proofs.CallerLemmas.{same_bytes, bytes_eq-itself, get_all-append_same, get_all-append_other}
 use Rattle.h1_model.specs.Request.{Header}
 use Rattle.h1_model.specs.LengthTable.{values_of}
-use Rattle.h1_decode.specs.HeadMap.{header_map}
+use Rattle.http_lines.specs.HeaderLines.{header_map}
 use Rattle.ws_session.specs.Upgrade.{value_bytes}
 
 -- a map with the lines behind those that it has

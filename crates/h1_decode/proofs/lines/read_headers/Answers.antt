@@ -8,14 +8,11 @@ use Rattle.http_map.specs.HeaderMap.{append}
 use Rattle.httparse.specs.Grammar.{trim_ows}
 use Rattle.httparse.specs.Spans.{header_bytes, span_bytes}
 use Rattle.httparse.specs.declared.spans.Span.{Span}
-use Rattle.httparse.specs.declared.spans.HeaderSpan.{HeaderSpan}
-use Rattle.h1_decode.specs.Lines.{line_header}
-use Rattle.h1_decode.proofs.LinesLemmas.{name_at, value_at, names_more, header_map-more, framing_more, known_ok}
+use Rattle.http_lines.specs.HeaderLines.{HasName, line_header}
+use Rattle.http_lines.proofs.HeaderLines.{no_span, line_at, header_map-more}
+use Rattle.h1_decode.specs.Lines.{HasValue}
+use Rattle.h1_decode.proofs.LinesLemmas.{names_more, framing_more, known_ok}
 use Rattle.h1_decode.proofs.lines.read_headers.Goals as goal
-
--- what a span is past the end of the list
-no_span : HeaderSpan
-no_span = record { name = record { start = 0; end = 0 }; value = record { start = 0; end = 0 } }
 
 -- the bytes of a span, as they are taken out of a slice
 covered : (piece text bytes : List ℕ) (span : Span) → text ≡ piece → bytes ≡ slice_range text span.start span.end → bytes ≡ span_bytes piece span
@@ -24,7 +21,7 @@ covered piece text bytes span same is = is ∙ ap (λ (t : List ℕ). slice_rang
 pub returns-in_err-name-clause-refused : goal.returns-in_err-name-clause-refused
 unfolding no_span
 returns-in_err-name-clause-refused c =
-    let here = name_at c.args.piece.now c.args.fields.now c.loop-field.field-index no_span c.loop-field-test.true in
+    let here = line_at c.args.piece.now c.args.fields.now c.loop-field.field-index no_span c.loop-field-test.true HasName in
     let field = get_or c.args.fields.now c.loop-field.field-index no_span in
     let name = covered c.args.piece.now c.as_slice.result.now c.of.result.now field.name c.as_slice.ensures c.of.ensures in
     let p = err_from_is_err_and c.from_residual-in_err-name.result c.from_residual-in_err-name.ensures.1 in
@@ -33,12 +30,12 @@ returns-in_err-name-clause-refused c =
 pub read_value-requires-clause-valid : goal.read_value-requires-clause-valid
 unfolding no_span
 read_value-requires-clause-valid c =
-    (value_at c.args.piece.now c.args.fields.now c.loop-field.field-index no_span c.loop-field-test.true c.requires.values).valid
+    (line_at c.args.piece.now c.args.fields.now c.loop-field.field-index no_span c.loop-field-test.true HasValue c.requires.values).valid
 
 pub note-requires : goal.note-requires
 unfolding no_span
 note-requires c =
-    let value = value_at c.args.piece.now c.args.fields.now c.loop-field.field-index no_span c.loop-field-test.true c.requires.values in
+    let value = line_at c.args.piece.now c.args.fields.now c.loop-field.field-index no_span c.loop-field-test.true HasValue c.requires.values in
     let bytes = c.as_bytes.ensures.value ∙ ap (λ (v : FieldValue). v.bytes) c.in_ok-value.ensures.value in
     subst (λ (b : List ℕ). trim_ows b ≡ b) (sym bytes) value.trimmed
 

@@ -1,8 +1,7 @@
 use Rattle.std.proofs.Common.{◌≡◌, map, take, All}
 use Rattle.httparse.specs.Spans.{header_bytes}
 use Rattle.h1_decode.specs.Framing.{TellsLines}
-use Rattle.h1_decode.specs.HeadMap.{header_map}
-use Rattle.h1_decode.specs.Lines.{HasName, line_header}
+use Rattle.http_lines.specs.HeaderLines.{HasName, header_map, line_header}
 use Rattle.h1_decode.proofs.lines.read_headers.Given as goal
 
 -- the lines so far have names, the map has them, and what is kept is what they say

@@ -1,7 +1,7 @@
 use Rattle.std.proofs.Common.{map, refl, inl, inr, sym, ◌∙◌}
 use Rattle.std.proofs.lemmas.Result.{err_from_is_err_and}
 use Rattle.httparse.specs.Spans.{header_bytes}
-use Rattle.h1_decode.specs.Lines.{line_header}
+use Rattle.http_lines.specs.HeaderLines.{line_header}
 use Rattle.h1_decode.proofs.BodyKindLemmas.{kind_of_lines-is}
 use Rattle.h1_decode.proofs.lines.read_lines.Goals as goal
 

@@ -6,7 +6,7 @@ use Rattle.http_types.specs.ResponseHead.{ResponseParts}
 use Rattle.h1_decode.specs.Framing.{answer_flags_by}
 use Rattle.h1_decode.specs.HeadItem.{asked_flags}
 use Rattle.h1_decode.specs.ResponseItem.{with_close}
-use Rattle.h1_decode.specs.Lines.{line_header}
+use Rattle.http_lines.specs.HeaderLines.{line_header}
 use Rattle.h1_model.specs.LengthTable.{asked_type}
 use Rattle.h1_decode.proofs.AnswerKindLemmas.{answer_kind-is, answer_flags-are}
 use Rattle.h1_decode.proofs.response.read_answer.Goals as goal
