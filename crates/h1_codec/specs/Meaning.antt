@@ -48,12 +48,6 @@ model_type Close = model.close
 model_type KeepAlive = model.keep_alive
 model_type Upgrade = model.upgrade
 
--- and back
-abbrev pub connection_type_of : model.ConnectionType → ConnectionType
-connection_type_of model.close = Close
-connection_type_of model.keep_alive = KeepAlive
-connection_type_of model.upgrade = Upgrade
-
 -- the minor number of the version that an answer to this version has
 abbrev pub minor_of : Version → ℕ
 minor_of version = if is_below_http11 version then 0 else 1

@@ -21,7 +21,8 @@ impl Model for Asked {
 
     ghost Value = { answers.Asked };
 
-    ghost use Rattle.h1_codec.specs.Meaning.{model_type, connection_type_of};
+    ghost use Rattle.h1_codec.specs.Meaning.{model_type};
+    ghost use Rattle.h1_decode.specs.HeadItem.{connection_type_of};
 
     ghost view = { λ a. record {
       minor = a.minor;

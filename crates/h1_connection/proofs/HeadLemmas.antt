@@ -20,7 +20,7 @@ use Rattle.h1_machine.specs.Kept as machine
 use Rattle.h1_machine.specs.Kept.{Kept, Change, is_free, is_frames, is_answered, is_unanswered, now, rest_in, whole_rest, new_exchange, refusal_of, key_answer_of}
 use Rattle.h1_machine.specs.Local.{closing_by, answered_end_of}
 use Rattle.h1_machine.specs.Change.{IsStep, IsChange, IsNext, IsUpcoming, noting_since, behind_head, without_head}
-use Rattle.h1_decode.specs.HeadItem.{SaysHead, version_of, type_of}
+use Rattle.h1_decode.specs.HeadItem.{SaysHead, version_of, connection_type_of}
 use Rattle.h1_codec.specs.Meaning.{minor_of, model_type}
 use Rattle.h1_model.specs.Answer.{Asked, asked_of}
 use Rattle.http_types.specs.declared.message.ConnectionType.{ConnectionType}
@@ -306,14 +306,14 @@ minor_same (suc zero) small = refl
 minor_same (suc (suc m)) small = absurd (omega (arith, small))
 
 -- and a connection type
-type_same : (t : model.ConnectionType) → model_type (type_of t) ≡ t
+type_same : (t : model.ConnectionType) → model_type (connection_type_of t) ≡ t
 type_same model.close = refl
 type_same model.keep_alive = refl
 type_same model.upgrade = refl
 
 pub asked_by : (piece : List ℕ) (item : HeadItem) (h : Head) (a : Asked) (is_head is_raw : Bool) (kind : ConnectionType) → IsReading piece (head_is h) → SaysHead item h
     → a ≡ record { minor = minor_of item.head.version; is_head = is_head; is_raw = is_raw; connection = model_type kind }
-    → is_head ≡ (asked_of h).is_head → is_raw ≡ (asked_of h).is_raw → kind ≡ type_of (asked_of h).connection → a ≡ asked_of h
+    → is_head ≡ (asked_of h).is_head → is_raw ≡ (asked_of h).is_raw → kind ≡ connection_type_of (asked_of h).connection → a ≡ asked_of h
 asked_by piece item h a is_head is_raw kind reading says is head raw connection =
     let small : h.minor ≤ 1 = omega (arith, reading.1.minor_is, reading.1.reads.0.minor) in
     is ∙ (λ i. record {

@@ -9,7 +9,7 @@ use Rattle.h1_decode.specs.declared.framing.Framing.{Framing}
 use Rattle.h1_decode.specs.declared.framing.Lengths.{Lengths}
 use Rattle.h1_decode.specs.declared.framing.Codings.{Codings}
 use Rattle.h1_decode.specs.Framing.{stated_by, stated, coded_by, coded, TellsLines, chunks_of, chunks_by, kind_of_answer, answer_kind_by, answer_kind_of, answer_flags_by}
-use Rattle.h1_decode.specs.HeadItem.{type_of, asked_flags}
+use Rattle.h1_decode.specs.HeadItem.{connection_type_of, asked_flags}
 use Rattle.h1_decode.specs.ResponseItem.{with_close}
 
 -- the body, or none where the lines are refused
@@ -68,7 +68,7 @@ answer_kind-is kept headers minor status tells =
 
 -- the marks by what is kept are those of the lines
 pub answer_flags-are : (asked : Option ConnectionType) (closes : Bool)
-    → answer_flags_by (option_map type_of asked) closes ≡ with_close closes (asked_flags asked)
+    → answer_flags_by (option_map connection_type_of asked) closes ≡ with_close closes (asked_flags asked)
 answer_flags-are None true = refl
 answer_flags-are None false = refl
 answer_flags-are (Some type) true = refl

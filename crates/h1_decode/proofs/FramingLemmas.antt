@@ -16,7 +16,7 @@ use Rattle.h1_decode.specs.declared.framing.Codings.{Codings}
 use Rattle.h1_decode.specs.declared.framing.Subject.{Subject}
 use Rattle.h1_decode.specs.declared.framing.Subject.TheVariants.{Length, Coding, Connection, Upgrade, Expect}
 use Rattle.h1_decode.specs.Framing.{stated, coded, TellsLines, subject_of}
-use Rattle.h1_decode.specs.HeadItem.{type_of}
+use Rattle.h1_decode.specs.HeadItem.{connection_type_of}
 
 -- the values of a name with one more line: of that name, or of another
 module _ (name : List ℕ) (headers : List Header) (line : Header) where
@@ -72,10 +72,10 @@ module _ (kept : Framing) (headers : List Header) (line : Header) (tells : Tells
   codings_stay : bytes_eq line.name (codes "transfer-encoding") ≡ false → kept.codings ≡ coded (values_of (codes "transfer-encoding") (headers ++ line ∷ []))
   codings_stay other = tells.coding_lines ∙ ap coded (sym (values_of-other (codes "transfer-encoding") headers line other))
 
-  connection_stays : bytes_eq line.name (codes "connection") ≡ false → kept.connection ≡ option_map type_of (asked_type (headers ++ line ∷ []))
+  connection_stays : bytes_eq line.name (codes "connection") ≡ false → kept.connection ≡ option_map connection_type_of (asked_type (headers ++ line ∷ []))
   connection_stays other =
       tells.connection_lines
-      ∙ ap (λ (values : List (List ℕ)). option_map type_of (option_and_then named_type (last_or None values)))
+      ∙ ap (λ (values : List (List ℕ)). option_map connection_type_of (option_and_then named_type (last_or None values)))
       (sym (values_of-other (codes "connection") headers line other))
 
   websocket_stays : bytes_eq line.name (codes "upgrade") ≡ false → kept.websocket ≡ asks_websocket (headers ++ line ∷ [])
@@ -114,7 +114,7 @@ module _ (kept : Framing) (headers : List Header) (line : Header) (tells : Tells
       }
 
   pub tells-connection : line.name ≡ codes "connection" → (new : Option ConnectionType)
-      → new ≡ option_map type_of (named_type line.value) → TellsLines (record kept { connection = new }) (headers ++ line ∷ [])
+      → new ≡ option_map connection_type_of (named_type line.value) → TellsLines (record kept { connection = new }) (headers ++ line ∷ [])
   tells-connection named new is =
       let other = λ (word : List ℕ) (ne : bytes_eq (codes "connection") word ≡ false). ap (λ n. bytes_eq n word) named ∙ ne in
       let last : last_or None (values_of (codes "connection") (headers ++ line ∷ [])) ≡ Some line.value =
@@ -123,7 +123,7 @@ module _ (kept : Framing) (headers : List Header) (line : Header) (tells : Tells
       record {
         length_lines = lengths_stay (other (codes "content-length") refl);
         coding_lines = codings_stay (other (codes "transfer-encoding") refl);
-        connection_lines = is ∙ ap (λ (value : Option (List ℕ)). option_map type_of (option_and_then named_type value)) (sym last);
+        connection_lines = is ∙ ap (λ (value : Option (List ℕ)). option_map connection_type_of (option_and_then named_type value)) (sym last);
         upgrade_lines = websocket_stays (other (codes "upgrade") refl);
         expect_lines = expects_stays (other (codes "expect") refl);
       }

@@ -5,7 +5,7 @@ use Rattle.http_types.specs.declared.message.ConnectionType.{ConnectionType}
 use Rattle.http_types.specs.declared.message.ConnectionType.TheVariants.{Close}
 use Rattle.http_types.specs.declared.message.Flags.{Flags}
 use Rattle.http_types.specs.Flags.{no_flags, with_type}
-use Rattle.h1_decode.specs.HeadItem.{type_of}
+use Rattle.h1_decode.specs.HeadItem.{connection_type_of}
 use Rattle.h1_decode.specs.declared.framing.Framing.{Framing}
 use Rattle.h1_decode.specs.declared.framing.Lengths.{Lengths}
 use Rattle.h1_decode.specs.declared.framing.Lengths.TheVariants as lengths
@@ -42,7 +42,7 @@ coded (value ∷ second ∷ more) = codings.Refused
 pub record TellsLines (kept : Framing) (headers : List Header) : Type 0 where
   pub length_lines : kept.lengths ≡ stated (values_of (codes "content-length") headers)
   pub coding_lines : kept.codings ≡ coded (values_of (codes "transfer-encoding") headers)
-  pub connection_lines : kept.connection ≡ option_map type_of (asked_type headers)
+  pub connection_lines : kept.connection ≡ option_map connection_type_of (asked_type headers)
   pub upgrade_lines : kept.websocket ≡ asks_websocket headers
   pub expect_lines : kept.expects ≡ expects_continue headers
 

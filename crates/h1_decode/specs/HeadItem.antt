@@ -20,15 +20,15 @@ version_of zero = HTTP_10
 version_of (suc _) = HTTP_11
 
 -- a connection type
-abbrev pub type_of : model.ConnectionType → ConnectionType
-type_of model.close = Close
-type_of model.keep_alive = KeepAlive
-type_of model.upgrade = Upgrade
+abbrev pub connection_type_of : model.ConnectionType → ConnectionType
+connection_type_of model.close = Close
+connection_type_of model.keep_alive = KeepAlive
+connection_type_of model.upgrade = Upgrade
 
 -- the mark of the type that was asked for, if one was
 abbrev pub asked_flags : Option model.ConnectionType → Flags
 asked_flags None = no_flags
-asked_flags (Some type) = with_type no_flags (type_of type)
+asked_flags (Some type) = with_type no_flags (connection_type_of type)
 
 -- the marks of a head that was read: what its last Connection line asks for, and whether its client waits for leave
 abbrev pub flags_of : model.Head → Flags

@@ -1,6 +1,6 @@
 //! What a connection wants of a head that was read: what its answer needs, and what comes behind it.
 ghost use Rattle.std.specs.Prelude.{◌≡◌, ℕ, List};
-ghost use Rattle.h1_decode.specs.HeadItem.{SaysHead, type_of};
+ghost use Rattle.h1_decode.specs.HeadItem.{SaysHead, connection_type_of};
 ghost use Rattle.h1_model.specs.Answer.{asked_of};
 ghost use Rattle.h1_model.specs.Request.{Head, head_is, has_body};
 ghost use Rattle.h1_model.specs.RequestHead.{IsReading};
@@ -41,7 +41,7 @@ impl HeadItem {
     /// three words, or what its version keeps to (RFC 7230, section 6.3).
     pub fn connection_type(&self) -> ConnectionType
         ensures { (piece : List ℕ) (h : Head) → IsReading piece (head_is h) → SaysHead self.now h
-            → result ≡ type_of (asked_of h).connection }
+            → result ≡ connection_type_of (asked_of h).connection }
     {
         self.head.connection_type()
     }

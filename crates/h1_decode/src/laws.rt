@@ -1,7 +1,7 @@
 //! The laws of what heads that were read say.
 ghost use Rattle.http_types.specs.ConnectionType.{IsTypeOf};
 ghost use Rattle.http_types.specs.RequestHead.{request_flags};
-ghost use Rattle.h1_decode.specs.HeadItem.{SaysHead, type_of};
+ghost use Rattle.h1_decode.specs.HeadItem.{SaysHead, connection_type_of};
 ghost use Rattle.h1_client_model.specs.AnswerReading.{Answer, answer_is, IsAnswerReading};
 ghost use Rattle.h1_decode.specs.ResponseItem.{SaysAnswer};
 ghost use Rattle.h1_decode.specs.declared.decoder.HeadItem.{HeadItem};
@@ -14,11 +14,11 @@ ghost use Rattle.std.specs.Prelude.{ℕ, List};
 /// the input ends closes it.
 pub fn marks_tell_the_answers_connection()
     ensures { (piece : List ℕ) (item : ResponseItem) (a : Answer) → IsAnswerReading piece (answer_is a) → SaysAnswer item a
-        → IsTypeOf item.head.flags item.head.version (type_of a.connection) }
+        → IsTypeOf item.head.flags item.head.version (connection_type_of a.connection) }
 {}
 
 /// What its marks and its version ask of the connection is what was read.
 pub fn marks_tell_the_connection()
     ensures { (piece : List ℕ) (item : HeadItem) (h : Head) → IsReading piece (head_is h) → SaysHead item h
-        → IsTypeOf (request_flags item.head) item.head.version (type_of h.connection) }
+        → IsTypeOf (request_flags item.head) item.head.version (connection_type_of h.connection) }
 {}

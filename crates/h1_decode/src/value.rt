@@ -5,7 +5,7 @@ ghost use Rattle.std.specs.Prelude.{◌≡◌, option_map};
 ghost use Rattle.http_header.specs.Token.{lowercase};
 ghost use Rattle.httparse.specs.Grammar.{trim_ows};
 ghost use Rattle.h1_model.specs.LengthTable.{length_value, named_type, says};
-ghost use Rattle.h1_decode.specs.HeadItem.{type_of};
+ghost use Rattle.h1_decode.specs.HeadItem.{connection_type_of};
 
 use http_types::ConnectionType;
 
@@ -32,7 +32,7 @@ pub(crate) fn content_length(value: &[u8]) -> Option<u64>
 /// The connection type that a value names, if it is one of three words (RFC 7230, section 6.1).
 pub(crate) fn connection_type(value: &[u8]) -> Option<ConnectionType>
     requires { trim_ows value.now ≡ value.now }
-    ensures { result ≡ option_map type_of (named_type value.now) }
+    ensures { result ≡ option_map connection_type_of (named_type value.now) }
 {
     if is_word(value, b"close") {
         Some(ConnectionType::Close)

@@ -2,8 +2,8 @@
 use Rattle.std.proofs.Common.{◌≡◌, ℕ, ◌≤◌, zero, suc, Bool, List, refl, sym, ap, ◌∙◌, arith}
 use Rattle.http_types.specs.declared.message.ConnectionType.{ConnectionType}
 use Rattle.http_types.specs.declared.message.ConnectionType.TheVariants.{Close, KeepAlive, Upgrade}
-use Rattle.h1_codec.specs.Meaning.{minor_of, model_type, connection_type_of}
-use Rattle.h1_decode.specs.HeadItem.{SaysHead, version_of, type_of}
+use Rattle.h1_codec.specs.Meaning.{minor_of, model_type}
+use Rattle.h1_decode.specs.HeadItem.{SaysHead, version_of, connection_type_of}
 use Rattle.h1_decode.specs.declared.decoder.HeadItem.{HeadItem}
 use Rattle.h1_model.specs.Answer.{Asked, asked_of}
 use Rattle.h1_model.specs.Request as model
@@ -17,7 +17,7 @@ minor_same (suc zero) small = refl
 minor_same (suc (suc m)) small = absurd (omega (arith, small))
 
 -- and a connection type, both ways
-type_same : (t : model.ConnectionType) → model_type (type_of t) ≡ t
+type_same : (t : model.ConnectionType) → model_type (connection_type_of t) ≡ t
 type_same model.close = refl
 type_same model.keep_alive = refl
 type_same model.upgrade = refl
@@ -29,7 +29,7 @@ type_back Upgrade = refl
 
 pub asked_by : (piece : List ℕ) (item : HeadItem) (h : Head) (a : Asked) (is_head is_raw : Bool) (kind : ConnectionType) → IsReading piece (head_is h) → SaysHead item h
     → a ≡ record { minor = minor_of item.head.version; is_head = is_head; is_raw = is_raw; connection = model_type kind }
-    → is_head ≡ (asked_of h).is_head → is_raw ≡ (asked_of h).is_raw → kind ≡ type_of (asked_of h).connection → a ≡ asked_of h
+    → is_head ≡ (asked_of h).is_head → is_raw ≡ (asked_of h).is_raw → kind ≡ connection_type_of (asked_of h).connection → a ≡ asked_of h
 asked_by piece item h a is_head is_raw kind reading says is head raw connection =
     let small : h.minor ≤ 1 = omega (arith, reading.1.minor_is, reading.1.reads.0.minor) in
     is ∙ (λ i. record {

@@ -16,10 +16,10 @@ use Rattle.h1_model.specs.Answer.{Asked, asked_of, shape_of, type_of}
 use Rattle.h1_model.specs.Setting.{Setting, keeps}
 use Rattle.h1_model.specs.Text.{answer_head_text}
 use Rattle.h1_codec.specs.Encoding.{Encoding, of_length, first_encoding, encoded, behind, end_of, ended, missing_of}
-use Rattle.h1_codec.specs.Meaning.{answer_of, size_of, model_type, connection_type_of, minor_of}
+use Rattle.h1_codec.specs.Meaning.{answer_of, size_of, model_type, minor_of}
 use Rattle.h1_codec.specs.declared.error.EncodeError.{EncodeError}
 use Rattle.h1_codec.specs.declared.error.EncodeError.TheVariants.{Short}
-use Rattle.h1_decode.specs.HeadItem.{SaysHead}
+use Rattle.h1_decode.specs.HeadItem.{SaysHead, connection_type_of}
 use Rattle.h1_decode.specs.declared.decoder.HeadItem.{HeadItem}
 use Rattle.h1_messages.specs.Kinds.{requests}
 use Rattle.h1_framed.specs.Answers.{LeftAfter}
