@@ -1,8 +1,8 @@
 -- What a decoder of bodies answers where it gives no item.
-use Rattle.std.proofs.Common.{◌≡◌, ℕ, List, [], ◌++◌, refl, sym, ap, subst, append-nil}
-use Rattle.std.specs.Prelude.{Option, Some, None, Result, Ok, Err, IfErr, true, ⊤}
+use Rattle.std.proofs.Common.{◌≡◌, ℕ, List, [], refl, sym, ap, subst, append-nil}
+use Rattle.std.specs.Prelude.{Option, Result, Ok, Err, IfErr, true, ⊤}
 use Rattle.http_framing.specs.AnyPieces.{OnlySays}
-use Rattle.h1_payload.specs.Decoding.{Decoding, Payload, Reads, Breaks, LeftAfter, IsRefused}
+use Rattle.h1_payload.specs.Decoding.{Decoding, Reads, Breaks, LeftAfter, IsRefused}
 use Rattle.h1_payload.specs.declared.item.DecodeError.{DecodeError}
 use Rattle.h1_payload.specs.declared.item.DecodeError.TheVariants.{Invalid, NoMemory}
 use Rattle.h1_payload.specs.declared.item.PayloadItem.{PayloadItem}
