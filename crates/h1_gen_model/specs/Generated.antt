@@ -71,10 +71,14 @@ head_text kind k n =
 abbrev pub one_chunk : List ℕ → List ℕ
 one_chunk bytes = digits 16 true (length bytes) ++ (codes "\r\n" ++ (bytes ++ codes "\r\n0\r\n\r\n"))
 
+-- bytes as the body of such a request
+abbrev pub framed : Kind → List ℕ → List ℕ
+framed sized bytes = bytes
+framed chunked bytes = one_chunk bytes
+framed _ bytes = []
+
 unfoldable pub body_text : Kind → ℕ → List ℕ
-body_text sized n = letters n
-body_text chunked n = one_chunk (letters n)
-body_text _ n = []
+body_text kind n = framed kind (letters n)
 
 -- ---- events
 

@@ -1,0 +1,16 @@
+-- What this crate's types mean in the model, and the parts that its texts are made of.
+use Rattle.std.specs.Prelude.{ℕ, List, ◌++◌, codes, decimal}
+use Rattle.h1_gen_model.specs.Generated as model
+use Rattle.h1_gen_model.specs.Generated.{method_of}
+use Rattle.h1_gen.specs.declared.draw.Kind.{Kind}
+use Rattle.h1_gen.specs.declared.draw.Kind.TheVariants.{Get, Head, Sized, Chunked}
+
+abbrev pub model_kind : Kind → model.Kind
+model_kind Get = model.get
+model_kind Head = model.head
+model_kind Sized = model.sized
+model_kind Chunked = model.chunked
+
+-- the first line of a request
+abbrev pub request_line : model.Kind → ℕ → List ℕ
+request_line kind k = method_of kind ++ (codes " /" ++ (decimal k ++ codes " HTTP/1.1\r\n"))
