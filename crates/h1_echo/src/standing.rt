@@ -12,7 +12,8 @@ pub struct StandingClock {
 }
 
 impl Clock for StandingClock {
-    ghost use Rattle.std.specs.Prelude.{◌≡◌, min, nat_eq};
+    ghost use Rattle.std.specs.Prelude.{min, nat_eq};
+    ghost use Rattle.h1_echo.specs.declared.standing.TheConstants.{LAST_MOMENT};
 
     ghost last = { λ clock. min clock.moment LAST_MOMENT };
 
