@@ -4,9 +4,10 @@ ghost use Rattle.h1_connection.specs.Callers.{MayAnswer};
 ghost use Rattle.h1_echo.specs.declared.serve.ServeError.TheVariants as serve_error;
 
 use h1_connection::{
-    BodySize, Connection, End, NextHead, NoMemory, Pulled, ReadFromError, ResponseHead,
+    BodySize, Connection, End, Expiry, NextHead, NoMemory, Pulled, ReadFromError, ResponseHead,
     ServiceConfig, Sink, Source, StatusCode,
 };
+use http_wires::Clock;
 use std::alloc::Global;
 use thiserror::Error;
 
@@ -20,6 +21,10 @@ pub enum ServeError {
     /// A write failed.
     #[error("a write failed")]
     Write,
+
+    /// The client took too long to take what was left.
+    #[error("the client took too long to take what was left")]
+    Abandoned,
 
     /// The next request can't be asked for here: bytes are left that can't be written.
     #[error("the next request can't be asked for")]
@@ -43,14 +48,16 @@ impl From<NoMemory> for ServeError {
 }
 
 /// Serves a connection until it ends, and says why it did. Each request is answered with the body that it brought.
-pub fn serve<S: Source, K: Sink>(
+pub fn serve<S: Source, K: Sink, C: Clock>(
     alloc: Global,
     config: ServiceConfig,
     input: &mut S,
     output: &mut K,
+    clock: &mut C,
 ) -> Result<End, ServeError> {
     let mut connection = Connection::new(alloc, config);
     for _ in 0..u64::MAX {
+        tell_time(&mut connection, clock)?;
         write_out(&mut connection, output)?;
         if !connection.can_next() {
             return Err(ServeError::Misplaced);
@@ -68,6 +75,19 @@ pub fn serve<S: Source, K: Sink>(
         }
     }
     Err(ServeError::Endless)
+}
+
+// Tells the moment: it dates the answers, and ends a connection whose client is late.
+fn tell_time<C: Clock>(connection: &mut Connection, clock: &mut C) -> Result<(), ServeError> {
+    let moment = clock.now_ms();
+    if !connection.can_tick(moment) {
+        return Ok(());
+    }
+    match connection.tick(moment)? {
+        Expiry::Abandoned => Err(ServeError::Abandoned),
+        // Where it expired, the answer that says so is to be written, and then the connection has ended.
+        Expiry::None | Expiry::Expired(_) => Ok(()),
+    }
 }
 
 // Answers the open request with a body of which nobody knows yet how long it is.
