@@ -1,0 +1,5 @@
+pub mod Whole
+pub mod Steps
+pub mod Behind
+pub mod GivenBack
+pub mod AnswerTexts

@@ -1,0 +1,207 @@
+-- The steps of a message that is sent.
+use Rattle.std.proofs.Common.{◌≡◌, ◌≢◌, ◌≤◌, ◌⊎◌, ℕ, Bool, true, false, List, [], ◌∷◌, ◌++◌, length, inl, inr, refl, sym, ap, ◌∙◌, subst, append_assoc, append-nil, arith}
+use Rattle.std.specs.Prelude.{Option, Some, None, Result, Ok, Err}
+use Rattle.futures.specs.declared.task.Poll.{Poll}
+use Rattle.futures.specs.declared.task.Poll.TheVariants.{Ready, Pending}
+use Rattle.http_bodies.specs.Giving.{Given, chunk, fault, Giving, Piece, gave, FaultsBy, PieceSays}
+use Rattle.http_bodies.specs.Told.{Grows, Tells, led_by, Waits}
+use Rattle.http_bodies.proofs.Histories.{grown-none, led_by-none, rose_since, rose_still}
+use Rattle.http_bodies.specs.declared.body.fault.BodyFault.TheVariants as faults
+use Rattle.http_config.specs.Causes.{Rose}
+use Rattle.http_config.specs.declared.failed.Failed.{Failed}
+use Rattle.http_framing.specs.declared.body.size.BodySize.{BodySize}
+use Rattle.http_wires.specs.Wiring.{Wiring}
+use Rattle.http_wires.specs.Flushes.{Gave, Flushes, FlushAnswers, OnlyWrote}
+use Rattle.http_wires.proofs.SendOn.{wrote-refl}
+use Rattle.h1_framed.specs.declared.message.Message.{Message}
+use Rattle.h1_framed.specs.declared.message.Message.TheVariants.{Item, Chunk}
+use Rattle.h1_send.specs.View.{View}
+use Rattle.h1_send.specs.Sends.{AreWritten, heads, pieces, ends, EndsSo, Later, Sends}
+use Rattle.h1_send.specs.Turns.{WireWaits}
+use Rattle.h1_send.proofs.Whole.{later-refl, stays_ended, no_end, one_written}
+
+-- the count of a body's faults never falls, nor does that of its Pending answers
+faults_rise : (old new : ℕ) (answer : Piece) → FaultsBy old new answer → old ≤ new
+faults_rise old new (Ready (Some (Ok piece))) x = x
+faults_rise old new (Ready (Some (Err (faults.Body n)))) x = x.0
+faults_rise old new (Ready (Some (Err faults.NoMemory))) x = x
+faults_rise old new (Ready None) x = x
+faults_rise old new Pending x = x
+
+waits_rise : {A : Type 0} (old new : ℕ) (answer : Poll A) → Waits old new answer → old ≤ new
+waits_rise old new (Ready x) is = omega (arith, is)
+waits_rise old new Pending is = is.0
+
+module _ {U H : Type 0} (writes : U → Message (H × BodySize) → List ℕ → U → Type 0) (v w : View U H) where
+  later_by : w.wire ≡ v.wire → (answer : Piece) → PieceSays v.body w.body answer → Later v w
+  later_by wire answer says = record {
+    wire_faults = subst (λ (x : Wiring). v.wire.faults ≤ x.faults) (sym wire) (omega arith);
+    write_waits = subst (λ (x : Wiring). v.wire.write_waits ≤ x.write_waits) (sym wire) (omega arith);
+    flush_waits = subst (λ (x : Wiring). v.wire.flush_waits ≤ x.flush_waits) (sym wire) (omega arith);
+    body_faults = faults_rise v.body.faults w.body.faults answer says.faults;
+    body_waits = waits_rise v.body.waits w.body.waits answer says.waits;
+    takes_memory = says.takes_memory;
+  }
+
+  same_wire : w.wire ≡ v.wire → OnlyWrote v.wire w.wire
+  same_wire wire = subst (λ (x : Wiring). OnlyWrote v.wire x) (sym wire) (wrote-refl v.wire)
+
+  sent_none : w.wire ≡ v.wire → Grows v.wire.sent w.wire.sent []
+  sent_none wire = subst (λ (x : Wiring). Grows v.wire.sent x.sent []) (sym wire) (grown-none v.wire.sent)
+
+  -- the head is written
+  pub head_sent : (head : H × BodySize) (text : List ℕ) → v.head ≡ Some head → w.head ≡ None → w.wire ≡ v.wire → w.unread ≡ v.unread
+      → w.unsent ≡ v.unsent ++ text → writes v.codec (Item head) text w.codec → w.body ≡ v.body → w.is_ended ≡ v.is_ended → Sends writes v w
+  head_sent head text is begun wire unread unsent wrote body ended = record {
+    given = [];
+    text = text;
+    gave = [];
+    written = subst (λ (l : List (Message (H × BodySize))). AreWritten writes v.codec l text w.codec)
+        (sym (ap (λ (h : Option (H × BodySize)). heads h ++ ends v.is_ended w.is_ended) is
+        ∙ ap (λ (b : Bool). Item head ∷ ends v.is_ended b) ended ∙ ap (λ l. Item head ∷ l) (no_end v.is_ended)))
+        (one_written writes v.codec w.codec (Item head) text wrote);
+    buffered = sym unsent;
+    sent = sent_none wire;
+    coming = ap (λ (b : Giving). b.coming) (sym body) ∙ sym (led_by-none w.body.coming);
+    begun = begun;
+    ended = subst (λ (b : Bool). EndsSo v.is_ended b [] w.body.coming) (sym ended) (stays_ended v.is_ended w.body.coming);
+    unread = unread;
+    others = same_wire wire;
+    later = record {
+      wire_faults = subst (λ (x : Wiring). v.wire.faults ≤ x.faults) (sym wire) (omega arith);
+      write_waits = subst (λ (x : Wiring). v.wire.write_waits ≤ x.write_waits) (sym wire) (omega arith);
+      flush_waits = subst (λ (x : Wiring). v.wire.flush_waits ≤ x.flush_waits) (sym wire) (omega arith);
+      body_faults = subst (λ (x : Giving). v.body.faults ≤ x.faults) (sym body) (omega arith);
+      body_waits = subst (λ (x : Giving). v.body.waits ≤ x.waits) (sym body) (omega arith);
+      takes_memory = ap (λ (x : Giving). x.takes_memory) body;
+    };
+  }
+
+  -- an answer of the body after which nothing is written: none of its chunks has bytes
+  pub nothing_sent : (answer : Piece) → PieceSays v.body w.body answer → pieces {A = H × BodySize} (gave answer) ≡ [] → v.head ≡ None → w.head ≡ None
+      → v.is_ended ≡ false → w.is_ended ≡ false → w.wire ≡ v.wire → w.codec ≡ v.codec → w.unread ≡ v.unread → w.unsent ≡ v.unsent → Sends writes v w
+  nothing_sent answer says none is begun unended still wire codec unread unsent = record {
+    given = gave answer;
+    text = [];
+    gave = [];
+    written = subst (λ (l : List (Message (H × BodySize))). AreWritten writes v.codec l [] w.codec)
+        (sym (ap (λ (h : Option (H × BodySize)). heads h ++ (pieces (gave answer) ++ ends v.is_ended w.is_ended)) is
+        ∙ ap (λ (l : List (Message (H × BodySize))). l ++ ends v.is_ended w.is_ended) none
+        ∙ ap (λ (b : Bool). ends b w.is_ended) unended ∙ ap (λ (b : Bool). ends false b) still)) (refl, codec);
+    buffered = append-nil v.unsent ∙ sym unsent;
+    sent = sent_none wire;
+    coming = says.gives;
+    begun = begun;
+    ended = subst (λ (b : Bool). EndsSo b w.is_ended (gave answer) w.body.coming) (sym unended)
+        (subst (λ (b : Bool). EndsSo false b (gave answer) w.body.coming) (sym still) tt);
+    unread = unread;
+    others = same_wire wire;
+    later = later_by wire answer says;
+  }
+
+  -- a chunk that has bytes is written
+  pub chunk_sent : (bytes text : List ℕ) → ¬ (bytes ≡ []) → PieceSays v.body w.body (Ready (Some (Ok bytes))) → v.head ≡ None → w.head ≡ None
+      → v.is_ended ≡ false → w.is_ended ≡ false → w.wire ≡ v.wire → writes v.codec (Chunk (Some bytes)) text w.codec → w.unread ≡ v.unread
+      → w.unsent ≡ v.unsent ++ text → Sends writes v w
+  chunk_sent [] text some says is begun unended still wire wrote unread unsent = absurd (some refl)
+  chunk_sent (b ∷ bytes) text some says is begun unended still wire wrote unread unsent = record {
+    given = chunk (b ∷ bytes) ∷ [];
+    text = text;
+    gave = [];
+    written = subst (λ (l : List (Message (H × BodySize))). AreWritten writes v.codec l text w.codec)
+        (sym (ap (λ (h : Option (H × BodySize)). heads h ++ (Chunk (Some (b ∷ bytes)) ∷ ends v.is_ended w.is_ended)) is
+        ∙ ap (λ (x : Bool). Chunk (Some (b ∷ bytes)) ∷ ends x w.is_ended) unended ∙ ap (λ (x : Bool). Chunk (Some (b ∷ bytes)) ∷ ends false x) still))
+        (one_written writes v.codec w.codec (Chunk (Some (b ∷ bytes))) text wrote);
+    buffered = sym unsent;
+    sent = sent_none wire;
+    coming = says.gives;
+    begun = begun;
+    ended = subst (λ (x : Bool). EndsSo x w.is_ended (chunk (b ∷ bytes) ∷ []) w.body.coming) (sym unended)
+        (subst (λ (x : Bool). EndsSo false x (chunk (b ∷ bytes) ∷ []) w.body.coming) (sym still) tt);
+    unread = unread;
+    others = same_wire wire;
+    later = later_by wire (Ready (Some (Ok (b ∷ bytes)))) says;
+  }
+
+  -- the body failed
+  pub fault_sent : (n : ℕ) → PieceSays v.body w.body (Ready (Some (Err (faults.Body n)))) → v.head ≡ None → w.head ≡ None
+      → v.is_ended ≡ false → w.is_ended ≡ false → w.wire ≡ v.wire → w.codec ≡ v.codec → w.unread ≡ v.unread → w.unsent ≡ v.unsent
+      → (sends : Sends writes v w) × (front : List Given) × (sends.given ≡ front ++ (fault n ∷ [])) × Rose v.body.faults w.body.faults
+  unfolding nothing_sent
+  fault_sent n says is begun unended still wire codec unread unsent =
+      (nothing_sent (Ready (Some (Err (faults.Body n)))) says refl is begun unended still wire codec unread unsent, [], refl, says.faults.1)
+
+  told_after : (old new : Option (List Given)) → old ≡ led_by [] new → Tells old [] → Tells new []
+  told_after old None leads tells = tt
+  told_after old (Some known) leads tells = subst (λ o. Tells o []) leads tells
+
+  -- the end is written
+  pub end_sent : (text : List ℕ) → PieceSays v.body w.body (Ready None) → v.head ≡ None → w.head ≡ None
+      → v.is_ended ≡ false → w.is_ended ≡ true → w.wire ≡ v.wire → writes v.codec (Chunk None) text w.codec → w.unread ≡ v.unread
+      → w.unsent ≡ v.unsent ++ text → Sends writes v w
+  end_sent text says is begun unended over wire wrote unread unsent = record {
+    given = [];
+    text = text;
+    gave = [];
+    written = subst (λ (l : List (Message (H × BodySize))). AreWritten writes v.codec l text w.codec)
+        (sym (ap (λ (h : Option (H × BodySize)). heads h ++ ends v.is_ended w.is_ended) is
+        ∙ ap (λ (x : Bool). ends x w.is_ended) unended ∙ ap (λ (x : Bool). ends false x) over))
+        (one_written writes v.codec w.codec (Chunk None) text wrote);
+    buffered = sym unsent;
+    sent = sent_none wire;
+    coming = says.gives;
+    begun = begun;
+    ended = subst (λ (x : Bool). EndsSo x w.is_ended [] w.body.coming) (sym unended)
+        (subst (λ (x : Bool). EndsSo false x [] w.body.coming) (sym over) (told_after v.body.coming w.body.coming says.gives says.ends));
+    unread = unread;
+    others = same_wire wire;
+    later = later_by wire (Ready None) says;
+  }
+
+  -- the wire takes some of what is buffered
+  pub flush_sent : {E : Type 0} (woken : Bool) (took : List ℕ) (answer : Poll (Result Unit E)) → Gave v.wire w.wire woken v.unsent took w.unsent answer
+      → v.head ≡ None → w.head ≡ v.head → w.is_ended ≡ v.is_ended → w.codec ≡ v.codec → w.unread ≡ v.unread → w.body ≡ v.body → Sends writes v w
+  flush_sent woken took answer says is begun ended codec unread body = record {
+    given = [];
+    text = [];
+    gave = took;
+    written = subst (λ (l : List (Message (H × BodySize))). AreWritten writes v.codec l [] w.codec)
+        (sym (ap (λ (h : Option (H × BodySize)). heads h ++ ends v.is_ended w.is_ended) is
+        ∙ ap (λ (x : Bool). ends v.is_ended x) ended ∙ no_end v.is_ended)) (refl, codec);
+    buffered = append-nil v.unsent ∙ says.front;
+    sent = says.sent;
+    coming = ap (λ (b : Giving). b.coming) (sym body) ∙ sym (led_by-none w.body.coming);
+    begun = begun ∙ is;
+    ended = subst (λ (b : Bool). EndsSo v.is_ended b [] w.body.coming) (sym ended) (stays_ended v.is_ended w.body.coming);
+    unread = unread;
+    others = says.others;
+    later = record {
+      wire_faults = says.faults;
+      write_waits = says.writes;
+      flush_waits = says.flushes;
+      body_faults = subst (λ (x : Giving). v.body.faults ≤ x.faults) (sym body) (omega arith);
+      body_waits = subst (λ (x : Giving). v.body.waits ≤ x.waits) (sym body) (omega arith);
+      takes_memory = ap (λ (x : Giving). x.takes_memory) body;
+    };
+  }
+
+wire_waits : (old new : Wiring) (woken : Bool) (took left : List ℕ) → FlushAnswers {E = Failed} old new woken took left Pending
+    → WireWaits old new woken
+wire_waits old new woken took left (inl waits) = inl waits
+wire_waits old new woken took left (inr spent) = inr spent.1
+
+module _ {U H : Type 0} (writes : U → Message (H × BodySize) → List ℕ → U → Type 0) (v w : View U H) (woken : Bool) where
+  pub flush_waits : Flushes {E = Failed} v.wire w.wire woken v.unsent w.unsent Pending → v.head ≡ None → w.head ≡ v.head → w.is_ended ≡ v.is_ended
+      → w.codec ≡ v.codec → w.unread ≡ v.unread → w.body ≡ v.body → Sends writes v w × WireWaits v.wire w.wire woken
+  flush_waits (took, says) is begun ended codec unread body =
+      (flush_sent writes v w woken took Pending says is begun ended codec unread body, wire_waits v.wire w.wire woken took w.unsent says.answers)
+
+  pub flush_done : (x : Unit) → Flushes {E = Failed} v.wire w.wire woken v.unsent w.unsent (Ready (Ok x)) → v.head ≡ None → w.head ≡ v.head → w.is_ended ≡ v.is_ended
+      → w.codec ≡ v.codec → w.unread ≡ v.unread → w.body ≡ v.body → Sends writes v w × (w.unsent ≡ [])
+  flush_done x (took, says) is begun ended codec unread body =
+      (flush_sent writes v w woken took (Ready (Ok x)) says is begun ended codec unread body, says.answers)
+
+  pub flush_failed : (e : Failed) → Flushes v.wire w.wire woken v.unsent w.unsent (Ready (Err e)) → v.head ≡ None → w.head ≡ v.head → w.is_ended ≡ v.is_ended
+      → w.codec ≡ v.codec → w.unread ≡ v.unread → w.body ≡ v.body → Sends writes v w × Rose v.wire.faults w.wire.faults
+  flush_failed e (took, says) is begun ended codec unread body =
+      (flush_sent writes v w woken took (Ready (Err e)) says is begun ended codec unread body, says.answers)

@@ -1,0 +1,4 @@
+pub mod View
+pub mod Sends
+pub mod Turns
+pub mod Messages
