@@ -1,0 +1,9 @@
+use Rattle.std.proofs.Common.{ap, ◌∙◌}
+use Rattle.h1_client_machine.specs.ClientEvent as on
+use Rattle.h1_client_machine.specs.ClientKept.{client_allows}
+use Rattle.h1_client.specs.Meaning.{setting_of}
+use Rattle.h1_client.specs.State.{State}
+use Rattle.h1_client.proofs.connection.ClientConnection.can_write.Goals as goal
+
+pub returns : goal.returns
+returns c = λ limit. c.can_write.ensures (setting_of c.self.inside.config) limit ∙ ap (λ (s : State). client_allows (setting_of s.settings) s.kept (on.write limit)) c.self.view_is
