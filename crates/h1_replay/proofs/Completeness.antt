@@ -1,14 +1,15 @@
 -- Which status comes of a script where no end fails.
-use Rattle.std.proofs.Common.{◌≡◌, ◌<◌, ◌≤◌, ◌⊎◌, inl, inr, ℕ, List, [], ◌∷◌, ◌++◌, length, Option, None, Some, Result, Ok, Err, sym, ap, ◌∙◌, subst, append-nil, arith, codes}
+use Rattle.std.proofs.Common.{◌≡◌, ◌<◌, ◌⊎◌, inl, inr, ℕ, List, ◌++◌, length, Option, None, Some, Result, Ok, Err, sym, ap, ◌∙◌, subst, append-nil, arith, codes}
 use Rattle.std.specs.Prelude.{IfSome}
 use Rattle.std.specs.Io.KnownBytes.{Appends, Consumes, IsAtEnd}
 use Rattle.http_config.specs.Config.{Settings}
-use Rattle.h1_connection.specs.Run.{IsWhole, IsMisplaced, AreAllowed, IsFirstRefused}
+use Rattle.h1_connection.specs.Run.{IsMisplaced, AreAllowed, IsFirstRefused}
 use Rattle.h1_connection.proofs.LawLemmas.{none_refused, first_refused, not_whole}
 use Rattle.h1_connection.specs.declared.event.Event.{Event}
-use Rattle.h1_connection.specs.declared.trace.Trace.{Trace}
 use Rattle.h1_replay.specs.Script.{script_of}
-use Rattle.h1_replay.specs.Run.{MAX_INPUT, IsReplay, IsDone, IsBadLine, IsStopped, IsStoppedText, ReadsWhole, IsAnswer, done, usage, bad_line, misplaced, read_fault, too_long, no_memory, IsScript, IsGood, IsRefused, IsRefusal, IsRefusedWith}
+use Rattle.h1_replay.proofs.Reading.{whole_consumed, past_long}
+use Rattle.h1_replay.specs.Input.{MAX_INPUT, Told, ReadsWhole}
+use Rattle.h1_replay.specs.Run.{IsReplay, IsStopped, IsStoppedText, IsAnswer, done, usage, bad_line, misplaced, read_fault, too_long, no_memory, IsScript, IsGood, IsRefused, IsRefusal, IsRefusedWith}
 
 -- what a script says
 abbrev Said : Type 0
@@ -20,11 +21,11 @@ read_bytes : (then : Option (List ℕ)) (known bytes : List ℕ) → Consumes (S
 read_bytes None known bytes read at_end = absurd read
 read_bytes (Some rest) known bytes read at_end = read ∙ ap (λ r. bytes ++ r) at_end ∙ append-nil bytes
 
-script_read : (left then : Option (List ℕ)) (bytes : List ℕ) (config : Settings) (events : List Event) → ReadsWhole left then bytes → IsScript left config events
+script_read : (before now : Told) (bytes : List ℕ) (config : Settings) (events : List Event) → ReadsWhole before now bytes → IsScript before.left config events
     → script_of bytes ≡ Ok (config, events)
-script_read left then bytes config events whole x =
-    let read = subst (λ (l : Option (List ℕ)). Consumes l then bytes) x.known whole.read in
-    ap script_of (sym (read_bytes then x.bytes bytes read whole.at_end)) ∙ x.script
+script_read before now bytes config events whole x =
+    let read = subst (λ (l : Option (List ℕ)). Consumes l now.left bytes) x.known (whole_consumed before now bytes whole) in
+    ap script_of (sym (read_bytes now.left x.bytes bytes read whole.at_end)) ∙ x.script
 
 -- so it says what they say
 said : Said → Result Said ℕ → Said
@@ -46,47 +47,47 @@ not_long left config events x long =
 
 -- ---- each event is allowed
 
-pub good_status : (words : List (List ℕ)) (left then : Option (List ℕ)) (status : ℕ) (text : List ℕ) → IsAnswer words left then status text → IsReplay words
-    → IsGood left → (status ≡ 4 → ⊥) → (status ≡ 0) ⊎ (status ≡ 7)
-good_status words left then status text (done bytes _ read is zero) command good no_fault = inl zero
-good_status words left then status text (usage other keeps _ one) command good no_fault = absurd (other command)
-good_status words left then status text (bad_line bytes _ read is two) command good no_fault =
-    absurd (not_bad (good.config, good.events) is.number (script_of bytes) (script_read left then bytes good.config good.events read good.script) is.script)
-good_status words left then status text (misplaced bytes _ read is three) command good no_fault =
-    let same = same_said (good.config, good.events) (is.config, is.events) (script_of bytes) (script_read left then bytes good.config good.events read good.script) is.script in
+pub good_status : (words : List (List ℕ)) (before now : Told) (status : ℕ) (text : List ℕ) → IsAnswer words before now status text → IsReplay words
+    → IsGood before.left → (status ≡ 4 → ⊥) → (status ≡ 0) ⊎ (status ≡ 7)
+good_status words before now status text (done bytes _ read is zero) command good no_fault = inl zero
+good_status words before now status text (usage other unread _ one) command good no_fault = absurd (other command)
+good_status words before now status text (bad_line bytes _ read is two) command good no_fault =
+    absurd (not_bad (good.config, good.events) is.number (script_of bytes) (script_read before now bytes good.config good.events read good.script) is.script)
+good_status words before now status text (misplaced bytes _ read is three) command good no_fault =
+    let same = same_said (good.config, good.events) (is.config, is.events) (script_of bytes) (script_read before now bytes good.config good.events read good.script) is.script in
     absurd (none_refused is.config is.events is.index is.trace is.stops (subst (λ (s : Said). AreAllowed s.0 s.1) same good.allowed))
-good_status words left then status text (read_fault _ _ four) command good no_fault = absurd (no_fault four)
-good_status words left then status text (too_long _ long _ six) command good no_fault = absurd (not_long left good.config good.events good.script long)
-good_status words left then status text (no_memory _ _ seven) command good no_fault = inr seven
+good_status words before now status text (read_fault _ some _ four) command good no_fault = absurd (no_fault four)
+good_status words before now status text (too_long _ long _ six) command good no_fault = absurd (not_long before.left good.config good.events good.script (past_long before now long))
+good_status words before now status text (no_memory _ some _ seven) command good no_fault = inr seven
 
 -- ---- one isn't
 
-refusal_of : (left then : Option (List ℕ)) (bytes text : List ℕ) (index : ℕ) → ReadsWhole left then bytes → IsStopped IsMisplaced (codes "misplaced ") bytes text
-    → IsRefused left index → IsRefusal left index text
-refusal_of left then bytes text index read is refused =
-    let same = same_said (refused.config, refused.events) (is.config, is.events) (script_of bytes) (script_read left then bytes refused.config refused.events read refused.script) is.script in
+refusal_of : (before now : Told) (bytes text : List ℕ) (index : ℕ) → ReadsWhole before now bytes → IsStopped IsMisplaced (codes "misplaced ") bytes text
+    → IsRefused before.left index → IsRefusal before.left index text
+refusal_of before now bytes text index read is refused =
+    let same = same_said (refused.config, refused.events) (is.config, is.events) (script_of bytes) (script_read before now bytes refused.config refused.events read refused.script) is.script in
     let first = subst (λ (s : Said). IsFirstRefused s.0 s.1 index) same refused.first in
     let at : is.index ≡ index = first_refused is.config is.events is.index index is.trace is.stops first in
     record {
       config = is.config;
       events = is.events;
       trace = is.trace;
-      script = subst (λ (s : Said). IsScript left s.0 s.1) same refused.script;
+      script = subst (λ (s : Said). IsScript before.left s.0 s.1) same refused.script;
       stops = subst (λ (i : ℕ). IsMisplaced is.config is.events i is.trace) at is.stops;
       is_text = subst (λ (i : ℕ). IsStoppedText is.trace (codes "misplaced ") i text) at is.is_text;
     }
 
-pub refused_status : (words : List (List ℕ)) (left then given given_then : Option (List ℕ)) (status index : ℕ) (text : List ℕ) → IsAnswer words left then status text
-    → Appends given given_then text → IsReplay words → IsRefused left index → (status ≡ 4 → ⊥) → IsRefusedWith left index given given_then status
-refused_status words left then given given_then status index text (done bytes _ read is zero) grew command refused no_fault =
-    let same = same_said (refused.config, refused.events) (is.config, is.events) (script_of bytes) (script_read left then bytes refused.config refused.events read refused.script) is.script in
+pub refused_status : (words : List (List ℕ)) (before now : Told) (given given_then : Option (List ℕ)) (status index : ℕ) (text : List ℕ) → IsAnswer words before now status text
+    → Appends given given_then text → IsReplay words → IsRefused before.left index → (status ≡ 4 → ⊥) → IsRefusedWith before.left index given given_then status
+refused_status words before now given given_then status index text (done bytes _ read is zero) grew command refused no_fault =
+    let same = same_said (refused.config, refused.events) (is.config, is.events) (script_of bytes) (script_read before now bytes refused.config refused.events read refused.script) is.script in
     absurd (not_whole is.config is.events index is.trace is.whole (subst (λ (s : Said). IsFirstRefused s.0 s.1 index) same refused.first))
-refused_status words left then given given_then status index text (usage other keeps _ one) grew command refused no_fault = absurd (other command)
-refused_status words left then given given_then status index text (bad_line bytes _ read is two) grew command refused no_fault =
-    absurd (not_bad (refused.config, refused.events) is.number (script_of bytes) (script_read left then bytes refused.config refused.events read refused.script) is.script)
-refused_status words left then given given_then status index text (misplaced bytes _ read is three) grew command refused no_fault =
-    inl (three, (text, refusal_of left then bytes text index read is refused, grew))
-refused_status words left then given given_then status index text (read_fault _ _ four) grew command refused no_fault = absurd (no_fault four)
-refused_status words left then given given_then status index text (too_long _ long _ six) grew command refused no_fault =
-    absurd (not_long left refused.config refused.events refused.script long)
-refused_status words left then given given_then status index text (no_memory _ _ seven) grew command refused no_fault = inr seven
+refused_status words before now given given_then status index text (usage other unread _ one) grew command refused no_fault = absurd (other command)
+refused_status words before now given given_then status index text (bad_line bytes _ read is two) grew command refused no_fault =
+    absurd (not_bad (refused.config, refused.events) is.number (script_of bytes) (script_read before now bytes refused.config refused.events read refused.script) is.script)
+refused_status words before now given given_then status index text (misplaced bytes _ read is three) grew command refused no_fault =
+    inl (three, (text, refusal_of before now bytes text index read is refused, grew))
+refused_status words before now given given_then status index text (read_fault _ some _ four) grew command refused no_fault = absurd (no_fault four)
+refused_status words before now given given_then status index text (too_long _ long _ six) grew command refused no_fault =
+    absurd (not_long before.left refused.config refused.events refused.script (past_long before now long))
+refused_status words before now given given_then status index text (no_memory _ some _ seven) grew command refused no_fault = inr seven

@@ -3,6 +3,7 @@ pub mod Completeness
 pub mod Cuts
 pub mod Digits
 pub mod EventLines
+pub mod Reading
 pub mod ReportLines
 pub mod Writing
 pub mod Words

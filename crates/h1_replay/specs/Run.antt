@@ -1,17 +1,14 @@
 -- What the program answers: a status, and the text that goes to its output.
-use Rattle.std.specs.Prelude.{ℕ, ◌≡◌, ◌++◌, ◌<◌, ◌≤◌, ◌⊎◌, List, [], ◌∷◌, Option, Some, IfSome, Ok, Err, length, codes, decimal}
-use Rattle.std.specs.Io.KnownBytes.{Appends, Consumes, Keeps, IsAtEnd}
+use Rattle.std.specs.Prelude.{ℕ, ◌≡◌, ◌++◌, ◌≤◌, ◌⊎◌, List, [], ◌∷◌, Option, Some, Ok, Err, length, codes, decimal}
+use Rattle.std.specs.Io.KnownBytes.{Appends}
 use Rattle.http_config.specs.Causes.{Rose}
 use Rattle.http_config.specs.Config.{Settings}
 use Rattle.h1_connection.specs.Run.{IsWhole, IsMisplaced, AreAllowed, IsFirstRefused}
 use Rattle.h1_connection.specs.declared.event.Event.{Event}
 use Rattle.h1_connection.specs.declared.trace.Trace.{Trace}
+use Rattle.h1_replay.specs.Input.{MAX_INPUT, Told, ReadsWhole, ReadsPast, ReadsToFault, ReadsUnfinished}
 use Rattle.h1_replay.specs.Report.{IsReport}
 use Rattle.h1_replay.specs.Script.{script_of}
-
--- the most bytes of an input
-abbrev pub MAX_INPUT : ℕ
-MAX_INPUT = 16777216
 
 -- the one command that there is
 abbrev pub IsReplay : List (List ℕ) → Type 0
@@ -69,22 +66,16 @@ pub record IsStopped (stop : Settings → List Event → ℕ → Trace → Type 
 
 -- ---- what the words and the input give
 
--- the input was read to its end: these are its bytes, no more than are read
-pub record ReadsWhole (left then : Option (List ℕ)) (bytes : List ℕ) : Type 0 where
-  pub read : Consumes left then bytes
-  pub within : length bytes ≤ MAX_INPUT
-  pub at_end : IsAtEnd then
-
--- Each status says what it says. Want of memory may come at any time. The input's known bytes go from `left` to `then`.
-pub data IsAnswer (words : List (List ℕ)) (left then : Option (List ℕ)) (status : ℕ) (text : List ℕ) : Type 0 where
-  done : (bytes : List ℕ) → IsReplay words → ReadsWhole left then bytes → IsDone bytes text → status ≡ 0 → IsAnswer words left then status text
-  usage : ¬ IsReplay words → Keeps left then → text ≡ usage_text → status ≡ 1 → IsAnswer words left then status text
-  bad_line : (bytes : List ℕ) → IsReplay words → ReadsWhole left then bytes → IsBadLine bytes text → status ≡ 2 → IsAnswer words left then status text
-  misplaced : (bytes : List ℕ) → IsReplay words → ReadsWhole left then bytes → IsStopped IsMisplaced (codes "misplaced ") bytes text → status ≡ 3
-      → IsAnswer words left then status text
-  read_fault : IsReplay words → text ≡ read_fault_text → status ≡ 4 → IsAnswer words left then status text
-  too_long : IsReplay words → IfSome left (λ bytes. MAX_INPUT < length bytes) → text ≡ too_long_text → status ≡ 6 → IsAnswer words left then status text
-  no_memory : IsReplay words → text ≡ no_memory_text → status ≡ 7 → IsAnswer words left then status text
+-- Each status says what it says, and how far the source was read, which told `before` and then `now`. Memory may run out at any time.
+pub data IsAnswer (words : List (List ℕ)) (before now : Told) (status : ℕ) (text : List ℕ) : Type 0 where
+  done : (bytes : List ℕ) → IsReplay words → ReadsWhole before now bytes → IsDone bytes text → status ≡ 0 → IsAnswer words before now status text
+  usage : ¬ IsReplay words → now ≡ before → text ≡ usage_text → status ≡ 1 → IsAnswer words before now status text
+  bad_line : (bytes : List ℕ) → IsReplay words → ReadsWhole before now bytes → IsBadLine bytes text → status ≡ 2 → IsAnswer words before now status text
+  misplaced : (bytes : List ℕ) → IsReplay words → ReadsWhole before now bytes → IsStopped IsMisplaced (codes "misplaced ") bytes text → status ≡ 3
+      → IsAnswer words before now status text
+  read_fault : IsReplay words → ReadsToFault before now → text ≡ read_fault_text → status ≡ 4 → IsAnswer words before now status text
+  too_long : IsReplay words → ReadsPast before now → text ≡ too_long_text → status ≡ 6 → IsAnswer words before now status text
+  no_memory : IsReplay words → ReadsUnfinished before now → text ≡ no_memory_text → status ≡ 7 → IsAnswer words before now status text
 
 -- ---- which status comes where no end fails
 

@@ -1,8 +1,7 @@
 //! The whole input of the program, read into memory.
-ghost use Rattle.std.specs.Prelude.{◌≡◌, ◌<◌, ◌≤◌, length, vec_len, IfOk, IfSome, IsErrOf};
-ghost use Rattle.std.specs.Io.KnownBytes.{Consumes, IsAtEnd};
-ghost use Rattle.http_config.specs.Causes.{Rose};
-ghost use Rattle.h1_replay.specs.Input.{ReadsInto};
+ghost use Rattle.std.specs.Prelude.{◌≡◌, ◌<◌, ◌≤◌, ◌++◌, ℕ, List, length, vec_len, IfOk, IsErrOf};
+ghost use Rattle.std.specs.Io.KnownBytes.{IsAtEnd};
+ghost use Rattle.h1_replay.specs.Input.{Gives, Fails, ReadsWhole, ReadsPast, ReadsToFault, ReadsSome, told};
 
 use http_types::Source;
 use std::alloc::{AllocError, Global};
@@ -28,14 +27,13 @@ pub enum InputError {
     NoMemory,
 }
 
-/// Reads `input` to its end. It asks for one byte past the limit at most.
+/// Reads `input` to its end, to the byte past the limit, or to the first read that fails, whichever comes first. It
+/// asks for no more after that.
 pub fn read_input<S: Source>(alloc: Global, input: &mut S) -> Result<Vec<u8>, InputError>
-    ensures whole { IfOk result (λ text. Consumes (S.left input.old) (S.left input.new) text.items) }
-    ensures at_end { IfOk result (λ text. IsAtEnd (S.left input.new)) }
-    ensures within { IfOk result (λ text. length text.items ≤ MAX_INPUT) }
-    ensures too_long { IsErrOf result InputError.TooLong → IfSome (S.left input.old) (λ bytes. MAX_INPUT < length bytes) }
-    ensures fault { IsErrOf result InputError.Fault → Rose (S.faults input.old) (S.faults input.new) }
-    ensures faults { S.faults input.old ≤ S.faults input.new }
+    ensures whole { IfOk result (λ text. ReadsWhole (told (S.left input.old) (S.faults input.old) (S.calls input.old)) (told (S.left input.new) (S.faults input.new) (S.calls input.new)) text.items) }
+    ensures too_long { IsErrOf result InputError.TooLong → ReadsPast (told (S.left input.old) (S.faults input.old) (S.calls input.old)) (told (S.left input.new) (S.faults input.new) (S.calls input.new)) }
+    ensures fault { IsErrOf result InputError.Fault → ReadsToFault (told (S.left input.old) (S.faults input.old) (S.calls input.old)) (told (S.left input.new) (S.faults input.new) (S.calls input.new)) }
+    ensures no_memory { IsErrOf result InputError.NoMemory → ReadsSome (told (S.left input.old) (S.faults input.old) (S.calls input.old)) (told (S.left input.new) (S.faults input.new) (S.calls input.new)) }
 {
     let mut text = Vec::new(alloc);
     let mut chunk = zeroes(alloc, CHUNK).map_err(|_| InputError::NoMemory)?;
@@ -54,17 +52,22 @@ fn read_some<S: Source>(
     chunk: &mut [u8],
     text: &mut Vec<u8>,
 ) -> Result<usize, InputError>
-    ensures read { IfOk result (ReadsInto (S.left input.old) (S.left input.new) text.old.items text.new.items) }
+    ensures read { IfOk result (λ count. (piece : List ℕ) × (text.new.items ≡ text.old.items ++ piece) × (length piece ≡ count)
+        × Gives (told (S.left input.old) (S.faults input.old) (S.calls input.old)) (told (S.left input.new) (S.faults input.new) (S.calls input.new)) piece) }
     ensures within { IfOk result (λ count. count ≤ length chunk.old) }
     ensures at_end { IfOk result (λ count. count ≡ 0 → 0 < length chunk.old → IsAtEnd (S.left input.new)) }
     ensures not_too_long { ¬ IsErrOf result InputError.TooLong }
-    ensures fault { IsErrOf result InputError.Fault → Rose (S.faults input.old) (S.faults input.new) }
-    ensures faults { S.faults input.old ≤ S.faults input.new }
+    ensures fault { IsErrOf result InputError.Fault → Fails (told (S.left input.old) (S.faults input.old) (S.calls input.old)) (told (S.left input.new) (S.faults input.new) (S.calls input.new)) }
+    ensures no_memory { IsErrOf result InputError.NoMemory → (piece : List ℕ) × (0 < length piece) × (length piece ≤ length chunk.old)
+        × Gives (told (S.left input.old) (S.faults input.old) (S.calls input.old)) (told (S.left input.new) (S.faults input.new) (S.calls input.new)) piece }
 {
     let count = match input.read(chunk) {
         Ok(count) => count,
         Err(_) => return Err(InputError::Fault),
     };
+    if count == 0 {
+        return Ok(0);
+    }
     match text.extend_from_slice(&chunk[..count]) {
         Ok(()) => Ok(count),
         Err(_) => Err(InputError::NoMemory),

@@ -1,8 +1,9 @@
 //! The program over any source and sink.
 ghost use Rattle.std.specs.Prelude.{◌≡◌, ◌≢◌, ◌≤◌, ◌↔◌, ◌⊎◌, ℕ, List, IsTrue, map, string_bytes};
 ghost use Rattle.std.specs.Io.KnownBytes.{Appends};
-ghost use Rattle.http_config.specs.Causes.{Rose};
-ghost use Rattle.h1_replay.specs.Output.{AppendsPrefix};
+ghost use Rattle.http_config.specs.Causes.{Rose, counted};
+ghost use Rattle.h1_replay.specs.Input.{told};
+ghost use Rattle.h1_replay.specs.Output.{AppendsPart};
 ghost use Rattle.h1_replay.specs.Reply.{status_of_reply, text_of_reply};
 ghost use Rattle.h1_replay.specs.Run.{IsReplay, IsAnswer, IsGood, IsRefused, NoEndFailed, IsRefusedWith};
 
@@ -15,20 +16,26 @@ use std::alloc::Global;
 /// Answers the program's words: reads `input` to its end as a script and writes its report. The
 /// answer is the exit status: 0 for a report, 1 for wrong words, 2 for a bad line, 3 for a misplaced
 /// event, 4 for a failed read, 5 for a failed write, 6 for more than 16777216 bytes of input, 7 where
-/// memory ran out. Nothing is written before the whole text is made.
+/// memory ran out. Nothing is written before the whole text is made. A read that fails is the last one,
+/// and so is the one that gives the byte past the limit.
 pub fn run<S: Source, K: Sink>(alloc: Global, words: &[String], input: &mut S, output: &mut K) -> u8
     ensures known { result ≤ 7 }
 
-    // With each status but 5 the output grew by that status's text.
-    ensures answered { result ≢ 5 → ((text : List ℕ) × IsAnswer (map (λ w. string_bytes w) words.now) (S.left input.old) (S.left input.new) result text
+    // With each status but 5 the output grew by that status's text, which also says how far the input was read.
+    ensures answered { result ≢ 5 → ((text : List ℕ)
+        × IsAnswer (map (λ w. string_bytes w) words.now) (told (S.left input.old) (S.faults input.old) (S.calls input.old))
+        (told (S.left input.new) (S.faults input.new) (S.calls input.new)) result text
         × Appends (K.given output.old) (K.given output.new) text) }
 
-    // With 5 it grew by a front part of the text of another.
-    ensures cut { result ≡ 5 → ((status : ℕ) × (text : List ℕ) × IsAnswer (map (λ w. string_bytes w) words.now) (S.left input.old) (S.left input.new) status text
-        × AppendsPrefix (K.given output.old) (K.given output.new) text) }
+    // With 5 it grew by a front part of the text of another one, and not by the whole of it.
+    ensures cut { result ≡ 5 → ((status : ℕ) × (text : List ℕ)
+        × IsAnswer (map (λ w. string_bytes w) words.now) (told (S.left input.old) (S.faults input.old) (S.calls input.old))
+        (told (S.left input.new) (S.faults input.new) (S.calls input.new)) status text
+        × AppendsPart (K.given output.old) (K.given output.new) text) }
 
-    // Faults are named only where there were any.
-    ensures read_fault { result ≡ 4 → Rose (S.faults input.old) (S.faults input.new) }
+    // With 4 one read failed, and with each other status but 5 none.
+    ensures read_fault { result ≡ 4 → S.faults input.new ≡ counted (S.faults input.old) }
+    ensures no_read_fault { result ≢ 4 → result ≢ 5 → S.faults input.new ≡ S.faults input.old }
     ensures write_fault { result ≡ 5 → Rose (K.faults output.old) (K.faults output.new) }
 
     // Where no end fails, a script whose every event is allowed gets 0, and another one 3 with the place of the first
@@ -48,8 +55,8 @@ pub fn run<S: Source, K: Sink>(alloc: Global, words: &[String], input: &mut S, o
 }
 
 fn reply_to<S: Source>(alloc: Global, words: &[String], input: &mut S) -> Reply
-    ensures answer { IsAnswer (map (λ w. string_bytes w) words.now) (S.left input.old) (S.left input.new) (status_of_reply result) (text_of_reply result) }
-    ensures read_fault { status_of_reply result ≡ 4 → Rose (S.faults input.old) (S.faults input.new) }
+    ensures { IsAnswer (map (λ w. string_bytes w) words.now) (told (S.left input.old) (S.faults input.old) (S.calls input.old))
+        (told (S.left input.new) (S.faults input.new) (S.calls input.new)) (status_of_reply result) (text_of_reply result) }
 {
     if !is_replay(words) {
         return Reply::Usage;
