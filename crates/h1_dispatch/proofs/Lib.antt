@@ -4,3 +4,5 @@ pub mod Moves
 pub mod Begins
 pub mod Traces
 pub mod Orders
+pub mod Acts
+pub mod Open

@@ -1,5 +1,5 @@
 -- Single steps, by what the calls of a turn ensure.
-use Rattle.std.proofs.Common.{◌≡◌, ◌<◌, ◌≤◌, ℕ, true, false, Some, None, is_some, List, length, take, Result, Ok, ap, ◌∙◌}
+use Rattle.std.proofs.Common.{◌≡◌, ◌<◌, ◌≤◌, ℕ, true, false, Some, None, List, length, take, Result, Ok, ap, ◌∙◌}
 use Rattle.futures.specs.declared.task.Poll.{Poll}
 use Rattle.futures.specs.declared.task.Poll.TheVariants.{Ready}
 use Rattle.http_config.specs.declared.Failed.{Failed}
@@ -14,9 +14,9 @@ use Rattle.h1_connection.specs.Heads.{SaysNext}
 use Rattle.h1_connection.specs.declared.connection.heads.NextHead.{NextHead}
 use Rattle.h1_line.specs.Line.{LineSteps, LineFails}
 use Rattle.h1_dispatch.specs.declared.dispatcher.Ending.TheVariants.{Broken}
-use Rattle.h1_dispatch.specs.View.{View, Answer, allows, allows_next, allows_answer, any_answer, room}
-use Rattle.h1_dispatch.specs.Steps.{IsStep, Took, IsOfRead, request_at, ending_told, still_called, reply_of, read, next, answered, failed_read}
-use Rattle.h1_dispatch.proofs.Turns.{none_of}
+use Rattle.h1_dispatch.specs.View.{View, Answer, is_busy, is_calling, allows, allows_next, allows_answer, any_answer, room}
+use Rattle.h1_dispatch.specs.Steps.{IsStep, Took, IsOfRead, request_at, stage_at, ending_told, stage_answered, read, next, answered, failed_read}
+use Rattle.h1_dispatch.proofs.Turns.{now_free, now_calling}
 
 -- whether an answer is allowed doesn't depend on it
 pub any_allowed : (set : Setting) (k : Kept) (head : AnswerHead) (size : BodySize) → allowed_by set k any_answer ≡ true → allowed_by set k (on.answer head size) ≡ true
@@ -33,27 +33,19 @@ pub read_fails : (v w : View) (came buf : List ℕ) (count : ℕ) (event : on.Ev
     → w ≡ record v { line = w.line; wire = w.wire; ending = Some Broken } → IsStep v (failed_read came event) w
 read_fails v w came buf count event running may some fits moves says is fails same = (running, may, (buf, count, some, fits, moves, says, is), fails, same)
 
-pub polled : (v w : View) (answer : Poll (Result Answer Answer)) → v.ending ≡ None → allows_answer v ≡ true → v.calling ≡ true → is_some v.reply ≡ false → AnswerSays v.service w.service answer
-    → w ≡ record v { service = w.service; calling = w.calling; reply = w.reply } → w.calling ≡ still_called answer → w.reply ≡ reply_of answer
-    → IsStep v (answered answer) w
-polled v w answer running allowed calling reply says same calls replies = (
-  running,
-  allowed,
-  calling,
-  none_of v.reply reply,
-  says,
-  same ∙ ap (λ x. record v { service = w.service; calling = x; reply = w.reply }) calls
-      ∙ ap (λ x. record v { service = w.service; calling = still_called answer; reply = x }) replies,
-)
+pub polled : (v w : View) (answer : Poll (Result Answer Answer)) → v.ending ≡ None → allows_answer v ≡ true → is_calling v.stage ≡ true → AnswerSays v.service w.service answer
+    → w ≡ record v { service = w.service; stage = w.stage } → w.stage ≡ stage_answered answer → IsStep v (answered answer) w
+polled v w answer running allowed calls says same stage =
+    (running, allowed, now_calling v.stage calls, says, same ∙ ap (λ x. record v { service = w.service; stage = x }) stage)
 
-pub asked_next : (v w : View) (head : NextHead) → v.ending ≡ None → is_some v.waiting ≡ false → allows_next v ≡ true → LineSteps v.line on.next (SaysNext head) w.line
-    → w.line.state.settings ≡ v.line.state.settings → w ≡ record v { line = w.line; waiting = w.waiting; ending = w.ending }
-    → w.waiting ≡ request_at head → w.ending ≡ ending_told head → IsStep v (next head) w
-asked_next v w head running free allowed steps settings same waits ends = (
+pub asked_next : (v w : View) (head : NextHead) → v.ending ≡ None → is_busy v.stage ≡ false → allows_next v ≡ true → LineSteps v.line on.next (SaysNext head) w.line
+    → w.line.state.settings ≡ v.line.state.settings → w ≡ record v { line = w.line; stage = w.stage; ending = w.ending }
+    → w.stage ≡ stage_at (request_at head) → w.ending ≡ ending_told head → IsStep v (next head) w
+asked_next v w head running idle allowed steps settings same stage ends = (
   running,
-  none_of v.waiting free,
+  now_free v.stage idle,
   allowed,
   record { steps = steps; settings = settings },
-  same ∙ ap (λ x. record v { line = w.line; waiting = x; ending = w.ending }) waits
-      ∙ ap (λ x. record v { line = w.line; waiting = request_at head; ending = x }) ends,
+  same ∙ ap (λ x. record v { line = w.line; stage = x; ending = w.ending }) stage
+      ∙ ap (λ x. record v { line = w.line; stage = stage_at (request_at head); ending = x }) ends,
 )

@@ -1,24 +1,22 @@
 -- A run keeps requests and answers in order.
-use Rattle.std.proofs.Common.{◌≡◌, Option, None, List, [], ◌∷◌, ◌++◌, option_to_list, Result, refl, sym, ap, ◌∙◌, subst, append_assoc, append-nil}
+use Rattle.std.proofs.Common.{◌≡◌, ◌+◌, ℕ, Option, Some, None, List, [], ◌∷◌, ◌++◌, length, option_to_list, Result, Ok, Err, refl, sym, ap, ◌∙◌, subst, append_assoc, append-nil, arith}
+use Rattle.std.proofs.lemmas.List.{length-append}
 use Rattle.futures.specs.declared.task.Poll.{Poll}
 use Rattle.futures.specs.declared.task.Poll.TheVariants.{Ready, Pending}
 use Rattle.http_bodies.specs.Told.{Grows}
 use Rattle.http_bodies.proofs.Histories.{grown, grown-none}
 use Rattle.http_services.specs.Serving.{Serving}
-use Rattle.h1_dispatch.specs.View.{View, Asking, Answer}
-use Rattle.h1_dispatch.specs.Steps.{Step, IsStep, IsRun, still_waiting, ticked, drained, written, read, shut, next, closed, ready, called, answered, dropped, replied, failed, failed_write, failed_read}
-use Rattle.h1_dispatch.specs.Order.{step_requests, step_calls, step_answers, step_replies, LeavesRefused, LeavesBy, requests, calls, answers, replies, KeepsOrder}
+use Rattle.h1_connection.specs.declared.connection.heads.NextHead.{NextHead}
+use Rattle.h1_dispatch.specs.View.{View, Asking, Answer, Stage, free, waiting, calling, replying}
+use Rattle.h1_dispatch.specs.Steps.{Step, IsStep, IsRun, request_at, stage_at, stage_asked, stage_answered, ticked, drained, written, read, shut, next, closed, ready, called, answered, dropped, replied, failed, failed_write, failed_read, asked_to_drain}
+use Rattle.h1_dispatch.specs.Order.{waits_in, reply_in, calls_in, step_requests, step_calls, step_left, step_answers, step_replies, requests, calls, left, answers, replies, KeepsOrder}
 
 -- what one step keeps
 record Keeps (v : View) (d : Step) (w : View) : Type 0 where
-  left : List Asking
-  leaves : LeavesBy d left
-  waits : option_to_list v.waiting ++ step_requests d ≡ left ++ option_to_list w.waiting
-  replied_so : option_to_list v.reply ++ step_answers d ≡ step_replies d ++ option_to_list w.reply
+  waits : waits_in v.stage ++ step_requests d ≡ step_left d ++ waits_in w.stage
+  each : calls_in v.stage + length (step_left d) ≡ length (step_answers d) + calls_in w.stage
+  replied_so : reply_in v.stage ++ step_answers d ≡ step_replies d ++ reply_in w.stage
   called_so : Grows v.service.called w.service.called (step_calls d)
-
-same_list : {A : Type 0} (x y : Option A) → y ≡ x → option_to_list x ++ [] ≡ option_to_list y
-same_list x y is = append-nil (option_to_list x) ∙ ap option_to_list (sym is)
 
 same_calls : (v w : View) → w.service ≡ v.service → Grows v.service.called w.service.called []
 same_calls v w is = ap (λ (s : Serving Asking Answer Answer). s.called) is ∙ grown-none v.service.called
@@ -26,80 +24,79 @@ same_calls v w is = ap (λ (s : Serving Asking Answer Answer). s.called) is ∙ 
 told : (v w : View) → w.service.called ≡ v.service.called → Grows v.service.called w.service.called []
 told v w is = is ∙ grown-none v.service.called
 
--- requests and answers stay
-apart : (v w : View) (d : Step) → LeavesBy d [] → step_requests d ≡ [] → step_answers d ≡ [] → step_replies d ≡ [] → step_calls d ≡ []
-    → w.waiting ≡ v.waiting → w.reply ≡ v.reply → w.service ≡ v.service → Keeps v d w
-apart v w d leaves a b c e waiting reply service = record {
-  left = [];
-  leaves = leaves;
-  waits = ap (λ l. option_to_list v.waiting ++ l) a ∙ same_list v.waiting w.waiting waiting;
-  replied_so = ap (λ l. option_to_list v.reply ++ l) b ∙ same_list v.reply w.reply reply ∙ ap (λ l. l ++ option_to_list w.reply) (sym c);
-  called_so = subst (λ l. Grows v.service.called w.service.called l) (sym e) (same_calls v w service);
+-- from this stage to that
+by_stage : (v w : View) (d : Step) (before after : Stage) → v.stage ≡ before → w.stage ≡ after
+    → waits_in before ++ step_requests d ≡ step_left d ++ waits_in after
+    → calls_in before + length (step_left d) ≡ length (step_answers d) + calls_in after
+    → reply_in before ++ step_answers d ≡ step_replies d ++ reply_in after
+    → Grows v.service.called w.service.called (step_calls d) → Keeps v d w
+by_stage v w d before after was now waits each replies_so calls_so = record {
+  waits = ap (λ s. waits_in s ++ step_requests d) was ∙ waits ∙ ap (λ s. step_left d ++ waits_in s) (sym now);
+  each = ap (λ s. calls_in s + length (step_left d)) was ∙ each ∙ ap (λ s. length (step_answers d) + calls_in s) (sym now);
+  replied_so = ap (λ s. reply_in s ++ step_answers d) was ∙ replies_so ∙ ap (λ s. step_replies d ++ reply_in s) (sym now);
+  called_so = calls_so;
 }
 
-handed : (v w : View) (d : Step) → LeavesBy d [] → step_answers d ≡ [] → step_replies d ≡ [] → step_calls d ≡ []
-    → v.waiting ≡ None → option_to_list w.waiting ≡ step_requests d → w.reply ≡ v.reply → w.service ≡ v.service → Keeps v d w
-handed v w d leaves b c e none waits reply service = record {
-  left = [];
-  leaves = leaves;
-  waits = ap (λ x. option_to_list x ++ step_requests d) none ∙ sym waits;
-  replied_so = ap (λ l. option_to_list v.reply ++ l) b ∙ same_list v.reply w.reply reply ∙ ap (λ l. l ++ option_to_list w.reply) (sym c);
-  called_so = subst (λ l. Grows v.service.called w.service.called l) (sym e) (same_calls v w service);
-}
+no_more : (a b : ℕ) → b ≡ 0 → a + b ≡ 0 + a
+no_more a b none = omega (arith, none)
 
-gone : (v w : View) (answer : Poll (Result Unit Answer)) → w.waiting ≡ still_waiting answer v.waiting
-    → (left : List Asking) × LeavesRefused answer left × (option_to_list v.waiting ++ [] ≡ left ++ option_to_list w.waiting)
-gone v w (Ready x) is = (option_to_list v.waiting, tt, ap (λ x. option_to_list v.waiting ++ option_to_list x) (sym is))
-gone v w Pending is = ([], refl, same_list v.waiting w.waiting is)
+-- the last request stays as far as it is, and nothing is asked or answered
+apart : (v w : View) (d : Step) → step_left d ≡ [] → step_requests d ≡ [] → step_answers d ≡ [] → step_replies d ≡ [] → step_calls d ≡ []
+    → w.stage ≡ v.stage → w.service ≡ v.service → Keeps v d w
+apart v w d a b c e f stage service =
+    by_stage v w d v.stage v.stage refl stage
+    (ap (λ l. waits_in v.stage ++ l) b ∙ append-nil (waits_in v.stage) ∙ ap (λ l. l ++ waits_in v.stage) (sym a))
+    (ap (λ l. calls_in v.stage + length l) a ∙ no_more (calls_in v.stage) 0 refl ∙ ap (λ l. length l + calls_in v.stage) (sym c))
+    (ap (λ l. reply_in v.stage ++ l) c ∙ append-nil (reply_in v.stage) ∙ ap (λ l. l ++ reply_in v.stage) (sym e))
+    (subst (λ l. Grows v.service.called w.service.called l) (sym f) (same_calls v w service))
 
--- an answer is there now, where none was
-now_there : (v w : View) (d : Step) → v.reply ≡ None → option_to_list w.reply ≡ step_answers d → step_replies d ≡ []
-    → option_to_list v.reply ++ step_answers d ≡ step_replies d ++ option_to_list w.reply
-now_there v w d none is off = ap (λ x. option_to_list x ++ step_answers d) none ∙ sym is ∙ ap (λ l. l ++ option_to_list w.reply) (sym off)
+-- a request waits, where one came
+waits_now : (request : Option Asking) → option_to_list request ≡ waits_in (stage_at request)
+waits_now None = refl
+waits_now (Some request) = refl
+
+calls_none : (request : Option Asking) → 0 ≡ 0 + calls_in (stage_at request)
+calls_none None = refl
+calls_none (Some request) = refl
+
+reply_none : (request : Option Asking) → [] ≡ reply_in (stage_at request)
+reply_none None = refl
+reply_none (Some request) = refl
+
+handed : (v w : View) (head : NextHead) → v.stage ≡ free → w.stage ≡ stage_at (request_at head) → w.service ≡ v.service → Keeps v (next head) w
+handed v w head was now service =
+    by_stage v w (next head) free (stage_at (request_at head)) was now (waits_now (request_at head)) (calls_none (request_at head)) (reply_none (request_at head)) (same_calls v w service)
+
+asked : (v w : View) (request : Asking) (answer : Poll (Result Unit Answer)) → v.stage ≡ waiting request → w.stage ≡ stage_asked request answer
+    → Grows v.service.called w.service.called [] → Keeps v (ready request answer) w
+asked v w request (Ready (Ok x)) was now calls_so = by_stage v w (ready request (Ready (Ok x))) (waiting request) (waiting request) was now refl refl refl calls_so
+asked v w request (Ready (Err e)) was now calls_so = by_stage v w (ready request (Ready (Err e))) (waiting request) (replying e) was now refl refl refl calls_so
+asked v w request Pending was now calls_so = by_stage v w (ready request Pending) (waiting request) (waiting request) was now refl refl refl calls_so
+
+polled : (v w : View) (answer : Poll (Result Answer Answer)) → v.stage ≡ calling → w.stage ≡ stage_answered answer
+    → Grows v.service.called w.service.called [] → Keeps v (answered answer) w
+polled v w (Ready (Ok x)) was now calls_so = by_stage v w (answered (Ready (Ok x))) calling (replying x) was now refl refl refl calls_so
+polled v w (Ready (Err e)) was now calls_so = by_stage v w (answered (Ready (Err e))) calling (replying e) was now refl refl refl calls_so
+polled v w Pending was now calls_so = by_stage v w (answered Pending) calling calling was now refl refl refl calls_so
 
 step_keeps : (v w : View) (d : Step) → IsStep v d w → Keeps v d w
-step_keeps v w (ticked moment expiry) is = apart v w _ refl refl refl refl refl (ap (λ (x : View). x.waiting) is.1) (ap (λ (x : View). x.reply) is.1) (ap (λ (x : View). x.service) is.1)
-step_keeps v w drained is = apart v w _ refl refl refl refl refl (ap (λ (x : View). x.waiting) is.1) (ap (λ (x : View). x.reply) is.1) (ap (λ (x : View). x.service) is.1)
-step_keeps v w (written answer) is = apart v w _ refl refl refl refl refl (ap (λ (x : View). x.waiting) is.4) (ap (λ (x : View). x.reply) is.4) (ap (λ (x : View). x.service) is.4)
-step_keeps v w (read came answer) is = apart v w _ refl refl refl refl refl (ap (λ (x : View). x.waiting) is.4) (ap (λ (x : View). x.reply) is.4) (ap (λ (x : View). x.service) is.4)
-step_keeps v w (shut answer) is = apart v w _ refl refl refl refl refl (ap (λ (x : View). x.waiting) is.2) (ap (λ (x : View). x.reply) is.2) (ap (λ (x : View). x.service) is.2)
-step_keeps v w (next head) is =
-    handed v w (next head) refl refl refl refl is.1 (ap (λ (x : View). option_to_list x.waiting) is.4) (ap (λ (x : View). x.reply) is.4) (ap (λ (x : View). x.service) is.4)
-step_keeps v w (closed end) is = apart v w _ refl refl refl refl refl (ap (λ (x : View). x.waiting) is.4) (ap (λ (x : View). x.reply) is.4) (ap (λ (x : View). x.service) is.4)
-step_keeps v w (ready answer) is =
-    let left = gone v w answer (ap (λ (x : View). x.waiting) is.4) in
-    record {
-      left = left.0;
-      leaves = left.1;
-      waits = left.2;
-      replied_so = now_there v w (ready answer) is.0.2 (ap (λ (x : View). option_to_list x.reply) is.4) refl;
-      called_so = told v w is.3.called;
-    }
-step_keeps v w (called request) is = record {
-  left = request ∷ [];
-  leaves = refl;
-  waits = ap (λ x. option_to_list x ++ []) is.1 ∙ ap (λ (x : View). request ∷ option_to_list x.waiting) (sym is.3);
-  replied_so = same_list v.reply w.reply (ap (λ (x : View). x.reply) is.3);
-  called_so = subst (λ c. Grows c w.service.called (request ∷ [])) is.2.is_ready.called is.2.begun.called;
-}
-step_keeps v w (answered answer) is = record {
-  left = [];
-  leaves = refl;
-  waits = same_list v.waiting w.waiting (ap (λ (x : View). x.waiting) is.5);
-  replied_so = now_there v w (answered answer) is.3 (ap (λ (x : View). option_to_list x.reply) is.5) refl;
-  called_so = told v w is.4.called;
-}
-step_keeps v w dropped is = apart v w _ refl refl refl refl refl (ap (λ (x : View). x.waiting) is.3) (ap (λ (x : View). x.reply) is.3) (ap (λ (x : View). x.service) is.3)
-step_keeps v w (replied answer) is = record {
-  left = [];
-  leaves = refl;
-  waits = same_list v.waiting w.waiting (ap (λ (x : View). x.waiting) is.3);
-  replied_so = ap (λ x. option_to_list x ++ []) is.1 ∙ ap (λ (x : View). answer ∷ option_to_list x.reply) (sym is.3);
-  called_so = same_calls v w (ap (λ (x : View). x.service) is.3);
-}
-step_keeps v w (failed event) is = apart v w _ refl refl refl refl refl (ap (λ (x : View). x.waiting) is.2) (ap (λ (x : View). x.reply) is.2) (ap (λ (x : View). x.service) is.2)
-step_keeps v w (failed_write count) is = apart v w _ refl refl refl refl refl (ap (λ (x : View). x.waiting) is.4) (ap (λ (x : View). x.reply) is.4) (ap (λ (x : View). x.service) is.4)
-step_keeps v w (failed_read came event) is = apart v w _ refl refl refl refl refl (ap (λ (x : View). x.waiting) is.4) (ap (λ (x : View). x.reply) is.4) (ap (λ (x : View). x.service) is.4)
+step_keeps v w (ticked moment expiry) is = apart v w _ refl refl refl refl refl (ap (λ (x : View). x.stage) is.1) (ap (λ (x : View). x.service) is.1)
+step_keeps v w drained is = apart v w _ refl refl refl refl refl (ap (λ (x : View). x.stage) is.1) (ap (λ (x : View). x.service) is.1)
+step_keeps v w (written answer) is = apart v w _ refl refl refl refl refl (ap (λ (x : View). x.stage) is.4) (ap (λ (x : View). x.service) is.4)
+step_keeps v w (read came answer) is = apart v w _ refl refl refl refl refl (ap (λ (x : View). x.stage) is.4) (ap (λ (x : View). x.service) is.4)
+step_keeps v w (shut answer) is = apart v w _ refl refl refl refl refl (ap (λ (x : View). x.stage) is.2) (ap (λ (x : View). x.service) is.2)
+step_keeps v w (next head) is = handed v w head is.1 (ap (λ (x : View). x.stage) is.4) (ap (λ (x : View). x.service) is.4)
+step_keeps v w (closed end) is = apart v w _ refl refl refl refl refl (ap (λ (x : View). x.stage) is.4) (ap (λ (x : View). x.service) is.4)
+step_keeps v w (ready request answer) is = asked v w request answer is.0.1 (ap (λ (x : View). x.stage) is.3) (told v w is.2.called)
+step_keeps v w (called request) is = by_stage v w (called request) (waiting request) calling is.0.1 (ap (λ (x : View). x.stage) is.2) refl refl refl (subst (λ c. Grows c w.service.called (request ∷ [])) is.1.is_ready.called is.1.begun.called)
+step_keeps v w (answered answer) is = polled v w answer is.2 (ap (λ (x : View). x.stage) is.4) (told v w is.3.called)
+step_keeps v w dropped is = apart v w _ refl refl refl refl refl (ap (λ (x : View). x.stage) is.3) (ap (λ (x : View). x.service) is.3)
+step_keeps v w (replied answer) is =
+    by_stage v w (replied answer) (replying answer) free is.1 (ap (λ (x : View). x.stage) is.3) refl refl refl (same_calls v w (ap (λ (x : View). x.service) is.3))
+step_keeps v w (failed event) is = apart v w _ refl refl refl refl refl (ap (λ (x : View). x.stage) is.2) (ap (λ (x : View). x.service) is.2)
+step_keeps v w (failed_write count) is = apart v w _ refl refl refl refl refl (ap (λ (x : View). x.stage) is.4) (ap (λ (x : View). x.service) is.4)
+step_keeps v w (failed_read came event) is = apart v w _ refl refl refl refl refl (ap (λ (x : View). x.stage) is.4) (ap (λ (x : View). x.service) is.4)
+step_keeps v w asked_to_drain is = apart v w _ refl refl refl refl refl (ap (λ (x : View). x.stage) is) (ap (λ (x : View). x.service) is)
 
 -- what came in front goes out in front
 queued : {A : Type 0} (a b c in_first in_rest out_first out_rest : List A) → a ++ in_first ≡ out_first ++ b → b ++ in_rest ≡ out_rest ++ c
@@ -108,21 +105,25 @@ queued a b c in_first in_rest out_first out_rest first then =
     sym (append_assoc a in_first in_rest) ∙ ap (λ l. l ++ in_rest) first ∙ append_assoc out_first b in_rest ∙ ap (λ l. out_first ++ l) then
     ∙ sym (append_assoc out_first out_rest c)
 
+counted : {A B : Type 0} (a b c : ℕ) (in_first in_rest : List A) (out_first out_rest : List B)
+    → a + length in_first ≡ length out_first + b → b + length in_rest ≡ length out_rest + c
+    → a + length (in_first ++ in_rest) ≡ length (out_first ++ out_rest) + c
+counted a b c in_first in_rest out_first out_rest first then =
+    omega (arith, length-append in_first in_rest, length-append out_first out_rest, first, then)
+
 keeps_on : (v u w : View) (d : Step) (steps : List Step) → Keeps v d u → KeepsOrder u steps w → KeepsOrder v (d ∷ steps) w
 keeps_on v u w d steps first then = record {
-  left = first.left ++ then.left;
-  leave = (first.left, then.left, refl, first.leaves, then.leave);
-  waits = queued (option_to_list v.waiting) (option_to_list u.waiting) (option_to_list w.waiting) (step_requests d) (requests steps) first.left then.left first.waits then.waits;
-  replied = queued (option_to_list v.reply) (option_to_list u.reply) (option_to_list w.reply) (step_answers d) (answers steps) (step_replies d) (replies steps) first.replied_so then.replied;
+  waits = queued (waits_in v.stage) (waits_in u.stage) (waits_in w.stage) (step_requests d) (requests steps) (step_left d) (left steps) first.waits then.waits;
+  each = counted (calls_in v.stage) (calls_in u.stage) (calls_in w.stage) (step_left d) (left steps) (step_answers d) (answers steps) first.each then.each;
+  replied = queued (reply_in v.stage) (reply_in u.stage) (reply_in w.stage) (step_answers d) (answers steps) (step_replies d) (replies steps) first.replied_so then.replied;
   called = grown (step_calls d) (calls steps) _ _ _ first.called_so then.called;
 }
 
 none_left : (v w : View) → w ≡ v → KeepsOrder v [] w
 none_left v w is = record {
-  left = [];
-  leave = refl;
-  waits = same_list v.waiting w.waiting (ap (λ (x : View). x.waiting) is);
-  replied = same_list v.reply w.reply (ap (λ (x : View). x.reply) is);
+  waits = append-nil (waits_in v.stage) ∙ ap (λ (x : View). waits_in x.stage) (sym is);
+  each = no_more (calls_in v.stage) 0 refl ∙ ap (λ (x : View). 0 + calls_in x.stage) (sym is);
+  replied = append-nil (reply_in v.stage) ∙ ap (λ (x : View). reply_in x.stage) (sym is);
   called = same_calls v w (ap (λ (x : View). x.service) is);
 }
 

@@ -23,7 +23,7 @@ use Rattle.h1_connection.specs.declared.connection.ticks.Expiry.{Expiry}
 use Rattle.h1_connection.specs.declared.connection.ticks.Expiry.TheVariants as expiries
 use Rattle.h1_line.specs.Line.{LineView, LineStands}
 use Rattle.h1_dispatch.specs.View.{View, buffered, room}
-use Rattle.h1_dispatch.specs.Steps.{Step, Goes, Wrote, Took, IsStep, IsRun, ticked, drained, written as wrote, read, shut, next, closed, ready, called, answered, dropped, replied, failed, failed_write, failed_read}
+use Rattle.h1_dispatch.specs.Steps.{Step, Goes, Wrote, Took, IsStep, IsRun, ticked, drained, written as wrote, read, shut, next, closed, ready, called, answered, dropped, replied, failed, failed_write, failed_read, asked_to_drain}
 use Rattle.h1_dispatch.specs.Traces.{IsNoted, AllNoted, AreTraces}
 
 -- ---- sums
@@ -165,14 +165,15 @@ step_follows v w (read came answer) noted is = took v w came is.2.0 answer is.2.
 step_follows v w (shut answer) noted is = still v w (ap (λ (x : View). x.line) is.2) (same_grows _ _ is.1.received) (same_grows _ _ is.1.sent)
 step_follows v w (next head) noted is = asked v w head (ap (λ (x : View). x.wire) is.4) is.3
 step_follows v w (closed end) noted is = asked v w is.3.0 (ap (λ (x : View). x.wire) is.4) is.3.1
-step_follows v w (ready answer) noted is = wire_same v w (ap (λ (x : View). x.line) is.4) (ap (λ (x : View). x.wire) is.4)
-step_follows v w (called request) noted is = wire_same v w (ap (λ (x : View). x.line) is.3) (ap (λ (x : View). x.wire) is.3)
-step_follows v w (answered answer) noted is = wire_same v w (ap (λ (x : View). x.line) is.5) (ap (λ (x : View). x.wire) is.5)
+step_follows v w (ready request answer) noted is = wire_same v w (ap (λ (x : View). x.line) is.3) (ap (λ (x : View). x.wire) is.3)
+step_follows v w (called request) noted is = wire_same v w (ap (λ (x : View). x.line) is.2) (ap (λ (x : View). x.wire) is.2)
+step_follows v w (answered answer) noted is = wire_same v w (ap (λ (x : View). x.line) is.4) (ap (λ (x : View). x.wire) is.4)
 step_follows v w dropped noted is = done v w on.drop_body (ap (λ (x : View). x.wire) is.3) refl is.2
 step_follows v w (replied answer) noted is = done v w _ (ap (λ (x : View). x.wire) is.3) refl is.2
 step_follows v w (failed event) noted is = absurd noted
 step_follows v w (failed_write count) noted is = absurd noted
 step_follows v w (failed_read came event) noted is = absurd noted
+step_follows v w asked_to_drain noted is = wire_same v w (ap (λ (x : View). x.line) is) (ap (λ (x : View). x.wire) is)
 
 follows_on : (v u w : View) → AreTraces v u → AreTraces u w → AreTraces v w
 follows_on v u w a b = λ trace stands.

@@ -16,7 +16,7 @@ use Rattle.http_types.specs.declared.error.DispatchError.{DispatchError}
 use Rattle.h1_dispatch.specs.declared.dispatcher.Ending.TheVariants.{Closed}
 use Rattle.h1_dispatch.specs.declared.dispatcher.Turn.{Turn}
 use Rattle.h1_dispatch.specs.declared.dispatcher.Turn.TheVariants.{Counted, Idle, Over}
-use Rattle.h1_dispatch.specs.View.{View, Asking, closes, allows, allows_next, allows_answer, HasNoOutput, HasNoInput}
+use Rattle.h1_dispatch.specs.View.{View, Asking, Stage, free, waiting, calling, replying, is_busy, is_waiting, is_calling, closes, allows, allows_next, allows_answer, HasNoOutput, HasNoInput}
 use Rattle.h1_dispatch.specs.Steps.{Step, IsStep, written, shut, next, ready, called, answered}
 use Rattle.h1_dispatch.specs.Polls.{Continues, IsShut, Ended, result_of, counts, Awaits, Looks, Serves, IsHeld, GoesOn, Ends, TurnSays, ServeSays, AfterSays, EndSays, StepSays, ReadingSays, TurnsSay}
 use Rattle.h1_dispatch.proofs.Runs.{one, goes_by, ends_by, goes_after, ends_after}
@@ -91,89 +91,88 @@ input_then v w Idle waits says =
     record { served = []; between = v; serves = refl; reading = says.reading; reads = says.reads; waits = waits; no_input = says.no_input }
 input_then v w (Over result) waits says = says
 
-serves_by : (v : View) (allows : Bool) (served : List Step) → allows ≡ true → v.reply ≡ None → Awaits v.calling v.waiting served → Serves v allows served
-serves_by v true served is reply waits = (reply, waits)
-serves_by v false served is reply waits = absurd (cc is)
+-- ---- how far the last request is
 
-looks_by : (v : View) (allows : Bool) (served : List Step) → allows ≡ false → Looks (allows_next v) v.waiting served → Serves v allows served
+pub now_free : (s : Stage) → is_busy s ≡ false → s ≡ free
+now_free free is = refl
+now_free (waiting request) is = absurd (cc is)
+now_free calling is = absurd (cc is)
+now_free (replying answer) is = absurd (cc is)
+
+pub now_waiting : (s : Stage) → is_waiting s ≡ true → (request : Asking) × (s ≡ waiting request)
+now_waiting (waiting request) is = (request, refl)
+now_waiting free is = absurd (cc is)
+now_waiting calling is = absurd (cc is)
+now_waiting (replying answer) is = absurd (cc is)
+
+pub now_calling : (s : Stage) → is_calling s ≡ true → s ≡ calling
+now_calling calling is = refl
+now_calling free is = absurd (cc is)
+now_calling (waiting request) is = absurd (cc is)
+now_calling (replying answer) is = absurd (cc is)
+
+-- ---- what was pending
+
+serves_by : (v : View) (allows : Bool) (served : List Step) → allows ≡ true → Awaits v.stage served → Serves v allows served
+serves_by v true served is waits = waits
+serves_by v false served is waits = absurd (cc is)
+
+looks_by : (v : View) (allows : Bool) (served : List Step) → allows ≡ false → Looks (allows_next v) v.stage served → Serves v allows served
 looks_by v false served is looks = looks
 looks_by v true served is looks = absurd (cc is)
 
-awaits_call : (calling : Bool) (waiting : Option Asking) → calling ≡ true → Awaits calling waiting (answered Pending ∷ [])
-awaits_call true waiting is = refl
-awaits_call false waiting is = absurd (cc is)
+pub waits_call : (v : View) → allows_answer v ≡ true → v.stage ≡ calling → Serves v (allows_answer v) (answered Pending ∷ [])
+waits_call v allowed is = serves_by v (allows_answer v) _ allowed (subst (λ s. Awaits s (answered Pending ∷ [])) (sym is) refl)
 
-pub waits_call : (v : View) → allows_answer v ≡ true → is_some v.reply ≡ false → v.calling ≡ true → Serves v (allows_answer v) (answered Pending ∷ [])
-waits_call v allowed reply calling = serves_by v (allows_answer v) _ allowed (none_of v.reply reply) (awaits_call v.calling v.waiting calling)
+pub waits_ready : (v : View) (request : Asking) → allows_answer v ≡ true → v.stage ≡ waiting request → Serves v (allows_answer v) (ready request Pending ∷ [])
+waits_ready v request allowed is = serves_by v (allows_answer v) _ allowed (subst (λ s. Awaits s (ready request Pending ∷ [])) (sym is) (inl refl))
 
-awaits_ready : (calling : Bool) (waiting : Option Asking) → calling ≡ false → is_some waiting ≡ true → Awaits calling waiting (ready Pending ∷ [])
-awaits_ready false (Some request) off is = inl refl
-awaits_ready false None off is = absurd (cc is)
-awaits_ready true waiting off is = absurd (cc off)
+pub waits_none : (v : View) → allows_answer v ≡ true → v.stage ≡ free → Serves v (allows_answer v) []
+waits_none v allowed is = serves_by v (allows_answer v) _ allowed (subst (λ s. Awaits s []) (sym is) refl)
 
-pub waits_ready : (v : View) → allows_answer v ≡ true → is_some v.reply ≡ false → v.calling ≡ false → is_some v.waiting ≡ true
-    → Serves v (allows_answer v) (ready Pending ∷ [])
-waits_ready v allowed reply calling waiting = serves_by v (allows_answer v) _ allowed (none_of v.reply reply) (awaits_ready v.calling v.waiting calling waiting)
+pub waits_head : (v : View) → allows_answer v ≡ false → allows_next v ≡ true → v.stage ≡ free → Serves v (allows_answer v) (next next_head.Pending ∷ [])
+waits_head v off may is =
+    looks_by v (allows_answer v) _ off (subst (λ m. Looks m v.stage (next next_head.Pending ∷ [])) (sym may) (subst (λ s. Looks true s (next next_head.Pending ∷ [])) (sym is) refl))
 
-awaits_none : (calling : Bool) (waiting : Option Asking) → calling ≡ false → is_some waiting ≡ false → Awaits calling waiting []
-awaits_none false None off is = refl
-awaits_none false (Some request) off is = absurd (cc is)
-awaits_none true waiting off is = absurd (cc off)
+looks_not : (may : Bool) (s : Stage) → may ≡ false → Looks may s []
+looks_not false s is = refl
+looks_not true s is = absurd (cc is)
 
-pub waits_none : (v : View) → allows_answer v ≡ true → is_some v.reply ≡ false → v.calling ≡ false → is_some v.waiting ≡ false → Serves v (allows_answer v) []
-waits_none v allowed reply calling waiting = serves_by v (allows_answer v) _ allowed (none_of v.reply reply) (awaits_none v.calling v.waiting calling waiting)
-
-looks_pending : (may : Bool) (waiting : Option Asking) → may ≡ true → is_some waiting ≡ false → Looks may waiting (next next_head.Pending ∷ [])
-looks_pending true None is none = refl
-looks_pending true (Some request) is none = absurd (cc none)
-looks_pending false waiting is none = absurd (cc is)
-
-pub waits_head : (v : View) → allows_answer v ≡ false → allows_next v ≡ true → is_some v.waiting ≡ false → Serves v (allows_answer v) (next next_head.Pending ∷ [])
-waits_head v off may waiting = looks_by v (allows_answer v) _ off (looks_pending (allows_next v) v.waiting may waiting)
-
-looks_not : (may : Bool) (waiting : Option Asking) → may ≡ false → Looks may waiting []
-looks_not false waiting is = refl
-looks_not true waiting is = absurd (cc is)
-
-looks_busy : (may : Bool) (waiting : Option Asking) → is_some waiting ≡ true → Looks may waiting []
-looks_busy true (Some request) is = refl
-looks_busy true None is = absurd (cc is)
-looks_busy false waiting is = refl
+looks_busy : (may : Bool) (s : Stage) → is_busy s ≡ true → Looks may s []
+looks_busy true (waiting request) is = refl
+looks_busy true calling is = refl
+looks_busy true (replying answer) is = refl
+looks_busy true free is = absurd (cc is)
+looks_busy false s is = refl
 
 pub waits_not : (v : View) → allows_answer v ≡ false → allows_next v ≡ false → Serves v (allows_answer v) []
-waits_not v off may = looks_by v (allows_answer v) _ off (looks_not (allows_next v) v.waiting may)
+waits_not v off may = looks_by v (allows_answer v) _ off (looks_not (allows_next v) v.stage may)
 
-pub waits_busy : (v : View) → allows_answer v ≡ false → is_some v.waiting ≡ true → Serves v (allows_answer v) []
-waits_busy v off busy = looks_by v (allows_answer v) _ off (looks_busy (allows_next v) v.waiting busy)
+pub waits_busy : (v : View) → allows_answer v ≡ false → is_busy v.stage ≡ true → Serves v (allows_answer v) []
+waits_busy v off busy = looks_by v (allows_answer v) _ off (looks_busy (allows_next v) v.stage busy)
 
 -- a call was begun, and polled at once
-called_awaits : (u : View) (allows : Bool) (served : List Step) → allows ≡ true → u.calling ≡ true → Serves u allows served → served ≡ answered Pending ∷ []
-called_awaits u true served is calling waits = subst (λ c. Awaits c u.waiting served) calling waits.1
-called_awaits u false served is calling waits = absurd (cc is)
+called_awaits : (u : View) (allows : Bool) (served : List Step) → allows ≡ true → u.stage ≡ calling → Serves u allows served → served ≡ answered Pending ∷ []
+called_awaits u true served is now waits = subst (λ s. Awaits s served) now waits
+called_awaits u false served is now waits = absurd (cc is)
 
-same_request : (a b : Asking) → Some a ≡ Some b → b ≡ a
-same_request a b e = cc e
-
-awaits_called : (calling : Bool) (waiting : Option Asking) (request : Asking) (served : List Step) → calling ≡ false → waiting ≡ Some request → served ≡ answered Pending ∷ []
-    → Awaits calling waiting (called request ∷ served)
-awaits_called false (Some other) request served off is so = inr (ap (λ l. called request ∷ l) so ∙ ap (λ r. called r ∷ answered Pending ∷ []) (same_request other request is))
-awaits_called false None request served off is so = absurd (cc is)
-awaits_called true waiting request served off is so = absurd (cc off)
+awaits_called : (s : Stage) (request : Asking) (served : List Step) → s ≡ waiting request → served ≡ answered Pending ∷ [] → Awaits s (called request ∷ served)
+awaits_called s request served is so = subst (λ x. Awaits x (called request ∷ served)) (sym is) (inr (ap (λ l. called request ∷ l) so))
 
 pub called_then : (v u w : View) (request : Asking) (turn : Turn) → IsStep v (called request) u → allows_answer v ≡ true → allows_answer u ≡ true
-    → v.reply ≡ None → v.calling ≡ false → v.waiting ≡ Some request → u.calling ≡ true → ServeSays u w turn → ServeSays v w turn
-called_then v u w request Counted is may allowed reply calling waiting now says = goes_after v u w 0 1 1 (omega arith) (goes_by v u (called request) 0 is tt (omega arith)) says
-called_then v u w request Idle is may allowed reply calling waiting now says =
+    → v.stage ≡ waiting request → u.stage ≡ calling → ServeSays u w turn → ServeSays v w turn
+called_then v u w request Counted is may allowed waits now says = goes_after v u w 0 1 1 (omega arith) (goes_by v u (called request) 0 is tt (omega arith)) says
+called_then v u w request Idle is may allowed waits now says =
     record {
       served = called request ∷ says.served;
       between = says.between;
       serves = (u, is, says.serves);
       reading = says.reading;
       reads = says.reads;
-      waits = serves_by v (allows_answer v) (called request ∷ says.served) may reply (awaits_called v.calling v.waiting request says.served calling waiting (called_awaits u (allows_answer u) says.served allowed now says.waits));
+      waits = serves_by v (allows_answer v) (called request ∷ says.served) may (awaits_called v.stage request says.served waits (called_awaits u (allows_answer u) says.served allowed now says.waits));
       no_input = says.no_input;
     }
-called_then v u w request (Over result) is may allowed reply calling waiting now says = ends_after v u w 0 result (goes_by v u (called request) 0 is tt (omega arith)) says
+called_then v u w request (Over result) is may allowed waits now says = ends_after v u w 0 result (goes_by v u (called request) 0 is tt (omega arith)) says
 
 -- ---- after the writing
 

@@ -3,3 +3,5 @@ pub mod Steps
 pub mod Polls
 pub mod Traces
 pub mod Order
+pub mod Acts
+pub mod Open

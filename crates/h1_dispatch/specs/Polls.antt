@@ -17,8 +17,8 @@ use Rattle.h1_connection.specs.declared.event.End.TheVariants as ends
 use Rattle.h1_dispatch.specs.declared.dispatcher.Ending.TheVariants.{Closed, Abandoned, Broken}
 use Rattle.h1_dispatch.specs.declared.dispatcher.Turn.{Turn}
 use Rattle.h1_dispatch.specs.declared.dispatcher.Turn.TheVariants.{Counted, Idle, Over}
-use Rattle.h1_dispatch.specs.View.{View, Asking, is_broken, closes, allows, allows_next, allows_answer, HasNoOutput, HasNoInput}
-use Rattle.h1_dispatch.specs.Steps.{Step, IsStep, IsRun, ticked, drained, written, read, shut, next, closed, ready, called, answered, dropped, replied, failed, failed_write, failed_read}
+use Rattle.h1_dispatch.specs.View.{View, Stage, free, waiting, calling, replying, is_broken, closes, allows, allows_next, allows_answer, HasNoOutput, HasNoInput}
+use Rattle.h1_dispatch.specs.Steps.{Step, IsStep, IsRun, ticked, drained, written, read, shut, next, closed, ready, called, answered, dropped, replied, failed, failed_write, failed_read, asked_to_drain}
 
 -- ---- steps
 
@@ -42,7 +42,7 @@ Continues (read came answer) = HasNotFailed answer
 Continues (shut answer) = IsPending answer
 Continues (next head) = ⊤
 Continues (closed end) = ⊤
-Continues (ready answer) = ⊤
+Continues (ready request answer) = ⊤
 Continues (called request) = ⊤
 Continues (answered answer) = ⊤
 Continues dropped = ⊤
@@ -50,6 +50,7 @@ Continues (replied answer) = ⊤
 Continues (failed event) = ⊥
 Continues (failed_write count) = ⊥
 Continues (failed_read came event) = ⊥
+Continues asked_to_drain = ⊥
 
 -- it goes on after each of these steps
 abbrev pub AllContinue : List Step → Type 0
@@ -141,22 +142,25 @@ Ended w steps (Err error.InternalError) = ⊥
 
 -- ---- waiting
 
--- the request that waits may be answered: its call was pending, or the service was
-abbrev pub Awaits : Bool → Option Asking → List Step → Type 0
-Awaits true waiting served = served ≡ answered Pending ∷ []
-Awaits false (Some request) served = (served ≡ ready Pending ∷ []) ⊎ (served ≡ called request ∷ answered Pending ∷ [])
-Awaits false None served = served ≡ []
+-- the open request may be answered: its call was pending, or the service was
+abbrev pub Awaits : Stage → List Step → Type 0
+Awaits free served = served ≡ []
+Awaits (waiting request) served = (served ≡ ready request Pending ∷ []) ⊎ (served ≡ called request ∷ answered Pending ∷ [])
+Awaits calling served = served ≡ answered Pending ∷ []
+Awaits (replying answer) served = ⊥
 
 -- no request may be answered: no head was there, or none may be asked for
-abbrev pub Looks : Bool → Option Asking → List Step → Type 0
-Looks true None served = served ≡ next next_head.Pending ∷ []
-Looks true (Some request) served = served ≡ []
-Looks false waiting served = served ≡ []
+abbrev pub Looks : Bool → Stage → List Step → Type 0
+Looks true free served = served ≡ next next_head.Pending ∷ []
+Looks true (waiting request) served = served ≡ []
+Looks true calling served = served ≡ []
+Looks true (replying answer) served = served ≡ []
+Looks false stage served = served ≡ []
 
 -- the service and the connection wait, from this view on
 abbrev pub Serves : View → Bool → List Step → Type 0
-Serves v true served = (v.reply ≡ None) × Awaits v.calling v.waiting served
-Serves v false served = Looks (allows_next v) v.waiting served
+Serves v true served = Awaits v.stage served
+Serves v false served = Looks (allows_next v) v.stage served
 
 -- the wire had no bytes, or none may be read
 abbrev pub Reads : View → List Step → Type 0

@@ -1,5 +1,5 @@
 -- The steps of a dispatcher.
-use Rattle.std.specs.Prelude.{◌≡◌, ◌≤◌, ◌<◌, ◌⊎◌, ℕ, Bool, true, false, Option, Some, None, is_some, List, [], ◌∷◌, length, take, ⊤, Result, Ok, Err}
+use Rattle.std.specs.Prelude.{◌≡◌, ◌≤◌, ◌<◌, ◌⊎◌, ℕ, true, Option, Some, None, List, [], ◌∷◌, length, take, ⊤, Result, Ok, Err}
 use Rattle.futures.specs.declared.task.Poll.{Poll}
 use Rattle.futures.specs.declared.task.Poll.TheVariants.{Ready, Pending}
 use Rattle.http_config.specs.declared.Failed.{Failed}
@@ -21,12 +21,13 @@ use Rattle.h1_connection.specs.declared.event.End.{End}
 use Rattle.h1_line.specs.Line.{LineView, LineSteps, LineFails}
 use Rattle.h1_dispatch.specs.declared.dispatcher.Ending.{Ending}
 use Rattle.h1_dispatch.specs.declared.dispatcher.Ending.TheVariants.{Closed, Abandoned, Broken}
-use Rattle.h1_dispatch.specs.View.{View, Asking, Answer, allows, allows_next, allows_answer, buffered, room}
+use Rattle.h1_dispatch.specs.View.{View, Asking, Answer, Stage, free, waiting, calling, replying, is_replying, with_drain, allows, allows_next, allows_answer, buffered, room}
 
 -- A step. A moment came; the drain came; the wire was given what waits to be written; it was asked for bytes, and these
 -- came; it was shut down; the next head was asked for; the connection closes, and told its end; the service was asked
--- whether it takes a call, and takes none; it takes one, and the call was begun; a call was polled; the rest of a body was
--- dropped; the answer was handed on. Or memory ran out: for an event, or for that of bytes which the wire had moved.
+-- whether it takes a call with a request, and takes none; it takes one, and the call was begun; a call was polled; the rest
+-- of a body was dropped; the answer was handed on. Or memory ran out: for an event, or for that of bytes which the wire had
+-- moved. Or it was asked to drain, which no poll does.
 pub data Step : Type 0 where
   ticked : (moment : ℕ) → (expiry : Expiry) → Step
   drained : Step
@@ -35,7 +36,7 @@ pub data Step : Type 0 where
   shut : (answer : Poll (Result Unit Failed)) → Step
   next : (head : NextHead) → Step
   closed : (end : End) → Step
-  ready : (answer : Poll (Result Unit Answer)) → Step
+  ready : (request : Asking) → (answer : Poll (Result Unit Answer)) → Step
   called : (request : Asking) → Step
   answered : (answer : Poll (Result Answer Answer)) → Step
   dropped : Step
@@ -43,6 +44,7 @@ pub data Step : Type 0 where
   failed : (event : on.Event) → Step
   failed_write : (count : ℕ) → Step
   failed_read : (came : List ℕ) → (event : on.Event) → Step
+  asked_to_drain : Step
 
 -- the event came to the connection, was noted, and had such an outcome; its settings stay
 pub record Goes (old : LineView) (event : on.Event) (Says : on.Outcome → Type 0) (new : LineView) : Type 0 where
@@ -76,36 +78,32 @@ request_at (next_head.Fault fault) = None
 request_at next_head.Pending = None
 request_at (next_head.Closed end) = None
 
+abbrev pub stage_at : Option Asking → Stage
+stage_at None = free
+stage_at (Some request) = waiting request
+
 abbrev pub ending_told : NextHead → Option Ending
 ending_told (next_head.Head item) = None
 ending_told (next_head.Fault fault) = None
 ending_told next_head.Pending = None
 ending_told (next_head.Closed end) = Some (Closed end)
 
--- a service that takes no call: it is asked again, or its error is the answer
+-- a service that takes no call with the request: it is asked again, or its error is the answer
 abbrev pub TakesNone : Poll (Result Unit Answer) → Type 0
 TakesNone (Ready (Ok x)) = ⊥
 TakesNone (Ready (Err e)) = ⊤
 TakesNone Pending = ⊤
 
-abbrev pub still_waiting : Poll (Result Unit Answer) → Option Asking → Option Asking
-still_waiting (Ready x) waiting = None
-still_waiting Pending waiting = waiting
-
-abbrev pub refusal_of : Poll (Result Unit Answer) → Option Answer
-refusal_of (Ready (Ok x)) = None
-refusal_of (Ready (Err e)) = Some e
-refusal_of Pending = None
+abbrev pub stage_asked : Asking → Poll (Result Unit Answer) → Stage
+stage_asked request (Ready (Ok x)) = waiting request
+stage_asked request (Ready (Err e)) = replying e
+stage_asked request Pending = waiting request
 
 -- a call that answered isn't in progress any more, and its answer, also where it is an error, is to be handed on
-abbrev pub still_called : Poll (Result Answer Answer) → Bool
-still_called (Ready x) = false
-still_called Pending = true
-
-abbrev pub reply_of : Poll (Result Answer Answer) → Option Answer
-reply_of (Ready (Ok x)) = Some x
-reply_of (Ready (Err e)) = Some e
-reply_of Pending = None
+abbrev pub stage_answered : Poll (Result Answer Answer) → Stage
+stage_answered (Ready (Ok x)) = replying x
+stage_answered (Ready (Err e)) = replying e
+stage_answered Pending = calling
 
 -- the service said that it takes a call, and then this one was begun
 pub record Begins (old new : Serving Asking Answer Answer) (request : Asking) : Type 0 where
@@ -113,10 +111,10 @@ pub record Begins (old new : Serving Asking Answer Answer) (request : Asking) : 
   pub is_ready : ReadySays old between (Ready (Ok tt))
   pub begun : CallSays between new request
 
--- the service is asked where the open request may be answered, which it may not while the connection closes, and nothing
--- is asked while an answer wasn't handed on
-abbrev pub IsAsked : View → Type 0
-IsAsked v = (v.ending ≡ None) × (v.calling ≡ false) × (v.reply ≡ None) × (allows_answer v ≡ true)
+-- the service is asked, with the request that waits, where the open request may be answered, which it may not while the
+-- connection closes
+abbrev pub IsAsked : View → Asking → Type 0
+IsAsked v request = (v.ending ≡ None) × (v.stage ≡ waiting request) × (allows_answer v ≡ true)
 
 -- memory ran out for one of these: the moment, the drain where it was asked for, the next head, the rest of a body where
 -- the answer is there, or this answer
@@ -124,9 +122,9 @@ abbrev pub MayFail : View → on.Event → Type 0
 MayFail v (on.tick moment) = ⊤
 MayFail v on.drain = v.draining ≡ true
 MayFail v on.next = (v.ending ≡ None) × (allows_next v ≡ true)
-MayFail v on.drop_body = (v.ending ≡ None) × (is_some v.reply ≡ true)
+MayFail v on.drop_body = (v.ending ≡ None) × (is_replying v.stage ≡ true)
 MayFail v (on.answer head size) =
-    (v.ending ≡ None) × ((answer : Answer) × (v.reply ≡ Some answer) × (head ≡ answer_of answer.head) × (size ≡ answers.size_of 0))
+    (v.ending ≡ None) × ((answer : Answer) × (v.stage ≡ replying answer) × (head ≡ answer_of answer.head) × (size ≡ answers.size_of 0))
 MayFail v event = ⊥
 
 -- so many bytes that came are told as bytes; none as the input's end
@@ -149,27 +147,25 @@ IsStep v (read came answer) w =
 IsStep v (shut answer) w =
     ((end : End) × (v.ending ≡ Some (Closed end))) × ShutSays v.wire w.wire answer × (w ≡ record v { wire = w.wire })
 IsStep v (next head) w =
-    (v.ending ≡ None) × (v.waiting ≡ None) × (allows_next v ≡ true) × Goes v.line on.next (SaysNext head) w.line
-    × (w ≡ record v { line = w.line; waiting = request_at head; ending = ending_told head })
+    (v.ending ≡ None) × (v.stage ≡ free) × (allows_next v ≡ true) × Goes v.line on.next (SaysNext head) w.line
+    × (w ≡ record v { line = w.line; stage = stage_at (request_at head); ending = ending_told head })
 IsStep v (closed end) w =
     (v.ending ≡ None) × (closing_by (setting_of v.line.state.settings) v.line.state.kept ≡ Some (end_of end))
     × (allows_next v ≡ true) × ((head : NextHead) × Goes v.line on.next (SaysNext head) w.line)
     × (w ≡ record v { line = w.line; ending = Some (Closed end) })
-IsStep v (ready answer) w =
-    IsAsked v × (is_some v.waiting ≡ true) × TakesNone answer × ReadySays v.service w.service answer
-    × (w ≡ record v { service = w.service; waiting = still_waiting answer v.waiting; reply = refusal_of answer })
+IsStep v (ready request answer) w =
+    IsAsked v request × TakesNone answer × ReadySays v.service w.service answer
+    × (w ≡ record v { service = w.service; stage = stage_asked request answer })
 IsStep v (called request) w =
-    IsAsked v × (v.waiting ≡ Some request) × Begins v.service w.service request
-    × (w ≡ record v { service = w.service; waiting = None; calling = true })
+    IsAsked v request × Begins v.service w.service request × (w ≡ record v { service = w.service; stage = calling })
 IsStep v (answered answer) w =
-    (v.ending ≡ None) × (allows_answer v ≡ true) × (v.calling ≡ true) × (v.reply ≡ None) × AnswerSays v.service w.service answer
-    × (w ≡ record v { service = w.service; calling = still_called answer; reply = reply_of answer })
+    (v.ending ≡ None) × (allows_answer v ≡ true) × (v.stage ≡ calling) × AnswerSays v.service w.service answer
+    × (w ≡ record v { service = w.service; stage = stage_answered answer })
 IsStep v dropped w =
-    (v.ending ≡ None) × (is_some v.reply ≡ true) × Goes v.line on.drop_body (Is on.done) w.line
-    × (w ≡ record v { line = w.line })
+    (v.ending ≡ None) × (is_replying v.stage ≡ true) × Goes v.line on.drop_body (Is on.done) w.line × (w ≡ record v { line = w.line })
 IsStep v (replied answer) w =
-    (v.ending ≡ None) × (v.reply ≡ Some answer) × Goes v.line (on.answer (answer_of answer.head) (answers.size_of 0)) (Is on.done) w.line
-    × (w ≡ record v { line = w.line; reply = None })
+    (v.ending ≡ None) × (v.stage ≡ replying answer) × Goes v.line (on.answer (answer_of answer.head) (answers.size_of 0)) (Is on.done) w.line
+    × (w ≡ record v { line = w.line; stage = free })
 IsStep v (failed event) w = MayFail v event × LineFails v.line event w.line × (w ≡ record v { line = w.line; ending = Some Broken })
 IsStep v (failed_write count) w =
     (v.ending ≡ None) × (0 < length (buffered v)) × WriteSays {E = Failed} v.wire w.wire (Ready (Ok count)) (buffered v)
@@ -181,6 +177,7 @@ IsStep v (failed_read came event) w =
     × ReadSays {E = Failed} v.wire w.wire (Ready (Ok count)) buf × IsOfRead count came event)
     × LineFails v.line event w.line
     × (w ≡ record v { line = w.line; wire = w.wire; ending = Some Broken })
+IsStep v asked_to_drain w = w ≡ with_drain v
 
 -- one step after another
 abbrev pub IsRun : View → List Step → View → Type 0

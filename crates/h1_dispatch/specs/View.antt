@@ -16,6 +16,8 @@ use Rattle.h1_line.specs.Line.{LineView, line_of}
 use Rattle.h1_dispatch.specs.declared.dispatcher.Dispatcher.{Dispatcher}
 use Rattle.h1_dispatch.specs.declared.dispatcher.Ending.{Ending}
 use Rattle.h1_dispatch.specs.declared.dispatcher.Ending.TheVariants.{Closed, Abandoned, Broken}
+use Rattle.h1_dispatch.specs.declared.dispatcher.Work.{Work}
+use Rattle.h1_dispatch.specs.declared.dispatcher.Work.TheVariants.{Free, Waiting, Calling as Called, Replying}
 
 -- what a service is asked, and what it answers: a response, also where it refuses
 abbrev pub Asking : Type 0
@@ -24,16 +26,47 @@ Asking = RequestParts Unit Unit
 abbrev pub Answer : Type 0
 Answer = FullResponse Unit
 
--- The connection with the steps that were noted; the wire; the service; the request that it is to be called with next,
--- and whether a call is in progress; the answer that wasn't handed on yet; how the connection has ended; and that it is
--- to be drained.
+-- How far the last request is: nothing is left to do for it, or none has come; the service is to be called with it; its
+-- call is in progress; its answer wasn't handed on yet. Only one of these holds, so that no answer becomes that of another
+-- request.
+pub data Stage : Type 0 where
+  free : Stage
+  waiting : (request : Asking) → Stage
+  calling : Stage
+  replying : (answer : Answer) → Stage
+
+-- the service has a request to answer, or its answer is to be handed on
+abbrev pub is_busy : Stage → Bool
+is_busy free = false
+is_busy (waiting request) = true
+is_busy calling = true
+is_busy (replying answer) = true
+
+abbrev pub is_waiting : Stage → Bool
+is_waiting (waiting request) = true
+is_waiting stage = false
+
+abbrev pub is_calling : Stage → Bool
+is_calling calling = true
+is_calling stage = false
+
+abbrev pub is_replying : Stage → Bool
+is_replying (replying answer) = true
+is_replying stage = false
+
+abbrev pub stage_of : {C : Type 0} → Work C → Stage
+stage_of Free = free
+stage_of (Waiting request) = waiting request
+stage_of (Called call) = calling
+stage_of (Replying response) = replying response
+
+-- The connection with the steps that were noted; the wire; the service; how far the last request is; how the connection
+-- has ended; and that it is to be drained.
 pub record View : Type 0 where
   pub line : LineView
   pub wire : Wiring
   pub service : Serving Asking Answer Answer
-  pub waiting : Option Asking
-  pub calling : Bool
-  pub reply : Option Answer
+  pub stage : Stage
   pub ending : Option Ending
   pub draining : Bool
 
@@ -43,9 +76,7 @@ view_of wiring served noted d =
       line = line_of noted d.line;
       wire = wiring d.wire;
       service = served d.service;
-      waiting = d.waiting;
-      calling = is_some d.call;
-      reply = d.reply;
+      stage = stage_of d.work;
       ending = d.ending;
       draining = d.is_draining;
     }
@@ -57,9 +88,7 @@ view_begun wire service settings noted =
       line = record { state = fresh_state settings; noted = noted };
       wire = wire;
       service = service;
-      waiting = None;
-      calling = false;
-      reply = None;
+      stage = free;
       ending = None;
       draining = false;
     }
@@ -80,12 +109,14 @@ is_broken (Some Abandoned) = false
 is_broken (Some Broken) = true
 
 -- a call in progress may be polled
-abbrev pub IsCallOpen : {C : Type 0} → (C → Calling Asking) → Option C → Type 0
-IsCallOpen calling None = ⊤
-IsCallOpen calling (Some call) = (calling call).is_open ≡ true
+abbrev pub IsCallOpen : {C : Type 0} → (C → Calling Asking) → Work C → Type 0
+IsCallOpen called Free = ⊤
+IsCallOpen called (Waiting request) = ⊤
+IsCallOpen called (Called call) = (called call).is_open ≡ true
+IsCallOpen called (Replying response) = ⊤
 
 abbrev pub MayBePolled : {T S C L : Type 0} → (C → Calling Asking) → Dispatcher T S C L → Type 0
-MayBePolled calling d = IsCallOpen calling d.call
+MayBePolled called d = IsCallOpen called d.work
 
 -- ---- of the connection
 

@@ -3,7 +3,7 @@ ghost use Rattle.std.specs.Prelude.{◌≡◌, ◌⊎◌, None, Some, []};
 ghost use Rattle.h1_machine.specs.Deadline.{deadline_by};
 ghost use Rattle.h1_connection.specs.Meaning.{setting_of};
 ghost use Rattle.h1_line.specs.Line.{LineStands};
-ghost use Rattle.h1_dispatch.specs.View.{view_of, view_begun, with_drain, parts_of, MayBePolled};
+ghost use Rattle.h1_dispatch.specs.View.{view_of, view_begun, with_drain, parts_of, stage_of, is_busy, MayBePolled};
 
 use h1_connection::End;
 use h1_line::{Line, Recorder};
@@ -33,6 +33,36 @@ pub enum Ending {
     Broken,
 }
 
+/// How far the last request is: only one of these holds, so that no answer becomes that of another request.
+#[derive(Drop)]
+enum Work<C> {
+    /// Nothing is left to do for it, or none has come.
+    Free,
+
+    /// The service is to be called with it.
+    Waiting(Request<(), ()>),
+
+    /// Its call is in progress.
+    Calling(C),
+
+    /// Its answer wasn't handed on yet.
+    Replying(Response<()>),
+}
+
+impl<C> Work<C> {
+    /// Whether the service has a request to answer, or its answer is to be handed on.
+    fn is_busy(&self) -> bool
+        ensures { result ≡ is_busy (stage_of self.now) }
+    {
+        match self {
+            Work::Free => false,
+            Work::Waiting(_) => true,
+            Work::Calling(_) => true,
+            Work::Replying(_) => true,
+        }
+    }
+}
+
 /// A service over a wire, by one connection of HTTP/1: each request goes to the service, and its answer is written.
 ///
 /// The parameters are the wire, the service and its call, and who notes the steps of the connection. An answer has a head
@@ -43,9 +73,7 @@ pub struct Dispatcher<T, S, C, L> {
     wire: T,
     service: S,
     lent: (),
-    waiting: Option<Request<(), ()>>,
-    call: Option<C>,
-    reply: Option<Response<()>>,
+    work: Work<C>,
     ending: Option<Ending>,
     is_draining: bool,
 }
@@ -73,9 +101,7 @@ where
             wire,
             service,
             lent: (),
-            waiting: None,
-            call: None,
-            reply: None,
+            work: Work::Free,
             ending: None,
             is_draining: false,
         }

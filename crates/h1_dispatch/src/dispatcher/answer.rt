@@ -1,16 +1,17 @@
 // The call in progress, and its answer.
-ghost use Rattle.std.specs.Prelude.{◌≡◌, None, true, false, is_some};
+ghost use Rattle.std.specs.Prelude.{◌≡◌, None, true};
 ghost use Rattle.futures.specs.Task.{IsArmed, Keeps};
-ghost use Rattle.h1_dispatch.specs.View.{view_of, MayBePolled, allows_answer};
+ghost use Rattle.h1_dispatch.specs.View.{view_of, stage_of, is_calling, is_replying, MayBePolled, allows_answer};
 ghost use Rattle.h1_dispatch.specs.Polls.{OnIdle, ServeSays, EndSays, StepSays};
 
-use crate::dispatcher::{Dispatcher, Ending, Turn};
+use crate::dispatcher::{Dispatcher, Ending, Turn, Work};
 use futures::task::{Context, Poll};
 use h1_connection::BodySize;
 use h1_line::Recorder;
 use http_services::Service;
 use http_types::{DispatchError, Request, Response};
 use http_wires::Wire;
+use std::mem;
 
 impl<T, S, L> Dispatcher<T, S, S::Call, L>
 where
@@ -23,27 +24,26 @@ where
         requires open { MayBePolled S.calling self.old }
         requires running { self.old.ending ≡ None }
         requires allowed { allows_answer (view_of T.wiring S.served L.noted self.old) ≡ true }
-        requires unanswered { is_some self.old.reply ≡ false }
-        requires calling { is_some self.old.call ≡ true }
+        requires calls { is_calling (stage_of self.old.work) ≡ true }
         ensures says { ServeSays (view_of T.wiring S.served L.noted self.old) (view_of T.wiring S.served L.noted self.new) result }
         ensures open { MayBePolled S.calling self.new }
         ensures registered { OnIdle result (IsArmed cx.new) }
         ensures kept { Keeps cx.old cx.new }
     {
-        let Some(mut call) = self.call.take() else {
+        let Work::Calling(mut call) = mem::replace(&mut self.work, Work::Free) else {
             unreachable!()
         };
         match self.service.poll_call(&mut call, &mut self.lent, cx) {
             Poll::Pending => {
-                self.call = Some(call);
+                self.work = Work::Calling(call);
                 self.read_on(cx)
             }
             Poll::Ready(Ok(response)) => {
-                self.reply = Some(response);
+                self.work = Work::Replying(response);
                 self.hand_on()
             }
             Poll::Ready(Err(response)) => {
-                self.reply = Some(response);
+                self.work = Work::Replying(response);
                 self.hand_on()
             }
         }
@@ -54,7 +54,7 @@ where
         requires open { MayBePolled S.calling self.old }
         requires running { self.old.ending ≡ None }
         requires allowed { allows_answer (view_of T.wiring S.served L.noted self.old) ≡ true }
-        requires answered { is_some self.old.reply ≡ true }
+        requires answered { is_replying (stage_of self.old.work) ≡ true }
         ensures says { EndSays (view_of T.wiring S.served L.noted self.old) (view_of T.wiring S.served L.noted self.new) result }
         ensures open { MayBePolled S.calling self.new }
     {
@@ -74,7 +74,7 @@ where
     fn put_reply_if_allowed(&mut self) -> Turn
         requires open { MayBePolled S.calling self.old }
         requires running { self.old.ending ≡ None }
-        requires answered { is_some self.old.reply ≡ true }
+        requires answered { is_replying (stage_of self.old.work) ≡ true }
         ensures says { StepSays (view_of T.wiring S.served L.noted self.old) (view_of T.wiring S.served L.noted self.new) result }
         ensures open { MayBePolled S.calling self.new }
     {
@@ -89,17 +89,17 @@ where
         requires open { MayBePolled S.calling self.old }
         requires running { self.old.ending ≡ None }
         requires allowed { allows_answer (view_of T.wiring S.served L.noted self.old) ≡ true }
-        requires answered { is_some self.old.reply ≡ true }
+        requires answered { is_replying (stage_of self.old.work) ≡ true }
         ensures says { EndSays (view_of T.wiring S.served L.noted self.old) (view_of T.wiring S.served L.noted self.new) result }
         ensures open { MayBePolled S.calling self.new }
     {
-        let Some(response) = self.reply.take() else {
+        let Work::Replying(response) = mem::replace(&mut self.work, Work::Free) else {
             unreachable!()
         };
         match self.line.answer(response.head(), BodySize::ZERO) {
             Ok(()) => Turn::Counted,
             Err(_) => {
-                self.reply = Some(response);
+                self.work = Work::Replying(response);
                 self.ending = Some(Ending::Broken);
                 Turn::Over(Err(DispatchError::NoMemory))
             }

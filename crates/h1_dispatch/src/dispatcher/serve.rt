@@ -1,16 +1,17 @@
 // The next head is asked for, and the service.
-ghost use Rattle.std.specs.Prelude.{◌≡◌, None, true, false, is_some};
+ghost use Rattle.std.specs.Prelude.{◌≡◌, None, true, false};
 ghost use Rattle.futures.specs.Task.{IsArmed, Keeps};
-ghost use Rattle.h1_dispatch.specs.View.{view_of, MayBePolled, closes, allows_next, allows_answer};
+ghost use Rattle.h1_dispatch.specs.View.{view_of, stage_of, is_busy, is_waiting, MayBePolled, allows_next, allows_answer};
 ghost use Rattle.h1_dispatch.specs.Polls.{OnIdle, ServeSays};
 
-use crate::dispatcher::{Dispatcher, Ending, Turn};
+use crate::dispatcher::{Dispatcher, Ending, Turn, Work};
 use futures::task::{Context, Poll};
 use h1_connection::NextHead;
 use h1_line::Recorder;
 use http_services::Service;
 use http_types::{DispatchError, Request, Response};
 use http_wires::Wire;
+use std::mem;
 
 impl<T, S, L> Dispatcher<T, S, S::Call, L>
 where
@@ -30,7 +31,7 @@ where
         if self.line.connection().can_answer() {
             return self.respond(cx);
         }
-        if self.waiting.is_some() {
+        if self.work.is_busy() {
             return self.read_alone(cx);
         }
         if self.line.connection().can_next() {
@@ -49,23 +50,19 @@ where
         ensures registered { OnIdle result (IsArmed cx.new) }
         ensures kept { Keeps cx.old cx.new }
     {
-        if self.reply.is_some() {
-            return self.hand_on();
+        match self.work {
+            Work::Free => self.read_alone(cx),
+            Work::Waiting(_) => self.ask(cx),
+            Work::Calling(_) => self.answer(cx),
+            Work::Replying(_) => self.hand_on(),
         }
-        if self.call.is_some() {
-            return self.answer(cx);
-        }
-        if self.waiting.is_some() {
-            return self.ask(cx);
-        }
-        self.read_alone(cx)
     }
 
     /// Asks for the next head.
     fn next(&mut self, cx: &mut Context<'_>) -> Turn
         requires open { MayBePolled S.calling self.old }
         requires running { self.old.ending ≡ None }
-        requires free { is_some self.old.waiting ≡ false }
+        requires free { is_busy (stage_of self.old.work) ≡ false }
         requires unanswered { allows_answer (view_of T.wiring S.served L.noted self.old) ≡ false }
         requires allowed { allows_next (view_of T.wiring S.served L.noted self.old) ≡ true }
         ensures says { ServeSays (view_of T.wiring S.served L.noted self.old) (view_of T.wiring S.served L.noted self.new) result }
@@ -75,7 +72,7 @@ where
     {
         match self.line.next() {
             Ok(NextHead::Head(item)) => {
-                self.waiting = Some(Request::new(item.head, ()));
+                self.work = Work::Waiting(Request::new(item.head, ()));
                 Turn::Counted
             }
             Ok(NextHead::Fault(_)) => Turn::Counted,
@@ -96,9 +93,7 @@ where
         requires open { MayBePolled S.calling self.old }
         requires running { self.old.ending ≡ None }
         requires allowed { allows_answer (view_of T.wiring S.served L.noted self.old) ≡ true }
-        requires unanswered { is_some self.old.reply ≡ false }
-        requires calling { is_some self.old.call ≡ false }
-        requires waiting { is_some self.old.waiting ≡ true }
+        requires waits { is_waiting (stage_of self.old.work) ≡ true }
         ensures says { ServeSays (view_of T.wiring S.served L.noted self.old) (view_of T.wiring S.served L.noted self.new) result }
         ensures open { MayBePolled S.calling self.new }
         ensures registered { OnIdle result (IsArmed cx.new) }
@@ -107,15 +102,14 @@ where
         match self.service.poll_ready(cx) {
             Poll::Pending => self.read_on(cx),
             Poll::Ready(Err(response)) => {
-                self.waiting = None;
-                self.reply = Some(response);
+                self.work = Work::Replying(response);
                 self.hand_on()
             }
             Poll::Ready(Ok(())) => {
-                let Some(request) = self.waiting.take() else {
+                let Work::Waiting(request) = mem::replace(&mut self.work, Work::Free) else {
                     unreachable!()
                 };
-                self.call = Some(self.service.call(request));
+                self.work = Work::Calling(self.service.call(request));
                 self.answer(cx)
             }
         }

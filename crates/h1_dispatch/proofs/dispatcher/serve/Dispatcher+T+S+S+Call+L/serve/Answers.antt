@@ -3,8 +3,8 @@ use Rattle.h1_dispatch.specs.View.{view_of}
 use Rattle.h1_dispatch.proofs.Turns.{input_then, waits_busy, waits_not}
 use Rattle.h1_dispatch.proofs.dispatcher.serve.Dispatcher+T+S+S+Call+L.serve.Goals as goal
 
-pub returns-then-is_some-clause-says : goal.returns-then-is_some-clause-says
-returns-then-is_some-clause-says g c =
+pub returns-then-is_busy-clause-says : goal.returns-then-is_busy-clause-says
+returns-then-is_busy-clause-says g c =
     let v = view_of g.T.Wire.wiring g.S.Service.served g.L.Recorder.noted c.args.self.now in
     let w = view_of g.T.Wire.wiring g.S.Service.served g.L.Recorder.noted c.read_alone.new.self in
     input_then v w c.read_alone.result (waits_busy v (search rules) (search rules)) c.read_alone.ensures.says
