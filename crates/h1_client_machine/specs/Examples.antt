@@ -64,6 +64,10 @@ answer minor lines kind = record {
 abbrev pub closes_after : List ℕ → Answer → Bool
 closes_after method a = (behind_answer fresh_client [] a (record { method = method; closes = false }) []).closes
 
+-- a connection on which a body in chunks is read, of which these bytes are there
+abbrev pub read_in_chunks : List ℕ → ClientKept
+read_in_chunks bytes = record fresh_client { unread = bytes; reading = Some (record { rest = chunks_rest start []; is_done = false; was_dropped = false }) }
+
 -- a connection of which a body in chunks is dropped, once these bytes of it have come
 abbrev pub dropped_in_chunks : List ℕ → ClientKept
 dropped_in_chunks bytes =
