@@ -1,7 +1,7 @@
 -- Values that the worked examples take.
 use Rattle.std.specs.Prelude.{ℕ, Bool, true, false, List, [], ◌∷◌, codes, Some}
 use Rattle.h1_chunks.specs.Place.{start}
-use Rattle.h1_model.specs.Request.{Header, keep_alive, BodyKind}
+use Rattle.h1_model.specs.Request.{raw_body, Header, keep_alive, BodyKind}
 use Rattle.h1_model.specs.Setting.{Setting, disabled}
 use Rattle.h1_machine.specs.Kept.{chunks_rest}
 use Rattle.h1_client_model.specs.AnswerTable.{answer_connection}
@@ -59,6 +59,10 @@ answer minor lines kind = record {
   connection = answer_connection minor 200 lines kind;
   is_lax = false;
 }
+
+-- an answer that goes over to another protocol, and names none
+abbrev pub switched : Answer
+switched = record (ok raw_body) { status = 101; connection = answer_connection 1 101 [] raw_body }
 
 -- whether the connection closes after this answer to a request of this method that doesn't ask for it
 abbrev pub closes_after : List ℕ → Answer → Bool

@@ -7,7 +7,7 @@ ghost use Rattle.h1_client_machine.specs.ClientEvent as on;
 ghost use Rattle.h1_client_model.specs.WrittenHead.{line_of};
 ghost use Rattle.h1_client_machine.specs.ClientKept.{fresh_client, waiting_of, client_allows, client_closing, is_free, is_reusable};
 ghost use Rattle.h1_client_machine.specs.ClientStep.{new_body};
-ghost use Rattle.h1_client_machine.specs.Examples.{narrow, request, upgrading, waits_for, waits_for_get, ok, answer, closes_after, read_in_chunks, dropped_in_chunks};
+ghost use Rattle.h1_client_machine.specs.Examples.{narrow, request, upgrading, waits_for, waits_for_get, ok, answer, switched, closes_after, read_in_chunks, dropped_in_chunks};
 
 /// A further request may be asked while one waits, but not while a body is sent, while too much is to be written, or after a
 /// request that asks that the connection closes or for another protocol. HTTP/1.0 has no chunks, its POST states a length,
@@ -60,6 +60,12 @@ pub fn answers_without_a_length()
     ensures head { closes_after (codes "HEAD") (answer 1 [] raw_body) ≡ false }
     ensures head_that_closes { closes_after (codes "HEAD") (answer 1 (line_of (codes "connection") (codes "close") ∷ []) raw_body) ≡ true }
     ensures older_head { closes_after (codes "HEAD") (answer 0 [] raw_body) ≡ true }
+{}
+
+/// After a 101 no answer is read, though no line names another protocol, and after HEAD too.
+pub fn other_protocols()
+    ensures get { closes_after (codes "GET") switched ≡ true }
+    ensures head { closes_after (codes "HEAD") switched ≡ true }
 {}
 
 /// An answer that others would frame in another way is the last one: one of HTTP/1.0 with a coding, and one with a coding
