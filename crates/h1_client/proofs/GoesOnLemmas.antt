@@ -16,7 +16,7 @@ use Rattle.h1_client.specs.Bodies.{is_dropped_in, SaysPulled, IsPulledIn}
 use Rattle.h1_client.specs.Answers.{SaysNext, IsNexted}
 use Rattle.h1_client.specs.Meaning.{setting_of, request_of}
 use Rattle.h1_client.specs.Parts.{kept_of, reading_of, IsSound, Steps}
-use Rattle.h1_client.specs.State.{State, IsAllowed, IsPullAllowed, is_dropped, pull_allowed, Stands, GoesOn, Is}
+use Rattle.h1_client.specs.State.{State, IsAllowed, Stands, GoesOn, Is}
 use Rattle.h1_client.specs.declared.connection.bodies.Reading.{Reading}
 use Rattle.h1_client.specs.declared.connection.parts.Parts.{Parts}
 
@@ -67,40 +67,3 @@ goes_so now s p q event out view allowed steps = goes_on now s p q event out (Is
 -- what is said of the connection is said of its parts
 pub allowed_parts : (now : State) (s : Settings) (p : Parts) (event : on.ClientEvent) → state_of s p ≡ now → IsAllowed now event → IsAllowed (state_of s p) event
 allowed_parts now s p event view allowed = subst (λ (m : State). IsAllowed m event) (sym view) allowed
-
--- ---- what is allowed
-
-first_true : (a b : Bool) → (a && b) ≡ true → a ≡ true
-first_true true b is = refl
-first_true false b is = absurd (cc is)
-
-second_true : (a b : Bool) → (a && b) ≡ true → b ≡ true
-second_true true b is = is
-second_true false b is = absurd (cc is)
-
--- where it doesn't close, what is allowed is what is allowed while it runs
-running_case : (over : Bool) (closes : Bool) (may : Bool) → (not over && true && (if closes then false else may)) ≡ true → may ≡ true
-running_case true closes may is = absurd (cc is)
-running_case false true may is = absurd (cc is)
-running_case false false may is = is
-
--- a pull is of a body that is read, and wanted
-pub pull_may : (now : State) → IsPullAllowed now → IsAllowed now on.pull
-pull_may now is = first_true _ _ is
-
--- what may be dropped may be pulled, where it isn't dropped
-and_false : (b d : Bool) → d ≡ true → false ≡ (b && not d)
-and_false true true is = refl
-and_false false true is = refl
-and_false b false is = absurd (cc is)
-
-and_true : (b d : Bool) → d ≡ false → b ≡ (b && not d)
-and_true true false is = refl
-and_true false false is = refl
-and_true b true is = absurd (cc is)
-
-pub dropped_pull : (set : Setting) (k : ClientKept) → is_dropped k.reading ≡ true → false ≡ pull_allowed set k
-dropped_pull set k is = and_false (client_allows set k on.pull) (is_dropped k.reading) is
-
-pub wanted_pull : (set : Setting) (k : ClientKept) → is_dropped k.reading ≡ false → client_allows set k on.drop_body ≡ pull_allowed set k
-wanted_pull set k is = and_true (client_allows set k on.pull) (is_dropped k.reading) is

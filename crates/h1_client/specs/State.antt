@@ -1,9 +1,8 @@
 -- A client's connection as its contracts see it: its settings, and what the machine keeps.
-use Rattle.std.specs.Prelude.{◌≡◌, ◌<◌, ℕ, Bool, false, not, ◌&&◌, List, [], ◌∷◌, length, IsTrue, Option, Some, None}
+use Rattle.std.specs.Prelude.{◌≡◌, ◌<◌, List, [], ◌∷◌, length, IsTrue}
 use Rattle.http_config.specs.Config.{Settings}
-use Rattle.h1_model.specs.Setting.{Setting}
 use Rattle.h1_client_machine.specs.ClientEvent as on
-use Rattle.h1_client_machine.specs.ClientKept.{ReadingBody, ClientKept, fresh_client, client_allows}
+use Rattle.h1_client_machine.specs.ClientKept.{ClientKept, fresh_client, client_allows}
 use Rattle.h1_client_machine.specs.ClientStep.{IsClientStep}
 use Rattle.h1_client_machine.specs.ClientTrace.{Happened, IsClientTrace}
 use Rattle.h1_client.specs.Meaning.{setting_of}
@@ -19,19 +18,6 @@ fresh_state settings = record { settings = settings; kept = fresh_client }
 -- the event is allowed
 abbrev pub IsAllowed : State → on.ClientEvent → Type 0
 IsAllowed state event = IsTrue (client_allows (setting_of state.settings) state.kept event)
-
--- the rest of the last answer's body isn't wanted
-abbrev pub is_dropped : Option ReadingBody → Bool
-is_dropped None = false
-is_dropped (Some body) = body.was_dropped
-
--- More of the last answer's body may be asked for: of one that was dropped the text of trailers isn't kept, so nothing is
--- told of it any more.
-abbrev pub pull_allowed : Setting → ClientKept → Bool
-pull_allowed setting k = client_allows setting k on.pull && not (is_dropped k.reading)
-
-abbrev pub IsPullAllowed : State → Type 0
-IsPullAllowed state = IsTrue (pull_allowed (setting_of state.settings) state.kept)
 
 -- there is room for a piece of a request's body
 abbrev pub HasWriteRoom : State → Type 0

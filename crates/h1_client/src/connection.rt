@@ -8,7 +8,7 @@ ghost use Rattle.h1_client.specs.Answers.{SaysNext, NeedsNoMemory};
 ghost use Rattle.h1_client.specs.Bodies.{SaysPulled, IsLightPull};
 ghost use Rattle.h1_client.specs.Meaning.{request_of, end_of};
 ghost use Rattle.h1_client.specs.Requests.{SendsNoPiece, SendsNoEnd};
-ghost use Rattle.h1_client.specs.State.{fresh_state, IsAllowed, IsPullAllowed, HasWriteRoom, Stands, GoesOn, Is};
+ghost use Rattle.h1_client.specs.State.{fresh_state, IsAllowed, HasWriteRoom, Stands, GoesOn, Is};
 
 use crate::connection::parts::Parts;
 use crate::{ClientEnd, NextAnswer};
@@ -149,7 +149,7 @@ impl ClientConnection {
     /// its end. A body that is broken, or inside which the input has ended, closes the connection. It takes no memory where
     /// it tells the end or a fault, or where nothing is there and no trailer has begun.
     pub fn pull(&mut self) -> Result<Pulled, NoMemory>
-        requires can_pull { IsPullAllowed self.old }
+        requires can_pull { IsAllowed self.old on.pull }
         ensures stands { IfOk result (λ answer. GoesOn self.old on.pull (SaysPulled answer) self.new) }
         ensures settings { self.new.settings ≡ self.old.settings }
         ensures no_memory_needed { IsLightPull self.old.kept → IsOk result }

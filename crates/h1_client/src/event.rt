@@ -4,7 +4,7 @@ use h1_client_heads::{AnswerFault, ResponseItem};
 /// Why a connection ends.
 #[derive(Clone, Copy, Debug, PartialEq, Eq)]
 pub enum ClientEnd {
-    /// An answer's head is none.
+    /// An answer's head is refused.
     BadAnswer,
 
     /// An answer's head has more bytes than may be held, or more lines than are read.
@@ -34,7 +34,7 @@ pub enum NextAnswer {
     /// the answer to the request that has waited longest, and its body is to be pulled or dropped (RFC 7231, section 6.2).
     Answer(ResponseItem),
 
-    /// The next head is none. The connection closes.
+    /// The next head is refused. The connection closes.
     Fault(AnswerFault),
 
     /// There is no whole head before more bytes are read.

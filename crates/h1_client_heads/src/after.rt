@@ -12,7 +12,7 @@ ghost use Rattle.h1_client_model.specs.AnswerParse.{is_interim};
 ghost use Rattle.h1_client_model.specs.AnswerReading.{Answer, answer_is, IsAnswerReading};
 ghost use Rattle.h1_client_model.specs.AnswerTable.{body_to, ends_with_input};
 ghost use Rattle.h1_client_machine.specs.ClientKept.{Waiting, is_kept_alive};
-ghost use Rattle.h1_client_machine.specs.ClientStep.{is_ambiguous, is_closed_after};
+ghost use Rattle.h1_client_machine.specs.ClientStep.{is_ambiguous, is_closed_after, is_last_answer};
 ghost use Rattle.h1_decode.specs.ResponseItem.{SaysAnswer};
 
 use h1_decode::ResponseItem;
@@ -39,14 +39,15 @@ pub fn body_to(is_head: bool, item: &ResponseItem) -> BodyKind
 }
 
 /// Whether the connection closes after the answer to a request that asks so or doesn't: only the end of the input ends its
-/// body, its version or its lines say so (RFC 7230, section 6.3), or other readers would frame it in another way.
+/// body, its version or its lines say so (RFC 7230, section 6.3), it goes over to another protocol, or other readers would
+/// frame it in another way.
 pub fn closes_after(closes: bool, is_head: bool, item: &ResponseItem) -> bool
     ensures { (piece : List ℕ) (a : Answer) (w : Waiting) → IsAnswerReading piece (answer_is a) → SaysAnswer item.now a
         → w.closes ≡ closes → bytes_eq w.method (codes "HEAD") ≡ is_head → result ≡ is_closed_after w a }
 {
     let ends = ends_with_input(is_head, item);
     let keeps = keeps_by_lines(item);
-    let misleads = is_ambiguous(item);
+    let is_last = is_last_answer(item);
     if closes {
         return true;
     }
@@ -54,9 +55,28 @@ pub fn closes_after(closes: bool, is_head: bool, item: &ResponseItem) -> bool
         return true;
     }
     if keeps {
-        return misleads;
+        return is_last;
     }
     true
+}
+
+// It goes over to another protocol, or its lines may be read in another way.
+fn is_last_answer(item: &ResponseItem) -> bool
+    ensures { (piece : List ℕ) (a : Answer) → IsAnswerReading piece (answer_is a) → SaysAnswer item.now a → result ≡ is_last_answer a }
+{
+    let switches = switches(item);
+    let misleads = is_ambiguous(item);
+    if switches {
+        return true;
+    }
+    misleads
+}
+
+// It goes over to another protocol.
+fn switches(item: &ResponseItem) -> bool
+    ensures { (a : Answer) → SaysAnswer item.now a → result ≡ (a.status == 101) }
+{
+    item.head.status.as_u16() == 101
 }
 
 // Only the end of the input ends the body, and the connection goes on to no other protocol.

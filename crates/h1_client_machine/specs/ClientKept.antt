@@ -76,6 +76,14 @@ is_free_of (Some body) = body.is_done
 abbrev pub is_free : ClientKept → Bool
 is_free k = is_free_of k.reading
 
+-- the rest of the last answer's body isn't wanted
+abbrev pub is_dropped_of : Option ReadingBody → Bool
+is_dropped_of None = false
+is_dropped_of (Some body) = body.was_dropped
+
+abbrev pub is_dropped : ClientKept → Bool
+is_dropped k = is_dropped_of k.reading
+
 -- a request waits for its answer
 abbrev pub is_waited_for : List Waiting → Bool
 is_waited_for [] = false
@@ -146,7 +154,7 @@ is_last k = k.closes || list_any (λ w. w.closes) k.waiting
 abbrev pub has_room : Setting → ClientKept → Bool
 has_room setting k = nat_lt (length k.buffered) setting.write_buffer
 
--- while the connection doesn't close
+-- while the connection doesn't close: of a dropped body nothing is pulled, since the text of its trailers isn't kept
 abbrev pub allowed_running : Setting → ClientKept → ClientEvent → Bool
 allowed_running setting k (ask r size) = is_none k.sending && not (is_last k) && can_be_sent r size && has_room setting k
 allowed_running setting k (chunk bytes) = is_some k.sending && has_room setting k
@@ -155,7 +163,7 @@ allowed_running setting k body_error = is_some k.sending
 allowed_running setting k (read bytes) = not k.has_ended
 allowed_running setting k eof = not k.has_ended
 allowed_running setting k next = is_free k
-allowed_running setting k pull = not (is_free k)
+allowed_running setting k pull = not (is_free k) && not (is_dropped k)
 allowed_running setting k drop_body = not (is_free k)
 allowed_running setting k (write n) = true
 allowed_running setting k (tick ms) = true

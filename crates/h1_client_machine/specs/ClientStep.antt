@@ -160,9 +160,14 @@ is_ambiguous a =
     is_there (values_of (codes "transfer-encoding") a.headers)
     && ((a.minor == 0) || is_there (values_of (codes "content-length") a.headers))
 
+-- No answer is read after this one: it goes over to another protocol, whether its lines name one or not (RFC 9110, section
+-- 15.2.2), or it is ambiguous.
+abbrev pub is_last_answer : Answer → Bool
+is_last_answer a = (a.status == 101) || is_ambiguous a
+
 -- the connection closes after this answer
 abbrev pub is_closed_after : Waiting → Answer → Bool
-is_closed_after w a = w.closes || not (is_kept_alive (connection_to w.method a)) || is_ambiguous a
+is_closed_after w a = w.closes || not (is_kept_alive (connection_to w.method a)) || is_last_answer a
 
 -- After a final answer its request waits no more; an interim one leaves it waiting, and has no body (RFC 7231, section 6.2).
 abbrev pub behind_final : ClientKept → List ℕ → Answer → Waiting → List Waiting → ClientKept

@@ -1,7 +1,7 @@
 -- Values that the worked examples take.
 use Rattle.std.specs.Prelude.{ℕ, Bool, true, false, List, [], ◌∷◌, codes, Some}
 use Rattle.h1_chunks.specs.Place.{start}
-use Rattle.h1_model.specs.Request.{Header, keep_alive, BodyKind}
+use Rattle.h1_model.specs.Request.{raw_body, Header, keep_alive, BodyKind}
 use Rattle.h1_model.specs.Setting.{Setting, disabled}
 use Rattle.h1_machine.specs.Kept.{chunks_rest}
 use Rattle.h1_client_model.specs.AnswerTable.{answer_connection}
@@ -60,9 +60,17 @@ answer minor lines kind = record {
   is_lax = false;
 }
 
+-- an answer that goes over to another protocol, and names none
+abbrev pub switched : Answer
+switched = record (ok raw_body) { status = 101; connection = answer_connection 1 101 [] raw_body }
+
 -- whether the connection closes after this answer to a request of this method that doesn't ask for it
 abbrev pub closes_after : List ℕ → Answer → Bool
 closes_after method a = (behind_answer fresh_client [] a (record { method = method; closes = false }) []).closes
+
+-- a connection on which a body in chunks is read, of which these bytes are there
+abbrev pub read_in_chunks : List ℕ → ClientKept
+read_in_chunks bytes = record fresh_client { unread = bytes; reading = Some (record { rest = chunks_rest start []; is_done = false; was_dropped = false }) }
 
 -- a connection of which a body in chunks is dropped, once these bytes of it have come
 abbrev pub dropped_in_chunks : List ℕ → ClientKept

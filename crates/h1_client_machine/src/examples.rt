@@ -7,7 +7,7 @@ ghost use Rattle.h1_client_machine.specs.ClientEvent as on;
 ghost use Rattle.h1_client_model.specs.WrittenHead.{line_of};
 ghost use Rattle.h1_client_machine.specs.ClientKept.{fresh_client, waiting_of, client_allows, client_closing, is_free, is_reusable};
 ghost use Rattle.h1_client_machine.specs.ClientStep.{new_body};
-ghost use Rattle.h1_client_machine.specs.Examples.{narrow, request, upgrading, waits_for, waits_for_get, ok, answer, closes_after, dropped_in_chunks};
+ghost use Rattle.h1_client_machine.specs.Examples.{narrow, request, upgrading, waits_for, waits_for_get, ok, answer, switched, closes_after, read_in_chunks, dropped_in_chunks};
 
 /// A further request may be asked while one waits, but not while a body is sent, while too much is to be written, or after a
 /// request that asks that the connection closes or for another protocol. HTTP/1.0 has no chunks, its POST states a length,
@@ -62,6 +62,12 @@ pub fn answers_without_a_length()
     ensures older_head { closes_after (codes "HEAD") (answer 0 [] raw_body) ≡ true }
 {}
 
+/// After a 101 no answer is read, though no line names another protocol, and after HEAD too.
+pub fn other_protocols()
+    ensures get { closes_after (codes "GET") switched ≡ true }
+    ensures head { closes_after (codes "HEAD") switched ≡ true }
+{}
+
 /// An answer that others would frame in another way is the last one: one of HTTP/1.0 with a coding, and one with a coding
 /// and a length (RFC 9112, sections 6.1 and 6.3).
 pub fn ambiguous_answers()
@@ -75,12 +81,15 @@ pub fn ambiguous_answers()
     ensures nothing { closes_after (codes "GET") (answer 1 (line_of (codes "content-length") (codes "0") ∷ []) no_body) ≡ false }
 {}
 
-/// A dropped body that breaks the grammar of chunks closes the connection at once, though the input goes on.
+/// A dropped body that breaks the grammar of chunks closes the connection at once, though the input goes on. Nothing is
+/// pulled of a dropped body.
 pub fn dropped_bodies()
     ensures broken { client_closing (dropped_in_chunks (codes "zz")) ≡ Some on.broken_answer }
     ensures broken_is_done { is_free (dropped_in_chunks (codes "zz")) ≡ true }
     ensures broken_is_passed { (dropped_in_chunks (codes "zz")).unread ≡ [] }
     ensures open { is_free (dropped_in_chunks (codes "1")) ≡ false }
+    ensures not_pulled { client_allows narrow (dropped_in_chunks (codes "1")) on.pull ≡ false }
+    ensures pulled_else { client_allows narrow (read_in_chunks (codes "1")) on.pull ≡ true }
     ensures whole { is_free (dropped_in_chunks (codes "0\r\n\r\nH")) ≡ true }
     ensures behind_whole { (dropped_in_chunks (codes "0\r\n\r\nH")).unread ≡ codes "H" }
 {}

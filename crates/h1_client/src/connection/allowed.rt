@@ -3,12 +3,11 @@ ghost use Rattle.std.specs.Prelude.{◌≡◌, ◌&&◌, not, bytes_eq, codes, i
 ghost use Rattle.h1_codec.specs.Meaning.{size_of};
 ghost use Rattle.h1_model.specs.Setting.{Setting};
 ghost use Rattle.h1_client_machine.specs.ClientEvent as on;
-ghost use Rattle.h1_client_machine.specs.ClientKept.{client_allows, client_closing, is_moment, can_be_sent, can_be_framed, lacks_length, states_length};
+ghost use Rattle.h1_client_machine.specs.ClientKept.{client_allows, client_closing, is_dropped, is_moment, can_be_sent, can_be_framed, lacks_length, states_length};
 ghost use Rattle.h1_client_model.specs.RequestText.{asked_shape};
 ghost use Rattle.h1_request.specs.Meaning.{asked_minor};
 ghost use Rattle.h1_client.specs.Meaning.{setting_of, request_of};
 ghost use Rattle.h1_client.specs.Parts.{kept_of, IsSound};
-ghost use Rattle.h1_client.specs.State.{is_dropped, pull_allowed};
 
 use crate::connection::parts::Parts;
 use h1_request::has_text;
@@ -78,17 +77,14 @@ impl Parts {
     }
 
     pub fn can_pull(&self) -> bool
-        ensures { (setting : Setting) → result ≡ pull_allowed setting (kept_of self.now) }
+        ensures { (setting : Setting) → result ≡ client_allows setting (kept_of self.now) on.pull }
     {
-        if self.is_dropped() {
-            return false;
-        }
-        self.can_drop_body()
+        self.is_running() && !self.is_free() && !self.is_dropped()
     }
 
     // The rest of the last answer's body isn't wanted.
     fn is_dropped(&self) -> bool
-        ensures { result ≡ is_dropped (kept_of self.now).reading }
+        ensures { result ≡ is_dropped (kept_of self.now) }
     {
         match &self.reading {
             Some(body) => body.was_dropped,

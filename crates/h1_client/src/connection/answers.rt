@@ -106,7 +106,7 @@ impl Parts {
         NextAnswer::Pending
     }
 
-    // The head that was found is none, for this reason, unless memory ran out.
+    // The head that was found is refused, for this reason, unless memory ran out.
     fn refuse(&mut self, error: ParseError) -> Result<AnswerFault, NoMemory>
         ensures cause { IfOk result (λ fault. (error ≢ ParseError.NoMemory) × (fault_of fault ≡ decode.fault_of error)) }
         ensures ok { IfOk result (λ fault. (failed : ClientEnd) × (end_of failed ≡ fault_end (fault_of fault)) × (self.new ≡ record self.old { failed = Some failed })) }

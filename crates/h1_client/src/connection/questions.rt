@@ -4,7 +4,6 @@ ghost use Rattle.h1_codec.specs.Meaning.{size_of};
 ghost use Rattle.h1_client_machine.specs.ClientEvent as on;
 ghost use Rattle.h1_client_machine.specs.ClientKept.{client_allows, client_closing, is_reusable};
 ghost use Rattle.h1_client.specs.Meaning.{setting_of, request_of, end_of};
-ghost use Rattle.h1_client.specs.State.{pull_allowed};
 
 use crate::ClientEnd;
 use crate::connection::ClientConnection;
@@ -53,7 +52,7 @@ impl ClientConnection {
 
     /// Whether more of the last answer's body may be asked for: it has one whose end, fault or drop hasn't come.
     pub fn can_pull(&self) -> bool
-        ensures { result ≡ pull_allowed (setting_of self.now.settings) self.now.kept }
+        ensures { result ≡ client_allows (setting_of self.now.settings) self.now.kept on.pull }
     {
         self.parts.can_pull()
     }

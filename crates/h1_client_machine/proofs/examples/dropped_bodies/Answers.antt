@@ -19,6 +19,10 @@ pub returns-clause-open : goal.returns-clause-open
 unfolding read after
 returns-clause-open c = refl
 
+pub returns-clause-not_pulled : goal.returns-clause-not_pulled
+unfolding read after
+returns-clause-not_pulled c = refl
+
 pub returns-clause-whole : goal.returns-clause-whole
 unfolding read after
 returns-clause-whole c = refl
