@@ -1,0 +1,6 @@
+pub mod TrimLemmas
+pub mod ForwardedLines
+pub mod SentRequests
+pub mod FoundAnswers
+pub mod ExampleLemmas
+pub mod Histories
