@@ -1,22 +1,24 @@
 -- A request that was read and is sent on whole is a plain one.
-use Rattle.std.proofs.Common.{◌≡◌, ℕ, ◌<◌, ◌^◌, Bool, true, false, not, ◌&&◌, List, [], ◌∷◌, ◌++◌, map, flat_map, filter, cond, length, All, codes, refl, sym, ap, ap₂, ◌∙◌, subst, append-nil, append_assoc, lit<, Some, None}
+use Rattle.std.proofs.Common.{◌≡◌, ℕ, ◌<◌, ◌^◌, Bool, true, false, not, ◌&&◌, List, [], ◌∷◌, ◌++◌, map, flat_map, filter, cond, length, All, codes, refl, sym, ap, ap₂, ◌∙◌, subst, append-nil, append_assoc, lit<, Some, None, eqb, arith}
 use Rattle.std.specs.Prelude.{bytes_eq, nat_eq, nat_lt, unwrap_or, IsUtf8}
 use Rattle.std.specs.List.{AllByRecursion, starts_with, list_all}
 use Rattle.std.specs.Char.{is_ascii_digit}
 use Rattle.std.specs.Str.Parse.{digits_value}
-use Rattle.std.proofs.lemmas.Bool.{false≢true, ltb-true}
+use Rattle.std.proofs.lemmas.Bool.{false≢true, and_parts, not-true, ltb-true, cond-false, ne_eqb}
+use Rattle.std.proofs.lemmas.List.{take_all}
+use Rattle.h1_agreement.specs.PlainExchange.{carried_by}
 use Rattle.std.proofs.lemmas.List.Elements.{All-head, All-tail}
 use Rattle.http_header.proofs.TokenLemmas.{IsHeaderName-lowercase}
 use Rattle.http_header.specs.Token.{IsToken as IsMethod}
 use Rattle.httparse.specs.Grammar.{Field, IsField, IsToken, AllPass, is_uri_byte, is_value_byte, trim_ows}
 use Rattle.httparse.proofs.TrimLemmas.{AllPass-trim_ows}
-use Rattle.h1_model.specs.Request.{Header, keep_alive, BodyKind, no_body, fixed_body, chunked_body, raw_body, is_raw_kind, Head}
+use Rattle.h1_model.specs.Request.{Header, keep_alive, BodyKind, no_body, fixed_body, chunked_body, raw_body, is_raw_kind, has_body, Head}
 use Rattle.h1_model.specs.RequestHead.{IsHeadOf, IsTarget, IsHeaderField, header_of}
 use Rattle.h1_model.specs.LengthTable.{values_of, length_value, stated_length, is_there, asks_websocket, framed_body, is_framing_refused}
 use Rattle.h1_model.specs.Answer.{size_of, Shape, shape_none, shape_length, shape_chunked, shape_raw}
 use Rattle.h1_model.specs.Parse.{Input, Message, IsParse}
 use Rattle.h1_client_model.specs.WrittenHead.{IsCleanHeader}
-use Rattle.h1_client_model.specs.RequestText.{as_answer, asked_shape, fits, body_sent, joined, given_request_text, IsPlainGiven}
+use Rattle.h1_client_model.specs.RequestText.{as_answer, asked_shape, fits, body_sent, joined, given_request_text, IsPlainGiven, kind_of_shape}
 use Rattle.h1_agreement.specs.SentRequest.{SentRequest, sent_request, IsAsked, asked_text, AreServedAs, AreBegunServed}
 use Rattle.h1_agreement.proofs.CleanHeads.{written_clean}
 use Rattle.h1_agreement.proofs.GivenRequests.{plain_asked}
@@ -177,3 +179,59 @@ forwarded_alone i ss ms all is = asked_alone i (map as_sent ss) ms (is ∙ text_
 pub forwarded_so_far : (i : Input) (more : List ℕ) (ss : List Sent) (ms : List Message) → AllByRecursion (IsSentWhole i.hold_size) ss
     → i.bytes ++ more ≡ flat_map forward ss → IsParse i ms → AreBegunServed i 0 ms (map as_sent ss)
 forwarded_so_far i more ss ms all is = begun_served i more (map as_sent ss) ms (is ∙ text_same i.hold_size ss all) (each_asked i.hold_size ss all)
+
+-- ---- what is read
+
+-- a body of a length has a byte
+framed_positive : (method : List ℕ) (headers : List Header) (n : ℕ) → framed_body method headers ≡ fixed_body n → 0 < n
+framed_positive method headers n =
+    by_tests (is_there (values_of (codes "transfer-encoding") headers)) (asks_websocket headers) (nat_lt 0 (stated headers)) refl (bytes_eq method (codes "CONNECT"))
+  where
+    by_tests : (a b c : Bool) → nat_lt 0 (stated headers) ≡ c → (d : Bool)
+        → cond a chunked_body (cond b raw_body (cond c (fixed_body (stated headers)) (cond d raw_body no_body))) ≡ fixed_body n → 0 < n
+    by_tests true b c is d e = cc
+    by_tests false true c is d e = cc
+    by_tests false false true is d e =
+        let same : stated headers ≡ n = cc in
+        subst (λ m. 0 < m) same (ltb-true 0 (stated headers) is)
+    by_tests false false false is true e = cc
+    by_tests false false false is false e = cc
+
+body_positive : (h : Head) (piece : List ℕ) → IsHeadOf piece h → (n : ℕ) → h.body ≡ fixed_body n → 0 < n
+body_positive h piece x n is = by_test (is_framing_refused h.minor h.method h.headers) x.body_is
+  where
+    by_test : (t : Bool) → cond t None (Some (framed_body h.method h.headers)) ≡ Some h.body → 0 < n
+    by_test true e = cc
+    by_test false e =
+        let same : framed_body h.method h.headers ≡ h.body = cc in
+        framed_positive h.method h.headers n (same ∙ is)
+
+not_raw : (h : Head) → is_forwardable h ≡ true → is_raw_kind h.body ≡ false
+not_raw h e =
+    let both = and_parts (not (bytes_eq h.method (codes "CONNECT")) && not (is_raw_kind h.body)) (starts_with nat_eq h.target (codes "/")) e in
+    not-true (is_raw_kind h.body) (and_parts (not (bytes_eq h.method (codes "CONNECT"))) (not (is_raw_kind h.body)) both.0).1
+
+-- the shape of a length
+length_shape : (n : ℕ) → 0 < n → asked_shape (size_of n) ≡ shape_length n
+length_shape n some = cond-false (eqb n 0) shape_none (shape_length n) (ne_eqb n 0 (λ none. omega (arith, none, some)))
+
+kind_same : (kind : BodyKind) → is_raw_kind kind ≡ false → ((n : ℕ) → kind ≡ fixed_body n → 0 < n) → kind_of_shape (asked_shape (forwarded_size kind)) ≡ kind
+kind_same no_body other some = refl
+kind_same chunked_body other some = refl
+kind_same raw_body other some = absurd (false≢true (sym other))
+kind_same (fixed_body n) other some = ap kind_of_shape (length_shape n (some n refl))
+
+bytes_same : (kind : BodyKind) (pieces : List (List ℕ)) → is_raw_kind kind ≡ false → has_body kind ≡ true → ((n : ℕ) → kind ≡ fixed_body n → 0 < n)
+    → ((n : ℕ) → kind ≡ fixed_body n → length (joined pieces) ≡ n) → carried_by (asked_shape (forwarded_size kind)) pieces ≡ joined pieces
+bytes_same no_body pieces other there some came = absurd (false≢true there)
+bytes_same chunked_body pieces other there some came = refl
+bytes_same raw_body pieces other there some came = absurd (false≢true (sym other))
+bytes_same (fixed_body n) pieces other there some came =
+    ap (λ shape. carried_by shape pieces) (length_shape n (some n refl)) ∙ take_all n (joined pieces) (omega (arith, came n refl))
+
+pub body_read : (hold_size : ℕ) (s : Sent) → IsSentWhole hold_size s → (sent_request (forwarded s)).says.body ≡ s.head.body
+body_read hold_size s x = kind_same s.head.body (not_raw s.head x.forwardable) (body_positive s.head x.piece x.read)
+
+pub bytes_read : (hold_size : ℕ) (s : Sent) → IsSentWhole hold_size s → has_body s.head.body ≡ true → (sent_request (forwarded s)).bytes ≡ joined s.pieces
+bytes_read hold_size s x there =
+    bytes_same s.head.body s.pieces (not_raw s.head x.forwardable) there (body_positive s.head x.piece x.read) x.came

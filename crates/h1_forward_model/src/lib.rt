@@ -25,7 +25,8 @@
 //! # The laws
 //!
 //! - [`requests`]: a server reads exactly the requests that were sent on, and one line frames each.
-//! - [`answers`]: any bytes hold one answer.
+//! - [`answers`], [`replies`]: any bytes hold one answer, and no line of the server frames what the client gets for it.
+//! - [`forwarders`]: what a forwarder gave a server is read as the requests that were sent on.
 //! - [`examples`]: small requests, answers and histories with all their values.
 //!
 //! # An example
@@ -37,4 +38,6 @@
 
 pub mod answers;
 pub mod examples;
+pub mod forwarders;
+pub mod replies;
 pub mod requests;

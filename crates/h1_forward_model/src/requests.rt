@@ -2,9 +2,10 @@
 
 ghost use Rattle.std.specs.Prelude.{◌≡◌, ℕ, true, false, List, [], ◌++◌, map, flat_map, codes, bytes_eq};
 ghost use Rattle.std.specs.List.{AllByRecursion};
+ghost use Rattle.h1_model.specs.Request.{has_body};
 ghost use Rattle.h1_model.specs.LengthTable.{values_of};
 ghost use Rattle.h1_model.specs.Parse.{Input, Message, IsParse};
-ghost use Rattle.h1_client_model.specs.RequestText.{given_request_lines};
+ghost use Rattle.h1_client_model.specs.RequestText.{given_request_lines, joined};
 ghost use Rattle.h1_agreement.specs.SentRequest.{sent_request, AreServedAs, AreBegunServed};
 ghost use Rattle.h1_forward_model.specs.HopNames.{is_among};
 ghost use Rattle.h1_forward_model.specs.Forward.{Sent, forwarded, left_out, forward};
@@ -18,6 +19,15 @@ pub fn forwarded_requests_are_read()
         → (ms : List Message) × IsParse i ms × AreServedAs i 0 ms (map (λ s. sent_request (forwarded s)) ss) }
     ensures no_others { (i : Input) (ss : List Sent) (ms : List Message) → AllByRecursion (IsSentWhole i.hold_size) ss
         → i.bytes ≡ flat_map forward ss → IsParse i ms → AreServedAs i 0 ms (map (λ s. sent_request (forwarded s)) ss) }
+{}
+
+/// What is read of such a request is what the client asked: its method, its target, where its body ends, and the bytes of that.
+pub fn what_is_read_is_what_was_asked()
+    ensures method { (s : Sent) → (sent_request (forwarded s)).says.method ≡ s.head.method }
+    ensures target { (s : Sent) → (sent_request (forwarded s)).says.target ≡ s.head.target }
+    ensures body { (hold_size : ℕ) (s : Sent) → IsSentWhole hold_size s → (sent_request (forwarded s)).says.body ≡ s.head.body }
+    ensures bytes { (hold_size : ℕ) (s : Sent) → IsSentWhole hold_size s → has_body s.head.body ≡ true
+        → (sent_request (forwarded s)).bytes ≡ joined s.pieces }
 {}
 
 /// A server that got only the first bytes yet reads the beginning of these requests, and none as whole that isn't.
