@@ -16,7 +16,7 @@ ghost use Rattle.h1_forward_model.specs.Exchange.{answer_input};
 ghost use Rattle.h1_forward_model.specs.Forwarding.{IsAlone, IsForwarding};
 ghost use Rattle.h1_forward_model.specs.Rests.{is_event_allowed, RestsWhereItMay};
 ghost use Rattle.h1_forward_model.specs.Laws.Samples.{head_for, get_x, sent_now, answer_with, came, hi_text, hi, timeout_text, answered_by, asked_again, exchange_at};
-ghost use Rattle.h1_forward_model.specs.Laws.Histories.{refused_history, refused_past, refused_exchanges, whole_history, whole_past, whole_exchanges};
+ghost use Rattle.h1_forward_model.specs.Laws.Histories.{refused_history, refused_past, refused_exchanges, whole_history, whole_past, whole_exchanges, unforwardable_history, unforwardable_past, unforwardable_exchanges, broken_history, broken_past, broken_exchanges};
 
 /// The words of Connection lines are read without case and blanks, and the lines that they name stay behind.
 pub fn a_named_line_stays_behind()
@@ -152,4 +152,17 @@ pub fn a_refused_connection_gives_502()
 pub fn a_request_and_its_answer_are_passed_on()
     ensures forwards { IsForwarding usual whole_history (Some []) (steps whole_past) whole_exchanges }
     ensures rests { RestsWhereItMay usual whole_past whole_history (Some []) whole_exchanges }
+{}
+
+/// A request for another protocol gets 501, and its connection closes: this history is one of a forwarder, and no turn is left.
+pub fn a_request_that_cannot_be_sent_on_gives_501()
+    ensures forwards { IsForwarding usual unforwardable_history None (steps unforwardable_past) unforwardable_exchanges }
+    ensures rests { RestsWhereItMay usual unforwardable_past unforwardable_history None unforwardable_exchanges }
+{}
+
+/// A body that breaks before its answer came gives 400, and both connections close: this history is one of a forwarder, and no turn is
+/// left.
+pub fn a_broken_body_gives_400()
+    ensures forwards { IsForwarding usual broken_history None (steps broken_past) broken_exchanges }
+    ensures rests { RestsWhereItMay usual broken_past broken_history None broken_exchanges }
 {}
