@@ -1,5 +1,6 @@
 pub mod TrimLemmas
 pub mod ForwardedLines
+pub mod Paths
 pub mod SentRequests
 pub mod GivenRequests
 pub mod ReplyLines

@@ -28,6 +28,7 @@ use Rattle.h1_forward_model.specs.HopNames.{is_among}
 use Rattle.h1_forward_model.specs.Forward.{is_forwardable, left_out, forwarded_size, forwarded_head, Sent, forwarded, pieces_sent, end_sent, forward}
 use Rattle.h1_forward_model.specs.SentWhole.{IsSentWhole}
 use Rattle.h1_forward_model.proofs.TrimLemmas.{trim_ows-again}
+use Rattle.h1_forward_model.proofs.Paths.{target_cut, some_cut, utf8_cut, visible_cut}
 use Rattle.h1_forward_model.proofs.ForwardedLines.{kept_behind}
 
 -- ---- lines
@@ -112,6 +113,10 @@ not_connect h e = by_test (bytes_eq h.method (codes "CONNECT")) refl
     by_test true is =
         absurd (false≢true (sym (ap (λ t. not t && not (is_raw_kind h.body) && starts_with nat_eq h.target (codes "/")) is) ∙ e))
 
+begins_path : (h : Head) → is_forwardable h ≡ true → starts_with nat_eq h.target (codes "/") ≡ true
+begins_path h e =
+    (and_parts (not (bytes_eq h.method (codes "CONNECT")) && not (is_raw_kind h.body)) (starts_with nat_eq h.target (codes "/")) e).1
+
 sent_plain : (hold_size : ℕ) (s : Sent) → IsSentWhole hold_size s → IsPlainGiven hold_size (forwarded s)
 sent_plain hold_size s x =
     let size = forwarded_size s.head.body in
@@ -122,15 +127,18 @@ sent_plain hold_size s x =
     let small : fits size = size_fits s.head.body (body_below s.head x.piece read) in
     let clean : AllByRecursion IsCleanHeader s.head.headers =
     subst (AllByRecursion IsCleanHeader) (sym read.headers_are) (fields_clean read.text.fields grammar.fields read.fields) in
+    let path = begins_path s.head x.forwardable in
+    let goes : IsTarget s.head.target = subst IsTarget (sym read.target_is.1) read.target_is.0 in
+    let seen : AllPass is_uri_byte s.head.target = subst (AllPass is_uri_byte) (sym read.target_is.1) grammar.target.1 in
     record {
       head = record {
         version = refl;
         method = subst IsMethod (sym read.method_is.1) read.method_is.0;
         token = subst IsToken (sym read.method_is.1) grammar.method;
         no_connect = not_connect s.head x.forwardable;
-        target = subst IsTarget (sym read.target_is.1) read.target_is.0;
-        visible = subst (λ (t : List ℕ). (0 < length t) × AllPass is_uri_byte t) (sym read.target_is.1) grammar.target;
-        utf8 = subst IsUtf8 (sym read.target_is.1) grammar.target_text;
+        target = target_cut s.head.target path goes;
+        visible = (some_cut s.head.target path, visible_cut s.head.target seen);
+        utf8 = utf8_cut s.head.target path goes;
         no_upgrade = kept_behind s (codes "upgrade") refl;
         lines = written_clean 1 (as_answer r) shape size keep_alive s.moment
             (kept_clean (λ h. not (is_among h.name (left_out s.head.headers))) s.head.headers clean) small x.moment;

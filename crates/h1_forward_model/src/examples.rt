@@ -24,6 +24,12 @@ pub fn a_named_line_stays_behind()
     ensures text { forward (sent_now get_x [] true) ≡ codes "GET /x HTTP/1.1\r\nhost: a\r\ndate: Thu, 01 Jan 1970 00:00:00 GMT\r\n\r\n" }
 {}
 
+/// A fragment isn't sent on.
+pub fn a_fragment_stays_behind()
+    ensures { forward (sent_now (head_for (codes "GET") (codes "/x?y#z") [] no_body) [] true)
+        ≡ codes "GET /x?y HTTP/1.1\r\ndate: Thu, 01 Jan 1970 00:00:00 GMT\r\n\r\n" }
+{}
+
 /// Chunks are written anew, each piece as one, and trailers stay behind; the last chunk comes once the body's end was read.
 pub fn chunks_are_written_anew()
     ensures { let post : Head = head_for (codes "POST") (codes "/c")
