@@ -1,11 +1,11 @@
 -- A target that begins with `/` is one without its fragment too.
-use Rattle.std.proofs.Common.{◌≡◌, ℕ, zero, suc, ◌+◌, ◌<◌, ◌≤◌, Bool, true, false, not, cond, List, [], ◌∷◌, ◌++◌, length, take, codes, refl, sym, ap, ◌∙◌, subst, inl, inr, arith, append_assoc, Option, Some, None, IsTrue}
+use Rattle.std.proofs.Common.{◌≡◌, ℕ, suc, ◌+◌, ◌<◌, ◌≤◌, Bool, true, false, not, cond, List, [], ◌∷◌, ◌++◌, length, take, codes, refl, sym, ap, ◌∙◌, subst, inr, arith, append_assoc, Option, Some, None, IsTrue}
 use Rattle.std.specs.Prelude.{nat_eq, IsUtf8, ◌==◌, ◌&&◌}
 use Rattle.std.specs.List.{AllByRecursion, starts_with, prefix_len}
 use Rattle.std.proofs.lemmas.Bool.{false≢true, eqb-true}
 use Rattle.std.proofs.lemmas.List.Elements.{recursion_from_All, All-take}
 use Rattle.httparse.specs.Grammar.{AllPass, is_uri_byte}
-use Rattle.http_uri.specs.ByteClasses.{index_of, is_scheme_byte, is_authority_byte, slash, hash_sign}
+use Rattle.http_uri.specs.ByteClasses.{index_of, is_scheme_byte, is_authority_byte, hash_sign}
 use Rattle.http_uri.specs.Grammar.{IsPathAndQuery, IsPathInput, IsUriText, without_fragment}
 use Rattle.h1_model.specs.RequestHead.{IsTarget}
 

@@ -1,5 +1,5 @@
 -- The lines of a reply.
-use Rattle.std.proofs.Common.{◌≡◌, ℕ, true, false, not, ◌||◌, List, [], ◌∷◌, ◌++◌, filter, cond, eqb, codes, refl, ap, ◌∙◌}
+use Rattle.std.proofs.Common.{◌≡◌, ℕ, true, false, not, List, [], ◌∷◌, ◌++◌, cond, eqb, codes, refl, ap, ◌∙◌}
 use Rattle.std.specs.Prelude.{bytes_eq}
 use Rattle.std.proofs.lemmas.Bool.{or_left, or_right, cond-false}
 use Rattle.std.proofs.lemmas.List.Folds.{list_any-append}

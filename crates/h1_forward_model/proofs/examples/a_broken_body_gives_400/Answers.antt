@@ -1,8 +1,8 @@
-use Rattle.std.proofs.Common.{◌≡◌, ℕ, Bool, cond, eqb, map, reverse, flat_map, zero, suc, ◌<◌, List, [], ◌∷◌, refl, subst, arith, inr, lit<, Option, Some, None, true, false}
+use Rattle.std.proofs.Common.{◌≡◌, ℕ, Bool, cond, eqb, map, reverse, flat_map, zero, suc, ◌<◌, [], refl, subst, arith, inr, lit<, None, true, false}
 use Rattle.std.proofs.lemmas.Bool.{false≢true}
 use Rattle.httparse.specs.Grammar.{trim_ows}
 use Rattle.h1_model.specs.Sums as sums
-use Rattle.h1_model.specs.Past.{steps, place_behind, pulled_to}
+use Rattle.h1_model.specs.Past.{place_behind, pulled_to}
 use Rattle.h1_model.specs.Closing.{told, closing}
 use Rattle.h1_model.specs.Laws.ExampleTraces.{usual}
 use Rattle.h1_model.specs.Laws.Exchanges.{exchanges, changed_by}
@@ -11,7 +11,7 @@ use Rattle.h1_forward_model.specs.Forward.{forward}
 use Rattle.h1_forward_model.specs.Past.{client_taken, client_given, servers}
 use Rattle.h1_forward_model.specs.Past as proxy
 use Rattle.h1_forward_model.specs.Exchange.{pulled, sent_of, sent_on}
-use Rattle.h1_forward_model.specs.Forwarding.{IsGivenTo, AreWholeButLast, IsSentRightly, AreReplies, IsForwarding}
+use Rattle.h1_forward_model.specs.Forwarding.{IsGivenTo, AreWholeButLast, IsSentRightly}
 use Rattle.h1_forward_model.specs.Laws.Histories.{broken_history, broken_past, broken_exchange, broken_exchanges}
 use Rattle.h1_forward_model.proofs.Histories.{broken_legal}
 use Rattle.h1_forward_model.proofs.examples.a_broken_body_gives_400.Goals as goal
