@@ -1,0 +1,9 @@
+pub mod TrimLemmas
+pub mod ForwardedLines
+pub mod Paths
+pub mod SentRequests
+pub mod GivenRequests
+pub mod ReplyLines
+pub mod FoundAnswers
+pub mod ExampleLemmas
+pub mod Histories
