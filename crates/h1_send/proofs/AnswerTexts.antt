@@ -1,12 +1,12 @@
 -- The text of a whole answer.
-use Rattle.std.proofs.Common.{◌≡◌, ℕ, Bool, true, false, List, [], ◌∷◌, ◌++◌, refl, sym, ap, ◌∙◌, subst, append-nil}
+use Rattle.std.proofs.Common.{◌≡◌, ℕ, Bool, true, false, List, [], ◌∷◌, ◌++◌, ap, ◌∙◌, subst, append-nil}
 use Rattle.std.specs.Prelude.{Option, Some, None}
 use Rattle.http_bodies.specs.Giving.{Given, chunk, fault}
 use Rattle.http_framing.specs.declared.body.size.BodySize.{BodySize}
 use Rattle.http_types.specs.Response.{FullResponse}
 use Rattle.h1_model.specs.Setting.{Setting, keeps}
 use Rattle.h1_model.specs.Text.{answer_head_text}
-use Rattle.h1_codec.specs.Encoding.{Encoding, encoded, behind, encoded_all}
+use Rattle.h1_codec.specs.Encoding.{encoded, encoded_all}
 use Rattle.h1_codec.specs.Meaning.{answer_of, size_of}
 use Rattle.h1_framed.specs.State.{codec_settings, codec_asked, codec_moment, codec_encoding, is_enabled, begun, Sent, Writes}
 use Rattle.h1_framed.specs.declared.codec.Codec.{Codec}

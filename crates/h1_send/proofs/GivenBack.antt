@@ -1,7 +1,7 @@
 -- Once all is sent the wire is given back.
-use Rattle.std.proofs.Common.{◌≡◌, ℕ, Bool, List, refl, sym, ap, subst}
-use Rattle.std.specs.Prelude.{Option, Some, None, option_map, Result, Ok, Err}
-use Rattle.futures.specs.declared.task.Poll.TheVariants.{Ready, Pending}
+use Rattle.std.proofs.Common.{◌≡◌, ℕ, Bool, List, sym, ap, subst}
+use Rattle.std.specs.Prelude.{Option, Some, None, option_map, Ok}
+use Rattle.futures.specs.declared.task.Poll.TheVariants.{Ready}
 use Rattle.http_bodies.specs.Giving.{Giving}
 use Rattle.http_framing.specs.declared.body.size.BodySize.{BodySize}
 use Rattle.http_wires.specs.Wiring.{Wiring}

@@ -1,24 +1,25 @@
 -- The steps of a message that is sent.
-use Rattle.std.proofs.Common.{◌≡◌, ◌≢◌, ◌≤◌, ◌⊎◌, ℕ, Bool, true, false, List, [], ◌∷◌, ◌++◌, length, inl, inr, refl, sym, ap, ◌∙◌, subst, append_assoc, append-nil, arith}
+use Rattle.std.proofs.Common.{◌≡◌, ◌≤◌, ◌<◌, ℕ, Bool, true, false, List, [], ◌∷◌, ◌++◌, length, refl, sym, ap, ◌∙◌, subst, append-nil, length-append, arith}
+use Rattle.std.proofs.Math.Nat.{lt_of_not-le}
 use Rattle.std.specs.Prelude.{Option, Some, None, Result, Ok, Err}
 use Rattle.futures.specs.declared.task.Poll.{Poll}
 use Rattle.futures.specs.declared.task.Poll.TheVariants.{Ready, Pending}
 use Rattle.http_bodies.specs.Giving.{Given, chunk, fault, Giving, Piece, gave, FaultsBy, PieceSays}
 use Rattle.http_bodies.specs.Told.{Grows, Tells, led_by, Waits}
-use Rattle.http_bodies.proofs.Histories.{grown-none, led_by-none, rose_since, rose_still}
+use Rattle.http_bodies.proofs.Histories.{grown-none, led_by-none}
 use Rattle.http_bodies.specs.declared.body.fault.BodyFault.TheVariants as faults
 use Rattle.http_config.specs.Causes.{Rose}
 use Rattle.http_config.specs.declared.failed.Failed.{Failed}
 use Rattle.http_framing.specs.declared.body.size.BodySize.{BodySize}
 use Rattle.http_wires.specs.Wiring.{Wiring}
-use Rattle.http_wires.specs.Flushes.{Gave, Flushes, FlushAnswers, OnlyWrote}
+use Rattle.http_wires.specs.Flushes.{Gave, Flushes, OnlyWrote}
 use Rattle.http_wires.proofs.SendOn.{wrote-refl}
 use Rattle.h1_framed.specs.declared.message.Message.{Message}
 use Rattle.h1_framed.specs.declared.message.Message.TheVariants.{Item, Chunk}
 use Rattle.h1_send.specs.View.{View}
 use Rattle.h1_send.specs.Sends.{AreWritten, heads, pieces, ends, EndsSo, Later, Sends}
-use Rattle.h1_send.specs.Turns.{WireWaits}
-use Rattle.h1_send.proofs.Whole.{later-refl, stays_ended, no_end, one_written}
+use Rattle.h1_send.specs.Turns.{WireWaits, Moves}
+use Rattle.h1_send.proofs.Whole.{stays_ended, no_end, one_written}
 
 -- the count of a body's faults never falls, nor does that of its Pending answers
 faults_rise : (old new : ℕ) (answer : Piece) → FaultsBy old new answer → old ≤ new
@@ -131,6 +132,23 @@ module _ {U H : Type 0} (writes : U → Message (H × BodySize) → List ℕ →
   fault_sent n says is begun unended still wire codec unread unsent =
       (nothing_sent (Ready (Some (Err (faults.Body n)))) says refl is begun unended still wire codec unread unsent, [], refl, says.faults.1)
 
+  -- an empty chunk
+  pub empty_moves : (bytes : List ℕ) → bytes ≡ [] → PieceSays v.body w.body (Ready (Some (Ok bytes))) → v.head ≡ None → w.head ≡ None
+      → v.is_ended ≡ false → w.is_ended ≡ false → w.wire ≡ v.wire → w.codec ≡ v.codec → w.unread ≡ v.unread → w.unsent ≡ v.unsent → Moves writes v w
+  unfolding nothing_sent
+  empty_moves [] none says is begun unended still wire codec unread unsent =
+      (nothing_sent (Ready (Some (Ok []))) says refl is begun unended still wire codec unread unsent, omega arith)
+  empty_moves (b ∷ bytes) none says is begun unended still wire codec unread unsent = cc none
+
+  -- a chunk that has bytes
+  pub chunk_moves : (bytes text : List ℕ) → ¬ (bytes ≡ []) → PieceSays v.body w.body (Ready (Some (Ok bytes))) → v.head ≡ None → w.head ≡ None
+      → v.is_ended ≡ false → w.is_ended ≡ false → w.wire ≡ v.wire → writes v.codec (Chunk (Some bytes)) text w.codec → w.unread ≡ v.unread
+      → w.unsent ≡ v.unsent ++ text → Moves writes v w
+  unfolding chunk_sent
+  chunk_moves [] text some says is begun unended still wire wrote unread unsent = absurd (some refl)
+  chunk_moves (b ∷ bytes) text some says is begun unended still wire wrote unread unsent =
+      (chunk_sent (b ∷ bytes) text some says is begun unended still wire wrote unread unsent, omega arith)
+
   told_after : (old new : Option (List Given)) → old ≡ led_by [] new → Tells old [] → Tells new []
   told_after old None leads tells = tt
   told_after old (Some known) leads tells = subst (λ o. Tells o []) leads tells
@@ -157,6 +175,18 @@ module _ {U H : Type 0} (writes : U → Message (H × BodySize) → List ℕ →
     others = same_wire wire;
     later = later_by wire (Ready None) says;
   }
+
+  one_end : (x y : Bool) → x ≡ false → y ≡ true → 1 ≤ length (ends {A = Unit} x y)
+  one_end false true a b = omega arith
+  one_end false false a b = cc b
+  one_end true y a b = cc a
+
+  pub end_moves : (text : List ℕ) → PieceSays v.body w.body (Ready None) → v.head ≡ None → w.head ≡ None
+      → v.is_ended ≡ false → w.is_ended ≡ true → w.wire ≡ v.wire → writes v.codec (Chunk None) text w.codec → w.unread ≡ v.unread
+      → w.unsent ≡ v.unsent ++ text → Moves writes v w
+  unfolding end_sent
+  end_moves text says is begun unended over wire wrote unread unsent =
+      (end_sent text says is begun unended over wire wrote unread unsent, omega (arith, one_end v.is_ended w.is_ended unended over))
 
   -- the wire takes some of what is buffered
   pub flush_sent : {E : Type 0} (woken : Bool) (took : List ℕ) (answer : Poll (Result Unit E)) → Gave v.wire w.wire woken v.unsent took w.unsent answer
@@ -185,16 +215,33 @@ module _ {U H : Type 0} (writes : U → Message (H × BodySize) → List ℕ →
     };
   }
 
-wire_waits : (old new : Wiring) (woken : Bool) (took left : List ℕ) → FlushAnswers {E = Failed} old new woken took left Pending
-    → WireWaits old new woken
-wire_waits old new woken took left (inl waits) = inl waits
-wire_waits old new woken took left (inr spent) = inr spent.1
+pub fewer : {k m n : ℕ} → ¬ (k ≤ m) → k ≤ n → m < n
+fewer not le = let less = lt_of_not-le not in omega (arith, less, le)
+
+took_some : (before took after : List ℕ) → before ≡ took ++ after → length after < length before → 1 ≤ length took
+took_some before took after is less = omega (arith, ap length is, length-append took after, less)
 
 module _ {U H : Type 0} (writes : U → Message (H × BodySize) → List ℕ → U → Type 0) (v w : View U H) (woken : Bool) where
   pub flush_waits : Flushes {E = Failed} v.wire w.wire woken v.unsent w.unsent Pending → v.head ≡ None → w.head ≡ v.head → w.is_ended ≡ v.is_ended
-      → w.codec ≡ v.codec → w.unread ≡ v.unread → w.body ≡ v.body → Sends writes v w × WireWaits v.wire w.wire woken
+      → w.codec ≡ v.codec → w.unread ≡ v.unread → w.body ≡ v.body → (sends : Sends writes v w) × WireWaits v.wire w.wire sends.gave woken
+  unfolding flush_sent
   flush_waits (took, says) is begun ended codec unread body =
-      (flush_sent writes v w woken took Pending says is begun ended codec unread body, wire_waits v.wire w.wire woken took w.unsent says.answers)
+      (flush_sent writes v w woken took Pending says is begun ended codec unread body, says.answers)
+
+  -- it took some
+  pub flush_moves : (answer : Poll (Result Unit Failed)) → Flushes v.wire w.wire woken v.unsent w.unsent answer → length w.unsent < length v.unsent
+      → v.head ≡ None → w.head ≡ v.head → w.is_ended ≡ v.is_ended → w.codec ≡ v.codec → w.unread ≡ v.unread → w.body ≡ v.body → Moves writes v w
+  unfolding flush_sent
+  flush_moves answer (took, says) less is begun ended codec unread body = (
+    flush_sent writes v w woken took answer says is begun ended codec unread body,
+    omega (arith, took_some v.unsent took w.unsent says.front less),
+  )
+
+  -- all of it, where there was some
+  pub flush_relieves : (x : Unit) → Flushes {E = Failed} v.wire w.wire woken v.unsent w.unsent (Ready (Ok x)) → 1 ≤ length v.unsent
+      → v.head ≡ None → w.head ≡ v.head → w.is_ended ≡ v.is_ended → w.codec ≡ v.codec → w.unread ≡ v.unread → w.body ≡ v.body → Moves writes v w
+  flush_relieves x says some is begun ended codec unread body =
+      flush_moves (Ready (Ok x)) says (omega (arith, some, ap length says.1.answers)) is begun ended codec unread body
 
   pub flush_done : (x : Unit) → Flushes {E = Failed} v.wire w.wire woken v.unsent w.unsent (Ready (Ok x)) → v.head ≡ None → w.head ≡ v.head → w.is_ended ≡ v.is_ended
       → w.codec ≡ v.codec → w.unread ≡ v.unread → w.body ≡ v.body → Sends writes v w × (w.unsent ≡ [])

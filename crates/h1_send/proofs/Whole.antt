@@ -1,15 +1,17 @@
 -- What is sent in two steps is sent in one.
-use Rattle.std.proofs.Common.{◌≡◌, ◌≤◌, ◌⊎◌, ℕ, Bool, true, false, List, [], ◌∷◌, ◌++◌, ◌==◌, length, inl, inr, refl, sym, ap, ◌∙◌, subst, append_assoc, append-nil, arith}
+use Rattle.std.proofs.Common.{◌≡◌, ℕ, ◌+◌, Bool, true, false, List, [], ◌∷◌, ◌++◌, ◌==◌, length, refl, sym, ap, ◌∙◌, subst, append_assoc, append-nil, length-append, arith}
+use Rattle.std.proofs.Math.Dec.{eqb-suc-zero}
 use Rattle.std.specs.Prelude.{Option, Some, None}
-use Rattle.http_bodies.specs.Giving.{Given, chunk, fault, Giving}
-use Rattle.http_bodies.specs.Told.{Grows, Tells, led_by}
+use Rattle.http_bodies.specs.Giving.{Given, chunk, fault}
+use Rattle.http_bodies.specs.Told.{Tells, led_by}
 use Rattle.http_bodies.proofs.Histories.{grown, grown-none, led_by-more, led_by-none}
 use Rattle.http_framing.specs.declared.body.size.BodySize.{BodySize}
 use Rattle.http_wires.proofs.SendOn.{wrote-refl, wrote-trans}
 use Rattle.h1_framed.specs.declared.message.Message.{Message}
-use Rattle.h1_framed.specs.declared.message.Message.TheVariants.{Item, Chunk}
+use Rattle.h1_framed.specs.declared.message.Message.TheVariants.{Chunk}
 use Rattle.h1_send.specs.View.{View}
 use Rattle.h1_send.specs.Sends.{AreWritten, heads, pieces, ends, EndsSo, Later, Sends}
+use Rattle.h1_send.specs.Turns.{moved}
 
 -- items that are written one after another
 pub written-append : {U I : Type 0} (writes : U → I → List ℕ → U → Type 0) (xs ys : List I) (a b c : U) (s t : List ℕ)
@@ -48,6 +50,21 @@ ends_join true true true g h mid new a b =
 ends_join true true false g h mid new a b = absurd b
 ends_join true false z g h mid new a b = absurd a
 
+-- how much moved in two steps
+ends_sum : (x y z : Bool) (g h : List Given) (mid new : Option (List Given)) → EndsSo x y g mid → EndsSo y z h new
+    → length (ends {A = Unit} x z) ≡ length (ends {A = Unit} x y) + length (ends {A = Unit} y z)
+ends_sum false false false g h mid new a b = refl
+ends_sum false false true g h mid new a b = refl
+ends_sum false true true g h mid new a b = refl
+ends_sum false true false g h mid new a b = absurd b
+ends_sum true true true g h mid new a b = refl
+ends_sum true true false g h mid new a b = absurd b
+ends_sum true false z g h mid new a b = absurd a
+
+moved_sum : (x y z : Bool) (g h : List Given) (s t : List ℕ) (mid new : Option (List Given)) → EndsSo x y g mid → EndsSo y z h new
+    → moved (g ++ h) (s ++ t) x z ≡ moved g s x y + moved h t y z
+moved_sum x y z g h s t mid new a b = omega (arith, length-append g h, length-append s t, ends_sum x y z g h mid new a b)
+
 told_on : (g : List Given) (mid new : Option (List Given)) → g ≡ [] → mid ≡ led_by g new → Tells mid [] → Tells new []
 told_on g mid None none leads tells = tt
 told_on g mid (Some known) none leads tells =
@@ -63,6 +80,10 @@ so_ends false true false g h mid new a b leads = absurd b
 so_ends true true true g h mid new a b leads = ap (λ l. l ++ h) a ∙ b
 so_ends true true false g h mid new a b leads = absurd b
 so_ends true false z g h mid new a b leads = absurd a
+
+pub no_bytes : (bytes : List ℕ) → true ≡ (length bytes == 0) → bytes ≡ []
+no_bytes [] is = refl
+no_bytes (b ∷ bytes) is = let never : true ≡ false = is ∙ eqb-suc-zero (length bytes) in cc never
 
 pub some_bytes : (bytes : List ℕ) → false ≡ (length bytes == 0) → ¬ (bytes ≡ [])
 some_bytes [] is = let never : false ≡ true = is in cc never
@@ -131,6 +152,18 @@ module _ {U H : Type 0} (writes : U → Message (H × BodySize) → List ℕ →
         others = wrote-trans u.wire v.wire w.wire a.others b.others;
         later = later-trans u v w a.later b.later;
       }
+
+  -- and as much moved as in both
+  pub sends_on : (u v w : View U H) (a : Sends writes u v) (b : Sends writes v w)
+      → (sends : Sends writes u w)
+      × (moved sends.given sends.gave u.is_ended w.is_ended ≡ moved a.given a.gave u.is_ended v.is_ended + moved b.given b.gave v.is_ended w.is_ended)
+      × (length sends.gave ≡ length a.gave + length b.gave)
+  unfolding sends-trans
+  sends_on u v w a b = (
+    sends-trans u v w a b,
+    moved_sum u.is_ended v.is_ended w.is_ended a.given b.given a.gave b.gave v.body.coming w.body.coming a.ended b.ended,
+    length-append a.gave b.gave,
+  )
 
   -- and a fault of the body that came last is still the last
   pub fault-trans : (n : ℕ) (u v w : View U H) (a : Sends writes u v) (b : Sends writes v w) (front : List Given) → b.given ≡ front ++ (fault n ∷ [])

@@ -39,7 +39,7 @@ ends false true = Chunk None ∷ []
 ends false false = []
 ends true now = []
 
--- the end is written only where nothing is to come of the body, and after it the body isn't asked
+-- the end is written only where nothing is to come of the body, and after it the body gives nothing more
 abbrev pub EndsSo : Bool → Bool → List Given → Option (List Given) → Type 0
 EndsSo false false given coming = ⊤
 EndsSo false true given coming = Tells coming []
@@ -71,11 +71,15 @@ pub record Sends {U H : Type 0} (writes : U → Message (H × BodySize) → List
   pub others : OnlyWrote old.wire new.wire
   pub later : Later old new
 
+-- the head is written, and the end isn't
+abbrev pub IsAmid : {U H : Type 0} → View U H → Type 0
+IsAmid v = (v.head ≡ None) × (v.is_ended ≡ false)
+
 -- the item is the next of the message
 abbrev pub IsNext : {U H : Type 0} → View U H → Message (H × BodySize) → View U H → Type 0
 IsNext old (Item head) new = (old.head ≡ Some head) × (new.body ≡ old.body)
-IsNext old (Chunk (Some bytes)) new = old.body.coming ≡ led_by (chunk bytes ∷ []) new.body.coming
-IsNext old (Chunk None) new = Tells old.body.coming [] × (new.body.coming ≡ old.body.coming)
+IsNext old (Chunk (Some bytes)) new = IsAmid old × (old.body.coming ≡ led_by (chunk bytes ∷ []) new.body.coming)
+IsNext old (Chunk None) new = IsAmid old × Tells old.body.coming [] × (new.body.coming ≡ old.body.coming)
 
 -- The codec refuses the next item, or had no memory for it. Then it is as it says that this error leaves it, and wire and
 -- buffers are as before.

@@ -1,5 +1,5 @@
 -- What a poll answers, and the turns that it makes.
-use Rattle.std.specs.Prelude.{◌≡◌, ◌⊎◌, ⊤, ℕ, Bool, true, List, [], ◌∷◌, ◌++◌, Result, Ok, Err}
+use Rattle.std.specs.Prelude.{◌≡◌, ◌≤◌, ◌⊎◌, ⊤, ℕ, ◌+◌, Bool, true, List, [], ◌∷◌, ◌++◌, length, Result, Ok, Err}
 use Rattle.futures.specs.declared.task.Poll.{Poll}
 use Rattle.futures.specs.declared.task.Poll.TheVariants.{Ready, Pending}
 use Rattle.http_config.specs.Causes.{Rose}
@@ -8,7 +8,7 @@ use Rattle.http_framing.specs.declared.body.size.BodySize.{BodySize}
 use Rattle.http_wires.specs.Wiring.{Wiring}
 use Rattle.h1_framed.specs.declared.message.Message.{Message}
 use Rattle.h1_send.specs.View.{View}
-use Rattle.h1_send.specs.Sends.{Sends, IsLost}
+use Rattle.h1_send.specs.Sends.{Sends, ends, IsLost}
 use Rattle.h1_send.specs.declared.error.SendError.{SendError}
 use Rattle.h1_send.specs.declared.error.SendError.TheVariants.{Body, NoMemory, Wire, Codec}
 use Rattle.h1_send.specs.declared.sending.Fed.{Fed}
@@ -16,17 +16,41 @@ use Rattle.h1_send.specs.declared.sending.Fed.TheVariants as fed
 use Rattle.h1_send.specs.declared.turn.Turn.{Turn}
 use Rattle.h1_send.specs.declared.turn.Turn.TheVariants.{Goes, Waits, Over}
 
--- the wire was pending, or it took bytes and the task was woken
-abbrev pub WireWaits : Wiring → Wiring → Bool → Type 0
-WireWaits old new woken = (Rose old.write_waits new.write_waits ⊎ Rose old.flush_waits new.flush_waits) ⊎ (woken ≡ true)
+-- how much moved: the chunks that the body gave, the bytes that the wire took, and the end, where it was written meanwhile
+abbrev pub moved : List Given → List ℕ → Bool → Bool → ℕ
+moved given gave before now = length given + (length gave + length (ends {A = Unit} before now))
 
--- that; or the body was pending, and nothing is left to send
-abbrev pub WaitsFor : {U H : Type 0} → View U H → View U H → Bool → Type 0
-WaitsFor old new woken = WireWaits old.wire new.wire woken ⊎ (Rose old.body.waits new.body.waits × (new.unsent ≡ []))
+-- the wire was pending, or it took at least 64 bytes and the task was woken
+abbrev pub WireWaits : Wiring → Wiring → List ℕ → Bool → Type 0
+WireWaits old new gave woken = (Rose old.write_waits new.write_waits ⊎ Rose old.flush_waits new.flush_waits) ⊎ ((64 ≤ length gave) × (woken ≡ true))
+
+-- nothing is left to give the wire, or it waits
+abbrev pub IsGiven : {U H : Type 0} → View U H → View U H → List ℕ → Bool → Type 0
+IsGiven old new gave woken = (new.unsent ≡ []) ⊎ WireWaits old.wire new.wire gave woken
+
+-- the body has ended, or what waits to be sent leaves no room for it, or it was pending
+abbrev pub BodyWaits : {U H : Type 0} → View U H → View U H → Type 0
+BodyWaits old new = (new.is_ended ≡ true) ⊎ ((8192 ≤ length new.unsent) ⊎ Rose old.body.waits new.body.waits)
+
+-- The wire waits, and no more of the body can be had meanwhile; the body was pending, and nothing is left to send; or at
+-- least 64 chunks and bytes moved, the task was woken, and the wire was given what is left.
+abbrev pub WaitsFor : {U H : Type 0} → View U H → View U H → List Given → List ℕ → Bool → Type 0
+WaitsFor old new given gave woken =
+    (WireWaits old.wire new.wire gave woken × BodyWaits old new)
+    ⊎ ((Rose old.body.waits new.body.waits × (new.unsent ≡ []))
+    ⊎ ((64 ≤ moved given gave old.is_ended new.is_ended) × (woken ≡ true) × IsGiven old new gave woken))
 
 -- the end is written, and the wire took all
 abbrev pub IsDone : {U H : Type 0} → View U H → Type 0
 IsDone v = (v.is_ended ≡ true) × (v.unsent ≡ [])
+
+-- something moved
+abbrev pub Moves : {U H : Type 0} → (U → Message (H × BodySize) → List ℕ → U → Type 0) → View U H → View U H → Type 0
+Moves writes old new = (sends : Sends writes old new) × (1 ≤ moved sends.given sends.gave old.is_ended new.is_ended)
+
+-- nothing more can be done until the task is woken
+abbrev pub Rests : {U H : Type 0} → (U → Message (H × BodySize) → List ℕ → U → Type 0) → View U H → View U H → Bool → Type 0
+Rests writes old new woken = (sends : Sends writes old new) × WaitsFor old new sends.given sends.gave woken
 
 -- which codec writes, what it refuses, which errors say that memory ran out, and what they leave
 module _ {U H E : Type 0} (writes : U → Message (H × BodySize) → List ℕ → U → Type 0) (refuses : E → U → Message (H × BodySize) → Type 0)
@@ -42,30 +66,37 @@ module _ {U H E : Type 0} (writes : U → Message (H × BodySize) → List ℕ �
 
   -- what the next of the body came to
   abbrev pub FedSays : View U H → View U H → Fed E → Type 0
-  FedSays old new fed.Moved = Sends writes old new
+  FedSays old new fed.Moved = Moves writes old new
   FedSays old new fed.Waits = Sends writes old new × Rose old.body.waits new.body.waits
   FedSays old new (fed.Failed error) = FailSays old new error
 
   -- what a turn came to
   abbrev pub TurnSays : View U H → View U H → Bool → Turn E → Type 0
-  TurnSays old new woken Goes = Sends writes old new
-  TurnSays old new woken Waits = Sends writes old new × WaitsFor old new woken
+  TurnSays old new woken Goes = Moves writes old new
+  TurnSays old new woken Waits = Rests writes old new woken
   TurnSays old new woken (Over (Ok x)) = Sends writes old new × IsDone new
   TurnSays old new woken (Over (Err error)) = FailSays old new error
 
   -- what a poll answers
   abbrev pub SendSays : View U H → View U H → Bool → Poll (Result Unit (SendError E)) → Type 0
-  SendSays old new woken Pending = Sends writes old new × WaitsFor old new woken
+  SendSays old new woken Pending = Rests writes old new woken
   SendSays old new woken (Ready (Ok x)) = Sends writes old new × IsDone new
   SendSays old new woken (Ready (Err error)) = FailSays old new error
 
 -- a turn that gives the wire what is buffered, while the body is pending
 abbrev pub WaitSays : {U H E : Type 0} → (U → Message (H × BodySize) → List ℕ → U → Type 0) → View U H → View U H → Bool → Turn E → Type 0
 WaitSays writes old new woken Goes = ⊥
-WaitSays writes old new woken Waits = Sends writes old new × (WireWaits old.wire new.wire woken ⊎ (new.unsent ≡ []))
+WaitSays writes old new woken Waits = (sends : Sends writes old new) × IsGiven old new sends.gave woken
 WaitSays writes old new woken (Over (Ok x)) = ⊥
 WaitSays writes old new woken (Over (Err Wire)) = Sends writes old new × Rose old.wire.faults new.wire.faults
 WaitSays writes old new woken (Over (Err error)) = ⊥
+
+-- the turns are spent, and the wire is given what is buffered
+abbrev pub SpentSays : {U H E : Type 0} → (U → Message (H × BodySize) → List ℕ → U → Type 0) → View U H → View U H → Bool → Poll (Result Unit (SendError E)) → Type 0
+SpentSays writes old new woken Pending = (sends : Sends writes old new) × (woken ≡ true) × IsGiven old new sends.gave woken
+SpentSays writes old new woken (Ready (Ok x)) = ⊥
+SpentSays writes old new woken (Ready (Err Wire)) = Sends writes old new × Rose old.wire.faults new.wire.faults
+SpentSays writes old new woken (Ready (Err error)) = ⊥
 
 -- a pending body, and a turn that waits, left the task to be woken
 abbrev pub OnWaits : {E : Type 0} → Fed E → Type 0 → Type 0

@@ -1,7 +1,7 @@
 //! A message that is sent over a framed wire.
-ghost use Rattle.std.specs.Prelude.{◌≡◌, true, Some};
+ghost use Rattle.std.specs.Prelude.{◌≡◌, true, false, Some};
 ghost use Rattle.futures.specs.Task.{IsArmed, Keeps};
-ghost use Rattle.futures.specs.Poll.{OnPending};
+ghost use Rattle.futures.specs.Poll.{IfReady, OnPending};
 ghost use Rattle.h1_send.specs.Messages.{is_open, message_view, view_begun, wire_left, PollSays};
 
 use crate::SendError;
@@ -56,12 +56,14 @@ where
     /// Goes on, by at most 64 turns: writes the head, then the chunks of the body as long as the buffer isn't full, and
     /// then its end, and gives the wire what is buffered. Once the wire has taken all, the framed wire is given back.
     ///
-    /// It is pending where the wire is, where the body is and nothing is left to give the wire, or where its turns are
-    /// spent: then the task is woken.
+    /// It is pending where the wire is and the body has ended, waits, or has no room in the buffer; where the body is and
+    /// nothing is left to give the wire; or where its turns are spent, at least 64 chunks and bytes moved, and the wire was
+    /// given what is buffered: then the task is woken.
     pub fn poll(&mut self, cx: &mut Context<'_>) -> Poll<Result<Framed<T, U>, SendError<U::Error>>>
         requires open { is_open self.old ≡ true }
         ensures says { PollSays U.writes U.refuses U.lacks U.leaves T.wiring (message_view T.wiring B.gives self.old) (message_view T.wiring B.gives self.new) cx.new.is_woken result }
         ensures open { OnPending result (is_open self.new ≡ true) }
+        ensures closed { IfReady result (λ r. is_open self.new ≡ false) }
         ensures registered { OnPending result (IsArmed cx.new) }
         ensures kept { Keeps cx.old cx.new }
     {

@@ -1,9 +1,9 @@
 //! A message goes on, turn by turn.
-ghost use Rattle.std.specs.Prelude.{◌≡◌, None, true};
+ghost use Rattle.std.specs.Prelude.{◌≡◌, ◌≤◌, None, true, length};
 ghost use Rattle.futures.specs.Task.{IsArmed, Keeps};
 ghost use Rattle.futures.specs.Poll.{OnPending};
 ghost use Rattle.h1_send.specs.View.{view_of};
-ghost use Rattle.h1_send.specs.Turns.{OnIdle, WaitSays, TurnSays, SendSays};
+ghost use Rattle.h1_send.specs.Turns.{OnIdle, WaitSays, TurnSays, SpentSays, SendSays};
 
 use crate::SendError;
 use crate::sending::{Fed, Sending};
@@ -60,7 +60,21 @@ where
                 Turn::Over(result) => return Poll::Ready(result),
             }
         }
-        cx.yield_now()
+        self.rest(cx)
+    }
+
+    /// Gives the wire what is buffered, once the turns are spent, and asks for another poll.
+    fn rest(&mut self, cx: &mut Context<'_>) -> Poll<Result<(), SendError<U::Error>>>
+        requires begun { self.old.head ≡ None }
+        ensures says { SpentSays U.writes (view_of T.wiring B.gives self.old) (view_of T.wiring B.gives self.new) cx.new.is_woken result }
+        ensures registered { OnPending result (IsArmed cx.new) }
+        ensures kept { Keeps cx.old cx.new }
+    {
+        match self.framed.flush(cx) {
+            Poll::Pending => cx.yield_now(),
+            Poll::Ready(Ok(())) => cx.yield_now(),
+            Poll::Ready(Err(Failed)) => Poll::Ready(Err(SendError::Wire)),
+        }
     }
 
     /// One turn: what the body has next is written, or what is buffered is given to the wire, where the body has ended,
@@ -99,15 +113,21 @@ where
         }
     }
 
-    /// Gives the wire what fills the buffer.
+    /// Gives the wire what fills the buffer. Where it took some of it, the body may go on.
     fn relieve(&mut self, cx: &mut Context<'_>) -> Turn<U::Error>
         requires begun { self.old.head ≡ None }
+        requires full { 8192 ≤ length self.old.framed.unsent }
         ensures says { TurnSays U.writes U.refuses U.lacks U.leaves (view_of T.wiring B.gives self.old) (view_of T.wiring B.gives self.new) cx.new.is_woken result }
         ensures registered { OnIdle result (IsArmed cx.new) }
         ensures kept { Keeps cx.old cx.new }
     {
         match self.framed.flush(cx) {
-            Poll::Pending => Turn::Waits,
+            Poll::Pending => {
+                if self.framed.is_write_buf_full() {
+                    return Turn::Waits;
+                }
+                Turn::Goes
+            }
             Poll::Ready(Ok(())) => Turn::Goes,
             Poll::Ready(Err(Failed)) => Turn::Over(Err(SendError::Wire)),
         }

@@ -1,5 +1,4 @@
-use Rattle.std.proofs.Common.{◌≡◌, sym}
-use Rattle.std.specs.Prelude.{None}
+use Rattle.std.proofs.Common.{◌≡◌}
 use Rattle.h1_send.proofs.GivenBack.{given_back}
 use Rattle.h1_send.proofs.message.SendMessage.poll.Goals as goal
 

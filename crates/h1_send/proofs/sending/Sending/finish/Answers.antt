@@ -8,7 +8,7 @@ returns-in-Pending-clause-says g c =
     let v = view_of g.T.Wire.wiring g.B.MessageBody.gives c.args.self.now in
     let w = view_of g.T.Wire.wiring g.B.MessageBody.gives (record c.args.self.now { framed = c.flush.new.self }) in
     let both = flush_waits g.U.Encoder.writes v w c.flush.new.cx.is_woken c.in-Pending.ensures.says c.requires.begun refl refl c.flush.ensures.codec c.flush.ensures.unread refl in
-    (both.0, inl both.1)
+    (both.0, inl (both.1, inl c.requires.ended))
 
 pub returns-in-Ready-Ok-clause-says : goal.returns-in-Ready-Ok-clause-says
 returns-in-Ready-Ok-clause-says g c =

@@ -1,13 +1,13 @@
-use Rattle.std.proofs.Common.{rules, inl, inr}
+use Rattle.std.proofs.Common.{rules, arith}
 use Rattle.h1_send.specs.View.{view_of}
-use Rattle.h1_send.proofs.Behind.{turn_behind, over_behind}
-use Rattle.h1_send.proofs.Whole.{sends-refl, sends-trans}
+use Rattle.h1_send.proofs.Behind.{turn_behind, over_behind, spent_behind}
+use Rattle.h1_send.proofs.Whole.{sends-refl, sends_on}
 use Rattle.h1_send.specs.declared.turn.Turn.TheVariants.{Waits}
 use Rattle.h1_send.proofs.sending.Sending.go_on.Goals as goal
 
 pub loop-turn-init : goal.loop-turn-init
 loop-turn-init g c = record {
-  sends = sends-refl g.U.Encoder.writes (view_of g.T.Wire.wiring g.B.MessageBody.gives c.args.self.now) c.requires.begun;
+  sent = (sends-refl g.U.Encoder.writes (view_of g.T.Wire.wiring g.B.MessageBody.gives c.args.self.now) c.requires.begun, omega arith);
   kept = search rules;
 }
 
@@ -16,8 +16,11 @@ loop-turn-preserved g c =
     let v = view_of g.T.Wire.wiring g.B.MessageBody.gives c.args.self.now in
     let u = view_of g.T.Wire.wiring g.B.MessageBody.gives c.loop-turn.self in
     let w = view_of g.T.Wire.wiring g.B.MessageBody.gives c.turn.new.self in
+    let before = c.loop-turn.invariant.sent in
+    let more = c.in-Goes.ensures.says in
+    let all = sends_on g.U.Encoder.writes v u w before.0 more.0 in
     record {
-      sends = sends-trans g.U.Encoder.writes v u w c.loop-turn.invariant.sends c.in-Goes.ensures.says;
+      sent = (all.0, omega (arith, before.1, more.1, all.1));
       kept = search rules;
     }
 
@@ -26,11 +29,19 @@ returns-in-Waits-clause-says g c =
     let v = view_of g.T.Wire.wiring g.B.MessageBody.gives c.args.self.now in
     let u = view_of g.T.Wire.wiring g.B.MessageBody.gives c.loop-turn.self in
     let w = view_of g.T.Wire.wiring g.B.MessageBody.gives c.turn.new.self in
-    turn_behind g.U.Encoder.writes g.U.Encoder.refuses g.U.Encoder.lacks g.U.Encoder.leaves v u w c.loop-turn.invariant.sends c.turn.new.cx.is_woken Waits c.in-Waits.ensures.says
+    turn_behind g.U.Encoder.writes g.U.Encoder.refuses g.U.Encoder.lacks g.U.Encoder.leaves v u w c.loop-turn.invariant.sent.0 c.turn.new.cx.is_woken Waits c.in-Waits.ensures.says
 
 pub returns-in-Over-clause-says : goal.returns-in-Over-clause-says
 returns-in-Over-clause-says g c =
     let v = view_of g.T.Wire.wiring g.B.MessageBody.gives c.args.self.now in
     let u = view_of g.T.Wire.wiring g.B.MessageBody.gives c.loop-turn.self in
     let w = view_of g.T.Wire.wiring g.B.MessageBody.gives c.turn.new.self in
-    over_behind g.U.Encoder.writes g.U.Encoder.refuses g.U.Encoder.lacks g.U.Encoder.leaves v u w c.loop-turn.invariant.sends c.turn.new.cx.is_woken c.in-Over.result c.in-Over.ensures.says
+    over_behind g.U.Encoder.writes g.U.Encoder.refuses g.U.Encoder.lacks g.U.Encoder.leaves v u w c.loop-turn.invariant.sent.0 c.turn.new.cx.is_woken c.in-Over.result c.in-Over.ensures.says
+
+pub returns-clause-says : goal.returns-clause-says
+returns-clause-says g c =
+    let v = view_of g.T.Wire.wiring g.B.MessageBody.gives c.args.self.now in
+    let u = view_of g.T.Wire.wiring g.B.MessageBody.gives c.loop-turn.self in
+    let w = view_of g.T.Wire.wiring g.B.MessageBody.gives c.rest.new.self in
+    spent_behind g.U.Encoder.writes g.U.Encoder.refuses g.U.Encoder.lacks g.U.Encoder.leaves v u w c.loop-turn.invariant.sent.0 c.rest.new.cx.is_woken c.rest.result
+    (omega (arith, c.loop-turn.invariant.sent.1)) c.rest.ensures.says
