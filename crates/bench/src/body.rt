@@ -1,7 +1,7 @@
 //! Exchanges with bodies that are measured.
 use crate::checksum::Checksum;
 use crate::error::BenchError;
-use crate::work::{MOMENT, Place, begin, repeated};
+use crate::work::{MOMENT, Place, begin, give, repeated, take};
 use bytes::Bytes;
 use h1_connection::{Connection, Pulled};
 use http_framing::BodySize;
@@ -24,13 +24,26 @@ const POST_OF_A_LENGTH: &[u8] = b"POST / HTTP/1.1\r\nhost: a\r\ncontent-length: 
 
 const POST_IN_CHUNKS: &[u8] = b"POST / HTTP/1.1\r\nhost: a\r\ntransfer-encoding: chunked\r\n\r\n";
 
+/// Trailers: nine lines of a browser's head.
+const TRAILERS: &[u8] =
+    b"User-Agent: Mozilla/5.0 (X11; Linux x86_64; rv:145.0) Gecko/20100101 Firefox/145.0\r\n\
+    Accept: text/html,application/xhtml+xml,application/xml;q=0.9,image/avif,image/webp,*/*;q=0.8\r\n\
+    Accept-Language: en-US,en;q=0.5\r\n\
+    Accept-Encoding: gzip, deflate\r\n\
+    Referer: http://www.example.org/articles/2026/11/\r\n\
+    Cookie: session=5f2b8c1d9e7a4036b1c8d2e9f0a7b654; theme=light; consent=necessary; language=english\r\n\
+    If-Modified-Since: Thu, 26 Nov 2026 09:30:00 GMT\r\n\
+    If-None-Match: \"5c8d-64a1f0b2\"\r\n\
+    Cache-Control: max-age=0\r\n";
+
 /// What an answer of a few bytes says.
 const HI: &[u8] = b"hi";
 
 /// Every exchange, in the table's order.
-pub static EXCHANGES: [Exchange; 6] = [
+pub static EXCHANGES: [Exchange; 7] = [
     Exchange::Length,
     Exchange::Chunks,
+    Exchange::Trailers,
     Exchange::Hi,
     Exchange::Stream,
     Exchange::EchoLength,
@@ -45,6 +58,9 @@ pub enum Exchange {
 
     /// The same in four chunks.
     Chunks,
+
+    /// The same with trailers.
+    Trailers,
 
     /// A request without a body is answered with two bytes, below five headers of its own.
     Hi,
@@ -70,6 +86,7 @@ impl Exchange {
         match self {
             Exchange::Length => "length",
             Exchange::Chunks => "chunks",
+            Exchange::Trailers => "trailers",
             Exchange::Hi => "hi",
             Exchange::Stream => "stream",
             Exchange::EchoLength => "echo-length",
@@ -111,21 +128,12 @@ impl Exchange {
         place: &mut Place,
         checksum: &mut Checksum,
     ) -> Result<(), BenchError> {
-        if !connection.can_read() {
-            return Err(BenchError::Misplaced);
-        }
-        checksum.add(connection.read(read)?);
+        take(connection, read, checksum)?;
         for _ in 0..depth {
             place.fill(connection, checksum)?;
             self.exchange(connection, answer, checksum)?;
         }
-        if !connection.can_write() {
-            return Err(BenchError::Misplaced);
-        }
-        let written = connection.front().len();
-        checksum.add_bytes(connection.front());
-        connection.advance(written);
-        Ok(())
+        give(connection, checksum)
     }
 
     /// The open request's body and its answer.
@@ -136,7 +144,9 @@ impl Exchange {
         checksum: &mut Checksum,
     ) -> Result<(), BenchError> {
         match self {
-            Exchange::Length | Exchange::Chunks => take_all(connection, answer, checksum),
+            Exchange::Length | Exchange::Chunks | Exchange::Trailers => {
+                take_all(connection, answer, checksum)
+            }
             Exchange::Hi => say_hi(connection, answer),
             Exchange::Stream => stream(connection, answer),
             Exchange::EchoLength => { echo(connection, answer, BodySize::Sized(BODY as u64)) }
@@ -149,7 +159,8 @@ impl Exchange {
         match self {
             Exchange::Hi | Exchange::Stream => Ok(Bytes::from_static(GET)),
             Exchange::Length | Exchange::EchoLength => post_of_a_length(alloc),
-            Exchange::Chunks | Exchange::EchoChunks => post_in_chunks(alloc),
+            Exchange::Chunks | Exchange::EchoChunks => post_in_chunks(alloc, b""),
+            Exchange::Trailers => post_in_chunks(alloc, TRAILERS),
         }
     }
 
@@ -179,13 +190,15 @@ fn post_of_a_length(alloc: Global) -> Result<Bytes, NoMemory> {
     Ok(Bytes::from_vec(text)?)
 }
 
-/// The same in four chunks.
-fn post_in_chunks(alloc: Global) -> Result<Bytes, NoMemory> {
+/// The same in four chunks, with these trailers.
+fn post_in_chunks(alloc: Global, trailers: &[u8]) -> Result<Bytes, NoMemory> {
     let mut text = POST_IN_CHUNKS.to_vec(alloc)?;
     for _ in 0..BODY / PIECE {
         put_chunk(&mut text)?;
     }
-    text.extend_from_slice(b"0\r\n\r\n")?;
+    text.extend_from_slice(b"0\r\n")?;
+    text.extend_from_slice(trailers)?;
+    text.extend_from_slice(b"\r\n")?;
     Ok(Bytes::from_vec(text)?)
 }
 
@@ -218,7 +231,8 @@ fn take_piece(connection: &mut Connection, checksum: &mut Checksum) -> Result<()
     }
     match connection.pull()? {
         Pulled::Bytes(bytes) => checksum.add_bytes(&bytes),
-        Pulled::Trailers(_) | Pulled::End => {}
+        Pulled::Trailers(trailers) => checksum.add(trailers.len_keys()),
+        Pulled::End => {}
         Pulled::Pending | Pulled::Broken(_) => return Err(BenchError::NoBody),
     }
     Ok(())

@@ -8,6 +8,9 @@ use ws_frames::{Codec, Frame, Message, NoWords, OpCode, Parser};
 /// The mask of the client that sends the frames.
 const MASK: [u8; 4] = [0x37, 0xfa, 0x21, 0x3d];
 
+/// How many bytes a block has at least that is read into.
+const BLOCK: usize = 8192;
+
 /// A server that sends each frame back.
 #[derive(Drop)]
 struct Echo {
@@ -26,10 +29,20 @@ impl Echo {
         }
     }
 
+    /// Bytes come in one read. What is left of a block is read into first: a payload shares its block, so that a buffer
+    /// which grew by each read alone would have a block for each.
+    fn read(&mut self, bytes: &[u8]) -> Result<(), BenchError> {
+        if self.input.capacity() - self.input.len() < bytes.len() {
+            self.input.reserve(bytes.len().max(BLOCK))?;
+        }
+        self.input.extend_from_slice(bytes)?;
+        Ok(())
+    }
+
     /// Takes a frame that comes in one read, and writes it without its mask, into a buffer that is empty before.
     fn echo(&mut self, alloc: Global, text: &[u8]) -> Result<(), BenchError> {
         self.output.clear();
-        self.input.extend_from_slice(text)?;
+        self.read(text)?;
         match self.codec.decode(alloc, &mut self.input) {
             Ok(Some(Frame::Binary(payload))) => {
                 let message = Message::Binary(payload);

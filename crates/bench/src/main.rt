@@ -5,8 +5,9 @@
 //! `bench map find 32 1000`; or `body`, which exchange with bodies, how many at once, and how many, as in
 //! `bench body echo-length 16 1600`; or `frames`, how many bytes a frame's payload has, and how many frames are echoed, as in
 //! `bench frames 1024 1000`; or `upgraded`, the same through a connection that was upgraded; or `part`, which part
-//! beside a connection (`stream` or `queue`), and how many times, as in `bench part queue 1000`. It prints a
-//! checksum of all that came, so that none of the work can be left out. Without words it does a little of each.
+//! beside a connection (`stream` or `queue`), and how many times, as in `bench part queue 1000`; or `idle`, what came
+//! to connections before (`fresh` or `served`), and how many are kept at once, as in `bench idle served 100`. It prints
+//! a checksum of all that came, so that none of the work can be left out. Without words it does a little of each.
 #![tactic(auto)]
 
 mod body;
@@ -14,6 +15,7 @@ mod checksum;
 mod error;
 mod frames;
 mod head;
+mod idle;
 mod map;
 mod parts;
 mod upgraded;
@@ -24,6 +26,7 @@ use body::{EXCHANGES, Exchange};
 use error::BenchError;
 use frames::echo_frames;
 use head::{HEADS, NamedHead};
+use idle::{IDLES, Idle};
 use map::{Lines, MAP_WORKS, MapWork};
 use parts::{PARTS, Part};
 use std::alloc::{AllocGlobal, Global};
@@ -60,6 +63,11 @@ fn main(rt: HostRuntime) -> Result<()> {
             let part = Part::named(part.as_str()).ok_or(BenchError::Usage)?;
             let times = times.parse::<u64>().context("reading how many times")?;
             measure_part(&rt, part, times)
+        }
+        [word, kind, count] if word.as_str() == "idle" => {
+            let idle = Idle::named(kind.as_str()).ok_or(BenchError::Usage)?;
+            let count = count.parse::<usize>().context("reading how many")?;
+            measure_idle(&rt, alloc, idle, count)
         }
         [work, head, requests] => {
             let work = Work::named(work.as_str()).ok_or(BenchError::Usage)?;
@@ -104,6 +112,9 @@ fn a_little_of_each<R: Print + RandomSource + AllocGlobal>(rt: &R, alloc: Global
     }
     for part in &PARTS {
         measure_part(rt, *part, FEW)?;
+    }
+    for idle in &IDLES {
+        measure_idle(rt, alloc, *idle, NAMES)?;
     }
     Ok(())
 }
@@ -174,5 +185,11 @@ fn measure_part<R: Print + RandomSource + AllocGlobal>(
 ) -> Result<()> {
     let checksum = part.run(rt, times)?;
     println!(rt; "part {} {checksum:016x}", part.name())?;
+    Ok(())
+}
+
+fn measure_idle(rt: &impl Print, alloc: Global, idle: Idle, count: usize) -> Result<()> {
+    let checksum = idle.run(alloc, count)?;
+    println!(rt; "idle {} {checksum:016x}", idle.name())?;
     Ok(())
 }

@@ -9,12 +9,17 @@ use std::str;
 /// As many names are removed at a time, since that many others may have to close up each time.
 const MOST_REMOVED: usize = 100;
 
+/// More names than stand in a list.
+const MANY: usize = 40;
+
 /// Every work with a map.
-pub static MAP_WORKS: [MapWork; 8] = [
+pub static MAP_WORKS: [MapWork; 10] = [
     MapWork::Lines,
     MapWork::Append,
     MapWork::AppendInRoom,
     MapWork::AppendKept,
+    MapWork::Reserve,
+    MapWork::AfterMany,
     MapWork::Find,
     MapWork::Miss,
     MapWork::Iterate,
@@ -35,6 +40,12 @@ pub enum MapWork {
 
     /// The same in a map that is kept and cleared, as that of a head that is written over another one.
     AppendKept,
+
+    /// The same in a map that is kept and asked for room first, as the reader of heads does.
+    Reserve,
+
+    /// The same again, where forty other names stood in it before.
+    AfterMany,
 
     /// A name that is there is looked up.
     Find,
@@ -62,6 +73,8 @@ impl MapWork {
             MapWork::Append => "append",
             MapWork::AppendInRoom => "append-in-room",
             MapWork::AppendKept => "append-kept",
+            MapWork::Reserve => "reserve",
+            MapWork::AfterMany => "after-many",
             MapWork::Find => "find",
             MapWork::Miss => "miss",
             MapWork::Iterate => "iterate",
@@ -110,6 +123,11 @@ impl MapWork {
                 checksum.add(map.len());
                 Ok(())
             }
+            MapWork::Reserve => fill(map, there, checksum),
+            MapWork::AfterMany => {
+                fill(map, lines.many.as_slice(), checksum)?;
+                fill(map, there, checksum)
+            }
             MapWork::Find => {
                 look_up(map, there, checksum);
                 Ok(())
@@ -131,11 +149,12 @@ impl MapWork {
 
 type Line = (HeaderName, HeaderValue);
 
-/// The lines of a map, and as many whose names it doesn't have.
+/// The lines of a map, as many whose names it doesn't have, and forty.
 #[derive(Drop)]
 pub struct Lines {
     there: Vec<Line>,
     missing: Vec<Line>,
+    many: Vec<Line>,
 }
 
 impl Lines {
@@ -144,6 +163,7 @@ impl Lines {
         Ok(Lines {
             there: numbered_lines(alloc, 0, count)?,
             missing: numbered_lines(alloc, count, count)?,
+            many: numbered_lines(alloc, 0, MANY)?,
         })
     }
 
@@ -158,6 +178,7 @@ impl Lines {
         Ok(Lines {
             there,
             missing: Vec::new(alloc),
+            many: numbered_lines(alloc, 0, MANY)?,
         })
     }
 }
@@ -274,6 +295,16 @@ fn append_all(map: &mut HeaderMap, lines: &[Line]) -> Result<(), BenchError> {
     for (name, value) in lines {
         map.append(name.clone()?, value.clone()?)?;
     }
+    Ok(())
+}
+
+// The map has these lines and no others.
+#[inline(never)]
+fn fill(map: &mut HeaderMap, lines: &[Line], checksum: &mut Checksum) -> Result<(), BenchError> {
+    map.clear();
+    map.reserve(lines.len())?;
+    append_all(map, lines)?;
+    checksum.add(map.len());
     Ok(())
 }
 

@@ -2,7 +2,7 @@
 use crate::checksum::Checksum;
 use crate::error::BenchError;
 use bytes::Bytes;
-use h1_connection::{Boxed, Connection, Event, NextKind, Outcome};
+use h1_connection::{Boxed, Connection, Event, NextHead, NextKind, Outcome};
 use h1_decode::{HeadItem, HeadRoom, HeadScan, request_head, scan_head};
 use http_framing::BodySize;
 use http_types::{NoMemory, ResponseHead, ServiceConfigBuilder, StatusCode};
@@ -18,10 +18,12 @@ const WRITE_LIMIT: usize = 65_536;
 pub const MOMENT: u64 = 1_795_737_600_000;
 
 /// Every work, in the table's order.
-pub static WORKS: [Work; 5] = [
+pub static WORKS: [Work; 7] = [
     Work::Head,
     Work::Get,
     Work::PipelinedGets,
+    Work::FreshGet,
+    Work::PipelinedFreshGets,
     Work::GetByEvents,
     Work::PipelinedGetsByEvents,
 ];
@@ -37,6 +39,12 @@ pub enum Work {
 
     /// The same for sixteen requests that come in one read, and whose answers are written at once.
     PipelinedGets,
+
+    /// A request comes in one read, its head is handed out by itself and answered, and the answer is written.
+    FreshGet,
+
+    /// The same for sixteen requests.
+    PipelinedFreshGets,
 
     /// The same by events as values, whose bytes are given to be written.
     GetByEvents,
@@ -57,6 +65,8 @@ impl Work {
             Work::Head => "head",
             Work::Get => "get",
             Work::PipelinedGets => "get16",
+            Work::FreshGet => "next",
+            Work::PipelinedFreshGets => "next16",
             Work::GetByEvents => "step",
             Work::PipelinedGetsByEvents => "step16",
         }
@@ -66,8 +76,12 @@ impl Work {
     pub fn run(self, alloc: Global, head: &[u8], requests: u64) -> Result<u64, BenchError> {
         match self {
             Work::Head => heads(alloc, head, requests),
-            Work::Get => gets(alloc, head, 1, requests),
-            Work::PipelinedGets => gets(alloc, head, PIPELINED, requests / PIPELINED),
+            Work::Get => gets(alloc, head, true, 1, requests),
+            Work::PipelinedGets => gets(alloc, head, true, PIPELINED, requests / PIPELINED),
+            Work::FreshGet => gets(alloc, head, false, 1, requests),
+            Work::PipelinedFreshGets => {
+                gets(alloc, head, false, PIPELINED, requests / PIPELINED)
+            }
             Work::GetByEvents => steps(alloc, head, 1, requests),
             Work::PipelinedGetsByEvents => steps(alloc, head, PIPELINED, requests / PIPELINED),
         }
@@ -89,8 +103,15 @@ fn heads(alloc: Global, head: &[u8], requests: u64) -> Result<u64, BenchError> {
     Ok(checksum.sum())
 }
 
-/// Serves so many reads of `depth` requests each, on one connection.
-fn gets(alloc: Global, head: &[u8], depth: u64, reads: u64) -> Result<u64, BenchError> {
+/// Serves so many reads of `depth` requests each, on one connection. Each head is written over the last one where
+/// `is_kept` says so, and else is handed out by itself.
+fn gets(
+    alloc: Global,
+    head: &[u8],
+    is_kept: bool,
+    depth: u64,
+    reads: u64,
+) -> Result<u64, BenchError> {
     let read = repeated(alloc, head, depth)?;
     let answer = ResponseHead::new(alloc, StatusCode::OK);
     let mut connection = Connection::new(alloc, ServiceConfigBuilder::new().build());
@@ -101,14 +122,18 @@ fn gets(alloc: Global, head: &[u8], depth: u64, reads: u64) -> Result<u64, Bench
     connection.tick(MOMENT)?;
     let mut place = Place::new(alloc);
     for _ in 0..reads {
-        serve(
-            &mut connection,
-            &read,
-            &answer,
-            depth,
-            &mut place,
-            &mut checksum,
-        )?;
+        if is_kept {
+            serve(
+                &mut connection,
+                &read,
+                &answer,
+                depth,
+                &mut place,
+                &mut checksum,
+            )?;
+        } else {
+            serve_fresh(&mut connection, &read, &answer, depth, &mut checksum)?;
+        }
     }
     Ok(checksum.sum())
 }
@@ -155,15 +180,57 @@ fn serve(
     place: &mut Place,
     checksum: &mut Checksum,
 ) -> Result<(), BenchError> {
-    if !connection.can_read() {
-        return Err(BenchError::Misplaced);
-    }
-    let count = connection.read(read)?;
-    checksum.add(count);
+    take(connection, read, checksum)?;
     for _ in 0..depth {
         place.fill(connection, checksum)?;
         begin(connection, answer, BodySize::ZERO)?;
     }
+    give(connection, checksum)
+}
+
+/// The same with heads that are handed out by themselves.
+fn serve_fresh(
+    connection: &mut Connection,
+    read: &[u8],
+    answer: &ResponseHead,
+    depth: u64,
+    checksum: &mut Checksum,
+) -> Result<(), BenchError> {
+    take(connection, read, checksum)?;
+    for _ in 0..depth {
+        ask(connection, checksum)?;
+        begin(connection, answer, BodySize::ZERO)?;
+    }
+    give(connection, checksum)
+}
+
+/// Has the next head handed out by itself, and counts it in.
+pub fn ask(connection: &mut Connection, checksum: &mut Checksum) -> Result<(), BenchError> {
+    if !connection.can_next() {
+        return Err(BenchError::Misplaced);
+    }
+    match connection.next()? {
+        NextHead::Head(item) => checksum.add_head(&item),
+        _ => return Err(BenchError::NoHead),
+    }
+    Ok(())
+}
+
+/// Bytes come in one read.
+pub fn take(
+    connection: &mut Connection,
+    read: &[u8],
+    checksum: &mut Checksum,
+) -> Result<(), BenchError> {
+    if !connection.can_read() {
+        return Err(BenchError::Misplaced);
+    }
+    checksum.add(connection.read(read)?);
+    Ok(())
+}
+
+/// All that waits is written.
+pub fn give(connection: &mut Connection, checksum: &mut Checksum) -> Result<(), BenchError> {
     if !connection.can_write() {
         return Err(BenchError::Misplaced);
     }
