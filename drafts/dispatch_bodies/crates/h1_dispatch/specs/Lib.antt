@@ -1,0 +1,7 @@
+pub mod View
+pub mod Steps
+pub mod Polls
+pub mod Traces
+pub mod Order
+pub mod Acts
+pub mod Open

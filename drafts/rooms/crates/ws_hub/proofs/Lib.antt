@@ -1,0 +1,5 @@
+pub mod RowLemmas
+pub mod StandLemmas
+pub mod HubLemmas
+pub mod RunLemmas
+pub mod FirstLemmas

@@ -1,0 +1,4 @@
+pub mod Hub
+pub mod Moves
+pub mod Pair
+pub mod Run

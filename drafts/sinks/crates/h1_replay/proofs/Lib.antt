@@ -1,0 +1,9 @@
+pub mod Answering
+pub mod Completeness
+pub mod Cuts
+pub mod Digits
+pub mod EventLines
+pub mod Reading
+pub mod ReportLines
+pub mod Writing
+pub mod Words

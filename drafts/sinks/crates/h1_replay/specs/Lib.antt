@@ -1,0 +1,14 @@
+pub mod Answer
+pub mod Hex
+pub mod Input
+pub mod Message
+pub mod Output
+pub mod Pieces
+pub mod Reading
+pub mod Reply
+pub mod Report
+pub mod Run
+pub mod Script
+pub mod Text
+pub mod WebSocket
+pub mod Word

@@ -1,0 +1,61 @@
+//! Scripts of connection events, and reports of what a connection answers to them.
+//!
+//! A script is a text: a line with the settings of a connection, then a line for each event that comes to it. The
+//! report has a line for each outcome, then the bytes that are still to be written, and the state. So an exchange can
+//! be written down, replayed and compared, byte for byte. `replay` answers a script in memory; `run` answers a
+//! program's words, over a source and a sink of any kind.
+//!
+//! # Example
+//!
+//! The script
+//!
+//! ```text
+//! config 5000 5000 0 1 32768
+//! read 47
+//! eof
+//! next
+//! ```
+//!
+//! has the settings keep-alive 5000 ms, request timeout 5000 ms, no disconnect timeout, half-closed connections
+//! allowed and a write buffer of 32768 bytes. One byte comes (`G`), then the input ends, and then the user asks what
+//! is next. The report is
+//!
+//! ```text
+//! took 1
+//! done
+//! closed input-ended
+//! buffered -
+//! state input-ended
+//! ```
+//!
+//! and in code
+//!
+//! ```ignore
+//! let reply = h1_replay::replay(alloc, b"config 5000 5000 0 1 32768\nread 47\neof\nnext\n");
+//! assert_eq!(rt; reply.status(), 0);
+//! ```
+//!
+//! # Contract
+//!
+//! The status and the text of an answer are those of the script's one trace, or name the first line or event that has
+//! none, and nothing is written before the whole text is made; only an answer that memory ran out may come at any time.
+#![tactic(auto)]
+
+mod answer;
+mod input;
+mod marks;
+mod message;
+mod output;
+mod pieces;
+mod program;
+mod reply;
+mod report;
+mod script;
+mod text;
+mod websocket;
+mod word;
+
+pub use program::run;
+pub use reply::{Reply, replay};
+pub use report::report_of;
+pub use script::{Script, ScriptError, read_script};
