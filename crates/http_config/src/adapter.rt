@@ -1,9 +1,8 @@
 //! Any reader as a source, and any writer as a sink.
-ghost use Rattle.std.specs.Prelude.{◌≡◌, ◌<◌, None, length, IfOk, if◌then◌else◌};
-ghost use Rattle.std.specs.Result.{is_err};
+ghost use Rattle.std.specs.Prelude.{◌≡◌, ◌<◌, None, length, IfOk};
 ghost use Rattle.std.specs.Io.{ReadsAtMost, WritesAtMost};
 ghost use Rattle.std.specs.Io.KnownBytes.{ReadConsumes, WriteAppends};
-ghost use Rattle.http_config.specs.Causes.{HasCause, counted, faults_after, IsAsked};
+ghost use Rattle.http_config.specs.Causes.{HasCause, faults_after, IsAsked};
 
 use crate::{Failed, Sink, Source};
 use std::fmt;
@@ -106,7 +105,8 @@ impl<W: Write> Sink for WriteSink<W> {
         ensures progress { IfOk result (λ count. 0 < length bytes.now → 0 < count) }
         ensures bytes { WriteAppends self.old.given self.new.given result bytes.now }
         ensures cause { HasCause self.old.faults self.new.faults result }
-        ensures counts { self.new.faults ≡ (if is_err result then counted self.old.faults else self.old.faults) }
+        ensures fault { self.new.faults ≡ faults_after self.old.faults result }
+        ensures asked { IsAsked None None }
     {
         let result = write_uninterrupted(&mut self.writer, bytes);
         if result.is_err() {

@@ -117,11 +117,15 @@ impl Sink for MemSink {
 
     ghost faults = { λ s. s.faults };
 
+    ghost calls = { λ s. Some s.calls };
+
     fn write(&mut self, bytes: &[u8]) -> Result<usize, Failed>
         ensures bound { WritesAtMost result bytes.now }
         ensures progress { IfOk result (λ count. 0 < length bytes.now → 0 < count) }
         ensures bytes { WriteAppends (Some self.old.given) (Some self.new.given) result bytes.now }
         ensures cause { HasCause self.old.faults self.new.faults result }
+        ensures fault { self.new.faults ≡ faults_after self.old.faults result }
+        ensures asked { IsAsked (Some self.old.calls) (Some self.new.calls) }
 
         // The listed calls fail, and no other one unless memory ran out. Else the piece is taken whole.
         ensures listed { Contains self.old.fail self.old.calls → IsErr result }

@@ -93,6 +93,8 @@ impl Sink for SureSink {
         ensures progress { IfOk result (λ count. 0 < length bytes.now → 0 < count) }
         ensures bytes { WriteAppends None None result bytes.now }
         ensures cause { HasCause 0 0 result }
+        ensures fault { 0 ≡ faults_after 0 result }
+        ensures asked { IsAsked None None }
         ensures whole { result ≡ Ok (length bytes.now) }
         ensures kept { (self.new ≡ self.old ++ bytes.now) ⊎ (self.new ≡ self.old) }
     {
