@@ -28,3 +28,5 @@ mod piece;
 
 pub use codec::Codec;
 pub use message::{Message, MessageType};
+pub use next::next_head;
+pub use piece::{Piece, next_piece};

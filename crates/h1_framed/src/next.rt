@@ -60,8 +60,11 @@ fn note_piece(
     }
 }
 
-/// The next head, after which its body is open. `is_bare` says that no head has a body.
-pub(crate) fn next_head<T: ReadHead>(
+/// The next head of a request or an answer, once it is there; its body is then open in `body`. `is_bare` says that no head
+/// has a body, as those to HEAD. What was passed is taken off the front of `src`.
+///
+/// The errors are those of `MessageDecoder::decode`, and then all is as before.
+pub fn next_head<T: ReadHead>(
     heads: &mut MessageDecoder<T>,
     body: &mut Option<PayloadDecoder>,
     trailers: &mut Option<HeaderMap>,

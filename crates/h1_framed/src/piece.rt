@@ -7,7 +7,7 @@ use http_types::HeaderMap;
 
 /// Bytes of a body, or its end with the trailers that it has.
 #[derive(Debug, Drop)]
-pub(crate) enum Piece {
+pub enum Piece {
     /// Bytes, of which there is one at least.
     Bytes(Bytes),
 
@@ -15,8 +15,11 @@ pub(crate) enum Piece {
     End(Option<HeaderMap>),
 }
 
-/// The next piece, once it is there.
-pub(crate) fn next_piece(
+/// The next piece of an open body, once it is there. What was passed is taken off the front of `src`.
+///
+/// A body that breaks the grammar of chunks is `DecodeError::Invalid`, from then on for good. The only other error is
+/// `NoMemory`, and all is as before.
+pub fn next_piece(
     body: &mut PayloadDecoder,
     src: &mut BytesMut,
 ) -> Result<Option<Piece>, DecodeError>
