@@ -6,7 +6,8 @@ use Rattle.std.specs.Prelude.{slice_range, ◌⊎◌}
 use Rattle.h1_model.specs.HeadPiece.{IsHeadPiece}
 use Rattle.h1_decode.specs.declared.scan.HeadScan.{HeadScan}
 use Rattle.h1_decode.specs.declared.scan.HeadScan.TheVariants.{Piece}
-use Rattle.h1_connection.specs.Incoming.{Incoming, incoming, due_in, scan_of, is_coming_in, IsHeadIn, IsHeadOf, IsWhole, IsSearchedTo, IsSearched, HasSearched, IsCutNoted}
+use Rattle.h1_connection.specs.Scan.{scan_of}
+use Rattle.h1_connection.specs.Incoming.{Incoming, incoming, due_in, is_coming_in, IsHeadIn, IsHeadOf, IsWhole, IsSearchedTo, IsSearched, HasSearched, IsCutNoted}
 use Rattle.h1_connection.specs.declared.connection.input.Search.{Search}
 use Rattle.h1_connection.specs.declared.connection.input.Search.TheVariants.{Off, Due, Done}
 use Rattle.h1_connection.proofs.InputLemmas.{scan_is, due_front, due_searched, due_incoming}

@@ -5,26 +5,20 @@ use Rattle.std.proofs.Common.{◌≡◌, ℕ, zero, suc, ◌≤◌, ◌-◌, tru
 use Rattle.std.specs.Prelude.{is_some, slice_range, ◌⊎◌, IsTrue}
 use Rattle.h1_model.specs.HeadPiece.{IsHeadPiece, HasNoHeadPiece}
 use Rattle.bytes.proofs.Ranges.{slice_range_front}
-use Rattle.h1_model.proofs.HeadPieceLemmas.{head_piece_append, head_piece_decided}
+use Rattle.h1_model.proofs.HeadPieceLemmas.{head_piece_append}
 use Rattle.h1_decode.specs.declared.scan.HeadScan.{HeadScan}
 use Rattle.h1_decode.specs.declared.scan.HeadScan.TheVariants.{Open, Piece}
 use Rattle.h1_decode.specs.HeadPosition.{HeadPosition, HasScanned}
 use Rattle.h1_decode.specs.HeadScan.{AnswersScan}
 use Rattle.h1_decode.proofs.HeadPieceLemmas.{HasScanned-append, AnswersScan-found}
-use Rattle.h1_connection.specs.Incoming.{Incoming, scan_by, scan_of, piece_of, incoming, IsFoundIn, IsHeadIn, IsHeadOf, IsPieceOf, IsSearchedTo, IsSearched, CanScan, CanGoOn, HasSearched, GoesOnTo, GoesOnIn, IsCaughtUp, IsWhole, IsPassedIn, IsPassedHead, is_coming_in}
+use Rattle.h1_connection.specs.Scan.{scan_of}
+use Rattle.h1_connection.specs.Incoming.{Incoming, piece_of, incoming, IsFoundIn, IsHeadIn, IsHeadOf, IsPieceOf, IsSearchedTo, IsSearched, CanScan, CanGoOn, HasSearched, GoesOnTo, GoesOnIn, IsCaughtUp, IsWhole, IsPassedIn, IsPassedHead, is_coming_in}
 use Rattle.h1_connection.specs.declared.connection.input.Scan.{Scan}
 use Rattle.h1_connection.specs.declared.connection.input.Search.{Search}
 use Rattle.h1_connection.specs.declared.connection.input.Search.TheVariants.{Off, Due, Done}
+use Rattle.h1_connection.proofs.ScanLemmas.{scan_answers}
 
 -- ---- what a search finds
-
-scan_answers_by : (bytes : List ℕ) (decided : HasNoHeadPiece bytes ⊎ ((start : ℕ) × (end : ℕ) × IsHeadPiece bytes start end)) → AnswersScan bytes (scan_by bytes decided)
-scan_answers_by bytes (inl none) = none
-scan_answers_by bytes (inr (start, end, piece)) = piece
-
-pub scan_answers : (bytes : List ℕ) → AnswersScan bytes (scan_of bytes)
-unfolding scan_of
-scan_answers bytes = scan_answers_by bytes (head_piece_decided bytes)
 
 -- two answers are the same
 one_answer : (bytes : List ℕ) (x y : HeadScan) → AnswersScan bytes x → AnswersScan bytes y → x ≡ y

@@ -13,6 +13,7 @@ pub mod TraceLemmas
 pub mod RunLemmas
 pub mod LawLemmas
 pub mod DeadlineLemmas
+pub mod ScanLemmas
 pub mod InputLemmas
 pub mod ClosingLemmas
 pub mod CutLemmas

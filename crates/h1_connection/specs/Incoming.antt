@@ -1,8 +1,6 @@
 -- What a connection holds of its input: the bytes that were taken and not passed, and what was found of a head.
-use mathlib.Core.Logic.{inl, inr}
 use Rattle.std.specs.Prelude.{◌≡◌, ℕ, Bool, true, false, ◌⊎◌, List, [], ◌++◌, length, drop, slice_range, IsTrue, Option, Some, None}
 use Rattle.h1_model.specs.HeadPiece.{IsHeadPiece, HasNoHeadPiece}
-use Rattle.h1_model.proofs.HeadPieceLemmas.{head_piece_decided}
 use Rattle.h1_decode.specs.declared.scan.HeadScan.{HeadScan}
 use Rattle.h1_decode.specs.declared.scan.HeadScan.TheVariants.{Open, Piece}
 use Rattle.h1_model.specs.Request.{Head, Fault, head_is, faulty}
@@ -11,6 +9,7 @@ use Rattle.h1_decode.specs.HeadItem.{SaysHead}
 use Rattle.h1_decode.specs.declared.decoder.HeadItem.{HeadItem}
 use Rattle.h1_decode.specs.HeadPosition.{HeadPosition, HasScanned}
 use Rattle.h1_decode.specs.HeadScan.{AnswersScan}
+use Rattle.h1_connection.specs.Scan.{scan_of}
 use Rattle.h1_connection.specs.declared.connection.input.Scan.{Scan}
 use Rattle.h1_connection.specs.declared.connection.input.Search.{Search}
 use Rattle.h1_connection.specs.declared.connection.input.Search.TheVariants.{Off, Due, Done}
@@ -64,14 +63,6 @@ abbrev pub IsPassedHead : Incoming → Incoming → Type 0
 IsPassedHead i after = IsPassedIn i i.piece after
 
 -- ---- the fields
-
--- what a search of all the bytes finds
-abbrev pub scan_by : (bytes : List ℕ) → HasNoHeadPiece bytes ⊎ ((start : ℕ) × (end : ℕ) × IsHeadPiece bytes start end) → HeadScan
-scan_by bytes (inl none) = Open
-scan_by bytes (inr (start, end, piece)) = Piece start end
-
-unfoldable pub scan_of : List ℕ → HeadScan
-scan_of bytes = scan_by bytes (head_piece_decided bytes)
 
 -- What is found of a head among the bytes, where one is searched for. A search that is due finds what is there.
 abbrev pub piece_of : List ℕ → Search → Option HeadScan

@@ -1,4 +1,5 @@
 pub mod Meaning
+pub mod Scan
 pub mod Incoming
 pub mod Readings
 pub mod Parts

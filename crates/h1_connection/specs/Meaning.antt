@@ -15,13 +15,12 @@ use Rattle.ws_session.specs.declared.verify.HandshakeError.{HandshakeError}
 use Rattle.ws_session.specs.declared.verify.HandshakeError.TheVariants as handshake
 use Rattle.h1_codec.specs.Meaning.{size_of, answer_of}
 use Rattle.h1_decode.specs.HeadItem.{SaysHead}
+use Rattle.h1_payload.specs.Rests.{fault_of as body_fault_of}
 use Rattle.http_lines.specs.HeaderLines.{header_map}
 use Rattle.h1_connection.specs.declared.event.End.{End}
 use Rattle.h1_connection.specs.declared.event.End.TheVariants.{Malformed, TooLarge, SlowRequestTimeout, KeepAliveExpired, Protocol, Body, BodyShort, Asked, BrokenBody, UnreadBody, Drained, HalfClosed, InputEnded}
 use Rattle.h1_connection.specs.declared.event.HeadFault.{HeadFault}
 use Rattle.h1_connection.specs.declared.event.HeadFault.TheVariants as faults
-use Rattle.h1_connection.specs.declared.event.PayloadError.{PayloadError}
-use Rattle.h1_connection.specs.declared.event.PayloadError.TheVariants.{Incomplete, EncodingCorrupted}
 use Rattle.h1_connection.specs.declared.event.Event.{Event}
 use Rattle.h1_connection.specs.declared.event.Event.TheVariants.{Read, Eof, Next, Pull, DropBody, Continue, Answer, Chunk, BodyEnd, BodyError, Write, Tick, Drain, Accept, Send}
 use Rattle.h1_connection.specs.declared.event.Outcome.{Outcome}
@@ -83,10 +82,6 @@ abbrev pub fault_of : HeadFault → model.Fault
 fault_of faults.Malformed = model.malformed
 fault_of faults.TooLarge = model.too_large
 
-abbrev pub body_fault_of : PayloadError → on.BodyFault
-body_fault_of Incomplete = on.incomplete
-body_fault_of EncodingCorrupted = on.corrupted
-
 -- why an upgrade to WebSocket is refused
 abbrev pub failing_of : HandshakeError → checks.HandshakeError
 failing_of handshake.GetMethodRequired = checks.get_method_required
@@ -114,7 +109,7 @@ SaysOutcome out.BodyEnd outcome = outcome ≡ on.body_ended
 SaysOutcome out.Pending outcome = outcome ≡ on.pending
 SaysOutcome (out.Closed end) outcome = outcome ≡ on.closed (end_of end)
 SaysOutcome (out.Fault fault) outcome = outcome ≡ on.fault (fault_of fault)
-SaysOutcome (out.Broken error) outcome = outcome ≡ on.broken_by (body_fault_of error)
+SaysOutcome (out.Broken fault) outcome = outcome ≡ on.broken_by (body_fault_of fault)
 SaysOutcome (out.Protocol error) outcome = SaysRule error outcome
 SaysOutcome (out.Refused error) outcome = outcome ≡ on.refused (failing_of error)
 SaysOutcome (out.Gave bytes) outcome = outcome ≡ on.gave bytes

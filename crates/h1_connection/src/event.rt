@@ -4,6 +4,7 @@ ghost use Rattle.std.specs.Prelude.{◌≡◌, IfOk};
 use crate::{Boxed, ReceivedFrame, SentMessage};
 use bytes::Bytes;
 use h1_decode::HeadItem;
+use h1_payload::BodyFault;
 use http_framing::BodySize;
 use http_types::{HeaderMap, NoMemory, ResponseHead};
 use ws_frames::ProtocolError;
@@ -90,7 +91,7 @@ pub enum Outcome {
     Fault(HeadFault),
 
     /// The request's body is refused.
-    Broken(PayloadError),
+    Broken(BodyFault),
 
     /// A frame or a message breaks this rule of WebSocket. The connection ends.
     Protocol(ProtocolError),
@@ -119,16 +120,6 @@ pub enum HeadFault {
 
     /// It has more bytes than the connection holds, or more lines than are read.
     TooLarge,
-}
-
-/// What is wrong with a body.
-#[derive(Clone, Copy, Debug, PartialEq, Eq)]
-pub enum PayloadError {
-    /// The peer's last byte came before the body's.
-    Incomplete,
-
-    /// It breaks the grammar of chunks (RFC 7230, section 4.1).
-    EncodingCorrupted,
 }
 
 /// Why a connection ends.
@@ -226,7 +217,7 @@ impl Outcome {
             Outcome::Pending => Outcome::Pending,
             Outcome::Closed(end) => Outcome::Closed(*end),
             Outcome::Fault(fault) => Outcome::Fault(*fault),
-            Outcome::Broken(error) => Outcome::Broken(*error),
+            Outcome::Broken(fault) => Outcome::Broken(*fault),
             Outcome::Protocol(error) => Outcome::Protocol(*error),
             Outcome::Refused(error) => Outcome::Refused(*error),
             Outcome::Gave(bytes) => Outcome::Gave(bytes.clone()?),

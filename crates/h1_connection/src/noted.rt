@@ -2,9 +2,10 @@
 ghost use Rattle.std.specs.Prelude.{◌≡◌, IfOk};
 ghost use Rattle.h1_connection.specs.Steps.{outcome_of};
 
-use crate::{Boxed, End, HeadFault, Outcome, PayloadError, ReceivedFrame};
+use crate::{Boxed, End, HeadFault, Outcome, ReceivedFrame};
 use bytes::Bytes;
 use h1_decode::HeadItem;
+use h1_payload::BodyFault;
 use http_types::{HeaderMap, NoMemory};
 use std::alloc::Global;
 use ws_frames::ProtocolError;
@@ -22,7 +23,7 @@ pub enum Noted {
     Pending,
     Closed(End),
     Fault(HeadFault),
-    Broken(PayloadError),
+    Broken(BodyFault),
     Protocol(ProtocolError),
     Refused(HandshakeError),
     Gave(Bytes),
@@ -46,7 +47,7 @@ impl Noted {
             Outcome::Pending => Noted::Pending,
             Outcome::Closed(end) => Noted::Closed(end),
             Outcome::Fault(fault) => Noted::Fault(fault),
-            Outcome::Broken(error) => Noted::Broken(error),
+            Outcome::Broken(fault) => Noted::Broken(fault),
             Outcome::Protocol(error) => Noted::Protocol(error),
             Outcome::Refused(error) => Noted::Refused(error),
             Outcome::Gave(bytes) => Noted::Gave(bytes),

@@ -10,8 +10,8 @@ ghost use Rattle.h1_connection.specs.Ticks.{expiry_of};
 ghost use Rattle.h1_connection.specs.State.{IsAllowed, GoesOn, TakesNoMemory};
 
 use crate::connection::{Accepted, Connection, Expiry, NextHead, PulledFrame, Sent};
-use crate::{Event, Outcome, PayloadError, ReceivedFrame};
-use h1_payload::{BodyFault, Pulled};
+use crate::{Event, Outcome, ReceivedFrame};
+use h1_payload::Pulled;
 use http_types::NoMemory;
 
 impl Connection {
@@ -122,8 +122,7 @@ fn outcome_of_pull(pulled: Pulled) -> Outcome
         Pulled::Bytes(bytes) => Outcome::Bytes(bytes),
         Pulled::Trailers(trailers) => Outcome::Trailers(trailers),
         Pulled::End => Outcome::BodyEnd,
-        Pulled::Broken(BodyFault::Corrupted) => Outcome::Broken(PayloadError::EncodingCorrupted),
-        Pulled::Broken(BodyFault::Incomplete) => Outcome::Broken(PayloadError::Incomplete),
+        Pulled::Broken(fault) => Outcome::Broken(fault),
         Pulled::Pending => Outcome::Pending,
     }
 }

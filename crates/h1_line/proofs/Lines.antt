@@ -13,7 +13,6 @@ use Rattle.h1_machine.specs.Change.{IsStep}
 use Rattle.h1_machine.specs.StandsFor.{StandsFor}
 use Rattle.h1_machine.proofs.Stands.{table_steps, fresh_stands}
 use Rattle.h1_payload.specs.Rests.{SaysPulled}
-use Rattle.h1_payload.specs.declared.pulled.BodyFault.TheVariants as fault
 use Rattle.h1_payload.specs.declared.pulled.Pulled.{Pulled}
 use Rattle.h1_payload.specs.declared.pulled.Pulled.TheVariants as pulled
 use Rattle.h1_connection.specs.Heads.{SaysNext}
@@ -119,8 +118,7 @@ pull_says : (p : Pulled) (o : on.Outcome) → SaysPulled p o → SaysOutcome (pu
 pull_says (pulled.Bytes bytes) o says = says
 pull_says (pulled.Trailers trailers) o says = (says.0, says.2, says.1)
 pull_says pulled.End o says = says
-pull_says (pulled.Broken fault.Corrupted) o says = says
-pull_says (pulled.Broken fault.Incomplete) o says = says
+pull_says (pulled.Broken fault) o says = says
 pull_says pulled.Pending o says = says
 
 pub pull_says_by : (p : Pulled) (outcome : Outcome) (o : on.Outcome) → outcome ≡ pulled_outcome p → SaysPulled p o → SaysOutcome outcome o

@@ -3,8 +3,6 @@ use Rattle.h1_connection.specs.declared.connection.heads.NextHead.{NextHead}
 use Rattle.h1_connection.specs.declared.connection.heads.NextHead.TheVariants as next
 use Rattle.h1_connection.specs.declared.event.Outcome.{Outcome}
 use Rattle.h1_connection.specs.declared.event.Outcome.TheVariants as out
-use Rattle.h1_connection.specs.declared.event.PayloadError.TheVariants.{Incomplete, EncodingCorrupted}
-use Rattle.h1_payload.specs.declared.pulled.BodyFault.TheVariants as fault
 use Rattle.h1_payload.specs.declared.pulled.Pulled.{Pulled}
 use Rattle.h1_payload.specs.declared.pulled.Pulled.TheVariants as pulled
 
@@ -20,6 +18,5 @@ abbrev pub pulled_outcome : Pulled → Outcome
 pulled_outcome (pulled.Bytes bytes) = out.Bytes bytes
 pulled_outcome (pulled.Trailers trailers) = out.Trailers trailers
 pulled_outcome pulled.End = out.BodyEnd
-pulled_outcome (pulled.Broken fault.Corrupted) = out.Broken EncodingCorrupted
-pulled_outcome (pulled.Broken fault.Incomplete) = out.Broken Incomplete
+pulled_outcome (pulled.Broken fault) = out.Broken fault
 pulled_outcome pulled.Pending = out.Pending

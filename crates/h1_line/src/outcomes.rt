@@ -5,7 +5,7 @@ ghost use Rattle.h1_connection.specs.Meaning.{SaysOutcome};
 ghost use Rattle.h1_connection.specs.Ticks.{expiry_of};
 ghost use Rattle.h1_line.specs.Outcomes.{next_outcome, pulled_outcome};
 
-use h1_connection::{BodyFault, Expiry, NextHead, NoMemory, Outcome, PayloadError, Pulled};
+use h1_connection::{Expiry, NextHead, NoMemory, Outcome, Pulled};
 
 /// What came where the next head was asked for. A head is copied.
 pub(crate) fn outcome_of_next(next: &NextHead) -> Result<Outcome, NoMemory>
@@ -27,8 +27,7 @@ pub(crate) fn outcome_of_pull(pulled: &Pulled) -> Result<Outcome, NoMemory>
         Pulled::Bytes(bytes) => Outcome::Bytes(bytes.clone()?),
         Pulled::Trailers(trailers) => Outcome::Trailers(trailers.copy()?),
         Pulled::End => Outcome::BodyEnd,
-        Pulled::Broken(BodyFault::Corrupted) => Outcome::Broken(PayloadError::EncodingCorrupted),
-        Pulled::Broken(BodyFault::Incomplete) => Outcome::Broken(PayloadError::Incomplete),
+        Pulled::Broken(fault) => Outcome::Broken(*fault),
         Pulled::Pending => Outcome::Pending,
     })
 }

@@ -10,14 +10,14 @@ use Rattle.http_types.specs.declared.message.ConnectionType.TheVariants.{Close, 
 use Rattle.http_framing.specs.declared.body.kind.BodyKind.{BodyKind}
 use Rattle.http_framing.specs.declared.body.kind.BodyKind.TheVariants as body
 use Rattle.h1_decode.specs.declared.decoder.HeadItem.{HeadItem}
+use Rattle.h1_payload.specs.declared.pulled.BodyFault.{BodyFault}
+use Rattle.h1_payload.specs.declared.pulled.BodyFault.TheVariants.{Corrupted, Incomplete}
 use Rattle.h1_connection.specs.declared.event.End.{End}
 use Rattle.h1_connection.specs.declared.event.End.TheVariants as ends
 use Rattle.h1_connection.specs.declared.event.HeadFault.{HeadFault}
 use Rattle.h1_connection.specs.declared.event.HeadFault.TheVariants as faults
 use Rattle.h1_connection.specs.declared.event.Outcome.{Outcome}
 use Rattle.h1_connection.specs.declared.event.Outcome.TheVariants.{Took, Head, Bytes, Trailers, Frame, BodyEnd, Pending, Closed, Fault, Broken, Protocol, Refused, Gave, Expired, Abandoned, Done}
-use Rattle.h1_connection.specs.declared.event.PayloadError.{PayloadError}
-use Rattle.h1_connection.specs.declared.event.PayloadError.TheVariants.{Incomplete, EncodingCorrupted}
 use Rattle.h1_connection.specs.declared.trace.Step.{Step}
 use Rattle.h1_connection.specs.declared.trace.Trace.{Trace}
 use Rattle.h1_replay.specs.Hex.{hex_word}
@@ -46,9 +46,9 @@ abbrev pub fault_word : HeadFault → List ℕ
 fault_word faults.Malformed = codes "malformed"
 fault_word faults.TooLarge = codes "too-large"
 
-abbrev pub broken_word : PayloadError → List ℕ
+abbrev pub broken_word : BodyFault → List ℕ
+broken_word Corrupted = codes "corrupted"
 broken_word Incomplete = codes "incomplete"
-broken_word EncodingCorrupted = codes "corrupted"
 
 -- a body's kind
 abbrev pub body_word : BodyKind → List ℕ
@@ -113,7 +113,7 @@ IsOutcomeLine BodyEnd line = line ≡ codes "end"
 IsOutcomeLine Pending line = line ≡ codes "pending"
 IsOutcomeLine (Closed end) line = line ≡ codes "closed " ++ end_word end
 IsOutcomeLine (Fault fault) line = line ≡ codes "fault " ++ fault_word fault
-IsOutcomeLine (Broken error) line = line ≡ codes "broken " ++ broken_word error
+IsOutcomeLine (Broken fault) line = line ≡ codes "broken " ++ broken_word fault
 IsOutcomeLine (Protocol error) line = line ≡ codes "protocol " ++ rule_words error
 IsOutcomeLine (Refused error) line = line ≡ codes "refused " ++ check_word error
 IsOutcomeLine (Gave bytes) line = line ≡ codes "gave " ++ hex_word bytes

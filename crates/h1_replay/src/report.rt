@@ -8,7 +8,7 @@ ghost use Rattle.h1_replay.specs.Text.{Adds};
 
 use crate::text::{put_hex, put_number};
 use crate::websocket::{check_word, put_frame, put_rule};
-use h1_connection::{End, HeadFault, Noted, PayloadError, Steps, Trace};
+use h1_connection::{BodyFault, End, HeadFault, Noted, Steps, Trace};
 use h1_decode::{BodyKind, HeadItem};
 use http_types::{ConnectionType, HeaderMap, NoMemory, Version};
 use std::alloc::Global;
@@ -53,7 +53,7 @@ fn put_outcome(alloc: Global, text: &mut Vec<u8>, noted: &Noted) -> Result<(), N
         }
         Noted::Closed(end) => put_named(text, b"closed ", end_word(*end)),
         Noted::Fault(fault) => put_named(text, b"fault ", fault_word(*fault)),
-        Noted::Broken(error) => put_named(text, b"broken ", broken_word(*error)),
+        Noted::Broken(fault) => put_named(text, b"broken ", broken_word(*fault)),
         Noted::Protocol(error) => {
             text.extend_from_slice(b"protocol ")?;
             put_rule(text, *error)
@@ -223,12 +223,12 @@ fn fault_word(fault: HeadFault) -> &'static [u8]
     }
 }
 
-fn broken_word(error: PayloadError) -> &'static [u8]
-    ensures { result.now ≡ broken_word error }
+fn broken_word(fault: BodyFault) -> &'static [u8]
+    ensures { result.now ≡ broken_word fault }
 {
-    match error {
-        PayloadError::Incomplete => b"incomplete",
-        PayloadError::EncodingCorrupted => b"corrupted",
+    match fault {
+        BodyFault::Corrupted => b"corrupted",
+        BodyFault::Incomplete => b"incomplete",
     }
 }
 

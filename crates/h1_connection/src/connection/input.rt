@@ -17,7 +17,8 @@ ghost use Rattle.h1_machine.specs.Body.{pass_rest};
 ghost use Rattle.h1_machine.specs.Pull.{IsPull};
 ghost use Rattle.h1_machine.specs.Pull as pulls;
 ghost use Rattle.h1_payload.specs.Rests.{IsPulled, IsLight};
-ghost use Rattle.h1_connection.specs.Incoming.{is_coming_in, scan_of, IsFound, IsWhole, IsHeadOf, IsNextHead, IsNextFault, IsPassedHead, IsSearched, IsCutNoted, incoming, due_in, CanGoOn, GoesOnIn, HasSearched, IsCaughtUp};
+ghost use Rattle.h1_connection.specs.Scan.{scan_of};
+ghost use Rattle.h1_connection.specs.Incoming.{is_coming_in, IsFound, IsWhole, IsHeadOf, IsNextHead, IsNextFault, IsPassedHead, IsSearched, IsCutNoted, incoming, due_in, CanGoOn, GoesOnIn, HasSearched, IsCaughtUp};
 
 use crate::ReadFromError;
 use crate::connection::READ_SIZE;

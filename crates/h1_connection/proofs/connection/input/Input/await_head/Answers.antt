@@ -1,7 +1,8 @@
 use Rattle.std.proofs.Common.{◌≡◌, true, refl, subst}
 use Rattle.std.specs.Prelude.{is_some}
 use Rattle.h1_connection.specs.Incoming.{Incoming, IsFound}
-use Rattle.h1_connection.proofs.InputLemmas.{scan_answers, found_of, finds}
+use Rattle.h1_connection.proofs.ScanLemmas.{scan_answers}
+use Rattle.h1_connection.proofs.InputLemmas.{found_of, finds}
 use Rattle.h1_connection.proofs.connection.input.Input.await_head.Goals as goal
 
 pub returns-in-Off-clause-scanned : goal.returns-in-Off-clause-scanned
