@@ -1,5 +1,5 @@
--- What a search for the first head finds: the head starts behind the empty lines in front, and ends with the first
--- empty line behind a line feed (RFC 7230, sections 3 and 3.5). A line ends in CR LF or in LF alone.
+-- What a search for the first head finds: the head starts after the empty lines in front, and ends with the first
+-- empty line after a line feed (RFC 7230, sections 3 and 3.5). A line ends in CR LF or in LF alone.
 use Rattle.std.specs.Prelude.{ℕ, suc, ◌+◌, Bool, false, ◌&&◌, List, [], ◌∷◌, drop, Option, Some, None, option_map, if◌then◌else◌, ◌==◌, nat_lt}
 use Rattle.httparse.specs.Ascii.{line_feed, carriage_return}
 use Rattle.h1_decode.specs.declared.scan.HeadScan.{HeadScan}
@@ -24,7 +24,7 @@ abbrev pub start_of : List ℕ → ℕ
 start_of [] = 0
 start_of (b ∷ text) = if begins_line_end (b ∷ text) then suc (start_of text) else 0
 
--- how many bytes the text has up to its first empty line behind a line feed, and with it
+-- how many bytes the text has up to its first empty line after a line feed, and with it
 abbrev pub length_of : List ℕ → Option ℕ
 length_of [] = None
 length_of (b ∷ text) =
