@@ -1,0 +1,13 @@
+pub mod Rests
+pub mod Holds
+pub mod Pulls
+pub mod NextAnswers
+pub mod ReadOuts
+pub mod Served
+pub mod AskedTexts
+pub mod Completions
+pub mod Methods
+pub mod AllServed
+pub mod Agreement
+pub mod Ends
+pub mod Closings

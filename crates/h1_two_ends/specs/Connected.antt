@@ -1,0 +1,55 @@
+-- A client and a server of one connection, and when they agree.
+use Rattle.std.specs.Prelude.{◌≡◌, ℕ, ◌<◌, Bool, true, List, [], reverse, Some, ⊤}
+use Rattle.std.specs.List.{AllByRecursion}
+use Rattle.h1_model.specs.Setting.{Setting}
+use Rattle.h1_model.specs.End as ends
+use Rattle.h1_model.specs.Event as on
+use Rattle.h1_model.specs.Sums.{Step, taken, has_ended, written as server_written}
+use Rattle.h1_model.specs.Handed.{handed_out, Begins}
+use Rattle.h1_model.specs.Trace.{IsTrace}
+use Rattle.h1_model.specs.Laws.Exchanges.{exchanges}
+use Rattle.h1_client_machine.specs.ClientEvent.{ClientEnd, broken_answer, failed_request, asked as was_asked, input_ended}
+use Rattle.h1_client_machine.specs.ClientKept.{ClientKept}
+use Rattle.h1_client_machine.specs.ClientTrace.{Happened, IsClientTrace, written as client_written}
+use Rattle.h1_agreement.specs.PlainExchange.{IsPlain}
+use Rattle.h1_agreement.specs.SentAnswer.{AreHeld, answers_sent}
+use Rattle.h1_two_ends.specs.AskedTrace.{requests_asked, IsPlainAsked, AreServedOut}
+use Rattle.h1_two_ends.specs.ReadOut.{bytes_taken, read_out, AreReadOut}
+
+-- All that happened to both, each in its own order: they were driven against each other in any way in which each took a
+-- beginning of the bytes that the other had written, in any pieces. What the client keeps after it is kept.
+pub record AreConnected (client server : Setting) (asked : List Happened) (kept : ClientKept) (served : List Step) : Type 0 where
+  pub client_ran : IsClientTrace client asked kept
+  pub server_ran : IsTrace server served
+  pub to_server : Begins (taken served) (client_written asked)
+  pub to_client : Begins (bytes_taken asked) (server_written served)
+
+-- no request was given up as too slow
+abbrev pub IsInTime : List Step → Type 0
+IsInTime served = AllByRecursion (λ s. ¬ (s.outcome ≡ on.expired ends.slow_request)) served
+
+-- What is asked of both: they hold some bytes; the requests are plain, and their heads no longer than the server may hold;
+-- so are the answers, with heads no longer than the client may hold; and none was given up as too slow.
+pub record ArePlain (client server : Setting) (asked : List Happened) (served : List Step) : Type 0 where
+  pub client_holds : 0 < client.hold_size
+  pub server_holds : 0 < server.hold_size
+  pub requests : AllByRecursion (IsPlainAsked server.hold_size) (requests_asked asked)
+  pub answers : AllByRecursion (IsPlain server) (exchanges served)
+  pub in_time : IsInTime served
+  pub held : AreHeld (Some client.hold_size) (answers_sent server served)
+
+-- What the server handed out are the client's requests, and what the client handed out are the server's answers: the first of
+-- them, in their order, each with its head and with its body as far as it came.
+pub record Agree (server : Setting) (asked : List Happened) (kept : ClientKept) (served : List Step) : Type 0 where
+  pub no_stray_item : (handed_out served).stray ≡ []
+  pub requests : AreServedOut (has_ended served) (reverse (handed_out served).messages) (reverse (requests_asked asked))
+  pub no_stray_answer : (read_out asked).stray ≡ []
+  pub answers : AreReadOut kept.has_ended (reverse (read_out asked).answers) (answers_sent server served)
+
+-- Why a client closes that finds nothing wrong: it was asked for, its own request failed, or its input has ended.
+abbrev pub IsFairEnd : ClientEnd → Bool → Type 0
+IsFairEnd was_asked has_ended = ⊤
+IsFairEnd failed_request has_ended = ⊤
+IsFairEnd broken_answer has_ended = has_ended ≡ true
+IsFairEnd input_ended has_ended = has_ended ≡ true
+IsFairEnd _ has_ended = ⊥

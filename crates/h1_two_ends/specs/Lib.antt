@@ -1,0 +1,5 @@
+pub mod AskedTrace
+pub mod Connected
+pub mod HandedBody
+pub mod ReadOut
+pub mod Samples

@@ -1,0 +1,45 @@
+//! Two ends of one HTTP/1 connection agree: what the server hands out is what the client sent, and what the client hands out
+//! is what the server answered.
+//!
+//! Nothing here runs. The laws speak of all that happened to a client (`h1_client_machine`) and to a server (`h1_model`); a
+//! `ClientConnection` and a `Connection` are proved to stand for these, so the laws hold of any two of them.
+//!
+//! # What is promised
+//!
+//! [`laws::two_ends_agree`] is the law. Drive a client and a server against each other in any way: whenever either reads, it
+//! takes some of the bytes that the other has written and that it hasn't taken yet, in their order. It doesn't matter where
+//! the bytes are cut, who goes on first, how many requests the client asks before the first is answered, whether it drops a
+//! body, or when either side is told that its input has ended. Then at every moment
+//!
+//! - the heads that the server handed out are those of the first requests of the client, in their order: method, target,
+//!   version and header lines as they were sent, and where the body ends;
+//! - of each body the server handed out a beginning of the bytes that the client put in, and the end only behind all of them;
+//! - the answers that the client handed out are the first answers of the server, in their order, each to its own request:
+//!   version, status, reason and header lines as they were written, with a 100 Continue in front where one was sent;
+//! - of each of their bodies the client handed out a beginning of the bytes that the server put in, and the end only behind
+//!   all of them;
+//! - neither is told of a fault, but of a body that is cut off where its own input has ended.
+//!
+//! The newest request and the newest answer may be under way: then what there is of them so far is a beginning, and no end
+//! is handed out.
+//!
+//! # What is asked of both
+//!
+//! `ArePlain`, in `specs/Connected.antt`: each side may hold some bytes, and no head is longer than its reader may hold. The
+//! requests are plain (`IsPlainAsked`): HTTP/1.1, no CONNECT, no line that asks for another protocol or frames the body, names
+//! and values that are read as they are, no more bytes than a stated length. The answers are plain (`IsPlain` of
+//! `h1_agreement`): from status 200 on, of a size unless they have no body, and their heads are read as they are written. No
+//! request was given up as too slow. That no head is refused needs no premise: it is proved.
+//!
+//! # What isn't promised
+//!
+//! - After an upgrade nothing is said: a request that asks for one isn't plain, and neither is a WebSocket.
+//! - A body that only the end of the input ends isn't plain: such an answer looks whole wherever its connection breaks off.
+//! - Of interim answers a server sends a 100 alone, and that is promised; a 103 or another one isn't sent by it.
+//! - A refusal (400, 408, 431) isn't plain. It is no answer to a request; no plain request gets one, unless it comes too late.
+//! - An answer to HEAD is plain, whatever length it states.
+//! - Nothing is said of time, and not that bytes which were written ever come.
+#![tactic(auto)]
+
+pub mod examples;
+pub mod laws;
