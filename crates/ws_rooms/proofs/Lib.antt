@@ -1,2 +1,3 @@
 pub mod RowLists
 pub mod TextLemmas
+pub mod QuietLemmas

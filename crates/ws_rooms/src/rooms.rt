@@ -1,8 +1,9 @@
 //! The table of all members.
-ghost use Rattle.std.specs.Prelude.{◌≡◌, ◌<◌, ◌++◌, ◌∷◌, [], ℕ, Some, true, length, drop, slice_get, OnOk, OnErr};
+ghost use Rattle.std.specs.Prelude.{◌≡◌, ◌<◌, ◌++◌, ◌∷◌, [], ℕ, Some, true, length, drop, slice_get, OnOk, OnErr, IsOk};
 ghost use Rattle.std.specs.Option.{option_copied};
+ghost use Rattle.h1_model.specs.Event as on;
 ghost use Rattle.ws_frames.specs.Codec.{frame_says};
-ghost use Rattle.ws_hub_model.specs.Member.{newcomer, says, heard, with_end, member_at, rows_from};
+ghost use Rattle.ws_hub_model.specs.Member.{newcomer, says, nothing, effect_in, heard, with_end, member_at, rows_from};
 ghost use Rattle.ws_rooms.specs.Rows.{only, others_hear, spoken};
 
 use crate::line::Line;
@@ -93,9 +94,11 @@ impl Rooms {
     }
 
     /// A frame of it has its effect: on its own row, and, where it completes a message, on those of the others in its room.
+    /// A frame without an effect takes no memory: a Pong, and any frame of one that is in no room.
     pub fn speak(&mut self, number: usize, frame: Frame) -> Result<(), NoMemory>
         requires known { number < length self.old }
-        ensures { OnOk result (self.new ≡ rows_from 0 (spoken number (member_at number self.old) (frame_says frame)) self.old) }
+        ensures spoken { OnOk result (self.new ≡ rows_from 0 (spoken number (member_at number self.old) (frame_says frame)) self.old) }
+        ensures no_memory_needed { effect_in (member_at number self.old) (on.frame (frame_says frame)) ≡ nothing → IsOk result }
     {
         let row = &mut self.rows[number];
         let Some(lines) = row.take(frame)? else {

@@ -1,12 +1,12 @@
 // The row of one member.
-ghost use Rattle.std.specs.Prelude.{◌≡◌, ℕ, List, [], ◌∷◌, ◌++◌, not, ◌&&◌, Some, true, drop, slice_get, option_map, IfOk, OnOk};
+ghost use Rattle.std.specs.Prelude.{◌≡◌, ℕ, List, [], ◌∷◌, ◌++◌, not, ◌&&◌, Some, true, drop, slice_get, option_map, IfOk, IsOk, OnOk};
 ghost use Rattle.std.specs.List.{flat_map};
 ghost use Rattle.std.specs.Option.{option_copied};
 ghost use Rattle.std.specs.Str.{is_utf8};
 ghost use Rattle.h1_model.specs.Frame as frames;
 ghost use Rattle.h1_model.specs.Event as on;
 ghost use Rattle.ws_frames.specs.Codec.{item_says, frame_says};
-ghost use Rattle.ws_hub_model.specs.Member.{newcomer, is_in, is_same_room, payload, is_text, kept, said, effect_of, effect_in, leaving, put, with_effect, with_end};
+ghost use Rattle.ws_hub_model.specs.Member.{nothing, newcomer, is_in, is_same_room, payload, is_text, kept, said, effect_of, effect_in, leaving, put, with_effect, with_end};
 ghost use Rattle.ws_rooms.specs.Lines.{said_of};
 
 use crate::line::Line;
@@ -145,6 +145,7 @@ impl Row {
     pub fn take(&mut self, frame: Frame) -> Result<Option<Vec<Line>>, NoMemory>
         ensures after { OnOk result (self.new ≡ with_effect (effect_in self.old (on.frame (frame_says frame))) self.old) }
         ensures said { IfOk result (λ said. option_map (λ v. v.items) said ≡ said_of (effect_in self.old (on.frame (frame_says frame)))) }
+        ensures no_memory_needed { effect_in self.old (on.frame (frame_says frame)) ≡ nothing → IsOk result }
     {
         if self.is_in() {
             self.take_frame(frame)
@@ -157,6 +158,7 @@ impl Row {
     fn take_frame(&mut self, frame: Frame) -> Result<Option<Vec<Line>>, NoMemory>
         ensures after { OnOk result (self.new ≡ with_effect (effect_of self.old.parts (frame_says frame)) self.old) }
         ensures said { IfOk result (λ said. option_map (λ v. v.items) said ≡ said_of (effect_of self.old.parts (frame_says frame))) }
+        ensures no_memory_needed { effect_of self.old.parts (frame_says frame) ≡ nothing → IsOk result }
     {
         match frame {
             Frame::Text(payload) => self.take_text(payload.as_slice()),
@@ -201,6 +203,7 @@ impl Row {
     fn take_item(&mut self, item: Item) -> Result<Option<Vec<Line>>, NoMemory>
         ensures after { OnOk result (self.new ≡ with_effect (effect_of self.old.parts (item_says item)) self.old) }
         ensures said { IfOk result (λ said. option_map (λ v. v.items) said ≡ said_of (effect_of self.old.parts (item_says item))) }
+        ensures no_memory_needed { effect_of self.old.parts (item_says item) ≡ nothing → IsOk result }
     {
         match item {
             Item::FirstText(payload) => self.begin(Item::FirstText(payload)),

@@ -1,0 +1,4 @@
+pub mod KeptLemmas
+pub mod TurnLemmas
+pub mod AskLemmas
+pub mod StayLemmas
