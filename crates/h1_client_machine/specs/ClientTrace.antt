@@ -1,5 +1,5 @@
 -- All that happened on the client's side of a connection, and what it makes of what is written and who is answered.
-use Rattle.std.specs.Prelude.{◌≡◌, ℕ, ◌+◌, ◌-◌, Bool, false, not, List, [], ◌∷◌, ◌++◌, length, IsTrue, if◌then◌else◌, Option, Some, None}
+use Rattle.std.specs.Prelude.{◌≡◌, ℕ, ◌+◌, ◌-◌, Bool, false, not, List, [], ◌∷◌, ◌++◌, length, take, IsTrue, if◌then◌else◌, Option, Some, None}
 use Rattle.h1_model.specs.Setting.{Setting}
 use Rattle.h1_model.specs.AnswerText.{end_text}
 use Rattle.h1_client_model.specs.AnswerParse.{is_interim}
@@ -77,6 +77,18 @@ given _ = []
 abbrev pub written : List Happened → List ℕ
 written [] = []
 written (s ∷ before) = written before ++ given s.outcome
+
+-- ---- what is read
+
+-- the bytes that an event took
+abbrev pub taken_by : ClientEvent → ClientOutcome → List ℕ
+taken_by (on.read bytes) (on.took n) = take n bytes
+taken_by _ _ = []
+
+-- all bytes that were taken, the first first
+abbrev pub taken : List Happened → List ℕ
+taken [] = []
+taken (s ∷ before) = taken before ++ taken_by s.event s.outcome
 
 -- ---- who is answered
 

@@ -8,7 +8,7 @@ ghost use Rattle.h1_client_machine.specs.ClientEvent as on;
 ghost use Rattle.h1_client_machine.specs.ClientEvent.{ClientEvent, ClientEnd, ClientOutcome};
 ghost use Rattle.h1_client_machine.specs.ClientKept.{Waiting, ClientKept, client_closing, client_allows};
 ghost use Rattle.h1_client_machine.specs.ClientStep.{new_body, IsClientStep, KnowsComing};
-ghost use Rattle.h1_client_machine.specs.ClientTrace.{Happened, IsClientTrace, written, text_of, asked_of, answered_of};
+ghost use Rattle.h1_client_machine.specs.ClientTrace.{Happened, IsClientTrace, taken_by, taken, written, text_of, asked_of, answered_of};
 
 /// An event has one outcome and one state after it.
 pub fn one_step()
@@ -64,4 +64,13 @@ pub fn answers_come_in_order()
         → k.waiting ≡ drop (answered_of trace) (asked_of trace) }
     ensures no_more { (setting : Setting) (trace : List Happened) (k : ClientKept) → IsClientTrace setting trace k
         → answered_of trace ≤ length (asked_of trace) }
+{}
+
+/// What is left of the bytes that were taken is their end: an event passes some of those in front, and nothing else becomes of
+/// them. So each byte is read once, in its order.
+pub fn bytes_are_read_in_order()
+    ensures one_event { (setting : Setting) (k next : ClientKept) (event : ClientEvent) (o : ClientOutcome)
+        → IsClientStep setting k event o next → (passed : List ℕ) × (k.unread ++ taken_by event o ≡ passed ++ next.unread) }
+    ensures all { (setting : Setting) (trace : List Happened) (k : ClientKept) → IsClientTrace setting trace k
+        → (passed : List ℕ) × (taken trace ≡ passed ++ k.unread) }
 {}

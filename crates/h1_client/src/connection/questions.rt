@@ -93,6 +93,14 @@ impl ClientConnection {
         self.parts.is_reusable()
     }
 
+    /// How many requests wait for their answers: those that were asked, without those whose final answers were handed out.
+    /// Nothing bounds it but what the caller asks.
+    pub fn waiting(&self) -> usize
+        ensures { result ≡ length self.now.kept.waiting }
+    {
+        self.parts.waiting.len()
+    }
+
     /// How many more bytes of the input may be held. A read takes no more.
     pub fn read_room(&self) -> usize
         ensures { result ≡ self.now.settings.h1_hold_size - length self.now.kept.unread }

@@ -1,5 +1,5 @@
 // The requests that wait for their answers.
-ghost use Rattle.std.specs.Prelude.{◌≡◌, ◌∷◌, ◌++◌, [], drop, not, OnOk, OnErr};
+ghost use Rattle.std.specs.Prelude.{◌≡◌, ◌∷◌, ◌++◌, [], drop, length, not, OnOk, OnErr};
 ghost use Rattle.h1_client_machine.specs.ClientKept.{is_waited_for};
 ghost use Rattle.h1_client.specs.Parts.{IsFirst, AreFirst};
 
@@ -79,6 +79,13 @@ impl Queue {
         ensures { is_waited_for self.now ≡ not result }
     {
         self.requests.is_empty()
+    }
+
+    /// How many wait.
+    pub fn len(&self) -> usize
+        ensures { result ≡ length self.now }
+    {
+        self.requests.len()
     }
 
     /// What an answer needs of the first.
