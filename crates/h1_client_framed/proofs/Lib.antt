@@ -1,0 +1,5 @@
+pub mod Headed
+pub mod Chunked
+pub mod Written
+pub mod Views
+pub mod Extra

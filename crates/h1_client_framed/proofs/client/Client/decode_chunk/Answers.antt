@@ -1,0 +1,15 @@
+-- The next piece of the open body.
+use Rattle.std.proofs.Common.{◌≡◌, sym, subst}
+use Rattle.std.specs.Prelude.{List, ℕ, Option, Some, Result}
+use Rattle.h1_client_framed.specs.Answers.{IsChunked}
+use Rattle.h1_client_framed.specs.declared.error.ClientError.{ClientError}
+use Rattle.h1_client_framed.proofs.Chunked.{piece_chunked}
+use Rattle.h1_client_framed.proofs.client.Client.decode_chunk.Goals as goal
+
+pub returns-in-Some : goal.returns-in-Some
+returns-in-Some c =
+    let is : c.args.self.now.body ≡ Some c.in-Some.open = cc in
+    subst (λ (r : Result (Option (Option (List ℕ))) ClientError). IsChunked c.args.self.now c.args.src.now.items r
+    (record c.args.self.now { body = c.note_piece-noted.new.body; trailers = c.note_piece-noted.new.trailers }) c.next_piece-piece.new.src.items) (sym c.as_chunk.ensures)
+    (piece_chunked c.args.self.now c.in-Some.open c.note_piece-noted.new.body c.note_piece-noted.new.trailers c.args.src.now.items c.next_piece-piece.new.src.items is
+    c.next_piece-piece.new.body c.next_piece-piece.result c.note_piece-noted.result c.next_piece-piece.ensures c.note_piece-noted.ensures)

@@ -1,0 +1,5 @@
+pub mod State
+pub mod Pieces
+pub mod Answers
+pub mod Writing
+pub mod Refused

@@ -1,0 +1,60 @@
+//! The next head of an answer.
+ghost use Rattle.std.specs.Prelude.{◌≡◌, OnErr};
+ghost use Rattle.http_types.specs.Flags.{type_of_flags};
+ghost use Rattle.h1_client_framed.specs.State.{answered, passes_on};
+ghost use Rattle.h1_client_framed.specs.Answers.{IsHeaded};
+
+use crate::ClientError;
+use crate::client::Client;
+use bytes::BytesMut;
+use h1_decode::ResponseItem;
+use h1_framed::next_head;
+use http_types::{ConnectionType, ResponseHead};
+
+impl Client {
+    /// The next head, where no body is open. Its body is then open.
+    pub(crate) fn decode_head(
+        &mut self,
+        src: &mut BytesMut,
+    ) -> Result<Option<ResponseItem>, ClientError>
+        ensures { IsHeaded self.old src.old.items result self.new src.new.items }
+    {
+        if self.body.is_some() {
+            return Err(ClientError::Misplaced);
+        }
+        match next_head(
+            &mut self.heads,
+            &mut self.body,
+            &mut self.trailers,
+            self.is_head,
+            src,
+        ) {
+            Ok(Some(item)) => {
+                self.connection = answered(item.head.conn_type(), self.connection);
+                self.passes_on = passes_on(&item.head);
+                Ok(Some(item))
+            }
+            Ok(None) => Ok(None),
+            Err(error) => Err(ClientError::Parse(error)),
+        }
+    }
+}
+
+/// What becomes of the connection: what the answer says, unless it only keeps it.
+fn answered(said: Option<ConnectionType>, asked: ConnectionType) -> ConnectionType
+    ensures { result ≡ answered said asked }
+{
+    match said {
+        Some(ConnectionType::Close) => ConnectionType::Close,
+        Some(ConnectionType::Upgrade) => ConnectionType::Upgrade,
+        Some(ConnectionType::KeepAlive) => asked,
+        None => asked,
+    }
+}
+
+/// Whether the connection passes on to another protocol (RFC 7230, section 6.7).
+fn passes_on(head: &ResponseHead) -> bool
+    ensures { result ≡ passes_on head.now }
+{
+    head.status.as_u16() == 101
+}
