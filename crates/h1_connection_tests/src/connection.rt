@@ -1,8 +1,6 @@
 //! The calls of a connection.
 use bytes::Bytes;
-use h1_connection::{
-    Boxed, Connection, DriveError, Event, NextHead, NextKind, Outcome, ReadFromError, drive,
-};
+use h1_connection::{Boxed, Connection, Event, NextHead, NextKind, Outcome, ReadFromError};
 use h1_decode::{HeadItem, HeadRoom};
 use http_framing::BodySize;
 use http_types::{NoMemory, ResponseHead, ServiceConfigBuilder, StatusCode, SureSource};
@@ -43,15 +41,6 @@ fn is_answered(
     }
     connection.answer(head, BodySize::ZERO)?;
     Ok(connection.front().starts_with(text))
-}
-
-#[test]
-fn a_request_is_answered(rt: HostRuntime) -> Result<(), Fail> {
-    let mut connection = Connection::new(rt.alloc(), ServiceConfigBuilder::new().build());
-    assert!(rt; is_taken(&mut connection)?);
-    let head = ResponseHead::new(rt.alloc(), StatusCode::OK);
-    assert!(rt; is_answered(&mut connection, &head, b"HTTP/1.1 200 OK\r\n")?);
-    Ok(())
 }
 
 // Writes what waits into two slices: whether these are its first bytes and all others, after which the second one is
@@ -194,25 +183,6 @@ fn the_longest_head_is_handed_out(rt: HostRuntime) -> Result<(), Fail> {
     let mut connection = Connection::new(rt.alloc(), ServiceConfigBuilder::new().build());
     assert!(rt; is_whole_at_last(&mut connection, head.as_slice())?);
     assert!(rt; connection.held() == 0);
-    Ok(())
-}
-
-// Whether events are answered by as many outcomes, the last one of which copies as it is.
-fn is_whole_run(alloc: Global, events: &[Event]) -> Result<bool, NoMemory> {
-    let config = ServiceConfigBuilder::new().build();
-    match drive(alloc, &config, events) {
-        Ok(trace) => Ok(trace.steps.len() == events.len()),
-        Err(DriveError::Misplaced(_, _)) => Ok(false),
-        Err(DriveError::NoMemory) => Err(AllocError),
-    }
-}
-
-#[test]
-fn events_are_driven(rt: HostRuntime) -> Result<(), Fail> {
-    let events = [Event::Eof, Event::Next];
-    assert!(rt; is_whole_run(rt.alloc(), &events)?);
-    let misplaced = [Event::Eof, Event::Eof];
-    assert!(rt; !is_whole_run(rt.alloc(), &misplaced)?);
     Ok(())
 }
 

@@ -3,7 +3,7 @@
 //! A contract holds for every call, so nothing that a clause says is tested again. A test stands here for what no clause
 //! can say: the text that a connection prints, one answer's bytes beside a text that was written by hand, and that a call
 //! which may run out of memory has it where there is some.
-//! Whole exchanges are vectors of `exchange_vectors`.
+//! Whole exchanges, each by `drive`, are vectors of `exchange_vectors`.
 #![tactic(auto)]
 
 #[cfg(test)]

@@ -35,13 +35,14 @@ fn note(framed: &mut Server, task: &MockTask, notes: &mut BytesMut) -> Result<()
     }
 }
 
-fn answer(framed: &mut Server, alloc: Global) -> Result<(), Fail> {
+// Answers with a body of two bytes: whether all is taken.
+fn is_answered(framed: &mut Server, alloc: Global) -> bool {
     let head = Message::Item((Response::ok(alloc), BodySize::Sized(2)));
-    framed.write(head).ok().ok_or("refused")?;
+    let is_begun = framed.write(head).is_ok();
     let body = Message::Chunk(Some(Bytes::from_static(b"hi")));
-    framed.write(body).ok().ok_or("refused")?;
-    framed.write(Message::Chunk(None)).ok().ok_or("refused")?;
-    Ok(())
+    let is_filled = framed.write(body).is_ok();
+    let is_ended = framed.write(Message::Chunk(None)).is_ok();
+    is_begun && is_filled && is_ended
 }
 
 // The first piece ends in the head, and the next in a chunk; an empty one makes a read pending.
@@ -59,10 +60,7 @@ fn a_request_comes_in_pieces(rt: HostRuntime) -> Result<(), Fail> {
     for _ in 0..7 {
         note(&mut framed, &task, &mut notes)?;
     }
-    assert_eq!(rt;
-        notes.as_slice(),
-        b"waits,head,da,ta,abc,end,none".as_slice()
-    );
+    assert!(rt; notes.as_slice() == b"waits,head,da,ta,abc,end,none".as_slice());
     Ok(())
 }
 
@@ -72,16 +70,16 @@ fn an_answer_leaves_by_short_writes(rt: HostRuntime) -> Result<(), Fail> {
     let mut framed = server(rt.alloc(), &[b"GET /a HTTP/1.1\r\n\r\n"], &[5, 0, 40])?;
     let mut notes = BytesMut::new(rt.alloc());
     note(&mut framed, &task, &mut notes)?;
-    assert_eq!(rt; notes.as_slice(), b"head,".as_slice());
-    answer(&mut framed, rt.alloc())?;
+    assert!(rt; notes.as_slice() == b"head,".as_slice());
+    assert!(rt; is_answered(&mut framed, rt.alloc()));
     let first = task.enter(|cx| framed.flush(cx));
     assert!(rt; matches!(first, Poll::Pending));
-    assert_eq!(rt; framed.io_mut().sent(), b"HTTP/".as_slice());
+    assert!(rt; framed.io_mut().sent() == b"HTTP/".as_slice());
     let second = task.enter(|cx| framed.flush(cx));
     assert!(rt; matches!(second, Poll::Ready(Ok(()))));
-    assert_eq!(rt;
-        framed.io_mut().sent(),
-        b"HTTP/1.1 200 OK\r\ncontent-length: 2\r\ndate: Thu, 01 Jan 1970 00:00:00 GMT\r\n\r\nhi".as_slice()
+    assert!(rt;
+        framed.io_mut().sent()
+            == b"HTTP/1.1 200 OK\r\ncontent-length: 2\r\ndate: Thu, 01 Jan 1970 00:00:00 GMT\r\n\r\nhi".as_slice()
     );
     Ok(())
 }

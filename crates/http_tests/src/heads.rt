@@ -1,7 +1,7 @@
 //! Heads of requests and responses.
 use http_types::{
-    BadReason, ConnectionType, HeaderMap, HeaderName, HeaderValue, Method, NoMemory, ParseError,
-    RequestHead, ResponseHead, StatusCode, Uri, Version,
+    HeaderMap, HeaderName, HeaderValue, Method, NoMemory, RequestHead, ResponseHead, StatusCode,
+    Uri, Version,
 };
 use std::alloc::Global;
 use std::test::Fail;
@@ -33,46 +33,6 @@ fn a_request_head_is_copied(rt: HostRuntime) -> Result<(), Fail> {
     Ok(())
 }
 
-// The type of a head of this version with these marks.
-fn type_of(alloc: Global, version: Version, marks: &[ConnectionType]) -> ConnectionType {
-    let mut head = ResponseHead::new(alloc, StatusCode::OK);
-    head.version = version;
-    for mark in marks {
-        head.set_connection_type(*mark);
-    }
-    head.connection_type()
-}
-
-#[test]
-fn the_first_mark_gives_the_type(rt: HostRuntime) {
-    use ConnectionType::{Close, KeepAlive, Upgrade};
-
-    let rows: [(Version, &[ConnectionType], ConnectionType); 5] = [
-        (Version::HTTP_10, &[], Close),
-        (Version::HTTP_11, &[], KeepAlive),
-        (Version::HTTP_10, &[KeepAlive], KeepAlive),
-        (Version::HTTP_11, &[Upgrade, KeepAlive, Close], Close),
-        (Version::HTTP_11, &[Upgrade], Upgrade),
-    ];
-    for (version, marks, want) in rows {
-        assert!(rt; type_of(rt.alloc(), version, marks) == want);
-    }
-}
-
-// Whether a status has this reason.
-fn has_reason(alloc: Global, status: u16, reason: &str) -> Result<bool, Fail> {
-    let status = StatusCode::from_u16(status)?;
-    Ok(ResponseHead::new(alloc, status).reason() == reason)
-}
-
-#[test]
-fn a_reason_is_that_of_the_status(rt: HostRuntime) -> Result<(), Fail> {
-    for (status, want) in [(404, "Not Found"), (299, "<unknown status code>")] {
-        assert!(rt; has_reason(rt.alloc(), status, want)?);
-    }
-    Ok(())
-}
-
 // A head with a reason and a header of its own.
 fn own_head(alloc: Global) -> Result<ResponseHead, Fail> {
     let mut head = ResponseHead::new(alloc, StatusCode::OK);
@@ -91,12 +51,5 @@ fn copies(head: &ResponseHead, reason: &str) -> Result<bool, NoMemory> {
 #[test]
 fn a_response_head_is_copied(rt: HostRuntime) -> Result<(), Fail> {
     assert!(rt; copies(&own_head(rt.alloc())?, "Fine")?);
-    Ok(())
-}
-
-#[test]
-fn errors_print_their_cause(rt: HostRuntime) -> Result<(), Fail> {
-    let shown = format!(in rt.alloc(); "{}, {BadReason}", ParseError::TooLarge)?;
-    assert!(rt; shown.as_str() == "the head is too large, the reason has a line break");
     Ok(())
 }

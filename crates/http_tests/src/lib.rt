@@ -2,9 +2,8 @@
 //! and `http_types` make public.
 //!
 //! A contract holds for every call, so nothing that a clause says is tested again. A row stands here for what no
-//! clause can say: that the definitions mean what the world outside means (worked values), the texts that are
-//! printed, that a call which may want memory has it where there is some, each impl of a trait at a type, and faults
-//! in mid-stream.
+//! clause can say and what needs code: that a call which may want memory has it where there is some, each impl of a trait
+//! at a type, worked values, and faults in mid-stream. What has an input and an expected answer stands in `head_vectors`.
 #![tactic(auto)]
 
 #[cfg(test)]

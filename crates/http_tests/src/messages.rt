@@ -1,8 +1,7 @@
-//! Requests, and what a message tells of its body.
-use http_types::header::{CONNECTION, CONTENT_TYPE, TRANSFER_ENCODING};
+//! Requests, their parts, and heads that are owned or shared.
+use http_types::header::CONNECTION;
 use http_types::{
-    Cause, ContentTypeError, DispatchError, Error, Head, HeaderName, HttpError, HttpMessage, Kind,
-    Message, Method, ParseError, PayloadError, Request, RequestHead, RequestHeadType,
+    Head, HeaderName, HttpMessage, Message, Method, Request, RequestHead, RequestHeadType,
 };
 use std::alloc::Global;
 use std::rc::Rc;
@@ -14,59 +13,6 @@ fn with_header(alloc: Global, name: HeaderName, value: &[u8]) -> Result<Request<
     let mut head = RequestHead::new(alloc);
     head.headers.append(name, value)?;
     Ok(Request::with_payload(head, 7, ()))
-}
-
-// The media type of a message, through its bound.
-fn media_type<M: HttpMessage>(message: &M) -> &str {
-    message.content_type()
-}
-
-#[test]
-fn a_media_type_ends_before_its_parameters(rt: HostRuntime) -> Result<(), Fail> {
-    let rows: [(&[u8], &str); 5] = [
-        (b"text/html; charset=utf-8", "text/html"),
-        (b"\ttext/html ;a;b", "text/html"),
-        (b"text/html", "text/html"),
-        (b";a", ""),
-        (b"text/\xfc", ""),
-    ];
-    for (value, want) in rows {
-        let request = with_header(rt.alloc(), CONTENT_TYPE, value)?;
-        assert!(rt; media_type(&request) == want);
-    }
-    Ok(())
-}
-
-#[test]
-fn a_body_in_chunks_is_told(rt: HostRuntime) -> Result<(), Fail> {
-    let rows: [(&[u8], Result<bool, ParseError>); 5] = [
-        (b"chunked", Ok(true)),
-        (b"gzip, CHUNKED", Ok(true)),
-        (b"chunke", Ok(false)),
-        (b"", Ok(false)),
-        (b"chunked\xff", Err(ParseError::Header)),
-    ];
-    for (value, want) in rows {
-        assert!(rt; with_header(rt.alloc(), TRANSFER_ENCODING, value)?.chunked() == want);
-    }
-    assert!(rt; with_header(rt.alloc(), CONTENT_TYPE, b"chunked")?.chunked() == Ok(false));
-    Ok(())
-}
-
-// Whether a request of this method and Connection value asks for another protocol, and whether its head does.
-fn asks(alloc: Global, method: Method, value: &[u8]) -> Result<(bool, bool), Fail> {
-    let mut request = with_header(alloc, CONNECTION, value)?;
-    request.head_mut().method = method;
-    Ok((request.upgrade(), request.head().upgrade()))
-}
-
-#[test]
-fn another_protocol_is_asked_for(rt: HostRuntime) -> Result<(), Fail> {
-    assert!(rt; asks(rt.alloc(), Method::GET, b"keep-alive, Upgrade")? == (true, true));
-    assert!(rt; asks(rt.alloc(), Method::CONNECT, b"close")? == (false, false));
-    assert!(rt; asks(rt.alloc(), Method::CONNECT, b"upgrade\x80")? == (true, false));
-    assert!(rt; asks(rt.alloc(), Method::GET, b"upgrade\x80")? == (false, false));
-    Ok(())
 }
 
 #[test]
@@ -103,25 +49,5 @@ fn a_head_is_owned_or_shared(rt: HostRuntime) -> Result<(), Fail> {
     let shared = RequestHeadType::Rc(Rc::new(rt.alloc(), RequestHead::new(rt.alloc()))?, None);
     assert!(rt; *sent_method(&owned) == Method::GET && *sent_method(&shared) == Method::GET);
     assert!(rt; owned.extra_headers().is_none() && shared.extra_headers().is_none());
-    Ok(())
-}
-
-#[test]
-fn errors_print_their_kind_and_cause(rt: HostRuntime) -> Result<(), Fail> {
-    let rows = [
-        (Kind::Http, "error processing HTTP"),
-        (Kind::Parse, "error parsing HTTP message"),
-        (Kind::Payload, "request payload read error"),
-        (Kind::Body, "response body write error"),
-        (Kind::SendResponse, "send response error"),
-        (Kind::Ws, "error in WebSocket process"),
-        (Kind::Io, "connection error"),
-        (Kind::Encoder, "encoder error"),
-    ];
-    for (kind, want) in rows {
-        assert!(rt; format!(in rt.alloc(); "{}", Error { kind, cause: None })?.as_str() == want);
-    }
-    let shown = format!(in rt.alloc(); "{}", Error::from(ParseError::TooLarge))?;
-    assert!(rt; shown.as_str() == "error parsing HTTP message: the head is too large");
     Ok(())
 }

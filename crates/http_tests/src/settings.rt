@@ -1,5 +1,5 @@
 //! Settings.
-use http_types::{HoldSize, KeepAlive, ServiceConfig, ServiceConfigBuilder};
+use http_types::{KeepAlive, ServiceConfig, ServiceConfigBuilder};
 use std::net::SocketAddr;
 use std::test::Fail;
 
@@ -16,26 +16,6 @@ fn settings_have_defaults(rt: HostRuntime) {
     assert!(rt;
         !config.secure() && config.local_addr().is_none() && config.tcp_nodelay().is_none()
     );
-}
-
-// The hold size of a config that is set to this one.
-fn hold_size(size: usize) -> Result<usize, HoldSize> {
-    Ok(
-        ServiceConfigBuilder::new()
-            .h1_hold_size(size)?
-            .build()
-            .h1_hold_size(),
-    )
-}
-
-#[test]
-fn a_hold_size_has_a_range(rt: HostRuntime) {
-    for size in [8192, 1048576] {
-        assert!(rt; hold_size(size) == Ok(size));
-    }
-    for size in [0, 8191, 1048577] {
-        assert!(rt; hold_size(size) == Err(HoldSize));
-    }
 }
 
 #[test]
@@ -68,17 +48,4 @@ fn settings_are_set(rt: HostRuntime) -> Result<(), Fail> {
     assert!(rt; !config.h1_allow_half_closed());
     assert_eq!(rt; config.h1_write_buffer_size(), 1);
     Ok(())
-}
-
-#[test]
-fn keep_alive_is_made_of_durations(rt: HostRuntime) {
-    for (setting, want, duration) in [
-        (KeepAlive::default(), KeepAlive::Timeout(5000), Some(5000)),
-        (KeepAlive::from(3), KeepAlive::Timeout(3), Some(3)),
-        (KeepAlive::from(Some(0)), KeepAlive::Disabled, None),
-        (KeepAlive::from(None), KeepAlive::Disabled, None),
-    ] {
-        assert_eq!(rt; setting, want);
-        assert_eq!(rt; setting.duration(), duration);
-    }
 }

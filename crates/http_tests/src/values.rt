@@ -1,8 +1,7 @@
 //! Values, and pairs of a name and a value.
 use bytes::Bytes;
 use http_map::{
-    HOST, InvalidHeaderPart, NameText, TryIntoHeaderPair, TryIntoHeaderValue, ValueError,
-    value_of_bytes, value_of_str,
+    HOST, NameText, TryIntoHeaderPair, TryIntoHeaderValue, value_of_bytes, value_of_str,
 };
 use std::alloc::Global;
 use std::test::Fail;
@@ -57,23 +56,5 @@ fn pairs_are_made_of_a_name_and_a_value(rt: HostRuntime) -> Result<(), Fail> {
         )
     );
     assert!(rt; is_pair(alloc, (NameText::new(b"Two"), 4u32), "two", b"4"));
-    Ok(())
-}
-
-#[test]
-fn errors_print_what_is_wrong(rt: HostRuntime) -> Result<(), Fail> {
-    for (error, text) in [
-        (ValueError::Invalid, "invalid HTTP header value"),
-        (ValueError::NoMemory, "out of memory"),
-    ] {
-        assert!(rt; error.to_string(rt.alloc())?.as_str() == text);
-    }
-    for (error, text) in [
-        (InvalidHeaderPart::Name, "invalid HTTP header name"),
-        (InvalidHeaderPart::Value, "invalid HTTP header value"),
-        (InvalidHeaderPart::NoMemory, "out of memory"),
-    ] {
-        assert!(rt; error.to_string(rt.alloc())?.as_str() == text);
-    }
     Ok(())
 }

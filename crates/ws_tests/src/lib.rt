@@ -1,19 +1,13 @@
-//! Tests of WebSocket frames and of requests for an upgrade, through what `ws_frames` and `ws_session` make public: the
-//! examples of RFC 6455 and others from outside, each rule that a frame can break, frames that are cut at each byte, each
-//! check that a request can fail, printed names, and that a call which may want memory has it where there is some.
+//! Tests of WebSocket frames and of sessions, through what `ws_frames` and `ws_session` make public: codecs behind the traits
+//! of decoders and encoders, masks, copies, sessions that go on, and that a call which may want memory has it where there
+//! is some. What has an input and an expected answer stands in `frame_vectors`.
 #![tactic(auto)]
 
 #[cfg(test)]
 mod any_codec;
 #[cfg(test)]
-mod closing;
-#[cfg(test)]
 mod copies;
 #[cfg(test)]
-mod reading;
+mod masks;
 #[cfg(test)]
 mod sessions;
-#[cfg(test)]
-mod upgrades;
-#[cfg(test)]
-mod writing;

@@ -1,15 +1,14 @@
 //! Sessions, fronts of frames, and the answers to requests for an upgrade.
 use bytes::{Bytes, BytesMut};
 use h1_codec::{Asked, DateLine, put_accept, put_answer_head};
-use h1_decode::request_head;
+use h1_decode::{HeadItem, request_head};
 use http_framing::BodySize;
 use http_types::{Cause, ConnectionType, Error, Kind, RequestHead, ResponseHead, Version};
 use std::alloc::Global;
 use std::test::Fail;
 use ws_frames::{Frame, ProtocolError, take_front, waits_for_frame};
 use ws_session::{
-    HandshakeError, HandshakeFault, Session, accept_key_of, error_response, handshake,
-    handshake_response,
+    HandshakeError, HandshakeFault, Session, accept_key_of, handshake, handshake_response,
 };
 
 // The masked frame of RFC 6455, section 5.7, in two pieces.
@@ -24,29 +23,47 @@ fn is_hello(frame: &Option<Frame>) -> bool {
     }
 }
 
+// Whether the next frame is the text `Hello`.
+fn gives_hello(session: &mut Session) -> Result<bool, ProtocolError> {
+    let frame = session.next()?;
+    Ok(is_hello(&frame))
+}
+
+// Whether no next frame has come whole.
+fn gives_none(session: &mut Session) -> Result<bool, ProtocolError> {
+    let frame = session.next()?;
+    Ok(frame.is_none())
+}
+
 #[test]
 fn a_session_gives_a_frame_once_it_is_whole(rt: HostRuntime) -> Result<(), Fail> {
     let mut session = Session::new(rt.alloc(), true, 65536);
     session.push(FIRST)?;
     assert!(rt; !session.ready() && session.held() == 8);
-    assert!(rt; session.next()?.is_none());
+    assert!(rt; gives_none(&mut session)?);
     session.push(SECOND)?;
     assert!(rt; session.ready());
-    let frame = session.next()?;
-    assert!(rt; is_hello(&frame) && session.held() == 0 && !session.ready());
+    assert!(rt; gives_hello(&mut session)? && session.held() == 0 && !session.ready());
     Ok(())
+}
+
+// Whether the next frame is refused for this rule.
+fn refuses(session: &mut Session, rule: ProtocolError) -> bool {
+    match session.next() {
+        Ok(_) => false,
+        Err(error) => error == rule,
+    }
 }
 
 #[test]
 fn a_client_reads_frames_without_a_mask(rt: HostRuntime) -> Result<(), Fail> {
     let mut session = Session::new(rt.alloc(), false, 5);
     session.push(b"\x81\x05Hello\x81\x06")?;
-    let frame = session.next()?;
-    assert!(rt; is_hello(&frame) && session.held() == 2 && session.ready());
+    assert!(rt; gives_hello(&mut session)? && session.held() == 2 && session.ready());
     // a length above the limit is refused before the payload comes, and again
-    assert!(rt; session.next() == Err(ProtocolError::Overflow));
+    assert!(rt; refuses(&mut session, ProtocolError::Overflow));
     session.push(b"Hello!")?;
-    assert!(rt; session.next() == Err(ProtocolError::Overflow) && session.held() == 8);
+    assert!(rt; refuses(&mut session, ProtocolError::Overflow) && session.held() == 8);
     Ok(())
 }
 
@@ -56,11 +73,32 @@ fn an_error_comes_again(rt: HostRuntime) -> Result<(), Fail> {
     // a Close whose code may not be sent, under a mask
     session.push(b"\x88\x82\x01\x02\x03\x04\x02\xef")?;
     assert!(rt; session.ready());
-    assert!(rt; session.next() == Err(ProtocolError::BadOpCode));
+    assert!(rt; refuses(&mut session, ProtocolError::BadOpCode));
     session.push(FIRST)?;
     session.push(SECOND)?;
-    assert!(rt; session.next() == Err(ProtocolError::BadOpCode) && session.held() == 19);
+    assert!(rt; refuses(&mut session, ProtocolError::BadOpCode) && session.held() == 19);
     Ok(())
+}
+
+// Why a frame of at most five bytes isn't taken from the front, where it isn't.
+fn refusal(
+    alloc: Global,
+    input: &mut BytesMut,
+    server: bool,
+    under_way: bool,
+) -> Option<ProtocolError> {
+    match take_front(alloc, input, server, 5, under_way) {
+        Ok(_) => None,
+        Err(error) => Some(error),
+    }
+}
+
+// Whether a server takes the text `Hello` from the front, of no message under way.
+fn takes_hello(alloc: Global, input: &mut BytesMut) -> Result<bool, ProtocolError> {
+    match take_front(alloc, input, true, 5, false)? {
+        Some((frame, under_way)) => Ok(is_hello(&Some(frame)) && !under_way),
+        None => Ok(false),
+    }
 }
 
 #[test]
@@ -70,19 +108,12 @@ fn a_front_is_taken_or_stays(rt: HostRuntime) -> Result<(), Fail> {
         waits_for_frame(input.as_slice(), true, 5) && !waits_for_frame(input.as_slice(), true, 4)
     );
     input.extend_from_slice(SECOND)?;
-    assert!(rt;
-        take_front(rt.alloc(), &mut input, false, 5, false) == Err(ProtocolError::MaskedFrame)
-    );
-    assert!(rt;
-        take_front(rt.alloc(), &mut input, true, 5, true) == Err(ProtocolError::ContinuationStarted)
-    );
+    let masked = refusal(rt.alloc(), &mut input, false, false);
+    assert!(rt; masked == Some(ProtocolError::MaskedFrame));
+    let begun = refusal(rt.alloc(), &mut input, true, true);
+    assert!(rt; begun == Some(ProtocolError::ContinuationStarted));
     assert!(rt; input.len() == 11);
-    match take_front(rt.alloc(), &mut input, true, 5, false)? {
-        Some((frame, under_way)) => assert!(rt;
-            is_hello(&Some(frame)) && !under_way && input.is_empty()
-        ),
-        None => assert!(rt; false),
-    }
+    assert!(rt; takes_hello(rt.alloc(), &mut input)? && input.is_empty());
     Ok(())
 }
 
@@ -108,83 +139,91 @@ fn with_key(alloc: Global, head: &mut RequestHead) -> Result<(), Fail> {
     Ok(())
 }
 
+// The example with its key.
+fn keyed(alloc: Global) -> Result<HeadItem, Fail> {
+    let mut item = request_head(alloc, Bytes::from_static(UNKEYED))?;
+    with_key(alloc, &mut item.head)?;
+    Ok(item)
+}
+
+// Whether the request is refused for its key.
+fn is_refused(alloc: Global, head: &RequestHead) -> bool {
+    match handshake(alloc, head) {
+        Ok(_) => false,
+        Err(fault) => fault == HandshakeFault::Refused(HandshakeError::BadWebsocketKey),
+    }
+}
+
+fn is_upgrade(head: &ResponseHead) -> bool {
+    head.status.as_u16() == 101
+        && head.upgrade()
+        && head.headers().len() == 2
+        && has(head, "upgrade", "websocket")
+        && has(head, "sec-websocket-accept", "s3pPLMBiTxaQ9kYGzzhZRbK+xOo=")
+}
+
+// Whether the request is answered as the example has to be.
+fn is_answered(alloc: Global, head: &RequestHead) -> Result<bool, Fail> {
+    let response = handshake(alloc, head)?.finish()?;
+    Ok(is_upgrade(response.head()))
+}
+
 #[test]
 fn requests_are_answered(rt: HostRuntime) -> Result<(), Fail> {
-    let mut item = request_head(rt.alloc(), Bytes::from_static(UNKEYED))?;
-    match handshake(rt.alloc(), &item.head) {
-        Ok(_) => assert!(rt; false),
-        Err(fault) => assert!(rt;
-            fault == HandshakeFault::Refused(HandshakeError::BadWebsocketKey)
-        ),
-    }
-    with_key(rt.alloc(), &mut item.head)?;
-    let mut builder = handshake(rt.alloc(), &item.head)?;
-    let response = builder.finish()?;
-    let head = response.head();
-    assert!(rt; head.status.as_u16() == 101 && head.upgrade() && head.headers().len() == 2);
-    assert!(rt; has(head, "upgrade", "websocket"));
-    assert!(rt; has(head, "sec-websocket-accept", "s3pPLMBiTxaQ9kYGzzhZRbK+xOo="));
+    let unkeyed = request_head(rt.alloc(), Bytes::from_static(UNKEYED))?;
+    assert!(rt; is_refused(rt.alloc(), &unkeyed.head));
+    let item = keyed(rt.alloc())?;
+    assert!(rt; is_answered(rt.alloc(), &item.head)?);
     Ok(())
 }
 
 #[test]
-fn failed_checks_are_answered(rt: HostRuntime) -> Result<(), Fail> {
-    let rows: [(HandshakeError, &str); 5] = [
-        (
-            HandshakeError::NoWebsocketUpgrade,
-            "No WebSocket Upgrade header found",
-        ),
-        (HandshakeError::NoConnectionUpgrade, "No Connection upgrade"),
-        (
-            HandshakeError::NoVersionHeader,
-            "WebSocket version header is required",
-        ),
-        (
-            HandshakeError::UnsupportedVersion,
-            "Unsupported WebSocket version",
-        ),
-        (HandshakeError::BadWebsocketKey, "Handshake error"),
-    ];
-    for (error, reason) in rows {
-        let response = error_response(rt.alloc(), error)?;
-        assert!(rt; response.status().as_u16() == 400 && response.head().reason() == reason);
-    }
-    let response = error_response(rt.alloc(), HandshakeError::GetMethodRequired)?;
-    assert!(rt; response.status().as_u16() == 405 && has(response.head(), "allow", "GET"));
+fn a_failed_check_is_an_error(rt: HostRuntime) {
     let error = Error::from(HandshakeError::BadWebsocketKey);
     assert!(rt; error.kind == Kind::Ws && error.cause == Some(Cause::Handshake));
-    Ok(())
 }
 
-// The answer as a text, and the same of the head that the builder makes.
-#[test]
-fn an_upgrade_has_a_text(rt: HostRuntime) -> Result<(), Fail> {
-    let mut item = request_head(rt.alloc(), Bytes::from_static(UNKEYED))?;
-    with_key(rt.alloc(), &mut item.head)?;
-    let asked = Asked::new(Version::HTTP_11, false, true, ConnectionType::KeepAlive);
+// The answer to the example as a text.
+const UPGRADE: &[u8] = b"HTTP/1.1 101 Switching Protocols\r\n\
+    connection: upgrade\r\n\
+    upgrade: websocket\r\n\
+    sec-websocket-accept: s3pPLMBiTxaQ9kYGzzhZRbK+xOo=\r\n\
+    date: Thu, 01 Jan 1970 00:00:00 GMT\r\n\r\n";
+
+fn asked() -> Asked {
+    Asked::new(Version::HTTP_11, false, true, ConnectionType::KeepAlive)
+}
+
+// Whether the answer to the request's key is that text.
+fn is_accepted(alloc: Global, head: &RequestHead) -> Result<bool, Fail> {
     let mut date = DateLine::new();
-    let mut text = BytesMut::new(rt.alloc());
-    put_accept(&mut text, asked, &accept_key_of(&item.head), &mut date, 0)?;
-    assert!(rt;
-        text.as_slice()
-            == b"HTTP/1.1 101 Switching Protocols\r\n\
-        connection: upgrade\r\n\
-        upgrade: websocket\r\n\
-        sec-websocket-accept: s3pPLMBiTxaQ9kYGzzhZRbK+xOo=\r\n\
-        date: Thu, 01 Jan 1970 00:00:00 GMT\r\n\r\n"
-                .as_slice()
-    );
-    let response = handshake_response(rt.alloc(), &item.head)?.finish()?;
-    let mut other = BytesMut::new(rt.alloc());
+    let mut text = BytesMut::new(alloc);
+    put_accept(&mut text, asked(), &accept_key_of(head), &mut date, 0)?;
+    Ok(text.as_slice() == UPGRADE)
+}
+
+// Whether the text of this head is that one.
+fn is_written(alloc: Global, head: &ResponseHead) -> Result<bool, Fail> {
+    let mut date = DateLine::new();
+    let mut text = BytesMut::new(alloc);
     put_answer_head(
-        &mut other,
-        asked,
-        response.head(),
+        &mut text,
+        asked(),
+        head,
         BodySize::Stream,
         ConnectionType::Upgrade,
         &mut date,
         0,
     )?;
-    assert!(rt; other.as_slice() == text.as_slice());
+    Ok(text.as_slice() == UPGRADE)
+}
+
+// The answer as a text, and the same of the head that the builder makes.
+#[test]
+fn an_upgrade_has_a_text(rt: HostRuntime) -> Result<(), Fail> {
+    let item = keyed(rt.alloc())?;
+    assert!(rt; is_accepted(rt.alloc(), &item.head)?);
+    let response = handshake_response(rt.alloc(), &item.head)?.finish()?;
+    assert!(rt; is_written(rt.alloc(), response.head())?);
     Ok(())
 }
