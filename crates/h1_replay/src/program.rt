@@ -1,9 +1,8 @@
 //! The program over any source and sink.
 ghost use Rattle.std.specs.Prelude.{◌≡◌, ◌≢◌, ◌≤◌, ◌↔◌, ◌⊎◌, ℕ, List, IsTrue, map, string_bytes};
-ghost use Rattle.std.specs.Io.KnownBytes.{Appends};
-ghost use Rattle.http_config.specs.Causes.{Rose, counted};
+ghost use Rattle.http_config.specs.Causes.{counted};
 ghost use Rattle.h1_replay.specs.Input.{told};
-ghost use Rattle.h1_replay.specs.Output.{AppendsPart};
+ghost use Rattle.h1_replay.specs.Output.{HasTaken, WritesPart, given_as};
 ghost use Rattle.h1_replay.specs.Reply.{status_of_reply, text_of_reply};
 ghost use Rattle.h1_replay.specs.Run.{IsReplay, IsAnswer, IsGood, IsRefused, NoEndFailed, IsRefusedWith};
 
@@ -21,22 +20,27 @@ use std::alloc::Global;
 pub fn run<S: Source, K: Sink>(alloc: Global, words: &[String], input: &mut S, output: &mut K) -> u8
     ensures known { result ≤ 7 }
 
-    // With each status but 5 the output grew by that status's text, which also says how far the input was read.
+    // With each status but 5 that status's text was written, and no write failed. The answer also says how far the
+    // input was read.
     ensures answered { result ≢ 5 → ((text : List ℕ)
         × IsAnswer (map (λ w. string_bytes w) words.now) (told (S.left input.old) (S.faults input.old) (S.calls input.old))
         (told (S.left input.new) (S.faults input.new) (S.calls input.new)) result text
-        × Appends (K.given output.old) (K.given output.new) text) }
+        × HasTaken (given_as (K.given output.old) (K.faults output.old) (K.calls output.old)) (given_as (K.given output.new) (K.faults output.new) (K.calls output.new)) text) }
 
-    // With 5 it grew by a front part of the text of another one, and not by the whole of it.
+    // With 5 a front part of the text of another one was written, and not the whole of it. The one write that failed
+    // was the last.
     ensures cut { result ≡ 5 → ((status : ℕ) × (text : List ℕ)
         × IsAnswer (map (λ w. string_bytes w) words.now) (told (S.left input.old) (S.faults input.old) (S.calls input.old))
         (told (S.left input.new) (S.faults input.new) (S.calls input.new)) status text
-        × AppendsPart (K.given output.old) (K.given output.new) text) }
+        × WritesPart (given_as (K.given output.old) (K.faults output.old) (K.calls output.old)) (given_as (K.given output.new) (K.faults output.new) (K.calls output.new)) text) }
 
     // With 4 one read failed, and with each other status but 5 none.
     ensures read_fault { result ≡ 4 → S.faults input.new ≡ counted (S.faults input.old) }
     ensures no_read_fault { result ≢ 4 → result ≢ 5 → S.faults input.new ≡ S.faults input.old }
-    ensures write_fault { result ≡ 5 → Rose (K.faults output.old) (K.faults output.new) }
+
+    // With 5 one write failed, and with each other status none.
+    ensures write_fault { result ≡ 5 → K.faults output.new ≡ counted (K.faults output.old) }
+    ensures no_write_fault { result ≢ 5 → K.faults output.new ≡ K.faults output.old }
 
     // Where no end fails, a script whose every event is allowed gets 0, and another one 3 with the place of the first
     // that isn't; but for 7, where memory ran out.

@@ -2,6 +2,7 @@ use Rattle.std.proofs.Common.{sym, ◌∙◌}
 use Rattle.h1_replay.specs.Reply.{text_of_reply, status_of_reply}
 use Rattle.h1_replay.proofs.Answering.{answer_fault, answer_quiet, fault_rose}
 use Rattle.h1_replay.proofs.Completeness.{good_status, refused_status}
+use Rattle.h1_replay.proofs.Writing.{taken_appended, taken_quiet, part_fault, part_rose}
 use Rattle.h1_replay.proofs.program.run.Goals as goal
 
 pub returns-in-Ok-clause-answered : goal.returns-in-Ok-clause-answered
@@ -14,8 +15,14 @@ returns-in-Ok-clause-answered g c =
 pub returns-clause-cut : goal.returns-clause-cut
 returns-clause-cut g c =
     let reply = c.reply_to-reply.result in
-    let front = c.in-Err.ensures.part in
-    λ _. (status_of_reply reply, text_of_reply reply, c.reply_to-reply.ensures, (front.0, front.1, sym c.text.ensures ∙ front.2, front.3, front.4))
+    let part = rw c.text.ensures at c.in-Err.ensures.part in
+    λ _. (status_of_reply reply, text_of_reply reply, c.reply_to-reply.ensures, part)
+
+pub returns-clause-write_fault : goal.returns-clause-write_fault
+returns-clause-write_fault g c = λ _. part_fault _ _ _ c.in-Err.ensures.part
+
+pub returns-in-Ok-clause-no_write_fault : goal.returns-in-Ok-clause-no_write_fault
+returns-in-Ok-clause-no_write_fault g c = λ _. taken_quiet _ _ _ c.in-Ok.ensures.all
 
 pub returns-in-Ok-clause-read_fault : goal.returns-in-Ok-clause-read_fault
 returns-in-Ok-clause-read_fault g c =
@@ -37,10 +44,10 @@ returns-in-Ok-clause-refused g c =
     let answer = rw (← c.status.ensures.value) at c.reply_to-reply.ensures in
     let written = rw c.text.ensures at c.in-Ok.ensures.all in
     λ index command refused works.
-    refused_status _ _ _ _ _ _ index _ answer written command refused (λ four. works.reads (fault_rose _ _ _ _ _ answer four))
+    refused_status _ _ _ _ _ _ index _ answer (taken_appended _ _ _ written) command refused (λ four. works.reads (fault_rose _ _ _ _ _ answer four))
 
 pub returns-clause-complete : goal.returns-clause-complete
-returns-clause-complete g c = λ command good works. absurd (works.writes c.in-Err.ensures.cause.failed)
+returns-clause-complete g c = λ command good works. absurd (works.writes (part_rose _ _ _ c.in-Err.ensures.part))
 
 pub returns-clause-refused : goal.returns-clause-refused
-returns-clause-refused g c = λ index command refused works. absurd (works.writes c.in-Err.ensures.cause.failed)
+returns-clause-refused g c = λ index command refused works. absurd (works.writes (part_rose _ _ _ c.in-Err.ensures.part))
