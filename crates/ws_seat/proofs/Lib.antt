@@ -1,4 +1,3 @@
 pub mod KeptLemmas
 pub mod TurnLemmas
 pub mod AskLemmas
-pub mod StayLemmas
