@@ -1,44 +1,41 @@
 -- Both directions together.
-use Rattle.std.proofs.Common.{◌≡◌, ℕ, ◌<◌, ◌≤◌, Bool, true, List, [], ◌∷◌, ◌++◌, length, map, reverse, Some, refl, sym, ap, ◌∙◌, subst, inl, append-nil, append_assoc, arith}
+use Rattle.std.proofs.Common.{◌≡◌, ℕ, ◌<◌, ◌≤◌, Bool, List, [], ◌∷◌, ◌++◌, length, map, reverse, Some, refl, sym, ap, ◌∙◌, subst, inl, append-nil, append_assoc, arith}
 use Rattle.std.specs.Prelude.{IsTrue}
 use Rattle.std.specs.List.{AllByRecursion}
 use Rattle.std.proofs.lemmas.Grind.{reverse_onto}
 use Rattle.h1_model.specs.Setting.{Setting}
-use Rattle.h1_model.specs.End as ends
 use Rattle.h1_model.specs.Event as on
-use Rattle.h1_model.specs.Handed.{Item, handed_out, Begins}
+use Rattle.h1_model.specs.Handed.{handed_out}
 use Rattle.h1_model.specs.Past.{input_of}
-use Rattle.h1_model.specs.Sums.{Step, taken, has_ended, written as server_written}
+use Rattle.h1_model.specs.Sums.{Step, taken, has_ended}
 use Rattle.h1_model.specs.Text.{text, buffered}
 use Rattle.h1_model.specs.Trace.{IsOutcome, IsTrace}
-use Rattle.h1_model.specs.Laws.Exchanges.{exchanges}
 use Rattle.h1_model.proofs.HandedParsed.{handed_prefix}
 use Rattle.h1_model.proofs.MessageExistence.{parse_exists}
 use Rattle.h1_model.proofs.WrittenLemmas.{written_buffered}
 use Rattle.h1_client_model.specs.AnswerParse.{is_interim}
-use Rattle.h1_client_model.specs.RequestText.{RequestGiven, given_request_text, IsPlainGiven}
+use Rattle.h1_client_model.specs.RequestText.{RequestGiven, IsPlainGiven}
 use Rattle.h1_client_machine.specs.ClientKept.{Waiting, ClientKept, client_closing, client_allows}
 use Rattle.h1_client_machine.specs.ClientStep.{IsClientStep}
 use Rattle.h1_client_machine.specs.ClientEvent as client_on
 use Rattle.h1_client_machine.specs.ClientEvent.{ClientEnd}
-use Rattle.h1_client_machine.specs.ClientTrace.{Happened, IsClientTrace, written as client_written, text_of, asked_of}
+use Rattle.h1_client_machine.specs.ClientTrace.{Happened, IsClientTrace, text_of, asked_of}
 use Rattle.h1_client_machine.proofs.Written.{is_text}
-use Rattle.h1_agreement.specs.PlainExchange.{IsPlain, IsPlainTrace}
-use Rattle.h1_agreement.specs.SentAnswer.{SentAnswer, AreSent, AreHeld, sent_text, AreTo, CountsAnswers, IsWaiting, methods_asked, answers_sent}
+use Rattle.h1_agreement.specs.PlainExchange.{IsPlainTrace}
+use Rattle.h1_agreement.specs.SentAnswer.{SentAnswer, AreSent, AreHeld, sent_text, AreTo, IsWaiting, answers_sent}
 use Rattle.h1_agreement.specs.SentRequest.{SentRequest, sent_request, asked_text}
 use Rattle.h1_agreement.proofs.BegunRequests.{begun_served}
 use Rattle.h1_agreement.proofs.GivenRequests.{each_asked}
 use Rattle.h1_agreement.proofs.InterimStatuses.{not_interim}
 use Rattle.h1_agreement.proofs.Traces.{trace_words, trace_sent, trace_to}
-use Rattle.h1_two_ends.specs.AskedTrace.{AskedRequest, requests_asked, IsPlainAsked, AreServedOut}
+use Rattle.h1_two_ends.specs.AskedTrace.{requests_asked, IsPlainAsked, AreServedOut}
 use Rattle.h1_two_ends.specs.Connected.{AreConnected, ArePlain, Agree, IsFairEnd}
 use Rattle.h1_two_ends.specs.ReadOut.{bytes_taken, ReadAnswer, read_out, AreReadOut}
-use Rattle.h1_two_ends.proofs.AskedTexts.{texts, OthersWhole, asked_text_of}
+use Rattle.h1_two_ends.proofs.AskedTexts.{asked_text_of}
 use Rattle.h1_two_ends.proofs.Completions.{completions, completions_length, texts_begin, plain_completions, served_so_far}
-use Rattle.h1_two_ends.proofs.Holds.{methods_of, AreSo, Holds}
+use Rattle.h1_two_ends.proofs.Holds.{methods_of, AreSo}
 use Rattle.h1_two_ends.proofs.Methods.{sound_from, agreed_methods}
 use Rattle.h1_two_ends.proofs.AllServed.{parsed_out, all_begun, all_served}
-use Rattle.h1_two_ends.proofs.Pulls.{HoldsFor}
 use Rattle.h1_two_ends.proofs.ReadOuts.{known_of, all_for}
 use Rattle.h1_two_ends.proofs.Ends.{all_handed, ends_fairly}
 use Rattle.h1_two_ends.proofs.Served.{AreServedSo, prefix_served}

@@ -1,9 +1,6 @@
 -- A server that took all of what a client sends, and waits for more, has handed out every request.
-use Rattle.std.proofs.Common.{◌≡◌, ℕ, suc, ◌+◌, ◌-◌, ◌<◌, ◌≤◌, Bool, true, false, List, [], ◌∷◌, ◌++◌, length, drop, map, reverse, Option, Some, None, refl, sym, ap, ◌∙◌, subst, arith, length-append, length-drop, le-leb}
-use Rattle.std.specs.Prelude.{slice_get}
-use Rattle.std.proofs.lemmas.Bool.{false≢true}
+use Rattle.std.proofs.Common.{◌≡◌, ℕ, suc, ◌+◌, ◌<◌, ◌≤◌, Bool, List, [], ◌∷◌, ◌++◌, length, drop, reverse, Option, Some, None, refl, ap, ◌∙◌, subst, arith, length-append, length-drop, le-leb}
 use Rattle.std.proofs.lemmas.List.{length-map, length-reverse}
-use Rattle.h1_model.specs.HeadPiece.{HasNoHeadPiece}
 use Rattle.h1_model.specs.Request.{Head, Reading, head_is, faulty}
 use Rattle.h1_model.specs.Setting.{Setting}
 use Rattle.h1_model.specs.End.{End}
@@ -15,7 +12,7 @@ use Rattle.h1_model.specs.Handed.{Handed, handed_out}
 use Rattle.h1_model.specs.Past.{ParsedStep, steps, input_of, IsPast, parse_of, head_count, upcoming}
 use Rattle.h1_model.specs.Closing.{closing}
 use Rattle.h1_model.specs.OutcomeTable.{head_outcome, upcoming_outcome, next_outcome, outcome_of}
-use Rattle.h1_model.specs.Trace.{IsPastOf, IsOutcome}
+use Rattle.h1_model.specs.Trace.{IsOutcome}
 use Rattle.h1_model.specs.Laws.Exchanges.{heads}
 use Rattle.h1_model.proofs.HandedPrefix.{past_end}
 use Rattle.h1_model.proofs.StepLemmas.{head_count-more, head_count-head}

@@ -1,21 +1,21 @@
 -- The text that a client sends is that of its requests, of which the newest may be under way.
-use Rattle.std.proofs.Common.{◌≡◌, ℕ, ◌+◌, ◌-◌, ◌<◌, ◌≤◌, Bool, true, false, not, ◌&&◌, cond, eqb, List, [], ◌∷◌, ◌++◌, length, take, Option, Some, None, is_some, is_none, refl, sym, ap, ap₂, ◌∙◌, subst, arith, append-nil, append_assoc, length-append, le-leb, inl, inr}
-use Rattle.std.specs.Prelude.{⊤, IsTrue, flat_map, nat_le, nat_lt, if◌then◌else◌}
+use Rattle.std.proofs.Common.{◌≡◌, ℕ, ◌+◌, ◌-◌, ◌<◌, Bool, true, false, not, ◌&&◌, eqb, List, [], ◌∷◌, ◌++◌, length, take, Option, Some, None, is_some, is_none, refl, sym, ap, ap₂, ◌∙◌, subst, arith, append-nil, append_assoc, length-append, le-leb, inl, inr}
+use Rattle.std.specs.Prelude.{⊤, IsTrue, flat_map, nat_lt, if◌then◌else◌}
 use Rattle.std.specs.List.{AllByRecursion}
 use Rattle.std.specs.Option.{option_or}
-use Rattle.std.proofs.lemmas.Bool.{false≢true, cases_lt, cond-true, cond-false, lt-ltb}
+use Rattle.std.proofs.lemmas.Bool.{false≢true, cases_lt, lt-ltb}
 use Rattle.std.proofs.lemmas.List.{take-append-le, take_all}
 use Rattle.std.proofs.Math.Seq.{take-append-add}
 use Rattle.std.proofs.lemmas.Grind.{flat_map-append}
 use Rattle.h1_model.specs.Setting.{Setting}
 use Rattle.h1_model.specs.Answer.{BodySize, size_none, size_of, size_stream, is_at_once, Shape, shape_none, shape_length, shape_chunked, shape_raw}
-use Rattle.h1_model.specs.AnswerText.{chunk_text, last_chunk, piece_text, end_text}
+use Rattle.h1_model.specs.AnswerText.{chunk_text, last_chunk, end_text}
 use Rattle.h1_machine.specs.Reply.{stated}
 use Rattle.h1_client_model.specs.RequestText.{asked_shape, joined, given_request_text}
 use Rattle.h1_client_machine.specs.ClientEvent as on
 use Rattle.h1_client_machine.specs.ClientEvent.{ClientRequest, ClientEvent, ClientEnd, ClientOutcome, failed_request}
 use Rattle.h1_client_machine.specs.ClientKept.{SendingBody, ReadingBody, ClientKept, client_closing, is_last, can_be_sent, has_room, client_allows}
-use Rattle.h1_client_machine.specs.ClientStep.{ClientChange, begun_body, piece_of, sending_piece, ending_body, dropping, IsPulling, IsNext, IsClientChange, IsClientStep}
+use Rattle.h1_client_machine.specs.ClientStep.{ClientChange, begun_body, piece_of, sending_piece, ending_body, dropping, IsPulling, IsNext, IsClientChange}
 use Rattle.h1_client_machine.specs.ClientTrace.{Happened, IsClientTrace, sending_after, now_of, sending_of, text_of, text_of_event}
 use Rattle.h1_client_machine.proofs.Written.{is_text}
 use Rattle.h1_two_ends.specs.AskedTrace.{AskedRequest, newly_asked, with_piece, asked_behind, requests_asked, is_all, is_all_asked, body_so_far}

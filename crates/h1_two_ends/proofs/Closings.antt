@@ -1,14 +1,14 @@
 -- A client closes after an answer where its server does.
-use Rattle.std.proofs.Common.{◌≡◌, ℕ, ◌≤◌, Bool, true, false, drop, ◌&&◌, ◌||◌, not, eqb, ne_eqb, List, [], ◌∷◌, Option, Some, None, refl, sym, ap, ◌∙◌, subst, arith, codes}
+use Rattle.std.proofs.Common.{◌≡◌, ℕ, ◌≤◌, Bool, true, false, drop, ◌&&◌, ◌||◌, not, ne_eqb, List, [], ◌∷◌, Option, Some, None, refl, sym, ap, ◌∙◌, arith, codes}
 use Rattle.std.specs.Prelude.{◌==◌, if◌then◌else◌}
 use Rattle.std.proofs.lemmas.Bool.{false≢true, cond-false}
 use Rattle.h1_model.specs.Request.{Head, ConnectionType, close, keep_alive, upgrade, BodyKind, no_body, fixed_body, chunked_body, raw_body}
-use Rattle.h1_model.specs.Setting.{Setting, keeps}
-use Rattle.h1_model.specs.LengthTable.{values_of, is_there, connection_of}
+use Rattle.h1_model.specs.Setting.{Setting}
+use Rattle.h1_model.specs.LengthTable.{values_of, is_there}
 use Rattle.h1_model.specs.Answer.{Asked, asked_of, AnswerHead, BodySize, Shape, is_raw, shape_of, has_header, flagged_type, allowed_type, overridden_type, raw_type, drained_type, type_of}
 use Rattle.h1_model.specs.Closing.{is_kept}
 use Rattle.h1_model.specs.Laws.Exchanges.{AnswerGiven}
-use Rattle.h1_client_model.specs.AnswerTable.{ends_with_input, body_to, answer_connection}
+use Rattle.h1_client_model.specs.AnswerTable.{ends_with_input, body_to}
 use Rattle.h1_client_model.specs.AnswerParse.{is_interim}
 use Rattle.h1_client_model.specs.AnswerReading.{Answer}
 use Rattle.h1_client_machine.specs.ClientEvent as on
@@ -16,7 +16,7 @@ use Rattle.h1_client_machine.specs.ClientEvent.{ClientRequest}
 use Rattle.h1_client_machine.specs.ClientKept.{Waiting, ClientKept, is_kept_alive, waiting_of}
 use Rattle.h1_client_machine.specs.ClientStep.{connection_to, is_ambiguous, is_last_answer, is_closed_after, behind_final, behind_answer, IsClientStep}
 use Rattle.h1_client_machine.proofs.Answered.{answered, final_after}
-use Rattle.h1_agreement.specs.PlainExchange.{given_shape, given_lines, IsSelfFramed}
+use Rattle.h1_agreement.specs.PlainExchange.{given_shape, IsSelfFramed}
 use Rattle.h1_agreement.specs.SentAnswer.{IsBodySent, sent_answer}
 use Rattle.h1_agreement.proofs.ConnectionTypes.{connection_read}
 use Rattle.h1_agreement.proofs.PlainExchange.{plain_sent}

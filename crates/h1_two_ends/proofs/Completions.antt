@@ -1,8 +1,8 @@
 -- Requests of which the newest may be under way, and the same where it has come to an end.
-use Rattle.std.proofs.Common.{◌≡◌, ℕ, zero, suc, ◌+◌, ◌-◌, ◌*◌, ◌^◌, ◌<◌, ◌≤◌, Bool, true, false, cond, eqb, List, [], ◌∷◌, ◌++◌, length, take, map, reverse, replicate, Option, Some, None, refl, sym, ap, ap₂, ◌∙◌, subst, arith, append-nil, append_assoc, length-append, le-leb, eqb-true, lit<, inl, inr}
-use Rattle.std.specs.Prelude.{⊤, flat_map, nat_le, if◌then◌else◌}
+use Rattle.std.proofs.Common.{◌≡◌, ℕ, zero, suc, ◌-◌, ◌^◌, ◌<◌, ◌≤◌, Bool, true, false, eqb, List, [], ◌∷◌, ◌++◌, length, take, map, reverse, replicate, refl, sym, ap, ap₂, ◌∙◌, subst, arith, append-nil, append_assoc, length-append, le-leb, eqb-true, lit<, inl, inr}
+use Rattle.std.specs.Prelude.{flat_map, nat_le, if◌then◌else◌}
 use Rattle.std.specs.List.{AllByRecursion}
-use Rattle.std.proofs.lemmas.Bool.{false≢true, cases_lt, cond-true, cond-false}
+use Rattle.std.proofs.lemmas.Bool.{false≢true, cases_lt}
 use Rattle.std.proofs.lemmas.List.{take_all, length-map, length-replicate, length-reverse}
 use Rattle.std.proofs.lemmas.Grind.{flat_map-append, reverse_onto}
 use Rattle.h1_model.specs.Answer.{BodySize, size_none, size_of, size_stream, Shape, shape_none, shape_length, shape_chunked, shape_raw}

@@ -1,6 +1,6 @@
 -- Why a client of plain exchanges closes, and when it has read all.
-use Rattle.std.proofs.Common.{◌≡◌, ◌⊎◌, ℕ, ◌+◌, ◌<◌, ◌≤◌, Bool, true, false, ◌&&◌, ◌||◌, not, List, [], ◌∷◌, ◌++◌, length, map, reverse, Option, Some, None, is_some, refl, sym, ap, ap₂, ◌∙◌, subst, inl, inr, arith, append-nil, length-append}
-use Rattle.std.specs.Prelude.{IsTrue, if◌then◌else◌, ◌==◌}
+use Rattle.std.proofs.Common.{◌≡◌, ℕ, ◌≤◌, Bool, true, false, ◌&&◌, not, List, [], ◌∷◌, ◌++◌, length, reverse, Option, Some, None, is_some, refl, sym, ap, ap₂, ◌∙◌, subst, inl, inr, arith, append-nil, length-append}
+use Rattle.std.specs.Prelude.{IsTrue, if◌then◌else◌}
 use Rattle.std.proofs.lemmas.Bool.{false≢true, cond-true}
 use Rattle.std.proofs.lemmas.List.{length-reverse}
 use Rattle.h1_model.specs.Handed.{Item}
@@ -11,13 +11,12 @@ use Rattle.h1_client_model.specs.AnswerReading.{AnswerReading, answer_is, refuse
 use Rattle.h1_client_model.specs.AnswerParse.{is_interim}
 use Rattle.h1_client_machine.specs.ClientEvent as on
 use Rattle.h1_client_machine.specs.ClientEvent.{ClientEnd, ClientOutcome, asked, unasked, input_ended, failed_request, broken_answer}
-use Rattle.h1_client_machine.specs.ClientKept.{Waiting, ReadingBody, ClientKept, is_free_of, is_free, is_waited_for, has_bytes, client_closing, client_allows}
+use Rattle.h1_client_machine.specs.ClientKept.{Waiting, ClientKept, is_free_of, is_free, is_waited_for, has_bytes, client_closing, client_allows}
 use Rattle.h1_client_machine.specs.ClientStep.{ClientChange, behind_head, IsUpcoming, IsNext, IsClientStep, KnowsComing}
 use Rattle.h1_agreement.specs.SentAnswer.{SentAnswer, AreSent, AreHeld, sent_text, AreTo}
 use Rattle.h1_two_ends.specs.Connected.{IsFairEnd}
 use Rattle.h1_two_ends.specs.ReadOut.{ReadAnswer}
-use Rattle.h1_two_ends.proofs.Rests.{nil_both}
-use Rattle.h1_two_ends.proofs.Holds.{methods_of, IsFaulty, faulty_some, AreSo, IsFree, IsBusy, IsIn, Holds}
+use Rattle.h1_two_ends.proofs.Holds.{methods_of, faulty_some, AreSo, IsFree, IsBusy, IsIn, Holds}
 use Rattle.h1_two_ends.proofs.NextAnswers.{failed_closes, late, allowed_then}
 
 -- ---- why it closes

@@ -1,23 +1,21 @@
 -- What holds of a client all along: what it handed out is what was sent, and what it keeps is what is left of that.
-use Rattle.std.proofs.Common.{◌≡◌, ◌⊎◌, ℕ, ◌+◌, ◌-◌, ◌<◌, ◌≤◌, min, Bool, true, false, ◌&&◌, ◌||◌, not, cond, List, [], ◌∷◌, ◌++◌, length, take, drop, map, reverse, Option, Some, None, is_some, refl, sym, ap, ap₂, ◌∙◌, subst, subst₂, inl, inr, arith, append-nil, append_assoc}
-use Rattle.std.specs.Prelude.{⊤, flat_map, if◌then◌else◌}
+use Rattle.std.proofs.Common.{◌≡◌, ◌⊎◌, ℕ, ◌<◌, Bool, true, false, ◌&&◌, ◌||◌, not, List, [], ◌∷◌, ◌++◌, length, map, reverse, Option, Some, None, is_some, refl, sym, ap, ap₂, ◌∙◌, subst, subst₂, inl, inr, append_assoc}
+use Rattle.std.specs.Prelude.{⊤, if◌then◌else◌}
 use Rattle.std.specs.List.{AllByRecursion}
 use Rattle.std.specs.Option.{option_or}
 use Rattle.std.proofs.lemmas.Bool.{false≢true}
-use Rattle.h1_model.specs.Event.{Outcome, incomplete}
-use Rattle.h1_model.specs.Event as server
-use Rattle.h1_model.specs.Handed.{Item, item_bytes, item_end, item_fault, Begins}
-use Rattle.h1_machine.specs.Kept.{Rest, no_rest, raw_rest, fixed_rest, chunks_rest, frames_rest, is_nothing, rest_in}
+use Rattle.h1_model.specs.Event.{incomplete}
+use Rattle.h1_model.specs.Handed.{Item, item_bytes, item_end, item_fault}
+use Rattle.h1_machine.specs.Kept.{Rest, no_rest, raw_rest, fixed_rest, chunks_rest, frames_rest, is_nothing}
 use Rattle.h1_machine.specs.Body.{Passed, pass_rest}
-use Rattle.h1_client_model.specs.AnswerReading.{answer_is}
 use Rattle.h1_client_model.specs.AnswerParse.{is_interim}
 use Rattle.h1_client_model.specs.RequestText.{joined}
 use Rattle.h1_client_machine.specs.ClientEvent.{ClientEnd, broken_answer, failed_request}
 use Rattle.h1_client_machine.specs.ClientKept.{Waiting, ReadingBody, ClientKept, is_free_of, is_free}
 use Rattle.h1_client_machine.specs.ClientStep.{is_broken, passed_body, passing, body_at_end}
 use Rattle.h1_agreement.specs.SentAnswer.{SentAnswer, AreSent, AreHeld, sent_text, AreTo}
-use Rattle.h1_two_ends.specs.HandedBody.{IsStop, IsHandedBody}
-use Rattle.h1_two_ends.specs.ReadOut.{ReadAnswer, ReadOut, IsReadOut}
+use Rattle.h1_two_ends.specs.HandedBody.{IsStop}
+use Rattle.h1_two_ends.specs.ReadOut.{ReadAnswer, IsReadOut}
 use Rattle.h1_two_ends.proofs.Rests.{RestSays, Passes, all_passed, some_left, pass_goes_on, rest_stays}
 
 -- the methods of requests

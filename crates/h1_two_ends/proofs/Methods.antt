@@ -1,5 +1,5 @@
 -- The requests that a server took are those that its client asked, by their methods.
-use Rattle.std.proofs.Common.{◌≡◌, ℕ, Bool, true, false, List, [], ◌∷◌, ◌++◌, map, reverse, filter_map, Option, Some, None, refl, sym, ap, ap₂, ◌∙◌, subst, append-nil, append_assoc}
+use Rattle.std.proofs.Common.{◌≡◌, ℕ, Bool, true, false, List, [], ◌∷◌, ◌++◌, map, reverse, Option, Some, None, refl, sym, ap, ap₂, ◌∙◌, subst, append-nil}
 use Rattle.std.specs.Prelude.{⊤}
 use Rattle.std.specs.List.{AllByRecursion}
 use Rattle.std.proofs.lemmas.Grind.{reverse_onto}
@@ -15,7 +15,6 @@ use Rattle.h1_client_machine.specs.ClientEvent.{ClientEvent}
 use Rattle.h1_client_machine.specs.ClientKept.{Waiting}
 use Rattle.h1_client_machine.specs.ClientTrace.{Happened, asked_by, asked_of, now_of}
 use Rattle.h1_agreement.specs.SentAnswer.{methods_asked}
-use Rattle.h1_agreement.specs.SentRequest.{sent_request}
 use Rattle.h1_two_ends.specs.AskedTrace.{AskedRequest, with_piece, of_newest, asked_behind, requests_asked, AreServedOut}
 use Rattle.h1_two_ends.proofs.Holds.{methods_of}
 

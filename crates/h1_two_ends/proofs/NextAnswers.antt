@@ -1,32 +1,32 @@
 -- The next answer that is handed out is the next one that was sent.
-use Rattle.std.proofs.Common.{◌≡◌, ◌⊎◌, ℕ, ◌+◌, ◌-◌, ◌<◌, ◌≤◌, Bool, true, false, ◌&&◌, ◌||◌, not, eqb, eqb-true, List, [], ◌∷◌, ◌++◌, length, take, drop, map, reverse, slice_range, Option, Some, None, is_some, refl, sym, ap, ap₂, ◌∙◌, subst, inl, inr, arith, append-nil, append_assoc, codes, bytes_eq}
+use Rattle.std.proofs.Common.{◌≡◌, ◌⊎◌, ℕ, ◌<◌, Bool, true, false, ◌&&◌, ◌||◌, not, eqb-true, List, [], ◌∷◌, ◌++◌, length, drop, reverse, slice_range, Option, Some, None, is_some, refl, sym, ap, ap₂, ◌∙◌, subst, inl, inr, arith, append-nil, append_assoc, codes, bytes_eq}
 use Rattle.std.specs.Prelude.{IsTrue, if◌then◌else◌, nat_le, nat_lt, ◌==◌}
 use Rattle.std.proofs.lemmas.Bool.{false≢true, cond-true}
 use Rattle.std.proofs.lemmas.List.{drop_at, drop-append-le}
 use Rattle.std.proofs.lemmas.Grind.{reverse_onto}
 use Rattle.h1_model.specs.HeadPiece.{IsHeadPiece, HasNoHeadPiece}
 use Rattle.h1_model.specs.Handed.{Item}
-use Rattle.h1_model.specs.Request.{BodyKind, no_body, fixed_body, chunked_body, raw_body, has_body, too_large}
+use Rattle.h1_model.specs.Request.{BodyKind, no_body, fixed_body, chunked_body, raw_body, has_body}
 use Rattle.h1_model.specs.Setting.{Setting}
 use Rattle.h1_model.proofs.HeadPieceLemmas.{head_piece_unique, head_piece_append, slice_range-append}
 use Rattle.h1_machine.specs.Change.{IsComing}
-use Rattle.h1_machine.specs.Kept.{Rest, whole_rest, rest_in}
+use Rattle.h1_machine.specs.Kept.{Rest, whole_rest}
 use Rattle.h1_client_model.specs.AnswerTable.{has_no_content, answer_body, is_answer_refused, body_to}
-use Rattle.h1_client_model.specs.AnswerReading.{Answer, AnswerReading, answer_is, refused, IsAnswerReadingWithin}
+use Rattle.h1_client_model.specs.AnswerReading.{AnswerReading, answer_is, IsAnswerReadingWithin}
 use Rattle.h1_client_model.specs.AnswerParse.{is_interim, IsAnswerAt}
 use Rattle.h1_client_model.proofs.AnswerGrowth.{received}
 use Rattle.h1_client_model.proofs.AnswerLemmas.{answer_within_unique}
 use Rattle.h1_client_machine.specs.ClientEvent as on
 use Rattle.h1_client_machine.specs.ClientEvent.{ClientEnd, ClientOutcome, large_answer}
-use Rattle.h1_client_machine.specs.ClientKept.{Waiting, ReadingBody, ClientKept, is_free_of, is_free, client_closing, allowed_running, allowed_closing, is_moment, client_allows}
-use Rattle.h1_client_machine.specs.ClientStep.{ClientChange, new_body, behind_final, behind_answer, behind_head, without_head, IsUpcoming, IsNext, KnowsComing}
+use Rattle.h1_client_machine.specs.ClientKept.{Waiting, ClientKept, is_free_of, is_free, client_closing, allowed_running, allowed_closing, is_moment, client_allows}
+use Rattle.h1_client_machine.specs.ClientStep.{ClientChange, new_body, behind_final, behind_answer, behind_head, IsUpcoming, IsNext, KnowsComing}
 use Rattle.h1_client_machine.proofs.Answered.{told_without}
 use Rattle.h1_agreement.specs.SentAnswer.{SentAnswer, IsSent, AreSent, AreHeld, IsBodySent, sent_text, AreTo}
 use Rattle.h1_agreement.proofs.HeadFronts.{head_late}
 use Rattle.h1_agreement.proofs.SentAnswers.{message, answer_at, no_head}
-use Rattle.h1_two_ends.specs.ReadOut.{ReadAnswer, ReadOut, reading_out, IsReadOut}
+use Rattle.h1_two_ends.specs.ReadOut.{ReadAnswer, ReadOut, reading_out}
 use Rattle.h1_two_ends.proofs.Rests.{RestSays, nil_both, body_says, rest_stays}
-use Rattle.h1_two_ends.proofs.Holds.{faulty_some, methods_of, AreSo, IsGiving, IsFree, IsBusyWith, IsBusy, IsIn, Holds, like_holds}
+use Rattle.h1_two_ends.proofs.Holds.{faulty_some, methods_of, AreSo, IsFree, IsBusy, Holds, like_holds}
 use Rattle.h1_two_ends.proofs.Pulls.{HoldsFor}
 
 -- ---- why it doesn't close

@@ -1,6 +1,5 @@
 -- What a pull hands out of an answer's body is what was sent of it.
-use Rattle.std.proofs.Common.{◌≡◌, ◌⊎◌, ℕ, ◌<◌, Bool, true, false, List, [], ◌∷◌, ◌++◌, length, map, reverse, Option, Some, None, is_some, refl, sym, ap, ap₂, ◌∙◌, subst, inl, inr, append-nil, append_assoc}
-use Rattle.std.specs.Prelude.{flat_map}
+use Rattle.std.proofs.Common.{◌≡◌, ℕ, ◌<◌, Bool, false, List, [], ◌∷◌, ◌++◌, length, map, Option, Some, None, is_some, refl, sym, ap, ap₂, ◌∙◌, subst, inl, inr, append-nil, append_assoc}
 use Rattle.std.specs.List.{AllByRecursion}
 use Rattle.std.specs.Option.{option_or}
 use Rattle.std.proofs.lemmas.Bool.{false≢true}
@@ -14,10 +13,9 @@ use Rattle.h1_client_machine.specs.ClientEvent.{ClientEnd, broken_answer}
 use Rattle.h1_client_machine.specs.ClientKept.{Waiting, ReadingBody, ClientKept, is_free_of}
 use Rattle.h1_client_machine.specs.ClientStep.{outcome_of, end_of, pulled_from}
 use Rattle.h1_agreement.specs.SentAnswer.{SentAnswer, sent_text}
-use Rattle.h1_two_ends.specs.HandedBody.{IsHandedBody}
-use Rattle.h1_two_ends.specs.ReadOut.{ReadAnswer, ReadOut, with_item, reading_out, IsReadOut}
+use Rattle.h1_two_ends.specs.ReadOut.{ReadAnswer, ReadOut, reading_out}
 use Rattle.h1_two_ends.proofs.Rests.{RestSays, Gives, some_bytes, nothing_yet, its_end, cut_off, pull_gives}
-use Rattle.h1_two_ends.proofs.Holds.{faulty_some, IsGiving, IsFree, IsBusyWith, IsBusy, Holds}
+use Rattle.h1_two_ends.proofs.Holds.{faulty_some, IsGiving, IsBusyWith, IsBusy, Holds}
 
 -- one more piece
 pub joined_more : (pieces : List (List ℕ)) (given : List ℕ) → joined (pieces ++ given ∷ []) ≡ joined pieces ++ given

@@ -1,22 +1,19 @@
 -- Over all that happened to a client, what it handed out is what was sent.
-use Rattle.std.proofs.Common.{◌≡◌, ◌⊎◌, ℕ, ◌+◌, ◌-◌, ◌<◌, min, Bool, true, false, ◌&&◌, not, List, [], ◌∷◌, ◌++◌, length, take, drop, map, reverse, Option, Some, None, is_some, refl, sym, ap, ap₂, ◌∙◌, subst, inl, inr, arith, append-nil, append_assoc}
+use Rattle.std.proofs.Common.{◌≡◌, ◌⊎◌, ℕ, ◌-◌, ◌<◌, min, Bool, true, false, ◌&&◌, not, List, [], ◌∷◌, ◌++◌, length, take, drop, Option, Some, None, is_some, refl, sym, ap, ◌∙◌, subst, inl, inr, append-nil, append_assoc}
 use Rattle.std.specs.Prelude.{IsTrue, if◌then◌else◌, nat_lt}
 use Rattle.std.specs.Option.{option_or}
 use Rattle.std.proofs.lemmas.Bool.{false≢true}
-use Rattle.h1_model.specs.HeadPiece.{HasNoHeadPiece}
 use Rattle.h1_model.specs.Setting.{Setting}
-use Rattle.h1_model.specs.Handed.{Item}
-use Rattle.h1_machine.specs.Change.{IsComing}
 use Rattle.h1_client_model.specs.AnswerParse.{is_interim}
 use Rattle.h1_client_machine.specs.ClientEvent as on
 use Rattle.h1_client_machine.specs.ClientEvent.{ClientEvent, ClientEnd, ClientOutcome, failed_request}
-use Rattle.h1_client_machine.specs.ClientKept.{Waiting, SendingBody, ReadingBody, ClientKept, fresh_client, is_free_of, is_free, is_dropped_of, client_closing, client_allows}
-use Rattle.h1_client_machine.specs.ClientStep.{ClientChange, doing, asking, sending_piece, ending_body, dropping, reading, ending_input, IsPulling, IsNext, IsClientChange, IsClientStep, KnowsComing}
+use Rattle.h1_client_machine.specs.ClientKept.{Waiting, SendingBody, ReadingBody, ClientKept, is_free_of, is_dropped_of, client_closing, client_allows}
+use Rattle.h1_client_machine.specs.ClientStep.{ClientChange, asking, sending_piece, ending_body, dropping, reading, IsPulling, IsClientChange, KnowsComing}
 use Rattle.h1_client_machine.specs.ClientTrace.{Happened, IsClientTrace, asked_by, asked_of}
 use Rattle.h1_agreement.specs.SentAnswer.{SentAnswer, AreSent, AreHeld, sent_text, AreTo}
 use Rattle.h1_agreement.proofs.SentAnswers.{no_head}
-use Rattle.h1_two_ends.specs.ReadOut.{taken_by, bytes_taken, ReadAnswer, ReadOut, nothing_read, reading_out, read_out, AreReadOut}
-use Rattle.h1_two_ends.proofs.Holds.{methods_of, AreSo, IsIn, Holds, IsLike, like_holds, more_holds, passing_holds, end_holds, drop_holds}
+use Rattle.h1_two_ends.specs.ReadOut.{taken_by, bytes_taken, ReadOut, nothing_read, reading_out, read_out}
+use Rattle.h1_two_ends.proofs.Holds.{methods_of, IsLike, like_holds, more_holds, passing_holds, end_holds, drop_holds}
 use Rattle.h1_two_ends.proofs.Pulls.{HoldsFor, pull_holds}
 use Rattle.h1_two_ends.proofs.NextAnswers.{failed_closes, allowed_then, allowed_while, next_holds}
 

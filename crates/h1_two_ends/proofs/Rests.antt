@@ -1,13 +1,13 @@
 -- What is left of an answer's body that was sent, and how pulling and passing it go on.
-use Rattle.std.proofs.Common.{◌≡◌, ◌⊎◌, ℕ, zero, suc, ◌+◌, ◌-◌, ◌<◌, ◌≤◌, Bool, true, false, cond, eqb, List, [], ◌∷◌, ◌++◌, length, take, drop, refl, sym, ap, ap₂, ◌∙◌, subst, subst₂, inl, inr, arith, append-nil, append_assoc, length-append, length-drop, length-take, length-take-le, take_all, drop_of_length-le, take-append-drop, le-leb, ne_eqb, eqb-true, codes, lit≤}
-use Rattle.std.specs.Prelude.{nat_le, flat_map, if◌then◌else◌}
+use Rattle.std.proofs.Common.{◌≡◌, ℕ, zero, suc, ◌-◌, ◌<◌, ◌≤◌, Bool, true, false, eqb, List, [], ◌∷◌, ◌++◌, length, take, drop, refl, sym, ap, ap₂, ◌∙◌, subst, subst₂, inl, inr, arith, append-nil, append_assoc, length-append, length-drop, length-take-le, take_all, drop_of_length-le, take-append-drop, le-leb, ne_eqb, eqb-true, codes, lit≤}
+use Rattle.std.specs.Prelude.{flat_map}
 use Rattle.std.specs.List.{AllByRecursion}
 use Rattle.std.proofs.lemmas.Bool.{false≢true, cases_lt, lt-leb, cond-true, cond-false, cond_both}
 use Rattle.h1_chunks.specs.ChunkedText.{Segment, IsSegment, segment_text, section_text, ChunkedText, IsChunkedText}
 use Rattle.h1_chunks.specs.Chunked.{unfinished, IsChunked, Spells}
 use Rattle.h1_chunks.specs.Runs.{segment_runs, cut_runs, run_bytes}
 use Rattle.h1_chunks.specs.Place.{Place, start, done, broken, step, after}
-use Rattle.h1_chunks.specs.Reading.{Reading, Ending, goes_on, is_broken, ends_before, only, with_bytes, with_trailers, at_end, noted, read}
+use Rattle.h1_chunks.specs.Reading.{Reading, Ending, goes_on, is_broken, ends_before, with_trailers, at_end, noted, read}
 use Rattle.h1_chunks.specs.TakeNext.{Next, chunk, waits, ended, breaks, take_next, says}
 use Rattle.h1_chunks.proofs.Agreement.{runs_read, runs_hold, unfinished_read}
 use Rattle.h1_chunks.proofs.Beginnings.{body_read}
@@ -25,7 +25,7 @@ use Rattle.h1_model.specs.Event as server
 use Rattle.h1_model.proofs.RunLemmas.{runs_more, chunked_ordered}
 use Rattle.h1_machine.specs.Kept.{Rest, no_rest, raw_rest, fixed_rest, chunks_rest, frames_rest, is_nothing, whole_rest, rest_in}
 use Rattle.h1_machine.specs.Body.{Passed, pass_chunks, pass_rest}
-use Rattle.h1_machine.specs.Pull.{Pulled, gives, finishes, pull_fixed, EndsWith, IsPullOfChunks, IsPull}
+use Rattle.h1_machine.specs.Pull.{Pulled, finishes, pull_fixed, EndsWith, IsPullOfChunks, IsPull}
 use Rattle.h1_client_machine.specs.ClientStep.{is_broken as is_broken_rest}
 use Rattle.h1_agreement.specs.SentAnswer.{IsBodySent}
 use Rattle.h1_agreement.proofs.WrittenPieces.{says_none}

@@ -1,14 +1,14 @@
 -- What a server hands out of requests that were sent, of which the first bytes came, is what was sent.
-use Rattle.std.proofs.Common.{◌≡◌, ℕ, ◌+◌, ◌-◌, ◌<◌, ◌≤◌, Bool, true, false, List, [], ◌∷◌, ◌++◌, length, take, drop, map, Option, Some, None, IsSome, IsTrue, unwrap_or, refl, sym, ap, ap₂, ◌∙◌, subst, arith, append-nil, append_assoc, length-append, length-drop, inl, inr}
+use Rattle.std.proofs.Common.{◌≡◌, ℕ, ◌+◌, ◌<◌, ◌≤◌, Bool, true, false, List, [], ◌∷◌, ◌++◌, length, drop, IsSome, unwrap_or, refl, sym, ap, ap₂, ◌∙◌, subst, arith, append_assoc, length-append, length-drop, inl, inr}
 use Rattle.std.specs.Prelude.{⊤, nat_le}
 use Rattle.std.specs.List.{AllByRecursion}
 use Rattle.std.proofs.lemmas.Bool.{false≢true, cases_lt, lt-leb}
 use Rattle.std.proofs.lemmas.List.{drop_at, drop-append-le, drop-drop}
 use Rattle.h1_chunks.specs.Runs.{run_bytes}
 use Rattle.h1_model.specs.Request.{head_is}
-use Rattle.h1_model.specs.Parse.{Input, Message, Body, content, Stop, ended_at, next_start}
+use Rattle.h1_model.specs.Parse.{Input, Message, Body, content, next_start}
 use Rattle.h1_model.specs.Event.{incomplete}
-use Rattle.h1_model.specs.Handed.{Item, item_bytes, item_end, item_fault, Handed, Begins, body_bytes, stop_items, last_items, AreItemsOf, Agrees, IsLastOrEnded, IsOversized, IsPrefixFrom}
+use Rattle.h1_model.specs.Handed.{Item, item_end, item_fault, Handed, Begins, body_bytes, stop_items, last_items, Agrees, IsPrefixFrom}
 use Rattle.h1_client_model.specs.RequestText.{joined}
 use Rattle.h1_agreement.specs.SentAnswer.{stop_of}
 use Rattle.h1_agreement.specs.SentRequest.{SentRequest, asked_text, has_come, IsBegunServed, AreBegunServed}

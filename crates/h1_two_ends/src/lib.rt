@@ -23,6 +23,13 @@
 //! The newest request and the newest answer may be under way: then what there is of them so far is a beginning, and no end
 //! is handed out.
 //!
+//! Nothing is left either ([`laws::nothing_is_left`]): where one end has taken all that the other has to say, and is told that
+//! nothing has come yet, it has handed out every request, or every answer.
+//!
+//! A client closes since a side asked for it, since its own request failed, or since its input has ended
+//! ([`laws::a_client_finds_nothing_wrong`]). Where a side asked for it, both ends close after the same answer
+//! ([`laws::both_close_alike`]).
+//!
 //! # What is asked of both
 //!
 //! `ArePlain`, in `specs/Connected.antt`: each side may hold some bytes, and no head is longer than its reader may hold. The
@@ -38,6 +45,8 @@
 //! - Of interim answers a server sends a 100 alone, and that is promised; a 103 or another one isn't sent by it.
 //! - A refusal (400, 408, 431) isn't plain. It is no answer to a request; no plain request gets one, unless it comes too late.
 //! - An answer to HEAD is plain, whatever length it states.
+//! - A server may close for reasons of its own, which its client sees as the end of its input: it drains, a time ran out, or
+//!   the body of its answer failed.
 //! - Nothing is said of time, and not that bytes which were written ever come.
 #![tactic(auto)]
 
