@@ -52,27 +52,54 @@ fn writes_through_to_the_first_value(rt: HostRuntime) -> Result<(), Fail> {
     Ok(())
 }
 
-// Whether an iterator gives so many, and then none for good.
-fn ends_for_good<I: Iterator + Drop>(mut values: I, count: usize) -> bool
-where
-    I::Item: Drop,
-{
-    let mut given = true;
-    for _ in 0..count {
-        given &= values.next().is_some();
-    }
-    given && values.next().is_none() && values.next().is_none()
+// The pairs of the map are three, and then none for good.
+fn pairs_end(map: &HeaderMap) -> bool {
+    let mut pairs = map.iter();
+    let given = pairs.next().is_some() & pairs.next().is_some() & pairs.next().is_some();
+    given & pairs.next().is_none() & pairs.next().is_none()
+}
+
+// The same of the one value of a name.
+fn values_end(map: &HeaderMap) -> bool {
+    let mut values = map.get_all("accept");
+    values.next().is_some() & values.next().is_none() & values.next().is_none()
+}
+
+// The same of the two values of a name that is removed.
+fn removed_end(map: &mut HeaderMap) -> bool {
+    let mut values = map.remove("set-cookie");
+    let given = values.next().is_some() & values.next().is_some();
+    given & values.next().is_none() & values.next().is_none()
+}
+
+// The same of the one pair that is left.
+fn drained_end(map: &mut HeaderMap) -> bool {
+    let mut pairs = map.drain();
+    pairs.next().is_some() & pairs.next().is_none() & pairs.next().is_none()
+}
+
+// The same of the three pairs of a map that is given away.
+fn owned_end(map: HeaderMap) -> bool {
+    let mut pairs = map.into_iter();
+    let counted = pairs.len() == 3;
+    let given = pairs.next().is_some() & pairs.next().is_some() & pairs.next().is_some();
+    counted & given & pairs.next().is_none() & pairs.next().is_none()
 }
 
 #[test]
 fn none_comes_after_the_end(rt: HostRuntime) -> Result<(), Fail> {
     let mut map = cookies(rt.alloc())?;
     assert!(rt; map.iter().len() == 3 && !map.is_empty());
-    assert!(rt; ends_for_good(map.iter(), 3) && ends_for_good(map.get_all("accept"), 1));
-    assert!(rt; ends_for_good(map.remove("set-cookie"), 2) && map.remove("host").is_empty());
-    assert!(rt; ends_for_good(map.drain(), 1) && map.is_empty());
-    let owned = cookies(rt.alloc())?.into_iter();
-    assert!(rt; owned.len() == 3 && ends_for_good(owned, 3));
+    assert!(rt; pairs_end(&map) && values_end(&map) && removed_end(&mut map));
+    assert!(rt; map.remove("host").is_empty());
+    assert!(rt; drained_end(&mut map) && map.is_empty());
+    Ok(())
+}
+
+#[test]
+fn none_comes_after_the_end_of_a_map_given_away(rt: HostRuntime) -> Result<(), Fail> {
+    let map = cookies(rt.alloc())?;
+    assert!(rt; map.len() == 3 && owned_end(map));
     Ok(())
 }
 
