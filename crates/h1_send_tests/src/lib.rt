@@ -1,5 +1,0 @@
-//! Tests of messages that are sent over a wire in memory.
-#![tactic(auto)]
-
-#[cfg(test)]
-mod answer;
