@@ -1,0 +1,68 @@
+//! What is written to the output.
+use crate::error::GetError;
+use bytes::BytesMut;
+use h1_client::ResponseItem;
+use http_types::{NoMemory, Sink, Version};
+use itoa::Buffer;
+use std::alloc::Global;
+
+/// Writes all bytes.
+pub fn write_all<O: Sink>(out: &mut O, bytes: &[u8]) -> Result<(), GetError> {
+    let mut rest = bytes;
+    // Each turn writes one byte at least.
+    for _ in 0..bytes.len() {
+        if rest.is_empty() {
+            break;
+        }
+        match out.write(rest) {
+            Ok(count) => rest = &rest[count..],
+            Err(_) => return Err(GetError::Output),
+        }
+    }
+    if rest.is_empty() {
+        Ok(())
+    } else {
+        Err(GetError::Output)
+    }
+}
+
+/// Writes the head of an answer, a line each, and an empty one.
+pub fn write_head<O: Sink>(
+    alloc: Global,
+    item: &ResponseItem,
+    out: &mut O,
+) -> Result<(), GetError> {
+    let text = head_text(alloc, item)?;
+    write_all(out, text.as_slice())
+}
+
+fn head_text(alloc: Global, item: &ResponseItem) -> Result<BytesMut, NoMemory> {
+    let mut text = BytesMut::new(alloc);
+    put_status(&mut text, item)?;
+    for (name, value) in item.head.headers.iter() {
+        put_line(&mut text, name.as_bytes(), value.as_bytes())?;
+    }
+    text.extend_from_slice(b"\n")?;
+    Ok(text)
+}
+
+fn put_status(text: &mut BytesMut, item: &ResponseItem) -> Result<(), NoMemory> {
+    let version: &[u8] = if item.head.version == Version::HTTP_10 {
+        b"HTTP/1.0 "
+    } else {
+        b"HTTP/1.1 "
+    };
+    text.extend_from_slice(version)?;
+    let mut digits = Buffer::new();
+    text.extend_from_slice(digits.format(item.head.status.as_u16()).as_bytes())?;
+    text.extend_from_slice(b" ")?;
+    text.extend_from_slice(item.reason.as_slice())?;
+    text.extend_from_slice(b"\n")
+}
+
+fn put_line(text: &mut BytesMut, name: &[u8], value: &[u8]) -> Result<(), NoMemory> {
+    text.extend_from_slice(name)?;
+    text.extend_from_slice(b": ")?;
+    text.extend_from_slice(value)?;
+    text.extend_from_slice(b"\n")
+}

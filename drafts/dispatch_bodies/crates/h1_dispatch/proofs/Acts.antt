@@ -1,0 +1,189 @@
+-- Polls, and what is asked between them, are one run of steps.
+use Rattle.std.proofs.Common.{◌≡◌, ◌⊎◌, ℕ, Bool, true, false, List, [], ◌∷◌, ◌++◌, Result, Ok, Err, inl, inr, refl, ap, sym, subst}
+use Rattle.futures.specs.declared.task.Poll.{Poll}
+use Rattle.futures.specs.declared.task.Poll.TheVariants.{Ready, Pending}
+use Rattle.futures.specs.declared.task.context.Context.{Context}
+use Rattle.http_types.specs.declared.error.DispatchError.{DispatchError}
+use Rattle.http_types.specs.declared.error.DispatchError.TheVariants as error
+use Rattle.h1_model.specs.Event as on
+use Rattle.h1_dispatch.specs.View.{View, Stage, free, waiting, calling, replying, sending, is_sending, closes, allows_next, allows_answer, allows_chunk}
+use Rattle.h1_dispatch.specs.Steps.{Step, IsStep, IsRun, ticked, drained, written, read, shut, next, closed, ready, called, answered, dropped, replied, sent, failed, failed_write, failed_read, failed_sent, asked_to_drain}
+use Rattle.h1_dispatch.specs.Traces.{IsNoted, AllNoted}
+use Rattle.h1_dispatch.specs.Polls.{Continues, AllContinue, EndsWith, IsShut, IsIo, IsStuck, IsHeld, IsIdle, Reads, Writes, Serves, Sends, Awaits, Looks, Ended, Ends, GoesOn, Ticks, Drains, IsBegun, BeginFails, TurnsSay, PollRuns, PollSays}
+use Rattle.h1_dispatch.specs.Acts.{Act, polled, asked, ActSays, ActsSay, HasMemory, AllHaveMemory, AreOneRun}
+use Rattle.h1_dispatch.proofs.Runs.{one, run_on}
+
+-- ---- steps that were noted
+
+goes_noted : (d : Step) → Continues d → IsNoted d
+goes_noted (ticked moment expiry) goes = tt
+goes_noted drained goes = tt
+goes_noted (written answer) goes = tt
+goes_noted (read came answer) goes = tt
+goes_noted (shut answer) goes = tt
+goes_noted (next head) goes = tt
+goes_noted (closed end) goes = tt
+goes_noted (ready request answer) goes = tt
+goes_noted (called request) goes = tt
+goes_noted (answered answer) goes = tt
+goes_noted dropped goes = tt
+goes_noted (replied answer) goes = tt
+goes_noted (sent piece) goes = tt
+goes_noted (failed event) goes = absurd goes
+goes_noted (failed_write count) goes = absurd goes
+goes_noted (failed_read came event) goes = absurd goes
+goes_noted (failed_sent piece) goes = absurd goes
+goes_noted asked_to_drain goes = tt
+
+all_noted : (steps : List Step) → AllContinue steps → AllNoted steps
+all_noted [] all = tt
+all_noted (d ∷ steps) all = (goes_noted d all.0, all_noted steps all.1)
+
+noted_on : (s t : List Step) → AllNoted s → AllNoted t → AllNoted (s ++ t)
+noted_on [] t first then = then
+noted_on (d ∷ s) t first then = (first.0, noted_on s t first.1 then)
+
+last_noted : (steps : List Step) (last : Step) → EndsWith steps last → IsNoted last → AllNoted steps
+last_noted steps last is noted = subst (λ l. AllNoted l) (sym is.1) (noted_on is.0 (last ∷ []) (all_noted is.0 is.2) (noted, tt))
+
+shut_noted : (w : View) (steps : List Step) (result : Result Unit DispatchError) → IsShut w steps result → AllNoted steps
+shut_noted w steps result is = last_noted steps _ is.0 tt
+
+io_noted : (steps : List Step) → IsIo steps → AllNoted steps
+io_noted steps (failure, inl wrote) = last_noted steps _ wrote tt
+io_noted steps (failure, inr (inl reads)) = last_noted steps _ reads.1 tt
+io_noted steps (failure, inr (inr shuts)) = last_noted steps _ shuts tt
+
+ended_noted : (w : View) (steps : List Step) (result : Result Unit DispatchError) → ¬ (result ≡ Err error.NoMemory) → Ended w steps result → AllNoted steps
+ended_noted w steps (Ok x) enough is = shut_noted w steps (Ok tt) is
+ended_noted w steps (Err error.Io) enough is = io_noted steps is
+ended_noted w steps (Err error.NoMemory) enough is = absurd (enough refl)
+ended_noted w steps (Err error.DisconnectTimeout) enough is = all_noted steps is.0
+ended_noted w steps (Err error.Body) enough is = shut_noted w steps (Err error.Body) is
+ended_noted w steps (Err error.SlowRequestTimeout) enough is = shut_noted w steps (Err error.SlowRequestTimeout) is
+ended_noted w steps (Err (error.Parse e)) enough is = shut_noted w steps (Err (error.Parse e)) is
+ended_noted w steps (Err error.Service) enough is = absurd is
+ended_noted w steps (Err error.Upgrade) enough is = absurd is
+ended_noted w steps (Err error.H2) enough is = absurd is
+ended_noted w steps (Err error.HandlerDroppedPayload) enough is = absurd is
+ended_noted w steps (Err error.InternalError) enough is = absurd is
+
+awaits_noted : (v : View) (sends allows : Bool) (served : List Step) → Serves v sends allows served → AllNoted served
+awaits_noted v true allows served body = by_room (allows_chunk v) body
+  where
+    by_room : (may : Bool) → Sends may served → AllNoted served
+    by_room true is = subst (λ l. AllNoted l) (sym is) (tt, tt)
+    by_room false is = subst (λ l. AllNoted l) (sym is) tt
+awaits_noted v false true served waits = by_stage v.stage waits
+  where
+    by_stage : (s : Stage) → Awaits s served → AllNoted served
+    by_stage free is = subst (λ l. AllNoted l) (sym is) tt
+    by_stage (waiting request) (inl is) = subst (λ l. AllNoted l) (sym is) (tt, tt)
+    by_stage (waiting request) (inr is) = subst (λ l. AllNoted l) (sym is) (tt, (tt, tt))
+    by_stage calling is = subst (λ l. AllNoted l) (sym is) (tt, tt)
+    by_stage (replying answer) is = absurd is
+    by_stage (sending body) is = absurd is
+awaits_noted v false false served looks = by_looks (allows_next v) v.stage looks
+  where
+    by_looks : (may : Bool) (s : Stage) → Looks may s served → AllNoted served
+    by_looks true free is = subst (λ l. AllNoted l) (sym is) (tt, tt)
+    by_looks true (waiting request) is = subst (λ l. AllNoted l) (sym is) tt
+    by_looks true calling is = subst (λ l. AllNoted l) (sym is) tt
+    by_looks true (replying answer) is = subst (λ l. AllNoted l) (sym is) tt
+    by_looks true (sending body) is = subst (λ l. AllNoted l) (sym is) tt
+    by_looks false s is = subst (λ l. AllNoted l) (sym is) tt
+
+reads_noted : (x : View) (reading : List Step) → Reads x reading → AllNoted reading
+reads_noted x reading (inl is) = subst (λ l. AllNoted l) (sym is) (tt, tt)
+reads_noted x reading (inr is) = subst (λ l. AllNoted l) (sym is.0) tt
+
+writes_noted : (v : View) (writing : List Step) → Writes v writing → AllNoted writing
+writes_noted v writing (inl is) = subst (λ l. AllNoted l) (sym is) (tt, tt)
+writes_noted v writing (inr is) = subst (λ l. AllNoted l) (sym is.0) tt
+
+-- ---- runs, all of whose steps were noted where P holds
+
+record Runs (P : Type 0) (v w : View) : Type 0 where
+  steps : List Step
+  run : IsRun v steps w
+  noted : P → AllNoted steps
+
+stays : {P : Type 0} (v w : View) → w ≡ v → Runs P v w
+stays v w is = record { steps = []; run = is; noted = λ p. tt }
+
+by_one : {P : Type 0} (v w : View) (d : Step) → IsStep v d w → (P → IsNoted d) → Runs P v w
+by_one v w d is noted = record { steps = d ∷ []; run = one v w d is; noted = λ p. (noted p, tt) }
+
+then_on : {P : Type 0} (v u w : View) → Runs P v u → Runs P u w → Runs P v w
+then_on v u w a b = record {
+  steps = a.steps ++ b.steps;
+  run = run_on v u w a.steps b.steps a.run b.run;
+  noted = λ p. noted_on a.steps b.steps (a.noted p) (b.noted p);
+}
+
+goes_run : {P : Type 0} (v w : View) (n : ℕ) → GoesOn v w n → Runs P v w
+goes_run v w n goes = record { steps = goes.steps; run = goes.run; noted = λ p. all_noted goes.steps goes.go_on }
+
+idle_run : {P : Type 0} (v w : View) → IsIdle v w → Runs P v w
+idle_run v w idle = record {
+  steps = idle.served ++ idle.reading;
+  run = run_on v idle.between w idle.served idle.reading idle.serves idle.reads;
+  noted = λ p. noted_on idle.served idle.reading (awaits_noted v (is_sending v.stage) (allows_answer v) idle.served idle.waits) (reads_noted idle.between idle.reading idle.no_input);
+}
+
+waits_run : {P : Type 0} (v w : View) → IsHeld v w ⊎ ((closes v ≡ false) × IsIdle v w) → Runs P v w
+waits_run v w (inl held) = stays v w held.stays
+waits_run v w (inr idle) = idle_run v w idle.1
+
+stuck_run : {P : Type 0} (v w : View) → IsStuck v w → Runs P v w
+stuck_run v w (inl stuck) =
+    then_on v stuck.after w (record { steps = stuck.writing; run = stuck.writes; noted = λ p. writes_noted v stuck.writing stuck.no_output })
+    (waits_run stuck.after w stuck.waits)
+stuck_run v w (inr shutting) = record { steps = shut Pending ∷ []; run = shutting.shuts; noted = λ p. (tt, tt) }
+
+ticks_run : {P : Type 0} (v w : View) (moment : ℕ) → Ticks v moment w → Runs P v w
+ticks_run v w moment (inl is) = stays v w is.1
+ticks_run v w moment (inr is) = by_one v w (ticked moment is.1.0) is.1.1 (λ p. tt)
+
+drains_run : {P : Type 0} (v w : View) → Drains v w → Runs P v w
+drains_run v w (inl is) = stays v w is.1
+drains_run v w (inr is) = by_one v w drained is.2 (λ p. tt)
+
+fails_run : {P : Type 0} (v w : View) (moment : ℕ) → (P → ⊥) → BeginFails v moment w → Runs P v w
+fails_run v w moment never (inl is) = by_one v w (failed (on.tick moment)) is (λ p. absurd (never p))
+fails_run v w moment never (inr is) = then_on v is.0 w (ticks_run v is.0 moment is.1) (by_one is.0 w (failed on.drain) is.2 (λ p. absurd (never p)))
+
+begun_run : {P : Type 0} (v w : View) (moment : ℕ) → IsBegun v moment w → Runs P v w
+begun_run v w moment begun = then_on v begun.between w (ticks_run v begun.between moment begun.ticks) (drains_run begun.between w begun.drains)
+
+abbrev Enough : Poll (Result Unit DispatchError) → Type 0
+Enough result = ¬ (result ≡ Ready (Err error.NoMemory))
+
+turns_run : (v w : View) (cx : Context) (result : Poll (Result Unit DispatchError)) → TurnsSay v w cx result → Runs (Enough result) v w
+turns_run v w cx (Ready result) ends =
+    record { steps = ends.steps; run = ends.run; noted = λ enough. ended_noted w ends.steps result (λ is. enough (ap Ready is)) ends.ended }
+turns_run v w cx Pending (inl waits) = then_on v waits.last w (goes_run v waits.last 0 waits.goes) (stuck_run waits.last w waits.stuck)
+turns_run v w cx Pending (inr spent) = goes_run v w 64 spent.goes
+
+begins_run : (v w : View) (cx : Context) (moment : ℕ) (result : Poll (Result Unit DispatchError)) → PollRuns v w cx moment result → Runs (Enough result) v w
+begins_run v w cx moment result (inl fails) = fails_run v w moment (λ enough. enough fails.0) fails.1
+begins_run v w cx moment result (inr turns) = then_on v turns.0 w (begun_run v turns.0 moment turns.1) (turns_run turns.0 w cx result turns.2)
+
+poll_run : (v w : View) (cx : Context) (moment : ℕ) (result : Poll (Result Unit DispatchError)) → PollSays v w cx moment result → Runs (Enough result) v w
+poll_run v w cx moment result (inl broken) = stays v w broken.1
+poll_run v w cx moment result (inr runs) = begins_run v w cx moment result runs.1
+
+act_run : (v w : View) (act : Act) → ActSays v act w → Runs (HasMemory act) v w
+act_run v w (polled moment cx result) says = poll_run v w cx moment result says
+act_run v w asked says = by_one v w asked_to_drain says (λ p. tt)
+
+pub acts_run : (v w : View) (acts : List Act) → ActsSay v acts w → AreOneRun v acts w
+acts_run v w [] is = record { steps = []; run = is; noted = λ p. tt }
+acts_run v w (act ∷ acts) is =
+    let a = act_run v is.0 act is.1 in
+    let b = acts_run is.0 w acts is.2 in
+    record {
+      steps = a.steps ++ b.steps;
+      run = run_on v is.0 w a.steps b.steps a.run b.run;
+      noted = λ all. noted_on a.steps b.steps (a.noted all.0) (b.noted all.1);
+    }

@@ -1,0 +1,234 @@
+-- The steps of a dispatcher.
+use Rattle.std.specs.Prelude.{◌≡◌, ◌≤◌, ◌<◌, ◌⊎◌, ℕ, zero, suc, Bool, true, false, Option, Some, None, List, [], ◌∷◌, length, take, ⊤, Result, Ok, Err}
+use Rattle.futures.specs.declared.task.Poll.{Poll}
+use Rattle.futures.specs.declared.task.Poll.TheVariants.{Ready, Pending}
+use Rattle.http_config.specs.declared.Failed.{Failed}
+use Rattle.http_framing.specs.declared.body.size.BodySize.{BodySize}
+use Rattle.http_framing.specs.declared.body.size.BodySize.TheVariants.{None as NoBody, Sized, Stream}
+use Rattle.http_bodies.specs.Giving.{Giving, Piece, PieceSays}
+use Rattle.http_bodies.specs.declared.body.fault.BodyFault.{BodyFault}
+use Rattle.http_bodies.specs.declared.body.fault.BodyFault.TheVariants.{Body, NoMemory}
+use Rattle.http_services.specs.Serving.{Serving, ReadySays, CallSays, AnswerSays}
+use Rattle.http_wires.specs.Wiring.{ReadSays, WriteSays, ShutSays, moved}
+use Rattle.h1_codec.specs.Meaning.{answer_of, size_of}
+use Rattle.h1_model.specs.Event as on
+use Rattle.h1_machine.specs.Local.{closing_by}
+use Rattle.h1_connection.specs.Heads.{SaysNext}
+use Rattle.h1_connection.specs.Meaning.{setting_of, end_of}
+use Rattle.h1_connection.specs.State.{Is}
+use Rattle.h1_connection.specs.Ticks.{expiry_of}
+use Rattle.h1_connection.specs.declared.connection.heads.NextHead.{NextHead}
+use Rattle.h1_connection.specs.declared.connection.heads.NextHead.TheVariants as next_head
+use Rattle.h1_connection.specs.declared.connection.ticks.Expiry.{Expiry}
+use Rattle.h1_connection.specs.declared.connection.ticks.Expiry.TheVariants as expiries
+use Rattle.h1_connection.specs.declared.event.End.{End}
+use Rattle.h1_line.specs.Line.{LineView, LineSteps, LineFails}
+use Rattle.h1_dispatch.specs.declared.dispatcher.Ending.{Ending}
+use Rattle.h1_dispatch.specs.declared.dispatcher.Ending.TheVariants.{Closed, Abandoned, Broken}
+use Rattle.h1_dispatch.specs.View.{View, Asking, Answer, Stage, free, waiting, calling, replying, sending, is_replying, with_drain, allows, allows_next, allows_answer, allows_chunk, buffered, room}
+
+-- A step. A moment came; the drain came; the wire was given what waits to be written; it was asked for bytes, and these
+-- came; it was shut down; the next head was asked for; the connection closes, and told its end; the service was asked
+-- whether it takes a call with a request, and takes none; it takes one, and the call was begun; a call was polled; the rest
+-- of a body was dropped; the answer was handed on; its body was polled, and what came was handed on. Or memory ran out: for
+-- an event, for that of bytes which the wire had moved, or for what came of a body. Or it was asked to drain, which no poll
+-- does.
+pub data Step : Type 0 where
+  ticked : (moment : ℕ) → (expiry : Expiry) → Step
+  drained : Step
+  written : (answer : Poll (Result ℕ Failed)) → Step
+  read : (came : List ℕ) → (answer : Poll (Result ℕ Failed)) → Step
+  shut : (answer : Poll (Result Unit Failed)) → Step
+  next : (head : NextHead) → Step
+  closed : (end : End) → Step
+  ready : (request : Asking) → (answer : Poll (Result Unit Answer)) → Step
+  called : (request : Asking) → Step
+  answered : (answer : Poll (Result Answer Answer)) → Step
+  dropped : Step
+  replied : (answer : Answer) → Step
+  sent : (piece : Piece) → Step
+  failed : (event : on.Event) → Step
+  failed_write : (count : ℕ) → Step
+  failed_read : (came : List ℕ) → (event : on.Event) → Step
+  failed_sent : (piece : Piece) → Step
+  asked_to_drain : Step
+
+-- the event came to the connection, was noted, and had such an outcome; its settings stay
+pub record Goes (old : LineView) (event : on.Event) (Says : on.Outcome → Type 0) (new : LineView) : Type 0 where
+  pub steps : LineSteps old event Says new
+  pub settings : new.state.settings ≡ old.state.settings
+
+-- how it has ended after a tick
+abbrev pub ending_at : Expiry → Option Ending → Option Ending
+ending_at expiries.None ending = ending
+ending_at (expiries.Expired end) ending = ending
+ending_at expiries.Abandoned ending = Some Abandoned
+
+-- the connection after the wire took bytes: those were written
+abbrev pub Wrote : LineView → LineView → Poll (Result ℕ Failed) → Type 0
+Wrote old new (Ready (Ok n)) =
+    (n ≤ length old.state.kept.buffered) × Goes old (on.write n) (Is (on.gave (take n old.state.kept.buffered))) new
+Wrote old new (Ready (Err e)) = new ≡ old
+Wrote old new Pending = new ≡ old
+
+-- the connection after bytes came: they were read; of none the input's end
+abbrev pub Took : LineView → LineView → List ℕ → Poll (Result ℕ Failed) → Type 0
+Took old new came (Ready (Ok n)) =
+    ((n ≡ 0) × Goes old on.eof (Is on.done) new) ⊎ ((0 < n) × ((count : ℕ) × Goes old (on.read came) (Is (on.took count)) new))
+Took old new came (Ready (Err e)) = new ≡ old
+Took old new came Pending = new ≡ old
+
+-- the request that waits after the next head was asked for
+abbrev pub request_at : NextHead → Option Asking
+request_at (next_head.Head item) = Some (record { head = item.head; payload = None; own = tt })
+request_at (next_head.Fault fault) = None
+request_at next_head.Pending = None
+request_at (next_head.Closed end) = None
+
+abbrev pub stage_at : Option Asking → Stage
+stage_at None = free
+stage_at (Some request) = waiting request
+
+abbrev pub ending_told : NextHead → Option Ending
+ending_told (next_head.Head item) = None
+ending_told (next_head.Fault fault) = None
+ending_told next_head.Pending = None
+ending_told (next_head.Closed end) = Some (Closed end)
+
+-- a service that takes no call with the request: it is asked again, or its error is the answer
+abbrev pub TakesNone : Poll (Result Unit Answer) → Type 0
+TakesNone (Ready (Ok x)) = ⊥
+TakesNone (Ready (Err e)) = ⊤
+TakesNone Pending = ⊤
+
+abbrev pub stage_asked : Asking → Poll (Result Unit Answer) → Stage
+stage_asked request (Ready (Ok x)) = waiting request
+stage_asked request (Ready (Err e)) = replying e
+stage_asked request Pending = waiting request
+
+-- a call that answered isn't in progress any more, and its answer, also where it is an error, is to be handed on
+abbrev pub stage_answered : Poll (Result Answer Answer) → Stage
+stage_answered (Ready (Ok x)) = replying x
+stage_answered (Ready (Err e)) = replying e
+stage_answered Pending = calling
+
+-- after an answer was handed on its body goes out, unless it has none
+abbrev pub stage_replied : Giving → BodySize → Stage
+stage_replied body NoBody = free
+stage_replied body (Sized zero) = free
+stage_replied body (Sized (suc n)) = sending body
+stage_replied body Stream = sending body
+
+-- what came of a body was handed on: a chunk, its end, or that it failed
+abbrev pub Sent : LineView → LineView → Piece → Type 0
+Sent old new (Ready (Some (Ok bytes))) = Goes old (on.chunk bytes) (Is on.done) new
+Sent old new (Ready (Some (Err (Body n)))) = Goes old on.body_error (Is on.done) new
+Sent old new (Ready (Some (Err NoMemory))) = ⊥
+Sent old new (Ready None) = Goes old on.body_end (Is on.done) new
+Sent old new Pending = new ≡ old
+
+-- The body is done with at its end. One that failed stays as it is left, and is polled no more, as the connection closes.
+abbrev pub stage_sent : Giving → Piece → Stage
+stage_sent left (Ready None) = free
+stage_sent left (Ready (Some piece)) = sending left
+stage_sent left Pending = sending left
+
+-- memory ran out for that, or in the body itself
+abbrev pub Lacked : LineView → LineView → Piece → Type 0
+Lacked old new (Ready (Some (Ok bytes))) = LineFails old (on.chunk bytes) new
+Lacked old new (Ready (Some (Err (Body n)))) = LineFails old on.body_error new
+Lacked old new (Ready (Some (Err NoMemory))) = new ≡ old
+Lacked old new (Ready None) = LineFails old on.body_end new
+Lacked old new Pending = ⊥
+
+-- The body that goes out was polled, where a piece of it may be handed in: this came, and that is left of it.
+pub record Polls (v : View) (left : Giving) (piece : Piece) : Type 0 where
+  pub running : v.ending ≡ None
+  pub allowed : allows_chunk v ≡ true
+  pub body : Giving
+  pub goes_out : v.stage ≡ sending body
+  pub says : PieceSays body left piece
+
+-- the service said that it takes a call, and then this one was begun
+pub record Begins (old new : Serving Asking Answer Answer) (request : Asking) : Type 0 where
+  pub between : Serving Asking Answer Answer
+  pub is_ready : ReadySays old between (Ready (Ok tt))
+  pub begun : CallSays between new request
+
+-- the service is asked, with the request that waits, where the open request may be answered, which it may not while the
+-- connection closes
+abbrev pub IsAsked : View → Asking → Type 0
+IsAsked v request = (v.ending ≡ None) × (v.stage ≡ waiting request) × (allows_answer v ≡ true)
+
+-- memory ran out for one of these: the moment, the drain where it was asked for, the next head, the rest of a body where
+-- the answer is there, or this answer
+abbrev pub MayFail : View → on.Event → Type 0
+MayFail v (on.tick moment) = ⊤
+MayFail v on.drain = v.draining ≡ true
+MayFail v on.next = (v.ending ≡ None) × (allows_next v ≡ true)
+MayFail v on.drop_body = (v.ending ≡ None) × (is_replying v.stage ≡ true)
+MayFail v (on.answer head size) =
+    (v.ending ≡ None) × ((answer : Answer) × (v.stage ≡ replying answer) × (head ≡ answer_of answer.head) × (size ≡ size_of answer.body.size))
+MayFail v event = ⊥
+
+-- so many bytes that came are told as bytes; none as the input's end
+abbrev pub IsOfRead : ℕ → List ℕ → on.Event → Type 0
+IsOfRead count came event = ((count ≡ 0) × (event ≡ on.eof)) ⊎ ((0 < count) × (event ≡ on.read came))
+
+-- What a step takes, and what it leaves: all but what is named stays.
+abbrev pub IsStep : View → Step → View → Type 0
+IsStep v (ticked moment expiry) w =
+    Goes v.line (on.tick moment) (Is (expiry_of expiry)) w.line
+    × (w ≡ record v { line = w.line; ending = ending_at expiry v.ending })
+IsStep v drained w = Goes v.line on.drain (Is on.done) w.line × (w ≡ record v { line = w.line })
+IsStep v (written answer) w =
+    (v.ending ≡ None) × (0 < length (buffered v)) × WriteSays v.wire w.wire answer (buffered v) × Wrote v.line w.line answer
+    × (w ≡ record v { line = w.line; wire = w.wire })
+IsStep v (read came answer) w =
+    (v.ending ≡ None) × (allows v on.eof ≡ true)
+    × ((buf : List ℕ) × (0 < length buf) × (length buf ≤ room v) × (came ≡ moved answer buf) × ReadSays v.wire w.wire answer buf)
+    × Took v.line w.line came answer × (w ≡ record v { line = w.line; wire = w.wire })
+IsStep v (shut answer) w =
+    ((end : End) × (v.ending ≡ Some (Closed end))) × ShutSays v.wire w.wire answer × (w ≡ record v { wire = w.wire })
+IsStep v (next head) w =
+    (v.ending ≡ None) × (v.stage ≡ free) × (allows_next v ≡ true) × Goes v.line on.next (SaysNext head) w.line
+    × (w ≡ record v { line = w.line; stage = stage_at (request_at head); ending = ending_told head })
+IsStep v (closed end) w =
+    (v.ending ≡ None) × (closing_by (setting_of v.line.state.settings) v.line.state.kept ≡ Some (end_of end))
+    × (allows_next v ≡ true) × ((head : NextHead) × Goes v.line on.next (SaysNext head) w.line)
+    × (w ≡ record v { line = w.line; ending = Some (Closed end) })
+IsStep v (ready request answer) w =
+    IsAsked v request × TakesNone answer × ReadySays v.service w.service answer
+    × (w ≡ record v { service = w.service; stage = stage_asked request answer })
+IsStep v (called request) w =
+    IsAsked v request × Begins v.service w.service request × (w ≡ record v { service = w.service; stage = calling })
+IsStep v (answered answer) w =
+    (v.ending ≡ None) × (allows_answer v ≡ true) × (v.stage ≡ calling) × AnswerSays v.service w.service answer
+    × (w ≡ record v { service = w.service; stage = stage_answered answer })
+IsStep v dropped w =
+    (v.ending ≡ None) × (is_replying v.stage ≡ true) × Goes v.line on.drop_body (Is on.done) w.line × (w ≡ record v { line = w.line })
+IsStep v (replied answer) w =
+    (v.ending ≡ None) × (v.stage ≡ replying answer) × Goes v.line (on.answer (answer_of answer.head) (size_of answer.body.size)) (Is on.done) w.line
+    × (w ≡ record v { line = w.line; stage = stage_replied answer.body answer.body.size })
+IsStep v (sent piece) w =
+    (left : Giving) × Polls v left piece × Sent v.line w.line piece × (w ≡ record v { line = w.line; stage = stage_sent left piece })
+IsStep v (failed event) w = MayFail v event × LineFails v.line event w.line × (w ≡ record v { line = w.line; ending = Some Broken })
+IsStep v (failed_write count) w =
+    (v.ending ≡ None) × (0 < length (buffered v)) × WriteSays {E = Failed} v.wire w.wire (Ready (Ok count)) (buffered v)
+    × LineFails v.line (on.write count) w.line
+    × (w ≡ record v { line = w.line; wire = w.wire; ending = Some Broken })
+IsStep v (failed_read came event) w =
+    (v.ending ≡ None) × (allows v on.eof ≡ true)
+    × ((buf : List ℕ) × (count : ℕ) × (0 < length buf) × (length buf ≤ room v) × (came ≡ take count buf)
+    × ReadSays {E = Failed} v.wire w.wire (Ready (Ok count)) buf × IsOfRead count came event)
+    × LineFails v.line event w.line
+    × (w ≡ record v { line = w.line; wire = w.wire; ending = Some Broken })
+IsStep v (failed_sent piece) w =
+    (left : Giving) × Polls v left piece × Lacked v.line w.line piece
+    × (w ≡ record v { line = w.line; stage = sending left; ending = Some Broken })
+IsStep v asked_to_drain w = w ≡ with_drain v
+
+-- one step after another
+abbrev pub IsRun : View → List Step → View → Type 0
+IsRun v [] w = w ≡ v
+IsRun v (step ∷ steps) w = (u : View) × IsStep v step u × IsRun u steps w

@@ -1,0 +1,116 @@
+// The call in progress, and its answer.
+ghost use Rattle.std.specs.Prelude.{◌≡◌, None, true};
+ghost use Rattle.futures.specs.Task.{IsArmed, Keeps};
+ghost use Rattle.h1_dispatch.specs.View.{view_of, stage_of, is_calling, is_replying, MayBePolled, allows_answer};
+ghost use Rattle.h1_dispatch.specs.Polls.{OnIdle, ServeSays, EndSays, StepSays};
+
+use crate::dispatcher::{Dispatcher, Ending, Turn, Work};
+use futures::task::{Context, Poll};
+use h1_line::Recorder;
+use http_bodies::MessageBody;
+use http_services::Service;
+use http_types::{DispatchError, Request, Response};
+use http_wires::Wire;
+use std::mem;
+
+impl<T, S, B, L> Dispatcher<T, S, S::Call, B, L>
+where
+    T: Wire,
+    S: Service<Request<(), ()>, Response = Response<B>, Error = Response<B>, Lent = ()>,
+    B: MessageBody,
+    L: Recorder,
+{
+    /// Polls the call in progress, and hands its answer on.
+    pub(super) fn answer(&mut self, cx: &mut Context<'_>) -> Turn
+        requires open { MayBePolled S.calling self.old }
+        requires running { self.old.ending ≡ None }
+        requires allowed { allows_answer (view_of T.wiring S.served B.gives L.noted self.old) ≡ true }
+        requires calls { is_calling (stage_of B.gives self.old.work) ≡ true }
+        ensures says { ServeSays (view_of T.wiring S.served B.gives L.noted self.old) (view_of T.wiring S.served B.gives L.noted self.new) result }
+        ensures open { MayBePolled S.calling self.new }
+        ensures registered { OnIdle result (IsArmed cx.new) }
+        ensures kept { Keeps cx.old cx.new }
+    {
+        let Work::Calling(mut call) = mem::replace(&mut self.work, Work::Free) else {
+            unreachable!()
+        };
+        match self.service.poll_call(&mut call, &mut self.lent, cx) {
+            Poll::Pending => {
+                self.work = Work::Calling(call);
+                self.read_on(cx)
+            }
+            Poll::Ready(Ok(response)) => {
+                self.work = Work::Replying(response);
+                self.hand_on()
+            }
+            Poll::Ready(Err(response)) => {
+                self.work = Work::Replying(response);
+                self.hand_on()
+            }
+        }
+    }
+
+    /// Drops what is left of the request's body, and hands the answer on.
+    pub(super) fn hand_on(&mut self) -> Turn
+        requires open { MayBePolled S.calling self.old }
+        requires running { self.old.ending ≡ None }
+        requires allowed { allows_answer (view_of T.wiring S.served B.gives L.noted self.old) ≡ true }
+        requires answered { is_replying (stage_of B.gives self.old.work) ≡ true }
+        ensures says { EndSays (view_of T.wiring S.served B.gives L.noted self.old) (view_of T.wiring S.served B.gives L.noted self.new) result }
+        ensures open { MayBePolled S.calling self.new }
+    {
+        if !self.line.connection().can_pull() {
+            return self.put_reply();
+        }
+        match self.line.drop_body() {
+            Ok(()) => self.put_reply_if_allowed(),
+            Err(_) => {
+                self.ending = Some(Ending::Broken);
+                Turn::Over(Err(DispatchError::NoMemory))
+            }
+        }
+    }
+
+    /// After the drop the answer is allowed still, as the next turn would see.
+    fn put_reply_if_allowed(&mut self) -> Turn
+        requires open { MayBePolled S.calling self.old }
+        requires running { self.old.ending ≡ None }
+        requires answered { is_replying (stage_of B.gives self.old.work) ≡ true }
+        ensures says { StepSays (view_of T.wiring S.served B.gives L.noted self.old) (view_of T.wiring S.served B.gives L.noted self.new) result }
+        ensures open { MayBePolled S.calling self.new }
+    {
+        if !self.line.connection().can_answer() {
+            return Turn::Counted;
+        }
+        self.put_reply()
+    }
+
+    /// Hands the answer on to the connection; its body goes out from then on, unless it has none.
+    fn put_reply(&mut self) -> Turn
+        requires open { MayBePolled S.calling self.old }
+        requires running { self.old.ending ≡ None }
+        requires allowed { allows_answer (view_of T.wiring S.served B.gives L.noted self.old) ≡ true }
+        requires answered { is_replying (stage_of B.gives self.old.work) ≡ true }
+        ensures says { EndSays (view_of T.wiring S.served B.gives L.noted self.old) (view_of T.wiring S.served B.gives L.noted self.new) result }
+        ensures open { MayBePolled S.calling self.new }
+    {
+        let Work::Replying(response) = mem::replace(&mut self.work, Work::Free) else {
+            unreachable!()
+        };
+        let size = response.body().size();
+        match self.line.answer(response.head(), size) {
+            Ok(()) => {
+                if size.is_eof() {
+                    return Turn::Counted;
+                }
+                self.work = Work::Sending(response.into_body());
+                Turn::Counted
+            }
+            Err(_) => {
+                self.work = Work::Replying(response);
+                self.ending = Some(Ending::Broken);
+                Turn::Over(Err(DispatchError::NoMemory))
+            }
+        }
+    }
+}

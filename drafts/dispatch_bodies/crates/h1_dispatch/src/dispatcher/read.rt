@@ -1,0 +1,109 @@
+// The input is read.
+ghost use Rattle.std.specs.Prelude.{◌≡◌, ◌<◌, ◌≤◌, ℕ, List, None, true, length};
+ghost use Rattle.futures.specs.Task.{IsArmed, Keeps};
+ghost use Rattle.h1_model.specs.Event as on;
+ghost use Rattle.h1_dispatch.specs.View.{view_of, MayBePolled, allows, room};
+ghost use Rattle.h1_dispatch.specs.Polls.{OnIdle, ReadingSays};
+ghost use Rattle.h1_dispatch.specs.declared.dispatcher.Turn.TheVariants.{Idle};
+
+use crate::dispatcher::{Dispatcher, Ending, Turn};
+use futures::task::{Context, Poll};
+use h1_connection::READ_SIZE;
+use h1_line::Recorder;
+use http_bodies::MessageBody;
+use http_config::Failed;
+use http_services::Service;
+use http_types::{DispatchError, Request, Response};
+use http_wires::Wire;
+
+impl<T, S, B, L> Dispatcher<T, S, S::Call, B, L>
+where
+    T: Wire,
+    S: Service<Request<(), ()>, Response = Response<B>, Error = Response<B>, Lent = ()>,
+    B: MessageBody,
+    L: Recorder,
+{
+    /// Reads, where nothing else was pending.
+    pub(super) fn read_alone(&mut self, cx: &mut Context<'_>) -> Turn
+        requires open { MayBePolled S.calling self.old }
+        requires running { self.old.ending ≡ None }
+        ensures says { ReadingSays (view_of T.wiring S.served B.gives L.noted self.old) (view_of T.wiring S.served B.gives L.noted self.new) result }
+        ensures open { MayBePolled S.calling self.new }
+        ensures registered { OnIdle result (IsArmed cx.new) }
+        ensures kept { Keeps cx.old cx.new }
+    {
+        let room = self.line.connection().read_room();
+        if room == 0 {
+            return wake(cx);
+        }
+        if !self.line.connection().can_read() {
+            return wake(cx);
+        }
+        let mut buf = [0; READ_SIZE];
+        self.read(&mut buf[..READ_SIZE.min(room)], cx)
+    }
+
+    /// Reads, where something else was pending.
+    pub(super) fn read_on(&mut self, cx: &mut Context<'_>) -> Turn
+        requires open { MayBePolled S.calling self.old }
+        requires running { self.old.ending ≡ None }
+        requires armed { IsArmed cx.old }
+        ensures says { ReadingSays (view_of T.wiring S.served B.gives L.noted self.old) (view_of T.wiring S.served B.gives L.noted self.new) result }
+        ensures open { MayBePolled S.calling self.new }
+        ensures registered { OnIdle result (IsArmed cx.new) }
+        ensures kept { Keeps cx.old cx.new }
+    {
+        let room = self.line.connection().read_room();
+        if room == 0 {
+            return Turn::Idle;
+        }
+        if !self.line.connection().can_read() {
+            return Turn::Idle;
+        }
+        let mut buf = [0; READ_SIZE];
+        self.read(&mut buf[..READ_SIZE.min(room)], cx)
+    }
+
+    /// Reads as many bytes as there are, at most what fits.
+    fn read(&mut self, buf: &mut [u8], cx: &mut Context<'_>) -> Turn
+        requires open { MayBePolled S.calling self.old }
+        requires running { self.old.ending ≡ None }
+        requires some { 0 < length buf.old }
+        requires fits { length buf.old ≤ room (view_of T.wiring S.served B.gives L.noted self.old) }
+        requires read { (bytes : List ℕ) → allows (view_of T.wiring S.served B.gives L.noted self.old) (on.read bytes) ≡ true }
+        requires eof { allows (view_of T.wiring S.served B.gives L.noted self.old) on.eof ≡ true }
+        ensures says { ReadingSays (view_of T.wiring S.served B.gives L.noted self.old) (view_of T.wiring S.served B.gives L.noted self.new) result }
+        ensures open { MayBePolled S.calling self.new }
+        ensures registered { OnIdle result (IsArmed cx.new) }
+        ensures kept { Keeps cx.old cx.new }
+    {
+        match self.wire.poll_read(buf, cx) {
+            Poll::Pending => Turn::Idle,
+            Poll::Ready(Err(Failed)) => Turn::Over(Err(DispatchError::Io)),
+            Poll::Ready(Ok(0)) => match self.line.eof() {
+                Ok(()) => Turn::Counted,
+                Err(_) => {
+                    self.ending = Some(Ending::Broken);
+                    Turn::Over(Err(DispatchError::NoMemory))
+                }
+            },
+            Poll::Ready(Ok(count)) => match self.line.read(&buf[..count]) {
+                Ok(_) => Turn::Counted,
+                Err(_) => {
+                    self.ending = Some(Ending::Broken);
+                    Turn::Over(Err(DispatchError::NoMemory))
+                }
+            },
+        }
+    }
+}
+
+/// Asks for another poll.
+pub(super) fn wake(cx: &mut Context<'_>) -> Turn
+    ensures idle { result ≡ Idle }
+    ensures armed { IsArmed cx.new }
+    ensures kept { Keeps cx.old cx.new }
+{
+    let _: Poll<()> = cx.yield_now();
+    Turn::Idle
+}

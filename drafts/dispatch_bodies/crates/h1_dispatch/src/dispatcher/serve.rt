@@ -1,0 +1,125 @@
+// The next head is asked for, and the service.
+ghost use Rattle.std.specs.Prelude.{◌≡◌, ◌⊎◌, None, true, false};
+ghost use Rattle.futures.specs.Task.{IsArmed, Keeps};
+ghost use Rattle.h1_dispatch.specs.View.{view_of, stage_of, is_busy, is_waiting, is_sending, MayBePolled, HasNoOutput, allows_next, allows_answer};
+ghost use Rattle.h1_dispatch.specs.Polls.{OnIdle, ServeSays};
+
+use crate::dispatcher::{Dispatcher, Ending, Turn, Work};
+use futures::task::{Context, Poll};
+use h1_connection::NextHead;
+use h1_line::Recorder;
+use http_bodies::MessageBody;
+use http_services::Service;
+use http_types::{DispatchError, Request, Response};
+use http_wires::Wire;
+use std::mem;
+
+impl<T, S, B, L> Dispatcher<T, S, S::Call, B, L>
+where
+    T: Wire,
+    S: Service<Request<(), ()>, Response = Response<B>, Error = Response<B>, Lent = ()>,
+    B: MessageBody,
+    L: Recorder,
+{
+    /// Goes on with the answer's body, or else the open request, or else the next head, or else the input.
+    pub(super) fn serve(&mut self, cx: &mut Context<'_>) -> Turn
+        requires open { MayBePolled S.calling self.old }
+        requires running { self.old.ending ≡ None }
+        requires armed { HasNoOutput (view_of T.wiring S.served B.gives L.noted self.old) ⊎ IsArmed cx.old }
+        ensures says { ServeSays (view_of T.wiring S.served B.gives L.noted self.old) (view_of T.wiring S.served B.gives L.noted self.new) result }
+        ensures open { MayBePolled S.calling self.new }
+        ensures registered { OnIdle result (IsArmed cx.new) }
+        ensures kept { Keeps cx.old cx.new }
+    {
+        if self.work.is_sending() {
+            return self.send(cx);
+        }
+        if self.line.connection().can_answer() {
+            return self.respond(cx);
+        }
+        if self.work.is_busy() {
+            return self.read_alone(cx);
+        }
+        if self.line.connection().can_next() {
+            return self.next(cx);
+        }
+        self.read_alone(cx)
+    }
+
+    /// Goes on with the open request: its answer, its call, or the service.
+    fn respond(&mut self, cx: &mut Context<'_>) -> Turn
+        requires open { MayBePolled S.calling self.old }
+        requires running { self.old.ending ≡ None }
+        requires allowed { allows_answer (view_of T.wiring S.served B.gives L.noted self.old) ≡ true }
+        requires unsent { is_sending (stage_of B.gives self.old.work) ≡ false }
+        ensures says { ServeSays (view_of T.wiring S.served B.gives L.noted self.old) (view_of T.wiring S.served B.gives L.noted self.new) result }
+        ensures open { MayBePolled S.calling self.new }
+        ensures registered { OnIdle result (IsArmed cx.new) }
+        ensures kept { Keeps cx.old cx.new }
+    {
+        match self.work {
+            Work::Free => self.read_alone(cx),
+            Work::Waiting(_) => self.ask(cx),
+            Work::Calling(_) => self.answer(cx),
+            Work::Replying(_) => self.hand_on(),
+            Work::Sending(_) => unreachable!(),
+        }
+    }
+
+    /// Asks for the next head.
+    fn next(&mut self, cx: &mut Context<'_>) -> Turn
+        requires open { MayBePolled S.calling self.old }
+        requires running { self.old.ending ≡ None }
+        requires free { is_busy (stage_of B.gives self.old.work) ≡ false }
+        requires unanswered { allows_answer (view_of T.wiring S.served B.gives L.noted self.old) ≡ false }
+        requires allowed { allows_next (view_of T.wiring S.served B.gives L.noted self.old) ≡ true }
+        ensures says { ServeSays (view_of T.wiring S.served B.gives L.noted self.old) (view_of T.wiring S.served B.gives L.noted self.new) result }
+        ensures open { MayBePolled S.calling self.new }
+        ensures registered { OnIdle result (IsArmed cx.new) }
+        ensures kept { Keeps cx.old cx.new }
+    {
+        match self.line.next() {
+            Ok(NextHead::Head(item)) => {
+                self.work = Work::Waiting(Request::new(item.head, ()));
+                Turn::Counted
+            }
+            Ok(NextHead::Fault(_)) => Turn::Counted,
+            Ok(NextHead::Pending) => self.read_alone(cx),
+            Ok(NextHead::Closed(end)) => {
+                self.ending = Some(Ending::Closed(end));
+                Turn::Counted
+            }
+            Err(_) => {
+                self.ending = Some(Ending::Broken);
+                Turn::Over(Err(DispatchError::NoMemory))
+            }
+        }
+    }
+
+    /// Begins a call with the request that waits, once the service takes one.
+    fn ask(&mut self, cx: &mut Context<'_>) -> Turn
+        requires open { MayBePolled S.calling self.old }
+        requires running { self.old.ending ≡ None }
+        requires allowed { allows_answer (view_of T.wiring S.served B.gives L.noted self.old) ≡ true }
+        requires waits { is_waiting (stage_of B.gives self.old.work) ≡ true }
+        ensures says { ServeSays (view_of T.wiring S.served B.gives L.noted self.old) (view_of T.wiring S.served B.gives L.noted self.new) result }
+        ensures open { MayBePolled S.calling self.new }
+        ensures registered { OnIdle result (IsArmed cx.new) }
+        ensures kept { Keeps cx.old cx.new }
+    {
+        match self.service.poll_ready(cx) {
+            Poll::Pending => self.read_on(cx),
+            Poll::Ready(Err(response)) => {
+                self.work = Work::Replying(response);
+                self.hand_on()
+            }
+            Poll::Ready(Ok(())) => {
+                let Work::Waiting(request) = mem::replace(&mut self.work, Work::Free) else {
+                    unreachable!()
+                };
+                self.work = Work::Calling(self.service.call(request));
+                self.answer(cx)
+            }
+        }
+    }
+}

@@ -1,0 +1,5 @@
+//! Tests of messages that are sent over a wire in memory.
+#![tactic(auto)]
+
+#[cfg(test)]
+mod answer;
