@@ -27,8 +27,9 @@
 //! nothing has come yet, it has handed out every request, or every answer.
 //!
 //! A client closes since a side asked for it, since its own request failed, or since its input has ended
-//! ([`laws::a_client_finds_nothing_wrong`]). Where a side asked for it, both ends close after the same answer
-//! ([`laws::both_close_alike`]).
+//! ([`laws::a_client_finds_nothing_wrong`]). An answer and its request have a client close exactly where they have the server
+//! close as it was asked to, unless the answer's lines are ambiguous ([`laws::both_close_alike`]). That is a law of one
+//! exchange, and not yet one of all that happened.
 //!
 //! # What is asked of both
 //!
