@@ -200,10 +200,14 @@ impl Names {
     }
 
     /// Asks for room for `additional` more names. Where there is none yet and they would be too many for a list, they
-    /// are hashed from the first on.
+    /// are hashed from the first on. None more take no memory.
     pub(crate) fn reserve(&mut self, additional: usize) -> Result<(), NoMemory>
-        ensures { self.new ≡ self.old }
+        ensures same { self.new ≡ self.old }
+        ensures no_memory_needed { additional ≡ 0 → IsOk result }
     {
+        if additional == 0 {
+            return Ok(());
+        }
         match &mut self.table {
             Table::Few(lines) => {
                 if MOST_FEW < additional && lines.is_empty() {

@@ -92,9 +92,10 @@ impl HeaderMap {
     }
 
     /// Asks for room for `additional` more names. For more than 32 in an empty map it is a table at once, to which no
-    /// name is copied later.
+    /// name is copied later. Room for none more takes no memory.
     pub fn reserve(&mut self, additional: usize) -> Result<(), NoMemory>
-        ensures { self.new ≡ self.old }
+        ensures same { self.new ≡ self.old }
+        ensures no_memory_needed { additional ≡ 0 → IsOk result }
     {
         self.names.reserve(additional)
     }
