@@ -66,6 +66,19 @@ def exchanges():
     return found
 
 
+def connections():
+    """Each connection of dispatch_vectors: its name and its lines. One that is played in many pieces is played once."""
+    folder = f"{ROOT}/crates/dispatch_vectors/data"
+    found = []
+    for name in sorted(os.listdir(folder)):
+        for line in open(f"{folder}/{name}", encoding="latin-1").read().split("\n"):
+            if line.startswith("== "):
+                found.append((line[3:], [line]))
+            elif line[:2] in ("> ", "< ") and line[2:] not in ("in-any-pieces", "by-any-writes"):
+                found[-1][1].append(line)
+    return found
+
+
 def examples():
     """Each script of examples/: its name, its lines and its report."""
     folder = f"{ROOT}/examples"
@@ -83,7 +96,12 @@ def seeds():
 
 def proved_program():
     """The proved program, where bin/prove or rt ci has made it on this machine."""
-    program = f"{ROOT}/crates/h1_run/out/h1_run"
+    return program_of("h1_run")
+
+
+def program_of(name, folder=None):
+    """The proved program of this name, where bin/prove or rt ci has made it on this machine, or the one in the folder."""
+    program = f"{folder}/{name}" if folder else f"{ROOT}/crates/{name}/out/{name}"
     return program if os.access(program, os.X_OK) else None
 
 

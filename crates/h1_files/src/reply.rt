@@ -2,7 +2,7 @@
 use crate::found::Found;
 use h1_blocking::HandleError;
 use http_types::header::names::{ACCEPT_RANGES, CONTENT_RANGE, ETAG, LAST_MODIFIED};
-use http_types::header::{CONTENT_TYPE, HeaderName, HeaderValue, value_of_bytes, value_of_str};
+use http_types::header::{CONTENT_TYPE, HeaderName, HeaderValue, ValueError, value_of_bytes};
 use http_types::{ResponseHead, StatusCode};
 use std::alloc::Global;
 
@@ -20,8 +20,20 @@ pub fn add(
     name: HeaderName,
     text: &str,
 ) -> Result<(), HandleError> {
-    let Ok(value) = value_of_str(alloc, text) else {
-        return Err(HandleError::Failed);
+    add_bytes(alloc, head, name, text.as_bytes())
+}
+
+// The same of the text's bytes.
+fn add_bytes(
+    alloc: Global,
+    head: &mut ResponseHead,
+    name: HeaderName,
+    bytes: &[u8],
+) -> Result<(), HandleError> {
+    let value = match value_of_bytes(alloc, bytes) {
+        Ok(value) => value,
+        Err(ValueError::NoMemory) => return Err(HandleError::NoMemory),
+        Err(ValueError::Invalid) => return Err(HandleError::Failed),
     };
     head.headers.append(name, value)?;
     Ok(())
@@ -45,10 +57,8 @@ pub fn file_head(
 ) -> Result<ResponseHead, HandleError> {
     let mut head = ResponseHead::new(alloc, status);
     add(alloc, &mut head, ETAG, &found.tag)?;
-    if let Some(date) = found.date()
-        && let Ok(value) = value_of_bytes(alloc, date.as_slice())
-    {
-        head.headers.append(LAST_MODIFIED, value)?;
+    if let Some(date) = found.date() {
+        add_bytes(alloc, &mut head, LAST_MODIFIED, date.as_slice())?;
     }
     head.headers
         .append(ACCEPT_RANGES, HeaderValue::from_static("bytes"))?;

@@ -15,10 +15,11 @@ use std::process::ExitCode;
 fn main(rt: HostRuntime) -> ExitCode {
     let alloc = rt.alloc();
     let mut numbers = [0u64; 3];
-    if let Ok(words) = env::args(&rt) {
-        for (number, word) in numbers.iter_mut().zip(words.skip(1)) {
-            *number = word.parse().unwrap_or(0);
-        }
+    let Ok(words) = env::args(&rt) else {
+        return ExitCode::FAILURE;
+    };
+    for (number, word) in numbers.iter_mut().zip(words.skip(1)) {
+        *number = word.parse().unwrap_or(0);
     }
     let [port, connections, at_once] = numbers;
     let port = u16::try_from(port).unwrap_or(0);

@@ -22,10 +22,11 @@ const LINGER: Linger = Linger {
 
 fn main(rt: HostRuntime) -> ExitCode {
     let mut numbers = [0_u64; 2];
-    if let Ok(words) = env::args(&rt) {
-        for (number, word) in numbers.iter_mut().zip(words.skip(1)) {
-            *number = word.parse().unwrap_or(0);
-        }
+    let Ok(words) = env::args(&rt) else {
+        return ExitCode::FAILURE;
+    };
+    for (number, word) in numbers.iter_mut().zip(words.skip(1)) {
+        *number = word.parse().unwrap_or(0);
     }
     let [port, connections] = numbers;
     let mut door = TcpDoor::new(rt, WAIT, LINGER);

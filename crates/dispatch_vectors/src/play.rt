@@ -1,0 +1,163 @@
+//! Plays a connection.
+ghost use Rattle.http_services.specs.Serving.{unknown_call};
+ghost use Rattle.h1_dispatch.specs.View.{MayBePolled};
+
+use crate::report::{Polled, put_asked, put_deadline, put_polled, put_sent};
+use crate::service::{Coming, Scripted};
+use crate::setup::{Cut, Setup};
+use crate::step::Step;
+use crate::wire::Lingering;
+use futures::task::{Doorbell, Poll, Solo};
+use h1_dispatch::Dispatcher;
+use h1_line::Recorder;
+use http_services::CountedService;
+use http_types::{DispatchError, NoMemory};
+use std::alloc::{AllocError, AllocGlobal};
+use std::io;
+use std::random::RandomSource;
+
+/// A dispatcher of a scripted service.
+type Served<L> = Dispatcher<Lingering, CountedService<Scripted>, Coming, L>;
+
+/// The most polls until a dispatcher is ready.
+const MOST_POLLS: u32 = 10_000;
+
+/// Plays the steps on a connection of this set-up, with this recorder, and writes the report.
+pub fn play<R: RandomSource + AllocGlobal, L: Recorder>(
+    rt: &R,
+    setup: &Setup,
+    steps: &[Step],
+    cut: Cut,
+    recorder: L,
+    report: &mut Vec<u8>,
+) -> io::Result<()> {
+    let wire = setup.wire(rt.alloc(), cut)?;
+    let service = setup.service(rt.alloc())?;
+    let mut served = Dispatcher::new(rt.alloc(), wire, service, setup.config(), recorder);
+    let taken = take_all(rt, &mut served, steps, report);
+    let (wire, service, _recorder) = served.into_parts();
+    match taken {
+        Ok(()) => Ok(put_end(&wire, service.inner(), report)?),
+        Err(error) => Err(error),
+    }
+}
+
+// Puts what the wire took, unless the service had no memory to note a request.
+fn put_end(wire: &Lingering, service: &Scripted, report: &mut Vec<u8>) -> Result<(), NoMemory> {
+    if service.forgets() {
+        return Err(AllocError);
+    }
+    put_sent(report, wire.sent(), wire.is_shut())
+}
+
+// Takes all steps.
+fn take_all<R: RandomSource + AllocGlobal, L: Recorder>(
+    rt: &R,
+    served: &mut Served<L>,
+    steps: &[Step],
+    report: &mut Vec<u8>,
+) -> io::Result<()>
+    requires open { MayBePolled (λ _. unknown_call) served.old }
+{
+    let mut shown = 0;
+    for step in steps {
+        take(rt, served, *step, &mut shown, report)?;
+    }
+    Ok(())
+}
+
+// Takes a step.
+fn take<R: RandomSource + AllocGlobal, L: Recorder>(
+    rt: &R,
+    served: &mut Served<L>,
+    step: Step,
+    shown: &mut usize,
+    report: &mut Vec<u8>,
+) -> io::Result<()>
+    requires open { MayBePolled (λ _. unknown_call) served.old }
+    ensures open { MayBePolled (λ _. unknown_call) served.new }
+{
+    match step {
+        Step::Drain => {
+            served.drain();
+            Ok(())
+        }
+        Step::Deadline => Ok(put_deadline(report, served.deadline())?),
+        Step::Poll(moment) => {
+            let polled = poll(rt, served, moment)?;
+            Ok(put_poll(served, polled, shown, report)?)
+        }
+        Step::PollUntilReady(moment) => {
+            let polled = poll_until_ready(rt, served, moment)?;
+            Ok(put_poll(served, polled, shown, report)?)
+        }
+    }
+}
+
+// Polls once. Where the dispatcher had no memory, that is the error.
+fn poll<R: RandomSource + AllocGlobal, L: Recorder>(
+    rt: &R,
+    served: &mut Served<L>,
+    moment: u64,
+) -> io::Result<Polled>
+    requires open { MayBePolled (λ _. unknown_call) served.old }
+    ensures open { MayBePolled (λ _. unknown_call) served.new }
+{
+    let solo = Solo::new(rt, Doorbell::spinning())?;
+    let mut cx = solo.begin();
+    let polled = served.poll(moment, &mut cx);
+    cx.end(&polled);
+    polled_of(polled, &solo)
+}
+
+// How the poll of this task ended.
+fn polled_of(polled: Poll<Result<(), DispatchError>>, solo: &Solo) -> io::Result<Polled> {
+    match polled {
+        Poll::Ready(Ok(())) => Ok(Polled::Ended),
+        Poll::Ready(Err(DispatchError::NoMemory)) => Err(AllocError.into()),
+        Poll::Ready(Err(error)) => Ok(Polled::Failed(error)),
+        Poll::Pending => Ok(pending_of(solo)),
+    }
+}
+
+// Whether the task that is pending is to be polled again.
+fn pending_of(solo: &Solo) -> Polled {
+    match solo.sleep() {
+        None => Polled::Pending,
+        Some(asleep) => {
+            asleep.end();
+            Polled::Asleep
+        }
+    }
+}
+
+// Polls until it is ready or its task isn't woken.
+fn poll_until_ready<R: RandomSource + AllocGlobal, L: Recorder>(
+    rt: &R,
+    served: &mut Served<L>,
+    moment: u64,
+) -> io::Result<Polled>
+    requires open { MayBePolled (λ _. unknown_call) served.old }
+    ensures open { MayBePolled (λ _. unknown_call) served.new }
+{
+    for _ in 0..MOST_POLLS {
+        let polled = poll(rt, served, moment)?;
+        if polled != Polled::Pending {
+            return Ok(polled);
+        }
+    }
+    Ok(Polled::Pending)
+}
+
+// Puts the requests that came to the service in the polls, and how the last one ended.
+fn put_poll<L: Recorder>(
+    served: &Served<L>,
+    polled: Polled,
+    shown: &mut usize,
+    report: &mut Vec<u8>,
+) -> Result<(), NoMemory> {
+    let asked = served.service().inner().asked();
+    put_asked(report, asked.get(*shown..).unwrap_or(b""))?;
+    *shown = asked.len();
+    put_polled(report, polled)
+}

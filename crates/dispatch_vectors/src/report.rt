@@ -1,0 +1,72 @@
+//! The lines of a report.
+use http_types::{DispatchError, NoMemory, ParseError};
+use vectors::{put_all, put_decimal, put_quoted, put_text};
+
+/// How a poll ended.
+#[derive(Clone, Copy, Debug, PartialEq, Eq)]
+pub enum Polled {
+    /// It is pending, and the task was woken.
+    Pending,
+
+    /// It is pending, and nobody has woken the task.
+    Asleep,
+
+    /// The connection has ended.
+    Ended,
+
+    /// It broke off.
+    Failed(DispatchError),
+}
+
+/// Puts how a poll ended.
+pub fn put_polled(report: &mut Vec<u8>, polled: Polled) -> Result<(), NoMemory> {
+    let text = match polled {
+        Polled::Pending => "pending\n",
+        Polled::Asleep => "asleep\n",
+        Polled::Ended => "ended\n",
+        Polled::Failed(error) => text_of(error),
+    };
+    put_text(report, text)
+}
+
+fn text_of(error: DispatchError) -> &'static str {
+    match error {
+        DispatchError::Io => "io\n",
+        DispatchError::Parse(ParseError::TooLarge) => "too-large\n",
+        DispatchError::Parse(_) => "malformed\n",
+        DispatchError::SlowRequestTimeout => "slow-request\n",
+        DispatchError::DisconnectTimeout => "slow-disconnect\n",
+        DispatchError::Body => "body\n",
+        _ => "an error that never comes\n",
+    }
+}
+
+/// Puts the requests that the service was called with.
+pub fn put_asked(report: &mut Vec<u8>, asked: &[u8]) -> Result<(), NoMemory> {
+    if asked.is_empty() {
+        return Ok(());
+    }
+    put_text(report, "asked")?;
+    put_all(report, asked)?;
+    put_text(report, "\n")
+}
+
+/// Puts a deadline in milliseconds, or that there is none.
+pub fn put_deadline(report: &mut Vec<u8>, deadline: Option<u64>) -> Result<(), NoMemory> {
+    put_text(report, "deadline ")?;
+    match deadline {
+        Some(moment) => put_decimal(report, moment)?,
+        None => put_text(report, "-")?,
+    }
+    put_text(report, "\n")
+}
+
+/// Puts all that was sent, and whether the wire was shut down.
+pub fn put_sent(report: &mut Vec<u8>, sent: &[u8], is_shut: bool) -> Result<(), NoMemory> {
+    put_text(report, "sent ")?;
+    put_quoted(report, sent)?;
+    if is_shut {
+        put_text(report, " shut")?;
+    }
+    put_text(report, "\n")
+}

@@ -1,0 +1,30 @@
+//! What is done with a dispatcher.
+use vectors::Cursor;
+
+/// One thing that is done with a dispatcher. Moments are milliseconds after the start of 1970.
+#[derive(Clone, Copy, Debug)]
+pub enum Step {
+    /// It is polled once, at this moment.
+    Poll(u64),
+
+    /// It is polled at this moment until it is ready.
+    PollUntilReady(u64),
+
+    /// It is to end once no request is open.
+    Drain,
+
+    /// Its deadline is asked for.
+    Deadline,
+}
+
+/// The step that these words say, where they say one.
+pub fn step_of(word: &[u8], mut words: Cursor<'_>) -> Option<Step> {
+    words.pass_blanks();
+    match word {
+        b"poll" => Some(Step::Poll(words.number()? as u64)),
+        b"poll-until-ready" => Some(Step::PollUntilReady(words.number()? as u64)),
+        b"drain" => Some(Step::Drain),
+        b"deadline" => Some(Step::Deadline),
+        _ => None,
+    }
+}
