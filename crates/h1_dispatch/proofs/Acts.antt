@@ -6,11 +6,11 @@ use Rattle.futures.specs.declared.task.context.Context.{Context}
 use Rattle.http_types.specs.declared.error.DispatchError.{DispatchError}
 use Rattle.http_types.specs.declared.error.DispatchError.TheVariants as error
 use Rattle.h1_model.specs.Event as on
-use Rattle.h1_dispatch.specs.View.{View, Stage, free, waiting, calling, replying, closes, allows_next, allows_answer}
-use Rattle.h1_dispatch.specs.Steps.{Step, IsStep, IsRun, ticked, drained, written, read, shut, next, closed, ready, called, answered, dropped, replied, failed, failed_write, failed_read, asked_to_drain}
+use Rattle.h1_dispatch.specs.View.{View, Stage, free, waiting, calling, replying, sending, is_sending, closes, asks_next, allows_answer, allows_chunk}
+use Rattle.h1_dispatch.specs.Steps.{Step, IsStep, IsRun, ticked, drained, written, read, shut, next, closed, ready, called, answered, dropped, replied, sent, failed, failed_write, failed_read, failed_sent, asked_to_drain}
 use Rattle.h1_dispatch.specs.Traces.{IsNoted, AllNoted}
-use Rattle.h1_dispatch.specs.Polls.{Continues, AllContinue, EndsWith, IsShut, IsIo, IsStuck, IsHeld, IsIdle, Reads, Writes, Serves, Awaits, Looks, Ended, Ends, GoesOn, Ticks, Drains, IsBegun, BeginFails, TurnsSay, PollRuns, PollSays}
-use Rattle.h1_dispatch.specs.Acts.{Act, polled, asked, ActSays, ActsSay, HasMemory, AllHaveMemory, AreOneRun}
+use Rattle.h1_dispatch.specs.Polls.{Continues, AllContinue, EndsWith, IsShut, IsIo, IsStuck, IsHeld, IsIdle, Reads, Writes, Serves, Sends, Awaits, Looks, Ended, GoesOn, Ticks, Drains, IsBegun, BeginFails, TurnsSay, PollRuns, PollSays}
+use Rattle.h1_dispatch.specs.Acts.{Act, polled, asked, ActSays, ActsSay, HasMemory, AreOneRun}
 use Rattle.h1_dispatch.proofs.Runs.{one, run_on}
 
 -- ---- steps that were noted
@@ -28,9 +28,11 @@ goes_noted (called request) goes = tt
 goes_noted (answered answer) goes = tt
 goes_noted dropped goes = tt
 goes_noted (replied answer) goes = tt
+goes_noted (sent piece) goes = tt
 goes_noted (failed event) goes = absurd goes
 goes_noted (failed_write count) goes = absurd goes
 goes_noted (failed_read came event) goes = absurd goes
+goes_noted (failed_sent piece) goes = absurd goes
 goes_noted asked_to_drain goes = tt
 
 all_noted : (steps : List Step) → AllContinue steps → AllNoted steps
@@ -66,8 +68,13 @@ ended_noted w steps (Err error.H2) enough is = absurd is
 ended_noted w steps (Err error.HandlerDroppedPayload) enough is = absurd is
 ended_noted w steps (Err error.InternalError) enough is = absurd is
 
-awaits_noted : (v : View) (allows : Bool) (served : List Step) → Serves v allows served → AllNoted served
-awaits_noted v true served waits = by_stage v.stage waits
+awaits_noted : (v : View) (sends allows : Bool) (served : List Step) → Serves v sends allows served → AllNoted served
+awaits_noted v true allows served body = by_room (allows_chunk v) body
+  where
+    by_room : (may : Bool) → Sends may served → AllNoted served
+    by_room true is = subst (λ l. AllNoted l) (sym is) (tt, tt)
+    by_room false is = subst (λ l. AllNoted l) (sym is) tt
+awaits_noted v false true served waits = by_stage v.stage waits
   where
     by_stage : (s : Stage) → Awaits s served → AllNoted served
     by_stage free is = subst (λ l. AllNoted l) (sym is) tt
@@ -75,14 +82,16 @@ awaits_noted v true served waits = by_stage v.stage waits
     by_stage (waiting request) (inr is) = subst (λ l. AllNoted l) (sym is) (tt, (tt, tt))
     by_stage calling is = subst (λ l. AllNoted l) (sym is) (tt, tt)
     by_stage (replying answer) is = absurd is
-awaits_noted v false served looks = by_stage (allows_next v) v.stage looks
+    by_stage (sending body) is = absurd is
+awaits_noted v false false served looks = by_looks (asks_next v) v.stage looks
   where
-    by_stage : (may : Bool) (s : Stage) → Looks may s served → AllNoted served
-    by_stage true free is = subst (λ l. AllNoted l) (sym is) (tt, tt)
-    by_stage true (waiting request) is = subst (λ l. AllNoted l) (sym is) tt
-    by_stage true calling is = subst (λ l. AllNoted l) (sym is) tt
-    by_stage true (replying answer) is = subst (λ l. AllNoted l) (sym is) tt
-    by_stage false s is = subst (λ l. AllNoted l) (sym is) tt
+    by_looks : (may : Bool) (s : Stage) → Looks may s served → AllNoted served
+    by_looks true free is = subst (λ l. AllNoted l) (sym is) (tt, tt)
+    by_looks true (waiting request) is = subst (λ l. AllNoted l) (sym is) tt
+    by_looks true calling is = subst (λ l. AllNoted l) (sym is) tt
+    by_looks true (replying answer) is = subst (λ l. AllNoted l) (sym is) tt
+    by_looks true (sending body) is = subst (λ l. AllNoted l) (sym is) tt
+    by_looks false s is = subst (λ l. AllNoted l) (sym is) tt
 
 reads_noted : (x : View) (reading : List Step) → Reads x reading → AllNoted reading
 reads_noted x reading (inl is) = subst (λ l. AllNoted l) (sym is) (tt, tt)
@@ -112,14 +121,14 @@ then_on v u w a b = record {
   noted = λ p. noted_on a.steps b.steps (a.noted p) (b.noted p);
 }
 
-goes_run : {P : Type 0} (v w : View) (n : ℕ) → GoesOn v w n → Runs P v w
-goes_run v w n goes = record { steps = goes.steps; run = goes.run; noted = λ p. all_noted goes.steps goes.go_on }
+goes_run : {P : Type 0} (v w : View) (n most : ℕ) → GoesOn v w n most → Runs P v w
+goes_run v w n most goes = record { steps = goes.steps; run = goes.run; noted = λ p. all_noted goes.steps goes.go_on }
 
 idle_run : {P : Type 0} (v w : View) → IsIdle v w → Runs P v w
 idle_run v w idle = record {
   steps = idle.served ++ idle.reading;
   run = run_on v idle.between w idle.served idle.reading idle.serves idle.reads;
-  noted = λ p. noted_on idle.served idle.reading (awaits_noted v (allows_answer v) idle.served idle.waits) (reads_noted idle.between idle.reading idle.no_input);
+  noted = λ p. noted_on idle.served idle.reading (awaits_noted v (is_sending v.stage) (allows_answer v) idle.served idle.waits) (reads_noted idle.between idle.reading idle.no_input);
 }
 
 waits_run : {P : Type 0} (v w : View) → IsHeld v w ⊎ ((closes v ≡ false) × IsIdle v w) → Runs P v w
@@ -153,8 +162,8 @@ Enough result = ¬ (result ≡ Ready (Err error.NoMemory))
 turns_run : (v w : View) (cx : Context) (result : Poll (Result Unit DispatchError)) → TurnsSay v w cx result → Runs (Enough result) v w
 turns_run v w cx (Ready result) ends =
     record { steps = ends.steps; run = ends.run; noted = λ enough. ended_noted w ends.steps result (λ is. enough (ap Ready is)) ends.ended }
-turns_run v w cx Pending (inl waits) = then_on v waits.last w (goes_run v waits.last 0 waits.goes) (stuck_run waits.last w waits.stuck)
-turns_run v w cx Pending (inr spent) = goes_run v w 64 spent.goes
+turns_run v w cx Pending (inl waits) = then_on v waits.last w (goes_run v waits.last _ _ waits.goes) (stuck_run waits.last w waits.stuck)
+turns_run v w cx Pending (inr spent) = goes_run v w _ _ spent.goes
 
 begins_run : (v w : View) (cx : Context) (moment : ℕ) (result : Poll (Result Unit DispatchError)) → PollRuns v w cx moment result → Runs (Enough result) v w
 begins_run v w cx moment result (inl fails) = fails_run v w moment (λ enough. enough fails.0) fails.1

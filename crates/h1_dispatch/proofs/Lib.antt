@@ -6,3 +6,7 @@ pub mod Traces
 pub mod Orders
 pub mod Acts
 pub mod Open
+pub mod Told
+pub mod Bodies
+pub mod Faults
+pub mod Bounds

@@ -1,14 +1,17 @@
 -- A run keeps requests and answers in order.
-use Rattle.std.proofs.Common.{◌≡◌, ◌+◌, ℕ, Option, Some, None, List, [], ◌∷◌, ◌++◌, length, option_to_list, Result, Ok, Err, refl, sym, ap, ◌∙◌, subst, append_assoc, append-nil, arith}
+use Rattle.std.proofs.Common.{◌≡◌, ◌+◌, ℕ, zero, suc, Option, Some, None, List, [], ◌∷◌, ◌++◌, length, option_to_list, Result, Ok, Err, refl, sym, ap, ◌∙◌, subst, append_assoc, append-nil, arith}
 use Rattle.std.proofs.lemmas.List.{length-append}
 use Rattle.futures.specs.declared.task.Poll.{Poll}
 use Rattle.futures.specs.declared.task.Poll.TheVariants.{Ready, Pending}
+use Rattle.http_framing.specs.declared.body.size.BodySize.{BodySize}
+use Rattle.http_framing.specs.declared.body.size.BodySize.TheVariants.{None as NoBody, Sized, Stream}
+use Rattle.http_bodies.specs.Giving.{Giving, Piece}
 use Rattle.http_bodies.specs.Told.{Grows}
 use Rattle.http_bodies.proofs.Histories.{grown, grown-none}
 use Rattle.http_services.specs.Serving.{Serving}
 use Rattle.h1_connection.specs.declared.connection.heads.NextHead.{NextHead}
-use Rattle.h1_dispatch.specs.View.{View, Asking, Answer, Stage, free, waiting, calling, replying}
-use Rattle.h1_dispatch.specs.Steps.{Step, IsStep, IsRun, request_at, stage_at, stage_asked, stage_answered, ticked, drained, written, read, shut, next, closed, ready, called, answered, dropped, replied, failed, failed_write, failed_read, asked_to_drain}
+use Rattle.h1_dispatch.specs.View.{View, Asking, Answer, Stage, free, waiting, calling, replying, sending}
+use Rattle.h1_dispatch.specs.Steps.{Step, IsStep, IsRun, request_at, stage_at, stage_asked, stage_answered, stage_replied, stage_sent, ticked, drained, written, read, shut, next, closed, ready, called, answered, dropped, replied, sent, failed, failed_write, failed_read, failed_sent, asked_to_drain}
 use Rattle.h1_dispatch.specs.Order.{waits_in, reply_in, calls_in, step_requests, step_calls, step_left, step_answers, step_replies, requests, calls, left, answers, replies, KeepsOrder}
 
 -- what one step keeps
@@ -79,6 +82,19 @@ polled v w (Ready (Ok x)) was now calls_so = by_stage v w (answered (Ready (Ok x
 polled v w (Ready (Err e)) was now calls_so = by_stage v w (answered (Ready (Err e))) calling (replying e) was now refl refl refl calls_so
 polled v w Pending was now calls_so = by_stage v w (answered Pending) calling calling was now refl refl refl calls_so
 
+-- an answer was handed on, and its body goes out where it has one
+handed_on : (v w : View) (answer : Answer) (body : Giving) (size : BodySize) → v.stage ≡ replying answer → w.stage ≡ stage_replied body size → w.service ≡ v.service → Keeps v (replied answer) w
+handed_on v w answer body NoBody was now service = by_stage v w (replied answer) (replying answer) free was now refl refl refl (same_calls v w service)
+handed_on v w answer body (Sized zero) was now service = by_stage v w (replied answer) (replying answer) free was now refl refl refl (same_calls v w service)
+handed_on v w answer body (Sized (suc n)) was now service = by_stage v w (replied answer) (replying answer) (sending body) was now refl refl refl (same_calls v w service)
+handed_on v w answer body Stream was now service = by_stage v w (replied answer) (replying answer) (sending body) was now refl refl refl (same_calls v w service)
+
+-- the body goes on, or is done with
+sends : (v w : View) (piece : Piece) (body left : Giving) → v.stage ≡ sending body → w.stage ≡ stage_sent left piece → w.service ≡ v.service → Keeps v (sent piece) w
+sends v w (Ready None) body left was now service = by_stage v w (sent (Ready None)) (sending body) free was now refl refl refl (same_calls v w service)
+sends v w (Ready (Some piece)) body left was now service = by_stage v w (sent (Ready (Some piece))) (sending body) (sending left) was now refl refl refl (same_calls v w service)
+sends v w Pending body left was now service = by_stage v w (sent Pending) (sending body) (sending left) was now refl refl refl (same_calls v w service)
+
 step_keeps : (v w : View) (d : Step) → IsStep v d w → Keeps v d w
 step_keeps v w (ticked moment expiry) is = apart v w _ refl refl refl refl refl (ap (λ (x : View). x.stage) is.1) (ap (λ (x : View). x.service) is.1)
 step_keeps v w drained is = apart v w _ refl refl refl refl refl (ap (λ (x : View). x.stage) is.1) (ap (λ (x : View). x.service) is.1)
@@ -91,11 +107,13 @@ step_keeps v w (ready request answer) is = asked v w request answer is.0.1 (ap (
 step_keeps v w (called request) is = by_stage v w (called request) (waiting request) calling is.0.1 (ap (λ (x : View). x.stage) is.2) refl refl refl (subst (λ c. Grows c w.service.called (request ∷ [])) is.1.is_ready.called is.1.begun.called)
 step_keeps v w (answered answer) is = polled v w answer is.2 (ap (λ (x : View). x.stage) is.4) (told v w is.3.called)
 step_keeps v w dropped is = apart v w _ refl refl refl refl refl (ap (λ (x : View). x.stage) is.3) (ap (λ (x : View). x.service) is.3)
-step_keeps v w (replied answer) is =
-    by_stage v w (replied answer) (replying answer) free is.1 (ap (λ (x : View). x.stage) is.3) refl refl refl (same_calls v w (ap (λ (x : View). x.service) is.3))
+step_keeps v w (replied answer) is = handed_on v w answer answer.body answer.body.size is.1 (ap (λ (x : View). x.stage) is.3) (ap (λ (x : View). x.service) is.3)
+step_keeps v w (sent piece) is = sends v w piece is.1.body is.0 is.1.goes_out (ap (λ (x : View). x.stage) is.3) (ap (λ (x : View). x.service) is.3)
 step_keeps v w (failed event) is = apart v w _ refl refl refl refl refl (ap (λ (x : View). x.stage) is.2) (ap (λ (x : View). x.service) is.2)
 step_keeps v w (failed_write count) is = apart v w _ refl refl refl refl refl (ap (λ (x : View). x.stage) is.4) (ap (λ (x : View). x.service) is.4)
 step_keeps v w (failed_read came event) is = apart v w _ refl refl refl refl refl (ap (λ (x : View). x.stage) is.4) (ap (λ (x : View). x.service) is.4)
+step_keeps v w (failed_sent piece) is =
+    by_stage v w (failed_sent piece) (sending is.1.body) (sending is.0) is.1.goes_out (ap (λ (x : View). x.stage) is.3) refl refl refl (same_calls v w (ap (λ (x : View). x.service) is.3))
 step_keeps v w asked_to_drain is = apart v w _ refl refl refl refl refl (ap (λ (x : View). x.stage) is) (ap (λ (x : View). x.service) is)
 
 -- what came in front goes out in front

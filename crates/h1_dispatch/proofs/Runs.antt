@@ -1,5 +1,6 @@
 -- Runs of steps one after the other, and how they end.
 use Rattle.std.proofs.Common.{◌≡◌, ◌≤◌, ◌+◌, ℕ, List, [], ◌∷◌, ◌++◌, Some, Result, Ok, Err, inl, inr, refl, ap, subst, arith}
+use Rattle.std.proofs.lemmas.List.{length-append}
 use Rattle.http_types.specs.declared.error.DispatchError.{DispatchError}
 use Rattle.http_types.specs.declared.error.DispatchError.TheVariants as error
 use Rattle.h1_dispatch.specs.declared.dispatcher.Ending.TheVariants.{Broken}
@@ -20,7 +21,7 @@ pub all_on : (s t : List Step) → AllContinue s → AllContinue t → AllContin
 all_on [] t first then = then
 all_on (d ∷ s) t first then = (first.0, all_on s t first.1 then)
 
-progress_on : (s t : List Step) → progress (s ++ t) ≡ progress s + progress t
+pub progress_on : (s t : List Step) → progress (s ++ t) ≡ progress s + progress t
 progress_on [] t = omega arith
 progress_on (d ∷ s) t = omega (arith, progress_on s t)
 
@@ -43,7 +44,8 @@ io_on d s goes (failure, inr (inr shuts)) = (failure, inr (inr (ends_on d _ s go
 memory_on : (d : Step) (s : List Step) → Continues d → IsOutOfMemory s → IsOutOfMemory (d ∷ s)
 memory_on d s goes (inl is) = inl (is.0, is.1, ends_on d _ s goes is.2)
 memory_on d s goes (inr (inl is)) = inr (inl (is.0, ends_on d _ s goes is.1))
-memory_on d s goes (inr (inr is)) = inr (inr (is.0, is.1, ends_on d _ s goes is.2))
+memory_on d s goes (inr (inr (inl is))) = inr (inr (inl (is.0, is.1, ends_on d _ s goes is.2)))
+memory_on d s goes (inr (inr (inr is))) = inr (inr (inr (is.0, ends_on d _ s goes is.1)))
 
 ended_on : (w : View) (d : Step) (s : List Step) (result : Result Unit DispatchError) → Continues d → Ended w s result → Ended w (d ∷ s) result
 ended_on w d s (Ok x) goes is = shut_on w d s (Ok tt) goes is
@@ -66,34 +68,44 @@ ended_all w (d ∷ s) t result goes is = ended_on w d (s ++ t) result goes.0 (en
 
 -- ---- by one step, and by more
 
-pub goes_by : (v w : View) (d : Step) (n : ℕ) → IsStep v d w → Continues d → n ≤ counts d → GoesOn v w n
-goes_by v w d n is goes enough = record { steps = d ∷ []; run = one v w d is; go_on = (goes, tt); enough = omega (arith, enough) }
+pub goes_by : (most : ℕ) → 1 ≤ most → (v w : View) (d : Step) (n : ℕ) → IsStep v d w → Continues d → n ≤ counts d → GoesOn v w n most
+goes_by most fits v w d n is goes enough =
+    record { steps = d ∷ []; run = one v w d is; go_on = (goes, tt); enough = omega (arith, enough); few = omega (arith, fits) }
 
-pub ends_by : (v w : View) (d : Step) (result : Result Unit DispatchError) → IsStep v d w → Ended w (d ∷ []) result → Ends v w result
-ends_by v w d result is ended = record { steps = d ∷ []; run = one v w d is; ended = ended }
+pub ends_by : (most : ℕ) → 1 ≤ most → (v w : View) (d : Step) (result : Result Unit DispatchError) → IsStep v d w → Ended w (d ∷ []) result → Ends v w most result
+ends_by most fits v w d result is ended = record { steps = d ∷ []; run = one v w d is; ended = ended; few = omega (arith, fits) }
 
-pub goes_none : (v : View) → GoesOn v v 0
-goes_none v = record { steps = []; run = refl; go_on = tt; enough = omega arith }
+pub goes_none : (v : View) (most : ℕ) → GoesOn v v 0 most
+goes_none v most = record { steps = []; run = refl; go_on = tt; enough = omega arith; few = omega arith }
 
-pub goes_after : (v u w : View) (m n k : ℕ) → k ≤ m + n → GoesOn v u m → GoesOn u w n → GoesOn v w k
-goes_after v u w m n k enough a b = record {
+pub goes_after : (v u w : View) (m n k : ℕ) → k ≤ m + n → (x y most : ℕ) → x + y ≤ most → GoesOn v u m x → GoesOn u w n y → GoesOn v w k most
+goes_after v u w m n k enough x y most fits a b = record {
   steps = a.steps ++ b.steps;
   run = run_on v u w a.steps b.steps a.run b.run;
   go_on = all_on a.steps b.steps a.go_on b.go_on;
   enough = omega (arith, progress_on a.steps b.steps, a.enough, b.enough, enough);
+  few = omega (arith, length-append a.steps b.steps, a.few, b.few, fits);
 }
 
-pub ends_after : (v u w : View) (m : ℕ) (result : Result Unit DispatchError) → GoesOn v u m → Ends u w result → Ends v w result
-ends_after v u w m result a b = record {
+pub ends_after : (v u w : View) (m : ℕ) (result : Result Unit DispatchError) (x y most : ℕ) → x + y ≤ most → GoesOn v u m x → Ends u w y result → Ends v w most result
+ends_after v u w m result x y most fits a b = record {
   steps = a.steps ++ b.steps;
   run = run_on v u w a.steps b.steps a.run b.run;
   ended = ended_all w a.steps b.steps result a.go_on b.ended;
+  few = omega (arith, length-append a.steps b.steps, a.few, b.few, fits);
 }
 
+-- no more steps than so many are no more than that many
+pub more_goes : (v w : View) (n x most : ℕ) → x ≤ most → GoesOn v w n x → GoesOn v w n most
+more_goes v w n x most fits g = record { steps = g.steps; run = g.run; go_on = g.go_on; enough = g.enough; few = omega (arith, g.few, fits) }
+
+pub more_ends : (v w : View) (result : Result Unit DispatchError) (x most : ℕ) → x ≤ most → Ends v w x result → Ends v w most result
+more_ends v w result x most fits e = record { steps = e.steps; run = e.run; ended = e.ended; few = omega (arith, e.few, fits) }
+
 -- memory ran out for this event
-pub lacks : (v w : View) (d : Step) → w.ending ≡ Some Broken → IsStep v d w → IsOutOfMemory (d ∷ []) → Ends v w (Err error.NoMemory)
-lacks v w d broken is out = ends_by v w d (Err error.NoMemory) is (broken, inl out)
+pub lacks : (most : ℕ) → 1 ≤ most → (v w : View) (d : Step) → w.ending ≡ Some Broken → IsStep v d w → IsOutOfMemory (d ∷ []) → Ends v w most (Err error.NoMemory)
+lacks most fits v w d broken is out = ends_by most fits v w d (Err error.NoMemory) is (broken, inl out)
 
 -- and where it ran out before
-pub stays_broken : (v : View) → v.ending ≡ Some Broken → Ends v v (Err error.NoMemory)
-stays_broken v broken = record { steps = []; run = refl; ended = (broken, inr tt) }
+pub stays_broken : (v : View) → v.ending ≡ Some Broken → Ends v v 5 (Err error.NoMemory)
+stays_broken v broken = record { steps = []; run = refl; ended = (broken, inr tt); few = omega arith }

@@ -1,12 +1,15 @@
 -- A run is a trace of the connection.
-use Rattle.std.proofs.Common.{◌≡◌, ◌≤◌, ℕ, ◌-◌, List, [], ◌∷◌, ◌++◌, length, take, Option, Result, Ok, Err, inl, inr, refl, sym, ap, ◌∙◌, subst, append_assoc, append-nil, arith}
+use Rattle.std.proofs.Common.{◌≡◌, ◌≤◌, ℕ, ◌-◌, List, [], ◌∷◌, ◌++◌, length, take, Option, Some, None, Result, Ok, Err, inl, inr, refl, sym, ap, ◌∙◌, subst, append_assoc, append-nil, arith}
 use Rattle.std.proofs.lemmas.List.{length-take, take_all}
 use Rattle.futures.specs.declared.task.Poll.{Poll}
 use Rattle.futures.specs.declared.task.Poll.TheVariants.{Ready, Pending}
 use Rattle.http_config.specs.declared.Failed.{Failed}
+use Rattle.http_bodies.specs.Giving.{Piece}
 use Rattle.http_bodies.specs.Told.{Grows}
+use Rattle.http_bodies.specs.declared.body.fault.BodyFault.TheVariants.{Body, NoMemory}
 use Rattle.http_bodies.proofs.Histories.{grown, grown-none}
 use Rattle.http_wires.specs.Wiring.{Wiring, ReadSays, WriteSays, moved}
+use Rattle.h1_codec.specs.Meaning.{answer_of, size_of}
 use Rattle.h1_model.specs.Event as on
 use Rattle.h1_model.specs.Setting.{Setting}
 use Rattle.h1_model.specs.Sums as sums
@@ -23,8 +26,8 @@ use Rattle.h1_connection.specs.declared.connection.ticks.Expiry.{Expiry}
 use Rattle.h1_connection.specs.declared.connection.ticks.Expiry.TheVariants as expiries
 use Rattle.h1_line.specs.Line.{LineView, LineStands}
 use Rattle.h1_dispatch.specs.View.{View, buffered, room}
-use Rattle.h1_dispatch.specs.Steps.{Step, Goes, Wrote, Took, IsStep, IsRun, ticked, drained, written as wrote, read, shut, next, closed, ready, called, answered, dropped, replied, failed, failed_write, failed_read, asked_to_drain}
-use Rattle.h1_dispatch.specs.Traces.{IsNoted, AllNoted, AreTraces}
+use Rattle.h1_dispatch.specs.Steps.{Step, Goes, Wrote, Took, Sent, IsStep, IsRun, ticked, drained, written as wrote, read, shut, next, closed, ready, called, answered, dropped, replied, sent, failed, failed_write, failed_read, failed_sent, asked_to_drain}
+use Rattle.h1_dispatch.specs.Traces.{IsNoted, AllNoted, of_answer, answers_in, piece_hands, step_hands, hands, Follows, AreTraces}
 
 -- ---- sums
 
@@ -57,15 +60,24 @@ none_written = refl
 same_grows : (a b : Option (List ℕ)) → b ≡ a → Grows a b []
 same_grows a b same = same ∙ grown-none a
 
+answers_more : (b a : List sums.Step) → answers_in (b ++ a) ≡ answers_in a ++ answers_in b
+answers_more [] a = sym (append-nil (answers_in a))
+answers_more (s ∷ b) a = ap (λ l. l ++ of_answer s.event) (answers_more b a) ∙ append_assoc (answers_in a) (answers_in b) (of_answer s.event)
+
+-- a trace by which this is handed on of answers
+abbrev By : View → List on.Event → View → Type 0
+By v handed w = (trace : List sums.Step) → LineStands v.line trace → Follows v w trace handed
+
 -- ---- one step
 
 -- the line stays
-still : (v w : View) → w.line ≡ v.line → Grows v.wire.received w.wire.received [] → Grows v.wire.sent w.wire.sent [] → AreTraces v w
-still v w line received sent = λ trace stands. record {
+still : (v w : View) → w.line ≡ v.line → Grows v.wire.received w.wire.received [] → Grows v.wire.sent w.wire.sent [] → By v [] w
+still v w line received sent_so = λ trace stands. record {
   more = [];
   stands = subst (λ (l : LineView). LineStands l trace) (sym line) stands;
   received = subst (λ l. Grows v.wire.received w.wire.received l) (sym none_taken) received;
-  sent = subst (λ l. Grows v.wire.sent w.wire.sent l) (sym none_written) sent;
+  sent = subst (λ l. Grows v.wire.sent w.wire.sent l) (sym none_written) sent_so;
+  answers = refl;
 }
 
 -- what an outcome has to fit
@@ -76,7 +88,7 @@ record Fits (v w : View) (event : on.Event) (out : on.Outcome) : Type 0 where
 -- an event came
 went : (v w : View) (event : on.Event) (Says : on.Outcome → Type 0) → Goes v.line event Says w.line
     → ((out : on.Outcome) → Says out → Machine (setting_of v.line.state.settings) v.line.state.kept event out w.line.state.kept → Fits v w event out)
-    → AreTraces v w
+    → By v (of_answer event) w
 went v w event Says goes fits = λ trace stands.
     let x = goes.steps trace stands in
     let s : sums.Step = record { event = event; outcome = x.0 } in
@@ -86,6 +98,7 @@ went v w event Says goes fits = λ trace stands.
       stands = x.2.stands;
       received = subst (λ l. Grows v.wire.received w.wire.received l) (sym (one_taken s)) f.received;
       sent = subst (λ l. Grows v.wire.sent w.wire.sent l) (sym (one_written s)) f.sent;
+      answers = refl;
     }
 
 -- by which the wire moved nothing
@@ -106,15 +119,15 @@ no_text (next_head.Fault fault) out says = ap step_written says
 no_text next_head.Pending out says = ap step_written says
 no_text (next_head.Closed end) out says = ap step_written says
 
-asked : (v w : View) (head : NextHead) → w.wire ≡ v.wire → Goes v.line on.next (SaysNext head) w.line → AreTraces v w
+asked : (v w : View) (head : NextHead) → w.wire ≡ v.wire → Goes v.line on.next (SaysNext head) w.line → By v [] w
 asked v w head wire goes = went v w on.next (SaysNext head) goes (λ out says machine. quiet v w on.next out wire refl (no_text head out says))
 
-done : (v w : View) (event : on.Event) → w.wire ≡ v.wire → step_taken event on.done ≡ [] → Goes v.line event (Is on.done) w.line → AreTraces v w
+done : (v w : View) (event : on.Event) → w.wire ≡ v.wire → step_taken event on.done ≡ [] → Goes v.line event (Is on.done) w.line → By v (of_answer event) w
 done v w event wire none goes =
     went v w event (Is on.done) goes (λ out is machine. quiet v w event out wire (ap (λ o. step_taken event o) is ∙ none) (ap step_written is))
 
 -- bytes that the wire took
-gave : (v w : View) (answer : Poll (Result ℕ Failed)) → WriteSays v.wire w.wire answer (buffered v) → Wrote v.line w.line answer → AreTraces v w
+gave : (v w : View) (answer : Poll (Result ℕ Failed)) → WriteSays v.wire w.wire answer (buffered v) → Wrote v.line w.line answer → By v [] w
 gave v w (Ready (Ok n)) says goes =
     went v w (on.write n) (Is (on.gave (take n (buffered v)))) goes.1 (λ out is machine. record {
       received = same_grows _ _ says.received;
@@ -136,7 +149,7 @@ short : (n : ℕ) (buf : List ℕ) (m : ℕ) → length buf ≤ m → length (ta
 short n buf m fits = omega (arith, length-take n buf, fits)
 
 took : (v w : View) (came buf : List ℕ) (answer : Poll (Result ℕ Failed)) → length buf ≤ room v → came ≡ moved answer buf → ReadSays v.wire w.wire answer buf
-    → Took v.line w.line came answer → AreTraces v w
+    → Took v.line w.line came answer → By v [] w
 took v w came buf (Ready (Ok n)) fits are says (inl end) =
     went v w on.eof (Is on.done) end.1 (λ out is machine. record {
       received = subst (λ m. Grows v.wire.received w.wire.received (take m buf)) end.0 says.received;
@@ -153,10 +166,18 @@ took v w came buf (Ready (Ok n)) fits are says (inr some) =
 took v w came buf (Ready (Err e)) fits are says same = still v w same says.received (same_grows _ _ says.sent)
 took v w came buf Pending fits are says same = still v w same says.received (same_grows _ _ says.sent)
 
-wire_same : (v w : View) → w.line ≡ v.line → w.wire ≡ v.wire → AreTraces v w
+wire_same : (v w : View) → w.line ≡ v.line → w.wire ≡ v.wire → By v [] w
 wire_same v w line wire = still v w line (same_grows _ _ (ap (λ (t : Wiring). t.received) wire)) (same_grows _ _ (ap (λ (t : Wiring). t.sent) wire))
 
-step_follows : (v w : View) (d : Step) → IsNoted d → IsStep v d w → AreTraces v w
+-- what came of a body
+sends : (v w : View) (piece : Piece) → w.wire ≡ v.wire → Sent v.line w.line piece → By v (piece_hands piece) w
+sends v w (Ready (Some (Ok bytes))) wire goes = done v w (on.chunk bytes) wire refl goes
+sends v w (Ready (Some (Err (Body n)))) wire goes = done v w on.body_error wire refl goes
+sends v w (Ready (Some (Err NoMemory))) wire goes = absurd goes
+sends v w (Ready None) wire goes = done v w on.body_end wire refl goes
+sends v w Pending wire same = wire_same v w same wire
+
+step_follows : (v w : View) (d : Step) → IsNoted d → IsStep v d w → By v (step_hands d) w
 step_follows v w (ticked moment expiry) noted is =
     went v w (on.tick moment) (Is (expiry_of expiry)) is.0 (λ out says machine. quiet v w (on.tick moment) out (ap (λ (x : View). x.wire) is.1) refl (ap step_written says ∙ no_bytes expiry))
 step_follows v w drained noted is = done v w on.drain (ap (λ (x : View). x.wire) is.1) refl is.0
@@ -169,14 +190,16 @@ step_follows v w (ready request answer) noted is = wire_same v w (ap (λ (x : Vi
 step_follows v w (called request) noted is = wire_same v w (ap (λ (x : View). x.line) is.2) (ap (λ (x : View). x.wire) is.2)
 step_follows v w (answered answer) noted is = wire_same v w (ap (λ (x : View). x.line) is.4) (ap (λ (x : View). x.wire) is.4)
 step_follows v w dropped noted is = done v w on.drop_body (ap (λ (x : View). x.wire) is.3) refl is.2
-step_follows v w (replied answer) noted is = done v w _ (ap (λ (x : View). x.wire) is.3) refl is.2
+step_follows v w (replied answer) noted is = done v w (on.answer (answer_of answer.head) (size_of answer.body.size)) (ap (λ (x : View). x.wire) is.3) refl is.2
+step_follows v w (sent piece) noted is = sends v w piece (ap (λ (x : View). x.wire) is.3) is.2
 step_follows v w (failed event) noted is = absurd noted
 step_follows v w (failed_write count) noted is = absurd noted
 step_follows v w (failed_read came event) noted is = absurd noted
+step_follows v w (failed_sent piece) noted is = absurd noted
 step_follows v w asked_to_drain noted is = wire_same v w (ap (λ (x : View). x.line) is) (ap (λ (x : View). x.wire) is)
 
-follows_on : (v u w : View) → AreTraces v u → AreTraces u w → AreTraces v w
-follows_on v u w a b = λ trace stands.
+follows_on : (v u w : View) (first then : List on.Event) → By v first u → By u then w → By v (first ++ then) w
+follows_on v u w first then a b = λ trace stands.
     let x = a trace stands in
     let y = b (x.more ++ trace) x.stands in
     record {
@@ -184,8 +207,10 @@ follows_on v u w a b = λ trace stands.
       stands = subst (λ (l : List sums.Step). LineStands w.line l) (sym (append_assoc y.more x.more trace)) y.stands;
       received = subst (λ l. Grows v.wire.received w.wire.received l) (sym (taken_more y.more x.more)) (grown (taken x.more) (taken y.more) _ _ _ x.received y.received);
       sent = subst (λ l. Grows v.wire.sent w.wire.sent l) (sym (written_more y.more x.more)) (grown (written x.more) (written y.more) _ _ _ x.sent y.sent);
+      answers = answers_more y.more x.more ∙ ap (λ l. l ++ answers_in y.more) x.answers ∙ ap (λ l. first ++ l) y.answers;
     }
 
-pub run_follows : (v w : View) (steps : List Step) → AllNoted steps → IsRun v steps w → AreTraces v w
+pub run_follows : (v w : View) (steps : List Step) → AllNoted steps → IsRun v steps w → AreTraces v steps w
 run_follows v w [] noted is = wire_same v w (ap (λ (x : View). x.line) is) (ap (λ (x : View). x.wire) is)
-run_follows v w (d ∷ steps) noted is = follows_on v is.0 w (step_follows v is.0 d noted.0 is.1) (run_follows is.0 w steps noted.1 is.2)
+run_follows v w (d ∷ steps) noted is =
+    follows_on v is.0 w (step_hands d) (hands steps) (step_follows v is.0 d noted.0 is.1) (run_follows is.0 w steps noted.1 is.2)

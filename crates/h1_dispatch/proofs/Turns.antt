@@ -1,8 +1,11 @@
 -- What the parts of a turn say, one after the other.
-use Rattle.std.proofs.Common.{◌≡◌, ◌≤◌, ◌⊎◌, ℕ, Bool, true, false, Option, Some, None, is_some, List, [], ◌∷◌, length, Result, Ok, inl, inr, refl, sym, ap, ◌∙◌, subst, arith}
+use Rattle.std.proofs.Common.{◌≡◌, ◌≤◌, ◌<◌, ◌+◌, ◌*◌, ◌⊎◌, ◌++◌, ℕ, Bool, true, false, Option, Some, None, is_some, List, [], ◌∷◌, length, Result, Ok, inl, inr, refl, sym, ap, ◌∙◌, subst, arith}
+use Rattle.std.proofs.lemmas.List.{length-append}
+use Rattle.futures.specs.declared.task.Poll.{Poll}
 use Rattle.futures.specs.declared.task.Poll.TheVariants.{Ready, Pending}
 use Rattle.futures.specs.declared.task.context.Context.{Context}
 use Rattle.std.specs.Prelude.{option_map, not, ◌&&◌, ◌||◌, ◌==◌, if◌then◌else◌}
+use Rattle.http_bodies.specs.Giving.{Giving}
 use Rattle.h1_model.specs.Event as on
 use Rattle.h1_model.specs.Setting.{Setting}
 use Rattle.h1_machine.specs.Kept.{Kept, is_open}
@@ -16,10 +19,10 @@ use Rattle.http_types.specs.declared.error.DispatchError.{DispatchError}
 use Rattle.h1_dispatch.specs.declared.dispatcher.Ending.TheVariants.{Closed}
 use Rattle.h1_dispatch.specs.declared.dispatcher.Turn.{Turn}
 use Rattle.h1_dispatch.specs.declared.dispatcher.Turn.TheVariants.{Counted, Idle, Over}
-use Rattle.h1_dispatch.specs.View.{View, Asking, Stage, free, waiting, calling, replying, is_busy, is_waiting, is_calling, closes, allows, allows_next, allows_answer, HasNoOutput, HasNoInput}
-use Rattle.h1_dispatch.specs.Steps.{Step, IsStep, written, shut, next, ready, called, answered}
-use Rattle.h1_dispatch.specs.Polls.{Continues, IsShut, Ended, result_of, counts, Awaits, Looks, Serves, IsHeld, GoesOn, Ends, TurnSays, ServeSays, AfterSays, EndSays, StepSays, ReadingSays, TurnsSay}
-use Rattle.h1_dispatch.proofs.Runs.{one, goes_by, ends_by, goes_after, ends_after}
+use Rattle.h1_dispatch.specs.View.{View, Asking, Stage, free, waiting, calling, replying, sending, is_busy, is_waiting, is_calling, is_sending, allows_chunk, closes, allows, allows_next, has_write_room, asks_next, allows_answer, buffered, HasNoOutput, HasNoInput}
+use Rattle.h1_dispatch.specs.Steps.{Step, IsStep, written, shut, next, ready, called, answered, sent}
+use Rattle.h1_dispatch.specs.Polls.{Continues, IsShut, Ended, result_of, counts, Awaits, Looks, Sends, Serves, IsHeld, GoesOn, Ends, WritesFirst, TurnSays, ServeSays, AfterSays, EndSays, StepSays, ReadingSays, TurnsSay}
+use Rattle.h1_dispatch.proofs.Runs.{one, run_on, all_on, progress_on, goes_by, ends_by, goes_after, ends_after, more_goes, more_ends}
 
 pub none_of : {A : Type 0} (x : Option A) → is_some x ≡ false → x ≡ None
 none_of None is = refl
@@ -47,49 +50,60 @@ shut_ended w ends.HalfClosed result is so = subst (λ r. IsShut w (shut (Ready (
 shut_ended w ends.InputEnded result is so = subst (λ r. IsShut w (shut (Ready (Ok tt)) ∷ []) r) (sym is) so
 
 pub shut_over : (v w : View) (end : End) (result : Result Unit DispatchError) → result ≡ result_of end → w.ending ≡ Some (Closed end)
-    → IsStep v (shut (Ready (Ok tt))) w → Ends v w result
+    → IsStep v (shut (Ready (Ok tt))) w → Ends v w 5 result
 shut_over v w end result is ending step =
-    subst (λ r. Ends v w r) (sym is)
-    (ends_by v w (shut (Ready (Ok tt))) (result_of end) step (shut_ended w end (result_of end) refl (([], refl, tt), (end, ending, refl))))
+    subst (λ r. Ends v w 5 r) (sym is)
+    (ends_by 5 (omega arith) v w (shut (Ready (Ok tt))) (result_of end) step (shut_ended w end (result_of end) refl (([], refl, tt), (end, ending, refl))))
 
 -- ---- one step before what follows
 
-pub step_then : (v u w : View) (d : Step) (turn : Turn) → IsStep v d u → Continues d → EndSays u w turn → ServeSays v w turn
-step_then v u w d Counted is goes says = goes_after v u w 0 1 1 (omega arith) (goes_by v u d 0 is goes (omega arith)) says
-step_then v u w d Idle is goes says = absurd says
-step_then v u w d (Over result) is goes says = ends_after v u w 0 result (goes_by v u d 0 is goes (omega arith)) says
+pub step_then : (most : ℕ) → 3 ≤ most → (v u w : View) (d : Step) (turn : Turn) → IsStep v d u → Continues d → EndSays 2 u w turn → ServeSays most v w turn
+step_then most fits v u w d Counted is goes says = goes_after v u w 0 1 1 (omega arith) 1 2 most (omega (arith, fits)) (goes_by 1 (omega arith) v u d 0 is goes (omega arith)) says
+step_then most fits v u w d Idle is goes says = absurd says
+step_then most fits v u w d (Over result) is goes says = ends_after v u w 0 result 1 2 most (omega (arith, fits)) (goes_by 1 (omega arith) v u d 0 is goes (omega arith)) says
 
-pub drop_then : (v u w : View) (d : Step) (turn : Turn) → IsStep v d u → Continues d → 1 ≤ counts d → StepSays u w turn → EndSays v w turn
-drop_then v u w d Counted is goes one says = goes_after v u w 1 0 1 (omega arith) (goes_by v u d 1 is goes one) says
+pub drop_then : (v u w : View) (d : Step) (turn : Turn) → IsStep v d u → Continues d → 1 ≤ counts d → StepSays u w turn → EndSays 2 v w turn
+drop_then v u w d Counted is goes one says = goes_after v u w 1 0 1 (omega arith) 1 1 2 (omega arith) (goes_by 1 (omega arith) v u d 1 is goes one) says
 drop_then v u w d Idle is goes one says = absurd says
-drop_then v u w d (Over result) is goes one says = ends_after v u w 0 result (goes_by v u d 0 is goes (omega arith)) says
+drop_then v u w d (Over result) is goes one says = ends_after v u w 0 result 1 1 2 (omega arith) (goes_by 1 (omega arith) v u d 0 is goes (omega arith)) says
 
-less : (v w : View) → GoesOn v w 1 → GoesOn v w 0
-less v w g = record { steps = g.steps; run = g.run; go_on = g.go_on; enough = omega arith }
+less : (v w : View) → GoesOn v w 1 1 → GoesOn v w 0 1
+less v w g = record { steps = g.steps; run = g.run; go_on = g.go_on; enough = omega arith; few = g.few }
 
-pub left_step : (v w : View) (turn : Turn) → EndSays v w turn → StepSays v w turn
+pub left_step : (v w : View) (turn : Turn) → EndSays 1 v w turn → StepSays v w turn
 left_step v w Counted says = less v w says
 left_step v w Idle says = absurd says
 left_step v w (Over result) says = says
 
-pub only_end : (v w : View) (turn : Turn) → EndSays v w turn → ServeSays v w turn
-only_end v w Counted says = says
+pub more_end : (v w : View) (turn : Turn) → EndSays 1 v w turn → EndSays 2 v w turn
+more_end v w Counted says = more_goes v w 1 1 2 (omega arith) says
+more_end v w Idle says = absurd says
+more_end v w (Over result) says = more_ends v w result 1 2 (omega arith) says
+
+pub only_end : (v w : View) (turn : Turn) → EndSays 2 v w turn → ServeSays 4 v w turn
+only_end v w Counted says = more_goes v w 1 2 4 (omega arith) says
 only_end v w Idle says = absurd says
-only_end v w (Over result) says = says
+only_end v w (Over result) says = more_ends v w result 2 4 (omega arith) says
+
+pub more_serve : (v w : View) (turn : Turn) → ServeSays 3 v w turn → ServeSays 4 v w turn
+more_serve v w Counted says = more_goes v w 1 3 4 (omega arith) says
+more_serve v w Idle says = says
+more_serve v w (Over result) says = more_ends v w result 3 4 (omega arith) says
 
 -- what was pending, and then the input
-pub pending_then : (v u w : View) (d : Step) (turn : Turn) → IsStep v d u → Continues d → Serves v (allows_answer v) (d ∷ []) → ReadingSays u w turn → ServeSays v w turn
-pending_then v u w d Counted is goes waits says = goes_after v u w 0 1 1 (omega arith) (goes_by v u d 0 is goes (omega arith)) says
-pending_then v u w d Idle is goes waits says =
+pub pending_then : (most : ℕ) → 2 ≤ most → (v u w : View) (d : Step) (turn : Turn) → IsStep v d u → Continues d → Serves v (is_sending v.stage) (allows_answer v) (d ∷ []) → ReadingSays u w turn
+    → ServeSays most v w turn
+pending_then most fits v u w d Counted is goes waits says = goes_after v u w 0 1 1 (omega arith) 1 1 most (omega (arith, fits)) (goes_by 1 (omega arith) v u d 0 is goes (omega arith)) says
+pending_then most fits v u w d Idle is goes waits says =
     record { served = d ∷ []; between = u; serves = one v u d is; reading = says.reading; reads = says.reads; waits = waits; no_input = says.no_input }
-pending_then v u w d (Over result) is goes waits says = ends_after v u w 0 result (goes_by v u d 0 is goes (omega arith)) says
+pending_then most fits v u w d (Over result) is goes waits says = ends_after v u w 0 result 1 1 most (omega (arith, fits)) (goes_by 1 (omega arith) v u d 0 is goes (omega arith)) says
 
 -- the input alone
-pub input_then : (v w : View) (turn : Turn) → Serves v (allows_answer v) [] → ReadingSays v w turn → ServeSays v w turn
-input_then v w Counted waits says = says
+pub input_then : (v w : View) (turn : Turn) → Serves v (is_sending v.stage) (allows_answer v) [] → ReadingSays v w turn → ServeSays 4 v w turn
+input_then v w Counted waits says = more_goes v w 1 1 4 (omega arith) says
 input_then v w Idle waits says =
     record { served = []; between = v; serves = refl; reading = says.reading; reads = says.reads; waits = waits; no_input = says.no_input }
-input_then v w (Over result) waits says = says
+input_then v w (Over result) waits says = more_ends v w result 1 4 (omega arith) says
 
 -- ---- how far the last request is
 
@@ -98,41 +112,73 @@ now_free free is = refl
 now_free (waiting request) is = absurd (cc is)
 now_free calling is = absurd (cc is)
 now_free (replying answer) is = absurd (cc is)
+now_free (sending body) is = absurd (cc is)
 
 pub now_waiting : (s : Stage) → is_waiting s ≡ true → (request : Asking) × (s ≡ waiting request)
 now_waiting (waiting request) is = (request, refl)
 now_waiting free is = absurd (cc is)
 now_waiting calling is = absurd (cc is)
 now_waiting (replying answer) is = absurd (cc is)
+now_waiting (sending body) is = absurd (cc is)
+
+pub now_sending : (s : Stage) → is_sending s ≡ true → (body : Giving) × (s ≡ sending body)
+now_sending (sending body) is = (body, refl)
+now_sending free is = absurd (cc is)
+now_sending (waiting request) is = absurd (cc is)
+now_sending calling is = absurd (cc is)
+now_sending (replying answer) is = absurd (cc is)
 
 pub now_calling : (s : Stage) → is_calling s ≡ true → s ≡ calling
 now_calling calling is = refl
 now_calling free is = absurd (cc is)
 now_calling (waiting request) is = absurd (cc is)
 now_calling (replying answer) is = absurd (cc is)
+now_calling (sending body) is = absurd (cc is)
 
 -- ---- what was pending
 
-serves_by : (v : View) (allows : Bool) (served : List Step) → allows ≡ true → Awaits v.stage served → Serves v allows served
-serves_by v true served is waits = waits
-serves_by v false served is waits = absurd (cc is)
+serves_by : (v : View) (sends allows : Bool) (served : List Step) → sends ≡ false → allows ≡ true → Awaits v.stage served → Serves v sends allows served
+serves_by v false true served unsent is waits = waits
+serves_by v false false served unsent is waits = absurd (cc is)
+serves_by v true allows served unsent is waits = absurd (cc unsent)
 
-looks_by : (v : View) (allows : Bool) (served : List Step) → allows ≡ false → Looks (allows_next v) v.stage served → Serves v allows served
-looks_by v false served is looks = looks
-looks_by v true served is looks = absurd (cc is)
+looks_by : (v : View) (sends allows : Bool) (served : List Step) → sends ≡ false → allows ≡ false → Looks (asks_next v) v.stage served → Serves v sends allows served
+looks_by v false false served unsent is looks = looks
+looks_by v false true served unsent is looks = absurd (cc is)
+looks_by v true allows served unsent is looks = absurd (cc unsent)
 
-pub waits_call : (v : View) → allows_answer v ≡ true → v.stage ≡ calling → Serves v (allows_answer v) (answered Pending ∷ [])
-waits_call v allowed is = serves_by v (allows_answer v) _ allowed (subst (λ s. Awaits s (answered Pending ∷ [])) (sym is) refl)
+sends_by : (v : View) (sends allows : Bool) (served : List Step) → sends ≡ true → Sends (allows_chunk v) served → Serves v sends allows served
+sends_by v true allows served is sends = sends
+sends_by v false allows served is sends = absurd (cc is)
 
-pub waits_ready : (v : View) (request : Asking) → allows_answer v ≡ true → v.stage ≡ waiting request → Serves v (allows_answer v) (ready request Pending ∷ [])
-waits_ready v request allowed is = serves_by v (allows_answer v) _ allowed (subst (λ s. Awaits s (ready request Pending ∷ [])) (sym is) (inl refl))
+pub waits_body : (v : View) → is_sending v.stage ≡ true → allows_chunk v ≡ true → Serves v (is_sending v.stage) (allows_answer v) (sent Pending ∷ [])
+waits_body v goes_out allowed = sends_by v (is_sending v.stage) (allows_answer v) _ goes_out (subst (λ b. Sends b (sent Pending ∷ [])) (sym allowed) refl)
 
-pub waits_none : (v : View) → allows_answer v ≡ true → v.stage ≡ free → Serves v (allows_answer v) []
-waits_none v allowed is = serves_by v (allows_answer v) _ allowed (subst (λ s. Awaits s []) (sym is) refl)
+pub waits_room : (v : View) → is_sending v.stage ≡ true → allows_chunk v ≡ false → Serves v (is_sending v.stage) (allows_answer v) []
+waits_room v goes_out full = sends_by v (is_sending v.stage) (allows_answer v) _ goes_out (subst (λ b. Sends b []) (sym full) refl)
 
-pub waits_head : (v : View) → allows_answer v ≡ false → allows_next v ≡ true → v.stage ≡ free → Serves v (allows_answer v) (next next_head.Pending ∷ [])
+pub waits_call : (v : View) → allows_answer v ≡ true → v.stage ≡ calling → Serves v (is_sending v.stage) (allows_answer v) (answered Pending ∷ [])
+waits_call v allowed is = serves_by v (is_sending v.stage) (allows_answer v) _ (ap is_sending is) allowed (subst (λ s. Awaits s (answered Pending ∷ [])) (sym is) refl)
+
+pub waits_ready : (v : View) (request : Asking) → allows_answer v ≡ true → v.stage ≡ waiting request → Serves v (is_sending v.stage) (allows_answer v) (ready request Pending ∷ [])
+waits_ready v request allowed is = serves_by v (is_sending v.stage) (allows_answer v) _ (ap is_sending is) allowed (subst (λ s. Awaits s (ready request Pending ∷ [])) (sym is) (inl refl))
+
+pub waits_none : (v : View) → allows_answer v ≡ true → v.stage ≡ free → Serves v (is_sending v.stage) (allows_answer v) []
+waits_none v allowed is = serves_by v (is_sending v.stage) (allows_answer v) _ (ap is_sending is) allowed (subst (λ s. Awaits s []) (sym is) refl)
+
+pub both_true : (a b : Bool) → a ≡ true → b ≡ true → (a && b) ≡ true
+both_true a b is so = ap (λ x. x && b) is ∙ so
+
+first_false : (a b : Bool) → a ≡ false → (a && b) ≡ false
+first_false a b is = ap (λ x. x && b) is
+
+last_false : (a b : Bool) → b ≡ false → (a && b) ≡ false
+last_false true b is = is
+last_false false b is = refl
+
+pub waits_head : (v : View) → allows_answer v ≡ false → asks_next v ≡ true → v.stage ≡ free → Serves v (is_sending v.stage) (allows_answer v) (next next_head.Pending ∷ [])
 waits_head v off may is =
-    looks_by v (allows_answer v) _ off (subst (λ m. Looks m v.stage (next next_head.Pending ∷ [])) (sym may) (subst (λ s. Looks true s (next next_head.Pending ∷ [])) (sym is) refl))
+    looks_by v (is_sending v.stage) (allows_answer v) _ (ap is_sending is) off (subst (λ m. Looks m v.stage (next next_head.Pending ∷ [])) (sym may) (subst (λ s. Looks true s (next next_head.Pending ∷ [])) (sym is) refl))
 
 looks_not : (may : Bool) (s : Stage) → may ≡ false → Looks may s []
 looks_not false s is = refl
@@ -142,26 +188,34 @@ looks_busy : (may : Bool) (s : Stage) → is_busy s ≡ true → Looks may s []
 looks_busy true (waiting request) is = refl
 looks_busy true calling is = refl
 looks_busy true (replying answer) is = refl
+looks_busy true (sending body) is = refl
 looks_busy true free is = absurd (cc is)
 looks_busy false s is = refl
 
-pub waits_not : (v : View) → allows_answer v ≡ false → allows_next v ≡ false → Serves v (allows_answer v) []
-waits_not v off may = looks_by v (allows_answer v) _ off (looks_not (allows_next v) v.stage may)
+pub waits_not : (v : View) → is_sending v.stage ≡ false → allows_answer v ≡ false → allows_next v ≡ false → Serves v (is_sending v.stage) (allows_answer v) []
+waits_not v unsent off may =
+    looks_by v (is_sending v.stage) (allows_answer v) _ unsent off (looks_not (asks_next v) v.stage (first_false (allows_next v) (has_write_room v) may))
 
-pub waits_busy : (v : View) → allows_answer v ≡ false → is_busy v.stage ≡ true → Serves v (allows_answer v) []
-waits_busy v off busy = looks_by v (allows_answer v) _ off (looks_busy (allows_next v) v.stage busy)
+-- and where there is no room for an answer
+pub waits_full : (v : View) → is_sending v.stage ≡ false → allows_answer v ≡ false → has_write_room v ≡ false → Serves v (is_sending v.stage) (allows_answer v) []
+waits_full v unsent off full =
+    looks_by v (is_sending v.stage) (allows_answer v) _ unsent off (looks_not (asks_next v) v.stage (last_false (allows_next v) (has_write_room v) full))
+
+pub waits_busy : (v : View) → is_sending v.stage ≡ false → allows_answer v ≡ false → is_busy v.stage ≡ true → Serves v (is_sending v.stage) (allows_answer v) []
+waits_busy v unsent off busy = looks_by v (is_sending v.stage) (allows_answer v) _ unsent off (looks_busy (asks_next v) v.stage busy)
 
 -- a call was begun, and polled at once
-called_awaits : (u : View) (allows : Bool) (served : List Step) → allows ≡ true → u.stage ≡ calling → Serves u allows served → served ≡ answered Pending ∷ []
-called_awaits u true served is now waits = subst (λ s. Awaits s served) now waits
-called_awaits u false served is now waits = absurd (cc is)
+called_awaits : (u : View) (sends allows : Bool) (served : List Step) → sends ≡ false → allows ≡ true → u.stage ≡ calling → Serves u sends allows served → served ≡ answered Pending ∷ []
+called_awaits u false true served unsent is now waits = subst (λ s. Awaits s served) now waits
+called_awaits u false false served unsent is now waits = absurd (cc is)
+called_awaits u true allows served unsent is now waits = absurd (cc unsent)
 
 awaits_called : (s : Stage) (request : Asking) (served : List Step) → s ≡ waiting request → served ≡ answered Pending ∷ [] → Awaits s (called request ∷ served)
 awaits_called s request served is so = subst (λ x. Awaits x (called request ∷ served)) (sym is) (inr (ap (λ l. called request ∷ l) so))
 
 pub called_then : (v u w : View) (request : Asking) (turn : Turn) → IsStep v (called request) u → allows_answer v ≡ true → allows_answer u ≡ true
-    → v.stage ≡ waiting request → u.stage ≡ calling → ServeSays u w turn → ServeSays v w turn
-called_then v u w request Counted is may allowed waits now says = goes_after v u w 0 1 1 (omega arith) (goes_by v u (called request) 0 is tt (omega arith)) says
+    → v.stage ≡ waiting request → u.stage ≡ calling → ServeSays 3 u w turn → ServeSays 4 v w turn
+called_then v u w request Counted is may allowed waits now says = goes_after v u w 0 1 1 (omega arith) 1 3 4 (omega arith) (goes_by 1 (omega arith) v u (called request) 0 is tt (omega arith)) says
 called_then v u w request Idle is may allowed waits now says =
     record {
       served = called request ∷ says.served;
@@ -169,42 +223,89 @@ called_then v u w request Idle is may allowed waits now says =
       serves = (u, is, says.serves);
       reading = says.reading;
       reads = says.reads;
-      waits = serves_by v (allows_answer v) (called request ∷ says.served) may (awaits_called v.stage request says.served waits (called_awaits u (allows_answer u) says.served allowed now says.waits));
+      waits = serves_by v (is_sending v.stage) (allows_answer v) (called request ∷ says.served) (ap is_sending waits) may
+          (awaits_called v.stage request says.served waits (called_awaits u (is_sending u.stage) (allows_answer u) says.served (ap is_sending now) allowed now says.waits));
       no_input = says.no_input;
     }
-called_then v u w request (Over result) is may allowed waits now says = ends_after v u w 0 result (goes_by v u (called request) 0 is tt (omega arith)) says
+called_then v u w request (Over result) is may allowed waits now says = ends_after v u w 0 result 1 3 4 (omega arith) (goes_by 1 (omega arith) v u (called request) 0 is tt (omega arith)) says
 
 -- ---- after the writing
 
-pub open_then : (v w : View) (turn : Turn) → closes v ≡ false → ServeSays v w turn → AfterSays v w turn
+pub open_then : (v w : View) (turn : Turn) → closes v ≡ false → ServeSays 4 v w turn → AfterSays v w turn
 open_then v w Counted so says = says
 open_then v w Idle so says = inr (so, says)
 open_then v w (Over result) so says = says
 
-pub end_then : (v w : View) (turn : Turn) → EndSays v w turn → AfterSays v w turn
-end_then v w Counted says = says
+pub end_then : (v w : View) (turn : Turn) → EndSays 1 v w turn → AfterSays v w turn
+end_then v w Counted says = more_goes v w 1 1 4 (omega arith) says
 end_then v w Idle says = absurd says
-end_then v w (Over result) says = says
+end_then v w (Over result) says = more_ends v w result 1 4 (omega arith) says
 
 pub quiet_then : (v w : View) (turn : Turn) → v.ending ≡ None → HasNoOutput v → AfterSays v w turn → TurnSays v w turn
-quiet_then v w Counted running none says = says
+quiet_then v w Counted running none says = (more_goes v w 1 4 5 (omega arith) says, inl none)
 quiet_then v w Idle running none says =
     inl (record { running = running; writing = []; after = v; writes = refl; no_output = inr (refl, none); waits = says })
-quiet_then v w (Over result) running none says = says
+quiet_then v w (Over result) running none says = more_ends v w result 4 5 (omega arith) says
 
 pub written_then : (v u w : View) (turn : Turn) → v.ending ≡ None → IsStep v (written Pending) u → AfterSays u w turn → TurnSays v w turn
-written_then v u w Counted running is says = goes_after v u w 0 1 1 (omega arith) (goes_by v u (written Pending) 0 is tt (omega arith)) says
+written_then v u w Counted running is says = (
+  record { steps = written Pending ∷ says.steps; run = (u, is, says.run); go_on = (tt, says.go_on); enough = omega (arith, says.enough); few = omega (arith, says.few) },
+  inr (Pending, says.steps, refl),
+)
 written_then v u w Idle running is says =
     inl (record { running = running; writing = written Pending ∷ []; after = u; writes = one v u (written Pending) is; no_output = inl refl; waits = says })
-written_then v u w (Over result) running is says = ends_after v u w 0 result (goes_by v u (written Pending) 0 is tt (omega arith)) says
+written_then v u w (Over result) running is says = ends_after v u w 0 result 1 4 5 (omega arith) (goes_by 1 (omega arith) v u (written Pending) 0 is tt (omega arith)) says
+
+-- the wire took bytes
+pub wrote_first : (v w : View) (count : ℕ) → IsStep v (written (Ready (Ok count))) w → TurnSays v w Counted
+wrote_first v w count is = (
+  record { steps = written (Ready (Ok count)) ∷ []; run = one v w (written (Ready (Ok count))) is; go_on = (tt, tt); enough = omega arith; few = omega arith },
+  inr (Ready (Ok count), [], refl),
+)
 
 -- ---- the turns
 
-pub turns_idle : (v u w : View) (cx : Context) (n : ℕ) → GoesOn v u n → TurnSays u w Idle → TurnsSay v w cx Pending
-turns_idle v u w cx n goes says = inl (record { last = u; goes = record { steps = goes.steps; run = goes.run; go_on = goes.go_on; enough = omega arith }; stuck = says })
+-- so many turns: the first of them wrote first
+pub record Turns (v u : View) (n : ℕ) : Type 0 where
+  pub goes : GoesOn v u n (5 * n)
+  pub first : ((n ≡ 0) × (u ≡ v) × (goes.steps ≡ [])) ⊎ WritesFirst v goes.steps
 
-pub turns_over : (v u w : View) (cx : Context) (n : ℕ) (result : Result Unit DispatchError) → GoesOn v u n → TurnSays u w (Over result) → TurnsSay v w cx (Ready result)
-turns_over v u w cx n result goes says = ends_after v u w n result goes says
+pub no_turn : (v : View) → Turns v v 0
+no_turn v = record { goes = record { steps = []; run = refl; go_on = tt; enough = omega arith; few = omega arith }; first = inl (refl, refl, refl) }
+
+first_on : (v u : View) (n : ℕ) (s t : List Step) → ((n ≡ 0) × (u ≡ v) × (s ≡ [])) ⊎ WritesFirst v s → WritesFirst u t → WritesFirst v (s ++ t)
+first_on v u n s t (inl none) now = subst (λ l. WritesFirst v (l ++ t)) (sym none.2) (subst (λ x. WritesFirst x t) none.1 now)
+first_on v u n s t (inr (inl quiet)) now = inl quiet
+first_on v u n s t (inr (inr (answer, rest, is))) now = inr (answer, rest ++ t, ap (λ l. l ++ t) is)
+
+not_none : (v w : View) (n : ℕ) (s : List Step) → n ≡ 64 → ((n ≡ 0) × (w ≡ v) × (s ≡ [])) ⊎ WritesFirst v s → WritesFirst v s
+not_none v w n s is (inl none) = absurd (omega (arith, none.0, is))
+not_none v w n s is (inr first) = first
+
+pub turns_spent : (v w : View) (cx : Context) (n : ℕ) (result : Poll (Result Unit DispatchError)) → n ≡ 64 → Turns v w n → cx.is_woken ≡ true → result ≡ Pending → TurnsSay v w cx result
+turns_spent v w cx n result is turns woken pending =
+    let goes = turns.goes in
+    let all : GoesOn v w 64 (5 * 64) = record { steps = goes.steps; run = goes.run; go_on = goes.go_on; enough = omega (arith, goes.enough, is); few = omega (arith, goes.few, is) } in
+    subst (λ r. TurnsSay v w cx r) (sym pending) (inr (record { goes = all; first = not_none v w n goes.steps is turns.first; woken = woken }))
+
+pub turns_idle : (v u w : View) (cx : Context) (n : ℕ) → n < 64 → GoesOn v u n (5 * n) → TurnSays u w Idle → TurnsSay v w cx Pending
+turns_idle v u w cx n below goes says = inl (record { turns = n; fewer = below; last = u; goes = goes; stuck = says })
+
+pub turns_over : (v u w : View) (cx : Context) (n : ℕ) (result : Result Unit DispatchError) → n < 64 → GoesOn v u n (5 * n) → TurnSays u w (Over result) → TurnsSay v w cx (Ready result)
+turns_over v u w cx n result below goes says = ends_after v u w n result (5 * n) 5 (5 * 64) (omega (arith, below)) goes says
+
+-- another turn
+pub turns_on : (v u w : View) (n : ℕ) → Turns v u n → TurnSays u w Counted → Turns v w (n + 1)
+turns_on v u w n turns says = record {
+  goes = record {
+    steps = turns.goes.steps ++ says.0.steps;
+    run = run_on v u w turns.goes.steps says.0.steps turns.goes.run says.0.run;
+    go_on = all_on turns.goes.steps says.0.steps turns.goes.go_on says.0.go_on;
+    enough = omega (arith, progress_on turns.goes.steps says.0.steps, turns.goes.enough, says.0.enough);
+    few = omega (arith, length-append turns.goes.steps says.0.steps, turns.goes.few, says.0.few);
+  };
+  first = inr (first_on v u n turns.goes.steps says.0.steps turns.first says.1);
+}
 
 -- ---- nothing to be done
 
@@ -237,3 +338,9 @@ pub held_armed : {P : Type 0} (v : View) → HasNoOutput v ⊎ P → closes v �
 held_armed v (inl (inl empty)) closing may refused = absurd (tells (setting_of v.line.state.settings) v.line.state.kept closing may empty refused)
 held_armed v (inl (inr unwritten)) closing may refused = absurd (clash (sym may ∙ unwritten))
 held_armed v (inr armed) closing may refused = armed
+
+-- and a body that waits for room waits for that too
+pub full_armed : {P : Type 0} (v : View) → HasNoOutput v ⊎ P → 0 < length (buffered v) → allows v (on.write 0) ≡ true → P
+full_armed v (inl (inl empty)) some may = absurd (omega (arith, empty, some))
+full_armed v (inl (inr unwritten)) some may = absurd (clash (sym may ∙ unwritten))
+full_armed v (inr armed) some may = armed

@@ -5,3 +5,5 @@ pub mod Traces
 pub mod Order
 pub mod Acts
 pub mod Open
+pub mod Bodies
+pub mod Bounds

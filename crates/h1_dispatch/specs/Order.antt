@@ -3,7 +3,7 @@ use Rattle.std.specs.Prelude.{◌≡◌, ◌+◌, ℕ, List, [], ◌∷◌, ◌+
 use Rattle.futures.specs.declared.task.Poll.{Poll}
 use Rattle.futures.specs.declared.task.Poll.TheVariants.{Ready, Pending}
 use Rattle.http_bodies.specs.Told.{Grows}
-use Rattle.h1_dispatch.specs.View.{View, Asking, Answer, Stage, free, waiting, calling, replying}
+use Rattle.h1_dispatch.specs.View.{View, Asking, Answer, Stage, free, waiting, calling, replying, sending}
 use Rattle.h1_dispatch.specs.Steps.{Step, request_at, next, ready, called, answered, replied}
 
 -- the request that waits for the service, the answer that wasn't handed on, and how many calls are in progress
@@ -12,18 +12,21 @@ waits_in free = []
 waits_in (waiting request) = request ∷ []
 waits_in calling = []
 waits_in (replying answer) = []
+waits_in (sending body) = []
 
 abbrev pub reply_in : Stage → List Answer
 reply_in free = []
 reply_in (waiting request) = []
 reply_in calling = []
 reply_in (replying answer) = answer ∷ []
+reply_in (sending body) = []
 
 abbrev pub calls_in : Stage → ℕ
 calls_in free = 0
 calls_in (waiting request) = 0
 calls_in calling = 1
 calls_in (replying answer) = 0
+calls_in (sending body) = 0
 
 -- the requests of the heads that were handed out
 abbrev pub step_requests : Step → List Asking

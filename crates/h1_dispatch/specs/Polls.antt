@@ -1,5 +1,5 @@
 -- What a poll of a dispatcher answers.
-use Rattle.std.specs.Prelude.{◌≡◌, ◌≤◌, ◌+◌, ◌⊎◌, ◌++◌, ◌∷◌, ℕ, Bool, true, false, Option, Some, None, List, [], ⊤, Result, Ok, Err}
+use Rattle.std.specs.Prelude.{◌≡◌, ◌≤◌, ◌<◌, ◌+◌, ◌*◌, ◌⊎◌, ◌++◌, ◌∷◌, ℕ, Bool, true, false, Some, None, List, [], length, ⊤, Result, Ok, Err}
 use Rattle.std.specs.List.{AllByRecursion}
 use Rattle.futures.specs.declared.task.Poll.{Poll}
 use Rattle.futures.specs.declared.task.Poll.TheVariants.{Ready, Pending}
@@ -8,6 +8,7 @@ use Rattle.http_config.specs.declared.Failed.{Failed}
 use Rattle.http_types.specs.declared.error.DispatchError.{DispatchError}
 use Rattle.http_types.specs.declared.error.DispatchError.TheVariants as error
 use Rattle.http_types.specs.declared.error.ParseError.TheVariants as parse
+use Rattle.http_bodies.specs.Giving.{Piece}
 use Rattle.h1_model.specs.Event as on
 use Rattle.h1_connection.specs.declared.connection.heads.NextHead.{NextHead}
 use Rattle.h1_connection.specs.declared.connection.heads.NextHead.TheVariants as next_head
@@ -17,8 +18,8 @@ use Rattle.h1_connection.specs.declared.event.End.TheVariants as ends
 use Rattle.h1_dispatch.specs.declared.dispatcher.Ending.TheVariants.{Closed, Abandoned, Broken}
 use Rattle.h1_dispatch.specs.declared.dispatcher.Turn.{Turn}
 use Rattle.h1_dispatch.specs.declared.dispatcher.Turn.TheVariants.{Counted, Idle, Over}
-use Rattle.h1_dispatch.specs.View.{View, Stage, free, waiting, calling, replying, is_broken, closes, allows, allows_next, allows_answer, HasNoOutput, HasNoInput}
-use Rattle.h1_dispatch.specs.Steps.{Step, IsStep, IsRun, ticked, drained, written, read, shut, next, closed, ready, called, answered, dropped, replied, failed, failed_write, failed_read, asked_to_drain}
+use Rattle.h1_dispatch.specs.View.{View, Stage, free, waiting, calling, replying, sending, is_sending, is_broken, closes, allows, allows_next, asks_next, allows_answer, allows_chunk, HasNoOutput, HasNoInput}
+use Rattle.h1_dispatch.specs.Steps.{Step, IsStep, IsRun, ticked, drained, written, read, shut, next, closed, ready, called, answered, dropped, replied, sent, failed, failed_write, failed_read, failed_sent, asked_to_drain}
 
 -- ---- steps
 
@@ -47,9 +48,11 @@ Continues (called request) = ⊤
 Continues (answered answer) = ⊤
 Continues dropped = ⊤
 Continues (replied answer) = ⊤
+Continues (sent piece) = ⊤
 Continues (failed event) = ⊥
 Continues (failed_write count) = ⊥
 Continues (failed_read came event) = ⊥
+Continues (failed_sent piece) = ⊥
 Continues asked_to_drain = ⊥
 
 -- it goes on after each of these steps
@@ -72,6 +75,10 @@ comes (next_head.Fault fault) = 1
 comes next_head.Pending = 0
 comes (next_head.Closed end) = 1
 
+abbrev pub comes_of : Piece → ℕ
+comes_of (Ready x) = 1
+comes_of Pending = 0
+
 abbrev pub counts : Step → ℕ
 counts (written answer) = moves answer
 counts (read came answer) = moves answer
@@ -79,6 +86,7 @@ counts (next head) = comes head
 counts (closed end) = 1
 counts dropped = 1
 counts (replied answer) = 1
+counts (sent piece) = comes_of piece
 counts step = 0
 
 abbrev pub progress : List Step → ℕ
@@ -123,7 +131,8 @@ IsOfTurn event = ⊤
 abbrev pub IsOutOfMemory : List Step → Type 0
 IsOutOfMemory steps =
     ((event : on.Event) × IsOfTurn event × EndsWith steps (failed event))
-    ⊎ (((count : ℕ) × EndsWith steps (failed_write count)) ⊎ ((came : List ℕ) × (event : on.Event) × EndsWith steps (failed_read came event)))
+    ⊎ (((count : ℕ) × EndsWith steps (failed_write count))
+    ⊎ (((came : List ℕ) × (event : on.Event) × EndsWith steps (failed_read came event)) ⊎ ((piece : Piece) × EndsWith steps (failed_sent piece))))
 
 -- Why a poll ended: each error has its cause.
 abbrev pub Ended : View → List Step → Result Unit DispatchError → Type 0
@@ -148,19 +157,28 @@ Awaits free served = served ≡ []
 Awaits (waiting request) served = (served ≡ ready request Pending ∷ []) ⊎ (served ≡ called request ∷ answered Pending ∷ [])
 Awaits calling served = served ≡ answered Pending ∷ []
 Awaits (replying answer) served = ⊥
+Awaits (sending body) served = ⊥
 
--- no request may be answered: no head was there, or none may be asked for
+-- no request may be answered: no head was there, or none may be asked for, or there is no room for its answer until more is
+-- written
 abbrev pub Looks : Bool → Stage → List Step → Type 0
 Looks true free served = served ≡ next next_head.Pending ∷ []
 Looks true (waiting request) served = served ≡ []
 Looks true calling served = served ≡ []
 Looks true (replying answer) served = served ≡ []
+Looks true (sending body) served = served ≡ []
 Looks false stage served = served ≡ []
 
--- the service and the connection wait, from this view on
-abbrev pub Serves : View → Bool → List Step → Type 0
-Serves v true served = Awaits v.stage served
-Serves v false served = Looks (allows_next v) v.stage served
+-- the answer's body goes out: it was pending, or there is no room for a piece of it until more is written
+abbrev pub Sends : Bool → List Step → Type 0
+Sends true served = served ≡ sent Pending ∷ []
+Sends false served = served ≡ []
+
+-- the body, or else the service and the connection wait, from this view on
+abbrev pub Serves : View → Bool → Bool → List Step → Type 0
+Serves v true allows served = Sends (allows_chunk v) served
+Serves v false true served = Awaits v.stage served
+Serves v false false served = Looks (asks_next v) v.stage served
 
 -- the wire had no bytes, or none may be read
 abbrev pub Reads : View → List Step → Type 0
@@ -175,7 +193,7 @@ pub record IsIdle (v w : View) : Type 0 where
   pub serves : IsRun v served between
   pub reading : List Step
   pub reads : IsRun between reading w
-  pub waits : Serves v (allows_answer v) served
+  pub waits : Serves v (is_sending v.stage) (allows_answer v) served
   pub no_input : Reads between reading
 
 -- The connection closes, and its end may not be told: what is left waits to be written.
@@ -208,47 +226,54 @@ IsStuck v w = IsStuckRunning v w ⊎ IsStuckShutting v w
 
 -- ---- turns
 
--- after some steps, of which so many are progress, it goes on
-pub record GoesOn (v w : View) (n : ℕ) : Type 0 where
+-- after some steps, of which so many are progress, and which are no more than that, it goes on
+pub record GoesOn (v w : View) (n most : ℕ) : Type 0 where
   pub steps : List Step
   pub run : IsRun v steps w
   pub go_on : AllContinue steps
   pub enough : n ≤ progress steps
+  pub few : length steps ≤ most
 
--- after some steps it ends
-pub record Ends (v w : View) (result : Result Unit DispatchError) : Type 0 where
+-- after some steps, no more than that, it ends
+pub record Ends (v w : View) (most : ℕ) (result : Result Unit DispatchError) : Type 0 where
   pub steps : List Step
   pub run : IsRun v steps w
   pub ended : Ended w steps result
+  pub few : length steps ≤ most
 
+-- the wire was given what waits to be written in the first of these steps, or nothing waits that may be written
+abbrev pub WritesFirst : View → List Step → Type 0
+WritesFirst v steps = HasNoOutput v ⊎ ((answer : Poll (Result ℕ Failed)) × (rest : List Step) × (steps ≡ written answer ∷ rest))
+
+-- a turn, of at most five steps: the wire took nothing, a call was begun and answered, a body dropped, the answer handed on
 abbrev pub TurnSays : View → View → Turn → Type 0
-TurnSays v w Counted = GoesOn v w 1
+TurnSays v w Counted = (goes : GoesOn v w 1 5) × WritesFirst v goes.steps
 TurnSays v w Idle = IsStuck v w
-TurnSays v w (Over result) = Ends v w result
+TurnSays v w (Over result) = Ends v w 5 result
 
--- a turn after the writing, where the connection doesn't close
-abbrev pub ServeSays : View → View → Turn → Type 0
-ServeSays v w Counted = GoesOn v w 1
-ServeSays v w Idle = IsIdle v w
-ServeSays v w (Over result) = Ends v w result
+-- a turn after the writing, of at most so many steps, where the connection doesn't close
+abbrev pub ServeSays : ℕ → View → View → Turn → Type 0
+ServeSays most v w Counted = GoesOn v w 1 most
+ServeSays most v w Idle = IsIdle v w
+ServeSays most v w (Over result) = Ends v w most result
 
 -- and where it may
 abbrev pub AfterSays : View → View → Turn → Type 0
-AfterSays v w Counted = GoesOn v w 1
+AfterSays v w Counted = GoesOn v w 1 4
 AfterSays v w Idle = IsHeld v w ⊎ ((closes v ≡ false) × IsIdle v w)
-AfterSays v w (Over result) = Ends v w result
+AfterSays v w (Over result) = Ends v w 4 result
 
 -- the last step of a connection that closes
-abbrev pub EndSays : View → View → Turn → Type 0
-EndSays v w Counted = GoesOn v w 1
-EndSays v w Idle = ⊥
-EndSays v w (Over result) = Ends v w result
+abbrev pub EndSays : ℕ → View → View → Turn → Type 0
+EndSays most v w Counted = GoesOn v w 1 most
+EndSays most v w Idle = ⊥
+EndSays most v w (Over result) = Ends v w most result
 
 -- the same, of a step that may be left to the next turn
 abbrev pub StepSays : View → View → Turn → Type 0
-StepSays v w Counted = GoesOn v w 0
+StepSays v w Counted = GoesOn v w 0 1
 StepSays v w Idle = ⊥
-StepSays v w (Over result) = Ends v w result
+StepSays v w (Over result) = Ends v w 1 result
 
 -- a turn that reads
 pub record IsReadIdle (v w : View) : Type 0 where
@@ -257,9 +282,9 @@ pub record IsReadIdle (v w : View) : Type 0 where
   pub no_input : Reads v reading
 
 abbrev pub ReadingSays : View → View → Turn → Type 0
-ReadingSays v w Counted = GoesOn v w 1
+ReadingSays v w Counted = GoesOn v w 1 1
 ReadingSays v w Idle = IsReadIdle v w
-ReadingSays v w (Over result) = Ends v w result
+ReadingSays v w (Over result) = Ends v w 1 result
 
 -- this holds where nothing more can be done
 abbrev pub OnIdle : Turn → Type 0 → Type 0
@@ -304,18 +329,22 @@ abbrev pub BeginSays : {A E : Type 0} → View → ℕ → View → Result A E �
 BeginSays v moment w (Ok x) = IsBegun v moment w
 BeginSays v moment w (Err e) = BeginFails v moment w
 
--- the turns of a poll, which are pending where nothing more can be done, or 64 steps were noted and the task is woken
+-- The turns of a poll are at most 64, of at most five steps each. They are pending where nothing more can be done, or where
+-- 64 steps were noted, and then the task is woken; what waited to be written was given to the wire first.
 pub record IsSpent (v w : View) (cx : Context) : Type 0 where
-  pub goes : GoesOn v w 64
+  pub goes : GoesOn v w 64 (5 * 64)
+  pub first : WritesFirst v goes.steps
   pub woken : cx.is_woken ≡ true
 
 pub record Waits (v w : View) : Type 0 where
+  pub turns : ℕ
+  pub fewer : turns < 64
   pub last : View
-  pub goes : GoesOn v last 0
+  pub goes : GoesOn v last turns (5 * turns)
   pub stuck : IsStuck last w
 
 abbrev pub TurnsSay : View → View → Context → Poll (Result Unit DispatchError) → Type 0
-TurnsSay v w cx (Ready result) = Ends v w result
+TurnsSay v w cx (Ready result) = Ends v w (5 * 64) result
 TurnsSay v w cx Pending = Waits v w ⊎ IsSpent v w cx
 
 -- memory ran out before the turns, or they came

@@ -1,12 +1,15 @@
 -- The steps of a dispatcher.
-use Rattle.std.specs.Prelude.{◌≡◌, ◌≤◌, ◌<◌, ◌⊎◌, ℕ, true, Option, Some, None, List, [], ◌∷◌, length, take, ⊤, Result, Ok, Err}
+use Rattle.std.specs.Prelude.{◌≡◌, ◌≤◌, ◌<◌, ◌⊎◌, ℕ, zero, suc, true, false, Option, Some, None, List, [], ◌∷◌, length, take, ⊤, Result, Ok, Err}
 use Rattle.futures.specs.declared.task.Poll.{Poll}
 use Rattle.futures.specs.declared.task.Poll.TheVariants.{Ready, Pending}
 use Rattle.http_config.specs.declared.Failed.{Failed}
+use Rattle.http_framing.specs.declared.body.size.BodySize.{BodySize}
+use Rattle.http_framing.specs.declared.body.size.BodySize.TheVariants.{None as NoBody, Sized, Stream}
+use Rattle.http_bodies.specs.Giving.{Giving, Piece, PieceSays}
+use Rattle.http_bodies.specs.declared.body.fault.BodyFault.TheVariants.{Body, NoMemory}
 use Rattle.http_services.specs.Serving.{Serving, ReadySays, CallSays, AnswerSays}
 use Rattle.http_wires.specs.Wiring.{ReadSays, WriteSays, ShutSays, moved}
-use Rattle.h1_codec.specs.Meaning.{answer_of}
-use Rattle.h1_model.specs.Answer as answers
+use Rattle.h1_codec.specs.Meaning.{answer_of, size_of}
 use Rattle.h1_model.specs.Event as on
 use Rattle.h1_machine.specs.Local.{closing_by}
 use Rattle.h1_connection.specs.Heads.{SaysNext}
@@ -21,13 +24,14 @@ use Rattle.h1_connection.specs.declared.event.End.{End}
 use Rattle.h1_line.specs.Line.{LineView, LineSteps, LineFails}
 use Rattle.h1_dispatch.specs.declared.dispatcher.Ending.{Ending}
 use Rattle.h1_dispatch.specs.declared.dispatcher.Ending.TheVariants.{Closed, Abandoned, Broken}
-use Rattle.h1_dispatch.specs.View.{View, Asking, Answer, Stage, free, waiting, calling, replying, is_replying, with_drain, allows, allows_next, allows_answer, buffered, room}
+use Rattle.h1_dispatch.specs.View.{View, Asking, Answer, Stage, free, waiting, calling, replying, sending, is_replying, with_drain, closes, allows, allows_next, has_write_room, asks_next, allows_answer, allows_chunk, buffered, room}
 
 -- A step. A moment came; the drain came; the wire was given what waits to be written; it was asked for bytes, and these
 -- came; it was shut down; the next head was asked for; the connection closes, and told its end; the service was asked
 -- whether it takes a call with a request, and takes none; it takes one, and the call was begun; a call was polled; the rest
--- of a body was dropped; the answer was handed on. Or memory ran out: for an event, or for that of bytes which the wire had
--- moved. Or it was asked to drain, which no poll does.
+-- of a body was dropped; the answer was handed on; its body was polled, and what came was handed on. Or memory ran out: for
+-- an event, for that of bytes which the wire had moved, or for what came of a body. Or it was asked to drain, which no poll
+-- does.
 pub data Step : Type 0 where
   ticked : (moment : ℕ) → (expiry : Expiry) → Step
   drained : Step
@@ -41,9 +45,11 @@ pub data Step : Type 0 where
   answered : (answer : Poll (Result Answer Answer)) → Step
   dropped : Step
   replied : (answer : Answer) → Step
+  sent : (piece : Piece) → Step
   failed : (event : on.Event) → Step
   failed_write : (count : ℕ) → Step
   failed_read : (came : List ℕ) → (event : on.Event) → Step
+  failed_sent : (piece : Piece) → Step
   asked_to_drain : Step
 
 -- the event came to the connection, was noted, and had such an outcome; its settings stay
@@ -105,6 +111,43 @@ stage_answered (Ready (Ok x)) = replying x
 stage_answered (Ready (Err e)) = replying e
 stage_answered Pending = calling
 
+-- after an answer was handed on its body goes out, unless it has none
+abbrev pub stage_replied : Giving → BodySize → Stage
+stage_replied body NoBody = free
+stage_replied body (Sized zero) = free
+stage_replied body (Sized (suc n)) = sending body
+stage_replied body Stream = sending body
+
+-- what came of a body was handed on: a chunk, its end, or that it failed
+abbrev pub Sent : LineView → LineView → Piece → Type 0
+Sent old new (Ready (Some (Ok bytes))) = Goes old (on.chunk bytes) (Is on.done) new
+Sent old new (Ready (Some (Err (Body n)))) = Goes old on.body_error (Is on.done) new
+Sent old new (Ready (Some (Err NoMemory))) = ⊥
+Sent old new (Ready None) = Goes old on.body_end (Is on.done) new
+Sent old new Pending = new ≡ old
+
+-- The body is done with at its end. One that failed stays as it is left, and is polled no more, as the connection closes.
+abbrev pub stage_sent : Giving → Piece → Stage
+stage_sent left (Ready None) = free
+stage_sent left (Ready (Some piece)) = sending left
+stage_sent left Pending = sending left
+
+-- memory ran out for that, or in the body itself
+abbrev pub Lacked : LineView → LineView → Piece → Type 0
+Lacked old new (Ready (Some (Ok bytes))) = LineFails old (on.chunk bytes) new
+Lacked old new (Ready (Some (Err (Body n)))) = LineFails old on.body_error new
+Lacked old new (Ready (Some (Err NoMemory))) = new ≡ old
+Lacked old new (Ready None) = LineFails old on.body_end new
+Lacked old new Pending = ⊥
+
+-- The body that goes out was polled, where a piece of it may be handed in: this came, and that is left of it.
+pub record Polls (v : View) (left : Giving) (piece : Piece) : Type 0 where
+  pub running : v.ending ≡ None
+  pub allowed : allows_chunk v ≡ true
+  pub body : Giving
+  pub goes_out : v.stage ≡ sending body
+  pub says : PieceSays body left piece
+
 -- the service said that it takes a call, and then this one was begun
 pub record Begins (old new : Serving Asking Answer Answer) (request : Asking) : Type 0 where
   pub between : Serving Asking Answer Answer
@@ -116,15 +159,20 @@ pub record Begins (old new : Serving Asking Answer Answer) (request : Asking) : 
 abbrev pub IsAsked : View → Asking → Type 0
 IsAsked v request = (v.ending ≡ None) × (v.stage ≡ waiting request) × (allows_answer v ≡ true)
 
--- memory ran out for one of these: the moment, the drain where it was asked for, the next head, the rest of a body where
--- the answer is there, or this answer
+-- an answer is handed on once what is left of its request's body was dropped, wherever it may be dropped
+abbrev pub MayReply : View → Type 0
+MayReply v = (v.ending ≡ None) × (allows v on.drop_body ≡ false)
+
+-- memory ran out for one of these, where it is allowed: the moment, the drain where it was asked for, the next head, or the
+-- end of a connection that closes, the rest of a body where the answer is there, or this answer
 abbrev pub MayFail : View → on.Event → Type 0
-MayFail v (on.tick moment) = ⊤
-MayFail v on.drain = v.draining ≡ true
-MayFail v on.next = (v.ending ≡ None) × (allows_next v ≡ true)
-MayFail v on.drop_body = (v.ending ≡ None) × (is_replying v.stage ≡ true)
+MayFail v (on.tick moment) = allows v (on.tick moment) ≡ true
+MayFail v on.drain = (v.draining ≡ true) × (allows v on.drain ≡ true)
+MayFail v on.next = (v.ending ≡ None) × (allows_next v ≡ true) × ((closes v ≡ true) ⊎ (has_write_room v ≡ true))
+MayFail v on.drop_body = (v.ending ≡ None) × (is_replying v.stage ≡ true) × (allows v on.drop_body ≡ true)
 MayFail v (on.answer head size) =
-    (v.ending ≡ None) × ((answer : Answer) × (v.stage ≡ replying answer) × (head ≡ answer_of answer.head) × (size ≡ answers.size_of 0))
+    MayReply v × (allows_answer v ≡ true)
+    × ((answer : Answer) × (v.stage ≡ replying answer) × (head ≡ answer_of answer.head) × (size ≡ size_of answer.body.size))
 MayFail v event = ⊥
 
 -- so many bytes that came are told as bytes; none as the input's end
@@ -147,7 +195,7 @@ IsStep v (read came answer) w =
 IsStep v (shut answer) w =
     ((end : End) × (v.ending ≡ Some (Closed end))) × ShutSays v.wire w.wire answer × (w ≡ record v { wire = w.wire })
 IsStep v (next head) w =
-    (v.ending ≡ None) × (v.stage ≡ free) × (allows_next v ≡ true) × Goes v.line on.next (SaysNext head) w.line
+    (v.ending ≡ None) × (v.stage ≡ free) × (asks_next v ≡ true) × Goes v.line on.next (SaysNext head) w.line
     × (w ≡ record v { line = w.line; stage = stage_at (request_at head); ending = ending_told head })
 IsStep v (closed end) w =
     (v.ending ≡ None) × (closing_by (setting_of v.line.state.settings) v.line.state.kept ≡ Some (end_of end))
@@ -164,8 +212,10 @@ IsStep v (answered answer) w =
 IsStep v dropped w =
     (v.ending ≡ None) × (is_replying v.stage ≡ true) × Goes v.line on.drop_body (Is on.done) w.line × (w ≡ record v { line = w.line })
 IsStep v (replied answer) w =
-    (v.ending ≡ None) × (v.stage ≡ replying answer) × Goes v.line (on.answer (answer_of answer.head) (answers.size_of 0)) (Is on.done) w.line
-    × (w ≡ record v { line = w.line; stage = free })
+    MayReply v × (v.stage ≡ replying answer) × Goes v.line (on.answer (answer_of answer.head) (size_of answer.body.size)) (Is on.done) w.line
+    × (w ≡ record v { line = w.line; stage = stage_replied answer.body answer.body.size })
+IsStep v (sent piece) w =
+    (left : Giving) × Polls v left piece × Sent v.line w.line piece × (w ≡ record v { line = w.line; stage = stage_sent left piece })
 IsStep v (failed event) w = MayFail v event × LineFails v.line event w.line × (w ≡ record v { line = w.line; ending = Some Broken })
 IsStep v (failed_write count) w =
     (v.ending ≡ None) × (0 < length (buffered v)) × WriteSays {E = Failed} v.wire w.wire (Ready (Ok count)) (buffered v)
@@ -177,6 +227,9 @@ IsStep v (failed_read came event) w =
     × ReadSays {E = Failed} v.wire w.wire (Ready (Ok count)) buf × IsOfRead count came event)
     × LineFails v.line event w.line
     × (w ≡ record v { line = w.line; wire = w.wire; ending = Some Broken })
+IsStep v (failed_sent piece) w =
+    (left : Giving) × Polls v left piece × Lacked v.line w.line piece
+    × (w ≡ record v { line = w.line; stage = sending left; ending = Some Broken })
 IsStep v asked_to_drain w = w ≡ with_drain v
 
 -- one step after another

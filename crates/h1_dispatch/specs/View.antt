@@ -1,11 +1,12 @@
 -- What a dispatcher keeps, and what is known of what it stands on.
-use Rattle.std.specs.Prelude.{◌≡◌, ◌-◌, ◌⊎◌, ℕ, Bool, true, false, Option, Some, None, is_some, List, [], length, ⊤}
+use Rattle.std.specs.Prelude.{◌≡◌, ◌-◌, ◌⊎◌, ◌&&◌, ℕ, Bool, true, false, Option, Some, None, is_some, option_map, List, [], map, length, ⊤, Result, Ok, Err}
 use Rattle.http_config.specs.Config.{Settings}
 use Rattle.http_types.specs.Request.{RequestParts}
 use Rattle.http_types.specs.Response.{FullResponse}
+use Rattle.http_bodies.specs.Giving.{Giving}
 use Rattle.http_services.specs.Serving.{Serving, Calling}
 use Rattle.http_wires.specs.Wiring.{Wiring}
-use Rattle.h1_machine.specs.Local.{closing_by, allowed_by}
+use Rattle.h1_machine.specs.Local.{closing_by, allowed_by, has_room}
 use Rattle.h1_model.specs.Answer.{size_none}
 use Rattle.h1_model.specs.Event as on
 use Rattle.h1_connection.specs.Given.{next_allowed}
@@ -17,30 +18,58 @@ use Rattle.h1_dispatch.specs.declared.dispatcher.Dispatcher.{Dispatcher}
 use Rattle.h1_dispatch.specs.declared.dispatcher.Ending.{Ending}
 use Rattle.h1_dispatch.specs.declared.dispatcher.Ending.TheVariants.{Closed, Abandoned, Broken}
 use Rattle.h1_dispatch.specs.declared.dispatcher.Work.{Work}
-use Rattle.h1_dispatch.specs.declared.dispatcher.Work.TheVariants.{Free, Waiting, Calling as Called, Replying}
+use Rattle.h1_dispatch.specs.declared.dispatcher.Work.TheVariants.{Free, Waiting, Calling as Called, Replying, Sending}
 
 -- what a service is asked, and what it answers: a response, also where it refuses
 abbrev pub Asking : Type 0
 Asking = RequestParts Unit Unit
 
 abbrev pub Answer : Type 0
-Answer = FullResponse Unit
+Answer = FullResponse Giving
+
+-- a response by its head and by what its body gives, an answer that may be an error, and the service by both
+abbrev pub told_response : {B : Type 0} → (B → Giving) → FullResponse B → Answer
+told_response gives r = record { head = r.head; body = gives r.body }
+
+abbrev pub told_result : {B : Type 0} → (B → Giving) → Result (FullResponse B) (FullResponse B) → Result Answer Answer
+told_result gives (Ok r) = Ok (told_response gives r)
+told_result gives (Err r) = Err (told_response gives r)
+
+abbrev pub told_service : {B : Type 0} → (B → Giving) → Serving Asking (FullResponse B) (FullResponse B) → Serving Asking Answer Answer
+told_service gives s =
+    record {
+      called = s.called;
+      answered = option_map (map (told_result gives)) s.answered;
+      faults = s.faults;
+      ready_waits = s.ready_waits;
+      call_waits = s.call_waits;
+    }
 
 -- How far the last request is: nothing is left to do for it, or none has come; the service is to be called with it; its
--- call is in progress; its answer wasn't handed on yet. Only one of these holds, so that no answer becomes that of another
--- request.
+-- call is in progress; its answer wasn't handed on yet; the answer's body goes out, of which this is left. Only one of
+-- these holds, so that no answer becomes that of another request.
 pub data Stage : Type 0 where
   free : Stage
   waiting : (request : Asking) → Stage
   calling : Stage
   replying : (answer : Answer) → Stage
+  sending : (body : Giving) → Stage
 
--- the service has a request to answer, or its answer is to be handed on
+-- the service has a request to answer, or its answer or the body of that is to be handed on
 abbrev pub is_busy : Stage → Bool
 is_busy free = false
 is_busy (waiting request) = true
 is_busy calling = true
 is_busy (replying answer) = true
+is_busy (sending body) = true
+
+-- the request has no answer at the connection yet
+abbrev pub is_unanswered : Stage → Bool
+is_unanswered free = false
+is_unanswered (waiting request) = true
+is_unanswered calling = true
+is_unanswered (replying answer) = true
+is_unanswered (sending body) = false
 
 abbrev pub is_waiting : Stage → Bool
 is_waiting (waiting request) = true
@@ -54,11 +83,16 @@ abbrev pub is_replying : Stage → Bool
 is_replying (replying answer) = true
 is_replying stage = false
 
-abbrev pub stage_of : {C : Type 0} → Work C → Stage
-stage_of Free = free
-stage_of (Waiting request) = waiting request
-stage_of (Called call) = calling
-stage_of (Replying response) = replying response
+abbrev pub is_sending : Stage → Bool
+is_sending (sending body) = true
+is_sending stage = false
+
+abbrev pub stage_of : {C B : Type 0} → (B → Giving) → Work C B → Stage
+stage_of gives Free = free
+stage_of gives (Waiting request) = waiting request
+stage_of gives (Called call) = calling
+stage_of gives (Replying response) = replying (told_response gives response)
+stage_of gives (Sending body) = sending (gives body)
 
 -- The connection with the steps that were noted; the wire; the service; how far the last request is; how the connection
 -- has ended; and that it is to be drained.
@@ -70,13 +104,13 @@ pub record View : Type 0 where
   pub ending : Option Ending
   pub draining : Bool
 
-abbrev pub view_of : {T S C L : Type 0} → (T → Wiring) → (S → Serving Asking Answer Answer) → (L → Option (List Pair)) → Dispatcher T S C L → View
-view_of wiring served noted d =
+abbrev pub view_of : {T S C L B : Type 0} → (T → Wiring) → (S → Serving Asking (FullResponse B) (FullResponse B)) → (B → Giving) → (L → Option (List Pair)) → Dispatcher T S C L B → View
+view_of wiring served gives noted d =
     record {
       line = line_of noted d.line;
       wire = wiring d.wire;
-      service = served d.service;
-      stage = stage_of d.work;
+      service = told_service gives (served d.service);
+      stage = stage_of gives d.work;
       ending = d.ending;
       draining = d.is_draining;
     }
@@ -98,7 +132,7 @@ abbrev pub with_drain : View → View
 with_drain v = record v { draining = true }
 
 -- the wire, the service and the recorder
-abbrev pub parts_of : {T S C L : Type 0} → Dispatcher T S C L → T × S × L
+abbrev pub parts_of : {T S C L B : Type 0} → Dispatcher T S C L B → T × S × L
 parts_of d = (d.wire, d.service, d.line.recorder)
 
 -- memory ran out
@@ -109,13 +143,14 @@ is_broken (Some Abandoned) = false
 is_broken (Some Broken) = true
 
 -- a call in progress may be polled
-abbrev pub IsCallOpen : {C : Type 0} → (C → Calling Asking) → Work C → Type 0
+abbrev pub IsCallOpen : {C B : Type 0} → (C → Calling Asking) → Work C B → Type 0
 IsCallOpen called Free = ⊤
 IsCallOpen called (Waiting request) = ⊤
 IsCallOpen called (Called call) = (called call).is_open ≡ true
 IsCallOpen called (Replying response) = ⊤
+IsCallOpen called (Sending body) = ⊤
 
-abbrev pub MayBePolled : {T S C L : Type 0} → (C → Calling Asking) → Dispatcher T S C L → Type 0
+abbrev pub MayBePolled : {T S C L B : Type 0} → (C → Calling Asking) → Dispatcher T S C L B → Type 0
 MayBePolled called d = IsCallOpen called d.work
 
 -- ---- of the connection
@@ -132,6 +167,14 @@ allows v event = allowed_by (setting_of v.line.state.settings) v.line.state.kept
 abbrev pub allows_next : View → Bool
 allows_next v = next_allowed (setting_of v.line.state.settings) v.line.state.kept
 
+-- there is room for an answer: fewer bytes wait to be written than the settings' write buffer size
+abbrev pub has_write_room : View → Bool
+has_write_room v = has_room (setting_of v.line.state.settings) v.line.state.kept
+
+-- the next head is asked for where that is allowed, and where there is room for its answer
+abbrev pub asks_next : View → Bool
+asks_next v = allows_next v && has_write_room v
+
 -- the open request may be answered, which doesn't depend on the answer
 abbrev pub any_answer : on.Event
 any_answer =
@@ -141,6 +184,10 @@ any_answer =
 
 abbrev pub allows_answer : View → Bool
 allows_answer v = allows v any_answer
+
+-- a piece of the answer's body may be handed in, which doesn't depend on it: there is room for one
+abbrev pub allows_chunk : View → Bool
+allows_chunk v = allows v (on.chunk [])
 
 -- the bytes that wait to be written
 abbrev pub buffered : View → List ℕ

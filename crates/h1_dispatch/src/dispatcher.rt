@@ -3,10 +3,11 @@ ghost use Rattle.std.specs.Prelude.{◌≡◌, ◌⊎◌, None, Some, []};
 ghost use Rattle.h1_machine.specs.Deadline.{deadline_by};
 ghost use Rattle.h1_connection.specs.Meaning.{setting_of};
 ghost use Rattle.h1_line.specs.Line.{LineStands};
-ghost use Rattle.h1_dispatch.specs.View.{view_of, view_begun, with_drain, parts_of, stage_of, is_busy, MayBePolled};
+ghost use Rattle.h1_dispatch.specs.View.{view_of, view_begun, with_drain, parts_of, told_service, stage_of, is_busy, is_sending, MayBePolled};
 
 use h1_connection::End;
 use h1_line::{Line, Recorder};
+use http_bodies::MessageBody;
 use http_services::Service;
 use http_types::{Request, Response, ServiceConfig};
 use http_wires::Wire;
@@ -16,6 +17,7 @@ mod answer;
 mod begin;
 mod poll;
 mod read;
+mod send;
 mod serve;
 mod turns;
 mod write;
@@ -35,7 +37,7 @@ pub enum Ending {
 
 /// How far the last request is: only one of these holds, so that no answer becomes that of another request.
 #[derive(Drop)]
-enum Work<C> {
+enum Work<C, B> {
     /// Nothing is left to do for it, or none has come.
     Free,
 
@@ -46,42 +48,62 @@ enum Work<C> {
     Calling(C),
 
     /// Its answer wasn't handed on yet.
-    Replying(Response<()>),
+    Replying(Response<B>),
+
+    /// The answer's body goes out.
+    Sending(B),
 }
 
-impl<C> Work<C> {
-    /// Whether the service has a request to answer, or its answer is to be handed on.
+impl<C, B: MessageBody> Work<C, B> {
+    /// Whether the service has a request to answer, or its answer or the body of that is to be handed on.
     fn is_busy(&self) -> bool
-        ensures { result ≡ is_busy (stage_of self.now) }
+        ensures { result ≡ is_busy (stage_of B.gives self.now) }
     {
         match self {
             Work::Free => false,
             Work::Waiting(_) => true,
             Work::Calling(_) => true,
             Work::Replying(_) => true,
+            Work::Sending(_) => true,
+        }
+    }
+
+    /// Whether the answer's body goes out.
+    fn is_sending(&self) -> bool
+        ensures { result ≡ is_sending (stage_of B.gives self.now) }
+    {
+        match self {
+            Work::Free => false,
+            Work::Waiting(_) => false,
+            Work::Calling(_) => false,
+            Work::Replying(_) => false,
+            Work::Sending(_) => true,
         }
     }
 }
 
 /// A service over a wire, by one connection of HTTP/1: each request goes to the service, and its answer is written.
 ///
-/// The parameters are the wire, the service and its call, and who notes the steps of the connection. An answer has a head
-/// and no body. The body of a request isn't read: what is left of it is dropped when the request is answered.
+/// The parameters are the wire, the service and its call, the body of its answers, and who notes the steps of the
+/// connection. A piece of an answer's body is asked for once there is room for it. The body of a request isn't read: what is
+/// left of it is dropped when the request is answered.
 #[derive(Drop)]
-pub struct Dispatcher<T, S, C, L> {
+pub struct Dispatcher<T, S, C, L, B = ()> {
+    alloc: Global,
     line: Line<L>,
     wire: T,
     service: S,
     lent: (),
-    work: Work<C>,
+    work: Work<C, B>,
     ending: Option<Ending>,
     is_draining: bool,
 }
 
-impl<T, S, L> Dispatcher<T, S, S::Call, L>
+impl<T, S, L, B> Dispatcher<T, S, S::Call, L, B>
 where
     T: Wire,
-    S: Service<Request<(), ()>, Response = Response<()>, Error = Response<()>, Lent = ()>,
+    S: Service<Request<(), ()>, Response = Response<B>, Error = Response<B>, Lent = ()>,
+    B: MessageBody,
     L: Recorder,
 {
     /// A dispatcher of a connection to which nothing has come. It takes no memory.
@@ -91,12 +113,13 @@ where
         service: S,
         config: ServiceConfig,
         recorder: L,
-    ) -> Dispatcher<T, S, S::Call, L>
-        ensures view { view_of T.wiring S.served L.noted result ≡ view_begun (T.wiring wire) (S.served service) config (L.noted recorder) }
-        ensures stands { (L.noted recorder ≡ None) ⊎ (L.noted recorder ≡ Some []) → LineStands (view_of T.wiring S.served L.noted result).line [] }
+    ) -> Dispatcher<T, S, S::Call, L, B>
+        ensures view { view_of T.wiring S.served B.gives L.noted result ≡ view_begun (T.wiring wire) (told_service B.gives (S.served service)) config (L.noted recorder) }
+        ensures stands { (L.noted recorder ≡ None) ⊎ (L.noted recorder ≡ Some []) → LineStands (view_of T.wiring S.served B.gives L.noted result).line [] }
         ensures open { MayBePolled S.calling result }
     {
         Dispatcher {
+            alloc,
             line: Line::new(alloc, config, recorder),
             wire,
             service,
@@ -109,7 +132,7 @@ where
 
     /// Has the connection end once no request is open. The next poll tells it so, where it doesn't close yet.
     pub fn drain(&mut self)
-        ensures view { view_of T.wiring S.served L.noted self.new ≡ with_drain (view_of T.wiring S.served L.noted self.old) }
+        ensures view { view_of T.wiring S.served B.gives L.noted self.new ≡ with_drain (view_of T.wiring S.served B.gives L.noted self.old) }
         ensures open { MayBePolled S.calling self.old → MayBePolled S.calling self.new }
     {
         self.is_draining = true;
@@ -118,14 +141,14 @@ where
     /// The least moment at which a poll would tell that a time has run out, in milliseconds after the start of 1970, where
     /// one would. Who drives the dispatcher polls it then, if it isn't woken before.
     pub fn deadline(&self) -> Option<u64>
-        ensures { result ≡ deadline_by (setting_of (view_of T.wiring S.served L.noted self.now).line.state.settings) (view_of T.wiring S.served L.noted self.now).line.state.kept }
+        ensures { result ≡ deadline_by (setting_of (view_of T.wiring S.served B.gives L.noted self.now).line.state.settings) (view_of T.wiring S.served B.gives L.noted self.now).line.state.kept }
     {
         self.line.connection().deadline()
     }
 
     /// The service.
     pub fn service(&self) -> &S
-        ensures { S.served result.now ≡ (view_of T.wiring S.served L.noted self.now).service }
+        ensures { told_service B.gives (S.served result.now) ≡ (view_of T.wiring S.served B.gives L.noted self.now).service }
     {
         &self.service
     }

@@ -1,13 +1,23 @@
 //! What the steps of every run are together.
-ghost use Rattle.std.specs.Prelude.{◌≡◌, List, Option, Some, None, []};
+ghost use Rattle.std.specs.Prelude.{◌≡◌, ℕ, true, List, Option, Some, None, [], ◌∷◌, Err};
+ghost use Rattle.futures.specs.declared.task.Poll.TheVariants.{Ready};
 ghost use Rattle.http_config.specs.Config.{Settings};
+ghost use Rattle.http_bodies.specs.Giving.{Giving, Piece};
+ghost use Rattle.http_bodies.specs.declared.body.fault.BodyFault.TheVariants.{Body};
 ghost use Rattle.http_services.specs.Serving.{Serving};
 ghost use Rattle.http_wires.specs.Wiring.{Wiring};
-ghost use Rattle.h1_dispatch.specs.View.{View, Asking, Answer, view_begun};
-ghost use Rattle.h1_dispatch.specs.Steps.{Step, IsRun};
+ghost use Rattle.h1_model.specs.Sums as sums;
+ghost use Rattle.h1_machine.specs.Local.{has_room};
+ghost use Rattle.h1_connection.specs.Meaning.{setting_of};
+ghost use Rattle.h1_line.specs.Line.{LineStands};
+ghost use Rattle.h1_connection.specs.declared.connection.heads.NextHead.{NextHead};
+ghost use Rattle.h1_dispatch.specs.View.{View, Asking, Answer, has_write_room, view_begun};
+ghost use Rattle.h1_dispatch.specs.Steps.{Step, IsStep, IsRun, Polls, next, replied, sent, stage_replied};
+ghost use Rattle.h1_dispatch.specs.Bounds.{HasRoomForAnswer, GrowsInRoom};
+ghost use Rattle.h1_dispatch.specs.Bodies.{SendsBody, OnlyEnds};
 ghost use Rattle.h1_dispatch.specs.Order.{KeepsOrder};
 ghost use Rattle.h1_dispatch.specs.Open.{IsTied, StaysTied};
-ghost use Rattle.h1_dispatch.specs.Traces.{AllNoted, AreTraces};
+ghost use Rattle.h1_dispatch.specs.Traces.{IsNoted, AllNoted, AreTraces};
 ghost use Rattle.h1_dispatch.specs.Acts.{Act, ActsSay, AreOneRun};
 
 /// Polls one after another, with drains asked for between them, are one run of steps: the moment, the drain and the turns
@@ -17,9 +27,11 @@ pub fn polls_are_one_run()
 {}
 
 /// Over every run in which memory doesn't run out, the steps of the connection that were noted are a trace of it, whatever
-/// came before: its reads took what the wire gave, all of it and in order, and what the wire took is what was written.
+/// came before: its reads took what the wire gave, all of it and in order, and what the wire took is what was written. Each
+/// answer that was handed on stands in that trace with its head and the size of its body, and behind it all that came of
+/// the body, in order.
 pub fn runs_are_traces()
-    ensures { (v w : View) (steps : List Step) → AllNoted steps → IsRun v steps w → AreTraces v w }
+    ensures { (v w : View) (steps : List Step) → AllNoted steps → IsRun v steps w → AreTraces v steps w }
 {}
 
 /// Over every run requests are called, or refused, in the order in which their heads were handed out; the last one may
@@ -29,10 +41,33 @@ pub fn runs_keep_order()
     ensures { (v w : View) (steps : List Step) → IsRun v steps w → KeepsOrder v steps w }
 {}
 
+/// Over every run the body that goes out gives its chunks once and in order, up to the next answer; where its end was handed
+/// on, it had no more to give. So it is for each answer that is handed on: its body is polled from then on, unless it has no
+/// byte, and none is polled where none goes out. It is polled only where fewer bytes wait to be written than the settings'
+/// write buffer size. Once it has failed the connection closes, and over every run in which memory doesn't run out all that
+/// comes after is its end: what waits is written, and nothing is read, begun, answered or polled.
+pub fn runs_send_bodies()
+    ensures runs { (v w : View) (steps : List Step) → IsRun v steps w → SendsBody v.stage steps w }
+    ensures answers { (v w : View) (answer : Answer) (steps : List Step) → IsRun v (replied answer ∷ steps) w → SendsBody (stage_replied answer.body answer.body.size) steps w }
+    ensures bounded { (v : View) (left : Giving) (piece : Piece) → Polls v left piece → has_room (setting_of v.line.state.settings) v.line.state.kept ≡ true }
+    ensures failed { (v w : View) (number : ℕ) (steps : List Step) (trace : List sums.Step) → LineStands v.line trace → AllNoted steps → IsRun v (sent (Ready (Some (Err (Body number)))) ∷ steps) w → OnlyEnds steps w }
+{}
+
 /// Over every run in which memory doesn't run out, an open request without an answer waits for the service, or its call is
-/// in progress, or its answer is to be handed on; and a request for which one of these holds is open and has no answer. So
-/// it is for a new dispatcher whose recorder knows of no step.
+/// in progress, or its answer is to be handed on; and a request for which one of these holds is open and has no answer. The
+/// body of an answer that isn't whole is at hand, and may be polled while the connection goes on, wherever there is room for
+/// a piece of it. So it is for a new dispatcher whose recorder knows of no step.
 pub fn runs_lose_no_request()
     ensures new { (wire : Wiring) (service : Serving Asking Answer Answer) (settings : Settings) → IsTied (view_begun wire service settings None) × IsTied (view_begun wire service settings (Some [])) }
     ensures runs { (v w : View) (steps : List Step) → AllNoted steps → IsRun v steps w → IsTied v → StaysTied w }
+{}
+
+/// A head is asked for only where fewer bytes wait to be written than the settings' write buffer size. Over every run in
+/// which memory doesn't run out, from a new dispatcher on, each step that lets more bytes wait comes where fewer wait than
+/// that: so at most as many wait, and the text that one step adds, which is that of one answer's head, or of one piece of a
+/// body, or of its end. A moment may add the text of one answer of the connection's own, and then it closes.
+pub fn runs_bound_output()
+    ensures asked { (v w : View) (head : NextHead) → IsStep v (next head) w → has_write_room v ≡ true }
+    ensures new { (wire : Wiring) (service : Serving Asking Answer Answer) (settings : Settings) → HasRoomForAnswer (view_begun wire service settings None) × HasRoomForAnswer (view_begun wire service settings (Some [])) }
+    ensures runs { (v u w : View) (steps : List Step) (step : Step) → AllNoted steps → IsNoted step → HasRoomForAnswer v → IsRun v steps u → IsStep u step w → GrowsInRoom u step w }
 {}

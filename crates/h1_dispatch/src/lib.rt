@@ -14,14 +14,18 @@
 //! # Contract
 //!
 //! A poll says by which steps it came from one view of the dispatcher to another: a moment that came, bytes written or
-//! read, a head handed out, a call begun, an answer handed on. Each step says what it takes, what the wire, the service and
-//! the connection did, and that all else stays. What a poll answers says how its steps end. Polls one after another are one
-//! run of steps ([`polls_are_one_run`]). Over every run in which memory doesn't run out, the steps that were noted are a
-//! trace of the connection, and an open request is at hand; over every run requests and answers keep their order.
+//! read, a head handed out, a call begun, an answer handed on, a piece of its body. Each step says what it takes, what the
+//! wire, the service, the body and the connection did, and that all else stays. What a poll answers says how its steps end.
+//! Polls one after another are one run of steps ([`polls_are_one_run`]). Over every run in which memory doesn't run out, the
+//! steps that were noted are a trace of the connection, and an open request is at hand; over every run requests and answers
+//! keep their order, a body gives its pieces once and in order, and no more waits to be written than there is room for.
 #![tactic(auto)]
 
 mod dispatcher;
 mod laws;
 
 pub use dispatcher::{Dispatcher, Ending};
-pub use laws::{polls_are_one_run, runs_are_traces, runs_keep_order, runs_lose_no_request};
+pub use laws::{
+    polls_are_one_run, runs_are_traces, runs_bound_output, runs_keep_order, runs_lose_no_request,
+    runs_send_bodies,
+};

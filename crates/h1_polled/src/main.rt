@@ -3,6 +3,7 @@
 #![tactic(auto)]
 
 mod greeter;
+mod lines;
 mod serve;
 
 use h1_net::{Linger, SystemClock, TcpDoor};

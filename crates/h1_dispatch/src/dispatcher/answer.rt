@@ -1,31 +1,33 @@
 // The call in progress, and its answer.
-ghost use Rattle.std.specs.Prelude.{◌≡◌, None, true};
+ghost use Rattle.std.specs.Prelude.{◌≡◌, None, true, false};
 ghost use Rattle.futures.specs.Task.{IsArmed, Keeps};
-ghost use Rattle.h1_dispatch.specs.View.{view_of, stage_of, is_calling, is_replying, MayBePolled, allows_answer};
+ghost use Rattle.h1_model.specs.Event as on;
+ghost use Rattle.h1_dispatch.specs.View.{view_of, stage_of, is_calling, is_replying, MayBePolled, allows, allows_answer};
 ghost use Rattle.h1_dispatch.specs.Polls.{OnIdle, ServeSays, EndSays, StepSays};
 
 use crate::dispatcher::{Dispatcher, Ending, Turn, Work};
 use futures::task::{Context, Poll};
-use h1_connection::BodySize;
 use h1_line::Recorder;
+use http_bodies::MessageBody;
 use http_services::Service;
 use http_types::{DispatchError, Request, Response};
 use http_wires::Wire;
 use std::mem;
 
-impl<T, S, L> Dispatcher<T, S, S::Call, L>
+impl<T, S, L, B> Dispatcher<T, S, S::Call, L, B>
 where
     T: Wire,
-    S: Service<Request<(), ()>, Response = Response<()>, Error = Response<()>, Lent = ()>,
+    S: Service<Request<(), ()>, Response = Response<B>, Error = Response<B>, Lent = ()>,
+    B: MessageBody,
     L: Recorder,
 {
     /// Polls the call in progress, and hands its answer on.
     pub(super) fn answer(&mut self, cx: &mut Context<'_>) -> Turn
         requires open { MayBePolled S.calling self.old }
         requires running { self.old.ending ≡ None }
-        requires allowed { allows_answer (view_of T.wiring S.served L.noted self.old) ≡ true }
-        requires calls { is_calling (stage_of self.old.work) ≡ true }
-        ensures says { ServeSays (view_of T.wiring S.served L.noted self.old) (view_of T.wiring S.served L.noted self.new) result }
+        requires allowed { allows_answer (view_of T.wiring S.served B.gives L.noted self.old) ≡ true }
+        requires calls { is_calling (stage_of B.gives self.old.work) ≡ true }
+        ensures says { ServeSays 3 (view_of T.wiring S.served B.gives L.noted self.old) (view_of T.wiring S.served B.gives L.noted self.new) result }
         ensures open { MayBePolled S.calling self.new }
         ensures registered { OnIdle result (IsArmed cx.new) }
         ensures kept { Keeps cx.old cx.new }
@@ -53,9 +55,9 @@ where
     pub(super) fn hand_on(&mut self) -> Turn
         requires open { MayBePolled S.calling self.old }
         requires running { self.old.ending ≡ None }
-        requires allowed { allows_answer (view_of T.wiring S.served L.noted self.old) ≡ true }
-        requires answered { is_replying (stage_of self.old.work) ≡ true }
-        ensures says { EndSays (view_of T.wiring S.served L.noted self.old) (view_of T.wiring S.served L.noted self.new) result }
+        requires allowed { allows_answer (view_of T.wiring S.served B.gives L.noted self.old) ≡ true }
+        requires answered { is_replying (stage_of B.gives self.old.work) ≡ true }
+        ensures says { EndSays 2 (view_of T.wiring S.served B.gives L.noted self.old) (view_of T.wiring S.served B.gives L.noted self.new) result }
         ensures open { MayBePolled S.calling self.new }
     {
         if !self.line.connection().can_pull() {
@@ -70,34 +72,46 @@ where
         }
     }
 
-    /// After the drop the answer is allowed still, as the next turn would see.
+    /// After the drop nothing more may be dropped, and the answer is allowed still, as the next turn would see.
     fn put_reply_if_allowed(&mut self) -> Turn
         requires open { MayBePolled S.calling self.old }
         requires running { self.old.ending ≡ None }
-        requires answered { is_replying (stage_of self.old.work) ≡ true }
-        ensures says { StepSays (view_of T.wiring S.served L.noted self.old) (view_of T.wiring S.served L.noted self.new) result }
+        requires answered { is_replying (stage_of B.gives self.old.work) ≡ true }
+        ensures says { StepSays (view_of T.wiring S.served B.gives L.noted self.old) (view_of T.wiring S.served B.gives L.noted self.new) result }
         ensures open { MayBePolled S.calling self.new }
     {
+        if self.line.connection().can_pull() {
+            return Turn::Counted;
+        }
         if !self.line.connection().can_answer() {
             return Turn::Counted;
         }
         self.put_reply()
     }
 
-    /// Hands the answer on to the connection. It has no body.
+    /// Hands the answer on to the connection; its body goes out from then on, unless it has none. Nothing is left of the
+    /// request's body that may be dropped.
     fn put_reply(&mut self) -> Turn
         requires open { MayBePolled S.calling self.old }
         requires running { self.old.ending ≡ None }
-        requires allowed { allows_answer (view_of T.wiring S.served L.noted self.old) ≡ true }
-        requires answered { is_replying (stage_of self.old.work) ≡ true }
-        ensures says { EndSays (view_of T.wiring S.served L.noted self.old) (view_of T.wiring S.served L.noted self.new) result }
+        requires allowed { allows_answer (view_of T.wiring S.served B.gives L.noted self.old) ≡ true }
+        requires dropped { allows (view_of T.wiring S.served B.gives L.noted self.old) on.drop_body ≡ false }
+        requires answered { is_replying (stage_of B.gives self.old.work) ≡ true }
+        ensures says { EndSays 1 (view_of T.wiring S.served B.gives L.noted self.old) (view_of T.wiring S.served B.gives L.noted self.new) result }
         ensures open { MayBePolled S.calling self.new }
     {
         let Work::Replying(response) = mem::replace(&mut self.work, Work::Free) else {
             unreachable!()
         };
-        match self.line.answer(response.head(), BodySize::ZERO) {
-            Ok(()) => Turn::Counted,
+        let size = response.body().size();
+        match self.line.answer(response.head(), size) {
+            Ok(()) => {
+                if size.is_eof() {
+                    return Turn::Counted;
+                }
+                self.work = Work::Sending(response.into_body());
+                Turn::Counted
+            }
             Err(_) => {
                 self.work = Work::Replying(response);
                 self.ending = Some(Ending::Broken);

@@ -5,20 +5,22 @@ ghost use Rattle.h1_dispatch.specs.Polls.{TickSays, DrainSays, BeginSays};
 use crate::dispatcher::{Dispatcher, Ending};
 use h1_connection::{Expiry, NoMemory};
 use h1_line::Recorder;
+use http_bodies::MessageBody;
 use http_services::Service;
 use http_types::{Request, Response};
 use http_wires::Wire;
 
-impl<T, S, L> Dispatcher<T, S, S::Call, L>
+impl<T, S, L, B> Dispatcher<T, S, S::Call, L, B>
 where
     T: Wire,
-    S: Service<Request<(), ()>, Response = Response<()>, Error = Response<()>, Lent = ()>,
+    S: Service<Request<(), ()>, Response = Response<B>, Error = Response<B>, Lent = ()>,
+    B: MessageBody,
     L: Recorder,
 {
     /// Tells the connection the moment, and that it is to be drained.
     pub(super) fn begin(&mut self, moment: u64) -> Result<(), NoMemory>
         requires open { MayBePolled S.calling self.old }
-        ensures says { BeginSays (view_of T.wiring S.served L.noted self.old) moment (view_of T.wiring S.served L.noted self.new) result }
+        ensures says { BeginSays (view_of T.wiring S.served B.gives L.noted self.old) moment (view_of T.wiring S.served B.gives L.noted self.new) result }
         ensures open { MayBePolled S.calling self.new }
     {
         match self.tick(moment) {
@@ -29,7 +31,7 @@ where
 
     fn tick(&mut self, moment: u64) -> Result<(), NoMemory>
         requires open { MayBePolled S.calling self.old }
-        ensures says { TickSays (view_of T.wiring S.served L.noted self.old) moment (view_of T.wiring S.served L.noted self.new) result }
+        ensures says { TickSays (view_of T.wiring S.served B.gives L.noted self.old) moment (view_of T.wiring S.served B.gives L.noted self.new) result }
         ensures open { MayBePolled S.calling self.new }
     {
         if !self.line.connection().can_tick(moment) {
@@ -51,7 +53,7 @@ where
 
     fn tell_drain(&mut self) -> Result<(), NoMemory>
         requires open { MayBePolled S.calling self.old }
-        ensures says { DrainSays (view_of T.wiring S.served L.noted self.old) (view_of T.wiring S.served L.noted self.new) result }
+        ensures says { DrainSays (view_of T.wiring S.served B.gives L.noted self.old) (view_of T.wiring S.served B.gives L.noted self.new) result }
         ensures open { MayBePolled S.calling self.new }
     {
         if !self.is_draining {

@@ -8,34 +8,39 @@ ghost use Rattle.h1_dispatch.specs.Polls.{PollSays, TurnsSay};
 use crate::dispatcher::{Dispatcher, Ending, Turn};
 use futures::task::{Context, Poll};
 use h1_line::Recorder;
+use http_bodies::MessageBody;
 use http_services::Service;
 use http_types::{DispatchError, Request, Response};
 use http_wires::Wire;
 
-impl<T, S, L> Dispatcher<T, S, S::Call, L>
+impl<T, S, L, B> Dispatcher<T, S, S::Call, L, B>
 where
     T: Wire,
-    S: Service<Request<(), ()>, Response = Response<()>, Error = Response<()>, Lent = ()>,
+    S: Service<Request<(), ()>, Response = Response<B>, Error = Response<B>, Lent = ()>,
+    B: MessageBody,
     L: Recorder,
 {
     /// Goes on, at this moment, in milliseconds after the start of 1970, which is none before that of the last poll.
     ///
     /// The moment is told to the connection, and then the drain, where it was asked for and is allowed. Then come at most
-    /// 64 turns that count, each the first of these that is possible: what is buffered is written; a connection that closes
-    /// tells its end, and the wire is shut down; the answer of the call in progress is handed on; the next head goes to the
-    /// service; the input is read. While it closes nothing is read, and no request is begun or answered.
+    /// 64 turns, of at most five steps each, each the first of these that is possible: what is buffered is written; a
+    /// connection that closes tells its end, and the wire is shut down; the body of an answer is polled, where there is room
+    /// for a piece of it, and what comes is handed on; the answer of the call in progress is handed on, once what is left of
+    /// the request's body was dropped; the next head goes to the service, where there is room for its answer; the input is
+    /// read. While it closes nothing is read, no body is polled, and no request is begun or answered.
     ///
     /// It is pending where all that is needed is pending, or where its turns are spent: then the task is woken.
     ///
     /// # Errors
     ///
-    /// `Parse`, `SlowRequestTimeout` and `Body` where the connection ended by such an end, and the wire is shut down.
-    /// `DisconnectTimeout` where the peer took too long to take what was left. `Io` where the wire failed. `NoMemory` where
-    /// memory ran out: what was noted stays a trace, and the last step may not have been noted. From then on each poll
-    /// answers `NoMemory` and does nothing. No other.
+    /// `Parse`, `SlowRequestTimeout` and `Body` where the connection ended by such an end, and the wire is shut down: `Body`
+    /// where an answer's body failed, or ended before the length that its answer had stated. `DisconnectTimeout` where the
+    /// peer took too long to take what was left. `Io` where the wire failed. `NoMemory` where memory ran out, in a body too:
+    /// what was noted stays a trace, and the last step may not have been noted. From then on each poll answers `NoMemory`
+    /// and does nothing. No other.
     pub fn poll(&mut self, moment: u64, cx: &mut Context<'_>) -> Poll<Result<(), DispatchError>>
         requires open { MayBePolled S.calling self.old }
-        ensures says { PollSays (view_of T.wiring S.served L.noted self.old) (view_of T.wiring S.served L.noted self.new) cx.new moment result }
+        ensures says { PollSays (view_of T.wiring S.served B.gives L.noted self.old) (view_of T.wiring S.served B.gives L.noted self.new) cx.new moment result }
         ensures open { MayBePolled S.calling self.new }
         ensures registered { OnPending result (IsArmed cx.new) }
         ensures kept { Keeps cx.old cx.new }
@@ -51,7 +56,7 @@ where
 
     // Whether memory ran out.
     fn is_broken(&self) -> bool
-        ensures { result ≡ is_broken (view_of T.wiring S.served L.noted self.now).ending }
+        ensures { result ≡ is_broken (view_of T.wiring S.served B.gives L.noted self.now).ending }
     {
         match self.ending {
             None => false,
@@ -64,7 +69,7 @@ where
     /// The turns.
     fn turns(&mut self, cx: &mut Context<'_>) -> Poll<Result<(), DispatchError>>
         requires open { MayBePolled S.calling self.old }
-        ensures says { TurnsSay (view_of T.wiring S.served L.noted self.old) (view_of T.wiring S.served L.noted self.new) cx.new result }
+        ensures says { TurnsSay (view_of T.wiring S.served B.gives L.noted self.old) (view_of T.wiring S.served B.gives L.noted self.new) cx.new result }
         ensures open { MayBePolled S.calling self.new }
         ensures registered { OnPending result (IsArmed cx.new) }
         ensures kept { Keeps cx.old cx.new }

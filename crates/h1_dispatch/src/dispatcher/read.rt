@@ -1,8 +1,8 @@
 // The input is read.
-ghost use Rattle.std.specs.Prelude.{◌≡◌, ◌<◌, ◌≤◌, ℕ, List, None, true, length};
+ghost use Rattle.std.specs.Prelude.{◌≡◌, ◌<◌, ◌≤◌, ◌⊎◌, ℕ, List, None, true, length};
 ghost use Rattle.futures.specs.Task.{IsArmed, Keeps};
 ghost use Rattle.h1_model.specs.Event as on;
-ghost use Rattle.h1_dispatch.specs.View.{view_of, MayBePolled, allows, room};
+ghost use Rattle.h1_dispatch.specs.View.{view_of, MayBePolled, HasNoOutput, allows, room};
 ghost use Rattle.h1_dispatch.specs.Polls.{OnIdle, ReadingSays};
 ghost use Rattle.h1_dispatch.specs.declared.dispatcher.Turn.TheVariants.{Idle};
 
@@ -10,22 +10,24 @@ use crate::dispatcher::{Dispatcher, Ending, Turn};
 use futures::task::{Context, Poll};
 use h1_connection::READ_SIZE;
 use h1_line::Recorder;
+use http_bodies::MessageBody;
 use http_config::Failed;
 use http_services::Service;
 use http_types::{DispatchError, Request, Response};
 use http_wires::Wire;
 
-impl<T, S, L> Dispatcher<T, S, S::Call, L>
+impl<T, S, L, B> Dispatcher<T, S, S::Call, L, B>
 where
     T: Wire,
-    S: Service<Request<(), ()>, Response = Response<()>, Error = Response<()>, Lent = ()>,
+    S: Service<Request<(), ()>, Response = Response<B>, Error = Response<B>, Lent = ()>,
+    B: MessageBody,
     L: Recorder,
 {
     /// Reads, where nothing else was pending.
     pub(super) fn read_alone(&mut self, cx: &mut Context<'_>) -> Turn
         requires open { MayBePolled S.calling self.old }
         requires running { self.old.ending ≡ None }
-        ensures says { ReadingSays (view_of T.wiring S.served L.noted self.old) (view_of T.wiring S.served L.noted self.new) result }
+        ensures says { ReadingSays (view_of T.wiring S.served B.gives L.noted self.old) (view_of T.wiring S.served B.gives L.noted self.new) result }
         ensures open { MayBePolled S.calling self.new }
         ensures registered { OnIdle result (IsArmed cx.new) }
         ensures kept { Keeps cx.old cx.new }
@@ -46,7 +48,7 @@ where
         requires open { MayBePolled S.calling self.old }
         requires running { self.old.ending ≡ None }
         requires armed { IsArmed cx.old }
-        ensures says { ReadingSays (view_of T.wiring S.served L.noted self.old) (view_of T.wiring S.served L.noted self.new) result }
+        ensures says { ReadingSays (view_of T.wiring S.served B.gives L.noted self.old) (view_of T.wiring S.served B.gives L.noted self.new) result }
         ensures open { MayBePolled S.calling self.new }
         ensures registered { OnIdle result (IsArmed cx.new) }
         ensures kept { Keeps cx.old cx.new }
@@ -62,15 +64,35 @@ where
         self.read(&mut buf[..READ_SIZE.min(room)], cx)
     }
 
+    /// Reads, where what waits to be written has to go out before anything else: it was tried, unless nothing waits that may
+    /// be written.
+    pub(super) fn read_beside(&mut self, cx: &mut Context<'_>) -> Turn
+        requires open { MayBePolled S.calling self.old }
+        requires running { self.old.ending ≡ None }
+        requires armed { HasNoOutput (view_of T.wiring S.served B.gives L.noted self.old) ⊎ IsArmed cx.old }
+        ensures says { ReadingSays (view_of T.wiring S.served B.gives L.noted self.old) (view_of T.wiring S.served B.gives L.noted self.new) result }
+        ensures open { MayBePolled S.calling self.new }
+        ensures registered { OnIdle result (IsArmed cx.new) }
+        ensures kept { Keeps cx.old cx.new }
+    {
+        if self.line.connection().buffered() == 0 {
+            return self.read_alone(cx);
+        }
+        if !self.line.connection().can_write() {
+            return self.read_alone(cx);
+        }
+        self.read_on(cx)
+    }
+
     /// Reads as many bytes as there are, at most what fits.
     fn read(&mut self, buf: &mut [u8], cx: &mut Context<'_>) -> Turn
         requires open { MayBePolled S.calling self.old }
         requires running { self.old.ending ≡ None }
         requires some { 0 < length buf.old }
-        requires fits { length buf.old ≤ room (view_of T.wiring S.served L.noted self.old) }
-        requires read { (bytes : List ℕ) → allows (view_of T.wiring S.served L.noted self.old) (on.read bytes) ≡ true }
-        requires eof { allows (view_of T.wiring S.served L.noted self.old) on.eof ≡ true }
-        ensures says { ReadingSays (view_of T.wiring S.served L.noted self.old) (view_of T.wiring S.served L.noted self.new) result }
+        requires fits { length buf.old ≤ room (view_of T.wiring S.served B.gives L.noted self.old) }
+        requires read { (bytes : List ℕ) → allows (view_of T.wiring S.served B.gives L.noted self.old) (on.read bytes) ≡ true }
+        requires eof { allows (view_of T.wiring S.served B.gives L.noted self.old) on.eof ≡ true }
+        ensures says { ReadingSays (view_of T.wiring S.served B.gives L.noted self.old) (view_of T.wiring S.served B.gives L.noted self.new) result }
         ensures open { MayBePolled S.calling self.new }
         ensures registered { OnIdle result (IsArmed cx.new) }
         ensures kept { Keeps cx.old cx.new }

@@ -1,51 +1,69 @@
 // The next head is asked for, and the service.
-ghost use Rattle.std.specs.Prelude.{◌≡◌, None, true, false};
+ghost use Rattle.std.specs.Prelude.{◌≡◌, ◌⊎◌, None, true, false};
 ghost use Rattle.futures.specs.Task.{IsArmed, Keeps};
-ghost use Rattle.h1_dispatch.specs.View.{view_of, stage_of, is_busy, is_waiting, MayBePolled, allows_next, allows_answer};
+ghost use Rattle.h1_dispatch.specs.View.{view_of, stage_of, is_busy, is_waiting, is_sending, MayBePolled, HasNoOutput, allows_next, has_write_room, allows_answer};
 ghost use Rattle.h1_dispatch.specs.Polls.{OnIdle, ServeSays};
 
 use crate::dispatcher::{Dispatcher, Ending, Turn, Work};
 use futures::task::{Context, Poll};
 use h1_connection::NextHead;
 use h1_line::Recorder;
+use http_bodies::MessageBody;
 use http_services::Service;
 use http_types::{DispatchError, Request, Response};
 use http_wires::Wire;
 use std::mem;
 
-impl<T, S, L> Dispatcher<T, S, S::Call, L>
+impl<T, S, L, B> Dispatcher<T, S, S::Call, L, B>
 where
     T: Wire,
-    S: Service<Request<(), ()>, Response = Response<()>, Error = Response<()>, Lent = ()>,
+    S: Service<Request<(), ()>, Response = Response<B>, Error = Response<B>, Lent = ()>,
+    B: MessageBody,
     L: Recorder,
 {
-    /// Goes on with the open request, or else the next head, or else the input.
+    /// Goes on with the answer's body, or else the open request, or else the next head, where there is room for its answer,
+    /// or else the input.
     pub(super) fn serve(&mut self, cx: &mut Context<'_>) -> Turn
         requires open { MayBePolled S.calling self.old }
         requires running { self.old.ending ≡ None }
-        ensures says { ServeSays (view_of T.wiring S.served L.noted self.old) (view_of T.wiring S.served L.noted self.new) result }
+        requires armed { HasNoOutput (view_of T.wiring S.served B.gives L.noted self.old) ⊎ IsArmed cx.old }
+        ensures says { ServeSays 4 (view_of T.wiring S.served B.gives L.noted self.old) (view_of T.wiring S.served B.gives L.noted self.new) result }
         ensures open { MayBePolled S.calling self.new }
         ensures registered { OnIdle result (IsArmed cx.new) }
         ensures kept { Keeps cx.old cx.new }
     {
+        if self.work.is_sending() {
+            return self.send(cx);
+        }
         if self.line.connection().can_answer() {
             return self.respond(cx);
         }
         if self.work.is_busy() {
             return self.read_alone(cx);
         }
-        if self.line.connection().can_next() {
-            return self.next(cx);
+        if !self.line.connection().can_next() {
+            return self.read_alone(cx);
         }
-        self.read_alone(cx)
+        if !self.has_room() {
+            return self.read_beside(cx);
+        }
+        self.next(cx)
+    }
+
+    /// Whether fewer bytes wait to be written than the settings' write buffer size.
+    fn has_room(&self) -> bool
+        ensures { result ≡ has_write_room (view_of T.wiring S.served B.gives L.noted self.now) }
+    {
+        0 < self.line.connection().write_room()
     }
 
     /// Goes on with the open request: its answer, its call, or the service.
     fn respond(&mut self, cx: &mut Context<'_>) -> Turn
         requires open { MayBePolled S.calling self.old }
         requires running { self.old.ending ≡ None }
-        requires allowed { allows_answer (view_of T.wiring S.served L.noted self.old) ≡ true }
-        ensures says { ServeSays (view_of T.wiring S.served L.noted self.old) (view_of T.wiring S.served L.noted self.new) result }
+        requires allowed { allows_answer (view_of T.wiring S.served B.gives L.noted self.old) ≡ true }
+        requires unsent { is_sending (stage_of B.gives self.old.work) ≡ false }
+        ensures says { ServeSays 4 (view_of T.wiring S.served B.gives L.noted self.old) (view_of T.wiring S.served B.gives L.noted self.new) result }
         ensures open { MayBePolled S.calling self.new }
         ensures registered { OnIdle result (IsArmed cx.new) }
         ensures kept { Keeps cx.old cx.new }
@@ -55,6 +73,7 @@ where
             Work::Waiting(_) => self.ask(cx),
             Work::Calling(_) => self.answer(cx),
             Work::Replying(_) => self.hand_on(),
+            Work::Sending(_) => unreachable!(),
         }
     }
 
@@ -62,10 +81,11 @@ where
     fn next(&mut self, cx: &mut Context<'_>) -> Turn
         requires open { MayBePolled S.calling self.old }
         requires running { self.old.ending ≡ None }
-        requires free { is_busy (stage_of self.old.work) ≡ false }
-        requires unanswered { allows_answer (view_of T.wiring S.served L.noted self.old) ≡ false }
-        requires allowed { allows_next (view_of T.wiring S.served L.noted self.old) ≡ true }
-        ensures says { ServeSays (view_of T.wiring S.served L.noted self.old) (view_of T.wiring S.served L.noted self.new) result }
+        requires free { is_busy (stage_of B.gives self.old.work) ≡ false }
+        requires unanswered { allows_answer (view_of T.wiring S.served B.gives L.noted self.old) ≡ false }
+        requires allowed { allows_next (view_of T.wiring S.served B.gives L.noted self.old) ≡ true }
+        requires room { has_write_room (view_of T.wiring S.served B.gives L.noted self.old) ≡ true }
+        ensures says { ServeSays 4 (view_of T.wiring S.served B.gives L.noted self.old) (view_of T.wiring S.served B.gives L.noted self.new) result }
         ensures open { MayBePolled S.calling self.new }
         ensures registered { OnIdle result (IsArmed cx.new) }
         ensures kept { Keeps cx.old cx.new }
@@ -92,9 +112,9 @@ where
     fn ask(&mut self, cx: &mut Context<'_>) -> Turn
         requires open { MayBePolled S.calling self.old }
         requires running { self.old.ending ≡ None }
-        requires allowed { allows_answer (view_of T.wiring S.served L.noted self.old) ≡ true }
-        requires waits { is_waiting (stage_of self.old.work) ≡ true }
-        ensures says { ServeSays (view_of T.wiring S.served L.noted self.old) (view_of T.wiring S.served L.noted self.new) result }
+        requires allowed { allows_answer (view_of T.wiring S.served B.gives L.noted self.old) ≡ true }
+        requires waits { is_waiting (stage_of B.gives self.old.work) ≡ true }
+        ensures says { ServeSays 4 (view_of T.wiring S.served B.gives L.noted self.old) (view_of T.wiring S.served B.gives L.noted self.new) result }
         ensures open { MayBePolled S.calling self.new }
         ensures registered { OnIdle result (IsArmed cx.new) }
         ensures kept { Keeps cx.old cx.new }

@@ -9,22 +9,24 @@ use crate::dispatcher::{Dispatcher, Ending, Turn};
 use futures::task::{Context, Poll};
 use h1_connection::End;
 use h1_line::Recorder;
+use http_bodies::MessageBody;
 use http_config::Failed;
 use http_services::Service;
 use http_types::{DispatchError, ParseError, Request, Response};
 use http_wires::Wire;
 
-impl<T, S, L> Dispatcher<T, S, S::Call, L>
+impl<T, S, L, B> Dispatcher<T, S, S::Call, L, B>
 where
     T: Wire,
-    S: Service<Request<(), ()>, Response = Response<()>, Error = Response<()>, Lent = ()>,
+    S: Service<Request<(), ()>, Response = Response<B>, Error = Response<B>, Lent = ()>,
+    B: MessageBody,
     L: Recorder,
 {
     /// One turn.
     #[tactic(auto, using(crate::proofs::Runs::stays_broken))]
     pub(super) fn turn(&mut self, cx: &mut Context<'_>) -> Turn
         requires open { MayBePolled S.calling self.old }
-        ensures says { TurnSays (view_of T.wiring S.served L.noted self.old) (view_of T.wiring S.served L.noted self.new) result }
+        ensures says { TurnSays (view_of T.wiring S.served B.gives L.noted self.old) (view_of T.wiring S.served B.gives L.noted self.new) result }
         ensures open { MayBePolled S.calling self.new }
         ensures registered { OnIdle result (IsArmed cx.new) }
         ensures kept { Keeps cx.old cx.new }
@@ -41,7 +43,7 @@ where
     fn shut(&mut self, end: End, cx: &mut Context<'_>) -> Turn
         requires open { MayBePolled S.calling self.old }
         requires ended { self.old.ending ≡ Some (Closed end) }
-        ensures says { TurnSays (view_of T.wiring S.served L.noted self.old) (view_of T.wiring S.served L.noted self.new) result }
+        ensures says { TurnSays (view_of T.wiring S.served B.gives L.noted self.old) (view_of T.wiring S.served B.gives L.noted self.new) result }
         ensures open { MayBePolled S.calling self.new }
         ensures registered { OnIdle result (IsArmed cx.new) }
         ensures kept { Keeps cx.old cx.new }
