@@ -1,0 +1,69 @@
+//! Requests, as a server gets them.
+use bytes::{Bytes, BytesMut};
+use h1_decode::request_head;
+use h1_forward_heads::{forwarded_head, forwarded_size, is_forwardable};
+use h1_request::{has_text, put_request_head};
+use http_types::ConnectionType;
+use std::alloc::Global;
+use std::test::Fail;
+
+// What is sent on for this head at the first moment: nothing where it can't be.
+fn sent_on(alloc: Global, text: &[u8]) -> Result<BytesMut, Fail> {
+    let item = request_head(alloc, Bytes::copy_from_slice(alloc, text)?)?;
+    let mut out = BytesMut::new(alloc);
+    if !is_forwardable(&item) {
+        return Ok(out);
+    }
+    let size = forwarded_size(item.body);
+    let head = forwarded_head(item);
+    if has_text(head.version) {
+        put_request_head(&mut out, &head, size, ConnectionType::KeepAlive, 0)?;
+    }
+    Ok(out)
+}
+
+fn is_sent_as(alloc: Global, text: &[u8], expected: &[u8]) -> Result<bool, Fail> {
+    let out = sent_on(alloc, text)?;
+    Ok(out.as_slice() == expected)
+}
+
+#[test]
+fn lines_for_one_connection_stay_behind(rt: HostRuntime) -> Result<(), Fail> {
+    let is_same = is_sent_as(
+        rt.alloc(),
+        b"GET /a?b#c HTTP/1.0\r\nX-One: 1\r\nConnection: close ,X-ONE\r\nkeep-alive: 5\r\nProxy-Connection: a\r\nte: trailers\r\ntrailer: b\r\nupgrade: c\r\nx-two: 2\r\nexpect: 100-continue\r\nhost: a\r\nx-two: 3\r\n\r\n",
+        b"GET /a?b HTTP/1.1\r\nx-two: 2\r\nx-two: 3\r\nhost: a\r\ndate: Thu, 01 Jan 1970 00:00:00 GMT\r\n\r\n",
+    )?;
+    assert!(rt; is_same);
+    Ok(())
+}
+
+#[test]
+fn a_body_is_framed_anew(rt: HostRuntime) -> Result<(), Fail> {
+    let is_length = is_sent_as(
+        rt.alloc(),
+        b"POST /a HTTP/1.1\r\ncontent-length: 007\r\nconnection: content-length\r\n\r\n",
+        b"POST /a HTTP/1.1\r\ncontent-length: 7\r\ndate: Thu, 01 Jan 1970 00:00:00 GMT\r\n\r\n",
+    )?;
+    assert!(rt; is_length);
+    let is_chunked = is_sent_as(
+        rt.alloc(),
+        b"POST /a HTTP/1.1\r\nTransfer-Encoding: CHUNKED\r\ndate: now\r\n\r\n",
+        b"POST /a HTTP/1.1\r\ntransfer-encoding: chunked\r\ndate: now\r\n\r\n",
+    )?;
+    assert!(rt; is_chunked);
+    Ok(())
+}
+
+#[test]
+fn what_is_no_path_stays(rt: HostRuntime) -> Result<(), Fail> {
+    let star = sent_on(rt.alloc(), b"OPTIONS * HTTP/1.1\r\nhost: a\r\n\r\n")?;
+    assert!(rt; star.is_empty());
+    let scheme = sent_on(rt.alloc(), b"GET http://a/ HTTP/1.1\r\nhost: a\r\n\r\n")?;
+    assert!(rt; scheme.is_empty());
+    let connect = sent_on(rt.alloc(), b"CONNECT /a HTTP/1.1\r\n\r\n")?;
+    assert!(rt; connect.is_empty());
+    let socket = sent_on(rt.alloc(), b"GET /a HTTP/1.1\r\nupgrade: websocket\r\n\r\n")?;
+    assert!(rt; socket.is_empty());
+    Ok(())
+}
