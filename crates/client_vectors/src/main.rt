@@ -1,0 +1,21 @@
+//! Plays exchanges of a client's side of a connection, each whole and in pieces of each size: what its caller does, and
+//! what each call gives. The program's arguments are the files' names.
+//!
+//! A file has blocks. A line that begins with `==` begins one and names it; `> ` begins a line of what the caller does,
+//! `< ` one of what it gets; other lines are passed over. README.md says what the lines mean.
+#![tactic(auto)]
+
+mod answers;
+mod block;
+mod bodies;
+mod client;
+mod files;
+mod requests;
+
+use crate::files::play_arguments;
+use std::io;
+use std::process::ExitCode;
+
+fn main(rt: HostRuntime) -> io::Result<ExitCode> {
+    play_arguments(&rt)
+}
