@@ -116,15 +116,15 @@ server_serves client server asked k trace more some client_ran server_ran is pla
 -- ---- both
 
 -- what both give and are asked, with all that follows of it
-record Joined (client server : Setting) (asked : List Happened) (k : ClientKept) (trace : List Step) : Type 0 where
-  requests : ((handed_out trace).stray ≡ []) × AreServedOut (has_ended trace) (reverse (handed_out trace).messages) (reverse (requests_asked asked))
-  is_plain : IsPlainTrace server trace
-  to : AreTo is_interim (methods_of (asked_of asked ++ [])) (answers_sent server trace)
-  sent : AreSent (answers_sent server trace)
-  more : List ℕ
-  came : bytes_taken asked ++ more ≡ sent_text (answers_sent server trace)
+pub record Joined (client server : Setting) (asked : List Happened) (k : ClientKept) (trace : List Step) : Type 0 where
+  pub requests : ((handed_out trace).stray ≡ []) × AreServedOut (has_ended trace) (reverse (handed_out trace).messages) (reverse (requests_asked asked))
+  pub is_plain : IsPlainTrace server trace
+  pub to : AreTo is_interim (methods_of (asked_of asked ++ [])) (answers_sent server trace)
+  pub sent : AreSent (answers_sent server trace)
+  pub more : List ℕ
+  pub came : bytes_taken asked ++ more ≡ sent_text (answers_sent server trace)
 
-joined_ends : (client server : Setting) (asked : List Happened) (k : ClientKept) (trace : List Step) → AreConnected client server asked k trace
+pub joined_ends : (client server : Setting) (asked : List Happened) (k : ClientKept) (trace : List Step) → AreConnected client server asked k trace
     → ArePlain client server asked trace → Joined client server asked k trace
 joined_ends client server asked k trace c plain =
     let t = is_text client asked k c.client_ran in

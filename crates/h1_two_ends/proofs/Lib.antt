@@ -11,3 +11,8 @@ pub mod AllServed
 pub mod Agreement
 pub mod Ends
 pub mod Closings
+pub mod KeptOn
+pub mod ClosesAfter
+pub mod AskedFor
+pub mod FinalAnswers
+pub mod CloseTogether

@@ -4,12 +4,14 @@ use Rattle.std.specs.List.{AllByRecursion}
 use Rattle.h1_model.specs.Setting.{Setting}
 use Rattle.h1_model.specs.End as ends
 use Rattle.h1_model.specs.Event as on
-use Rattle.h1_model.specs.Sums.{Step, taken, has_ended, written as server_written}
+use Rattle.h1_model.specs.Sums.{Step, taken, has_ended, request, answered, written as server_written}
+use Rattle.h1_model.specs.Closing.{asked_by}
 use Rattle.h1_model.specs.Handed.{handed_out, Begins}
 use Rattle.h1_model.specs.Trace.{IsTrace}
 use Rattle.h1_model.specs.Laws.Exchanges.{exchanges}
 use Rattle.h1_client_machine.specs.ClientEvent.{ClientEnd, broken_answer, failed_request, asked as was_asked, input_ended}
 use Rattle.h1_client_machine.specs.ClientKept.{ClientKept}
+use Rattle.h1_client_machine.specs.ClientStep.{is_ambiguous}
 use Rattle.h1_client_machine.specs.ClientTrace.{Happened, IsClientTrace, written as client_written}
 use Rattle.h1_agreement.specs.PlainExchange.{IsPlain}
 use Rattle.h1_agreement.specs.SentAnswer.{AreHeld, answers_sent}
@@ -45,6 +47,14 @@ pub record Agree (server : Setting) (asked : List Happened) (kept : ClientKept) 
   pub requests : AreServedOut (has_ended served) (reverse (handed_out served).messages) (reverse (requests_asked asked))
   pub no_stray_answer : (read_out asked).stray ≡ []
   pub answers : AreReadOut kept.has_ended (reverse (read_out asked).answers) (answers_sent server served)
+
+-- no answer has lines by which other readers would frame it in another way, as those that a 304 has of its own may be
+abbrev pub AreClear : Setting → List Step → Type 0
+AreClear server served = AllByRecursion (λ s. is_ambiguous s.answer ≡ false) (answers_sent server served)
+
+-- the answer to the newest request is one after which, as soon as it is complete, the server closes as it was asked to
+abbrev pub EndsAsAsked : Setting → List Step → Type 0
+EndsAsAsked server served = asked_by server (request served) (answered served) ≡ Some ends.asked
 
 -- Why a client closes that finds nothing wrong: it was asked for, its own request failed, or its input has ended.
 abbrev pub IsFairEnd : ClientEnd → Bool → Type 0

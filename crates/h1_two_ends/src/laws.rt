@@ -1,6 +1,6 @@
 //! What both ends hand out.
 
-ghost use Rattle.std.specs.Prelude.{◌≡◌, ℕ, ◌<◌, ◌≤◌, false, not, List, [], ◌∷◌, ◌++◌, length, map, reverse, IsTrue, Some, codes};
+ghost use Rattle.std.specs.Prelude.{◌≡◌, ℕ, ◌<◌, ◌≤◌, false, true, not, List, [], ◌∷◌, ◌++◌, length, map, reverse, IsTrue, Some, None, codes};
 ghost use Rattle.std.specs.List.{AllByRecursion};
 ghost use Rattle.h1_model.specs.Request.{Head};
 ghost use Rattle.h1_model.specs.LengthTable.{values_of};
@@ -8,7 +8,7 @@ ghost use Rattle.h1_model.specs.Answer.{asked_of as needed_of, type_of};
 ghost use Rattle.h1_model.specs.Setting.{Setting};
 ghost use Rattle.h1_model.specs.Closing.{is_kept};
 ghost use Rattle.h1_model.specs.Text.{text};
-ghost use Rattle.h1_model.specs.Laws.Exchanges.{AnswerGiven};
+ghost use Rattle.h1_model.specs.Laws.Exchanges.{AnswerGiven, exchanges};
 ghost use Rattle.h1_model.specs.Sums.{Step, taken, has_ended};
 ghost use Rattle.h1_model.specs.Handed.{handed_out};
 ghost use Rattle.h1_model.specs.Trace.{IsOutcome, IsTrace};
@@ -17,13 +17,13 @@ ghost use Rattle.h1_client_model.specs.AnswerParse.{is_interim};
 ghost use Rattle.h1_client_model.specs.AnswerReading.{Answer};
 ghost use Rattle.h1_client_machine.specs.ClientEvent as on;
 ghost use Rattle.h1_client_machine.specs.ClientEvent.{ClientRequest, ClientEnd};
-ghost use Rattle.h1_client_machine.specs.ClientKept.{Waiting, ClientKept, waiting_of, client_closing, client_allows};
+ghost use Rattle.h1_client_machine.specs.ClientKept.{Waiting, ClientKept, waiting_of, is_free, client_closing, client_allows};
 ghost use Rattle.h1_client_machine.specs.ClientStep.{is_ambiguous, is_closed_after, IsClientStep};
-ghost use Rattle.h1_client_machine.specs.ClientTrace.{Happened, IsClientTrace, text_of, asked_of};
+ghost use Rattle.h1_client_machine.specs.ClientTrace.{Happened, IsClientTrace, text_of, asked_of, answered_of};
 ghost use Rattle.h1_agreement.specs.PlainExchange.{IsSelfFramed};
 ghost use Rattle.h1_agreement.specs.SentAnswer.{SentAnswer, AreSent, AreHeld, sent_text, AreTo, sent_answer, answers_sent};
 ghost use Rattle.h1_two_ends.specs.AskedTrace.{requests_asked, IsPlainAsked, AreServedOut};
-ghost use Rattle.h1_two_ends.specs.Connected.{AreConnected, ArePlain, Agree, IsFairEnd};
+ghost use Rattle.h1_two_ends.specs.Connected.{AreConnected, ArePlain, Agree, AreClear, EndsAsAsked, IsFairEnd};
 ghost use Rattle.h1_two_ends.specs.ReadOut.{bytes_taken, read_out, AreReadOut};
 
 /// A server that took the first bytes of what a client sends hands out the client's requests, the first of them, in their
@@ -85,4 +85,18 @@ pub fn both_close_alike()
         → r.connection ≡ h.connection → values_of (codes "upgrade") r.head.headers ≡ [] → is_ambiguous (sent_answer server h a).answer ≡ false
         → is_closed_after (waiting_of r) (sent_answer server h a).answer
         ≡ not (is_kept (type_of server a.answered.drained (needed_of h) a.answered.head a.answered.size)) }
+{}
+
+/// Over all that happened: whoever closes since a side asked for it, the other closes after the same exchange, and for the same
+/// reason, unless an answer's lines are ambiguous. A client that closes so has handed out as many final answers as the server
+/// has handed out requests, and the last of them is the one after which the server closes as it was asked to. Where the server
+/// closes so, a client that has handed out as many final answers closes for that reason too, as soon as it has read or dropped
+/// the last one's body, unless it found a fault before.
+pub fn both_close_after_the_same_exchange()
+    ensures client { (client server : Setting) (asked : List Happened) (kept : ClientKept) (served : List Step) → AreConnected client server asked kept served
+        → ArePlain client server asked served → AreClear server served → client_closing kept ≡ Some on.asked
+        → EndsAsAsked server served × (answered_of asked ≡ length (exchanges served)) }
+    ensures server { (client server : Setting) (asked : List Happened) (kept : ClientKept) (served : List Step) → AreConnected client server asked kept served
+        → ArePlain client server asked served → AreClear server served → EndsAsAsked server served → answered_of asked ≡ length (exchanges served)
+        → is_free kept ≡ true → kept.failed ≡ None → client_closing kept ≡ Some on.asked }
 {}
