@@ -1,6 +1,6 @@
 -- What waits to be written grows only where there is room.
 use Rattle.std.proofs.Common.{◌≡◌, ◌≤◌, ◌⊎◌, ℕ, zero, suc, Bool, true, false, Option, Some, None, List, [], ◌∷◌, length, drop, Result, Ok, Err, inl, inr, refl, sym, ap, ◌∙◌, subst, arith}
-use Rattle.std.specs.Prelude.{is_none, ◌&&◌, ◌==◌, nat_lt, if◌then◌else◌}
+use Rattle.std.specs.Prelude.{is_none, is_some, ◌&&◌, ◌==◌, nat_lt, if◌then◌else◌}
 use Rattle.std.proofs.lemmas.Bool.{lt-ltb, ltb-true}
 use Rattle.std.proofs.lemmas.List.{length-drop}
 use Rattle.futures.specs.declared.task.Poll.{Poll}
@@ -36,6 +36,7 @@ use Rattle.h1_dispatch.specs.Steps.{Step, Goes, Wrote, Took, IsStep, IsRun, requ
 use Rattle.h1_dispatch.specs.Traces.{IsNoted, AllNoted}
 use Rattle.h1_dispatch.specs.Open.{IsTied}
 use Rattle.h1_dispatch.specs.Bounds.{HasRoomForAnswer, HasExpired, GrowsInRoom}
+use Rattle.h1_dispatch.proofs.Faults.{closes_so}
 use Rattle.h1_dispatch.proofs.Moves.{leaves_room}
 use Rattle.h1_dispatch.proofs.Open.{hands_out, busy_at, step_ties, begun_tied, begun_tied_noted}
 
@@ -65,9 +66,9 @@ drop_leaves k (Some x) = refl
 by_change : (l : List ℕ) (c d : Change) → c ≡ d → d.kept.buffered ≡ l → c.kept.buffered ≡ l
 by_change l c d is same = ap (λ (x : Change). x.kept.buffered) is ∙ same
 
--- a moment leaves all, or tells that no head has come, and then no request waits for its answer
+-- a moment leaves all, or tells that no head has come, where no request waits for its answer, and then the connection closes
 abbrev Ticked : Kept → Change → Type 0
-Ticked k c = (c.kept.buffered ≡ k.buffered) ⊎ ((c.outcome ≡ on.expired ends.slow_request) × (waits_for_answer k ≡ false))
+Ticked k c = (c.kept.buffered ≡ k.buffered) ⊎ ((c.outcome ≡ on.expired ends.slow_request) × (waits_for_answer k ≡ false) × (is_some c.kept.failed ≡ true))
 
 by_test : (k : Kept) (b : Bool) (x y : Change) → (b ≡ true → Ticked k x) → Ticked k y → Ticked k (if b then x else y)
 by_test k true x y is so = is refl
@@ -87,7 +88,7 @@ slow_waits set k first ms is = none_waits k k.exchange (first_of (is_none k.exch
 expires : (set : Setting) (k : Kept) (closing : Option End) (first ms : ℕ) → Ticked k (expiring set k closing first ms)
 expires set k (Some end) first ms = by_test k (is_abandoned set k first ms) _ _ (λ is. inl refl) (inl refl)
 expires set k None first ms =
-    by_test k (is_slow set k first ms) _ _ (λ is. inr (refl, slow_waits set k first ms is)) (by_test k (is_idle set k first ms) _ _ (λ is. inl refl) (inl refl))
+    by_test k (is_slow set k first ms) _ _ (λ is. inr (refl, slow_waits set k first ms is, refl)) (by_test k (is_idle set k first ms) _ _ (λ is. inl refl) (inl refl))
 
 ticks : (set : Setting) (k : Kept) (closing : Option End) (ms : ℕ) (c : Change) → c ≡ ticking set k closing ms → Ticked k c
 ticks set k closing ms c is = subst (λ (x : Change). Ticked k x) (sym is) (expires set k closing _ ms)
@@ -226,13 +227,13 @@ ticked_holds v w moment expiry goes stage h =
     let x = goes.steps h.tied.trace h.tied.stands in
     let k = v.line.state.kept in
     let later = after_step (setting_of v.line.state.settings) k w.line.state.kept (on.tick moment) x.0 x.2.machine in
-    by_tick x.2.machine.change later (sym x.1 ∙ x.2.machine.answers) (ticks (setting_of v.line.state.settings) k (closing_by (setting_of v.line.state.settings) k) moment x.2.machine.change x.2.machine.changes)
+    by_tick x.2.machine.change later (ap (λ (y : Kept). is_some y.failed) x.2.machine.keeps) (sym x.1 ∙ x.2.machine.answers) (ticks (setting_of v.line.state.settings) k (closing_by (setting_of v.line.state.settings) k) moment x.2.machine.change x.2.machine.changes)
   where
-    by_tick : (c : Change) → buffered w ≡ c.kept.buffered → expiry_of expiry ≡ c.outcome → Ticked v.line.state.kept c → Holds v (ticked moment expiry) w
-    by_tick c later is (inl same_bytes) =
+    by_tick : (c : Change) → buffered w ≡ c.kept.buffered → is_some w.line.state.kept.failed ≡ is_some c.kept.failed → expiry_of expiry ≡ c.outcome → Ticked v.line.state.kept c → Holds v (ticked moment expiry) w
+    by_tick c later fails is (inl same_bytes) =
         as_far v w (ticked moment expiry) (record { fewer = no_more (buffered w) (buffered v) (later ∙ same_bytes); settings = goes.settings }) stage h
-    by_tick c later is (inr slow) = record {
-      grows = inr (inr (expired moment expiry (is ∙ slow.0)));
+    by_tick c later fails is (inr slow) = record {
+      grows = inr (inr (expired moment expiry (is ∙ slow.0), closes_so (setting_of w.line.state.settings) w.line.state.kept (fails ∙ slow.2)));
       room = λ asks. clash (sym asks ∙ ap is_unanswered_at stage ∙ sym h.tied.tied ∙ slow.1);
     }
 

@@ -35,7 +35,7 @@ first_some : {A : Type 0} (x y : Option A) → is_some x ≡ true → is_some (o
 first_some (Some x) y is = refl
 first_some None y is = absurd (cc is)
 
-closes_so : (set : Setting) (k : Kept) → is_some k.failed ≡ true → is_some (closing_by set k) ≡ true
+pub closes_so : (set : Setting) (k : Kept) → is_some k.failed ≡ true → is_some (closing_by set k) ≡ true
 unfolding closing_by
 closes_so set k is = first_some k.failed _ is
 

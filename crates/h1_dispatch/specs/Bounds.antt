@@ -1,7 +1,7 @@
 -- How many bytes wait to be written, over a run.
 use Rattle.std.specs.Prelude.{◌≡◌, ◌≤◌, ◌⊎◌, true, ⊤, length}
 use Rattle.h1_connection.specs.declared.connection.ticks.Expiry.TheVariants.{Expired}
-use Rattle.h1_dispatch.specs.View.{View, is_unanswered, has_write_room, buffered}
+use Rattle.h1_dispatch.specs.View.{View, is_unanswered, has_write_room, buffered, closes}
 use Rattle.h1_dispatch.specs.Steps.{Step, ticked}
 use Rattle.h1_dispatch.specs.Open.{IsTied}
 
@@ -10,11 +10,12 @@ pub record HasRoomForAnswer (v : View) : Type 0 where
   pub tied : IsTied v
   pub room : is_unanswered v.stage ≡ true → has_write_room v ≡ true
 
--- a time ran out, which the connection may answer itself, once, and then it closes
+-- a time ran out, which the connection may answer itself
 abbrev pub HasExpired : Step → Type 0
 HasExpired (ticked moment (Expired end)) = ⊤
 HasExpired step = ⊥
 
--- after this step no more bytes wait than before, or fewer waited than the settings' write buffer size, or a time ran out
+-- After this step no more bytes wait than before, or fewer waited than the settings' write buffer size; or a time ran out, and
+-- the connection closes.
 abbrev pub GrowsInRoom : View → Step → View → Type 0
-GrowsInRoom v step w = (length (buffered w) ≤ length (buffered v)) ⊎ ((has_write_room v ≡ true) ⊎ HasExpired step)
+GrowsInRoom v step w = (length (buffered w) ≤ length (buffered v)) ⊎ ((has_write_room v ≡ true) ⊎ (HasExpired step × (closes w ≡ true)))

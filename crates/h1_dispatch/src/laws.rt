@@ -27,9 +27,10 @@ pub fn polls_are_one_run()
 {}
 
 /// Over every run in which memory doesn't run out, the steps of the connection that were noted are a trace of it, whatever
-/// came before: its reads took what the wire gave, all of it and in order, and what the wire took is what was written. Each
-/// answer that was handed on stands in that trace with its head and the size of its body, and behind it all that came of
-/// the body, in order.
+/// came before: its reads took what the wire gave, all of it and in order, and what the wire took is what was written. The
+/// heads that it hands out are those of the requests that came to the dispatcher, each its own, all of them and in order.
+/// Each answer that was handed on stands in that trace with its head and the size of its body, and behind it all that came
+/// of the body, in order.
 pub fn runs_are_traces()
     ensures { (v w : View) (steps : List Step) → AllNoted steps → IsRun v steps w → AreTraces v steps w }
 {}

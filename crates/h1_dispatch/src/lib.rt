@@ -18,7 +18,8 @@
 //! wire, the service, the body and the connection did, and that all else stays. What a poll answers says how its steps end.
 //! Polls one after another are one run of steps ([`polls_are_one_run`]). Over every run in which memory doesn't run out, the
 //! steps that were noted are a trace of the connection, and an open request is at hand; over every run requests and answers
-//! keep their order, a body gives its pieces once and in order, and no more waits to be written than there is room for.
+//! keep their order, a body gives its pieces once and in order, and what waits to be written grows only where there is
+//! room.
 #![tactic(auto)]
 
 mod dispatcher;
