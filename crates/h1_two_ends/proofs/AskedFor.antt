@@ -1,5 +1,5 @@
 -- The requests that a server took are those that wait at its client, with what they ask of the connection.
-use Rattle.std.proofs.Common.{◌≡◌, ℕ, Bool, true, false, not, ◌&&◌, ◌||◌, eqb, cond, List, [], ◌∷◌, ◌++◌, map, filter, reverse, Option, Some, None, refl, sym, ap, ap₂, ◌∙◌, subst, append-nil}
+use Rattle.std.proofs.Common.{◌≡◌, ℕ, Bool, true, false, not, ◌&&◌, ◌||◌, eqb, cond, List, [], ◌∷◌, ◌++◌, map, filter, reverse, refl, sym, ap, ◌∙◌, subst, append-nil}
 use Rattle.std.specs.Prelude.{bytes_eq, codes, ⊤}
 use Rattle.std.specs.List.{AllByRecursion}
 use Rattle.std.proofs.lemmas.Bool.{false≢true}
@@ -7,7 +7,7 @@ use Rattle.std.proofs.lemmas.Grind.{reverse_onto}
 use Rattle.std.proofs.lemmas.Slice.Eq.{bytes_eq-Decides}
 use Rattle.h1_model.specs.Request.{Header, Head, Fault, Reading, head_is}
 use Rattle.h1_model.specs.LengthTable.{values_of}
-use Rattle.h1_model.specs.Answer.{AnswerHead, BodySize, Shape, is_raw}
+use Rattle.h1_model.specs.Answer.{AnswerHead, Shape, is_raw}
 use Rattle.h1_model.specs.AnswerText.{by_name, is_sent}
 use Rattle.h1_model.specs.Event.{Outcome}
 use Rattle.h1_model.specs.Event as on

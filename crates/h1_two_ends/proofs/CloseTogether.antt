@@ -1,5 +1,5 @@
 -- Over all that happened, client and server close after the same exchange where a side asked for it.
-use Rattle.std.proofs.Common.{◌≡◌, ◌⊎◌, ℕ, ◌≤◌, Bool, true, false, ◌&&◌, not, List, [], ◌∷◌, ◌++◌, length, map, flat_map, drop, reverse, Option, Some, None, is_some, refl, sym, ap, ap₂, ◌∙◌, subst, inl, inr, arith, append-nil, length-append}
+use Rattle.std.proofs.Common.{◌≡◌, ℕ, ◌≤◌, Bool, true, false, ◌&&◌, not, List, [], ◌∷◌, ◌++◌, length, drop, reverse, Option, Some, None, is_some, refl, sym, ap, ap₂, ◌∙◌, subst, inl, inr, arith}
 use Rattle.std.specs.Prelude.{⊤, suc, if◌then◌else◌}
 use Rattle.std.specs.List.{AllByRecursion}
 use Rattle.std.proofs.lemmas.Bool.{false≢true}
@@ -14,20 +14,20 @@ use Rattle.h1_model.specs.Closing.{is_kept, asked_by}
 use Rattle.h1_model.specs.Sums.{Step, Answered, request, answered, has_ended}
 use Rattle.h1_model.specs.Laws.Exchanges.{Reply, no_reply, answer_given, session, Exchange, exchanges}
 use Rattle.h1_model.proofs.ExchangeReplies.{ReplyIs}
-use Rattle.h1_model.proofs.ExchangeSteps.{Newest, NewestIs}
+use Rattle.h1_model.proofs.ExchangeSteps.{NewestIs}
 use Rattle.h1_model.proofs.ExchangeTraces.{spoken}
 use Rattle.h1_client_model.specs.AnswerReading.{Answer}
 use Rattle.h1_client_machine.specs.ClientEvent.{ClientEnd, asked as was_asked, unasked, input_ended, failed_request, broken_answer}
-use Rattle.h1_client_machine.specs.ClientKept.{Waiting, ClientKept, waiting_of, is_free, is_waited_for, has_bytes, client_closing}
+use Rattle.h1_client_machine.specs.ClientKept.{Waiting, ClientKept, is_free, is_waited_for, has_bytes, client_closing}
 use Rattle.h1_client_machine.specs.ClientStep.{is_ambiguous, is_closed_after}
 use Rattle.h1_client_machine.specs.ClientTrace.{Happened, asked_of, answered_of}
 use Rattle.h1_agreement.specs.PlainExchange.{IsFramedReply, IsPlain}
 use Rattle.h1_agreement.specs.SentAnswer.{SentAnswer, sent_answer, sent_by, interim_sent, sent_to, answers_sent}
-use Rattle.h1_two_ends.specs.AskedTrace.{AskedRequest, requests_asked, IsPlainAsked}
+use Rattle.h1_two_ends.specs.AskedTrace.{requests_asked, IsPlainAsked}
 use Rattle.h1_two_ends.specs.Connected.{AreConnected, ArePlain, AreClear, EndsAsAsked}
-use Rattle.h1_two_ends.specs.ReadOut.{ReadAnswer, read_out}
-use Rattle.h1_two_ends.proofs.Agreement.{Joined, joined_ends}
-use Rattle.h1_two_ends.proofs.Holds.{AreSo, IsFaulty, Holds}
+use Rattle.h1_two_ends.specs.ReadOut.{read_out}
+use Rattle.h1_two_ends.proofs.Agreement.{joined_ends}
+use Rattle.h1_two_ends.proofs.Holds.{IsFaulty, Holds}
 use Rattle.h1_two_ends.proofs.Methods.{agreed_methods}
 use Rattle.h1_two_ends.proofs.ReadOuts.{all_for}
 use Rattle.h1_two_ends.proofs.Closings.{closes_alike}
@@ -208,7 +208,7 @@ module _ (server : Setting) where
   nothing_told [] more e = refl
   nothing_told (a ∷ fs) more e = absurd (cc e)
 
-  pub client_ends : (trace : List Step) (ws : List Waiting) (fs : List Answer) (es : List Exchange) → KnownOf trace ws fs es → closes_from ws fs ≡ true
+  client_ends : (trace : List Step) (ws : List Waiting) (fs : List Answer) (es : List Exchange) → KnownOf trace ws fs es → closes_from ws fs ≡ true
       → EndsAsAsked server trace × (length fs ≡ length es)
   client_ends trace ws fs [] k closes =
       absurd (false≢true (ap (closes_from ws) (sym (nothing_told fs k.further k.are)) ∙ closes))
@@ -216,7 +216,7 @@ module _ (server : Setting) where
       let r = client_last ws fs (reverse es) e (known_last trace ws fs e es k) closes in
       (ends_where trace e.head e.reply k.newest.asked k.newest.reply_is r.0, r.1 ∙ ap suc (length-reverse es))
 
-  pub server_ends : (trace : List Step) (ws : List Waiting) (fs : List Answer) (es : List Exchange) → KnownOf trace ws fs es → EndsAsAsked server trace
+  server_ends : (trace : List Step) (ws : List Waiting) (fs : List Answer) (es : List Exchange) → KnownOf trace ws fs es → EndsAsAsked server trace
       → length fs ≡ length es → closes_from ws fs ≡ true
   server_ends trace ws fs [] k end all = absurd (no_end trace k.newest.0 end)
   server_ends trace ws fs (e ∷ es) k end all =
@@ -239,12 +239,12 @@ closing_of failed free closes stray ended =
 -- for no other reason than that it is to close
 asked_closes : (f : Option ClientEnd) (free closes stray ended : Bool) → (f ≡ Some was_asked → ⊥)
     → closing_of f free closes stray ended ≡ Some was_asked → closes ≡ true
-asked_closes (Some f) free closes stray ended no e = absurd (no e)
-asked_closes None false closes stray ended no e = absurd (cc e)
-asked_closes None true true stray ended no e = refl
-asked_closes None true false true ended no e = absurd (cc e)
-asked_closes None true false false true no e = absurd (cc e)
-asked_closes None true false false false no e = absurd (cc e)
+asked_closes (Some f) free closes stray ended never e = absurd (never e)
+asked_closes None false closes stray ended never e = absurd (cc e)
+asked_closes None true true stray ended never e = refl
+asked_closes None true false true ended never e = absurd (cc e)
+asked_closes None true false false true never e = absurd (cc e)
+asked_closes None true false false false never e = absurd (cc e)
 
 closes_asked : (f : Option ClientEnd) (free closes stray ended : Bool) → f ≡ None → free ≡ true → closes ≡ true
     → closing_of f free closes stray ended ≡ Some was_asked

@@ -149,12 +149,12 @@ module _ (server : Setting) where
       by_reply x.reply kept.0
       (is ∙ finals_both (sent_to server x) (sent_all (es ++ e ∷ []))
       ∙ ap (λ (l : List Answer). l ++ finals_in (sent_all (es ++ e ∷ []))) (one_exchange x plain.0))
+      (λ others. finals_are fs more es e others plain.1 kept.1)
     where
       by_reply : (r : Reply) → KeepsAfter server x.head r → a ∷ (fs ++ more) ≡ finals_by x.head r ++ finals_in (sent_all (es ++ e ∷ []))
-          → IsFinalOf a x.head r × AreFinals fs (es ++ e ∷ [])
-      by_reply no_reply k y = absurd k
-      by_reply (answer_given g) k y =
+          → (fs ++ more ≡ finals_in (sent_all (es ++ e ∷ [])) → AreFinals fs (es ++ e ∷ [])) → IsFinalOf a x.head r × AreFinals fs (es ++ e ∷ [])
+      by_reply no_reply k y old = absurd k
+      by_reply (answer_given g) k y old =
           let first : a ≡ (sent_answer server x.head g).answer = cc in
-          let others : fs ++ more ≡ finals_in (sent_all (es ++ e ∷ [])) = cc in
-          (first, finals_are fs more es e others plain.1 kept.1)
-      by_reply (session s) k y = absurd k
+          let others : fs ++ more ≡ finals_in (sent_all (es ++ e ∷ [])) = cc in (first, old others)
+      by_reply (session s) k y old = absurd k

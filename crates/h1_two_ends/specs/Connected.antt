@@ -1,5 +1,5 @@
 -- A client and a server of one connection, and when they agree.
-use Rattle.std.specs.Prelude.{◌≡◌, ◌<◌, Bool, true, List, [], reverse, Some, ⊤}
+use Rattle.std.specs.Prelude.{◌≡◌, ◌<◌, Bool, true, false, List, [], reverse, Some, ⊤}
 use Rattle.std.specs.List.{AllByRecursion}
 use Rattle.h1_model.specs.Setting.{Setting}
 use Rattle.h1_model.specs.End as ends

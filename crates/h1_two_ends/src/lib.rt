@@ -28,8 +28,9 @@
 //!
 //! A client closes since a side asked for it, since its own request failed, or since its input has ended
 //! ([`laws::a_client_finds_nothing_wrong`]). An answer and its request have a client close exactly where they have the server
-//! close as it was asked to, unless the answer's lines are ambiguous ([`laws::both_close_alike`]). That is a law of one
-//! exchange, and not yet one of all that happened.
+//! close as it was asked to, unless the answer's lines are ambiguous ([`laws::both_close_alike`]). So over all that happened
+//! both close after the same exchange and for the same reason, where either closes since a side asked for it
+//! ([`laws::both_close_after_the_same_exchange`]).
 //!
 //! # What is asked of both
 //!
@@ -39,16 +40,29 @@
 //! `h1_agreement`): from status 200 on, of a size unless they have no body, and their heads are read as they are written. No
 //! request was given up as too slow. That no head is refused needs no premise: it is proved.
 //!
-//! # What isn't promised
+//! # Where an exchange isn't plain
+//!
+//! All of this holds up to the moment when such an exchange begins, since the laws speak of every moment by itself. After it
+//! each half may still hold alone: the server's asks nothing of the answers
+//! ([`laws::a_server_hands_out_what_was_asked`]), and the client's asks nothing of the requests but their methods
+//! ([`laws::a_client_hands_out_what_was_answered`]). Else nothing is promised:
 //!
 //! - After an upgrade nothing is said: a request that asks for one isn't plain, and neither is a WebSocket.
 //! - A body that only the end of the input ends isn't plain: such an answer looks whole wherever its connection breaks off.
-//! - Of interim answers a server sends a 100 alone, and that is promised; a 103 or another one isn't sent by it.
+//!   The server's half holds with it.
+//! - Requests of HTTP/1.0 aren't plain. The client's half holds with them, and their answers may be plain.
 //! - A refusal (400, 408, 431) isn't plain. It is no answer to a request; no plain request gets one, unless it comes too late.
-//! - An answer to HEAD is plain, whatever length it states.
-//! - A server may close for reasons of its own, which its client sees as the end of its input: it drains, a time ran out, or
-//!   the body of its answer failed.
 //! - Nothing is said of time, and not that bytes which were written ever come.
+//!
+//! What both do then is shown by worked talks alone: in `ends_vectors` a client and a server are played against each other over
+//! each cut of their bytes, with upgrades, bodies to the end of the input, HTTP/1.0, and bodies that fail.
+//!
+//! These are plain, though they may not look so:
+//!
+//! - An answer to HEAD, whatever length it states, and one of status 204 or 304.
+//! - A request whose client waits for a 100 Continue, and that interim answer; another one isn't sent by a server.
+//! - Exchanges in which a side asks for the end. A server may also close for reasons of its own, which its client sees as the end
+//!   of its input: it drains, a time ran out, the body of its answer failed, or it answered before it had read the request.
 #![tactic(auto)]
 
 pub mod examples;
