@@ -77,7 +77,7 @@ module _ (size : ℕ) (ss : List SentAnswer) where
       by_tests false false true true is none e = absurd (cc e)
       by_tests false false false coming is none e = absurd (cc e)
 
-  not_free : (k : ClientKept) (more : List ℕ) (outs : List ReadAnswer) (ds rest : List SentAnswer) → IsBusy k more [] rest outs ds → is_free k ≡ false
+  pub not_free : (k : ClientKept) (more : List ℕ) (outs : List ReadAnswer) (ds rest : List SentAnswer) → IsBusy k more [] rest outs ds → is_free k ≡ false
   not_free k more [] ds rest b = absurd b
   not_free k more (a ∷ outs) [] rest b = absurd b
   not_free k more (a ∷ outs) (s ∷ ds) rest b = ap is_free_of b.is ∙ b.goes_on
@@ -100,7 +100,7 @@ module _ (size : ℕ) (ss : List SentAnswer) where
 
 -- ---- when all is read
 
-so_length : (e : Bool) (outs : List ReadAnswer) (ds : List SentAnswer) → AreSo e outs ds → length outs ≡ length ds
+pub so_length : (e : Bool) (outs : List ReadAnswer) (ds : List SentAnswer) → AreSo e outs ds → length outs ≡ length ds
 so_length e [] [] x = refl
 so_length e [] (d ∷ ds) x = absurd x
 so_length e (o ∷ outs) [] x = absurd x

@@ -16,3 +16,4 @@ pub mod ClosesAfter
 pub mod AskedFor
 pub mod FinalAnswers
 pub mod CloseTogether
+pub mod NothingPending

@@ -17,12 +17,12 @@ use Rattle.h1_two_ends.proofs.Holds.{methods_of, IsLike, like_holds, more_holds,
 use Rattle.h1_two_ends.proofs.Pulls.{HoldsFor, pull_holds}
 use Rattle.h1_two_ends.proofs.NextAnswers.{failed_closes, allowed_then, allowed_while, next_holds}
 
-both : (a b : Bool) → IsTrue (a && b) → (a ≡ true) × (b ≡ true)
+pub both : (a b : Bool) → IsTrue (a && b) → (a ≡ true) × (b ≡ true)
 both true true x = (refl, refl)
 both true false x = absurd (false≢true x)
 both false b x = absurd (false≢true x)
 
-not_true : (a : Bool) → not a ≡ true → a ≡ false
+pub not_true : (a : Bool) → not a ≡ true → a ≡ false
 not_true false e = refl
 not_true true e = absurd (false≢true e)
 

@@ -1,7 +1,8 @@
 -- The bytes that a client has read, and what it handed out of them.
-use Rattle.std.specs.Prelude.{◌≡◌, ℕ, Bool, List, [], ◌∷◌, ◌++◌, take, ⊤}
+use Rattle.std.specs.Prelude.{◌≡◌, ℕ, Bool, false, List, [], ◌∷◌, ◌++◌, length, map, take, ⊤}
 use Rattle.h1_model.specs.Handed.{Item, item_bytes, item_trailers, item_end, item_fault}
 use Rattle.h1_client_model.specs.AnswerReading.{AnswerReading, answer_is, refused}
+use Rattle.h1_client_model.specs.RequestText.{joined}
 use Rattle.h1_client_machine.specs.ClientEvent as on
 use Rattle.h1_client_machine.specs.ClientEvent.{ClientEvent, ClientOutcome}
 use Rattle.h1_client_machine.specs.ClientTrace.{Happened}
@@ -71,3 +72,17 @@ abbrev pub AreReadOut : Bool → List ReadAnswer → List SentAnswer → Type 0
 AreReadOut has_ended [] ss = ⊤
 AreReadOut has_ended (a ∷ outs) [] = ⊥
 AreReadOut has_ended (a ∷ outs) (s ∷ ss) = IsReadOut has_ended a s × AreReadOut has_ended outs ss
+
+-- The newest answer is the last that was sent, and its end wasn't sent yet; all bytes of its body that were are handed out.
+pub record IsAllHanded (outs : List ReadAnswer) (ss : List SentAnswer) : Type 0 where
+  pub newest : ReadAnswer
+  pub older : List ReadAnswer
+  pub outs_are : outs ≡ newest ∷ older
+  pub front : List SentAnswer
+  pub last : SentAnswer
+  pub sent_are : ss ≡ front ++ last ∷ []
+  pub as_many : length front ≡ length older
+  pub pieces : List (List ℕ)
+  pub items : newest.items ≡ map item_bytes pieces
+  pub all : joined pieces ≡ last.bytes
+  pub part : last.is_whole ≡ false

@@ -24,7 +24,8 @@
 //! is handed out.
 //!
 //! Nothing is left either ([`laws::nothing_is_left`]): where one end has taken all that the other has to say, and is told that
-//! nothing has come yet, it has handed out every request, or every answer.
+//! nothing has come yet, it has handed out every request, or every answer. A client that is told so of a body has handed out
+//! all bytes of it that were sent so far; of a server that isn't said.
 //!
 //! A client closes since a side asked for it, since its own request failed, or since its input has ended
 //! ([`laws::a_client_finds_nothing_wrong`]). An answer and its request have a client close exactly where they have the server
