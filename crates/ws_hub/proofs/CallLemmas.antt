@@ -1,0 +1,105 @@
+-- What the calls of a hub promise, by what it holds inside.
+use Rattle.std.proofs.Common.{◌≡◌, ◌<◌, ℕ, zero, suc, Bool, true, List, [], ◌∷◌, length, get_or, Option, Some, None, Result, Ok, Err, refl, sym, ap, ◌∙◌, subst, arith}
+use Rattle.std.proofs.Math.ListN.{set}
+use Rattle.std.specs.Prelude.{slice_get, IfOk, IsTrue}
+use Rattle.std.proofs.lemmas.Option.{slice_get_read}
+use Rattle.http_config.specs.Config.{Settings}
+use Rattle.h1_model.specs.Event as on
+use Rattle.h1_machine.specs.Local.{allowed_by}
+use Rattle.h1_connection.specs.Meaning.{setting_of, event_of}
+use Rattle.h1_connection.specs.State.{State}
+use Rattle.h1_connection.specs.declared.event.Event.{Event}
+use Rattle.h1_connection.specs.declared.event.Outcome.{Outcome}
+use Rattle.ws_hub_model.specs.Hub.{HubEvent, HubOutcome, opens, feeds, turns, MAX_CONNECTIONS}
+use Rattle.ws_hub_model.specs.Member.{Member}
+use Rattle.ws_hub_model.specs.Seen.{Seen}
+use Rattle.ws_hub_model.specs.Trace.{is_fed}
+use Rattle.ws_seat.specs.Seat.{SeatState}
+use Rattle.ws_seat.specs.declared.seat.Turn.{Turn as SeatTurn}
+use Rattle.ws_hub.specs.Hub.{HubState, HubStands, HubGoesOn, HubRefuses, HubTurns, IsRefused, SaysCore, SaysHubOutcome}
+use Rattle.ws_hub.specs.Moves.{Takes}
+use Rattle.ws_hub.specs.declared.event.HubOutcome.TheVariants.{Core}
+use Rattle.ws_hub.proofs.HubLemmas.{hub_turned, hub_not_turned}
+use Rattle.ws_hub.proofs.FirstLemmas.{may_be_fed}
+
+-- a hub of these parts
+abbrev pub hub_of : Settings → List SeatState → List Member → HubState
+hub_of settings seats rows = record { settings = settings; seats = seats; members = rows }
+
+-- it refuses, and nothing changes
+pub refused_call : (inside hub : HubState) (event : HubEvent) → inside ≡ hub → HubRefuses inside event → (hub ≡ hub) × HubRefuses hub event
+refused_call inside hub event is refused = (refl, subst (λ (h : HubState). HubRefuses h event) is refused)
+
+-- it goes on
+pub goes_call : (inside hub : HubState) (settings : Settings) (seats seats_by : List SeatState) (rows rows_by : List Member) (event : HubEvent)
+    (Says : HubOutcome → Type 0) → inside ≡ hub → seats ≡ seats_by → rows ≡ rows_by
+    → HubGoesOn inside event Says (hub_of settings seats_by rows_by) → HubGoesOn hub event Says (hub_of settings seats rows)
+goes_call inside hub settings seats seats_by rows rows_by event Says is seats_are rows_are goes =
+    subst (λ (h : HubState). HubGoesOn h event Says (hub_of settings seats rows)) is
+    (subst (λ (s : List SeatState). HubGoesOn inside event Says (hub_of settings s rows)) (sym seats_are)
+    (subst (λ (r : List Member). HubGoesOn inside event Says (hub_of settings seats_by r)) (sym rows_are) goes))
+
+-- the seat at a place
+pub seat_at : (i : ℕ) (seats : List SeatState) (seat : SeatState) → i < length seats → seat ≡ get_or seats i seat → slice_get seats i ≡ Some seat
+seat_at i seats seat inside is = slice_get_read seats (length seats) i seat refl inside is
+
+-- what was at a place, put there again
+pub set_kept : (i : ℕ) (seats : List SeatState) (seat : SeatState) → i < length seats → seat ≡ get_or seats i seat → set seats i seat ≡ seats
+set_kept i [] seat inside is = absurd (omega arith)
+set_kept zero (s ∷ seats) seat inside is = ap (λ (v : SeatState). v ∷ seats) is
+set_kept (suc i) (s ∷ seats) seat inside is = ap (λ (l : List SeatState). s ∷ l) (set_kept i seats seat (omega arith) is)
+
+-- it refuses what comes to the seat at a place, and nothing changes
+pub refused_at : (hub : HubState) (settings : Settings) (seats seats_then : List SeatState) (rows rows_then : List Member) (event : HubEvent)
+    → hub_of settings seats rows ≡ hub → seats_then ≡ seats → rows_then ≡ rows → HubRefuses (hub_of settings seats rows) event
+    → (hub_of settings seats_then rows_then ≡ hub) × HubRefuses hub event
+refused_at hub settings seats seats_then rows rows_then event is seats_are rows_are refused = (
+  ap (λ (s : List SeatState). hub_of settings s rows_then) seats_are ∙ ap (λ (r : List Member). hub_of settings seats r) rows_are ∙ is,
+  subst (λ (h : HubState). HubRefuses h event) is refused,
+)
+
+-- a turn of the seat at a place, or none
+pub takes_call : {E : Type 0} (r : Result (Option SeatTurn) E) (hub : HubState) (settings : Settings) (seats : List SeatState) (rows rows_then : List Member) (i : ℕ)
+    (seat after : SeatState) → hub_of settings seats rows ≡ hub → i < length seats → seat ≡ get_or seats i seat
+    → IfOk r (λ turn. Takes seat rows i turn after rows_then) → after.connection.settings ≡ seat.connection.settings
+    → IfOk r (λ turn. HubTurns hub i turn (hub_of settings (set seats i after) rows_then))
+takes_call (Err e) hub settings seats rows rows_then i seat after is inside at taken same = tt
+takes_call (Ok None) hub settings seats rows rows_then i seat after is inside at taken same =
+    let there = seat_at i seats seat inside at in
+    let kept = ap (λ (s : SeatState). set seats i s) taken.0.0 ∙ set_kept i seats seat inside at in
+    refused_at hub settings seats (set seats i after) rows rows_then (turns i) is kept taken.1
+    (hub_not_turned (hub_of settings seats rows) rows_then i seat after there taken)
+takes_call (Ok (Some turn)) hub settings seats rows rows_then i seat after is inside at taken same =
+    let there = seat_at i seats seat inside at in
+    let new = set seats i after in
+    goes_call (hub_of settings seats rows) hub settings new new rows_then rows_then (turns i) (SaysCore (event_of turn.event) turn.outcome) is refl refl
+    (hub_turned (hub_of settings seats rows) rows_then i seat after turn there taken same)
+
+-- what its connection answers
+pub allowed_in : (inside connection : State) (answer v : Bool) (event : on.Event) → inside ≡ connection
+    → answer ≡ allowed_by (setting_of inside.settings) inside.kept event → answer ≡ v
+    → allowed_by (setting_of connection.settings) connection.kept event ≡ v
+allowed_in inside connection answer v event is by test =
+    sym (by ∙ ap (λ (s : State). allowed_by (setting_of s.settings) s.kept event) is) ∙ test
+
+-- it doesn't refuse an event that its connection allows
+pub takes_fed : (inside hub : HubState) (i : ℕ) (seat : SeatState) (event : on.Event) → inside ≡ hub → slice_get inside.seats i ≡ Some seat
+    → IsTrue (is_fed event) → allowed_by (setting_of seat.connection.settings) seat.connection.kept event ≡ true
+    → (seen : List Seen) → HubStands hub seen → IsRefused (setting_of hub.settings) seen (feeds i event) → ⊥
+takes_fed inside hub i seat event is there fed allowed =
+    subst (λ (h : HubState). (seen : List Seen) → HubStands h seen → IsRefused (setting_of h.settings) seen (feeds i event) → ⊥) is
+    (λ seen x refused. may_be_fed inside i seat event seen there fed allowed x refused)
+
+-- nor a connection where there is room
+pub takes_opening : (inside hub : HubState) → inside ≡ hub → length inside.seats < MAX_CONNECTIONS → (seen : List Seen) → HubStands hub seen
+    → IsRefused (setting_of hub.settings) seen opens → ⊥
+takes_opening inside hub is few =
+    subst (λ (h : HubState). (seen : List Seen) → HubStands h seen → IsRefused (setting_of h.settings) seen opens → ⊥) is
+    (λ seen x refused. omega (arith, few, x.count, refused))
+
+-- the same as a value: an event and an outcome that are copies
+pub as_value : (hub after : HubState) (event : HubEvent) (given copy : Event) (outcome boxed : Outcome) → copy ≡ given → boxed ≡ outcome
+    → HubGoesOn hub event (SaysCore (event_of given) outcome) after → HubGoesOn hub event (SaysHubOutcome (Core copy boxed)) after
+as_value hub after event given copy outcome boxed same alike goes =
+    subst (λ (e : Event). HubGoesOn hub event (SaysCore (event_of e) boxed) after) (sym same)
+    (subst (λ (o : Outcome). HubGoesOn hub event (SaysCore (event_of given) o) after) (sym alike) goes)

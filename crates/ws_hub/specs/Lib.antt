@@ -1,0 +1,5 @@
+pub mod Hub
+pub mod Moves
+pub mod Pair
+pub mod Run
+pub mod Served

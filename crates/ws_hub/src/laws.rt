@@ -1,0 +1,15 @@
+//! What members are promised, of every run of a hub.
+ghost use Rattle.std.specs.Prelude.{ℕ, List};
+ghost use Rattle.http_config.specs.Config.{Settings};
+ghost use Rattle.ws_hub_model.specs.Seen.{Seen};
+ghost use Rattle.ws_hub.specs.Run.{IsDriven};
+ghost use Rattle.ws_hub.specs.Served.{IsServed};
+ghost use Rattle.ws_hub.specs.declared.event.HubEvent.{HubEvent};
+ghost use Rattle.ws_hub.specs.declared.driver.HubTrace.{HubTrace};
+
+/// Each member is sent what the others said in its room while it was in, whole, once and in order. How much waits for it is
+/// bounded.
+pub fn each_member_is_served()
+    ensures { (settings : Settings) (events : List HubEvent) (trace : HubTrace) (seen : List Seen) (i : ℕ)
+        → IsDriven settings events trace seen → IsServed seen i }
+{}
