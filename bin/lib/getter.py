@@ -1,0 +1,165 @@
+"""The program h1_get against servers: h1_files, h1_hello, Python's http.server, nginx, and servers that say by heart what
+they were told."""
+import os, socket, subprocess, sys, tempfile, threading
+
+from checks import check, differs, free_port, has, run, wait_for
+
+
+class Parrot:
+    """A server on a port of its own. Each of its connections says one answer for each head that it reads, and closes after
+    its last one; None is an answer that never comes."""
+
+    def __init__(self, *connections):
+        self.heads, self.count = [], 0
+        self.listener = socket.create_server(("127.0.0.1", 0))
+        self.url = "http://127.0.0.1:%d" % self.listener.getsockname()[1]
+        self.thread = threading.Thread(target=self.serve, args=(connections,), daemon=True)
+        self.thread.start()
+
+    def serve(self, connections):
+        for answers in connections:
+            sock = self.listener.accept()[0]
+            self.count += 1
+            self.converse(sock, answers)
+            sock.close()
+
+    def converse(self, sock, answers):
+        unread = b""
+        for answer in answers:
+            while b"\r\n\r\n" not in unread:
+                piece = sock.recv(65536)
+                if not piece:
+                    return
+                unread += piece
+            head, unread = unread.split(b"\r\n\r\n", 1)
+            self.heads.append(head)
+            if answer is None:
+                # The client gives up and closes.
+                sock.recv(65536)
+                return
+            sock.sendall(answer)
+
+
+def get_clients(program, files, hello, folder):
+    """Runs the program against all of them."""
+    url, echo = "http://%s:%d" % files, "http://%s:%d/echo" % hello
+    small, big = (open(f"{folder}/{name}", "rb").read() for name in ("a.txt", "big.bin"))
+
+    def get(status, wanted, *words):
+        def make():
+            done = run(program, *words)
+            return differs((done.returncode, done.stdout), (status, wanted))
+        return make
+    check("h1_get of a small file", get(0, small, f"{url}/a.txt"))
+    check("h1_get of 3,000,000 bytes", get(0, big, f"{url}/big.bin"))
+    check("h1_get of three files, one after another", get(0, small + big + small, f"{url}/a.txt", f"{url}/big.bin", f"{url}/a.txt"))
+    check("h1_get by a host's name", get(0, small, url.replace("127.0.0.1", "localhost") + "/a.txt"))
+    check("h1_get of a file that isn't there, and of one that is", get_missing(program, url, small))
+    check("h1_get POST by length", get(0, big, echo, f"{folder}/big.bin"))
+    check("h1_get POST in chunks", get(0, big, "--chunked", echo, f"{folder}/big.bin"))
+    check("h1_get POST to a file, which isn't wanted", lambda: differs(run(program, f"{url}/a.txt", f"{folder}/big.bin").returncode, 8))
+    check("h1_get HEAD", get_head(program, f"{url}/big.bin"))
+    check("h1_get where nobody listens", lambda: differs(run(program, "http://127.0.0.1:%d/" % free_port()).returncode, 4))
+    check("h1_get of no file to send", lambda: differs(run(program, echo, f"{folder}/nothing").returncode, 3))
+    check("h1_get of no URL", lambda: differs(run(program, "--head").returncode, 2))
+    parrot_clients(program, folder, get)
+    python_server(program, folder, get, small, big)
+    nginx_server(program, folder, get, small, big)
+
+
+def get_missing(program, url, small):
+    def make():
+        done = run(program, f"{url}/nothing", f"{url}/a.txt")
+        return None if done.returncode == 8 and done.stdout.endswith(small) and done.stderr.count(b"\n") == 1 else done
+    return make
+
+
+def get_head(program, url):
+    def make():
+        done = run(program, "--head", url)
+        lines = done.stdout.split(b"\n")
+        return None if done.returncode == 0 and lines[0] == b"HTTP/1.1 200 OK" and b"content-length: 3000000" in lines else done
+    return make
+
+
+def parrot_clients(program, folder, get):
+    ok = b"HTTP/1.1 200 OK\r\ncontent-length: 2\r\n\r\nhi"
+
+    def said(name, status, wanted, connections, *words, count=None, heads=None):
+        def make():
+            parrot = Parrot(*connections)
+            done = run(program, *[word.replace("URL", parrot.url) for word in words])
+            if count is not None and parrot.count != count:
+                return f"{parrot.count} connections"
+            if heads is not None and len(parrot.heads) != heads:
+                return f"{len(parrot.heads)} requests"
+            return differs((done.returncode, done.stdout), (status, wanted))
+        check("h1_get, " + name, make)
+    said("an interim answer first", 0, b"hi", [[b"HTTP/1.1 103 Early Hints\r\nlink: x\r\n\r\n" + ok]], "URL/")
+    said("three answers over one connection", 0, b"hihihi", [[ok, ok, ok]], "URL/", "URL/a", "URL/b", count=1, heads=3)
+    said("no body after a 304 or a 204", 0, b"hi", [[b"HTTP/1.1 304 Not Modified\r\ncontent-length: 5\r\n\r\n",
+         b"HTTP/1.1 204 No Content\r\n\r\n", ok]], "URL/", "URL/", "URL/", count=1)
+    said("no body after HEAD", 0, b"HTTP/1.1 200 OK\ncontent-length: 2\n\n" * 2,
+         [[b"HTTP/1.1 200 OK\r\ncontent-length: 2\r\n\r\n"] * 2], "--head", "URL/", "URL/", count=1)
+    said("chunks and trailers", 0, b"hihi", [[b"HTTP/1.1 200 OK\r\ntransfer-encoding: chunked\r\n\r\n2;x\r\nhi\r\n0\r\na: b\r\n\r\n", ok]],
+         "URL/", "URL/", count=1)
+    said("a body to the connection's end", 0, b"allhi", [[b"HTTP/1.0 200 OK\r\n\r\nall"], [ok]], "URL/", "URL/", count=2)
+    said("an answer that closes", 0, b"hihi", [[b"HTTP/1.1 200 OK\r\nconnection: close\r\ncontent-length: 2\r\n\r\nhi", ok], [ok]],
+         "URL/", "URL/", count=2)
+    said("a kept connection that the server closes", 0, b"hihi", [[ok], [ok]], "URL/", "URL/", count=2)
+    said("bytes that nobody asked for", 0, b"hihi", [[ok + b"HTTP/1.1 200 OK\r\n\r\n"], [ok]], "URL/", "URL/", count=2)
+    said("a body that is cut off", 6, b"h", [[b"HTTP/1.1 200 OK\r\ncontent-length: 2\r\n\r\nh"]], "URL/")
+    said("a chunk that is broken", 6, b"", [[b"HTTP/1.1 200 OK\r\ntransfer-encoding: chunked\r\n\r\nx\r\n"]], "URL/")
+    said("no HTTP", 6, b"", [[b"NO HTTP\r\n\r\n"]], "URL/")
+    said("a head of 200,000 bytes", 6, b"", [[b"HTTP/1.1 200 OK\r\nx: " + b"x" * 200_000]], "URL/")
+    said("no answer at all", 6, b"", [[b""]], "URL/")
+    said("another protocol", 6, b"", [[b"HTTP/1.1 101 Switching Protocols\r\n\r\n"]], "URL/")
+    said("a server that says nothing", 7, b"", [[None]], "--wait", "1", "URL/")
+    said("a server that refuses a body before it came", 8, b"no", [[b"HTTP/1.1 413 Content Too Large\r\nconnection: close\r\n"
+         b"content-length: 2\r\n\r\nno"]], "URL/", f"{folder}/a.txt")
+
+
+def python_server(program, folder, get, small, big):
+    port = free_port()
+    words = [sys.executable, "-m", "http.server", str(port), "--bind", "127.0.0.1", "--directory", folder]
+    server = subprocess.Popen(words, stdout=subprocess.DEVNULL, stderr=subprocess.DEVNULL)
+    try:
+        wait_for(("127.0.0.1", port))
+        url = "http://127.0.0.1:%d" % port
+        check("h1_get of http.server, two files", get(0, small + big, f"{url}/a.txt", f"{url}/big.bin"))
+        check("h1_get of http.server, no such file", lambda: differs(run(program, f"{url}/nothing").returncode, 8))
+    finally:
+        server.terminate()
+        server.wait()
+
+
+NGINX = """
+worker_processes 1; daemon off; pid %(place)s/nginx.pid; error_log %(place)s/error.log;
+events { worker_connections 64; }
+http { log_format count "$connection"; access_log %(place)s/access.log count; client_body_temp_path %(place)s/b;
+  proxy_temp_path %(place)s/p; fastcgi_temp_path %(place)s/f; uwsgi_temp_path %(place)s/u; scgi_temp_path %(place)s/s;
+  server { listen 127.0.0.1:%(port)d; root %(folder)s; location /post { client_max_body_size 0; return 200 taken; } } }
+"""
+
+
+def nginx_server(program, folder, get, small, big):
+    if not has("nginx"):
+        return
+    port = free_port()
+    with tempfile.TemporaryDirectory() as place:
+        os.chmod(place, 0o755)
+        with open(f"{place}/nginx.conf", "w") as text:
+            text.write(NGINX % {"place": place, "folder": folder, "port": port})
+        server = subprocess.Popen(["nginx", "-c", f"{place}/nginx.conf"], stderr=subprocess.DEVNULL)
+        try:
+            wait_for(("127.0.0.1", port))
+            url = "http://127.0.0.1:%d" % port
+            check("h1_get of nginx, three files", get(0, small + big + small, f"{url}/a.txt", f"{url}/big.bin", f"{url}/a.txt"))
+            check("h1_get of nginx, all of them over one connection",
+                  lambda: differs(len(set(open(f"{place}/access.log").read().split())), 1))
+            check("h1_get POST to nginx by length", get(0, b"taken", f"{url}/post", f"{folder}/big.bin"))
+            check("h1_get POST to nginx in chunks", get(0, b"taken", "--chunked", f"{url}/post", f"{folder}/big.bin"))
+            check("h1_get of nginx, no such file", lambda: differs(run(program, f"{url}/nothing").returncode, 8))
+        finally:
+            server.terminate()
+            server.wait()

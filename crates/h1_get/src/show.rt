@@ -1,0 +1,65 @@
+//! What is written to the output.
+ghost use Rattle.std.specs.Prelude.{OnOk};
+ghost use Rattle.std.specs.Io.KnownBytes.{Appends};
+
+use crate::error::GetError;
+use bytes::BytesMut;
+use h1_client::ResponseItem;
+use http_types::{NoMemory, Sink, Version};
+use itoa::Buffer;
+use std::alloc::Global;
+
+/// Writes all bytes.
+pub fn write_all<O: Sink>(out: &mut O, bytes: &[u8]) -> Result<(), GetError>
+    ensures { OnOk result (Appends (O.given out.old) (O.given out.new) bytes.now) }
+{
+    let mut rest = bytes;
+    while !rest.is_empty() {
+        let Ok(count) = out.write(rest) else {
+            return Err(GetError::Output);
+        };
+        rest = &rest[count..];
+    }
+    Ok(())
+}
+
+/// Writes the head of an answer, a line each, and an empty one.
+pub fn write_head<O: Sink>(
+    alloc: Global,
+    item: &ResponseItem,
+    out: &mut O,
+) -> Result<(), GetError> {
+    let text = head_text(alloc, item)?;
+    write_all(out, text.as_slice())
+}
+
+fn head_text(alloc: Global, item: &ResponseItem) -> Result<BytesMut, NoMemory> {
+    let mut text = BytesMut::new(alloc);
+    put_status(&mut text, item)?;
+    for (name, value) in item.head.headers.iter() {
+        put_line(&mut text, name.as_bytes(), value.as_bytes())?;
+    }
+    text.extend_from_slice(b"\n")?;
+    Ok(text)
+}
+
+fn put_status(text: &mut BytesMut, item: &ResponseItem) -> Result<(), NoMemory> {
+    let version: &[u8] = if item.head.version == Version::HTTP_10 {
+        b"HTTP/1.0 "
+    } else {
+        b"HTTP/1.1 "
+    };
+    text.extend_from_slice(version)?;
+    let mut digits = Buffer::new();
+    text.extend_from_slice(digits.format(item.head.status.as_u16()).as_bytes())?;
+    text.extend_from_slice(b" ")?;
+    text.extend_from_slice(item.reason.as_slice())?;
+    text.extend_from_slice(b"\n")
+}
+
+fn put_line(text: &mut BytesMut, name: &[u8], value: &[u8]) -> Result<(), NoMemory> {
+    text.extend_from_slice(name)?;
+    text.extend_from_slice(b": ")?;
+    text.extend_from_slice(value)?;
+    text.extend_from_slice(b"\n")
+}

@@ -1,0 +1,70 @@
+//! Where a URL leads.
+use crate::error::GetError;
+use http_types::Uri;
+use http_uri::UriError;
+use std::alloc::Global;
+
+/// The port of HTTP.
+const HTTP_PORT: u16 = 80;
+
+/// A URL that is asked for.
+#[derive(Drop)]
+pub struct Target {
+    pub uri: Uri,
+    pub port: u16,
+}
+
+impl Target {
+    /// Reads a URL of the scheme http that names a host and no user.
+    pub fn read(alloc: Global, text: &str) -> Result<Target, GetError> {
+        let uri = match Uri::from_str(alloc, text) {
+            Ok(uri) => uri,
+            Err(UriError::OutOfMemory) => return Err(GetError::NoMemory),
+            Err(_) => return Err(GetError::Url),
+        };
+        if uri.scheme_str() != Some("http") {
+            return Err(GetError::Scheme);
+        }
+        let port = port_of(&uri)?;
+        Ok(Target { uri, port })
+    }
+
+    /// The host, an address of IPv6 without its brackets.
+    pub fn host(&self) -> &str {
+        match self.uri.host() {
+            Some(host) => bare(host),
+            None => "",
+        }
+    }
+
+    /// The host and, where the URL names it, the port.
+    pub fn authority(&self) -> &str {
+        match self.uri.authority() {
+            Some(authority) => authority.as_str(),
+            None => "",
+        }
+    }
+}
+
+// The port of a URL that names a host and no user.
+fn port_of(uri: &Uri) -> Result<u16, GetError> {
+    let authority = uri.authority().ok_or(GetError::Url)?;
+    if authority.as_str().contains('@') {
+        return Err(GetError::User);
+    }
+    let host = authority.host();
+    if host.is_empty() {
+        return Err(GetError::Url);
+    }
+    match authority.as_str().strip_prefix(host) {
+        Some("" | ":") => Ok(HTTP_PORT),
+        _ => authority.port_u16().ok_or(GetError::Url),
+    }
+}
+
+fn bare(host: &str) -> &str {
+    match host.strip_prefix('[') {
+        Some(rest) => rest.strip_suffix(']').unwrap_or(rest),
+        None => host,
+    }
+}
