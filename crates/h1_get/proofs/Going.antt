@@ -3,7 +3,7 @@ use Rattle.std.specs.Prelude.{◌≡◌, ℕ, List, [], ◌∷◌, ◌++◌, Opt
 use Rattle.std.proofs.Common.{refl, sym, ap, subst, ◌∙◌, append_assoc, append-nil}
 use Rattle.std.specs.Io.KnownBytes.{Consumes, Appends}
 use Rattle.std.proofs.KnownBytes.{Consumes-nil, Appends-nil, Consumes-trans, Appends-trans}
-use Rattle.h1_client.specs.State.{State, Stands}
+use Rattle.h1_client.specs.State.{Stands}
 use Rattle.h1_client_machine.specs.ClientTrace.{Happened, taken, taken_by, written, given as gave}
 use Rattle.h1_get.specs.Exchange.{Ends, Goes, handed, handed_by, given, given_by, noted, noted_by}
 

@@ -3,14 +3,14 @@ use Rattle.std.specs.Prelude.{◌≡◌, ℕ, ◌≤◌, List, [], ◌∷◌, �
 use Rattle.std.proofs.Common.{refl, sym, ap, subst, ◌∙◌, append-nil, append_assoc, arith, take_all, take-append-drop}
 use Rattle.std.proofs.lemmas.List.{length-take-le}
 use Rattle.std.specs.Io.KnownBytes.{Consumes, Appends, Keeps, IsAtEnd}
-use Rattle.std.proofs.KnownBytes.{Appends-trans, Consumes-nil, Appends-nil}
+use Rattle.std.proofs.KnownBytes.{Appends-trans}
 use Rattle.h1_client.specs.Answers.{SaysNext}
 use Rattle.h1_client.specs.State.{State, Stands, GoesOn, Is}
 use Rattle.h1_client.specs.declared.event.NextAnswer.{NextAnswer}
 use Rattle.h1_client.specs.declared.event.NextAnswer.TheVariants as next
 use Rattle.h1_client_machine.specs.ClientEvent as on
 use Rattle.h1_client_machine.specs.ClientEvent.{ClientEvent, ClientOutcome}
-use Rattle.h1_client_machine.specs.ClientTrace.{Happened, taken_by, given as gave}
+use Rattle.h1_client_machine.specs.ClientTrace.{taken_by, given as gave}
 use Rattle.h1_get.specs.Exchange.{Ends, Goes, handed_by, given_by, noted_by}
 
 -- ---- an event

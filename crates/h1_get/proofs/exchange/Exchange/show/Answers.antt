@@ -1,5 +1,5 @@
-use Rattle.std.proofs.Common.{[], refl}
-use Rattle.std.proofs.KnownBytes.{Consumes-nil, Appends-nil, Keeps-refl}
+use Rattle.std.proofs.Common.{refl}
+use Rattle.std.proofs.KnownBytes.{Consumes-nil, Keeps-refl}
 use Rattle.h1_get.proofs.Going.{goes_none}
 use Rattle.h1_get.proofs.Steps.{no_step, never_hidden}
 use Rattle.h1_get.proofs.exchange.Exchange.show.Goals as goal
