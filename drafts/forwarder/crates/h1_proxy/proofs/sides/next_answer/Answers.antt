@@ -1,0 +1,5 @@
+use Rattle.h1_proxy.proofs.GoesOn.{server_one, server_same}
+use Rattle.h1_proxy.proofs.sides.next_answer.Goals as goal
+
+pub returns : goal.returns
+returns c = server_one _ _ _ _ c.in_ok-next.ensures.stands
