@@ -127,14 +127,15 @@ def python_server(program, folder, get, small, big):
         wait_for(("127.0.0.1", port))
         url = "http://127.0.0.1:%d" % port
         check("h1_get of http.server, two files", get(0, small + big, f"{url}/a.txt", f"{url}/big.bin"))
-        check("h1_get of http.server, no such file", lambda: differs(run(program, f"{url}/nothing").returncode, 8))
+        check("h1_get of http.server, no such file", lambda: differs(b"status 404" in run(program, f"{url}/nothing").stderr, True))
     finally:
         server.terminate()
         server.wait()
 
 
+# A server that root has started reads the folder, which is root's alone, as root.
 NGINX = """
-worker_processes 1; daemon off; pid %(place)s/nginx.pid; error_log %(place)s/error.log;
+%(user)s worker_processes 1; daemon off; pid %(place)s/nginx.pid; error_log %(place)s/error.log;
 events { worker_connections 64; }
 http { log_format count "$connection"; access_log %(place)s/access.log count; client_body_temp_path %(place)s/b;
   proxy_temp_path %(place)s/p; fastcgi_temp_path %(place)s/f; uwsgi_temp_path %(place)s/u; scgi_temp_path %(place)s/s;
@@ -149,7 +150,7 @@ def nginx_server(program, folder, get, small, big):
     with tempfile.TemporaryDirectory() as place:
         os.chmod(place, 0o755)
         with open(f"{place}/nginx.conf", "w") as text:
-            text.write(NGINX % {"place": place, "folder": folder, "port": port})
+            text.write(NGINX % {"place": place, "folder": folder, "port": port, "user": "" if os.geteuid() else "user root;"})
         server = subprocess.Popen(["nginx", "-c", f"{place}/nginx.conf"], stderr=subprocess.DEVNULL)
         try:
             wait_for(("127.0.0.1", port))
@@ -159,7 +160,7 @@ def nginx_server(program, folder, get, small, big):
                   lambda: differs(len(set(open(f"{place}/access.log").read().split())), 1))
             check("h1_get POST to nginx by length", get(0, b"taken", f"{url}/post", f"{folder}/big.bin"))
             check("h1_get POST to nginx in chunks", get(0, b"taken", "--chunked", f"{url}/post", f"{folder}/big.bin"))
-            check("h1_get of nginx, no such file", lambda: differs(run(program, f"{url}/nothing").returncode, 8))
+            check("h1_get of nginx, no such file", lambda: differs(b"status 404" in run(program, f"{url}/nothing").stderr, True))
         finally:
             server.terminate()
             server.wait()
