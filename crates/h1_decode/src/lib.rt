@@ -35,3 +35,4 @@ pub use decoder::{
 pub use http_framing::BodyKind;
 pub use response::{ResponseItem, response_head};
 pub use scan::{HeadScan, HeadScanner, scan_head};
+pub use value::content_length;

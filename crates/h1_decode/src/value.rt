@@ -11,7 +11,7 @@ use http_types::ConnectionType;
 
 /// The number of bytes that a Content-Length spells (RFC 7230, section 3.3.2): digits alone, at
 /// least one, below 2^64.
-pub(crate) fn content_length(value: &[u8]) -> Option<u64>
+pub fn content_length(value: &[u8]) -> Option<u64>
     ensures { result ≡ length_value value.now }
 {
     if value.is_empty() {

@@ -3,7 +3,7 @@ ghost use Rattle.std.specs.Prelude.{◌≡◌, ◌≤◌, ℕ, List, codes, Some
 ghost use Rattle.std.specs.List.{list_any};
 ghost use Rattle.http_framing.specs.Kinds.{kind_of};
 ghost use Rattle.http_types.specs.ResponseHead.{fresh_response};
-ghost use Rattle.h1_model.specs.LengthTable.{length_value, stated_length, values_of};
+ghost use Rattle.h1_model.specs.LengthTable.{stated_length, values_of};
 ghost use Rattle.h1_model.specs.Parse.{Body};
 ghost use Rattle.h1_client_model.specs.AnswerParse.{Received};
 ghost use Rattle.h1_client_model.specs.AnswerReading.{Answer, answer_is, IsAnswerReading};
@@ -15,7 +15,7 @@ ghost use Rattle.h1_forward_heads.specs.Meaning.{is_line_end, kept_reason, found
 
 use crate::hops::remove_unpassed;
 use crate::words::{lists, trimmed};
-use h1_decode::ResponseItem;
+use h1_decode::{ResponseItem, content_length};
 use h1_decode::laws::marks_tell_the_answers_connection;
 use http_framing::{BodyKind, BodySize};
 use http_map::{CONNECTION, CONTENT_LENGTH, HeaderMap};
@@ -192,25 +192,6 @@ fn stated_length(headers: &HeaderMap) -> Option<u64>
         Some(value) => content_length(trimmed(value.as_bytes())),
         None => None,
     }
-}
-
-// The number of bytes that a Content-Length spells (RFC 7230, section 3.3.2): digits alone, at least one, below 2^64.
-fn content_length(value: &[u8]) -> Option<u64>
-    ensures { result ≡ length_value value.now }
-{
-    if value.is_empty() {
-        return None;
-    }
-    let mut length = 0u64;
-    for byte in value {
-        if !byte.is_ascii_digit() {
-            return None;
-        }
-        length = length
-            .checked_mul(10)?
-            .checked_add(u64::from(*byte - b'0'))?;
-    }
-    Some(length)
 }
 
 // A head of this status with these headers.
