@@ -9,13 +9,13 @@ mod answers;
 mod block;
 mod bodies;
 mod client;
-mod files;
 mod requests;
 
-use crate::files::play_arguments;
+use crate::block::Exchanges;
 use std::io;
 use std::process::ExitCode;
+use vectors::play_blocks;
 
 fn main(rt: HostRuntime) -> io::Result<ExitCode> {
-    play_arguments(&rt)
+    play_blocks(&Exchanges, &rt)
 }

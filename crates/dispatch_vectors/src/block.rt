@@ -7,11 +7,35 @@ use http_types::NoMemory;
 use std::alloc::{AllocError, AllocGlobal, Global};
 use std::io;
 use std::random::RandomSource;
-use vectors::{CaseError, Cursor, Form, put_all, put_clear};
+use vectors::{BlockPlayer, CaseError, Cursor, Form, put_all, put_clear};
+
+/// Plays connections.
+#[derive(Clone, Copy, Debug)]
+pub struct Connections;
+
+impl<R: RandomSource + AllocGlobal> BlockPlayer<R> for Connections {
+    fn kind(&self) -> &str {
+        "connections"
+    }
+
+    fn play_block(&self, rt: &R, lines: &[&[u8]], different: &mut Vec<u8>) -> io::Result<bool> {
+        let alloc = rt.alloc();
+        let Some((name, others)) = lines.split_first() else {
+            return Ok(false);
+        };
+        let Some(mut block) = Block::begun(alloc, name) else {
+            return Ok(false);
+        };
+        for line in others {
+            block.take(alloc, line)?;
+        }
+        block.is_answered(rt, different)
+    }
+}
 
 /// A connection, as far as its lines were read.
 #[derive(Drop)]
-pub struct Block<'a> {
+struct Block<'a> {
     name: &'a [u8],
     setup: Setup,
     steps: Vec<Step>,
@@ -21,7 +45,7 @@ pub struct Block<'a> {
 
 impl<'a> Block<'a> {
     /// The block that the line names, where it begins one.
-    pub fn begun(alloc: Global, line: &'a [u8]) -> Option<Block<'a>> {
+    fn begun(alloc: Global, line: &'a [u8]) -> Option<Block<'a>> {
         Some(Block {
             name: line.strip_prefix(b"== ")?,
             setup: Setup::new(alloc),
@@ -32,7 +56,7 @@ impl<'a> Block<'a> {
     }
 
     /// Takes a line of what is played or of the report.
-    pub fn take(&mut self, alloc: Global, line: &[u8]) -> Result<(), NoMemory> {
+    fn take(&mut self, alloc: Global, line: &[u8]) -> Result<(), NoMemory> {
         let taken = if let Some(words) = line.strip_prefix(b"> ") {
             self.take_words(alloc, words)
         } else if let Some(said) = line.strip_prefix(b"< ") {
@@ -61,7 +85,7 @@ impl<'a> Block<'a> {
 
     /// Whether the connection gets the report, however the wire cuts, with a recorder and without. Where it does not,
     /// what it gets is written to `different`.
-    pub fn is_answered<R: RandomSource + AllocGlobal>(
+    fn is_answered<R: RandomSource + AllocGlobal>(
         &self,
         rt: &R,
         different: &mut Vec<u8>,

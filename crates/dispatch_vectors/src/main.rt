@@ -5,7 +5,6 @@
 #![tactic(auto)]
 
 mod block;
-mod files;
 mod play;
 mod report;
 mod service;
@@ -14,15 +13,16 @@ mod silence;
 mod step;
 mod wire;
 
-use crate::files::play_arguments;
+use crate::block::Connections;
 use std::io::ErrorKind;
 use std::process::ExitCode;
+use vectors::play_blocks;
 
 /// Memory ran out.
 const NO_MEMORY: u8 = 7;
 
 fn main(rt: HostRuntime) -> ExitCode {
-    match play_arguments(&rt) {
+    match play_blocks(&Connections, &rt) {
         Ok(status) => status,
         Err(error) if error.kind() == ErrorKind::OutOfMemory => {
             let _ = println!(rt; "no memory");

@@ -2,12 +2,37 @@
 use crate::ends::{Cut, Way, play};
 use crate::talk::{Exchange, read_talk};
 use http_types::NoMemory;
-use std::alloc::{AllocError, Global};
-use vectors::{CaseError, Form, put_all, put_clear, put_decimal, put_text};
+use std::alloc::{AllocError, AllocGlobal, Global};
+use std::io;
+use vectors::{BlockPlayer, CaseError, Form, put_all, put_clear, put_decimal, put_text};
+
+/// Plays talks.
+#[derive(Clone, Copy, Debug)]
+pub struct Talks;
+
+impl<R: AllocGlobal> BlockPlayer<R> for Talks {
+    fn kind(&self) -> &str {
+        "talks"
+    }
+
+    fn play_block(&self, rt: &R, lines: &[&[u8]], different: &mut Vec<u8>) -> io::Result<bool> {
+        let alloc = rt.alloc();
+        let Some((name, others)) = lines.split_first() else {
+            return Ok(false);
+        };
+        let Some(mut block) = Block::begun(alloc, name) else {
+            return Ok(false);
+        };
+        for line in others {
+            block.take(alloc, line)?;
+        }
+        Ok(block.is_so(alloc, different)?)
+    }
+}
 
 /// A talk, as far as its lines were read.
 #[derive(Drop)]
-pub struct Block<'a> {
+struct Block<'a> {
     name: &'a [u8],
     talk: Vec<&'a [u8]>,
     expected: Vec<u8>,
@@ -16,7 +41,7 @@ pub struct Block<'a> {
 
 impl<'a> Block<'a> {
     /// The block that the line names, where it begins one.
-    pub fn begun(alloc: Global, line: &'a [u8]) -> Option<Block<'a>> {
+    fn begun(alloc: Global, line: &'a [u8]) -> Option<Block<'a>> {
         Some(Block {
             name: line.strip_prefix(b"== ")?,
             talk: Vec::new(alloc),
@@ -26,7 +51,7 @@ impl<'a> Block<'a> {
     }
 
     /// Takes a line of what is asked and answered, or of what both hand out.
-    pub fn take(&mut self, alloc: Global, line: &'a [u8]) -> Result<(), NoMemory> {
+    fn take(&mut self, alloc: Global, line: &'a [u8]) -> Result<(), NoMemory> {
         if let Some(said) = line.strip_prefix(b"> ") {
             return Ok(self.talk.push(said)?);
         }
@@ -45,7 +70,7 @@ impl<'a> Block<'a> {
 
     /// Whether both hand out what they have to, in each way and over each cut. The first that differs is written to
     /// `different`.
-    pub fn is_so(&self, alloc: Global, different: &mut Vec<u8>) -> Result<bool, NoMemory> {
+    fn is_so(&self, alloc: Global, different: &mut Vec<u8>) -> Result<bool, NoMemory> {
         match read_talk(alloc, self.talk.as_slice()) {
             Ok(talk) if self.is_readable => Ok(
                 self.goes(alloc, talk.as_slice(), Way::InTurn, different)?

@@ -8,15 +8,15 @@
 mod block;
 mod client;
 mod ends;
-mod files;
 mod handed;
 mod server;
 mod talk;
 
-use crate::files::play_arguments;
+use crate::block::Talks;
 use std::io;
 use std::process::ExitCode;
+use vectors::play_blocks;
 
 fn main(rt: HostRuntime) -> io::Result<ExitCode> {
-    play_arguments(&rt)
+    play_blocks(&Talks, &rt)
 }

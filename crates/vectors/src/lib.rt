@@ -16,9 +16,12 @@
 //! # Example
 //!
 //! A program implements [`Player`] for its calls, and gives itself to [`play_arguments`], which prints what differs and
-//! counts. Adding a vector is adding a line.
+//! counts. Adding a vector is adding a line. A program whose cases have several lines each implements [`BlockPlayer`] and gives
+//! itself to [`play_blocks`].
 #![tactic(auto)]
 
+mod arguments;
+mod blocks;
 mod case;
 mod clear;
 mod cursor;
@@ -27,6 +30,7 @@ mod player;
 mod quoted;
 mod written;
 
+pub use blocks::{BlockPlayer, play_blocks};
 pub use case::{Case, CaseError, read_case, read_joined};
 pub use clear::{Form, put_clear};
 pub use cursor::Cursor;

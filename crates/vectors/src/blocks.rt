@@ -1,0 +1,82 @@
+//! Plays files of blocks, each of several lines.
+use crate::arguments::{FilePlayer, play_each};
+use crate::player::Tally;
+use std::process::ExitCode;
+use std::random::RandomSource;
+use std::rt::{Env, Files};
+use std::{fs, io};
+
+/// What plays blocks.
+pub trait BlockPlayer<R> {
+    /// What its blocks are called, in the plural.
+    fn kind(&self) -> &str;
+
+    /// Whether a block goes as its lines say. The first of them begins with `== ` and names the block. What differs is written
+    /// to `different`.
+    fn play_block(&self, rt: &R, lines: &[&[u8]], different: &mut Vec<u8>) -> io::Result<bool>;
+}
+
+/// Plays the files that the program's arguments name, prints what differs and how many blocks of each go as they have to, and
+/// fails unless all do. Lines before a file's first block are passed over.
+pub fn play_blocks<P: BlockPlayer<R>, R: Files + Print + Env + AllocGlobal>(
+    player: &P,
+    rt: &R,
+) -> io::Result<ExitCode> {
+    play_each(&Blocks { player }, rt)
+}
+
+// Plays files of blocks.
+#[derive(Drop)]
+struct Blocks<'a, P> {
+    player: &'a P,
+}
+
+impl<P: BlockPlayer<R>, R: Files + Print + AllocGlobal> FilePlayer<R> for Blocks<'_, P> {
+    fn play_file(&self, rt: &R, name: &str) -> io::Result<bool> {
+        let text = fs::read(rt, name)?;
+        let mut different = Vec::new(rt.alloc());
+        let tally = play_text(self.player, rt, text.as_slice(), &mut different)?;
+        rt.print(String::from_utf8_lossy(rt.alloc(), different.as_slice())?)?;
+        println!(rt; "{name}: {} of {} {}", tally.right, tally.cases, self.player.kind())?;
+        Ok(tally.right == tally.cases)
+    }
+}
+
+// Plays the blocks of a text.
+fn play_text<P: BlockPlayer<R>, R: AllocGlobal>(
+    player: &P,
+    rt: &R,
+    text: &[u8],
+    different: &mut Vec<u8>,
+) -> io::Result<Tally> {
+    let mut tally = Tally::default();
+    let mut lines: Vec<&[u8]> = Vec::new(rt.alloc());
+    for line in text.split(|byte| *byte == b'\n') {
+        if line.starts_with(b"== ") {
+            end_block(player, rt, lines.as_slice(), &mut tally, different)?;
+            lines.clear();
+            lines.push(line)?;
+        } else if !lines.is_empty() {
+            lines.push(line)?;
+        }
+    }
+    end_block(player, rt, lines.as_slice(), &mut tally, different)?;
+    Ok(tally)
+}
+
+// Plays a block whose lines are all there, and counts it. No lines are no block.
+fn end_block<P: BlockPlayer<R>, R>(
+    player: &P,
+    rt: &R,
+    lines: &[&[u8]],
+    tally: &mut Tally,
+    different: &mut Vec<u8>,
+) -> io::Result<()> {
+    if lines.is_empty() {
+        return Ok(());
+    }
+    let right = player.play_block(rt, lines, different)?;
+    tally.cases = tally.cases.saturating_add(1);
+    tally.right = tally.right.saturating_add(u32::from(right));
+    Ok(())
+}
