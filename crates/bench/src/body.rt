@@ -1,7 +1,7 @@
 //! Exchanges with bodies that are measured.
-use crate::checksum::Checksum;
 use crate::error::BenchError;
 use crate::work::{MOMENT, Place, begin, give, repeated, take};
+use bench_support::Checksum;
 use bytes::Bytes;
 use h1_connection::{Connection, Pulled};
 use http_framing::BodySize;

@@ -1,6 +1,6 @@
 //! What WebSocket frames cost, by the number of their bytes.
-use crate::checksum::Checksum;
 use crate::error::BenchError;
+use bench_support::Checksum;
 use bytes::BytesMut;
 use std::alloc::Global;
 use ws_frames::{Codec, Frame, Message, NoWords, OpCode, Parser};

@@ -1,8 +1,7 @@
 //! Connections to which nothing comes, for a program that counts the bytes that they keep.
-use crate::checksum::Checksum;
 use crate::error::BenchError;
-use crate::head::HEADS;
 use crate::work::{ask, begin, give, take};
+use bench_support::{Checksum, HEADS};
 use h1_connection::Connection;
 use http_framing::BodySize;
 use http_types::{ResponseHead, ServiceConfigBuilder, StatusCode};

@@ -11,10 +11,8 @@
 #![tactic(auto)]
 
 mod body;
-mod checksum;
 mod error;
 mod frames;
-mod head;
 mod idle;
 mod map;
 mod parts;
@@ -22,10 +20,10 @@ mod upgraded;
 mod work;
 
 use anyhow::{Context, Result};
+use bench_support::{HEADS, NamedHead};
 use body::{EXCHANGES, Exchange};
 use error::BenchError;
 use frames::echo_frames;
-use head::{HEADS, NamedHead};
 use idle::{IDLES, Idle};
 use map::{Lines, MAP_WORKS, MapWork};
 use parts::{PARTS, Part};
@@ -49,48 +47,103 @@ fn main(rt: HostRuntime) -> Result<()> {
     let words: Vec<String> = env::args(&rt)?.skip(1).collect(alloc)?;
     match words.as_slice() {
         [] => a_little_of_each(&rt, alloc),
-        [word, size, frames] if word.as_str() == "frames" => {
-            let size = size.parse::<usize>().context("reading how many bytes")?;
-            let frames = frames.parse::<u64>().context("reading how many frames")?;
-            measure_frames(&rt, alloc, size, frames)
-        }
-        [word, size, frames] if word.as_str() == "upgraded" => {
-            let size = size.parse::<usize>().context("reading how many bytes")?;
-            let frames = frames.parse::<u64>().context("reading how many frames")?;
-            measure_upgraded(&rt, alloc, size, frames)
-        }
-        [word, part, times] if word.as_str() == "part" => {
-            let part = Part::named(part.as_str()).ok_or(BenchError::Usage)?;
-            let times = times.parse::<u64>().context("reading how many times")?;
-            measure_part(&rt, part, times)
-        }
-        [word, kind, count] if word.as_str() == "idle" => {
-            let idle = Idle::named(kind.as_str()).ok_or(BenchError::Usage)?;
-            let count = count.parse::<usize>().context("reading how many")?;
-            measure_idle(&rt, alloc, idle, count)
-        }
-        [work, head, requests] => {
-            let work = Work::named(work.as_str()).ok_or(BenchError::Usage)?;
-            let head = NamedHead::named(head.as_str()).ok_or(BenchError::Usage)?;
-            let requests = requests
-                .parse::<u64>()
-                .context("reading how many requests")?;
-            measure(&rt, alloc, work, head, requests)
-        }
+        [first, second, third] => ask_three(
+            &rt,
+            alloc,
+            first.as_str(),
+            second.as_str(),
+            third.as_str(),
+        ),
         [word, work, names, times] if word.as_str() == "map" => {
-            let work = MapWork::named(work.as_str()).ok_or(BenchError::Usage)?;
-            let lines = lines_of(alloc, names.as_str())?;
-            let times = times.parse::<u64>().context("reading how many times")?;
-            measure_map(&rt, alloc, work, &lines, times)
+            ask_map(&rt, alloc, work.as_str(), names.as_str(), times.as_str())
         }
         [word, exchange, depth, times] if word.as_str() == "body" => {
-            let exchange = Exchange::named(exchange.as_str()).ok_or(BenchError::Usage)?;
-            let depth = depth.parse::<u64>().context("reading how many at once")?;
-            let times = times.parse::<u64>().context("reading how many times")?;
-            measure_body(&rt, alloc, exchange, depth, times)
+            ask_body(
+                &rt,
+                alloc,
+                exchange.as_str(),
+                depth.as_str(),
+                times.as_str(),
+            )
         }
         _ => Err(BenchError::Usage.into()),
     }
+}
+
+// What three words ask for.
+fn ask_three<R: Print + RandomSource + AllocGlobal>(
+    rt: &R,
+    alloc: Global,
+    first: &str,
+    second: &str,
+    third: &str,
+) -> Result<()> {
+    match first {
+        "frames" => ask_frames(rt, alloc, second, third),
+        "upgraded" => ask_upgraded(rt, alloc, second, third),
+        "part" => ask_part(rt, second, third),
+        "idle" => ask_idle(rt, alloc, second, third),
+        _ => ask_requests(rt, alloc, first, second, third),
+    }
+}
+
+fn ask_frames(rt: &impl Print, alloc: Global, size: &str, frames: &str) -> Result<()> {
+    let size = size.parse::<usize>().context("reading how many bytes")?;
+    let frames = frames.parse::<u64>().context("reading how many frames")?;
+    measure_frames(rt, alloc, size, frames)
+}
+
+fn ask_upgraded(rt: &impl Print, alloc: Global, size: &str, frames: &str) -> Result<()> {
+    let size = size.parse::<usize>().context("reading how many bytes")?;
+    let frames = frames.parse::<u64>().context("reading how many frames")?;
+    measure_upgraded(rt, alloc, size, frames)
+}
+
+fn ask_part<R: Print + RandomSource + AllocGlobal>(rt: &R, part: &str, times: &str) -> Result<()> {
+    let part = Part::named(part).ok_or(BenchError::Usage)?;
+    let times = times.parse::<u64>().context("reading how many times")?;
+    measure_part(rt, part, times)
+}
+
+fn ask_idle(rt: &impl Print, alloc: Global, kind: &str, count: &str) -> Result<()> {
+    let idle = Idle::named(kind).ok_or(BenchError::Usage)?;
+    let count = count.parse::<usize>().context("reading how many")?;
+    measure_idle(rt, alloc, idle, count)
+}
+
+fn ask_requests(
+    rt: &impl Print,
+    alloc: Global,
+    work: &str,
+    head: &str,
+    requests: &str,
+) -> Result<()> {
+    let work = Work::named(work).ok_or(BenchError::Usage)?;
+    let head = NamedHead::named(head).ok_or(BenchError::Usage)?;
+    let requests = requests
+        .parse::<u64>()
+        .context("reading how many requests")?;
+    measure(rt, alloc, work, head, requests)
+}
+
+fn ask_map(rt: &impl Print, alloc: Global, work: &str, names: &str, times: &str) -> Result<()> {
+    let work = MapWork::named(work).ok_or(BenchError::Usage)?;
+    let lines = lines_of(alloc, names)?;
+    let times = times.parse::<u64>().context("reading how many times")?;
+    measure_map(rt, alloc, work, &lines, times)
+}
+
+fn ask_body(
+    rt: &impl Print,
+    alloc: Global,
+    exchange: &str,
+    depth: &str,
+    times: &str,
+) -> Result<()> {
+    let exchange = Exchange::named(exchange).ok_or(BenchError::Usage)?;
+    let depth = depth.parse::<u64>().context("reading how many at once")?;
+    let times = times.parse::<u64>().context("reading how many times")?;
+    measure_body(rt, alloc, exchange, depth, times)
 }
 
 fn a_little_of_each<R: Print + RandomSource + AllocGlobal>(rt: &R, alloc: Global) -> Result<()> {

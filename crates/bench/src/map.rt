@@ -1,7 +1,6 @@
 //! What a header map costs, by what is done with it and with how many names.
-use crate::checksum::Checksum;
 use crate::error::BenchError;
-use crate::head::NamedHead;
+use bench_support::{Checksum, NamedHead};
 use http_map::{HeaderMap, HeaderName, HeaderValue, NoMemory, value_of_str};
 use std::alloc::Global;
 use std::str;

@@ -1,7 +1,7 @@
 //! What the parts beside a connection cost: a stream's body, and the queue of a request's body.
 
-use crate::checksum::Checksum;
 use crate::error::BenchError;
+use bench_support::Checksum;
 use bytes::Bytes;
 use futures::task::{Context, Doorbell, Poll, Solo};
 use http_services::{BodyFault, BodyStream, Counted, MessageBody, PlainStream, h1};

@@ -1,6 +1,6 @@
 //! What is measured.
-use crate::checksum::Checksum;
 use crate::error::BenchError;
+use bench_support::Checksum;
 use bytes::Bytes;
 use h1_connection::{Boxed, Connection, Event, NextHead, NextKind, Outcome};
 use h1_decode::{HeadItem, HeadRoom, HeadScan, request_head, scan_head};
@@ -88,6 +88,12 @@ impl Work {
     }
 }
 
+// Counts a head in: its target and the number of its header names.
+fn count_head(checksum: &mut Checksum, item: &HeadItem) {
+    checksum.add_bytes(item.target.as_slice());
+    checksum.add(item.head.headers.len_keys());
+}
+
 fn heads(alloc: Global, head: &[u8], requests: u64) -> Result<u64, BenchError> {
     let bytes = Bytes::copy_from_slice(alloc, head)?;
     let mut checksum = Checksum::new();
@@ -96,7 +102,7 @@ fn heads(alloc: Global, head: &[u8], requests: u64) -> Result<u64, BenchError> {
             return Err(BenchError::NoHead);
         };
         match request_head(alloc, bytes.slice(start..end)?) {
-            Ok(item) => checksum.add_head(&item),
+            Ok(item) => count_head(&mut checksum, &item),
             Err(error) => return Err(error.into()),
         }
     }
@@ -164,7 +170,7 @@ impl Place {
             return Err(BenchError::Misplaced);
         }
         match connection.next_into(&mut self.item, &mut self.room)? {
-            NextKind::Head => checksum.add_head(&self.item),
+            NextKind::Head => count_head(checksum, &self.item),
             _ => return Err(BenchError::NoHead),
         }
         Ok(())
@@ -210,7 +216,7 @@ pub fn ask(connection: &mut Connection, checksum: &mut Checksum) -> Result<(), B
         return Err(BenchError::Misplaced);
     }
     match connection.next()? {
-        NextHead::Head(item) => checksum.add_head(&item),
+        NextHead::Head(item) => count_head(checksum, &item),
         _ => return Err(BenchError::NoHead),
     }
     Ok(())
@@ -293,7 +299,7 @@ fn bring(
     }
     match connection.step(event)? {
         Outcome::Took(count) => checksum.add(count),
-        Outcome::Head(item) => checksum.add_head(&item),
+        Outcome::Head(item) => count_head(checksum, &item),
         Outcome::Gave(bytes) => checksum.add_bytes(bytes.as_slice()),
         Outcome::Done => checksum.add(1),
         _ => return Err(BenchError::NoHead),

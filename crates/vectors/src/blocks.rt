@@ -37,7 +37,12 @@ impl<P: BlockPlayer<R>, R: Files + Print + AllocGlobal> FilePlayer<R> for Blocks
         let mut different = Vec::new(rt.alloc());
         let tally = play_text(self.player, rt, text.as_slice(), &mut different)?;
         rt.print(String::from_utf8_lossy(rt.alloc(), different.as_slice())?)?;
-        println!(rt; "{name}: {} of {} {}", tally.right, tally.cases, self.player.kind())?;
+        println!(rt;
+            "{name}: {} of {} {}",
+            tally.right,
+            tally.cases,
+            self.player.kind()
+        )?;
         Ok(tally.right == tally.cases)
     }
 }

@@ -3,12 +3,15 @@
 /// A request's head, and the word for it.
 #[derive(Clone, Copy, Debug, PartialEq, Eq)]
 pub struct NamedHead {
+    /// The word.
     pub name: &'static str,
+
+    /// Its bytes, down to its empty line.
     pub text: &'static [u8],
 }
 
-/// The least that a request has to say, what curl says, and what a browser says as it asks for a
-/// page again: 27, 77 and 668 bytes.
+/// The least that a request has to say, what curl says, and what a browser says as it asks for a page again: 27, 77 and 668
+/// bytes.
 pub static HEADS: [NamedHead; 3] = [
     NamedHead {
         name: "minimal",

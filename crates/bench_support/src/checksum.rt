@@ -1,5 +1,4 @@
 //! A number that depends on all that the engine gave.
-use h1_decode::HeadItem;
 
 /// A checksum of numbers, in their order.
 #[derive(Clone, Copy, Debug, PartialEq, Eq)]
@@ -29,11 +28,5 @@ impl Checksum {
         if let [.., last] = bytes {
             self.add(*last as usize);
         }
-    }
-
-    /// Counts a head in: its target and the number of its header names.
-    pub fn add_head(&mut self, item: &HeadItem) {
-        self.add_bytes(item.target.as_slice());
-        self.add(item.head.headers.len_keys());
     }
 }
