@@ -15,8 +15,8 @@ ghost use Rattle.h1_forward_heads.specs.Meaning.{is_line_end, kept_reason, found
 
 use crate::hops::remove_unpassed;
 use crate::words::{lists, trimmed};
-use h1_decode::{ResponseItem, content_length};
 use h1_decode::laws::marks_tell_the_answers_connection;
+use h1_decode::{ResponseItem, content_length};
 use http_framing::{BodyKind, BodySize};
 use http_map::{CONNECTION, CONTENT_LENGTH, HeaderMap};
 use http_types::{ConnectionType, NoMemory, ResponseHead, StatusCode};
