@@ -36,12 +36,13 @@ HasNoted old None new = (client_connection new ≡ client_connection old) × (cl
 
 -- step by step: while no body is open, and while one is; that the other codec reads what comes next is no step
 abbrev pub IsHeadStep : Client → List ℕ → Result (Option ResponseItem) ClientError → Client → List ℕ → Type 0
-IsHeadStep old bytes (Ok answer) new rest = IsStep (client_standing old) bytes (Ok (as_head answer)) (client_standing new) rest
-IsHeadStep old bytes (Err e) new rest = ⊤
+IsHeadStep old bytes (Ok answer) new rest = IsStep answers (client_standing old) bytes (Ok (as_head answer)) (client_standing new) rest
+IsHeadStep old bytes (Err (Parse e)) new rest = IsStep answers (client_standing old) bytes (Err e) (client_standing new) rest
+IsHeadStep old bytes (Err Misplaced) new rest = ⊤
 
 abbrev pub IsChunkStep : Client → List ℕ → Result (Option (Option (List ℕ))) ClientError → Client → List ℕ → Type 0
-IsChunkStep old bytes (Ok answer) new rest = IsStep (client_standing old) bytes (Ok (as_chunk answer)) (client_standing new) rest
-IsChunkStep old bytes (Err (Parse e)) new rest = IsStep {I = ResponseItem} (client_standing old) bytes (Err e) (client_standing new) rest
+IsChunkStep old bytes (Ok answer) new rest = IsStep answers (client_standing old) bytes (Ok (as_chunk answer)) (client_standing new) rest
+IsChunkStep old bytes (Err (Parse e)) new rest = IsStep answers (client_standing old) bytes (Err e) (client_standing new) rest
 IsChunkStep old bytes (Err Misplaced) new rest = ⊤
 
 -- what is promised of a head

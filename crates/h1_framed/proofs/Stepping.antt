@@ -36,7 +36,7 @@ module _ {I : Type 0} (left : Decoding) (before : Option Entries) (result : Resu
 module _ {I : Type 0} (k : Kind I) (is_bare : Bool) (old new : Search) (bytes rest : List ℕ) (before : Option Entries) where
   -- a head is no piece of a body
   pub idle_step : (head : Result (Option I) ParseError) (body : Option Decoding) (now : Option Entries) → IsHeadGiven k is_bare old bytes head new body rest
-      → IsHeadBeside head None before body now → IsIdleStep old bytes (as_message head) body rest
+      → IsHeadBeside head None before body now → IsIdleStep k old bytes (as_message head) body rest
   idle_step (Ok (Some item)) body now given beside = tt
   idle_step (Ok None) body now given beside = (given.0, beside.0, given.2)
-  idle_step (Err e) body now given beside = tt
+  idle_step (Err e) body now given beside = given.1

@@ -175,7 +175,7 @@ impl Codec {
         ensures waiting { result ≡ Ok None → HasLookedAt self.old src.old.items → OnlySays CodecReads self.old src.old.items (λ said. said ≡ nothing) }
         ensures refused { IfErr result (λ e. ¬ (e ≡ ParseError.NoMemory) → HasLookedAt self.old src.old.items → OnlySays CodecReads self.old src.old.items (Breaks e)) }
         ensures cause { IfErr result (IsCauseAt requests (codec_standing self.old) src.old.items) }
-        ensures step { IsStep (codec_standing self.old) src.old.items result (codec_standing self.new) src.new.items }
+        ensures step { IsStep requests (codec_standing self.old) src.old.items result (codec_standing self.new) src.new.items }
         ensures item { IfOk result (λ answer. IsHead requests false (codec_standing self.old) src.old.items answer (codec_standing self.new) src.new.items) }
         ensures some { IfOk result HasBytes }
         ensures ended { IfOk result (λ answer. HasEnded answer (codec_standing self.new)) }

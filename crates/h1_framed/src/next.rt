@@ -24,7 +24,7 @@ pub(crate) fn next_message(
 ) -> Result<Option<Message<HeadItem>>, ParseError>
     ensures next { IsNexted requests is_bare (record { search = heads.old; body = body.old }) src.old.items trailers.old result
         (record { search = heads.new; body = body.new }) src.new.items trailers.new }
-    ensures step { IsStep (record { search = heads.old; body = body.old }) src.old.items result (record { search = heads.new; body = body.new }) src.new.items }
+    ensures step { IsStep requests (record { search = heads.old; body = body.old }) src.old.items result (record { search = heads.new; body = body.new }) src.new.items }
 {
     match body {
         Some(open) => {

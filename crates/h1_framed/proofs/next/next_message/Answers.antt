@@ -38,7 +38,7 @@ returns-in-None-clause-next c =
 pub returns-in-Some-clause-step : goal.returns-in-Some-clause-step
 returns-in-Some-clause-step c =
     let is : c.args.body.now ≡ Some c.in-Some.open = cc in
-    subst (λ (b : Option Decoding). IsStepFrom b c.args.heads.now c.args.src.now.items c.note_piece.result c.note_piece.new.body c.next_piece-piece.new.src.items) (sym is)
+    subst (λ (b : Option Decoding). IsStepFrom requests b c.args.heads.now c.args.src.now.items c.note_piece.result c.note_piece.new.body c.next_piece-piece.new.src.items) (sym is)
     (open_step c.next_piece-piece.new.body c.args.trailers.now c.note_piece.result c.note_piece.new.body c.note_piece.new.trailers c.in-Some.open c.args.src.now.items
     c.next_piece-piece.new.src.items c.next_piece-piece.result c.next_piece-piece.ensures.decoded c.note_piece.ensures)
 
@@ -48,8 +48,8 @@ returns-in-None-clause-step c =
     let beside : IsHeadBeside c.next_head-head.result None c.args.trailers.now c.next_head-head.new.body c.next_head-head.new.trailers =
     subst (λ (b : Option Decoding). IsHeadBeside c.next_head-head.result b c.args.trailers.now c.next_head-head.new.body c.next_head-head.new.trailers) is
     c.next_head-head.ensures.others in
-    subst (λ (b : Option Decoding). IsStepFrom b c.args.heads.now c.args.src.now.items c.as_message.result c.next_head-head.new.body c.next_head-head.new.src.items) (sym is)
-    (subst (λ (r : Result (Option (Message HeadItem)) ParseError). IsIdleStep c.args.heads.now c.args.src.now.items r c.next_head-head.new.body c.next_head-head.new.src.items)
+    subst (λ (b : Option Decoding). IsStepFrom requests b c.args.heads.now c.args.src.now.items c.as_message.result c.next_head-head.new.body c.next_head-head.new.src.items) (sym is)
+    (subst (λ (r : Result (Option (Message HeadItem)) ParseError). IsIdleStep requests c.args.heads.now c.args.src.now.items r c.next_head-head.new.body c.next_head-head.new.src.items)
     (sym c.as_message.ensures)
     (idle_step requests c.args.is_bare c.args.heads.now c.next_head-head.new.heads c.args.src.now.items c.next_head-head.new.src.items c.args.trailers.now
     c.next_head-head.result c.next_head-head.new.body c.next_head-head.new.trailers c.next_head-head.ensures.given beside))

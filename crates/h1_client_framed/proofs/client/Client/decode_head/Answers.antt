@@ -3,7 +3,7 @@ use Rattle.std.proofs.Common.{◌≡◌, sym, ap, ◌∙◌}
 use Rattle.std.specs.Prelude.{Some, None, Ok, Err}
 use Rattle.h1_client_framed.specs.State.{answered}
 use Rattle.h1_client_framed.proofs.Headed.{is_none, item_answered, none_answered, error_answered}
-use Rattle.h1_client_framed.proofs.Stepped.{item_step, none_step}
+use Rattle.h1_client_framed.proofs.Stepped.{item_step, none_step, error_step}
 use Rattle.h1_client_framed.proofs.client.Client.decode_head.Goals as goal
 
 pub returns-in-Ok-Some-clause-headed : goal.returns-in-Ok-Some-clause-headed
@@ -37,4 +37,11 @@ returns-in-Ok-None-clause-step c =
     let is : c.next_head.result ≡ Ok None = cc in
     none_step c.args.self.now.is_head c.args.self.now.heads c.next_head.new.heads c.args.src.now.items c.next_head.new.src.items c.args.self.now.trailers c.next_head.new.trailers
     c.args.self.now.body c.next_head.new.body (is_none c.args.self.now.body (sym c.is_some.ensures ∙ c.if-is_some.false)) c.next_head.result is
+    c.next_head.ensures.given c.next_head.ensures.others
+
+pub returns-in-Err-clause-step : goal.returns-in-Err-clause-step
+returns-in-Err-clause-step c =
+    let is : c.next_head.result ≡ Err c.in-Err.error = cc in
+    error_step c.args.self.now.is_head c.args.self.now.heads c.next_head.new.heads c.args.src.now.items c.next_head.new.src.items c.args.self.now.trailers c.next_head.new.trailers
+    c.args.self.now.body c.next_head.new.body (is_none c.args.self.now.body (sym c.is_some.ensures ∙ c.if-is_some.false)) c.next_head.result c.in-Err.error is
     c.next_head.ensures.given c.next_head.ensures.others

@@ -1,0 +1,7 @@
+pub mod Bodies
+pub mod Heads
+pub mod Runs
+pub mod Ends
+pub mod Requests
+pub mod Written
+pub mod Answers
