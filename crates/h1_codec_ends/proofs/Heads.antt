@@ -6,7 +6,7 @@ use Rattle.std.proofs.lemmas.Slice.{between_is}
 use Rattle.h1_model.specs.HeadPiece.{IsHeadPiece, HasNoHeadPiece}
 use Rattle.h1_model.specs.Request.{Fault}
 use Rattle.h1_model.proofs.HeadPieceLemmas.{head_piece_unique, slice_range-append}
-use Rattle.h1_agreement.proofs.SentAnswers.{no_head}
+use Rattle.h1_model.proofs.ExampleLemmas.{nothing_behind}
 use Rattle.h1_messages.specs.Kind.{Reading, says_head, says_fault, Kind, IsOneReading}
 use Rattle.h1_messages.specs.Heads.{IsItemOf, IsNext, IsNextItem, IsWaiting, IsTooLong, payload_of, refused, Stops}
 use Rattle.h1_messages.specs.declared.payload_type.PayloadType.{PayloadType}
@@ -16,7 +16,7 @@ use Rattle.h1_codec_ends.specs.Given.{Sent, texts, IsHeadSent}
 
 -- no head stands in no bytes
 pub no_head_in_none : (bytes : List ℕ) → bytes ≡ [] → HasNoHeadPiece bytes
-no_head_in_none bytes none = subst HasNoHeadPiece (sym none) (no_head [])
+no_head_in_none bytes none = subst HasNoHeadPiece (sym none) nothing_behind
 
 module _ {I : Type 0} (k : Kind I) (one : IsOneReading k) (limit : ℕ) where
   -- nothing is refused where nothing is
@@ -61,17 +61,17 @@ module _ {I : Type 0} (k : Kind I) (one : IsOneReading k) (limit : ℕ) where
 
     pub head_taken : (bytes future rest : List ℕ) (item : I) (kind : PayloadType) → bytes ++ future ≡ all → IsNextItem k limit bytes rest (item, kind)
         → IsTaken item kind (rest ++ future)
-    head_taken bytes future rest item kind text (start, end, next, of, left) =
+    head_taken bytes future rest item kind text (start, end, next, found, left) =
         let next' : IsNext limit all start end = subst (λ (l : List ℕ). IsNext limit l start end) text (next_append limit bytes future start end next) in
-        let reading : k.reads (slice_range all start end) (says_head of.head) =
-        subst (λ (l : List ℕ). k.reads (slice_range l start end) (says_head of.head)) text
-        (subst (λ (p : List ℕ). k.reads p (says_head of.head)) (sym (slice_range-append bytes future start end next.piece.ordered next.piece.in_range)) of.reading) in
-        let both = only_reading start end (says_head of.head) next' reading in
-        let same : ◌≡◌ {A = Reading k.Head} (says_head of.head) (says_head s.says) = both.1 in
-        let head : of.head ≡ s.says = cc same in
+        let reading : k.reads (slice_range all start end) (says_head found.head) =
+        subst (λ (l : List ℕ). k.reads (slice_range l start end) (says_head found.head)) text
+        (subst (λ (p : List ℕ). k.reads p (says_head found.head)) (sym (slice_range-append bytes future start end next.piece.ordered next.piece.in_range)) found.reading) in
+        let both = only_reading start end (says_head found.head) next' reading in
+        let same : ◌≡◌ {A = Reading k.Head} (says_head found.head) (says_head s.says) = both.1 in
+        let head : found.head ≡ s.says = cc same in
         record {
-          says = subst (k.says item) head of.says;
-          payload = of.payload ∙ ap (λ (h : k.Head). payload_of (k.body h)) head;
+          says = subst (k.says item) head found.says;
+          payload = found.payload ∙ ap (λ (h : k.Head). payload_of (k.body h)) head;
           behind = ap (λ (l : List ℕ). l ++ future) left ∙ sym (drop-append-le end bytes future next.piece.in_range) ∙ ap (drop end) text
               ∙ drop_at s.head more end (sym both.0);
         }

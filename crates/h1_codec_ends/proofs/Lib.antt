@@ -5,3 +5,4 @@ pub mod Ends
 pub mod Requests
 pub mod Written
 pub mod Answers
+pub mod Clauses

@@ -49,16 +49,17 @@ same_texts [] = refl
 same_texts (s ∷ ss) = ap (λ (l : List ℕ). s.head ++ (s.body ++ l)) (same_texts ss)
 
 -- as many heads as one likes
-good_more : (limit : ℕ) (n : ℕ) (ss : List SentRequest) → AllByRecursion (IsAsked limit) ss → AreGood requests one_request false limit n (map sent_of ss)
-good_more limit n [] sent = tt
-good_more limit zero (s ∷ ss) sent = (head_sent limit s sent.0, good_more limit zero ss sent.1)
-good_more limit (suc n) (s ∷ ss) sent = (head_sent limit s sent.0, sent.0.body, good_more limit n ss sent.1)
+good_more : (limit : ℕ) (some : 0 < limit) (n : ℕ) (ss : List SentRequest) → AllByRecursion (IsAsked limit) ss
+    → AreGood requests one_request false limit some n (map sent_of ss)
+good_more limit some n [] sent = tt
+good_more limit some zero (s ∷ ss) sent = (head_sent limit s sent.0, good_more limit some zero ss sent.1)
+good_more limit some (suc n) (s ∷ ss) sent = (head_sent limit s sent.0, sent.0.body, good_more limit some n ss sent.1)
 
 pub requests_given : (limit : ℕ) (standing last : Standing) (ss : List SentRequest) (acts : List (Act HeadItem)) (more rest : List ℕ) → 0 < limit
     → IsFresh standing limit → AllByRecursion (IsAsked limit) ss → IsRun requests false standing [] acts last rest → bytes_came acts ++ more ≡ asked_text ss
     → AreGiven requests false (map sent_of ss) acts more
 requests_given limit standing last ss acts more rest some fresh sent run text =
-    let n = heads_given requests one_request false limit acts in
+    let n = heads_given requests one_request false limit some acts in
     given_all requests one_request false limit some (map sent_of ss) acts more last rest
-    (run_gives requests one_request false limit some acts n (between (map sent_of ss)) standing [] more last rest (omega arith) (good_more limit n ss sent)
+    (run_gives requests one_request false limit some acts n (between (map sent_of ss)) standing [] more last rest (omega arith) (good_more limit some n ss sent)
     (fresh.body, fresh.limit_is, fresh.seen, text ∙ sym (same_texts ss)) run)

@@ -1,5 +1,6 @@
 -- What a codec gives of messages that were sent one after another.
 use Rattle.std.proofs.Common.{◌≡◌, ◌⊎◌, inl, inr, ℕ, ◌+◌, ◌<◌, ◌≤◌, zero, suc, Bool, true, false, List, [], ◌∷◌, ◌++◌, length, refl, sym, ap, ap₂, ◌∙◌, subst, arith, append-nil, append_assoc}
+use Rattle.std.proofs.lemmas.Bool.{false≢true}
 use Rattle.std.specs.Prelude.{⊤, Option, Some, None, Result, Ok, Err, IfErr}
 use Rattle.http_types.specs.declared.error.ParseError.{ParseError}
 use Rattle.http_types.specs.declared.error.ParseError.TheVariants.{NoMemory}
@@ -35,21 +36,21 @@ no_left [] b is = refl
 no_left (x ∷ a) b is = cc
 
 payload_rest : (kind : BodyKind) → has_body kind ≡ true → body_of false (payload_of kind) ≡ Some (record { rest = whole_rest kind; is_broken = false })
-payload_rest no_body some = cc
+payload_rest no_body some = absurd (false≢true some)
 payload_rest (fixed_body n) some = refl
 payload_rest chunked_body some = refl
 payload_rest raw_body some = refl
 
 payload_none : (kind : BodyKind) → has_body kind ≡ false → body_of false (payload_of kind) ≡ None
 payload_none no_body none = refl
-payload_none (fixed_body n) none = cc
-payload_none chunked_body none = cc
-payload_none raw_body none = cc
+payload_none (fixed_body n) none = absurd (false≢true (sym none))
+payload_none chunked_body none = absurd (false≢true (sym none))
+payload_none raw_body none = absurd (false≢true (sym none))
 
 -- what is open behind a head
 open_rest : (is_bare : Bool) (kind : BodyKind) → has_body (kind_to is_bare kind) ≡ true
     → body_of is_bare (payload_of kind) ≡ Some (record { rest = whole_rest (kind_to is_bare kind); is_broken = false })
-open_rest true kind some = cc
+open_rest true kind some = absurd (false≢true some)
 open_rest false kind some = payload_rest kind some
 
 open_none : (is_bare : Bool) (kind : BodyKind) → has_body (kind_to is_bare kind) ≡ false → body_of is_bare (payload_of kind) ≡ None
@@ -59,8 +60,8 @@ open_none false kind none = payload_none kind none
 -- a body that isn't there has no text
 none_sent : (kind : BodyKind) (text bytes : List ℕ) → has_body kind ≡ false → IsBodySent true kind text bytes → text ≡ []
 none_sent no_body text bytes none sent = sent.0
-none_sent (fixed_body n) text bytes none sent = cc
-none_sent chunked_body text bytes none sent = cc
+none_sent (fixed_body n) text bytes none sent = absurd (false≢true (sym none))
+none_sent chunked_body text bytes none sent = absurd (false≢true (sym none))
 none_sent raw_body text bytes none sent = absurd sent
 
 -- a chunk of one byte at least leaves what follows the body
@@ -68,14 +69,14 @@ closes_on : (b : List ℕ) (closing : Closing) → 0 < length b → chunk_in_fro
 closes_on [] closing some = absurd (omega (arith, some))
 closes_on (x ∷ b) closing some = refl
 
-module _ {I : Type 0} (k : Kind I) (one : IsOneReading k) (is_bare : Bool) (limit : ℕ) (some : 0 < limit) where
-  -- what is next: a head of these; or the rest of a body, and then these
-  pub data Expect : Type 0 where
-    between : List (Sent k) → Expect
-    inside : List ℕ → List (Sent k) → Expect
+-- what is next: a head of these; or the rest of a body, and then these
+pub data Expect {I : Type 0} (k : Kind I) : Type 0 where
+  between : List (Sent k) → Expect k
+  inside : List ℕ → List (Sent k) → Expect k
 
+module _ {I : Type 0} (k : Kind I) (one : IsOneReading k) (is_bare : Bool) (limit : ℕ) (some : 0 < limit) where
   -- the codec stands there, with these bytes unread and these to come
-  abbrev pub Stands : Expect → Standing → List ℕ → List ℕ → Type 0
+  abbrev pub Stands : Expect k → Standing → List ℕ → List ℕ → Type 0
   Stands (between ss) st bytes future =
       (st.body ≡ None) × (st.search.limit ≡ limit) × ((b : List ℕ) → HasSeen st.search (bytes ++ b)) × (bytes ++ future ≡ texts k ss)
   Stands (inside left ss) st bytes future =
@@ -88,7 +89,7 @@ module _ {I : Type 0} (k : Kind I) (one : IsOneReading k) (is_bare : Bool) (limi
   AreGood zero (s ∷ ss) = IsHeadSent k limit s × AreGood zero ss
   AreGood (suc n) (s ∷ ss) = IsHeadSent k limit s × IsBodyFramed k is_bare s × AreGood n ss
 
-  abbrev pub IsGood : ℕ → Expect → Type 0
+  abbrev pub IsGood : ℕ → Expect k → Type 0
   IsGood n (between ss) = AreGood n ss
   IsGood n (inside left ss) = AreGood n ss
 
@@ -100,27 +101,27 @@ module _ {I : Type 0} (k : Kind I) (one : IsOneReading k) (is_bare : Bool) (limi
 
   -- ---- what is given from there
 
-  abbrev Begun : List (I × Part) → List (Sent k) → Type 0
+  abbrev pub Begun : List (I × Part) → List (Sent k) → Type 0
   Begun ms ss = AreBegun k is_bare ms ss
 
-  abbrev Whole : List (I × Part) → List (Sent k) → Type 0
+  abbrev pub Whole : List (I × Part) → List (Sent k) → Type 0
   Whole ms ss = AreWhole k is_bare ms ss
 
-  abbrev pub GivesFrom : Expect → Messages I → Type 0
+  abbrev pub GivesFrom : Expect k → Messages I → Type 0
   GivesFrom (between ss) t = (t.part ≡ no_part) × (t.stop ≡ waits) × Begun t.messages ss
-  GivesFrom (inside left ss) t = (t.stop ≡ waits) × IsPartGiven k is_bare (λ ms. Begun ms ss) left t.part t.messages
+  GivesFrom (inside left ss) t = (t.stop ≡ waits) × IsPartGiven k is_bare (λ (ms : List (I × Part)). Begun ms ss) left t.part t.messages
 
-  abbrev pub AllFrom : Expect → Messages I → List (Sent k) → Type 0
+  abbrev pub AllFrom : Expect k → Messages I → List (Sent k) → Type 0
   AllFrom (between ss) t behind = (front : List (Sent k)) × (ss ≡ front ++ behind) × Whole t.messages front
   AllFrom (inside left ss) t behind = (t.part ≡ whole_part left) × ((front : List (Sent k)) × (ss ≡ front ++ behind) × Whole t.messages front)
 
   -- where the run ends with no body open, what was begun is whole, and these are still to come
-  abbrev pub EndsIdle : Expect → List (Act I) → List ℕ → Standing → List ℕ → Type 0
+  abbrev pub EndsIdle : Expect k → List (Act I) → List ℕ → Standing → List ℕ → Type 0
   EndsIdle e acts more last rest =
       last.body ≡ None → (behind : List (Sent k)) × AllFrom e (told acts nothing) behind × (rest ++ more ≡ texts k behind)
       × ((b : List ℕ) → HasSeen last.search (rest ++ b)) × (last.search.limit ≡ limit)
 
-  pub record Gives (e : Expect) (acts : List (Act I)) (more : List ℕ) (last : Standing) (rest : List ℕ) : Type 0 where
+  pub record Gives (e : Expect k) (acts : List (Act I)) (more : List ℕ) (last : Standing) (rest : List ℕ) : Type 0 where
     pub gives : GivesFrom e (told acts nothing)
     pub fine : HaveNoFault acts
     pub all : more ≡ [] → EndsWaiting acts → AllFrom e (told acts nothing) []
@@ -129,7 +130,7 @@ module _ {I : Type 0} (k : Kind I) (one : IsOneReading k) (is_bare : Bool) (limi
   -- ---- the end of a run
 
   -- nothing more is given
-  stops : (e : Expect) (st : Standing) (bytes more : List ℕ) → Stands e st bytes more → Gives e [] more st bytes
+  stops : (e : Expect k) (st : Standing) (bytes more : List ℕ) → Stands e st bytes more → Gives e [] more st bytes
   stops (between ss) st bytes more x = record {
     gives = (refl, refl, tt);
     fine = tt;
@@ -144,13 +145,13 @@ module _ {I : Type 0} (k : Kind I) (one : IsOneReading k) (is_bare : Bool) (limi
   }
 
   -- what is asked last, and nothing answered
-  waits_last : (e : Expect) (st : Standing) (bytes more : List ℕ) (last : Standing) (rest : List ℕ)
+  waits_last : (e : Expect k) (st : Standing) (bytes more : List ℕ) (last : Standing) (rest : List ℕ)
       → (more ≡ [] → AllFrom e nothing []) → Gives e [] more last rest → Gives e (asked (Ok None) ∷ []) more last rest
   waits_last e st bytes more last rest all x =
       record { gives = x.gives; fine = (tt, tt); all = λ none waiting. all none; idle = x.idle }
 
   -- what gives nothing, in front of more
-  none_in_front : (e : Expect) (answer : Result (Option (Message I)) ParseError) (act : Act I) (acts : List (Act I)) (more : List ℕ) (last : Standing) (rest : List ℕ)
+  none_in_front : (e : Expect k) (answer : Result (Option (Message I)) ParseError) (act : Act I) (acts : List (Act I)) (more : List ℕ) (last : Standing) (rest : List ℕ)
       → IfErr answer (λ x. x ≡ NoMemory) → told (asked answer ∷ act ∷ acts) nothing ≡ told (act ∷ acts) nothing → Gives e (act ∷ acts) more last rest
       → Gives e (asked answer ∷ act ∷ acts) more last rest
   none_in_front e answer act acts more last rest fine same x = record {
@@ -168,20 +169,20 @@ module _ {I : Type 0} (k : Kind I) (one : IsOneReading k) (is_bare : Bool) (limi
       further (Err error) waiting = waiting
 
   -- nothing is answered
-  none_answered : (e : Expect) (st : Standing) (bytes : List ℕ) (acts : List (Act I)) (more : List ℕ) (last : Standing) (rest : List ℕ)
+  none_answered : (e : Expect k) (st : Standing) (bytes : List ℕ) (acts : List (Act I)) (more : List ℕ) (last : Standing) (rest : List ℕ)
       → (acts ≡ [] → more ≡ [] → AllFrom e nothing []) → Gives e acts more last rest → Gives e (asked (Ok None) ∷ acts) more last rest
   none_answered e st bytes [] more last rest all x = waits_last e st bytes more last rest (all refl) x
   none_answered e st bytes (act ∷ acts) more last rest all x = none_in_front e (Ok None) act acts more last rest tt refl x
 
   -- memory ran out
-  lacks_answered : (e : Expect) (error : ParseError) (acts : List (Act I)) (more : List ℕ) (last : Standing) (rest : List ℕ) → error ≡ NoMemory
+  lacks_answered : (e : Expect k) (error : ParseError) (acts : List (Act I)) (more : List ℕ) (last : Standing) (rest : List ℕ) → error ≡ NoMemory
       → Gives e acts more last rest → Gives e (asked (Err error) ∷ acts) more last rest
   lacks_answered e error [] more last rest is x =
       record { gives = x.gives; fine = (is, tt); all = λ none waiting. absurd waiting; idle = x.idle }
   lacks_answered e error (act ∷ acts) more last rest is x = none_in_front e (Err error) act acts more last rest is refl x
 
   -- bytes come
-  came_first : (e : Expect) (new : List ℕ) (acts : List (Act I)) (more : List ℕ) (last : Standing) (rest : List ℕ) → Gives e acts more last rest
+  came_first : (e : Expect k) (new : List ℕ) (acts : List (Act I)) (more : List ℕ) (last : Standing) (rest : List ℕ) → Gives e acts more last rest
       → Gives e (comes new ∷ acts) more last rest
   came_first e new acts more last rest x =
       record { gives = x.gives; fine = x.fine; all = λ none waiting. x.all none (behind acts waiting); idle = x.idle }
@@ -203,8 +204,8 @@ module _ {I : Type 0} (k : Kind I) (one : IsOneReading k) (is_bare : Bool) (limi
       → Gives (between (s ∷ ss)) (asked (Ok (Some (Item i))) ∷ acts) more last rest
   bare_given s ss i acts more last rest says none x =
       let t = told acts nothing in
-      let begun : IsBodyGiven k is_bare (has_part k is_bare s) (λ ms. Begun ms ss) s.bytes t.part t.messages =
-      subst (λ (b : Bool). IsBodyGiven k is_bare b (λ ms. Begun ms ss) s.bytes t.part t.messages) (sym none) (x.gives.0, x.gives.2) in
+      let begun : IsBodyGiven k is_bare (has_part k is_bare s) (λ (ms : List (I × Part)). Begun ms ss) s.bytes t.part t.messages =
+      subst (λ (b : Bool). IsBodyGiven k is_bare b (λ (ms : List (I × Part)). Begun ms ss) s.bytes t.part t.messages) (sym none) (x.gives.0, x.gives.2) in
       let whole : t.part ≡ part_of k is_bare s = x.gives.0 ∙ sym (ap (λ (b : Bool). part_if b s.bytes) none) in
       record {
         gives = (refl, x.gives.1, (says, begun));
@@ -223,8 +224,8 @@ module _ {I : Type 0} (k : Kind I) (one : IsOneReading k) (is_bare : Bool) (limi
       → Gives (between (s ∷ ss)) (asked (Ok (Some (Item i))) ∷ acts) more last rest
   head_given s ss i acts more last rest says has x =
       let t = told acts nothing in
-      let begun : IsBodyGiven k is_bare (has_part k is_bare s) (λ ms. Begun ms ss) s.bytes t.part t.messages =
-      subst (λ (b : Bool). IsBodyGiven k is_bare b (λ ms. Begun ms ss) s.bytes t.part t.messages) (sym has) x.gives.1 in
+      let begun : IsBodyGiven k is_bare (has_part k is_bare s) (λ (ms : List (I × Part)). Begun ms ss) s.bytes t.part t.messages =
+      subst (λ (b : Bool). IsBodyGiven k is_bare b (λ (ms : List (I × Part)). Begun ms ss) s.bytes t.part t.messages) (sym has) x.gives.1 in
       record {
         gives = (refl, x.gives.0, (says, begun));
         fine = (tt, x.fine);
@@ -247,13 +248,14 @@ module _ {I : Type 0} (k : Kind I) (one : IsOneReading k) (is_bare : Bool) (limi
     idle = λ no. let y = x.idle no in (y.0, more_whole y.0 y.1, y.2, y.3, y.4);
   }
     where
-      whole_more : (part : Part) → part ≡ whole_part left → record { bytes = b ++ part.bytes; closing = chunk_in_front b part.closing } ≡ whole_part (b ++ left)
+      whole_more : (part : Part) → part ≡ whole_part left
+          → ◌≡◌ {A = Part} (record { bytes = b ++ part.bytes; closing = chunk_in_front b part.closing }) (whole_part (b ++ left))
       whole_more part is =
           ap (λ (p : Part). record { bytes = b ++ p.bytes; closing = chunk_in_front b p.closing }) is
           ∙ ap (λ (c : Closing). record { bytes = b ++ left; closing = c }) (closes_on b an_end some_b)
 
-      part_more : (part : Part) (ms : List (I × Part)) → IsPartGiven k is_bare (λ ms. Begun ms ss) left part ms
-          → IsPartGiven k is_bare (λ ms. Begun ms ss) (b ++ left) (record { bytes = b ++ part.bytes; closing = chunk_in_front b part.closing }) ms
+      part_more : (part : Part) (ms : List (I × Part)) → IsPartGiven k is_bare (λ (ms : List (I × Part)). Begun ms ss) left part ms
+          → IsPartGiven k is_bare (λ (ms : List (I × Part)). Begun ms ss) (b ++ left) (record { bytes = b ++ part.bytes; closing = chunk_in_front b part.closing }) ms
       part_more part ms (inl (is, others)) = inl (whole_more part is, others)
       part_more part ms (inr (open, (more, begins), none)) =
           inr (closes_on b part.closing some_b ∙ open, (more, ap (λ (l : List ℕ). b ++ l) begins ∙ sym (append_assoc b part.bytes more)), none)
@@ -266,7 +268,7 @@ module _ {I : Type 0} (k : Kind I) (one : IsOneReading k) (is_bare : Bool) (limi
   end_given : (ss : List (Sent k)) (acts : List (Act I)) (more : List ℕ) (last : Standing) (rest : List ℕ) → Gives (between ss) acts more last rest
       → Gives (inside [] ss) (asked (Ok (Some (Chunk None))) ∷ acts) more last rest
   end_given ss acts more last rest x =
-      let ends : record { bytes = []; closing = end_in_front (told acts nothing).part.bytes (told acts nothing).part.closing } ≡ whole_part [] =
+      let ends : ◌≡◌ {A = Part} (record { bytes = []; closing = end_in_front (told acts nothing).part.bytes (told acts nothing).part.closing }) (whole_part []) =
       ap (λ (p : Part). record { bytes = []; closing = end_in_front p.bytes p.closing }) x.gives.0 in
       record {
         gives = (x.gives.1, inl (ends, x.gives.2));
@@ -279,11 +281,11 @@ module _ {I : Type 0} (k : Kind I) (one : IsOneReading k) (is_bare : Bool) (limi
 
   -- what is given behind it is given as it was sent, whatever is expected there
   abbrev pub Others : ℕ → List (Act I) → List ℕ → Standing → List ℕ → Type 0
-  Others n acts more last rest = (e : Expect) (st : Standing) (bytes : List ℕ) → IsGood n e → Stands e st bytes (bytes_came acts ++ more)
+  Others n acts more last rest = (e : Expect k) (st : Standing) (bytes : List ℕ) → IsGood n e → Stands e st bytes (bytes_came acts ++ more)
       → IsRun k is_bare st bytes acts last rest → Gives e acts more last rest
 
   -- a codec that is as before stands where it stood
-  same_stands : (e : Expect) (old new : Standing) (bytes behind future : List ℕ) → new ≡ old → behind ≡ bytes → Stands e old bytes future → Stands e new behind future
+  same_stands : (e : Expect k) (old new : Standing) (bytes behind future : List ℕ) → new ≡ old → behind ≡ bytes → Stands e old bytes future → Stands e new behind future
   same_stands e old new bytes behind future same stays x =
       subst (λ (s : Standing). Stands e s behind future) (sym same) (subst (λ (l : List ℕ). Stands e old l future) (sym stays) x)
 
@@ -358,15 +360,15 @@ module _ {I : Type 0} (k : Kind I) (one : IsOneReading k) (is_bare : Bool) (limi
     -- an item is the next head
     module _ (m : ℕ) (s : Sent k) (ss : List (Sent k)) (head : IsHeadSent k limit s) (framed : IsBodyFramed k is_bare s) (good : AreGood m ss)
         (go : Others m acts more last rest) (text : bytes ++ future ≡ texts k (s ∷ ss)) (i : I) (x : HasAnswered k is_bare st bytes (Ok (Some (Item i))) next behind) where
-      abbrev looked : Looked st bytes
+      looked : Looked st bytes
       looked = looked_idle st.body st.search bytes none seen
 
       item_given : Gives (between (s ∷ ss)) (asked (Ok (Some (Item i))) ∷ acts) more last rest
       item_given =
-          let of = x.item looked in
-          let taken = head_taken k one limit s head (s.body ++ texts k ss) bytes future behind i of.0 text
-          (subst (λ (l : ℕ). IsNextItem k l bytes behind (i, of.0)) limit_is of.2) in
-          let opens : next.body ≡ body_of is_bare (payload_of (k.body s.says)) = of.1 ∙ ap (body_of is_bare) taken.payload in
+          let found = x.item looked in
+          let taken = head_taken k one limit s head (s.body ++ texts k ss) bytes future behind i found.0 text
+          (subst (λ (l : ℕ). IsNextItem k l bytes behind (i, found.0)) limit_is found.2) in
+          let opens : next.body ≡ body_of is_bare (payload_of (k.body s.says)) = found.1 ∙ ap (body_of is_bare) taken.payload in
           by_body (has_part k is_bare s) refl taken opens
         where
           by_body : (b : Bool) → has_part k is_bare s ≡ b → IsTaken k one limit s head (s.body ++ texts k ss) i (x.item looked).0 (behind ++ future)
@@ -377,7 +379,7 @@ module _ {I : Type 0} (k : Kind I) (one : IsOneReading k) (is_bare : Bool) (limi
               let is : next.body ≡ Some d = opens ∙ open_rest is_bare (k.body s.says) has in
               let says : RestSays (whole_rest kind) (behind ++ future) s.bytes true (texts k ss) =
               subst (λ (l : List ℕ). RestSays (whole_rest kind) l s.bytes true (texts k ss)) (sym taken.behind)
-              (body_says kind true s.body s.bytes (texts k ss) has framed (λ no. cc no)) in
+              (body_says kind true s.body s.bytes (texts k ss) has framed (λ no. absurd (false≢true (sym no)))) in
               head_given s ss i acts more last rest taken.says has
               (go (inside s.bytes ss) next behind good
               (d, is, x.limit ∙ limit_is, seen_inside next.body d next.search behind is (x.seen looked), refl, says) run)
@@ -464,8 +466,8 @@ module _ {I : Type 0} (k : Kind I) (one : IsOneReading k) (is_bare : Bool) (limi
     between_given n [] (Ok None) few good (none, limit_is, seen, text) x =
         idle_none n acts more last rest st next bytes behind none limit_is seen run [] good (go n few) text x (λ waiting no_more. refl)
     between_given n [] (Ok (Some (Item i))) few good (none, limit_is, seen, text) x =
-        let of = x.item (looked_idle st.body st.search bytes none seen) in
-        absurd (no_head_in_none bytes (no_left bytes (bytes_came acts ++ more) text) of.2.0 of.2.1 of.2.2.piece)
+        let found = x.item (looked_idle st.body st.search bytes none seen) in
+        absurd (no_head_in_none bytes (no_left bytes (bytes_came acts ++ more) text) found.2.0 found.2.1 found.2.2.piece)
     between_given n ss (Ok (Some (Chunk piece))) few good (none, limit_is, seen, text) x =
         absurd (idle_step n acts more last rest st next bytes behind none limit_is seen run (Ok (Some (Chunk piece))) x.step)
     between_given n [] (Err error) few good (none, limit_is, seen, text) x =
@@ -481,7 +483,7 @@ module _ {I : Type 0} (k : Kind I) (one : IsOneReading k) (is_bare : Bool) (limi
         idle_error n acts more last rest st next bytes behind none limit_is seen run (s ∷ ss) error good (go n few) text x
         (head_fine k one limit s (head_of n s ss good) (s.body ++ texts k ss) bytes (bytes_came acts ++ more) (fault_of error) text)
 
-    answer_given : (n : ℕ) (e : Expect) (answer : Result (Option (Message I)) ParseError) → heads_given (asked answer ∷ acts) ≤ n → IsGood n e
+    answer_given : (n : ℕ) (e : Expect k) (answer : Result (Option (Message I)) ParseError) → heads_given (asked answer ∷ acts) ≤ n → IsGood n e
         → Stands e st bytes (bytes_came acts ++ more) → HasAnswered k is_bare st bytes answer next behind → Gives e (asked answer ∷ acts) more last rest
     answer_given n (between ss) answer few good stands x = between_given n ss answer few good stands x
     answer_given n (inside left ss) answer few good (d, is, limit_is, seen, sound, says) x =
@@ -489,7 +491,7 @@ module _ {I : Type 0} (k : Kind I) (one : IsOneReading k) (is_bare : Bool) (limi
 
   -- ---- all answers
 
-  pub run_gives : (acts : List (Act I)) (n : ℕ) (e : Expect) (st : Standing) (bytes more : List ℕ) (last : Standing) (rest : List ℕ) → heads_given acts ≤ n → IsGood n e
+  pub run_gives : (acts : List (Act I)) (n : ℕ) (e : Expect k) (st : Standing) (bytes more : List ℕ) (last : Standing) (rest : List ℕ) → heads_given acts ≤ n → IsGood n e
       → Stands e st bytes (bytes_came acts ++ more) → IsRun k is_bare st bytes acts last rest → Gives e acts more last rest
   run_gives [] n e st bytes more last rest few good stands (same, stays) =
       subst (λ (s : Standing). Gives e [] more s rest) (sym same) (subst (λ (l : List ℕ). Gives e [] more st l) (sym stays) (stops e st bytes more stands))
@@ -500,7 +502,7 @@ module _ {I : Type 0} (k : Kind I) (one : IsOneReading k) (is_bare : Bool) (limi
       text_is : (bytes ++ new) ++ (bytes_came acts ++ more) ≡ bytes ++ ((new ++ bytes_came acts) ++ more)
       text_is = append_assoc bytes new (bytes_came acts ++ more) ∙ ap (λ (l : List ℕ). bytes ++ l) (sym (append_assoc new (bytes_came acts) more))
 
-      joined : (e : Expect) → Stands e st bytes ((new ++ bytes_came acts) ++ more) → Stands e st (bytes ++ new) (bytes_came acts ++ more)
+      joined : (e : Expect k) → Stands e st bytes ((new ++ bytes_came acts) ++ more) → Stands e st (bytes ++ new) (bytes_came acts ++ more)
       joined (between ss) (none, limit_is, seen, text) =
           (none, limit_is, λ b. subst (HasSeen st.search) (sym (append_assoc bytes new b)) (seen (new ++ b)), text_is ∙ text)
       joined (inside left ss) (d, is, limit_is, seen, sound, says) =
