@@ -84,7 +84,7 @@ pending_not (fixed_rest n) (b ∷ bytes) left behind p says x is = let never = s
 pending_not (chunks_rest place section) bytes left behind p (none, reads) x is =
     let t = take_next place bytes in
     let ends : (says t.next []).ending ≡ ends_before behind =
-    ap (λ (r : Reading). r.ending) (taken_is_read place bytes [] ∙ ap (read place) (append-nil bytes) ∙ reads) in
+    ap (λ (r : Reading). r.ending) (sym (taken_is_read bytes place []) ∙ ap (read place) (append-nil bytes) ∙ reads) in
     chunks_not place bytes left behind t.next t.trailers p refl ends
     (subst (λ (l : List ℕ). IsPullOfChunks false place l bytes t.next t.trailers p) none x) is
 
@@ -117,11 +117,11 @@ module _ (old : Decoding) (bytes future left behind : List ℕ) (item : Result (
 
   of_pending : (answer : Pulled) → SaysPulled answer on.pending → item ≡ item_of answer → new.is_broken ≡ is_fault answer
       → RestSays new.rest (rest ++ future) left true behind → (future ≡ [] → ⊥) → BodyGives old bytes future left behind item new rest
-  of_pending (pulled.Bytes b) same is sound says no = absurd (cc same)
-  of_pending (pulled.Trailers entries) same is sound says no = absurd (cc (same.1))
-  of_pending pulled.End same is sound says no = absurd (cc same)
-  of_pending (pulled.Broken fault) same is sound says no = absurd (cc same)
-  of_pending pulled.Pending same is sound says no = waited is sound says no
+  of_pending (pulled.Bytes b) same is sound says nothing_more = absurd (cc same)
+  of_pending (pulled.Trailers entries) same is sound says nothing_more = absurd (cc (same.1))
+  of_pending pulled.End same is sound says nothing_more = absurd (cc same)
+  of_pending (pulled.Broken fault) same is sound says nothing_more = absurd (cc same)
+  of_pending pulled.Pending same is sound says nothing_more = waited is sound says nothing_more
 
   of_end : (answer : Pulled) → SaysPulled answer on.body_ended → item ≡ item_of answer → left ≡ [] → rest ++ future ≡ behind
       → BodyGives old bytes future left behind item new rest
@@ -133,13 +133,13 @@ module _ (old : Decoding) (bytes future left behind : List ℕ) (item : Result (
 
   by_gives : (p : pulls.Pulled) (answer : Pulled) → IsPulled p answer new.rest rest → item ≡ item_of answer → new.is_broken ≡ is_fault answer
       → (future ≡ [] → p.outcome ≡ on.pending → ⊥) → Gives false future left true behind p → BodyGives old bytes future left behind item new rest
-  by_gives p answer x is sound no (some_bytes given left' outcome some cut says going) =
+  by_gives p answer x is sound nothing_more (some_bytes given left' outcome some cut says going) =
       of_bytes given left' answer (subst (SaysPulled answer) outcome x.outcome) is sound some cut (moved p answer left' x says)
-  by_gives p answer x is sound no (nothing_yet outcome says going) =
-      of_pending answer (subst (SaysPulled answer) outcome x.outcome) is sound (moved p answer left x says) (λ none. no none outcome)
-  by_gives p answer x is sound no (its_end outcome none whole all over) =
+  by_gives p answer x is sound nothing_more (nothing_yet outcome says going) =
+      of_pending answer (subst (SaysPulled answer) outcome x.outcome) is sound (moved p answer left x says) (λ none. nothing_more none outcome)
+  by_gives p answer x is sound nothing_more (its_end outcome none whole all over) =
       of_end answer (subst (SaysPulled answer) outcome x.outcome) is none (ap (λ (l : List ℕ). l ++ future) x.unread_is ∙ all)
-  by_gives p answer x is sound no (cut_off outcome ended over) = absurd (cc ended)
+  by_gives p answer x is sound nothing_more (cut_off outcome closed over) = absurd (cc closed)
 
   by_pull : (p : pulls.Pulled) (answer : Pulled) → RestSays old.rest (bytes ++ future) left true behind → IsPull false old.rest bytes p
       → IsPulled p answer new.rest rest → item ≡ item_of answer → new.is_broken ≡ is_fault answer → BodyGives old bytes future left behind item new rest

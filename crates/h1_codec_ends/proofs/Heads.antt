@@ -78,6 +78,6 @@ module _ {I : Type 0} (k : Kind I) (one : IsOneReading k) (limit : ℕ) where
 
     -- while it is there it isn't waited for
     pub head_there : (bytes future : List ℕ) → bytes ++ future ≡ all → future ≡ [] → HasNoHeadPiece bytes → ⊥
-    head_there bytes future text none no =
+    head_there bytes future text none nothing_more =
         let same : bytes ≡ all = sym (append-nil bytes) ∙ ap (λ (l : List ℕ). bytes ++ l) (sym none) ∙ text in
-        subst HasNoHeadPiece same no 0 (length s.head) (is.piece more)
+        subst HasNoHeadPiece same nothing_more 0 (length s.head) (is.piece more)

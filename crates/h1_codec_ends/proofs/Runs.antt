@@ -210,8 +210,8 @@ module _ {I : Type 0} (k : Kind I) (one : IsOneReading k) (is_bare : Bool) (limi
       record {
         gives = (refl, x.gives.1, (says, begun));
         fine = (tt, x.fine);
-        all = λ no waiting. let y = x.all no (after_item (Item i) acts waiting) in more_whole [] y whole;
-        idle = λ no. let y = x.idle no in (y.0, more_whole y.0 y.1 whole, y.2, y.3, y.4);
+        all = λ nothing_more waiting. let y = x.all nothing_more (after_item (Item i) acts waiting) in more_whole [] y whole;
+        idle = λ nothing_more. let y = x.idle nothing_more in (y.0, more_whole y.0 y.1 whole, y.2, y.3, y.4);
       }
     where
       more_whole : (behind : List (Sent k)) → AllFrom (between ss) (told acts nothing) behind → (told acts nothing).part ≡ part_of k is_bare s
@@ -229,8 +229,8 @@ module _ {I : Type 0} (k : Kind I) (one : IsOneReading k) (is_bare : Bool) (limi
       record {
         gives = (refl, x.gives.0, (says, begun));
         fine = (tt, x.fine);
-        all = λ no waiting. more_whole [] (x.all no (after_item (Item i) acts waiting));
-        idle = λ no. let y = x.idle no in (y.0, more_whole y.0 y.1, y.2, y.3, y.4);
+        all = λ nothing_more waiting. more_whole [] (x.all nothing_more (after_item (Item i) acts waiting));
+        idle = λ nothing_more. let y = x.idle nothing_more in (y.0, more_whole y.0 y.1, y.2, y.3, y.4);
       }
     where
       more_whole : (behind : List (Sent k)) → AllFrom (inside s.bytes ss) (told acts nothing) behind
@@ -244,8 +244,8 @@ module _ {I : Type 0} (k : Kind I) (one : IsOneReading k) (is_bare : Bool) (limi
   bytes_given b left ss acts more last rest some_b x = record {
     gives = (x.gives.0, part_more (told acts nothing).part (told acts nothing).messages x.gives.1);
     fine = (tt, x.fine);
-    all = λ no waiting. more_whole [] (x.all no (after_item (Chunk (Some b)) acts waiting));
-    idle = λ no. let y = x.idle no in (y.0, more_whole y.0 y.1, y.2, y.3, y.4);
+    all = λ nothing_more waiting. more_whole [] (x.all nothing_more (after_item (Chunk (Some b)) acts waiting));
+    idle = λ nothing_more. let y = x.idle nothing_more in (y.0, more_whole y.0 y.1, y.2, y.3, y.4);
   }
     where
       whole_more : (part : Part) → part ≡ whole_part left
@@ -257,8 +257,8 @@ module _ {I : Type 0} (k : Kind I) (one : IsOneReading k) (is_bare : Bool) (limi
       part_more : (part : Part) (ms : List (I × Part)) → IsPartGiven k is_bare (λ (ms : List (I × Part)). Begun ms ss) left part ms
           → IsPartGiven k is_bare (λ (ms : List (I × Part)). Begun ms ss) (b ++ left) (record { bytes = b ++ part.bytes; closing = chunk_in_front b part.closing }) ms
       part_more part ms (inl (is, others)) = inl (whole_more part is, others)
-      part_more part ms (inr (open, (more, begins), none)) =
-          inr (closes_on b part.closing some_b ∙ open, (more, ap (λ (l : List ℕ). b ++ l) begins ∙ sym (append_assoc b part.bytes more)), none)
+      part_more part ms (inr (goes, (more, begins), none)) =
+          inr (closes_on b part.closing some_b ∙ goes, (more, ap (λ (l : List ℕ). b ++ l) begins ∙ sym (append_assoc b part.bytes more)), none)
 
       more_whole : (behind : List (Sent k)) → AllFrom (inside left ss) (told acts nothing) behind
           → AllFrom (inside (b ++ left) ss) (given (Chunk (Some b)) (told acts nothing)) behind
@@ -273,8 +273,8 @@ module _ {I : Type 0} (k : Kind I) (one : IsOneReading k) (is_bare : Bool) (limi
       record {
         gives = (x.gives.1, inl (ends, x.gives.2));
         fine = (tt, x.fine);
-        all = λ no waiting. (ends, x.all no (after_item (Chunk None) acts waiting));
-        idle = λ no. let y = x.idle no in (y.0, (ends, y.1), y.2, y.3, y.4);
+        all = λ nothing_more waiting. (ends, x.all nothing_more (after_item (Chunk None) acts waiting));
+        idle = λ nothing_more. let y = x.idle nothing_more in (y.0, (ends, y.1), y.2, y.3, y.4);
       }
 
   -- ---- one answer
@@ -379,7 +379,7 @@ module _ {I : Type 0} (k : Kind I) (one : IsOneReading k) (is_bare : Bool) (limi
               let is : next.body ≡ Some d = opens ∙ open_rest is_bare (k.body s.says) has in
               let says : RestSays (whole_rest kind) (behind ++ future) s.bytes true (texts k ss) =
               subst (λ (l : List ℕ). RestSays (whole_rest kind) l s.bytes true (texts k ss)) (sym taken.behind)
-              (body_says kind true s.body s.bytes (texts k ss) has framed (λ no. absurd (false≢true (sym no)))) in
+              (body_says kind true s.body s.bytes (texts k ss) has framed (λ nothing_more. absurd (false≢true (sym nothing_more)))) in
               head_given s ss i acts more last rest taken.says has
               (go (inside s.bytes ss) next behind good
               (d, is, x.limit ∙ limit_is, seen_inside next.body d next.search behind is (x.seen looked), refl, says) run)
