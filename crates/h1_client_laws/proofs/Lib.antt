@@ -1,0 +1,4 @@
+pub mod Told
+pub mod Bodies
+pub mod Chain
+pub mod Holds
