@@ -5,3 +5,5 @@ pub mod Holds
 pub mod Pulls
 pub mod Passing
 pub mod NextAnswers
+pub mod Ended
+pub mod AllHappened
