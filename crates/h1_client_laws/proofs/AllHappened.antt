@@ -21,12 +21,12 @@ use Rattle.h1_client_laws.proofs.Pulls.{pull_holds}
 use Rattle.h1_client_laws.proofs.Passing.{passing_holds, more_holds, end_holds, drop_holds}
 use Rattle.h1_client_laws.proofs.NextAnswers.{fine_while, allowed_then, allowed_while, next_holds}
 
-both : (a b : Bool) → IsTrue (a && b) → (a ≡ true) × (b ≡ true)
+pub both : (a b : Bool) → IsTrue (a && b) → (a ≡ true) × (b ≡ true)
 both true true x = (refl, refl)
 both true false x = absurd (false≢true x)
 both false b x = absurd (false≢true x)
 
-not_true : (a : Bool) → not a ≡ true → a ≡ false
+pub not_true : (a : Bool) → not a ≡ true → a ≡ false
 not_true false is = refl
 not_true true is = absurd (false≢true is)
 

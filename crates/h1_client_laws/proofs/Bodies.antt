@@ -32,7 +32,7 @@ abbrev pub StopsSo : List ℕ → Body → List Item → HowStops → Type 0
 StopsSo bytes body last (stops_before text behind) =
     (lines : List Trailer) × AllByRecursion IsTrailer lines × (section_text lines ≡ text)
     × (last_items body ≡ last ++ (trailer_items (map trailer_header lines) ++ item_end ∷ [])) × Stands bytes body behind
-StopsSo bytes body last may_go_on = last_items body ≡ last
+StopsSo bytes body last may_go_on = (last ≡ []) × (last_items body ≡ []) × (next_start body ≡ None)
 StopsSo bytes body last breaks_off = last_items body ≡ last ++ item_fault corrupted ∷ []
 StopsSo bytes body last is_cut_off = last_items body ≡ last ++ item_fault incomplete ∷ []
 
@@ -42,7 +42,7 @@ Tells bytes body t = (body_bytes bytes body ≡ t.body) × StopsSo bytes body []
 
 lacks_so : (bytes : List ℕ) (runs : List Run) (e : Bool) → StopsSo bytes (content runs (open_or_cut e)) [] (lacking_more e)
 lacks_so bytes runs true = refl
-lacks_so bytes runs false = refl
+lacks_so bytes runs false = (refl, refl, refl)
 
 ends_so : (bytes : List ℕ) (runs : List Run) (place : ℕ) (behind : List ℕ) → place ≤ length bytes → drop place bytes ≡ behind
     → StopsSo bytes (content runs (ended_at place [])) [] (stops_before [] behind)
@@ -87,7 +87,7 @@ module _ (bytes : List ℕ) (e : Bool) (size : Option ℕ) (place : ℕ) (within
   raw_tells true =
       (between_told bytes place (length bytes) (ended_at (length bytes) []) text rest_text,
       ends_so bytes (run_between place (length bytes)) (length bytes) [] (omega arith) (drop_all (length bytes) bytes (omega arith)))
-  raw_tells false = (between_told bytes place (length bytes) still_open text rest_text, refl)
+  raw_tells false = (between_told bytes place (length bytes) still_open text rest_text, (refl, refl, refl))
 
   chunks_stop : (a : Chunked) (runs : List Run) → IsChunked text a runs → (r : Reading) → read start text ≡ r
       → StopsSo bytes (content (shifted place runs) (chunked_stop (body_input all) place a)) [] (stop_of e ([] ++ r.trailers) r.ending)

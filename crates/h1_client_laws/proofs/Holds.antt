@@ -33,7 +33,7 @@ pub record IsGiving (bytes : List ℕ) (body : Body) (items : List Item) (t : To
 -- what follows the bytes of the body
 stop_follows : (bytes : List ℕ) (body : Body) (last : List Item) (stop : HowStops) → StopsSo bytes body last stop → Begins last (last_items body)
 stop_follows bytes body last (stops_before text behind) x = (trailer_items (map trailer_header x.0) ++ item_end ∷ [], x.3)
-stop_follows bytes body last may_go_on x = ([], x ∙ sym (append-nil last))
+stop_follows bytes body last may_go_on x = ([], x.1 ∙ sym (append-nil []) ∙ ap (λ (l : List Item). l ++ []) (sym x.0))
 stop_follows bytes body last breaks_off x = (item_fault corrupted ∷ [], x)
 stop_follows bytes body last is_cut_off x = (item_fault incomplete ∷ [], x)
 

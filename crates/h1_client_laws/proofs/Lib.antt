@@ -7,3 +7,5 @@ pub mod Passing
 pub mod NextAnswers
 pub mod Ended
 pub mod AllHappened
+pub mod Stays
+pub mod NothingLeft

@@ -251,6 +251,10 @@ waits_on (b ∷ bytes) (in_section at lines room) =
     waits_noted at lines room (step place b) b (take_next (step place b) bytes) (waits_on bytes (step place b))
 waits_on (b ∷ bytes) place = waits_on bytes (step place b)
 
+-- where nothing comes next more may come
+pub waits_goes_on : (place to : Place) (bytes : List ℕ) → (take_next place bytes).next ≡ waits to → at_end to ≡ goes_on
+waits_goes_on place to bytes is = subst WaitsOn is (waits_on bytes place)
+
 chunks_give : (t : Bool) (place : Place) (section bytes more : List ℕ) (e : Bool) (next : Next) (noted : List ℕ) (p : Pulled) → IsMore t more e
     → ((given behind : List ℕ) (to : Place) → next ≡ chunk given to behind → 0 < length given) → ((to : Place) → next ≡ waits to → at_end to ≡ goes_on)
     → told e (chunks_rest place section) (bytes ++ more) ≡ told_next e section noted next more → IsPullOfChunks t place section bytes next noted p
@@ -285,7 +289,7 @@ pull_gives t (fixed_rest n) bytes more e p x sound is = as_pull e more _ p (pull
 pull_gives t (chunks_rest place section) bytes more e p x sound is =
     let taken = take_next place bytes in
     chunks_give t place section bytes more e taken.next taken.trailers p x (λ given behind to same. (taken_chunk_leads place to bytes given behind same).some)
-    (λ to same. subst WaitsOn same (waits_on bytes place)) (ap (of_reading e section) (taken_is_read bytes place more)) is
+    (λ to same. waits_goes_on place to bytes same) (ap (of_reading e section) (taken_is_read bytes place more)) is
 pull_gives t (frames_rest under_way limit) bytes more e p x sound is = absurd sound
 
 -- ---- passing

@@ -3,8 +3,8 @@ use Rattle.std.specs.Prelude.{◌≡◌, ℕ, ◌≤◌, Bool, true, false, ◌|
 use Rattle.h1_model.specs.HeadPiece.{HasNoHeadPiece}
 use Rattle.h1_model.specs.Request.{too_large}
 use Rattle.h1_model.specs.Setting.{Setting}
-use Rattle.h1_model.specs.Parse.{Body, next_start}
-use Rattle.h1_model.specs.Handed.{Item, item_bytes, AreItemsOf, body_bytes, last_items}
+use Rattle.h1_model.specs.Parse.{next_start}
+use Rattle.h1_model.specs.Handed.{item_bytes, AreItemsOf, body_bytes, last_items}
 use Rattle.h1_client_model.specs.AnswerReading.{refused}
 use Rattle.h1_client_model.specs.AnswerParse.{Received, AnswerMessage, is_interim, AreAnswersIn}
 use Rattle.h1_client_machine.specs.ClientEvent as on
@@ -72,15 +72,16 @@ ReadsPrefix setting trace ms = IsPrefixOf setting.hold_size (taken trace) (read_
 
 -- ---- all of them
 
--- the bytes of these items
-abbrev pub bytes_of : Item → List ℕ
-bytes_of (item_bytes bytes) = bytes
-bytes_of _ = []
-
--- All bytes of the newest answer's body that were taken are handed out, and nothing follows them yet.
-abbrev pub IsNewestHanded : List ℕ → List ReadAnswer → List AnswerMessage → Type 0
-IsNewestHanded taken handed [] = ⊥
-IsNewestHanded taken [] (m ∷ ms) = ⊥
-IsNewestHanded taken (h ∷ []) (m ∷ []) = (flat_map bytes_of h.items ≡ body_bytes taken m.body) × (last_items m.body ≡ [])
-IsNewestHanded taken (h ∷ hs) (m ∷ []) = ⊥
-IsNewestHanded taken (h ∷ hs) (m ∷ ms) = IsNewestHanded taken hs ms
+-- The newest answer is the last of these. All bytes of its body that were taken are handed out, and nothing follows them yet.
+pub record IsNewestHanded (taken : List ℕ) (outs : List ReadAnswer) (ms : List AnswerMessage) : Type 0 where
+  pub newest : ReadAnswer
+  pub older : List ReadAnswer
+  pub outs_are : outs ≡ newest ∷ older
+  pub front : List AnswerMessage
+  pub last : AnswerMessage
+  pub are : ms ≡ front ++ last ∷ []
+  pub as_many : length front ≡ length older
+  pub pieces : List (List ℕ)
+  pub items : newest.items ≡ map item_bytes pieces
+  pub all : flat_map (λ piece. piece) pieces ≡ body_bytes taken last.body
+  pub goes_on : last_items last.body ≡ []

@@ -1,6 +1,6 @@
 //! What a client hands out is the beginning of the answers in its bytes.
 
-ghost use Rattle.std.specs.Prelude.{◌≡◌, ℕ, ◌≤◌, false, List, ◌++◌, length, reverse, IsTrue};
+ghost use Rattle.std.specs.Prelude.{◌≡◌, ℕ, ◌≤◌, false, List, ◌++◌, length, IsTrue};
 ghost use Rattle.h1_model.specs.Setting.{Setting};
 ghost use Rattle.h1_client_model.specs.AnswerParse.{Received, AnswerMessage, is_interim, AreAnswersIn};
 ghost use Rattle.h1_client_machine.specs.ClientEvent as on;
@@ -34,5 +34,5 @@ pub fn nothing_is_left()
         → length (read_out trace).answers ≡ length parse }
     ensures body { (setting : Setting) (trace : List Happened) (k next : ClientKept) (parse : List AnswerMessage) → IsClientTrace setting trace k
         → AreAnswersTaken setting trace parse → IsTrue (client_allows setting k on.pull) → IsClientStep setting k on.pull on.pending next
-        → IsNewestHanded (taken trace) (reverse (read_out trace).answers) parse }
+        → IsNewestHanded (taken trace) (read_out trace).answers parse }
 {}
