@@ -1,19 +1,19 @@
 -- Over all that happened to a client, what it handed out is the beginning of the answers in its bytes.
-use Rattle.std.proofs.Common.{◌≡◌, ℕ, ◌-◌, min, Bool, true, false, ◌&&◌, ◌||◌, not, List, [], ◌∷◌, ◌++◌, length, take, drop, map, reverse, Option, Some, None, is_some, refl, sym, ap, ◌∙◌, subst, append-nil, append_assoc, arith}
+use Rattle.std.proofs.Common.{◌≡◌, ℕ, ◌-◌, min, Bool, true, false, ◌&&◌, not, List, [], ◌∷◌, ◌++◌, length, take, Option, Some, None, refl, sym, ap, ◌∙◌, subst, append-nil, append_assoc, arith}
 use Rattle.std.specs.Prelude.{IsTrue, if◌then◌else◌, nat_lt}
 use Rattle.std.specs.Option.{option_or}
 use Rattle.std.proofs.lemmas.Bool.{false≢true}
 use Rattle.std.proofs.lemmas.List.{map-append}
 use Rattle.h1_model.specs.Setting.{Setting}
 use Rattle.h1_model.proofs.ExampleLemmas.{nothing_behind}
-use Rattle.h1_client_model.specs.AnswerParse.{AnswerMessage, is_interim, AreAnswersIn}
+use Rattle.h1_client_model.specs.AnswerParse.{AnswerMessage}
 use Rattle.h1_client_machine.specs.ClientEvent as on
 use Rattle.h1_client_machine.specs.ClientEvent.{ClientEvent, ClientEnd, ClientOutcome, failed_request}
-use Rattle.h1_client_machine.specs.ClientKept.{Waiting, SendingBody, ReadingBody, ClientKept, fresh_client, is_free_of, is_dropped_of, client_closing, client_allows}
-use Rattle.h1_client_machine.specs.ClientStep.{ClientChange, asking, sending_piece, ending_body, passing, dropping, reading, body_at_end, ending_input, IsPulling, IsClientChange, KnowsComing}
+use Rattle.h1_client_machine.specs.ClientKept.{Waiting, SendingBody, ReadingBody, ClientKept, is_free_of, is_dropped_of, client_closing, client_allows}
+use Rattle.h1_client_machine.specs.ClientStep.{ClientChange, sending_piece, ending_body, passing, body_at_end, ending_input, IsPulling, IsClientChange, KnowsComing}
 use Rattle.h1_client_machine.specs.ClientTrace.{Happened, IsClientTrace, taken_by, taken, asked_by, asked_of}
 use Rattle.h1_client_laws.specs.ReadOut.{ReadOut, nothing_read, reading_out, read_out}
-use Rattle.h1_client_laws.specs.Parsed.{ends_input, has_ended, received_of, methods_of, AreAnswersTaken, IsPrefixFrom, ReadsPrefix}
+use Rattle.h1_client_laws.specs.Parsed.{has_ended, methods_of, AreAnswersTaken, ReadsPrefix}
 use Rattle.h1_client_laws.proofs.Ended.{change_ended, trace_ended}
 use Rattle.h1_client_laws.proofs.Told.{IsMore}
 use Rattle.h1_client_laws.proofs.Holds.{waiting_methods, IsState, Holds, open_final, state_final}
@@ -185,7 +185,8 @@ holds_now setting trace k ran =
 pub all_is_parsed : (setting : Setting) (trace : List Happened) (k : ClientKept) (parse : List AnswerMessage) → IsClientTrace setting trace k
     → AreAnswersTaken setting trace parse → ReadsPrefix setting trace parse
 all_is_parsed setting trace k parse ran are =
-    let x = holds_now setting trace k ran in
-    (x.0,
-    state_final (taken trace) (has_ended trace) setting.hold_size (methods_of trace) k.failed [] (read_out trace).answers (k.unread ++ []) (waiting_methods k.waiting ++ [])
-    k.reading refl x.1 parse are)
+    let x = holds_now setting trace k ran in (
+      x.0,
+      state_final (taken trace) (has_ended trace) setting.hold_size (methods_of trace) k.failed [] (read_out trace).answers (k.unread ++ []) (waiting_methods k.waiting ++ [])
+          k.reading refl x.1 parse are,
+    )

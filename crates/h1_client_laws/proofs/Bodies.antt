@@ -1,24 +1,24 @@
 -- The body of an answer, by what all its bytes tell of it.
-use Rattle.std.proofs.Common.{◌≡◌, ℕ, zero, suc, ◌+◌, ◌-◌, ◌<◌, ◌≤◌, Bool, true, false, eqb, List, [], ◌∷◌, ◌++◌, length, take, drop, slice_range, map, Option, Some, None, refl, sym, ap, ap₂, ◌∙◌, subst, subst₂, inl, inr, arith, append-nil, length-drop, eqb-true, le-leb}
-use Rattle.std.specs.Prelude.{⊤, nat_le, ◌==◌, if◌then◌else◌}
+use Rattle.std.proofs.Common.{◌≡◌, ℕ, zero, suc, ◌+◌, ◌<◌, ◌≤◌, Bool, true, false, List, [], ◌∷◌, ◌++◌, length, take, drop, slice_range, map, Option, Some, None, refl, sym, ap, ◌∙◌, subst, subst₂, inl, inr, arith, length-drop, eqb-true, le-leb}
+use Rattle.std.specs.Prelude.{nat_le, ◌==◌, if◌then◌else◌}
 use Rattle.std.specs.List.{AllByRecursion}
-use Rattle.std.proofs.lemmas.Bool.{true≢false, cases_lt, lt-leb, cond-true, cond-false, ne_eqb, cond_both}
+use Rattle.std.proofs.lemmas.Bool.{true≢false, cases_lt, lt-leb, cond-true, cond-false, cond_both}
 use Rattle.std.proofs.lemmas.List.{take_rest, drop-drop, drop_all}
 use Rattle.h1_chunks.specs.ChunkedText.{Trailer, IsTrailer, section_text}
 use Rattle.h1_chunks.specs.Chunked.{Chunked, whole, unfinished, not_chunked, IsChunked}
 use Rattle.h1_chunks.specs.Place.{start}
-use Rattle.h1_chunks.specs.Reading.{Reading, Ending, goes_on, is_broken, ends_before, read}
-use Rattle.h1_chunks.specs.Runs.{Run, run_bytes}
+use Rattle.h1_chunks.specs.Reading.{Reading, Ending, read}
+use Rattle.h1_chunks.specs.Runs.{Run}
 use Rattle.h1_chunks.proofs.Agreement.{whole_read, unfinished_read, broken_read, runs_read}
-use Rattle.h1_model.specs.Request.{BodyKind, no_body, fixed_body, chunked_body, raw_body, Header}
-use Rattle.h1_model.specs.Parse.{Body, content, Stop, ended_at, still_open, broken, cut, open_or_cut, run_between, fixed_content, raw_content, shifted, chunked_stop, trailer_header, next_start, IsBodyOf}
+use Rattle.h1_model.specs.Request.{BodyKind, no_body, fixed_body, chunked_body, raw_body}
+use Rattle.h1_model.specs.Parse.{Body, content, Stop, ended_at, still_open, broken, open_or_cut, run_between, fixed_content, raw_content, shifted, chunked_stop, trailer_header, next_start, IsBodyOf}
 use Rattle.h1_model.specs.Event.{corrupted, incomplete}
-use Rattle.h1_model.specs.Handed.{Item, item_end, item_fault, trailer_items, stop_items, last_items, body_bytes}
+use Rattle.h1_model.specs.Handed.{Item, item_end, item_fault, trailer_items, last_items, body_bytes}
 use Rattle.h1_model.proofs.RunLemmas.{run_bytes_shifted, run_bytes_between}
 use Rattle.h1_model.proofs.BodyGrowth.{fixed_whole, fixed_part}
 use Rattle.h1_machine.specs.Kept.{no_rest, raw_rest, fixed_rest, chunks_rest, whole_rest}
 use Rattle.h1_client_model.specs.AnswerParse.{Received, body_input}
-use Rattle.h1_client_laws.proofs.Told.{HowStops, stops_before, may_go_on, breaks_off, is_cut_off, Told, lacking_more, stop_of, of_reading, of_length, of_all, told, IsSound}
+use Rattle.h1_client_laws.proofs.Told.{HowStops, stops_before, may_go_on, breaks_off, is_cut_off, Told, lacking_more, stop_of, of_length, of_all, told, IsSound}
 
 -- ---- how a body stops
 
@@ -74,9 +74,10 @@ module _ (bytes : List ℕ) (e : Bool) (size : Option ℕ) (place : ℕ) (within
       elim (cases_lt (length bytes) (place + n)) [
         | inr fits ↦
             subst₂ (Tells bytes) (sym (fixed_whole bytes None e 0 place n fits))
-            (sym (cond-true (nat_le n (length text)) there part (le-leb n (length text) (omega (arith, fits, long, within)))))
-            (between_told bytes place (place + n) (ended_at (place + n) []) (take n text) (ap (λ (k : ℕ). take k text) (omega arith)),
-            ends_so bytes (run_between place (place + n)) (place + n) (drop n text) fits (sym (drop-drop n place bytes)))
+            (sym (cond-true (nat_le n (length text)) there part (le-leb n (length text) (omega (arith, fits, long, within))))) (
+              between_told bytes place (place + n) (ended_at (place + n) []) (take n text) (ap (λ (k : ℕ). take k text) (omega arith)),
+              ends_so bytes (run_between place (place + n)) (place + n) (drop n text) fits (sym (drop-drop n place bytes)),
+            )
         | inl short ↦
             subst₂ (Tells bytes) (sym (fixed_part bytes None e 0 place n short))
             (sym (cond-false (nat_le n (length text)) there part (lt-leb n (length text) (omega (arith, short, long, within)))))
@@ -84,9 +85,10 @@ module _ (bytes : List ℕ) (e : Bool) (size : Option ℕ) (place : ℕ) (within
       ]
 
   raw_tells : (e : Bool) → Tells bytes (raw_content (body_input (record all { ended = e })) place) (of_all e text)
-  raw_tells true =
-      (between_told bytes place (length bytes) (ended_at (length bytes) []) text rest_text,
-      ends_so bytes (run_between place (length bytes)) (length bytes) [] (omega arith) (drop_all (length bytes) bytes (omega arith)))
+  raw_tells true = (
+    between_told bytes place (length bytes) (ended_at (length bytes) []) text rest_text,
+    ends_so bytes (run_between place (length bytes)) (length bytes) [] (omega arith) (drop_all (length bytes) bytes (omega arith)),
+  )
   raw_tells false = (between_told bytes place (length bytes) still_open text rest_text, (refl, refl, refl))
 
   chunks_stop : (a : Chunked) (runs : List Run) → IsChunked text a runs → (r : Reading) → read start text ≡ r

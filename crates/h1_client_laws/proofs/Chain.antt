@@ -1,16 +1,15 @@
 -- Answers that were handed out and have ended, one after another, and what is handed out after them.
-use Rattle.std.proofs.Common.{◌≡◌, ℕ, ◌≤◌, Bool, List, [], ◌∷◌, ◌++◌, length, take, drop, reverse, slice_range, Option, Some, None, MatchOption, unwrap_or, IsSome, refl, sym, ap, ◌∙◌, subst, append_assoc}
-use Rattle.std.specs.Prelude.{⊤}
+use Rattle.std.proofs.Common.{◌≡◌, ℕ, ◌≤◌, Bool, List, [], ◌∷◌, ◌++◌, length, take, drop, reverse, Option, Some, None, MatchOption, unwrap_or, IsSome, refl, sym, ap, ◌∙◌, subst, append_assoc}
 use Rattle.std.proofs.lemmas.Grind.{reverse_onto}
 use Rattle.h1_model.specs.HeadPiece.{HasNoHeadPiece}
 use Rattle.h1_model.specs.Request.{too_large}
-use Rattle.h1_model.specs.Parse.{Body, next_start}
-use Rattle.h1_client_model.specs.AnswerReading.{AnswerReading, refused}
+use Rattle.h1_model.specs.Parse.{next_start}
+use Rattle.h1_client_model.specs.AnswerReading.{refused}
 use Rattle.h1_client_model.specs.AnswerParse.{Received, AnswerMessage, IsAnswerAt, is_interim, left_waiting, AreAnswersFrom, AreAnswersIn}
 use Rattle.h1_client_model.proofs.AnswerLemmas.{answers_unique}
 use Rattle.h1_client_model.proofs.AnswerExistence.{answers_exist_from}
 use Rattle.h1_client_laws.specs.ReadOut.{ReadAnswer, newly_read}
-use Rattle.h1_client_laws.specs.Parsed.{IsReadOf, IsLastOrEnded, IsOversized, IsPrefixFrom}
+use Rattle.h1_client_laws.specs.Parsed.{IsReadOf, IsLastOrEnded, IsPrefixFrom}
 
 -- what was received, by its parts
 abbrev pub received : List ℕ → Bool → ℕ → Received

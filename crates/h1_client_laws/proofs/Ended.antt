@@ -3,7 +3,7 @@ use Rattle.std.proofs.Common.{◌≡◌, ℕ, ◌-◌, min, Bool, true, false, �
 use Rattle.std.specs.Prelude.{◌==◌, if◌then◌else◌}
 use Rattle.h1_model.specs.Setting.{Setting}
 use Rattle.h1_machine.specs.Body.{pass_rest}
-use Rattle.h1_client_model.specs.AnswerReading.{Answer, AnswerReading, answer_is, refused}
+use Rattle.h1_client_model.specs.AnswerReading.{AnswerReading, answer_is, refused}
 use Rattle.h1_client_model.specs.AnswerParse.{is_interim}
 use Rattle.h1_client_machine.specs.ClientEvent as on
 use Rattle.h1_client_machine.specs.ClientEvent.{ClientEvent, ClientEnd}

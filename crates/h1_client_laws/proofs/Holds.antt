@@ -1,5 +1,5 @@
 -- What holds of a client all along, where all bytes that will come are known: what it handed out, and what it keeps.
-use Rattle.std.proofs.Common.{◌≡◌, ℕ, ◌<◌, ◌≤◌, Bool, true, false, List, [], ◌∷◌, ◌++◌, length, drop, map, reverse, Option, Some, None, refl, sym, ap, ◌∙◌, subst, append-nil, append_assoc, arith}
+use Rattle.std.proofs.Common.{◌≡◌, ℕ, ◌<◌, ◌≤◌, Bool, true, false, List, [], ◌∷◌, ◌++◌, length, drop, map, reverse, Option, Some, None, sym, ap, ◌∙◌, subst, append-nil, append_assoc}
 use Rattle.std.specs.List.{AllByRecursion}
 use Rattle.std.proofs.lemmas.Grind.{reverse_onto}
 use Rattle.h1_model.specs.Parse.{Body}
@@ -7,14 +7,14 @@ use Rattle.h1_model.specs.Handed.{Item, item_bytes, item_end, item_fault, traile
 use Rattle.h1_model.proofs.HandedItems.{joined}
 use Rattle.h1_model.specs.Event.{corrupted, incomplete}
 use Rattle.h1_model.specs.Parse.{trailer_header}
-use Rattle.h1_client_model.specs.AnswerParse.{Received, AnswerMessage, IsAnswerAt, is_interim, left_waiting, AreAnswersIn}
+use Rattle.h1_client_model.specs.AnswerParse.{AnswerMessage, IsAnswerAt, is_interim, left_waiting, AreAnswersIn}
 use Rattle.h1_client_machine.specs.ClientEvent.{ClientEnd}
 use Rattle.h1_client_machine.specs.ClientKept.{Waiting, ReadingBody, ClientKept, is_free_of}
 use Rattle.h1_client_laws.specs.ReadOut.{ReadAnswer, ReadOut}
 use Rattle.h1_client_laws.specs.Parsed.{IsPrefixFrom}
 use Rattle.h1_client_laws.proofs.Told.{HowStops, stops_before, may_go_on, breaks_off, is_cut_off, Told, told, IsSound, IsMore, behind_of}
 use Rattle.h1_client_laws.proofs.Bodies.{Stands, StopsSo}
-use Rattle.h1_client_laws.proofs.Chain.{received, IsRead, Leads, prefix_of, no_tail, one_tail}
+use Rattle.h1_client_laws.proofs.Chain.{received, Leads, prefix_of, no_tail, one_tail}
 
 -- the methods of those who wait
 abbrev pub waiting_methods : List Waiting → List (List ℕ)
@@ -191,12 +191,18 @@ module _ (bytes : List ℕ) (e : Bool) (size : ℕ) (methods : List (List ℕ)) 
   body_over h before text behind waits body items x are stands = record {
     place = stands.0;
     within = stands.2;
-    leads = (x.start, x.method, waits, x.leads, record {
-      message = x.message;
-      at = x.at;
-      is = record { reading = x.reading; items = are };
-      next = stands.1;
-      left_is = x.final;
-    });
+    leads = (
+      x.start,
+      x.method,
+      waits,
+      x.leads,
+      record {
+        message = x.message;
+        at = x.at;
+        is = record { reading = x.reading; items = are };
+        next = stands.1;
+        left_is = x.final;
+      },
+    );
     text_is = stands.3;
   }

@@ -1,5 +1,5 @@
 -- The next answer that is handed out is the next answer of the bytes.
-use Rattle.std.proofs.Common.{◌≡◌, ℕ, ◌+◌, ◌<◌, ◌≤◌, Bool, true, false, List, [], ◌∷◌, ◌++◌, length, drop, take, slice_range, eqb, Option, Some, None, is_some, refl, sym, ap, ap₂, ◌∙◌, subst, subst₂, inl, inr, arith, length-drop, length-append, take_all, eqb-true}
+use Rattle.std.proofs.Common.{◌≡◌, ℕ, ◌+◌, ◌≤◌, Bool, true, false, List, [], ◌∷◌, ◌++◌, length, drop, take, slice_range, Option, Some, None, is_some, refl, sym, ap, ◌∙◌, subst, subst₂, inl, inr, arith, length-drop, length-append, take_all, eqb-true}
 use Rattle.std.specs.Prelude.{IsTrue, ◌&&◌, ◌||◌, not, ◌==◌, nat_le, nat_lt, bytes_eq, codes, if◌then◌else◌}
 use Rattle.std.proofs.lemmas.Bool.{false≢true, cond-true}
 use Rattle.std.proofs.lemmas.Grind.{reverse_onto}
@@ -7,29 +7,28 @@ use Rattle.std.proofs.lemmas.List.{drop-append-le, drop-drop, append-nil}
 use Rattle.h1_model.specs.HeadPiece.{IsHeadPiece, HasNoHeadPiece}
 use Rattle.h1_model.specs.Request.{BodyKind, no_body, fixed_body, chunked_body, raw_body, has_body, too_large}
 use Rattle.h1_model.specs.Setting.{Setting}
-use Rattle.h1_model.specs.Parse.{Body, content, ended_at, next_start, IsBodyOf}
-use Rattle.h1_model.specs.Handed.{Item, body_bytes}
+use Rattle.h1_model.specs.Parse.{content, ended_at, next_start, IsBodyOf}
 use Rattle.h1_model.proofs.HandedItems.{no_items}
 use Rattle.h1_model.proofs.HeadPieceLemmas.{head_piece_append, slice_range-append, head_piece_unique}
 use Rattle.h1_model.proofs.MessageGrowth.{piece_end}
 use Rattle.h1_machine.specs.Kept.{Rest, whole_rest, rest_in}
 use Rattle.h1_machine.specs.Change.{IsComing}
-use Rattle.h1_client_model.specs.AnswerTable.{body_to, has_no_content, answer_body, answer_kind, is_answer_refused}
-use Rattle.h1_client_model.specs.AnswerReading.{Answer, AnswerReading, answer_is, refused, IsTextOf, IsAnswerOf, IsAnswerReadingWithin}
-use Rattle.h1_client_model.specs.AnswerParse.{Received, body_input, AnswerMessage, IsAnswerBody, IsAnswerAt, is_interim, left_waiting, AreAnswersFrom, AreAnswersIn}
+use Rattle.h1_client_model.specs.AnswerTable.{body_to, has_no_content, answer_body, is_answer_refused}
+use Rattle.h1_client_model.specs.AnswerReading.{Answer, AnswerReading, answer_is, refused, IsTextOf, IsAnswerReadingWithin}
+use Rattle.h1_client_model.specs.AnswerParse.{Received, body_input, AnswerMessage, IsAnswerBody, IsAnswerAt, is_interim, left_waiting, AreAnswersFrom}
 use Rattle.h1_client_model.proofs.AnswerLemmas.{answer_within_unique}
 use Rattle.h1_client_model.proofs.AnswerExistence.{answers_exist_from}
 use Rattle.h1_client_machine.specs.ClientEvent as on
 use Rattle.h1_client_machine.specs.ClientEvent.{ClientEnd}
-use Rattle.h1_client_machine.specs.ClientKept.{Waiting, ReadingBody, ClientKept, is_free, is_free_of, client_closing, allowed_running, allowed_closing, is_moment, client_allows}
+use Rattle.h1_client_machine.specs.ClientKept.{Waiting, ClientKept, is_free, client_closing, allowed_running, allowed_closing, is_moment, client_allows}
 use Rattle.h1_client_machine.specs.ClientStep.{ClientChange, new_body, behind_final, behind_answer, behind_head, IsUpcoming, IsNext, KnowsComing}
 use Rattle.h1_client_machine.proofs.Answered.{told_without}
 use Rattle.h1_client_laws.specs.ReadOut.{ReadAnswer, newly_read, ReadOut, reading_out}
 use Rattle.h1_client_laws.specs.Parsed.{IsPrefixFrom}
 use Rattle.h1_client_laws.proofs.Told.{Told, told, IsMore, rest_in_told, rest_in_sound}
-use Rattle.h1_client_laws.proofs.Bodies.{StopsSo, Tells, body_tells, whole_sound}
-use Rattle.h1_client_laws.proofs.Chain.{received, Leads, prefix_of, full_tail}
-use Rattle.h1_client_laws.proofs.Holds.{waiting_methods, IsGiving, IsBetween, IsInside, IsBody, IsOpen, IsFinal, IsState, Holds, newest_final, free_between, between_open}
+use Rattle.h1_client_laws.proofs.Bodies.{Tells, body_tells, whole_sound}
+use Rattle.h1_client_laws.proofs.Chain.{received, prefix_of, full_tail}
+use Rattle.h1_client_laws.proofs.Holds.{waiting_methods, IsBetween, IsInside, IsBody, IsFinal, IsState, newest_final, free_between, between_open}
 
 -- ---- what is allowed
 
@@ -197,13 +196,19 @@ module _ (bytes : List ℕ) (e : Bool) (size : ℕ) (methods : List (List ℕ)) 
           record {
             place = x.place + end;
             within = inside_bytes;
-            leads = (x.place, w.method, others, x.leads, record {
-              message = there.message;
-              at = there.at;
-              is = record { reading = sym there.reading; items = no_items bytes there.message.body };
-              next = ap next_start empty;
-              left_is = same ∙ ap (λ (r : AnswerReading). left_waiting is_interim r w.method others) (sym (there.reading ∙ is));
-            });
+            leads = (
+              x.place,
+              w.method,
+              others,
+              x.leads,
+              record {
+                message = there.message;
+                at = there.at;
+                is = record { reading = sym there.reading; items = no_items bytes there.message.body };
+                next = ap next_start empty;
+                left_is = same ∙ ap (λ (r : AnswerReading). left_waiting is_interim r w.method others) (sym (there.reading ∙ is));
+              },
+            );
             text_is = left_is;
           }
 

@@ -1,34 +1,34 @@
 -- Where nothing comes, all that was taken is handed out.
-use Rattle.std.proofs.Common.{◌≡◌, ◌⊎◌, ℕ, ◌<◌, Bool, true, false, ◌&&◌, not, List, [], ◌∷◌, ◌++◌, length, map, flat_map, take, drop, Option, Some, None, refl, sym, ap, ap₂, ◌∙◌, subst, inl, inr, append-nil, append_assoc, arith, length-append}
-use Rattle.std.specs.Prelude.{IsTrue, ◌==◌, MatchOption, codes}
+use Rattle.std.proofs.Common.{◌≡◌, ◌⊎◌, ℕ, ◌<◌, Bool, true, false, ◌&&◌, not, List, [], ◌∷◌, ◌++◌, length, map, take, drop, Option, Some, None, refl, sym, ap, ap₂, ◌∙◌, subst, inl, inr, append-nil, append_assoc, arith, length-append}
+use Rattle.std.specs.Prelude.{IsTrue, MatchOption}
 use Rattle.std.proofs.lemmas.Bool.{false≢true}
 use Rattle.h1_chunks.specs.Place.{Place}
-use Rattle.h1_chunks.specs.Reading.{Reading, Ending, goes_on, with_trailers, at_end, read}
+use Rattle.h1_chunks.specs.Reading.{Ending, with_trailers, read}
 use Rattle.h1_chunks.specs.TakeNext.{Next, chunk, waits, ended, breaks, take_next, says}
 use Rattle.h1_chunks.proofs.ReadSteps.{read-nil}
 use Rattle.h1_chunks.proofs.TakenReads.{taken_is_read}
 use Rattle.h1_model.specs.HeadPiece.{HasNoHeadPiece}
 use Rattle.h1_model.specs.Setting.{Setting}
 use Rattle.h1_model.specs.Event as server
-use Rattle.h1_model.specs.Parse.{next_start, trailer_header}
-use Rattle.h1_model.specs.Handed.{item_bytes, last_items, body_bytes}
+use Rattle.h1_model.specs.Parse.{trailer_header}
+use Rattle.h1_model.specs.Handed.{item_bytes, body_bytes}
 use Rattle.h1_model.proofs.HandedItems.{joined}
 use Rattle.h1_machine.specs.Kept.{Rest, no_rest, raw_rest, fixed_rest, chunks_rest, frames_rest}
 use Rattle.h1_machine.specs.Pull.{Pulled, gives, finishes, pull_fixed, pull_raw, EndsWith, IsPullOfChunks, IsPull}
 use Rattle.h1_machine.specs.Change.{IsComing}
-use Rattle.h1_client_model.specs.AnswerReading.{AnswerReading, answer_is, refused}
+use Rattle.h1_client_model.specs.AnswerReading.{answer_is, refused}
 use Rattle.h1_client_model.specs.AnswerParse.{Received, AnswerMessage, is_interim, left_waiting, AreAnswersFrom, AreAnswersIn}
 use Rattle.h1_client_machine.specs.ClientEvent as on
 use Rattle.h1_client_machine.specs.ClientEvent.{ClientEnd, ClientOutcome}
-use Rattle.h1_client_machine.specs.ClientKept.{Waiting, ReadingBody, ClientKept, is_free, is_free_of, is_dropped_of, client_closing, client_allows}
-use Rattle.h1_client_machine.specs.ClientStep.{ClientChange, outcome_of, IsPulling, behind_head, IsUpcoming, IsNext, IsClientStep, KnowsComing}
+use Rattle.h1_client_machine.specs.ClientKept.{Waiting, ReadingBody, ClientKept, is_free_of, is_dropped_of, client_closing, client_allows}
+use Rattle.h1_client_machine.specs.ClientStep.{ClientChange, outcome_of, IsPulling, IsUpcoming, IsNext, IsClientStep}
 use Rattle.h1_client_machine.specs.ClientTrace.{Happened, IsClientTrace, taken}
 use Rattle.h1_client_laws.specs.ReadOut.{ReadAnswer, read_out}
 use Rattle.h1_client_laws.specs.Parsed.{has_ended, received_of, methods_of, AreAnswersTaken, IsNewestHanded}
 use Rattle.h1_client_laws.proofs.Told.{may_go_on, Told, told, of_reading, of_length, of_all, IsSound, waits_goes_on, length_none, stop_of}
 use Rattle.h1_client_laws.proofs.Bodies.{StopsSo}
-use Rattle.h1_client_laws.proofs.Chain.{IsRead, Leads, first_is}
-use Rattle.h1_client_laws.proofs.Holds.{waiting_methods, IsGiving, IsLeft, IsBetween, IsInside, IsBusy, IsBody, IsOpen, IsState}
+use Rattle.h1_client_laws.proofs.Chain.{Leads, first_is}
+use Rattle.h1_client_laws.proofs.Holds.{waiting_methods, IsLeft, IsBusy, IsBody, IsOpen, IsState}
 use Rattle.h1_client_laws.proofs.Ended.{trace_ended}
 use Rattle.h1_client_laws.proofs.NextAnswers.{fine_while, allowed_then, allowed_while, between_of}
 use Rattle.h1_client_laws.proofs.AllHappened.{both, not_true, going_for, known_of, holds_now}

@@ -1,19 +1,16 @@
 -- Bytes that come, the end of the input, and bodies that are dropped.
-use Rattle.std.proofs.Common.{◌≡◌, ℕ, ◌<◌, Bool, true, false, ◌&&◌, ◌||◌, not, List, [], ◌∷◌, ◌++◌, map, Option, Some, None, refl, sym, ap, ap₂, ◌∙◌, subst, append_assoc}
+use Rattle.std.proofs.Common.{◌≡◌, ℕ, Bool, true, false, ◌&&◌, ◌||◌, not, List, [], ◌∷◌, ◌++◌, Option, Some, None, refl, sym, ap, ◌∙◌, subst, append_assoc}
 use Rattle.std.specs.Prelude.{if◌then◌else◌}
 use Rattle.std.specs.Option.{option_or}
 use Rattle.std.proofs.lemmas.Bool.{false≢true}
-use Rattle.h1_model.specs.Parse.{Body}
-use Rattle.h1_model.specs.Handed.{Item}
 use Rattle.h1_machine.specs.Kept.{Rest, no_rest, raw_rest, fixed_rest, chunks_rest, frames_rest, rest_in, is_nothing}
 use Rattle.h1_machine.specs.Body.{Passed, pass_rest}
 use Rattle.h1_client_machine.specs.ClientEvent.{ClientEnd, broken_answer}
 use Rattle.h1_client_machine.specs.ClientKept.{ReadingBody, ClientKept}
 use Rattle.h1_client_machine.specs.ClientStep.{is_broken, passed_body, passing, body_at_end, dropping}
 use Rattle.h1_client_laws.specs.ReadOut.{ReadAnswer, ReadOut}
-use Rattle.h1_client_laws.proofs.Told.{Told, told, IsSound, IsMore, behind_of, IsPassing, passing_leaves, rest_in_told, rest_in_sound}
-use Rattle.h1_client_laws.proofs.Bodies.{Stands}
-use Rattle.h1_client_laws.proofs.Holds.{waiting_methods, IsLeft, left_items, giving_dropped, IsInside, IsBusy, IsBody, IsOpen, IsState, Holds, newest_final, body_over}
+use Rattle.h1_client_laws.proofs.Told.{told, IsSound, IsMore, behind_of, passing_leaves, rest_in_told, rest_in_sound}
+use Rattle.h1_client_laws.proofs.Holds.{waiting_methods, IsLeft, giving_dropped, IsInside, IsBusy, IsBody, IsOpen, IsState, Holds, newest_final, body_over}
 
 module _ (bytes : List ℕ) (e : Bool) (size : ℕ) (methods : List (List ℕ)) where
   abbrev StateBy : Option ClientEnd → List ℕ → List ReadAnswer → List ℕ → List (List ℕ) → Option ReadingBody → Type 0
@@ -174,10 +171,11 @@ module _ (bytes : List ℕ) (e : Bool) (size : ℕ) (methods : List (List ℕ)) 
       → Holds bytes e size methods out k (taken ++ more) extra → k.failed ≡ None → Holds bytes e size methods out (record k { unread = k.unread ++ taken }) more extra
   more_holds out k taken more extra open_yet old fine now =
       let x = old (subst (λ (t : Bool). IsMore t (taken ++ more) e) (sym open_yet) tt) in
-      let state = subst (λ (f : Option ClientEnd). StateBy f (taken ++ more) out.answers (k.unread ++ (taken ++ more)) (waiting_methods k.waiting ++ extra) k.reading) fine x.1 in
-      (x.0,
-      subst (λ (f : Option ClientEnd). StateBy f more out.answers ((k.unread ++ taken) ++ more) (waiting_methods k.waiting ++ extra) k.reading) (sym fine)
-      (subst (λ (l : List ℕ). IsOpen bytes e size methods out.answers l (waiting_methods k.waiting ++ extra) k.reading) (sym (append_assoc k.unread taken more)) state))
+      let state = subst (λ (f : Option ClientEnd). StateBy f (taken ++ more) out.answers (k.unread ++ (taken ++ more)) (waiting_methods k.waiting ++ extra) k.reading) fine x.1 in (
+        x.0,
+        subst (λ (f : Option ClientEnd). StateBy f more out.answers ((k.unread ++ taken) ++ more) (waiting_methods k.waiting ++ extra) k.reading) (sym fine)
+            (subst (λ (l : List ℕ). IsOpen bytes e size methods out.answers l (waiting_methods k.waiting ++ extra) k.reading) (sym (append_assoc k.unread taken more)) state),
+      )
 
   -- ---- the end of the input
 

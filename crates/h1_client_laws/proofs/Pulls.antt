@@ -1,26 +1,24 @@
 -- What a pull hands out of an answer's body is that body's.
-use Rattle.std.proofs.Common.{◌≡◌, ℕ, ◌<◌, Bool, true, false, List, [], ◌∷◌, ◌++◌, length, map, flat_map, Option, Some, None, refl, sym, ap, ap₂, ◌∙◌, subst, append-nil, append_assoc, arith, length-append}
+use Rattle.std.proofs.Common.{◌≡◌, ℕ, ◌<◌, Bool, true, false, List, [], ◌∷◌, ◌++◌, length, map, Option, Some, None, refl, sym, ap, ◌∙◌, subst, append-nil, append_assoc, arith, length-append}
 use Rattle.std.specs.List.{AllByRecursion}
 use Rattle.std.specs.Option.{option_or}
-use Rattle.std.proofs.lemmas.List.Concat.{flat_map-append}
 use Rattle.std.proofs.lemmas.List.{map-append}
 use Rattle.h1_chunks.specs.ChunkedText.{Trailer, IsTrailer, section_text}
 use Rattle.h1_chunks.proofs.Trailers.{section_tells}
 use Rattle.h1_model.specs.Event.{Outcome, BodyFault, corrupted, incomplete}
 use Rattle.h1_model.specs.Event as server
 use Rattle.h1_model.specs.Parse.{Body, trailer_header}
-use Rattle.h1_model.specs.Handed.{Item, item_bytes, item_trailers, item_end, item_fault, trailer_items, Begins, last_items, body_bytes, AreItemsOf}
+use Rattle.h1_model.specs.Handed.{Item, item_bytes, item_trailers, item_end, item_fault, trailer_items, Begins, last_items, AreItemsOf}
 use Rattle.h1_model.proofs.HandedItems.{joined}
-use Rattle.h1_machine.specs.Kept.{Rest, no_rest}
+use Rattle.h1_machine.specs.Kept.{Rest}
 use Rattle.h1_machine.specs.Pull.{Pulled, IsPull}
-use Rattle.h1_client_machine.specs.ClientEvent.{ClientEnd, ClientOutcome, broken_answer}
+use Rattle.h1_client_machine.specs.ClientEvent.{ClientEnd, broken_answer}
 use Rattle.h1_client_machine.specs.ClientKept.{ReadingBody, ClientKept}
 use Rattle.h1_client_machine.specs.ClientStep.{outcome_of, end_of, pulled_from}
 use Rattle.h1_client_laws.specs.ReadOut.{ReadAnswer, ReadOut, reading_out}
-use Rattle.h1_client_laws.proofs.Told.{HowStops, stops_before, breaks_off, is_cut_off, Told, with_front, told, IsSound, IsMore, fault_stop, Gives, some_bytes, nothing_yet, its_trailers, its_end, its_fault, pull_gives}
+use Rattle.h1_client_laws.proofs.Told.{stops_before, Told, with_front, told, IsSound, IsMore, fault_stop, Gives, some_bytes, nothing_yet, its_trailers, its_end, its_fault, pull_gives}
 use Rattle.h1_client_laws.proofs.Bodies.{Stands, StopsSo}
-use Rattle.h1_client_laws.proofs.Chain.{Leads}
-use Rattle.h1_client_laws.proofs.Holds.{waiting_methods, IsGiving, last_item, IsLeft, IsBetween, IsInside, IsBusy, IsBody, IsOpen, IsFinal, IsState, Holds, newest_final, body_over}
+use Rattle.h1_client_laws.proofs.Holds.{waiting_methods, IsGiving, last_item, IsLeft, IsInside, IsBusy, IsBody, IsOpen, IsState, Holds, newest_final, body_over}
 
 -- ---- items
 
@@ -165,9 +163,11 @@ module _ (bytes : List ℕ) (e : Bool) (size : ℕ) (methods : List (List ℕ)) 
         named server.pending false is going (clean, open_on h.items sound (subst (IsGiving bytes x.message.body h.items) same giving))
     by_gives (its_trailers line lines is each same none going) =
         let given = trailers_given bytes x.message.body h.items t giving line lines (p.unread ++ more) each same in
-        named (server.trailers (map trailer_header (line ∷ lines))) false is going
-        (clean, open_on (h.items ++ item_trailers (map trailer_header (line ∷ lines)) ∷ []) (subst IsSound (sym none) tt)
-        (subst (λ (r : Rest). IsGiving bytes x.message.body (h.items ++ item_trailers (map trailer_header (line ∷ lines)) ∷ []) (told e r (p.unread ++ more))) (sym none) given))
+        named (server.trailers (map trailer_header (line ∷ lines))) false is going (
+          clean,
+          open_on (h.items ++ item_trailers (map trailer_header (line ∷ lines)) ∷ []) (subst IsSound (sym none) tt)
+              (subst (λ (r : Rest). IsGiving bytes x.message.body (h.items ++ item_trailers (map trailer_header (line ∷ lines)) ∷ []) (told e r (p.unread ++ more))) (sym none) given),
+        )
     by_gives (its_end is same over) =
         let given = end_given bytes x.message.body h.items t giving (p.unread ++ more) same in
         named server.body_ended true is over (clean, over_now (h.items ++ item_end ∷ []) given.0 given.1)

@@ -1,6 +1,5 @@
 -- What was handed out stays the beginning of the answers when bytes or requests follow.
-use Rattle.std.proofs.Common.{◌≡◌, ℕ, ◌<◌, ◌≤◌, Bool, false, List, [], ◌∷◌, ◌++◌, length, reverse, Option, Some, None, IsSome, unwrap_or, refl, sym, ap, ◌∙◌, subst, arith}
-use Rattle.std.specs.Prelude.{⊤}
+use Rattle.std.proofs.Common.{◌≡◌, ℕ, ◌<◌, ◌≤◌, false, List, [], ◌∷◌, ◌++◌, length, reverse, IsSome, unwrap_or, ap, ◌∙◌, subst, arith}
 use Rattle.std.proofs.lemmas.List.{length-reverse}
 use Rattle.h1_model.specs.Parse.{next_start}
 use Rattle.h1_model.proofs.HandedLemmas.{ended_closed, items_grow}
@@ -40,8 +39,7 @@ prefix_grows size front all place (h ∷ hs) (m ∷ ms) (n ∷ ns) g few x =
     let here = unwrap_or (next_start m.body) place in
     let others = prefix_grows size front all here hs ms ns g.1 (omega (arith, few)) x.2 in
     let same : 0 < length hs → here ≡ unwrap_or (next_start n.body) place =
-    λ some. ap (λ o. unwrap_or o place) (next_same front all m n hs g.0 x.1 some) in
-    (
+    λ some. ap (λ o. unwrap_or o place) (next_same front all m n hs g.0 x.1 some) in (
       read_grows front all h m n g.0 x.0,
       last_grows front all m n hs g.0 x.1,
       prefix_place size all here (unwrap_or (next_start n.body) place) hs ns same others,
@@ -50,7 +48,8 @@ prefix_grows size front all place (h ∷ hs) (m ∷ ms) (n ∷ ns) g few x =
 pub prefix_stays : (r s : Received) (more : List ℕ) (methods extra : List (List ℕ)) (size : ℕ) (out : ReadOut) (ms ns : List AnswerMessage)
     → s.bytes ≡ r.bytes ++ more → s.hold_size ≡ r.hold_size → r.ended ≡ false → AreAnswersIn is_interim r methods ms
     → AreAnswersIn is_interim s (methods ++ extra) ns → length out.answers ≤ length ms → IsPrefixOf size r.bytes out ms → IsPrefixOf size s.bytes out ns
-prefix_stays r s more methods extra size out ms ns bytes held ended x y few prefix =
-    (prefix.0,
-    prefix_grows size r.bytes s.bytes 0 (reverse out.answers) ms ns (answers_stay is_interim r s more methods extra ms ns bytes held ended x y)
-    (omega (arith, few, length-reverse out.answers)) prefix.1)
+prefix_stays r s more methods extra size out ms ns bytes held ended x y few prefix = (
+  prefix.0,
+  prefix_grows size r.bytes s.bytes 0 (reverse out.answers) ms ns (answers_stay is_interim r s more methods extra ms ns bytes held ended x y)
+      (omega (arith, few, length-reverse out.answers)) prefix.1,
+)

@@ -8,7 +8,7 @@ use Rattle.h1_chunks.specs.ChunkedText.{Trailer, IsTrailer, section_text}
 use Rattle.h1_chunks.specs.Place.{InLine, Place, in_bytes, bytes_end, in_section, done, broken, step, after}
 use Rattle.h1_chunks.specs.Reading.{Reading, Ending, goes_on, is_broken, ends_before, with_trailers, at_end, read}
 use Rattle.h1_chunks.specs.TakeNext.{Next, chunk, waits, ended, breaks, Taken, noted_line, stops_at, take_next, says}
-use Rattle.h1_chunks.proofs.ReadAfter.{joined, read-append, ended_reading_stays, broken_reading_stays, broken_from_ending}
+use Rattle.h1_chunks.proofs.ReadAfter.{read-append, ended_reading_stays, broken_reading_stays, broken_from_ending}
 use Rattle.h1_chunks.proofs.ReadSteps.{ending-noted, read-nil, read_broken}
 use Rattle.h1_chunks.proofs.TakenReads.{taken_is_read}
 use Rattle.h1_chunks.proofs.TakenPlaces.{taken_chunk_leads}
@@ -346,20 +346,26 @@ by_ending e text is_broken = refl
 
 chunks_pass : (place : Place) (section bytes more : List ℕ) (e : Bool) (ending : Ending) → (read place bytes).ending ≡ ending
     → IsPassing e more (chunks_rest place section) bytes (pass_chunks place bytes ending)
-chunks_pass place section bytes more e (ends_before behind) is =
-    (sym (by_ending e (section ++ (read place (bytes ++ more)).trailers) (read place (bytes ++ more)).ending
-    ∙ ap (λ (r : Reading). behind_ending r.ending) (ended_reading_stays place bytes more behind is)), tt)
-chunks_pass place section bytes more e is_broken is =
-    (by_ending e ([] ++ (read (after place bytes) more).trailers) (read (after place bytes) more).ending
-    ∙ ap (λ (p : Place). behind_ending (read p more).ending) (broken_from_ending place bytes is)
-    ∙ ap (λ (r : Reading). behind_ending r.ending) (read_broken more)
-    ∙ ap behind_ending (sym is)
-    ∙ ap (λ (r : Reading). behind_ending r.ending) (sym (broken_reading_stays place bytes more is))
-    ∙ sym (by_ending e (section ++ (read place (bytes ++ more)).trailers) (read place (bytes ++ more)).ending), tt)
-chunks_pass place section bytes more e goes_on is =
-    (by_ending e ([] ++ (read (after place bytes) more).trailers) (read (after place bytes) more).ending
-    ∙ ap (λ (r : Reading). behind_ending r.ending) (sym (read-append place bytes more (goes_on_unbroken place bytes is)))
-    ∙ sym (by_ending e (section ++ (read place (bytes ++ more)).trailers) (read place (bytes ++ more)).ending), tt)
+chunks_pass place section bytes more e (ends_before behind) is = (
+  sym (by_ending e (section ++ (read place (bytes ++ more)).trailers) (read place (bytes ++ more)).ending
+      ∙ ap (λ (r : Reading). behind_ending r.ending) (ended_reading_stays place bytes more behind is)),
+  tt,
+)
+chunks_pass place section bytes more e is_broken is = (
+  by_ending e ([] ++ (read (after place bytes) more).trailers) (read (after place bytes) more).ending
+      ∙ ap (λ (p : Place). behind_ending (read p more).ending) (broken_from_ending place bytes is)
+      ∙ ap (λ (r : Reading). behind_ending r.ending) (read_broken more)
+      ∙ ap behind_ending (sym is)
+      ∙ ap (λ (r : Reading). behind_ending r.ending) (sym (broken_reading_stays place bytes more is))
+      ∙ sym (by_ending e (section ++ (read place (bytes ++ more)).trailers) (read place (bytes ++ more)).ending),
+  tt,
+)
+chunks_pass place section bytes more e goes_on is = (
+  by_ending e ([] ++ (read (after place bytes) more).trailers) (read (after place bytes) more).ending
+      ∙ ap (λ (r : Reading). behind_ending r.ending) (sym (read-append place bytes more (goes_on_unbroken place bytes is)))
+      ∙ sym (by_ending e (section ++ (read place (bytes ++ more)).trailers) (read place (bytes ++ more)).ending),
+  tt,
+)
 
 pub passing_leaves : (t : Bool) (rest : Rest) (bytes more : List ℕ) (e : Bool) → IsMore t more e → IsSound rest
     → IsPassing e more rest bytes (pass_rest t rest bytes)
