@@ -11,4 +11,5 @@
 //!   was handed out is their beginning (`ReadsPrefix`).
 #![tactic(auto)]
 
+pub mod examples;
 pub mod laws;

@@ -7,7 +7,7 @@ ghost use Rattle.h1_client_model.specs.AnswerReading.{answer_is};
 ghost use Rattle.h1_client_machine.specs.Examples.{ok};
 ghost use Rattle.h1_two_ends.specs.AskedTrace.{requests_asked, is_all_asked, carried_so_far};
 ghost use Rattle.h1_two_ends.specs.HandedBody.{IsHandedBody};
-ghost use Rattle.h1_two_ends.specs.ReadOut.{read_out};
+ghost use Rattle.h1_client_laws.specs.ReadOut.{read_out};
 ghost use Rattle.h1_two_ends.specs.Samples.{begun_post, whole_post};
 
 /// A POST of three bytes: while one has come it is under way, and once all have, it is whole.
