@@ -3,3 +3,4 @@ pub mod Chunked
 pub mod Written
 pub mod Views
 pub mod Extra
+pub mod Stepped

@@ -7,6 +7,7 @@ use Rattle.h1_decode.specs.declared.response.ResponseItem.{ResponseItem}
 use Rattle.h1_messages.specs.Kinds.{answers}
 use Rattle.h1_framed.specs.Answers.{HasBytes, HasEnded, IsHead, IsCauseAt, HasTrailers, LeftAfter}
 use Rattle.h1_framed.specs.Messages.{Messages, given, nothing}
+use Rattle.h1_framed.specs.Steps.{IsStep}
 use Rattle.h1_framed.specs.declared.message.Message.TheVariants.{Item, Chunk}
 use Rattle.h1_client_framed.specs.Pieces.{as_chunk, as_head}
 use Rattle.h1_client_framed.specs.State.{ClientReads, ClientLooked, ClientBreaks, answered, passes_on, client_standing, client_trailers, client_connection, client_passes_on, client_asking}
@@ -32,6 +33,17 @@ abbrev pub HasNoted : Client → Option ResponseItem → Client → Type 0
 HasNoted old (Some item) new =
     (client_connection new ≡ answered (type_of_flags item.head.flags) (client_connection old)) × (client_passes_on new ≡ passes_on item.head)
 HasNoted old None new = (client_connection new ≡ client_connection old) × (client_passes_on new ≡ client_passes_on old)
+
+-- step by step: while no body is open, and while one is; that the other codec reads what comes next is no step
+abbrev pub IsHeadStep : Client → List ℕ → Result (Option ResponseItem) ClientError → Client → List ℕ → Type 0
+IsHeadStep old bytes (Ok answer) new rest = IsStep answers (client_standing old) bytes (Ok (as_head answer)) (client_standing new) rest
+IsHeadStep old bytes (Err (Parse e)) new rest = IsStep answers (client_standing old) bytes (Err e) (client_standing new) rest
+IsHeadStep old bytes (Err Misplaced) new rest = ⊤
+
+abbrev pub IsChunkStep : Client → List ℕ → Result (Option (Option (List ℕ))) ClientError → Client → List ℕ → Type 0
+IsChunkStep old bytes (Ok answer) new rest = IsStep answers (client_standing old) bytes (Ok (as_chunk answer)) (client_standing new) rest
+IsChunkStep old bytes (Err (Parse e)) new rest = IsStep answers (client_standing old) bytes (Err e) (client_standing new) rest
+IsChunkStep old bytes (Err Misplaced) new rest = ⊤
 
 -- what is promised of a head
 pub record IsHeaded (old : Client) (bytes : List ℕ) (result : Result (Option ResponseItem) ClientError) (new : Client) (rest : List ℕ) : Type 0 where

@@ -10,7 +10,7 @@ ghost use Rattle.h1_messages.specs.Kinds.{answers};
 ghost use Rattle.h1_framed.specs.Answers.{IsHead, HasTrailers};
 ghost use Rattle.h1_framed.specs.Messages.{nothing};
 ghost use Rattle.h1_framed.specs.State.{is_enabled, allowed};
-ghost use Rattle.h1_client_framed.specs.Answers.{head_given, ClientCause, HasNoted};
+ghost use Rattle.h1_client_framed.specs.Answers.{head_given, ClientCause, HasNoted, IsHeadStep};
 ghost use Rattle.h1_client_framed.specs.Pieces.{as_head};
 ghost use Rattle.h1_client_framed.specs.State.{
   of_codec,
@@ -134,6 +134,7 @@ impl ClientCodec {
         ensures refused { IfErr result (λ e. ¬ (e ≡ ClientError.Parse errors.NoMemory) → HeadLooked self.old src.old.items → OnlySays HeadReads self.old src.old.items (ClientBreaks e)) }
         ensures misplaced { (result ≡ Err ClientError.Misplaced) ↔ IsSome (client_standing (of_codec self.old)).body }
         ensures cause { IfErr result (ClientCause (of_codec self.old) src.old.items) }
+        ensures step { IsHeadStep (of_codec self.old) src.old.items result (of_codec self.new) src.new.items }
         ensures item { IfOk result (λ answer. IsHead answers (client_is_head (of_codec self.old)) (client_standing (of_codec self.old)) src.old.items (as_head answer) (client_standing (of_codec self.new)) src.new.items) }
         ensures left { OnErr result ((self.new ≡ self.old) × (src.new.items ≡ src.old.items)) }
         ensures seen { OnOk result (HeadLooked self.old src.old.items → (more : List ℕ) → HeadLooked self.new (src.new.items ++ more)) }

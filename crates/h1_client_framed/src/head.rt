@@ -2,7 +2,7 @@
 ghost use Rattle.std.specs.Prelude.{◌≡◌, OnErr};
 ghost use Rattle.http_types.specs.Flags.{type_of_flags};
 ghost use Rattle.h1_client_framed.specs.State.{answered, passes_on};
-ghost use Rattle.h1_client_framed.specs.Answers.{IsHeaded};
+ghost use Rattle.h1_client_framed.specs.Answers.{IsHeaded, IsHeadStep};
 
 use crate::ClientError;
 use crate::client::Client;
@@ -17,7 +17,8 @@ impl Client {
         &mut self,
         src: &mut BytesMut,
     ) -> Result<Option<ResponseItem>, ClientError>
-        ensures { IsHeaded self.old src.old.items result self.new src.new.items }
+        ensures headed { IsHeaded self.old src.old.items result self.new src.new.items }
+        ensures step { IsHeadStep self.old src.old.items result self.new src.new.items }
     {
         if self.body.is_some() {
             return Err(ClientError::Misplaced);

@@ -6,7 +6,7 @@ ghost use Rattle.http_types.specs.declared.message.ConnectionType.TheVariants as
 ghost use Rattle.http_types.specs.declared.error.ParseError.TheVariants as errors;
 ghost use Rattle.h1_framed.specs.Answers.{HasBytes, HasEnded, HasTrailers};
 ghost use Rattle.h1_framed.specs.Messages.{nothing};
-ghost use Rattle.h1_client_framed.specs.Answers.{chunk_given, ChunkLeft, HasNoted};
+ghost use Rattle.h1_client_framed.specs.Answers.{chunk_given, ChunkLeft, HasNoted, IsChunkStep};
 ghost use Rattle.h1_client_framed.specs.Pieces.{as_chunk};
 ghost use Rattle.h1_client_framed.specs.State.{
   of_codec,
@@ -78,6 +78,7 @@ impl ClientPayloadCodec {
         ensures waiting { result ≡ Ok None → PayloadLooked self.old src.old.items → OnlySays PayloadReads self.old src.old.items (λ said. said ≡ nothing) }
         ensures refused { IfErr result (λ e. ¬ (e ≡ ClientError.Parse errors.NoMemory) → PayloadLooked self.old src.old.items → OnlySays PayloadReads self.old src.old.items (ClientBreaks e)) }
         ensures misplaced { (result ≡ Err ClientError.Misplaced) ↔ ((client_standing (of_payload self.old)).body ≡ None) }
+        ensures step { IsChunkStep (of_payload self.old) src.old.items result (of_payload self.new) src.new.items }
         ensures some { IfOk result (λ answer. HasBytes (as_chunk answer)) }
         ensures ended { IfOk result (λ answer. HasEnded (as_chunk answer) (client_standing (of_payload self.new))) }
         ensures lacking { IfErr result (λ e. e ≡ ClientError.Parse errors.NoMemory → (self.new ≡ self.old) × (src.new.items ≡ src.old.items)) }

@@ -1,7 +1,7 @@
 //! The next piece of an answer's body.
 ghost use Rattle.std.specs.Prelude.{◌≡◌};
 ghost use Rattle.h1_framed.specs.Answers.{IsNoted};
-ghost use Rattle.h1_client_framed.specs.Answers.{IsChunked};
+ghost use Rattle.h1_client_framed.specs.Answers.{IsChunked, IsChunkStep};
 ghost use Rattle.h1_client_framed.specs.Pieces.{as_message, as_answered};
 
 use crate::ClientError;
@@ -17,7 +17,8 @@ impl Client {
         &mut self,
         src: &mut BytesMut,
     ) -> Result<Option<Option<Bytes>>, ClientError>
-        ensures { IsChunked self.old src.old.items result self.new src.new.items }
+        ensures chunked { IsChunked self.old src.old.items result self.new src.new.items }
+        ensures step { IsChunkStep self.old src.old.items result self.new src.new.items }
     {
         match &mut self.body {
             None => Err(ClientError::Misplaced),

@@ -5,3 +5,4 @@ pub mod NextHeads
 pub mod Writing
 pub mod OneSaid
 pub mod Asking
+pub mod Stepping

@@ -4,3 +4,4 @@ pub mod Answers
 pub mod State
 pub mod Refused
 pub mod Sameness
+pub mod Steps

@@ -3,9 +3,11 @@ use Rattle.std.specs.Prelude.{◌≡◌, ℕ, ◌<◌, true, List, [], ◌++◌,
 use Rattle.http_framing.specs.AnyPieces.{GoesOn}
 use Rattle.http_map.specs.HeaderMap.{Entries}
 use Rattle.h1_chunks.specs.Reading.{ends_before}
-use Rattle.h1_payload.specs.Decoding.{Decoding, Reads, given, IsWaiting, IsRefused}
+use Rattle.h1_payload.specs.Decoding.{Decoding, Reads, given, IsDecoded, IsWaiting, IsRefused}
 use Rattle.h1_payload.specs.declared.item.DecodeError.{DecodeError}
 use Rattle.h1_payload.specs.declared.item.DecodeError.TheVariants.{Invalid, NoMemory}
+use Rattle.h1_payload.specs.declared.item.PayloadItem.{PayloadItem}
+use Rattle.h1_payload.specs.declared.item.PayloadItem.TheVariants as items
 use Rattle.h1_framed.specs.declared.piece.Piece.{Piece}
 use Rattle.h1_framed.specs.declared.piece.Piece.TheVariants.{Bytes, End}
 
@@ -21,3 +23,16 @@ IsPiece old bytes (Ok (Some (End trailers))) new rest = IsEnd old bytes rest tra
 IsPiece old bytes (Ok None) new rest = GoesOn Reads given old bytes (λ p. p) new rest × IsWaiting old bytes
 IsPiece old bytes (Err Invalid) new rest = IsRefused old bytes × (new.is_broken ≡ true) × (rest ≡ bytes)
 IsPiece old bytes (Err NoMemory) new rest = (new ≡ old) × (rest ≡ bytes)
+
+-- an item of a body as a piece of it: trailers come with the end
+abbrev pub piece_of : Result (Option PayloadItem) DecodeError → Result (Option Piece) DecodeError
+piece_of (Ok (Some (items.Chunk bytes))) = Ok (Some (Bytes bytes))
+piece_of (Ok (Some (items.Trailers entries))) = Ok (Some (End (Some entries)))
+piece_of (Ok (Some items.Eof)) = Ok (Some (End None))
+piece_of (Ok None) = Ok None
+piece_of (Err error) = Err error
+
+-- the piece is the item that a decoder of bodies gives
+abbrev pub IsDecodedPiece : Decoding → List ℕ → Result (Option Piece) DecodeError → Decoding → List ℕ → Type 0
+IsDecodedPiece old bytes piece new rest =
+    (item : Result (Option PayloadItem) DecodeError) × IsDecoded old bytes item new rest × (piece ≡ piece_of item)

@@ -9,6 +9,7 @@ ghost use Rattle.h1_messages.specs.Heads.{HasSeen};
 ghost use Rattle.h1_framed.specs.Answers.{HasTrailers, HasBytes, HasEnded, IsHead, IsCauseAt};
 ghost use Rattle.h1_messages.specs.Kinds.{requests};
 ghost use Rattle.h1_framed.specs.Messages.{given, nothing, Breaks};
+ghost use Rattle.h1_framed.specs.Steps.{IsStep};
 ghost use Rattle.h1_framed.specs.State.{
   codec_settings,
   codec_standing,
@@ -174,6 +175,7 @@ impl Codec {
         ensures waiting { result ≡ Ok None → HasLookedAt self.old src.old.items → OnlySays CodecReads self.old src.old.items (λ said. said ≡ nothing) }
         ensures refused { IfErr result (λ e. ¬ (e ≡ ParseError.NoMemory) → HasLookedAt self.old src.old.items → OnlySays CodecReads self.old src.old.items (Breaks e)) }
         ensures cause { IfErr result (IsCauseAt requests (codec_standing self.old) src.old.items) }
+        ensures step { IsStep requests (codec_standing self.old) src.old.items result (codec_standing self.new) src.new.items }
         ensures item { IfOk result (λ answer. IsHead requests false (codec_standing self.old) src.old.items answer (codec_standing self.new) src.new.items) }
         ensures some { IfOk result HasBytes }
         ensures ended { IfOk result (λ answer. HasEnded answer (codec_standing self.new)) }

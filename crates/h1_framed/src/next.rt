@@ -2,6 +2,7 @@
 ghost use Rattle.std.specs.Prelude.{◌≡◌};
 ghost use Rattle.h1_framed.specs.Answers.{IsNexted, IsHeadGiven, IsHeadBeside, IsNoted, as_message};
 ghost use Rattle.h1_framed.specs.Messages.{body_of};
+ghost use Rattle.h1_framed.specs.Steps.{IsStep};
 ghost use Rattle.h1_messages.specs.Kinds.{requests};
 
 use crate::message::Message;
@@ -21,8 +22,9 @@ pub(crate) fn next_message(
     is_bare: bool,
     src: &mut BytesMut,
 ) -> Result<Option<Message<HeadItem>>, ParseError>
-    ensures { IsNexted requests is_bare (record { search = heads.old; body = body.old }) src.old.items trailers.old result
+    ensures next { IsNexted requests is_bare (record { search = heads.old; body = body.old }) src.old.items trailers.old result
         (record { search = heads.new; body = body.new }) src.new.items trailers.new }
+    ensures step { IsStep requests (record { search = heads.old; body = body.old }) src.old.items result (record { search = heads.new; body = body.new }) src.new.items }
 {
     match body {
         Some(open) => {

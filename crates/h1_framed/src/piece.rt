@@ -1,5 +1,5 @@
 //! The next piece of a body.
-ghost use Rattle.h1_framed.specs.Pieces.{IsPiece};
+ghost use Rattle.h1_framed.specs.Pieces.{IsPiece, IsDecodedPiece};
 
 use bytes::{Bytes, BytesMut};
 use h1_payload::{DecodeError, PayloadDecoder, PayloadItem};
@@ -23,7 +23,8 @@ pub fn next_piece(
     body: &mut PayloadDecoder,
     src: &mut BytesMut,
 ) -> Result<Option<Piece>, DecodeError>
-    ensures { IsPiece body.old src.old.items result body.new src.new.items }
+    ensures piece { IsPiece body.old src.old.items result body.new src.new.items }
+    ensures decoded { IsDecodedPiece body.old src.old.items result body.new src.new.items }
 {
     match body.decode(src) {
         Ok(Some(PayloadItem::Chunk(bytes))) => Ok(Some(Piece::Bytes(bytes))),

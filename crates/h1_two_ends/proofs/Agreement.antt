@@ -154,7 +154,13 @@ pub ends_agree : (client server : Setting) (asked : List Happened) (k : ClientKe
 ends_agree client server asked k trace c plain =
     let j = joined_ends client server asked k trace c plain in
     let read = client_reads client asked k (answers_sent server trace) j.more [] plain.client_holds c.client_ran j.came j.to j.sent plain.held in
-    record { no_stray_item = j.requests.0; requests = j.requests.1; no_stray_answer = read.0; answers = read.1 }
+    record {
+      no_stray_item = j.requests.0;
+      requests = j.requests.1;
+      to = subst (λ (l : List Waiting). AreTo is_interim (methods_of l) (answers_sent server trace)) (append-nil (asked_of asked)) j.to;
+      no_stray_answer = read.0;
+      answers = read.1;
+    }
 
 -- ---- when all is read, and why a client closes
 

@@ -17,3 +17,5 @@ pub mod AskedFor
 pub mod FinalAnswers
 pub mod CloseTogether
 pub mod NothingPending
+pub mod WholeExchange
+pub mod NothingCut

@@ -36,9 +36,9 @@ use Rattle.h1_two_ends.proofs.ReadOuts.{both, not_true, all_for}
 use Rattle.h1_two_ends.proofs.Rests.{RestSays, Gives, some_bytes, nothing_yet, its_end, cut_off, ending_of, nil_both, pull_gives}
 
 -- no more bytes of the body are left, and its end wasn't sent
-record IsUnderWay (left : List ℕ) (whole : Bool) : Type 0 where
-  none : left ≡ []
-  part : whole ≡ false
+pub record IsUnderWay (left : List ℕ) (whole : Bool) : Type 0 where
+  pub none : left ≡ []
+  pub part : whole ≡ false
 
 -- ---- chunks
 
@@ -52,7 +52,7 @@ chunk_waits true a b c d p q to e = cc e
 chunk_waits false a b c d p q to e = cc e
 
 -- where nothing comes next the body goes on
-waiting_goes_on : (place to : Place) (bytes : List ℕ) → (take_next place bytes).next ≡ waits to → at_end to ≡ goes_on
+pub waiting_goes_on : (place to : Place) (bytes : List ℕ) → (take_next place bytes).next ≡ waits to → at_end to ≡ goes_on
 unfolding take_next
 waiting_goes_on place to [] e = at_place place e
   where
@@ -66,10 +66,10 @@ waiting_goes_on (in_bytes more) to (b ∷ bytes) e = absurd (chunk_waits (nat_lt
 waiting_goes_on place to (b ∷ bytes) e =
     waiting_goes_on (step place b) to bytes (sym (noted_next place (step place b) b (take_next (step place b) bytes)) ∙ e)
 
-not_pending : (p : Pulled) (o : Outcome) → p.outcome ≡ o → p.outcome ≡ server.pending → o ≡ server.pending
+pub not_pending : (p : Pulled) (o : Outcome) → p.outcome ≡ o → p.outcome ≡ server.pending → o ≡ server.pending
 not_pending p o is out = sym is ∙ out
 
-goes_on_part : (whole : Bool) (behind : List ℕ) → goes_on ≡ ending_of whole behind → whole ≡ false
+pub goes_on_part : (whole : Bool) (behind : List ℕ) → goes_on ≡ ending_of whole behind → whole ≡ false
 goes_on_part true behind e = absurd (cc e)
 goes_on_part false behind e = refl
 
@@ -97,7 +97,7 @@ of_chunks is_ended place section bytes left whole behind breaks noted p e live i
 
 -- ---- any body
 
-of_fixed : (n : ℕ) (left : List ℕ) (whole : Bool) (behind : List ℕ) → RestSays (fixed_rest n) [] left whole behind → IsUnderWay left whole
+pub of_fixed : (n : ℕ) (left : List ℕ) (whole : Bool) (behind : List ℕ) → RestSays (fixed_rest n) [] left whole behind → IsUnderWay left whole
 of_fixed n left true behind (some, long, text) =
     let none = nil_both left behind (sym text) in absurd (omega (arith, some, long, ap length none.0))
 of_fixed n left false behind (short, text) = record { none = sym text; part = refl }
@@ -120,7 +120,7 @@ pending_left is_ended (chunks_rest place section) bytes left whole behind p (non
 -- ---- a pull of a client
 
 -- only the last answer may be under way
-last_part : (front rest : List SentAnswer) (s : SentAnswer) → AreSent (front ++ s ∷ rest) → s.is_whole ≡ false → rest ≡ []
+pub last_part : (front rest : List SentAnswer) (s : SentAnswer) → AreSent (front ++ s ∷ rest) → s.is_whole ≡ false → rest ≡ []
 last_part [] rest s sent part = sent.1 part
 last_part (x ∷ front) rest s sent part = last_part front rest s sent.2 part
 

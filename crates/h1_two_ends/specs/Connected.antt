@@ -1,5 +1,5 @@
 -- A client and a server of one connection, and when they agree.
-use Rattle.std.specs.Prelude.{◌≡◌, ◌<◌, Bool, true, false, List, [], reverse, Some, ⊤}
+use Rattle.std.specs.Prelude.{◌≡◌, ◌<◌, Bool, true, false, List, [], map, reverse, Some, ⊤}
 use Rattle.std.specs.List.{AllByRecursion}
 use Rattle.h1_model.specs.Setting.{Setting}
 use Rattle.h1_model.specs.End as ends
@@ -9,12 +9,13 @@ use Rattle.h1_model.specs.Closing.{asked_by}
 use Rattle.h1_model.specs.Handed.{handed_out, Begins}
 use Rattle.h1_model.specs.Trace.{IsTrace}
 use Rattle.h1_model.specs.Laws.Exchanges.{exchanges}
+use Rattle.h1_client_model.specs.AnswerParse.{is_interim}
 use Rattle.h1_client_machine.specs.ClientEvent.{ClientEnd, broken_answer, failed_request, asked as was_asked, input_ended}
 use Rattle.h1_client_machine.specs.ClientKept.{ClientKept}
 use Rattle.h1_client_machine.specs.ClientStep.{is_ambiguous}
-use Rattle.h1_client_machine.specs.ClientTrace.{Happened, IsClientTrace, written as client_written}
+use Rattle.h1_client_machine.specs.ClientTrace.{Happened, IsClientTrace, asked_of, written as client_written}
 use Rattle.h1_agreement.specs.PlainExchange.{IsPlain}
-use Rattle.h1_agreement.specs.SentAnswer.{AreHeld, answers_sent}
+use Rattle.h1_agreement.specs.SentAnswer.{AreHeld, AreTo, answers_sent}
 use Rattle.h1_two_ends.specs.AskedTrace.{requests_asked, IsPlainAsked, AreServedOut}
 use Rattle.h1_client_laws.specs.ReadOut.{read_out}
 use Rattle.h1_two_ends.specs.ReadOut.{bytes_taken, AreReadOut}
@@ -42,10 +43,12 @@ pub record ArePlain (client server : Setting) (asked : List Happened) (served : 
   pub held : AreHeld (Some client.hold_size) (answers_sent server served)
 
 -- What the server handed out are the client's requests, and what the client handed out are the server's answers: the first of
--- them, in their order, each with its head and with its body as far as it came.
+-- them, in their order, each with its head and with its body as far as it came. Each answer was sent to the first of the client's
+-- requests that waits for one, so the client hands it out as that to its own request.
 pub record Agree (server : Setting) (asked : List Happened) (kept : ClientKept) (served : List Step) : Type 0 where
   pub no_stray_item : (handed_out served).stray ≡ []
   pub requests : AreServedOut (has_ended served) (reverse (handed_out served).messages) (reverse (requests_asked asked))
+  pub to : AreTo is_interim (map (λ w. w.method) (asked_of asked)) (answers_sent server served)
   pub no_stray_answer : (read_out asked).stray ≡ []
   pub answers : AreReadOut kept.has_ended (reverse (read_out asked).answers) (answers_sent server served)
 

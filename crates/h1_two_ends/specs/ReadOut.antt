@@ -45,3 +45,7 @@ pub record IsAllHanded (outs : List ReadAnswer) (ss : List SentAnswer) : Type 0 
   pub items : newest.items ≡ map item_bytes pieces
   pub all : joined pieces ≡ last.bytes
   pub part : last.is_whole ≡ false
+
+-- the last answer that was sent is still under way: its end wasn't sent
+abbrev pub IsPartSent : List SentAnswer → Type 0
+IsPartSent ss = (front : List SentAnswer) × (last : SentAnswer) × (ss ≡ front ++ last ∷ []) × (last.is_whole ≡ false)

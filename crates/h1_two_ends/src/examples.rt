@@ -5,10 +5,12 @@ ghost use Rattle.h1_model.specs.Request.{fixed_body};
 ghost use Rattle.h1_model.specs.Handed.{item_bytes, item_end};
 ghost use Rattle.h1_client_model.specs.AnswerReading.{answer_is};
 ghost use Rattle.h1_client_machine.specs.Examples.{ok};
+ghost use Rattle.h1_model.specs.Laws.ExampleTraces.{usual};
+ghost use Rattle.h1_two_ends.specs.Connected.{AreConnected, ArePlain};
 ghost use Rattle.h1_two_ends.specs.AskedTrace.{requests_asked, is_all_asked, carried_so_far};
 ghost use Rattle.h1_two_ends.specs.HandedBody.{IsHandedBody};
 ghost use Rattle.h1_client_laws.specs.ReadOut.{read_out};
-ghost use Rattle.h1_two_ends.specs.Samples.{begun_post, whole_post};
+ghost use Rattle.h1_two_ends.specs.Samples.{begun_post, whole_post, get_happened, get_served, kept_answered};
 
 /// A POST of three bytes: while one has come it is under way, and once all have, it is whole.
 pub fn a_request_is_asked()
@@ -36,4 +38,11 @@ pub fn bodies()
     ensures begun { IsHandedBody false true (codes "hi") (item_bytes (codes "h") ∷ []) }
     ensures no_second_end { ¬ (IsHandedBody false true [] (item_end ∷ item_end ∷ [])) }
     ensures no_early_end { ¬ (IsHandedBody false true (codes "hi") (item_end ∷ item_bytes (codes "hi") ∷ [])) }
+{}
+
+/// A whole exchange, from the event that asks a GET to the answer that the client hands out, is one of a client and a server that
+/// are driven against each other, and all in it is plain: so the laws speak of something.
+pub fn a_whole_exchange_is_plain()
+    ensures connected { AreConnected usual usual get_happened kept_answered get_served }
+    ensures plain { ArePlain usual usual get_happened get_served }
 {}

@@ -25,7 +25,7 @@ ghost use Rattle.h1_agreement.specs.SentAnswer.{SentAnswer, AreSent, AreHeld, se
 ghost use Rattle.h1_two_ends.specs.AskedTrace.{requests_asked, IsPlainAsked, AreServedOut};
 ghost use Rattle.h1_two_ends.specs.Connected.{AreConnected, ArePlain, Agree, AreClear, EndsAsAsked, IsFairEnd};
 ghost use Rattle.h1_client_laws.specs.ReadOut.{read_out};
-ghost use Rattle.h1_two_ends.specs.ReadOut.{bytes_taken, AreReadOut, IsAllHanded};
+ghost use Rattle.h1_two_ends.specs.ReadOut.{bytes_taken, AreReadOut, IsAllHanded, IsPartSent};
 
 /// A server that took the first bytes of what a client sends hands out the client's requests, the first of them, in their
 /// order: each head as it was sent, the bytes of its body as far as they came, and its end only behind all of them. Nothing
@@ -56,8 +56,9 @@ pub fn two_ends_agree()
 {}
 
 /// A client that took all that its server has to say, and is told that nothing has come yet, has handed out every answer; and
-/// where it is told so of a body, all bytes of that body which were sent so far, and its end wasn't sent. A server that took
-/// all that its client sends, and waits for more, has handed out every request.
+/// where it is told so of a body, all bytes of that body which were sent so far, and its end wasn't sent. A body is told to be
+/// incomplete only where its end wasn't sent. A server that took all that its client sends, and waits for more, has handed out
+/// every request.
 pub fn nothing_is_left()
     ensures client { (client server : Setting) (asked : List Happened) (kept next : ClientKept) (served : List Step)
         → AreConnected client server asked kept served → ArePlain client server asked served → bytes_taken asked ≡ text server served
@@ -67,6 +68,10 @@ pub fn nothing_is_left()
         → AreConnected client server asked kept served → ArePlain client server asked served → bytes_taken asked ≡ text server served
         → IsTrue (client_allows client kept on.pull) → IsClientStep client kept on.pull on.pending next
         → IsAllHanded (read_out asked).answers (answers_sent server served) }
+    ensures cut { (client server : Setting) (asked : List Happened) (kept next : ClientKept) (served : List Step) (fault : server_on.BodyFault)
+        → AreConnected client server asked kept served → ArePlain client server asked served → bytes_taken asked ≡ text server served
+        → IsTrue (client_allows client kept on.pull) → IsClientStep client kept on.pull (on.broken_by fault) next
+        → IsPartSent (answers_sent server served) }
     ensures server { (client server : Setting) (asked : List Happened) (kept : ClientKept) (served : List Step)
         → AreConnected client server asked kept served → ArePlain client server asked served → taken served ≡ text_of asked
         → IsOutcome server served server_on.next server_on.pending → length (handed_out served).messages ≡ length (requests_asked asked) }

@@ -5,13 +5,13 @@ use Rattle.h1_payload.specs.declared.item.PayloadItem.TheVariants as items
 use Rattle.h1_framed.proofs.PieceLemmas.{end_answered, trailers_answered}
 use Rattle.h1_framed.proofs.piece.next_piece.Goals as goal
 
-pub returns-in-Ok-Some-Trailers : goal.returns-in-Ok-Some-Trailers
-returns-in-Ok-Some-Trailers c =
+pub returns-in-Ok-Some-Trailers-clause-piece : goal.returns-in-Ok-Some-Trailers-clause-piece
+returns-in-Ok-Some-Trailers-clause-piece c =
     let is : c.decode.result ≡ Ok (Some (items.Trailers c.in-Ok-Some-Trailers.trailers)) = cc in
     trailers_answered c.args.body.now c.args.src.now.items c.decode.new.self c.decode.new.src.items c.in-Ok-Some-Trailers.trailers c.decode.result is
     c.decode.ensures.decoded c.decode.ensures.goes_on c.decode.ensures.some
 
-pub returns-in-Ok-Some-Eof : goal.returns-in-Ok-Some-Eof
-returns-in-Ok-Some-Eof c =
+pub returns-in-Ok-Some-Eof-clause-piece : goal.returns-in-Ok-Some-Eof-clause-piece
+returns-in-Ok-Some-Eof-clause-piece c =
     let is : c.decode.result ≡ Ok (Some items.Eof) = cc in
     end_answered c.args.body.now c.args.src.now.items c.decode.new.self c.decode.new.src.items c.decode.result is c.decode.ensures.decoded c.decode.ensures.goes_on

@@ -21,10 +21,10 @@ pub returns-in-Ok-Some-Chunk-clause-goes_on : goal.returns-in-Ok-Some-Chunk-clau
 returns-in-Ok-Some-Chunk-clause-goes_on c =
     let is : c.next_message.result ≡ Ok (Some (Chunk c.in-Ok-Some-Chunk.piece)) = cc in
     goes_on_at (codec_standing c.args.self.now) (record { search = c.next_message.new.heads; body = c.next_message.new.body }) c.args.src.now.items c.next_message.new.src.items
-    c.next_message.result (Some (Chunk c.in-Ok-Some-Chunk.piece)) is c.next_message.ensures.goes_on
+    c.next_message.result (Some (Chunk c.in-Ok-Some-Chunk.piece)) is c.next_message.ensures.next.goes_on
 
 pub returns-in-Ok-None-clause-goes_on : goal.returns-in-Ok-None-clause-goes_on
 returns-in-Ok-None-clause-goes_on c =
     let is : c.next_message.result ≡ Ok None = cc in
     goes_on_at (codec_standing c.args.self.now) (record { search = c.next_message.new.heads; body = c.next_message.new.body }) c.args.src.now.items c.next_message.new.src.items
-    c.next_message.result None is c.next_message.ensures.goes_on
+    c.next_message.result None is c.next_message.ensures.next.goes_on

@@ -1,0 +1,4 @@
+pub mod Acts
+pub mod Given
+pub mod Requests
+pub mod Answers
