@@ -1,5 +1,5 @@
 -- What was sent before, and a step that follows it.
-use Rattle.std.proofs.Common.{◌≡◌, ◌≤◌, ℕ, ◌↔◌, Bool, true, false, List, length, inl, inr, sym, ◌∙◌, subst, arith}
+use Rattle.std.proofs.Common.{◌≡◌, ◌<◌, ◌≤◌, ℕ, ◌+◌, ◌↔◌, Bool, true, false, List, length, inl, inr, sym, ◌∙◌, subst, arith}
 use Rattle.std.specs.Prelude.{Result, Ok, Err, OnOk, IsTrue}
 use Rattle.futures.specs.declared.task.Poll.{Poll}
 use Rattle.futures.specs.declared.task.Poll.TheVariants.{Ready, Pending}
@@ -11,12 +11,12 @@ use Rattle.http_wires.specs.Wiring.{Wiring}
 use Rattle.h1_framed.specs.declared.message.Message.{Message}
 use Rattle.h1_send.specs.View.{View}
 use Rattle.h1_send.specs.Sends.{Later, Sends}
-use Rattle.h1_send.specs.Turns.{moved, WireWaits, IsGiven, BodyWaits, WaitsFor, Moves, Rests, FailSays, TurnSays, SendSays, WaitSays, SpentSays}
+use Rattle.h1_send.specs.Turns.{MAX_TURNS, moved, WireWaits, IsGiven, BodyWaits, WaitsFor, GivenFew, SendsFew, Rests, FailSays, TurnSays, SendSays, WaitSays, SpentSays}
 use Rattle.h1_send.specs.declared.error.SendError.{SendError}
 use Rattle.h1_send.specs.declared.error.SendError.TheVariants.{Body, NoMemory, Wire, Codec}
 use Rattle.h1_send.specs.declared.turn.Turn.{Turn}
 use Rattle.h1_send.specs.declared.turn.Turn.TheVariants.{Goes, Waits, Over}
-use Rattle.h1_send.proofs.Whole.{sends-trans, sends_on, fault-trans}
+use Rattle.h1_send.proofs.Whole.{sends_on, fault-trans}
 
 pub on_ok : {A E P Q : Type 0} (r : Result A E) → (P → Q) → OnOk r P → OnOk r Q
 on_ok (Ok x) f p = f p
@@ -65,83 +65,110 @@ wakes old new gave before woken is (inr (some, was)) = inr (some, is)
 -- the answer of what asks for another poll
 pub asks_again : {U H E : Type 0} (writes : U → Message (H × BodySize) → List ℕ → U → Type 0) (v w : View U H) (woken : Bool)
     (result : Poll (Result Unit (SendError E))) → result ≡ Pending → woken ≡ true → (sends : Sends writes v w) → IsGiven v w sends.gave woken
-    → SpentSays writes v w woken result
-asks_again {E} writes v w woken result pending is sends given =
-    subst (λ (r : Poll (Result Unit (SendError E))). SpentSays writes v w woken r) (sym pending) (sends, is, given)
+    → GivenFew 0 v w sends.given → SpentSays writes v w woken result
+asks_again {E} writes v w woken result pending is sends given few =
+    subst (λ (r : Poll (Result Unit (SendError E))). SpentSays writes v w woken r) (sym pending) (sends, is, given, few)
+
+-- What was sent from u to v had at most k answers of the body, and what follows it may have n; together they are at most m.
+module _ {U H E : Type 0} (writes : U → Message (H × BodySize) → List ℕ → U → Type 0) (refuses : E → U → Message (H × BodySize) → Type 0)
+    (lacks : E → Type 0) (leaves : E → U → U → Type 0) (k n m : ℕ) (fits : k + n ≤ m) (u v w : View U H) (sends : Sends writes u v)
+    (few : GivenFew k u v sends.given) where
+  sends_behind : SendsFew writes n v w → SendsFew writes m u w
+  sends_behind (more, some) =
+      let all = sends_on writes u v w sends more in
+      (all.0, omega (arith, all.3, few, some, fits))
+
+  fault_behind : (number : ℕ) → FailSays writes refuses lacks leaves n v w (Body number) → FailSays writes refuses lacks leaves m u w (Body number)
+  fault_behind number (more, front, is, rose, some) =
+      let all = fault-trans writes number u v w sends more front is in
+      (all.0, all.1, all.2, rose_since u.body.faults v.body.faults w.body.faults sends.later.body_faults rose, omega (arith, all.3, few, some, fits))
+
+  -- an item is lost
+  lost_behind : 0 < n → (error : E) → FailSays writes refuses lacks leaves n v w (Codec error) → FailSays writes refuses lacks leaves m u w (Codec error)
+  lost_behind some error (inl lost) = inr (v, sends, omega (arith, few, fits, some), lost)
+  lost_behind some error (inr (mid, more, fewer, lost)) =
+      let all = sends_on writes u v mid sends more in
+      inr (mid, all.0, omega (arith, all.3, few, fewer, fits), lost)
+
+  pub fail_behind : 0 < n → (error : SendError E) → FailSays writes refuses lacks leaves n v w error → FailSays writes refuses lacks leaves m u w error
+  fail_behind some (Body number) says = fault_behind number says
+  fail_behind some NoMemory (more, takes) = (sends_behind more, sym sends.later.takes_memory ∙ takes)
+  fail_behind some Wire (more, rose) = (sends_behind more, rose_since u.wire.faults v.wire.faults w.wire.faults sends.later.wire_faults rose)
+  fail_behind some (Codec error) lost = lost_behind some error lost
+
+  pub rests_behind : (woken : Bool) → Rests writes n v w woken → Rests writes m u w woken
+  rests_behind woken (more, waits, some) =
+      let all = sends_on writes u v w sends more in (
+        all.0,
+        waits_behind u v w woken more.given all.0.given more.gave all.0.gave (omega (arith, all.2)) (omega (arith, all.1)) sends.later waits,
+        omega (arith, all.3, few, some, fits),
+      )
+
+  -- a turn that ended
+  pub over_behind : 0 < n → (woken : Bool) (result : Result Unit (SendError E)) → TurnSays writes refuses lacks leaves n v w woken (Over result)
+      → TurnSays writes refuses lacks leaves m u w woken (Over result)
+  over_behind some woken (Ok x) (more, done) = (sends_behind more, done)
+  over_behind some woken (Err error) says = fail_behind some error says
+
+-- the turns of a poll are its answer
+pub over_says : {U H E : Type 0} (writes : U → Message (H × BodySize) → List ℕ → U → Type 0) (refuses : E → U → Message (H × BodySize) → Type 0)
+    (lacks : E → Type 0) (leaves : E → U → U → Type 0) (u w : View U H) (woken : Bool) (result : Result Unit (SendError E))
+    → TurnSays writes refuses lacks leaves MAX_TURNS u w woken (Over result) → SendSays writes refuses lacks leaves u w woken (Ready result)
+over_says writes refuses lacks leaves u w woken (Ok x) says = says
+over_says writes refuses lacks leaves u w woken (Err error) says = says
 
 module _ {U H E : Type 0} (writes : U → Message (H × BodySize) → List ℕ → U → Type 0) (refuses : E → U → Message (H × BodySize) → Type 0)
     (lacks : E → Type 0) (leaves : E → U → U → Type 0) (u v w : View U H) (sends : Sends writes u v) where
-  fault_behind : (n : ℕ) → FailSays writes refuses lacks leaves v w (Body n) → FailSays writes refuses lacks leaves u w (Body n)
-  fault_behind n (more, front, is, rose) =
-      let all = fault-trans writes n u v w sends more front is in
-      (all.0, all.1, all.2, rose_since u.body.faults v.body.faults w.body.faults sends.later.body_faults rose)
-
-  pub fail_behind : (error : SendError E) → FailSays writes refuses lacks leaves v w error → FailSays writes refuses lacks leaves u w error
-  fail_behind (Body n) says = fault_behind n says
-  fail_behind NoMemory (more, takes) = (sends-trans writes u v w sends more, sym sends.later.takes_memory ∙ takes)
-  fail_behind Wire (more, rose) = (sends-trans writes u v w sends more, rose_since u.wire.faults v.wire.faults w.wire.faults sends.later.wire_faults rose)
-  fail_behind (Codec error) (inl lost) = inr (v, sends, lost)
-  fail_behind (Codec error) (inr (mid, more, lost)) = inr (mid, sends-trans writes u v mid sends more, lost)
-
-  rests_behind : (woken : Bool) → Rests writes v w woken → Rests writes u w woken
-  rests_behind woken (more, waits) =
-      let all = sends_on writes u v w sends more in
-      (all.0, waits_behind u v w woken more.given all.0.given more.gave all.0.gave (omega (arith, all.2)) (omega (arith, all.1)) sends.later waits)
-
-  moves_behind : Moves writes v w → Moves writes u w
-  moves_behind (more, some) =
-      let all = sends_on writes u v w sends more in
-      (all.0, omega (arith, all.1, some))
-
-  pub turn_behind : (woken : Bool) (turn : Turn E) → TurnSays writes refuses lacks leaves v w woken turn → TurnSays writes refuses lacks leaves u w woken turn
-  turn_behind woken Goes more = moves_behind more
-  turn_behind woken Waits rests = rests_behind woken rests
-  turn_behind woken (Over (Ok x)) (more, done) = (sends-trans writes u v w sends more, done)
-  turn_behind woken (Over (Err error)) says = fail_behind error says
-
-  pub send_behind : (woken : Bool) (result : Poll (Result Unit (SendError E))) → SendSays writes refuses lacks leaves v w woken result
+  -- after the head
+  pub send_behind : GivenFew 0 u v sends.given → (woken : Bool) (result : Poll (Result Unit (SendError E))) → SendSays writes refuses lacks leaves v w woken result
       → SendSays writes refuses lacks leaves u w woken result
-  send_behind woken Pending rests = rests_behind woken rests
-  send_behind woken (Ready (Ok x)) (more, done) = (sends-trans writes u v w sends more, done)
-  send_behind woken (Ready (Err error)) says = fail_behind error says
-
-  -- a turn that ended
-  pub over_behind : (woken : Bool) (result : Result Unit (SendError E)) → TurnSays writes refuses lacks leaves v w woken (Over result)
-      → SendSays writes refuses lacks leaves u w woken (Ready result)
-  over_behind woken (Ok x) (more, done) = (sends-trans writes u v w sends more, done)
-  over_behind woken (Err error) says = fail_behind error says
+  send_behind few woken Pending says = rests_behind writes refuses lacks leaves 0 MAX_TURNS MAX_TURNS (omega arith) u v w sends few woken says
+  send_behind few woken (Ready result) says =
+      over_says writes refuses lacks leaves u w woken result
+      (over_behind writes refuses lacks leaves 0 MAX_TURNS MAX_TURNS (omega arith) u v w sends few (omega arith) woken result (as_over result says))
+    where
+      as_over : (result : Result Unit (SendError E)) → SendSays writes refuses lacks leaves v w woken (Ready result)
+          → TurnSays writes refuses lacks leaves MAX_TURNS v w woken (Over result)
+      as_over (Ok x) says = says
+      as_over (Err error) says = says
 
   -- the body was pending, and then what was buffered was given to the wire
-  pub wait_behind : (woken : Bool) (turn : Turn E) → Rose u.body.waits v.body.waits → WaitSays writes v w woken turn
-      → TurnSays writes refuses lacks leaves u w woken turn
-  wait_behind woken Goes rose says = absurd says
-  wait_behind woken Waits rose (more, inl none) =
+  pub wait_behind : GivenFew 0 u v sends.given → (woken : Bool) (turn : Turn E) → Rose u.body.waits v.body.waits → WaitSays writes v w woken turn
+      → TurnSays writes refuses lacks leaves 1 u w woken turn
+  wait_behind few woken Goes rose says = absurd says
+  wait_behind few woken Waits rose (more, inl none, some) =
       let all = sends_on writes u v w sends more in
-      (all.0, inr (inl (rose_still u.body.waits v.body.waits w.body.waits rose more.later.body_waits, none)))
-  wait_behind woken Waits rose (more, inr wire) =
+      (all.0, inr (inl (rose_still u.body.waits v.body.waits w.body.waits rose more.later.body_waits, none)), omega (arith, all.3, few, some))
+  wait_behind few woken Waits rose (more, inr wire, some) =
       let all = sends_on writes u v w sends more in (
         all.0,
         inl (
           wire_behind u v w woken more.gave all.0.gave (omega (arith, all.2)) sends.later wire,
           inr (inr (rose_still u.body.waits v.body.waits w.body.waits rose more.later.body_waits)),
         ),
+        omega (arith, all.3, few, some),
       )
-  wait_behind woken (Over (Ok x)) rose says = absurd says
-  wait_behind woken (Over (Err Wire)) rose (more, faults) =
-      (sends-trans writes u v w sends more, rose_since u.wire.faults v.wire.faults w.wire.faults sends.later.wire_faults faults)
-  wait_behind woken (Over (Err (Body n))) rose says = absurd says
-  wait_behind woken (Over (Err NoMemory)) rose says = absurd says
-  wait_behind woken (Over (Err (Codec error))) rose says = absurd says
+  wait_behind few woken (Over (Ok x)) rose says = absurd says
+  wait_behind few woken (Over (Err Wire)) rose ((more, some), faults) =
+      let all = sends_on writes u v w sends more in
+      ((all.0, omega (arith, all.3, few, some)), rose_since u.wire.faults v.wire.faults w.wire.faults sends.later.wire_faults faults)
+  wait_behind few woken (Over (Err (Body number))) rose says = absurd says
+  wait_behind few woken (Over (Err NoMemory)) rose says = absurd says
+  wait_behind few woken (Over (Err (Codec error))) rose says = absurd says
 
   -- at least 64 chunks and bytes moved, and then what was buffered was given to the wire
-  pub spent_behind : (woken : Bool) (result : Poll (Result Unit (SendError E))) → 64 ≤ moved sends.given sends.gave u.is_ended v.is_ended
-      → SpentSays writes v w woken result → SendSays writes refuses lacks leaves u w woken result
-  spent_behind woken Pending some (more, is, wire) =
+  pub spent_behind : GivenFew MAX_TURNS u v sends.given → (woken : Bool) (result : Poll (Result Unit (SendError E)))
+      → 64 ≤ moved sends.given sends.gave u.is_ended v.is_ended → SpentSays writes v w woken result → SendSays writes refuses lacks leaves u w woken result
+  spent_behind few woken Pending most (more, is, wire, some) =
+      let all = sends_on writes u v w sends more in (
+        all.0,
+        inr (inr (omega (arith, most, all.1), is, given_behind u v w woken more.gave all.0.gave (omega (arith, all.2)) sends.later wire)),
+        omega (arith, all.3, few, some),
+      )
+  spent_behind few woken (Ready (Ok x)) most says = absurd says
+  spent_behind few woken (Ready (Err Wire)) most ((more, some), faults) =
       let all = sends_on writes u v w sends more in
-      (all.0, inr (inr (omega (arith, some, all.1), is, given_behind u v w woken more.gave all.0.gave (omega (arith, all.2)) sends.later wire)))
-  spent_behind woken (Ready (Ok x)) some says = absurd says
-  spent_behind woken (Ready (Err Wire)) some (more, faults) =
-      (sends-trans writes u v w sends more, rose_since u.wire.faults v.wire.faults w.wire.faults sends.later.wire_faults faults)
-  spent_behind woken (Ready (Err (Body n))) some says = absurd says
-  spent_behind woken (Ready (Err NoMemory)) some says = absurd says
-  spent_behind woken (Ready (Err (Codec error))) some says = absurd says
+      ((all.0, omega (arith, all.3, few, some)), rose_since u.wire.faults v.wire.faults w.wire.faults sends.later.wire_faults faults)
+  spent_behind few woken (Ready (Err (Body number))) most says = absurd says
+  spent_behind few woken (Ready (Err NoMemory)) most says = absurd says
+  spent_behind few woken (Ready (Err (Codec error))) most says = absurd says

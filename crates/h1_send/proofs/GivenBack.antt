@@ -7,8 +7,7 @@ use Rattle.http_framing.specs.declared.body.size.BodySize.{BodySize}
 use Rattle.http_wires.specs.Wiring.{Wiring}
 use Rattle.h1_framed.specs.declared.message.Message.{Message}
 use Rattle.h1_send.specs.View.{View, view_of}
-use Rattle.h1_send.specs.Sends.{Sends}
-use Rattle.h1_send.specs.Turns.{IsDone}
+use Rattle.h1_send.specs.Turns.{MAX_TURNS, IsDone, SendsFew}
 use Rattle.h1_send.specs.Messages.{IsWire, PollSays}
 use Rattle.h1_send.specs.declared.sending.Sending.{Sending}
 
@@ -26,7 +25,7 @@ module _ {T U H B E : Type 0} (wiring : T → Wiring) (gives : B → Giving) (wr
   }
 
   pub given_back : (old now : Option (Sending T U H B)) (s new sent : Sending T U H B) (woken : Bool) → old ≡ Some s → now ≡ None → sent ≡ new
-      → Sends writes (seen s) (seen new) × IsDone (seen new)
+      → SendsFew writes MAX_TURNS (seen s) (seen new) × IsDone (seen new)
       → PollSays writes refuses lacks leaves wiring (option_map seen old) (option_map seen now) woken (Ready (Ok sent.framed))
   given_back old now s new sent woken was gone is (sends, done) =
       subst (λ (o : Option (Sending T U H B)). PollSays writes refuses lacks leaves wiring (option_map seen o) (option_map seen now) woken (Ready (Ok sent.framed))) (sym was)

@@ -1,5 +1,5 @@
 -- What is sent in two steps is sent in one.
-use Rattle.std.proofs.Common.{◌≡◌, ℕ, ◌+◌, Bool, true, false, List, [], ◌∷◌, ◌++◌, ◌==◌, length, refl, sym, ap, ◌∙◌, subst, append_assoc, append-nil, length-append, arith}
+use Rattle.std.proofs.Common.{◌≡◌, ◌≤◌, ℕ, ◌+◌, Bool, true, false, List, [], ◌∷◌, ◌++◌, ◌==◌, length, refl, sym, ap, ◌∙◌, subst, inl, inr, append_assoc, append-nil, length-append, arith}
 use Rattle.std.proofs.Math.Dec.{eqb-suc-zero}
 use Rattle.std.specs.Prelude.{Option, Some, None}
 use Rattle.http_bodies.specs.Giving.{Given, chunk, fault}
@@ -10,7 +10,7 @@ use Rattle.http_wires.proofs.SendOn.{wrote-refl, wrote-trans}
 use Rattle.h1_framed.specs.declared.message.Message.{Message}
 use Rattle.h1_framed.specs.declared.message.Message.TheVariants.{Chunk}
 use Rattle.h1_send.specs.View.{View}
-use Rattle.h1_send.specs.Sends.{AreWritten, heads, pieces, ends, EndsSo, Later, Sends}
+use Rattle.h1_send.specs.Sends.{AreWritten, heads, pieces, ends, given_count, EndsSo, Later, FoundRoom, HasRoom, Sends}
 use Rattle.h1_send.specs.Turns.{moved}
 
 -- items that are written one after another
@@ -65,6 +65,11 @@ moved_sum : (x y z : Bool) (g h : List Given) (s t : List ℕ) (mid new : Option
     → moved (g ++ h) (s ++ t) x z ≡ moved g s x y + moved h t y z
 moved_sum x y z g h s t mid new a b = omega (arith, length-append g h, length-append s t, ends_sum x y z g h mid new a b)
 
+-- and how many answers the body gave
+count_sum : (x y z : Bool) (g h : List Given) (mid new : Option (List Given)) → EndsSo x y g mid → EndsSo y z h new
+    → given_count (g ++ h) x z ≡ given_count g x y + given_count h y z
+count_sum x y z g h mid new a b = omega (arith, length-append g h, ends_sum x y z g h mid new a b)
+
 told_on : (g : List Given) (mid new : Option (List Given)) → g ≡ [] → mid ≡ led_by g new → Tells mid [] → Tells new []
 told_on g mid None none leads tells = tt
 told_on g mid (Some known) none leads tells =
@@ -98,6 +103,12 @@ pub no_end : {A : Type 0} (x : Bool) → ends {A = A} x x ≡ []
 no_end true = refl
 no_end false = refl
 
+-- nor is one counted
+pub still_none : (x y : Bool) → y ≡ x → length (ends {A = Unit} x y) ≡ 0
+still_none false false is = refl
+still_none true y is = refl
+still_none false true is = cc is
+
 -- one item is written
 pub one_written : {U I : Type 0} (writes : U → I → List ℕ → U → Type 0) (a b : U) (item : I) (text : List ℕ) → writes a item text b
     → AreWritten writes a (item ∷ []) text b
@@ -106,6 +117,53 @@ one_written writes a b item text wrote = (text, [], b, sym (append-nil text), wr
 buffered_on : (before s t x y mid after : List ℕ) → before ++ s ≡ x ++ mid → mid ++ t ≡ y ++ after → before ++ (s ++ t) ≡ (x ++ y) ++ after
 buffered_on before s t x y mid after first then =
     sym (append_assoc before s t) ∙ ap (λ l. l ++ t) first ∙ append_assoc x mid t ∙ ap (λ l. x ++ l) then ∙ sym (append_assoc x y after)
+
+-- ---- room in the buffer
+
+module _ {U I : Type 0} (writes : U → I → List ℕ → U → Type 0) (a b c : U) (head first body all : List I) (s t middle gave unsent : List ℕ)
+    (wrote : AreWritten writes a (head ++ first) s b) (are : first ++ body ≡ all) where
+  items : (head ++ first) ++ body ≡ head ++ all
+  items = append_assoc head first body ∙ ap (λ l. head ++ l) are
+
+  -- the last item of the second step
+  found_then : FoundRoom writes b body t c unsent → FoundRoom writes a (head ++ all) (s ++ t) c unsent
+  found_then x = record {
+    front = (head ++ first) ++ x.front;
+    last = x.last;
+    are = sym items ∙ ap (λ l. (head ++ first) ++ l) x.are ∙ sym (append_assoc (head ++ first) x.front (x.last ∷ []));
+    before = s ++ x.before;
+    own = x.own;
+    mid = x.mid;
+    text_is = ap (λ l. s ++ l) x.text_is ∙ sym (append_assoc s x.before x.own);
+    front_written = written-append writes (head ++ first) x.front a b x.mid s x.before wrote x.front_written;
+    written = x.written;
+    room = x.room;
+  }
+
+  -- that of the first step, where the second wrote nothing, and the wire took some
+  found_before : body ≡ [] → t ≡ [] → c ≡ b → middle ++ t ≡ gave ++ unsent → FoundRoom writes a (head ++ first) s b middle
+      → FoundRoom writes a (head ++ all) (s ++ t) c unsent
+  found_before none no_text same taken x = record {
+    front = x.front;
+    last = x.last;
+    are = sym items ∙ ap (λ l. (head ++ first) ++ l) none ∙ append-nil (head ++ first) ∙ x.are;
+    before = x.before;
+    own = x.own;
+    mid = x.mid;
+    text_is = ap (λ l. s ++ l) no_text ∙ append-nil s ∙ x.text_is;
+    front_written = x.front_written;
+    written = subst (λ (u : U). writes x.mid x.last x.own u) (sym same) x.written;
+    room = omega (arith, x.room, ap length taken, length-append middle t, length-append gave unsent, ap length no_text);
+  }
+
+  pub room_join : AreWritten writes b body t c → middle ++ t ≡ gave ++ unsent → HasRoom writes a head first s b middle → HasRoom writes b [] body t c unsent
+      → HasRoom writes a head all (s ++ t) c unsent
+  room_join more taken x (inr y) = inr (found_then y)
+  room_join more taken x (inl none) = by_first x (subst (λ (l : List I). AreWritten writes b l t c) none more)
+    where
+      by_first : HasRoom writes a head first s b middle → AreWritten writes b [] t c → HasRoom writes a head all (s ++ t) c unsent
+      by_first (inl nothing) then = inl (sym are ∙ ap (λ l. l ++ body) nothing ∙ none)
+      by_first (inr x) then = inr (found_before none then.0 then.1 taken x)
 
 module _ {U H : Type 0} where
   pub later-refl : (v : View U H) → Later v v
@@ -144,6 +202,10 @@ module _ {U H : Type 0} (writes : U → Message (H × BodySize) → List ℕ →
         gave = a.gave ++ b.gave;
         written = subst (λ l. AreWritten writes u.codec l (a.text ++ b.text) w.codec) items all;
         buffered = buffered_on u.unsent a.text b.text a.gave b.gave v.unsent w.unsent a.buffered b.buffered;
+        room = room_join writes u.codec v.codec w.codec (heads u.head) (pieces a.given ++ ends u.is_ended v.is_ended) (pieces b.given ++ ends v.is_ended w.is_ended)
+            (pieces (a.given ++ b.given) ++ ends u.is_ended w.is_ended) a.text b.text v.unsent b.gave w.unsent a.written
+            (ends_join u.is_ended v.is_ended w.is_ended a.given b.given v.body.coming w.body.coming a.ended b.ended) more b.buffered a.room
+            (subst (λ (h : Option (H × BodySize)). HasRoom writes v.codec (heads h) (pieces b.given ++ ends v.is_ended w.is_ended) b.text w.codec w.unsent) a.begun b.room);
         sent = grown a.gave b.gave u.wire.sent v.wire.sent w.wire.sent a.sent b.sent;
         coming = a.coming ∙ ap (led_by a.given) b.coming ∙ led_by-more a.given b.given w.body.coming;
         begun = b.begun;
@@ -158,19 +220,26 @@ module _ {U H : Type 0} (writes : U → Message (H × BodySize) → List ℕ →
       → (sends : Sends writes u w)
       × (moved sends.given sends.gave u.is_ended w.is_ended ≡ moved a.given a.gave u.is_ended v.is_ended + moved b.given b.gave v.is_ended w.is_ended)
       × (length sends.gave ≡ length a.gave + length b.gave)
+      × (given_count sends.given u.is_ended w.is_ended ≡ given_count a.given u.is_ended v.is_ended + given_count b.given v.is_ended w.is_ended)
   unfolding sends-trans
   sends_on u v w a b = (
     sends-trans u v w a b,
     moved_sum u.is_ended v.is_ended w.is_ended a.given b.given a.gave b.gave v.body.coming w.body.coming a.ended b.ended,
     length-append a.gave b.gave,
+    count_sum u.is_ended v.is_ended w.is_ended a.given b.given v.body.coming w.body.coming a.ended b.ended,
   )
 
   -- and a fault of the body that came last is still the last
   pub fault-trans : (n : ℕ) (u v w : View U H) (a : Sends writes u v) (b : Sends writes v w) (front : List Given) → b.given ≡ front ++ (fault n ∷ [])
       → (sends : Sends writes u w) × (before : List Given) × (sends.given ≡ before ++ (fault n ∷ []))
+      × (given_count sends.given u.is_ended w.is_ended ≡ given_count a.given u.is_ended v.is_ended + given_count b.given v.is_ended w.is_ended)
   unfolding sends-trans
-  fault-trans n u v w a b front is =
-      (sends-trans u v w a b, a.given ++ front, ap (λ l. a.given ++ l) is ∙ sym (append_assoc a.given front (fault n ∷ [])))
+  fault-trans n u v w a b front is = (
+    sends-trans u v w a b,
+    a.given ++ front,
+    ap (λ l. a.given ++ l) is ∙ sym (append_assoc a.given front (fault n ∷ [])),
+    count_sum u.is_ended v.is_ended w.is_ended a.given b.given v.body.coming w.body.coming a.ended b.ended,
+  )
 
   pub sends-refl : (v : View U H) → v.head ≡ None → Sends writes v v
   sends-refl v begun = record {
@@ -180,6 +249,7 @@ module _ {U H : Type 0} (writes : U → Message (H × BodySize) → List ℕ →
     written = subst (λ (l : List (Message (H × BodySize))). AreWritten writes v.codec l [] v.codec)
         (sym (ap (λ (h : Option (H × BodySize)). heads h ++ ends v.is_ended v.is_ended) begun ∙ no_end v.is_ended)) (refl, refl);
     buffered = append-nil v.unsent;
+    room = inl (no_end v.is_ended);
     sent = grown-none v.wire.sent;
     coming = sym (led_by-none v.body.coming);
     begun = begun;
@@ -188,3 +258,8 @@ module _ {U H : Type 0} (writes : U → Message (H × BodySize) → List ℕ →
     others = wrote-refl v.wire;
     later = later-refl v;
   }
+
+  -- by no answer of the body
+  pub none_few : (v : View U H) → v.head ≡ None → (sends : Sends writes v v) × (given_count sends.given v.is_ended v.is_ended ≤ 0)
+  unfolding sends-refl
+  none_few v begun = (sends-refl v begun, omega (arith, still_none v.is_ended v.is_ended refl))

@@ -8,8 +8,7 @@ use Rattle.http_wires.specs.Parts.{Parts}
 use Rattle.http_wires.specs.Wiring.{Wiring}
 use Rattle.h1_framed.specs.declared.message.Message.{Message}
 use Rattle.h1_send.specs.View.{View, view_of}
-use Rattle.h1_send.specs.Sends.{Sends}
-use Rattle.h1_send.specs.Turns.{IsDone, FailSays, SendSays}
+use Rattle.h1_send.specs.Turns.{MAX_TURNS, IsDone, SendsFew, FailSays, SendSays}
 use Rattle.h1_send.specs.declared.error.SendError.{SendError}
 use Rattle.h1_send.specs.declared.message.SendMessage.{SendMessage}
 
@@ -49,7 +48,7 @@ pub record IsWire {T U H : Type 0} (wiring : T → Wiring) (v : View U H) (frame
 abbrev pub PollSays : {T U H E : Type 0} → (U → Message (H × BodySize) → List ℕ → U → Type 0) → (E → U → Message (H × BodySize) → Type 0) → (E → Type 0)
     → (E → U → U → Type 0) → (T → Wiring) → Option (View U H) → Option (View U H) → Bool → Poll (Result (Parts T U) (SendError E)) → Type 0
 PollSays writes refuses lacks leaves wiring (Some old) (Some new) woken Pending = SendSays writes refuses lacks leaves old new woken Pending
-PollSays writes refuses lacks leaves wiring (Some old) (Some new) woken (Ready (Err error)) = FailSays writes refuses lacks leaves old new error
+PollSays writes refuses lacks leaves wiring (Some old) (Some new) woken (Ready (Err error)) = FailSays writes refuses lacks leaves MAX_TURNS old new error
 PollSays {T} {U} {H} writes refuses lacks leaves wiring (Some old) None woken (Ready (Ok framed)) =
-    (new : View U H) × Sends writes old new × IsDone new × IsWire wiring new framed
+    (new : View U H) × SendsFew writes MAX_TURNS old new × IsDone new × IsWire wiring new framed
 PollSays writes refuses lacks leaves wiring old new woken result = ⊥

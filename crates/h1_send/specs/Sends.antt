@@ -1,5 +1,5 @@
 -- What is written and sent of a message.
-use Rattle.std.specs.Prelude.{◌≡◌, ◌≤◌, ◌⊎◌, ℕ, Bool, true, false, Option, Some, None, List, [], ◌∷◌, ◌++◌, ⊤}
+use Rattle.std.specs.Prelude.{◌≡◌, ◌<◌, ◌≤◌, ◌⊎◌, ℕ, ◌+◌, Bool, true, false, Option, Some, None, List, [], ◌∷◌, ◌++◌, length, ⊤}
 use Rattle.http_bodies.specs.Giving.{Given, chunk, fault}
 use Rattle.http_bodies.specs.Told.{Grows, Tells, led_by}
 use Rattle.http_wires.specs.Flushes.{OnlyWrote}
@@ -39,6 +39,28 @@ ends false true = Chunk None ∷ []
 ends false false = []
 ends true now = []
 
+-- how many answers the body gave: its chunks, with its fault, and its end, where it was written meanwhile
+abbrev pub given_count : List Given → Bool → Bool → ℕ
+given_count given before now = length given + length (ends {A = Unit} before now)
+
+-- The last of these items found fewer than 8192 bytes that wait to be sent: with its own text fewer than that many and
+-- its length wait.
+pub record FoundRoom {U I : Type 0} (writes : U → I → List ℕ → U → Type 0) (codec : U) (items : List I) (text : List ℕ) (after : U) (unsent : List ℕ) : Type 0 where
+  pub front : List I
+  pub last : I
+  pub are : items ≡ front ++ last ∷ []
+  pub before : List ℕ
+  pub own : List ℕ
+  pub mid : U
+  pub text_is : text ≡ before ++ own
+  pub front_written : AreWritten writes codec front before mid
+  pub written : writes mid last own after
+  pub room : length unsent < 8192 + length own
+
+-- nothing of the body was written, or its last item found room in the buffer
+abbrev pub HasRoom : {U I : Type 0} → (U → I → List ℕ → U → Type 0) → U → List I → List I → List ℕ → U → List ℕ → Type 0
+HasRoom writes codec head body text after unsent = (body ≡ []) ⊎ FoundRoom writes codec (head ++ body) text after unsent
+
 -- the end is written only where nothing is to come of the body, and after it the body gives nothing more
 abbrev pub EndsSo : Bool → Bool → List Given → Option (List Given) → Type 0
 EndsSo false false given coming = ⊤
@@ -56,13 +78,15 @@ pub record Later {U H : Type 0} (old new : View U H) : Type 0 where
   pub takes_memory : new.body.takes_memory ≡ old.body.takes_memory
 
 -- The head was written, if it wasn't yet, then each chunk that the body gave and that has bytes, and then the end, if it
--- was; of what was buffered and that text the wire took the front, and the rest is buffered.
+-- was; of what was buffered and that text the wire took the front, and the rest is buffered. Nothing of the body is asked for
+-- but where there is room in the buffer.
 pub record Sends {U H : Type 0} (writes : U → Message (H × BodySize) → List ℕ → U → Type 0) (old new : View U H) : Type 0 where
   pub given : List Given
   pub text : List ℕ
   pub gave : List ℕ
   pub written : AreWritten writes old.codec (heads old.head ++ (pieces given ++ ends old.is_ended new.is_ended)) text new.codec
   pub buffered : old.unsent ++ text ≡ gave ++ new.unsent
+  pub room : HasRoom writes old.codec (heads old.head) (pieces given ++ ends old.is_ended new.is_ended) text new.codec new.unsent
   pub sent : Grows old.wire.sent new.wire.sent gave
   pub coming : old.body.coming ≡ led_by given new.body.coming
   pub begun : new.head ≡ None
@@ -94,9 +118,10 @@ pub record IsUnwritten {U H E : Type 0} (refuses : E → U → Message (H × Bod
   pub unsent : new.unsent ≡ old.unsent
   pub unread : new.unread ≡ old.unread
 
--- the head isn't written; or some was sent, and then an item isn't written
+-- The head isn't written; or some was sent, and then an item isn't written. With that item the body gave at most so many
+-- answers.
 abbrev pub IsLost : {U H E : Type 0} → (U → Message (H × BodySize) → List ℕ → U → Type 0) → (E → U → Message (H × BodySize) → Type 0) → (E → Type 0)
-    → (E → U → U → Type 0) → E → View U H → View U H → Type 0
-IsLost {U} {H} writes refuses lacks leaves error old new =
+    → (E → U → U → Type 0) → ℕ → E → View U H → View U H → Type 0
+IsLost {U} {H} writes refuses lacks leaves most error old new =
     IsUnwritten refuses lacks leaves error old new
-    ⊎ ((mid : View U H) × Sends writes old mid × IsUnwritten refuses lacks leaves error mid new)
+    ⊎ ((mid : View U H) × (sends : Sends writes old mid) × (given_count sends.given old.is_ended mid.is_ended < most) × IsUnwritten refuses lacks leaves error mid new)

@@ -1,9 +1,9 @@
 //! What is left to send of a message.
-ghost use Rattle.std.specs.Prelude.{◌≡◌, None, IfErr, OnOk, false};
+ghost use Rattle.std.specs.Prelude.{◌≡◌, ◌<◌, None, IfErr, OnOk, false, length};
 ghost use Rattle.futures.specs.Task.{IsArmed, Keeps};
 ghost use Rattle.h1_send.specs.View.{view_of};
-ghost use Rattle.h1_send.specs.Sends.{Sends, IsLost};
-ghost use Rattle.h1_send.specs.Turns.{FedSays, OnWaits};
+ghost use Rattle.h1_send.specs.Sends.{IsLost};
+ghost use Rattle.h1_send.specs.Turns.{MAX_TURNS, SendsFew, FedSays, OnWaits};
 
 use crate::SendError;
 use bytes::Bytes;
@@ -46,8 +46,8 @@ where
 {
     /// Writes the head, where it isn't written yet.
     pub(crate) fn begin(&mut self) -> Result<(), U::Error>
-        ensures ok { OnOk result (Sends U.writes (view_of T.wiring B.gives self.old) (view_of T.wiring B.gives self.new)) }
-        ensures err { IfErr result (λ e. IsLost U.writes U.refuses U.lacks U.leaves e (view_of T.wiring B.gives self.old) (view_of T.wiring B.gives self.new)) }
+        ensures ok { OnOk result (SendsFew U.writes 0 (view_of T.wiring B.gives self.old) (view_of T.wiring B.gives self.new)) }
+        ensures err { IfErr result (λ e. IsLost U.writes U.refuses U.lacks U.leaves MAX_TURNS e (view_of T.wiring B.gives self.old) (view_of T.wiring B.gives self.new)) }
     {
         match self.head.take() {
             None => Ok(()),
@@ -59,6 +59,7 @@ where
     pub(crate) fn feed(&mut self, cx: &mut Context<'_>) -> Fed<U::Error>
         requires unended { self.old.is_ended ≡ false }
         requires begun { self.old.head ≡ None }
+        requires room { length self.old.framed.unsent < 8192 }
         ensures says { FedSays U.writes U.refuses U.lacks U.leaves (view_of T.wiring B.gives self.old) (view_of T.wiring B.gives self.new) result }
         ensures registered { OnWaits result (IsArmed cx.new) }
         ensures kept { Keeps cx.old cx.new }

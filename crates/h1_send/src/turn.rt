@@ -81,7 +81,7 @@ where
     /// the buffer is full, or the body is pending.
     fn turn(&mut self, cx: &mut Context<'_>) -> Turn<U::Error>
         requires begun { self.old.head ≡ None }
-        ensures says { TurnSays U.writes U.refuses U.lacks U.leaves (view_of T.wiring B.gives self.old) (view_of T.wiring B.gives self.new) cx.new.is_woken result }
+        ensures says { TurnSays U.writes U.refuses U.lacks U.leaves 1 (view_of T.wiring B.gives self.old) (view_of T.wiring B.gives self.new) cx.new.is_woken result }
         ensures registered { OnIdle result (IsArmed cx.new) }
         ensures kept { Keeps cx.old cx.new }
     {
@@ -102,7 +102,7 @@ where
     fn finish(&mut self, cx: &mut Context<'_>) -> Turn<U::Error>
         requires begun { self.old.head ≡ None }
         requires ended { self.old.is_ended ≡ true }
-        ensures says { TurnSays U.writes U.refuses U.lacks U.leaves (view_of T.wiring B.gives self.old) (view_of T.wiring B.gives self.new) cx.new.is_woken result }
+        ensures says { TurnSays U.writes U.refuses U.lacks U.leaves 1 (view_of T.wiring B.gives self.old) (view_of T.wiring B.gives self.new) cx.new.is_woken result }
         ensures registered { OnIdle result (IsArmed cx.new) }
         ensures kept { Keeps cx.old cx.new }
     {
@@ -117,7 +117,7 @@ where
     fn relieve(&mut self, cx: &mut Context<'_>) -> Turn<U::Error>
         requires begun { self.old.head ≡ None }
         requires full { 8192 ≤ length self.old.framed.unsent }
-        ensures says { TurnSays U.writes U.refuses U.lacks U.leaves (view_of T.wiring B.gives self.old) (view_of T.wiring B.gives self.new) cx.new.is_woken result }
+        ensures says { TurnSays U.writes U.refuses U.lacks U.leaves 1 (view_of T.wiring B.gives self.old) (view_of T.wiring B.gives self.new) cx.new.is_woken result }
         ensures registered { OnIdle result (IsArmed cx.new) }
         ensures kept { Keeps cx.old cx.new }
     {

@@ -30,7 +30,8 @@ use Rattle.h1_agreement.proofs.InterimStatuses.{not_interim}
 use Rattle.h1_agreement.proofs.Traces.{trace_words, trace_sent, trace_to}
 use Rattle.h1_two_ends.specs.AskedTrace.{requests_asked, IsPlainAsked, AreServedOut}
 use Rattle.h1_two_ends.specs.Connected.{AreConnected, ArePlain, Agree, IsFairEnd}
-use Rattle.h1_two_ends.specs.ReadOut.{bytes_taken, ReadAnswer, read_out, AreReadOut}
+use Rattle.h1_client_laws.specs.ReadOut.{ReadAnswer, read_out}
+use Rattle.h1_two_ends.specs.ReadOut.{bytes_taken, AreReadOut}
 use Rattle.h1_two_ends.proofs.AskedTexts.{asked_text_of}
 use Rattle.h1_two_ends.proofs.Completions.{completions, completions_length, texts_begin, plain_completions, served_so_far}
 use Rattle.h1_two_ends.proofs.Holds.{methods_of, AreSo}

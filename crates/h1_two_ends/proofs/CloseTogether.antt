@@ -25,7 +25,7 @@ use Rattle.h1_agreement.specs.PlainExchange.{IsFramedReply, IsPlain}
 use Rattle.h1_agreement.specs.SentAnswer.{SentAnswer, sent_answer, sent_by, interim_sent, sent_to, answers_sent}
 use Rattle.h1_two_ends.specs.AskedTrace.{requests_asked, IsPlainAsked}
 use Rattle.h1_two_ends.specs.Connected.{AreConnected, ArePlain, AreClear, EndsAsAsked}
-use Rattle.h1_two_ends.specs.ReadOut.{read_out}
+use Rattle.h1_client_laws.specs.ReadOut.{read_out}
 use Rattle.h1_two_ends.proofs.Agreement.{joined_ends}
 use Rattle.h1_two_ends.proofs.Holds.{IsFaulty, Holds}
 use Rattle.h1_two_ends.proofs.Methods.{agreed_methods}

@@ -15,7 +15,7 @@ use Rattle.h1_client_machine.specs.ClientKept.{Waiting, ClientKept, is_free_of, 
 use Rattle.h1_client_machine.specs.ClientStep.{ClientChange, behind_head, IsUpcoming, IsNext, IsClientStep, KnowsComing}
 use Rattle.h1_agreement.specs.SentAnswer.{SentAnswer, AreSent, AreHeld, sent_text, AreTo}
 use Rattle.h1_two_ends.specs.Connected.{IsFairEnd}
-use Rattle.h1_two_ends.specs.ReadOut.{ReadAnswer}
+use Rattle.h1_client_laws.specs.ReadOut.{ReadAnswer}
 use Rattle.h1_two_ends.proofs.Holds.{methods_of, faulty_some, AreSo, IsFree, IsBusy, IsIn, Holds}
 use Rattle.h1_two_ends.proofs.NextAnswers.{failed_closes, late, allowed_then}
 

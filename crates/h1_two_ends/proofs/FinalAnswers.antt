@@ -15,7 +15,7 @@ use Rattle.h1_client_machine.specs.ClientTrace.{Happened}
 use Rattle.h1_agreement.specs.PlainExchange.{IsFramedReply, IsPlain}
 use Rattle.h1_agreement.specs.SentAnswer.{SentAnswer, sent_answer, sent_by, interim_sent, sent_to}
 use Rattle.h1_agreement.proofs.InterimStatuses.{not_interim}
-use Rattle.h1_two_ends.specs.ReadOut.{ReadAnswer, ReadOut, with_item_of, with_item, reading_out, read_out}
+use Rattle.h1_client_laws.specs.ReadOut.{ReadAnswer, ReadOut, with_item_of, with_item, reading_out, read_out}
 use Rattle.h1_two_ends.proofs.Holds.{AreSo}
 use Rattle.h1_two_ends.proofs.KeptOn.{KeepsAfter, IsKeptOn}
 use Rattle.h1_two_ends.proofs.ClosesAfter.{final_in, finals}

@@ -15,7 +15,8 @@ use Rattle.h1_client_machine.specs.ClientKept.{Waiting, ReadingBody, ClientKept,
 use Rattle.h1_client_machine.specs.ClientStep.{is_broken, passed_body, passing, body_at_end}
 use Rattle.h1_agreement.specs.SentAnswer.{SentAnswer, AreSent, AreHeld, sent_text, AreTo}
 use Rattle.h1_two_ends.specs.HandedBody.{IsStop}
-use Rattle.h1_two_ends.specs.ReadOut.{ReadAnswer, IsReadOut}
+use Rattle.h1_client_laws.specs.ReadOut.{ReadAnswer}
+use Rattle.h1_two_ends.specs.ReadOut.{IsReadOut}
 use Rattle.h1_two_ends.proofs.Rests.{RestSays, Passes, all_passed, some_left, pass_goes_on, rest_stays}
 
 -- the methods of requests

@@ -24,7 +24,7 @@ use Rattle.h1_client_machine.proofs.Answered.{told_without}
 use Rattle.h1_agreement.specs.SentAnswer.{SentAnswer, IsSent, AreSent, AreHeld, IsBodySent, sent_text, AreTo}
 use Rattle.h1_agreement.proofs.HeadFronts.{head_late}
 use Rattle.h1_agreement.proofs.SentAnswers.{message, answer_at, no_head}
-use Rattle.h1_two_ends.specs.ReadOut.{ReadAnswer, ReadOut, reading_out}
+use Rattle.h1_client_laws.specs.ReadOut.{ReadAnswer, ReadOut, reading_out}
 use Rattle.h1_two_ends.proofs.Rests.{RestSays, nil_both, body_says, rest_stays}
 use Rattle.h1_two_ends.proofs.Holds.{faulty_some, methods_of, AreSo, IsFree, IsBusy, Holds, like_holds}
 use Rattle.h1_two_ends.proofs.Pulls.{HoldsFor}

@@ -23,7 +23,8 @@ use Rattle.h1_client_machine.specs.ClientTrace.{Happened}
 use Rattle.h1_agreement.specs.SentAnswer.{SentAnswer, AreSent, sent_text, answers_sent}
 use Rattle.h1_agreement.proofs.Traces.{trace_words}
 use Rattle.h1_two_ends.specs.Connected.{AreConnected, ArePlain}
-use Rattle.h1_two_ends.specs.ReadOut.{bytes_taken, ReadAnswer, read_out, IsPartSent}
+use Rattle.h1_client_laws.specs.ReadOut.{ReadAnswer, read_out}
+use Rattle.h1_two_ends.specs.ReadOut.{bytes_taken, IsPartSent}
 use Rattle.h1_two_ends.proofs.Agreement.{joined_ends}
 use Rattle.h1_two_ends.proofs.Holds.{AreSo, IsBusy, Holds, faulty_some}
 use Rattle.h1_two_ends.proofs.NextAnswers.{failed_closes, allowed_then, allowed_while}

@@ -26,7 +26,8 @@ use Rattle.h1_client_machine.specs.ClientTrace.{Happened}
 use Rattle.h1_agreement.specs.SentAnswer.{SentAnswer, AreSent, sent_text, answers_sent}
 use Rattle.h1_agreement.proofs.Traces.{trace_words}
 use Rattle.h1_two_ends.specs.Connected.{AreConnected, ArePlain}
-use Rattle.h1_two_ends.specs.ReadOut.{bytes_taken, ReadAnswer, read_out, IsAllHanded}
+use Rattle.h1_client_laws.specs.ReadOut.{ReadAnswer, read_out}
+use Rattle.h1_two_ends.specs.ReadOut.{bytes_taken, IsAllHanded}
 use Rattle.h1_two_ends.proofs.Agreement.{joined_ends}
 use Rattle.h1_two_ends.proofs.Ends.{so_length}
 use Rattle.h1_two_ends.proofs.Holds.{AreSo, IsGiving, IsBusy, Holds, faulty_some}

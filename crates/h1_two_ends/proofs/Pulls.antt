@@ -13,7 +13,7 @@ use Rattle.h1_client_machine.specs.ClientEvent.{ClientEnd, broken_answer}
 use Rattle.h1_client_machine.specs.ClientKept.{Waiting, ReadingBody, ClientKept, is_free_of}
 use Rattle.h1_client_machine.specs.ClientStep.{outcome_of, end_of, pulled_from}
 use Rattle.h1_agreement.specs.SentAnswer.{SentAnswer, sent_text}
-use Rattle.h1_two_ends.specs.ReadOut.{ReadAnswer, ReadOut, reading_out}
+use Rattle.h1_client_laws.specs.ReadOut.{ReadAnswer, ReadOut, reading_out}
 use Rattle.h1_two_ends.proofs.Rests.{RestSays, Gives, some_bytes, nothing_yet, its_end, cut_off, pull_gives}
 use Rattle.h1_two_ends.proofs.Holds.{faulty_some, IsGiving, IsBusyWith, IsBusy, Holds}
 

@@ -12,7 +12,8 @@ use Rattle.h1_client_machine.specs.ClientStep.{ClientChange, asking, sending_pie
 use Rattle.h1_client_machine.specs.ClientTrace.{Happened, IsClientTrace, asked_by, asked_of}
 use Rattle.h1_agreement.specs.SentAnswer.{SentAnswer, AreSent, AreHeld, sent_text, AreTo}
 use Rattle.h1_agreement.proofs.SentAnswers.{no_head}
-use Rattle.h1_two_ends.specs.ReadOut.{taken_by, bytes_taken, ReadOut, nothing_read, reading_out, read_out}
+use Rattle.h1_client_laws.specs.ReadOut.{ReadOut, nothing_read, reading_out, read_out}
+use Rattle.h1_two_ends.specs.ReadOut.{taken_by, bytes_taken}
 use Rattle.h1_two_ends.proofs.Holds.{methods_of, IsLike, like_holds, more_holds, passing_holds, end_holds, drop_holds}
 use Rattle.h1_two_ends.proofs.Pulls.{HoldsFor, pull_holds}
 use Rattle.h1_two_ends.proofs.NextAnswers.{failed_closes, allowed_then, allowed_while, next_holds}

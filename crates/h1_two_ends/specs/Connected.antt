@@ -17,7 +17,8 @@ use Rattle.h1_client_machine.specs.ClientTrace.{Happened, IsClientTrace, asked_o
 use Rattle.h1_agreement.specs.PlainExchange.{IsPlain}
 use Rattle.h1_agreement.specs.SentAnswer.{AreHeld, AreTo, answers_sent}
 use Rattle.h1_two_ends.specs.AskedTrace.{requests_asked, IsPlainAsked, AreServedOut}
-use Rattle.h1_two_ends.specs.ReadOut.{bytes_taken, read_out, AreReadOut}
+use Rattle.h1_client_laws.specs.ReadOut.{read_out}
+use Rattle.h1_two_ends.specs.ReadOut.{bytes_taken, AreReadOut}
 
 -- All that happened to both, each in its own order: they were driven against each other in any way in which each took a
 -- beginning of the bytes that the other had written, in any pieces. What the client keeps after it is kept.

@@ -1,12 +1,13 @@
 -- The bytes that a client has read, and what it handed out of them.
 use Rattle.std.specs.Prelude.{◌≡◌, ℕ, Bool, false, List, [], ◌∷◌, ◌++◌, length, map, take, ⊤}
-use Rattle.h1_model.specs.Handed.{Item, item_bytes, item_trailers, item_end, item_fault}
-use Rattle.h1_client_model.specs.AnswerReading.{AnswerReading, answer_is, refused}
+use Rattle.h1_model.specs.Handed.{item_bytes}
+use Rattle.h1_client_model.specs.AnswerReading.{answer_is}
 use Rattle.h1_client_model.specs.RequestText.{joined}
 use Rattle.h1_client_machine.specs.ClientEvent as on
 use Rattle.h1_client_machine.specs.ClientEvent.{ClientEvent, ClientOutcome}
 use Rattle.h1_client_machine.specs.ClientTrace.{Happened}
 use Rattle.h1_agreement.specs.SentAnswer.{SentAnswer}
+use Rattle.h1_client_laws.specs.ReadOut.{ReadAnswer}
 use Rattle.h1_two_ends.specs.HandedBody.{IsHandedBody}
 
 -- the bytes taken so far
@@ -17,48 +18,6 @@ taken_by _ _ = []
 unfoldable pub bytes_taken : List Happened → List ℕ
 bytes_taken [] = []
 bytes_taken (s ∷ before) = bytes_taken before ++ taken_by s.event s.outcome
-
--- ---- what is handed out
-
--- an answer's head, or what is wrong with it, and items of its body, in order
-pub record ReadAnswer : Type 0 where
-  pub reading : AnswerReading
-  pub items : List Item
-
--- all that was handed out: items with no answer in front of them, and the answers, the newest first
-pub record ReadOut : Type 0 where
-  pub stray : List Item
-  pub answers : List ReadAnswer
-
-abbrev pub nothing_read : ReadOut
-nothing_read = record { stray = []; answers = [] }
-
--- a further answer
-abbrev pub with_answer : AnswerReading → ReadOut → ReadOut
-with_answer reading out = record out { answers = record { reading = reading; items = [] } ∷ out.answers }
-
--- a further item, of the newest answer
-abbrev pub with_item_of : Item → List Item → List ReadAnswer → ReadOut
-with_item_of item stray [] = record { stray = stray ++ item ∷ []; answers = [] }
-with_item_of item stray (a ∷ outs) = record { stray = stray; answers = record a { items = a.items ++ item ∷ [] } ∷ outs }
-
-abbrev pub with_item : Item → ReadOut → ReadOut
-with_item item out = with_item_of item out.stray out.answers
-
--- what an outcome adds
-abbrev pub reading_out : ClientOutcome → ReadOut → ReadOut
-reading_out (on.answer a) out = with_answer (answer_is a) out
-reading_out (on.fault f) out = with_answer (refused f) out
-reading_out (on.bytes more) out = with_item (item_bytes more) out
-reading_out (on.trailers lines) out = with_item (item_trailers lines) out
-reading_out on.body_ended out = with_item item_end out
-reading_out (on.broken_by f) out = with_item (item_fault f) out
-reading_out _ out = out
-
--- what a client handed out
-unfoldable pub read_out : List Happened → ReadOut
-read_out [] = nothing_read
-read_out (s ∷ before) = reading_out s.outcome (read_out before)
 
 -- ---- against what was sent
 

@@ -9,7 +9,7 @@ ghost use Rattle.h1_model.specs.Laws.ExampleTraces.{usual};
 ghost use Rattle.h1_two_ends.specs.Connected.{AreConnected, ArePlain};
 ghost use Rattle.h1_two_ends.specs.AskedTrace.{requests_asked, is_all_asked, carried_so_far};
 ghost use Rattle.h1_two_ends.specs.HandedBody.{IsHandedBody};
-ghost use Rattle.h1_two_ends.specs.ReadOut.{read_out};
+ghost use Rattle.h1_client_laws.specs.ReadOut.{read_out};
 ghost use Rattle.h1_two_ends.specs.Samples.{begun_post, whole_post, get_happened, get_served, kept_answered};
 
 /// A POST of three bytes: while one has come it is under way, and once all have, it is whole.

@@ -24,7 +24,8 @@ ghost use Rattle.h1_agreement.specs.PlainExchange.{IsSelfFramed};
 ghost use Rattle.h1_agreement.specs.SentAnswer.{SentAnswer, AreSent, AreHeld, sent_text, AreTo, sent_answer, answers_sent};
 ghost use Rattle.h1_two_ends.specs.AskedTrace.{requests_asked, IsPlainAsked, AreServedOut};
 ghost use Rattle.h1_two_ends.specs.Connected.{AreConnected, ArePlain, Agree, AreClear, EndsAsAsked, IsFairEnd};
-ghost use Rattle.h1_two_ends.specs.ReadOut.{bytes_taken, read_out, AreReadOut, IsAllHanded, IsPartSent};
+ghost use Rattle.h1_client_laws.specs.ReadOut.{read_out};
+ghost use Rattle.h1_two_ends.specs.ReadOut.{bytes_taken, AreReadOut, IsAllHanded, IsPartSent};
 
 /// A server that took the first bytes of what a client sends hands out the client's requests, the first of them, in their
 /// order: each head as it was sent, the bytes of its body as far as they came, and its end only behind all of them. Nothing

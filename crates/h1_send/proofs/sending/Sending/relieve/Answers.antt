@@ -10,7 +10,7 @@ returns-then-is_write_buf_full-clause-says g c =
     let v = view_of g.T.Wire.wiring g.B.MessageBody.gives c.args.self.now in
     let w = view_of g.T.Wire.wiring g.B.MessageBody.gives (record c.args.self.now { framed = c.flush.new.self }) in
     let both = flush_waits g.U.Encoder.writes v w c.flush.new.cx.is_woken c.in-Pending.ensures.says c.requires.begun refl refl c.flush.ensures.codec c.flush.ensures.unread refl in
-    (both.0, inl (both.1, inr (inl (it_is c.if-is_write_buf_full.ensures))))
+    (both.0, inl (both.1, inr (inl (it_is c.if-is_write_buf_full.ensures))), omega (arith, both.2))
 
 pub returns-else-is_write_buf_full-clause-says : goal.returns-else-is_write_buf_full-clause-says
 returns-else-is_write_buf_full-clause-says g c =
@@ -30,5 +30,5 @@ pub returns-in-Ready-Err-clause-says : goal.returns-in-Ready-Err-clause-says
 returns-in-Ready-Err-clause-says g c =
     let v = view_of g.T.Wire.wiring g.B.MessageBody.gives c.args.self.now in
     let w = view_of g.T.Wire.wiring g.B.MessageBody.gives (record c.args.self.now { framed = c.flush.new.self }) in
-    flush_failed g.U.Encoder.writes v w c.flush.new.cx.is_woken c.in-Ready-Err.field-0-0 (rw c.in-Ready-Err.field-0-is at c.in-Ready-Err.ensures.says) c.requires.begun refl refl
+    flush_failed g.U.Encoder.writes v w c.flush.new.cx.is_woken 1 c.in-Ready-Err.field-0-0 (rw c.in-Ready-Err.field-0-is at c.in-Ready-Err.ensures.says) c.requires.begun refl refl
     c.flush.ensures.codec c.flush.ensures.unread refl

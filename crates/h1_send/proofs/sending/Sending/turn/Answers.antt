@@ -8,4 +8,4 @@ returns-in-Waits-clause-says g c =
     let u = view_of g.T.Wire.wiring g.B.MessageBody.gives c.feed.new.self in
     let w = view_of g.T.Wire.wiring g.B.MessageBody.gives c.wait.new.self in
     let fed = c.in-Waits.ensures.says in
-    wait_behind g.U.Encoder.writes g.U.Encoder.refuses g.U.Encoder.lacks g.U.Encoder.leaves v u w fed.0 c.wait.new.cx.is_woken c.wait.result fed.1 c.wait.ensures.says
+    wait_behind g.U.Encoder.writes g.U.Encoder.refuses g.U.Encoder.lacks g.U.Encoder.leaves v u w fed.0.0 fed.0.1 c.wait.new.cx.is_woken c.wait.result fed.1 c.wait.ensures.says

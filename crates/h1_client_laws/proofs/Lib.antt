@@ -1,0 +1,11 @@
+pub mod Told
+pub mod Bodies
+pub mod Chain
+pub mod Holds
+pub mod Pulls
+pub mod Passing
+pub mod NextAnswers
+pub mod Ended
+pub mod AllHappened
+pub mod Stays
+pub mod NothingLeft

@@ -1,0 +1,2 @@
+pub mod ReadOut
+pub mod Parsed
