@@ -1,7 +1,6 @@
 -- A client's codecs give what was answered.
-use Rattle.std.proofs.Common.{◌≡◌, ℕ, zero, suc, ◌+◌, ◌<◌, ◌≤◌, Bool, true, false, List, [], ◌∷◌, ◌++◌, length, map, refl, sym, ap, ap₂, ◌∙◌, subst, inl, arith, append-nil, append_assoc}
-use Rattle.std.specs.Prelude.{Option, Some, None, Result, Ok, Err, if◌then◌else◌}
-use Rattle.std.specs.List.{AllByRecursion}
+use Rattle.std.proofs.Common.{◌≡◌, ℕ, suc, ◌<◌, ◌≤◌, Bool, true, false, List, [], ◌∷◌, ◌++◌, length, map, refl, sym, ap, ◌∙◌, subst, inl, arith, append-nil, append_assoc}
+use Rattle.std.specs.Prelude.{Some, None, Ok, Err, if◌then◌else◌}
 use Rattle.std.proofs.lemmas.List.{length-map}
 use Rattle.httparse.specs.Grammar.{print_response, print_blank}
 use Rattle.h1_decode.specs.declared.response.ResponseItem.{ResponseItem}
@@ -9,17 +8,22 @@ use Rattle.h1_model.specs.HeadPiece.{IsHeadPiece, header_lines}
 use Rattle.h1_model.specs.Request.{BodyKind, no_body}
 use Rattle.h1_model.specs.RequestHead.{header_of}
 use Rattle.h1_model.proofs.LineFeeds.{feeds, feeds-response}
+use Rattle.h1_model.specs.Setting.{Setting}
+use Rattle.h1_model.specs.Sums.{Step}
+use Rattle.h1_model.specs.Text.{text}
+use Rattle.h1_agreement.specs.PlainExchange.{IsPlainTrace}
 use Rattle.h1_client_model.specs.AnswerTable.{body_to}
 use Rattle.h1_client_model.specs.AnswerReading.{IsTextOf}
-use Rattle.h1_agreement.specs.SentAnswer.{IsBodySent, SentAnswer, IsSent, AreSent, AreHeld, sent_text}
+use Rattle.h1_agreement.specs.SentAnswer.{IsBodySent, SentAnswer, IsSent, AreSent, AreHeld, sent_text, answers_sent}
 use Rattle.h1_agreement.proofs.HeadText.{response_is_piece}
-use Rattle.h1_messages.specs.Heads.{HasSeen, waits}
+use Rattle.h1_agreement.proofs.Traces.{trace_words, trace_sent}
+use Rattle.h1_messages.specs.Heads.{HasSeen}
 use Rattle.h1_messages.specs.Kinds.{answers}
 use Rattle.h1_messages.specs.OneReading.{one_answer}
-use Rattle.h1_framed.specs.Messages.{Part, no_part, Messages, nothing, Standing}
+use Rattle.h1_framed.specs.Messages.{Part, nothing, Standing}
 use Rattle.h1_framed.specs.declared.message.Message.TheVariants.{Item, Chunk}
-use Rattle.h1_codec_ends.specs.Acts.{Act, comes, asked, bytes_came, told, HaveNoFault, IsRun}
-use Rattle.h1_codec_ends.specs.Given.{kind_to, Sent, texts, IsHeadSent, IsBodyFramed, part_of, AreWhole, AreGiven}
+use Rattle.h1_codec_ends.specs.Acts.{Act, comes, asked, bytes_came, told, IsRun}
+use Rattle.h1_codec_ends.specs.Given.{kind_to, Sent, texts, IsHeadSent, IsBodyFramed, part_of, AreWhole}
 use Rattle.h1_codec_ends.specs.Requests.{IsFresh}
 use Rattle.h1_codec_ends.specs.Answers.{is_head, Turn, heads_given, AreTurns, all_came, AreToTurns, answer_of, IsRead, AreRead, AreAllWhole}
 use Rattle.h1_codec_ends.proofs.Runs.{between, Stands, AreGood, Gives, run_gives}
@@ -200,3 +204,12 @@ pub answers_given : (limit : ℕ) (standing : Standing) (turns : List Turn) (ss 
     → AreRead ss turns more
 answers_given limit standing turns ss more some fresh sent whole held to run text =
     turns_read limit some turns ss standing [] more sent whole held to fresh.body fresh.limit_is fresh.seen text run
+
+-- of all that a connection sent
+pub connection_given : (limit : ℕ) (standing : Standing) (setting : Setting) (trace : List Step) (turns : List Turn) (more : List ℕ) → 0 < limit
+    → IsFresh standing limit → IsPlainTrace setting trace → AreAllWhole (answers_sent setting trace) → AreHeld (Some limit) (answers_sent setting trace)
+    → AreToTurns (answers_sent setting trace) turns → AreTurns standing [] turns → all_came turns ++ more ≡ text setting trace
+    → AreRead (answers_sent setting trace) turns more
+connection_given limit standing setting trace turns more some fresh plain whole held to run came =
+    answers_given limit standing turns (answers_sent setting trace) more some fresh (trace_sent setting trace plain) whole held to run
+    (came ∙ trace_words setting trace plain)

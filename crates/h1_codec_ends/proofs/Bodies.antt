@@ -3,7 +3,7 @@ use Rattle.std.proofs.Common.{◌≡◌, ℕ, ◌<◌, Bool, true, false, List, 
 use Rattle.std.specs.Prelude.{Option, Some, None, Result, Ok, Err, nat_lt}
 use Rattle.std.proofs.lemmas.Bool.{cond_both}
 use Rattle.h1_chunks.specs.Place.{Place, in_size, in_blanks, in_extension, size_cr, in_bytes, bytes_end, bytes_cr, in_section, end_cr, done, broken, step}
-use Rattle.h1_chunks.specs.Reading.{Reading, Ending, goes_on, is_broken, ends_before, with_trailers, at_end, read}
+use Rattle.h1_chunks.specs.Reading.{Reading, ends_before, at_end, read}
 use Rattle.h1_chunks.specs.TakeNext.{Next, Taken, chunk, waits, ended, breaks, noted_line, stops_at, of_chunk, take_next, says}
 use Rattle.h1_chunks.proofs.TakenReads.{taken_is_read}
 use Rattle.h1_model.specs.Event.{Outcome}

@@ -1,5 +1,5 @@
 -- The clauses of the codecs in the words of the laws.
-use Rattle.std.proofs.Common.{◌≡◌, ℕ, Bool, false, List, ◌++◌, refl, sym, ap, ◌∙◌, subst}
+use Rattle.std.proofs.Common.{◌≡◌, ℕ, Bool, false, List, ◌++◌, sym, ap, subst}
 use Rattle.std.specs.Prelude.{Option, Some, None, Result, Ok, Err, IfOk, IfErr, OnOk, OnErr}
 use Rattle.http_framing.specs.declared.body.size.BodySize.{BodySize}
 use Rattle.http_types.specs.RequestHeadType.{shown_head}
@@ -20,7 +20,6 @@ use Rattle.h1_client_framed.specs.Answers.{IsHeadStep, IsChunkStep, ChunkLeft}
 use Rattle.h1_client_framed.specs.Pieces.{as_head, as_chunk}
 use Rattle.h1_client_framed.specs.State.{of_codec, of_payload, client_standing, client_is_head, HeadLooked, PayloadLooked}
 use Rattle.h1_client_framed.specs.Writing.{Writes}
-use Rattle.h1_client_framed.specs.declared.client.Client.{Client}
 use Rattle.h1_client_framed.specs.declared.codec.ClientCodec.{ClientCodec}
 use Rattle.h1_client_framed.specs.declared.payload.ClientPayloadCodec.{ClientPayloadCodec}
 use Rattle.h1_client_framed.specs.declared.error.ClientError.{ClientError}

@@ -1,9 +1,8 @@
 -- What is given of all messages, in the words of the laws.
-use Rattle.std.proofs.Common.{◌≡◌, ℕ, ◌<◌, Bool, List, [], ◌++◌, refl, sym, ap, ◌∙◌, subst, append-nil}
+use Rattle.std.proofs.Common.{ℕ, ◌<◌, Bool, List, sym, ◌∙◌, subst, append-nil}
 use Rattle.h1_messages.specs.Kind.{Kind, IsOneReading}
-use Rattle.h1_messages.specs.Heads.{Stop, waits}
-use Rattle.h1_framed.specs.Messages.{Part, no_part, Messages, nothing, Standing}
-use Rattle.h1_codec_ends.specs.Acts.{Act, told, EndsWaiting}
+use Rattle.h1_framed.specs.Messages.{nothing, Standing}
+use Rattle.h1_codec_ends.specs.Acts.{Act, told}
 use Rattle.h1_codec_ends.specs.Given.{Sent, AreWhole, AreGiven}
 use Rattle.h1_codec_ends.proofs.Runs.{between, Gives}
 

@@ -1,18 +1,18 @@
 -- What is answered while no body is open, where the next head is known.
-use Rattle.std.proofs.Common.{◌≡◌, ℕ, ◌<◌, ◌≤◌, Bool, true, false, List, [], ◌∷◌, ◌++◌, length, take, drop, slice_range, refl, sym, ap, ◌∙◌, subst, arith, inl, inr, length-append, append-nil, append_assoc}
+use Rattle.std.proofs.Common.{◌≡◌, ℕ, ◌<◌, List, [], ◌++◌, length, drop, slice_range, sym, ap, ◌∙◌, subst, arith, inl, inr, append-nil}
 use Rattle.std.proofs.Math.Seq.{take-append_seam}
 use Rattle.std.proofs.lemmas.List.{drop_at, drop-append-le}
 use Rattle.std.proofs.lemmas.Slice.{between_is}
-use Rattle.h1_model.specs.HeadPiece.{IsHeadPiece, HasNoHeadPiece}
+use Rattle.h1_model.specs.HeadPiece.{HasNoHeadPiece}
 use Rattle.h1_model.specs.Request.{Fault}
 use Rattle.h1_model.proofs.HeadPieceLemmas.{head_piece_unique, slice_range-append}
 use Rattle.h1_model.proofs.ExampleLemmas.{nothing_behind}
 use Rattle.h1_messages.specs.Kind.{Reading, says_head, says_fault, Kind, IsOneReading}
-use Rattle.h1_messages.specs.Heads.{IsItemOf, IsNext, IsNextItem, IsWaiting, IsTooLong, payload_of, refused, Stops}
+use Rattle.h1_messages.specs.Heads.{IsNext, IsNextItem, payload_of, refused, Stops}
 use Rattle.h1_messages.specs.declared.payload_type.PayloadType.{PayloadType}
 use Rattle.h1_messages.proofs.GoingOn.{next_append}
 use Rattle.h1_messages.proofs.Refusals.{none_too_long, stops_append}
-use Rattle.h1_codec_ends.specs.Given.{Sent, texts, IsHeadSent}
+use Rattle.h1_codec_ends.specs.Given.{Sent, IsHeadSent}
 
 -- no head stands in no bytes
 pub no_head_in_none : (bytes : List ℕ) → bytes ≡ [] → HasNoHeadPiece bytes

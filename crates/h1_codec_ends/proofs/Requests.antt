@@ -9,14 +9,13 @@ use Rattle.h1_model.specs.RequestHead.{header_of}
 use Rattle.h1_model.proofs.LineFeeds.{feeds, feeds-head}
 use Rattle.h1_agreement.specs.SentRequest.{SentRequest, IsAsked, asked_text}
 use Rattle.h1_agreement.proofs.HeadText.{request_is_piece}
-use Rattle.h1_messages.specs.Heads.{HasSeen}
 use Rattle.h1_messages.specs.Kinds.{requests}
 use Rattle.h1_messages.specs.OneReading.{one_request}
 use Rattle.h1_framed.specs.Messages.{Standing}
 use Rattle.h1_codec_ends.specs.Acts.{Act, bytes_came, IsRun}
-use Rattle.h1_codec_ends.specs.Given.{Sent, texts, IsHeadSent, IsBodyFramed, AreBegun, AreWhole, AreGiven}
+use Rattle.h1_codec_ends.specs.Given.{texts, IsHeadSent, AreGiven}
 use Rattle.h1_codec_ends.specs.Requests.{IsFresh, sent_of}
-use Rattle.h1_codec_ends.proofs.Runs.{between, Stands, AreGood, heads_given, run_gives}
+use Rattle.h1_codec_ends.proofs.Runs.{between, AreGood, heads_given, run_gives}
 use Rattle.h1_codec_ends.proofs.Ends.{given_all}
 
 module _ (limit : ℕ) (s : SentRequest) (sent : IsAsked limit s) where

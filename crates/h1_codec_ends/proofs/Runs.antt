@@ -1,25 +1,20 @@
 -- What a codec gives of messages that were sent one after another.
-use Rattle.std.proofs.Common.{◌≡◌, ◌⊎◌, inl, inr, ℕ, ◌+◌, ◌<◌, ◌≤◌, zero, suc, Bool, true, false, List, [], ◌∷◌, ◌++◌, length, refl, sym, ap, ap₂, ◌∙◌, subst, arith, append-nil, append_assoc}
+use Rattle.std.proofs.Common.{◌≡◌, ◌⊎◌, inl, inr, ℕ, ◌<◌, ◌≤◌, zero, suc, Bool, true, false, List, [], ◌∷◌, ◌++◌, length, refl, sym, ap, ◌∙◌, subst, arith, append-nil, append_assoc}
 use Rattle.std.proofs.lemmas.Bool.{false≢true}
 use Rattle.std.specs.Prelude.{⊤, Option, Some, None, Result, Ok, Err, IfErr}
 use Rattle.http_types.specs.declared.error.ParseError.{ParseError}
 use Rattle.http_types.specs.declared.error.ParseError.TheVariants.{NoMemory}
-use Rattle.h1_model.specs.Handed.{Begins}
 use Rattle.h1_model.specs.Request.{BodyKind, no_body, fixed_body, chunked_body, raw_body, has_body}
-use Rattle.h1_machine.specs.Kept.{Rest, whole_rest}
+use Rattle.h1_machine.specs.Kept.{whole_rest}
 use Rattle.h1_agreement.specs.SentAnswer.{IsBodySent}
-use Rattle.h1_payload.specs.Decoding.{Decoding, IsDecoded}
+use Rattle.h1_payload.specs.Decoding.{Decoding}
 use Rattle.h1_payload.specs.declared.item.DecodeError.{DecodeError}
-use Rattle.h1_payload.specs.declared.item.DecodeError.TheVariants as decode_errors
 use Rattle.h1_payload.specs.declared.item.PayloadItem.{PayloadItem}
-use Rattle.h1_payload.specs.declared.item.PayloadItem.TheVariants as items
 use Rattle.h1_messages.specs.Kind.{Kind, IsOneReading}
 use Rattle.h1_messages.specs.Heads.{Search, HasSeen, payload_of, IsNextItem, IsWaiting, waits, refused, Stops}
-use Rattle.h1_messages.specs.declared.payload_type.PayloadType.{PayloadType}
-use Rattle.h1_messages.specs.declared.payload_type.PayloadType.TheVariants as payload
 use Rattle.h1_decode.specs.Refusal.{fault_of}
-use Rattle.h1_framed.specs.Answers.{IsHead, LeftAfter, StaysAfter}
-use Rattle.h1_framed.specs.Messages.{Closing, no_end, an_end, chunk_in_front, end_in_front, Part, no_part, Messages, given, nothing, body_of, Standing, HasLooked, Looked}
+use Rattle.h1_framed.specs.Answers.{StaysAfter}
+use Rattle.h1_framed.specs.Messages.{Closing, an_end, chunk_in_front, end_in_front, Part, no_part, Messages, given, nothing, body_of, Standing, HasLooked, Looked}
 use Rattle.h1_framed.specs.Steps.{message_of, open_after, IsOpenStep, IsIdleStep, IsStepFrom, IsStep}
 use Rattle.h1_framed.specs.declared.message.Message.{Message}
 use Rattle.h1_framed.specs.declared.message.Message.TheVariants.{Item, Chunk}

@@ -1,13 +1,13 @@
 -- What a client's codec writes is the text of the request.
-use Rattle.std.proofs.Common.{◌≡◌, ℕ, ◌<◌, ◌==◌, Bool, true, false, List, [], ◌∷◌, ◌++◌, take, map, refl, sym, ap, ap₂, ◌∙◌, subst, append_assoc}
+use Rattle.std.proofs.Common.{◌≡◌, ℕ, ◌<◌, ◌==◌, false, List, [], ◌∷◌, ◌++◌, take, map, refl, ap, ap₂, ◌∙◌, append_assoc}
 use Rattle.std.specs.List.{AllByRecursion}
 use Rattle.std.proofs.lemmas.Bool.{cond_both}
 use Rattle.h1_decode.specs.declared.decoder.HeadItem.{HeadItem}
 use Rattle.h1_model.specs.Answer.{BodySize, size_none, size_of, size_stream, Shape, shape_none, shape_length, shape_chunked, shape_raw, is_raw}
-use Rattle.h1_client_model.specs.RequestText.{RequestGiven, IsPlainGiven, asked_shape, body_sent, given_request_text}
-use Rattle.h1_agreement.specs.SentRequest.{SentRequest, sent_request, asked_text}
+use Rattle.h1_client_model.specs.RequestText.{IsPlainGiven, asked_shape, body_sent}
+use Rattle.h1_agreement.specs.SentRequest.{sent_request, asked_text}
 use Rattle.h1_agreement.proofs.GivenRequests.{each_asked}
-use Rattle.h1_codec.specs.Encoding.{Encoding, first_encoding, behind, encoded, encoded_all}
+use Rattle.h1_codec.specs.Encoding.{Encoding, first_encoding, behind, encoded_all}
 use Rattle.h1_codec.specs.Pieces.{joined}
 use Rattle.h1_codec.proofs.BodyText.{chunks_all, length_all}
 use Rattle.h1_messages.specs.Kinds.{requests}
@@ -17,7 +17,7 @@ use Rattle.h1_client_framed.specs.declared.client.Client.{Client}
 use Rattle.h1_client_framed.specs.declared.codec.ClientCodec.{ClientCodec}
 use Rattle.h1_codec_ends.specs.Acts.{Act, bytes_came, IsRun}
 use Rattle.h1_codec_ends.specs.Given.{AreGiven}
-use Rattle.h1_codec_ends.specs.Requests.{IsFresh, sent_of, ArePiecesWritten, AreFilled, PutRequest, IsPut, given_by, WrittenRequest, IsWritten, given_of, text_of}
+use Rattle.h1_codec_ends.specs.Requests.{IsFresh, sent_of, ArePiecesWritten, AreFilled, WrittenRequest, IsWritten, given_of, text_of}
 use Rattle.h1_codec_ends.proofs.Requests.{requests_given}
 
 -- the pieces, and the end

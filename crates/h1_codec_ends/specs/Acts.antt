@@ -1,5 +1,5 @@
 -- What is done at an end that reads with a codec: bytes come, and the next item is asked for.
-use Rattle.std.specs.Prelude.{◌≡◌, ⊤, ℕ, Bool, List, [], ◌∷◌, ◌++◌, Option, Some, None, Result, Ok, Err, IfOk, IfErr, OnOk}
+use Rattle.std.specs.Prelude.{◌≡◌, ⊤, ℕ, Bool, List, [], ◌∷◌, ◌++◌, Option, Some, None, Result, Ok, IfOk, IfErr, OnOk}
 use Rattle.http_types.specs.declared.error.ParseError.{ParseError}
 use Rattle.http_types.specs.declared.error.ParseError.TheVariants.{NoMemory}
 use Rattle.h1_messages.specs.Kind.{Kind}

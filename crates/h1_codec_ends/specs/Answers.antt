@@ -1,5 +1,5 @@
 -- Answers that a server sent, and what a client's codecs give of them.
-use Rattle.std.specs.Prelude.{◌≡◌, ⊤, ℕ, suc, ◌≤◌, Bool, true, false, List, [], ◌∷◌, ◌++◌, length, map, codes, bytes_eq, Option, Some, None, Result, Ok, Err}
+use Rattle.std.specs.Prelude.{◌≡◌, ⊤, ℕ, suc, ◌≤◌, Bool, true, List, [], ◌∷◌, ◌++◌, map, codes, bytes_eq, Option, Some, None, Result, Ok, Err}
 use Rattle.std.specs.List.{AllByRecursion}
 use Rattle.http_types.specs.declared.error.ParseError.{ParseError}
 use Rattle.h1_agreement.specs.SentAnswer.{SentAnswer}
@@ -9,11 +9,11 @@ use Rattle.h1_messages.specs.Heads.{waits}
 use Rattle.h1_messages.specs.Kinds.{answers}
 use Rattle.h1_framed.specs.Messages.{no_part, Standing}
 use Rattle.h1_framed.specs.declared.message.Message.{Message}
-use Rattle.h1_framed.specs.declared.message.Message.TheVariants.{Item, Chunk}
+use Rattle.h1_framed.specs.declared.message.Message.TheVariants.{Item}
 use Rattle.h1_client_framed.specs.Pieces.{as_head, as_chunk}
 use Rattle.h1_client_framed.specs.declared.error.ClientError.{ClientError}
 use Rattle.h1_client_framed.specs.declared.error.ClientError.TheVariants.{Parse, Misplaced}
-use Rattle.h1_codec_ends.specs.Acts.{Act, comes, asked, bytes_came, all_told, HaveNoFault, IsRun}
+use Rattle.h1_codec_ends.specs.Acts.{Act, asked, bytes_came, all_told, HaveNoFault, IsRun}
 use Rattle.h1_codec_ends.specs.Given.{Sent, part_of, AreGiven}
 
 -- ---- what the codecs answer, as items of messages

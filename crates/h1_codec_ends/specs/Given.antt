@@ -6,7 +6,7 @@ use Rattle.h1_model.specs.Handed.{Begins}
 use Rattle.h1_agreement.specs.SentAnswer.{IsBodySent}
 use Rattle.h1_messages.specs.Kind.{Kind, says_head}
 use Rattle.h1_messages.specs.Heads.{waits}
-use Rattle.h1_framed.specs.Messages.{Closing, no_end, an_end, Part, no_part, Messages}
+use Rattle.h1_framed.specs.Messages.{no_end, an_end, Part, no_part}
 use Rattle.h1_codec_ends.specs.Acts.{Act, all_told, HaveNoFault, EndsWaiting}
 
 -- the body that follows a head of this kind: none, where none follows whatever the head says

@@ -1,11 +1,11 @@
 -- Requests that a client's codec writes, and a server's codec gives.
-use Rattle.std.specs.Prelude.{◌≡◌, ◌<◌, ℕ, Bool, true, false, List, [], ◌∷◌, ◌++◌, length, flat_map, map, Option, Some, None}
+use Rattle.std.specs.Prelude.{◌≡◌, ◌<◌, ℕ, List, [], ◌∷◌, ◌++◌, length, flat_map, Some, None}
 use Rattle.std.specs.List.{AllByRecursion}
 use Rattle.http_framing.specs.declared.body.size.BodySize.{BodySize}
 use Rattle.http_types.specs.RequestHeadType.{shown_head}
 use Rattle.http_types.specs.declared.requests.head_type.RequestHeadType.{RequestHeadType}
 use Rattle.h1_client_model.specs.RequestText.{RequestGiven}
-use Rattle.h1_agreement.specs.SentRequest.{SentRequest, sent_request}
+use Rattle.h1_agreement.specs.SentRequest.{SentRequest}
 use Rattle.h1_codec.specs.Meaning.{size_of, model_type}
 use Rattle.h1_messages.specs.Heads.{HasSeen}
 use Rattle.h1_messages.specs.Kinds.{requests}

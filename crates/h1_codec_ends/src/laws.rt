@@ -4,7 +4,11 @@ ghost use Rattle.std.specs.Prelude.{◌≡◌, ℕ, ◌<◌, false, List, [], �
 ghost use Rattle.std.specs.List.{AllByRecursion};
 ghost use Rattle.h1_decode.specs.declared.decoder.HeadItem.{HeadItem};
 ghost use Rattle.h1_client_model.specs.RequestText.{IsPlainGiven};
-ghost use Rattle.h1_agreement.specs.SentAnswer.{SentAnswer, AreSent, AreHeld, sent_text};
+ghost use Rattle.h1_model.specs.Setting.{Setting};
+ghost use Rattle.h1_model.specs.Sums.{Step};
+ghost use Rattle.h1_model.specs.Text.{text};
+ghost use Rattle.h1_agreement.specs.PlainExchange.{IsPlainTrace};
+ghost use Rattle.h1_agreement.specs.SentAnswer.{SentAnswer, AreSent, AreHeld, sent_text, answers_sent};
 ghost use Rattle.h1_agreement.specs.SentRequest.{SentRequest, IsAsked, sent_request, asked_text};
 ghost use Rattle.h1_messages.specs.Kinds.{requests};
 ghost use Rattle.h1_framed.specs.Messages.{Standing};
@@ -61,6 +65,15 @@ pub fn client_codecs_give_what_was_answered()
     ensures { (codec : ClientCodec) (limit : ℕ) (sent : List SentAnswer) (turns : List Turn) (more : List ℕ) → 0 < limit
         → IsFresh (client_standing (of_codec codec)) limit → AreSent sent → AreAllWhole sent → AreHeld (Some limit) sent → AreToTurns sent turns
         → AreTurns (client_standing (of_codec codec)) [] turns → all_came turns ++ more ≡ sent_text sent → AreRead sent turns more }
+{}
+
+/// So do they with the text of a connection whose exchanges are plain, and whose answers are whole.
+pub fn client_codecs_give_what_a_connection_sent()
+    ensures { (codec : ClientCodec) (limit : ℕ) (setting : Setting) (trace : List Step) (turns : List Turn) (more : List ℕ) → 0 < limit
+        → IsFresh (client_standing (of_codec codec)) limit → IsPlainTrace setting trace → AreAllWhole (answers_sent setting trace)
+        → AreHeld (Some limit) (answers_sent setting trace) → AreToTurns (answers_sent setting trace) turns
+        → AreTurns (client_standing (of_codec codec)) [] turns → all_came turns ++ more ≡ text setting trace
+        → AreRead (answers_sent setting trace) turns more }
 {}
 
 /// What the contract of `Codec::decode` says of an answer is what the laws ask of one.

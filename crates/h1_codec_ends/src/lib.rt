@@ -26,7 +26,8 @@
 //! where they end be sent, each to the request of its turn, and let their bytes come in any pieces, also before their turn. Then
 //! ([`laws::client_codecs_give_what_was_answered`]) each turn gives its own answer as it was sent: the head, all bytes of its body
 //! and its end, or no body after HEAD and where the status has none. The newest turn gives as much of its answer as came; no error
-//! is answered but that memory ran out; and where all bytes came and there is no further item, the answer is given whole.
+//! is answered but that memory ran out; and where all bytes came and there is no further item, the answer is given whole. Such are
+//! the answers of a connection whose exchanges are plain ([`laws::client_codecs_give_what_a_connection_sent`]).
 //!
 //! # Not promised
 //!

@@ -2,11 +2,11 @@
 use Rattle.std.proofs.Common.{◌≡◌, ℕ, ◌<◌, ◌≤◌, ◌^◌, Bool, true, List, [], ◌∷◌, ◌++◌, length, drop, map, refl, sym, ap, ◌∙◌, subst, arith, append-nil}
 use Rattle.std.proofs.lemmas.List.{drop_at, drop-append-le}
 use Rattle.h1_model.specs.Frame.{Frame, ProtocolError}
-use Rattle.h1_model.specs.FrameText.{Reader, Front, partial, whole, breaks, front_frame, is_under_way}
+use Rattle.h1_model.specs.FrameText.{Reader, partial, whole, breaks, front_frame, is_under_way}
 use Rattle.h1_model.specs.Laws.WrittenFrame.{KeepsRules}
 use Rattle.h1_model.proofs.FrameLemmas.{whole_stays, whole_fits, breaks_stays}
 use Rattle.h1_agreement.specs.MaskedText.{masked_text, MaskedFrame, HaveMasks, masked_texts}
-use Rattle.h1_agreement.specs.LegalMessages.{IsLegal, AreLegal}
+use Rattle.h1_agreement.specs.LegalMessages.{AreLegal}
 use Rattle.h1_agreement.proofs.FrameMasked.{masked_back}
 
 -- the frames without their masks

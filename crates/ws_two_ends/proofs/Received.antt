@@ -1,5 +1,5 @@
 -- What a server gives of what its client wrote.
-use Rattle.std.proofs.Common.{◌≡◌, ℕ, ◌<◌, ◌^◌, Bool, true, false, List, [], ◌++◌, refl, sym, ap, ◌∙◌, subst, arith}
+use Rattle.std.proofs.Common.{◌≡◌, ℕ, ◌<◌, ◌^◌, Bool, true, false, List, [], ◌++◌, refl, sym, ◌∙◌, subst, arith}
 use Rattle.rand_core.specs.Stream.{Stream}
 use Rattle.h1_model.specs.Frame as model
 use Rattle.h1_agreement.specs.LegalMessages.{AreLegal}
@@ -12,7 +12,7 @@ use Rattle.ws_session.specs.Session.{SessionParts}
 use Rattle.ws_two_ends.specs.Sent.{frames_sent, AreWritten}
 use Rattle.ws_two_ends.specs.Received.{Act, bytes_came, IsDecoding, IsReading, AreReceived}
 use Rattle.ws_two_ends.proofs.Runs.{Runs, decoding_runs, reading_runs, all_received}
-use Rattle.ws_two_ends.proofs.Texts.{AreMasked, written_masked}
+use Rattle.ws_two_ends.proofs.Texts.{written_masked}
 
 module _ {R : Type 0} (stream : R → Stream) (client after : Codec R) (messages : List Message) (text : List ℕ) where
   pub codec_received : {W : Type 0} (server : Codec W) (acts : List Act) (more : List ℕ) → codec_server client ≡ false → AreWritten stream client messages text after

@@ -1,5 +1,5 @@
 -- What a reader gives of legal frames that come in pieces.
-use Rattle.std.proofs.Common.{◌≡◌, ℕ, ◌≤◌, ◌<◌, ◌^◌, Bool, true, List, [], ◌∷◌, ◌++◌, drop, map, refl, sym, ap, ap₂, ◌∙◌, subst, append-nil, append_assoc}
+use Rattle.std.proofs.Common.{◌≡◌, ℕ, ◌≤◌, ◌<◌, ◌^◌, Bool, true, List, [], ◌∷◌, ◌++◌, drop, refl, sym, ap, ap₂, ◌∙◌, subst, append_assoc}
 use Rattle.std.specs.Prelude.{⊤, Option, Some, None, Result, Ok, Err}
 use Rattle.h1_model.specs.Frame as model
 use Rattle.h1_model.specs.FrameText.{Reader, Front, partial, whole, breaks, front_frame, is_under_way}
@@ -10,10 +10,10 @@ use Rattle.ws_frames.specs.declared.error.ProtocolError.{ProtocolError}
 use Rattle.ws_frames.specs.declared.error.ProtocolError.TheVariants.{NoMemory}
 use Rattle.ws_frames.specs.declared.message.Frame.{Frame}
 use Rattle.ws_frames.specs.Codec.{frame_says}
-use Rattle.ws_frames.specs.CodecState.{codec_server, codec_limit, codec_reading, with_reading, cost, Failed, Decoded}
-use Rattle.ws_frames.specs.Fronts.{early_reader, IsFrontError}
+use Rattle.ws_frames.specs.CodecState.{codec_server, codec_limit, codec_reading, cost, Failed, Decoded}
+use Rattle.ws_frames.specs.Fronts.{IsFrontError}
 use Rattle.ws_frames.specs.Parsed.{late_reader, parsed}
-use Rattle.ws_session.specs.Session.{SessionParts, with_unread, reader_of, behind_frame, NextSays}
+use Rattle.ws_session.specs.Session.{SessionParts, with_unread, reader_of, NextSays}
 use Rattle.ws_two_ends.specs.Received.{Act, comes, asked, bytes_came, frames_given, HaveNoFault, EndsWaiting, IsDecoding, IsReading, AreReceived}
 use Rattle.ws_two_ends.proofs.Fronts.{unmasked, none_broken, next_one, none_left}
 
@@ -62,9 +62,12 @@ decoding_runs codec left (comes bytes ∷ acts) x = decoding_runs codec (left ++
 decoding_runs {R} codec left (asked answer ∷ acts) (next, rest, decoded, same, others) =
     let server = codec_server codec in
     let limit = codec_limit codec in
-    let behind = decoding_runs next rest acts others in
-    (codec_reading next, rest, decoded_answered server limit (codec_reading codec) left answer (codec_reading next) rest decoded,
-    subst (λ (c : Codec R). Runs (late_reader (codec_server c) (codec_limit c)) (codec_reading next) rest acts) same behind)
+    let behind = decoding_runs next rest acts others in (
+      codec_reading next,
+      rest,
+      decoded_answered server limit (codec_reading codec) left answer (codec_reading next) rest decoded,
+      subst (λ (c : Codec R). Runs (late_reader (codec_server c) (codec_limit c)) (codec_reading next) rest acts) same behind,
+    )
 
 front_error_answered : (front : Front) (e : ProtocolError) (u v : Bool) (bytes rest : List ℕ) → v ≡ u → rest ≡ bytes → IsFrontError front e
     → Answered front (Err e) u bytes v rest

@@ -1,6 +1,5 @@
 -- The text of messages that a client writes is that of their frames, each under a mask of four bytes.
-use Rattle.std.proofs.Common.{◌≡◌, ℕ, Bool, true, false, List, [], ◌∷◌, ◌++◌, length, map, Some, refl, sym, ap, ap₂, ◌∙◌, subst}
-use Rattle.std.specs.Prelude.{flat_map, cond}
+use Rattle.std.proofs.Common.{◌≡◌, ℕ, Bool, true, false, List, [], ◌∷◌, ◌++◌, length, Some, refl, sym, ap, ap₂, ◌∙◌, subst}
 use Rattle.std.specs.Int.{w32, to_le_bytes}
 use Rattle.rand_core.specs.Stream.{Stream, next_u32}
 use Rattle.h1_model.specs.Frame as model
@@ -9,9 +8,8 @@ use Rattle.h1_agreement.specs.MaskedText.{masked_field, print_masked, masked_tex
 use Rattle.ws_frames.specs.Written.{masked_field as field_written, written}
 use Rattle.ws_frames.specs.declared.codec.Codec.{Codec}
 use Rattle.ws_frames.specs.declared.message.Message.{Message}
-use Rattle.ws_frames.specs.CodecState.{codec_server, codec_words, codec_sending}
-use Rattle.ws_frames.specs.Framing.{Writes}
-use Rattle.ws_frames.specs.Sent.{message_says, frame_written, message_written, mask_drawn, with_sending}
+use Rattle.ws_frames.specs.CodecState.{codec_server, codec_words}
+use Rattle.ws_frames.specs.Sent.{message_says, frame_written, message_written, mask_drawn}
 use Rattle.ws_two_ends.specs.Sent.{frame_in, frames_sent, AreWritten}
 use Rattle.ws_two_ends.proofs.Fronts.{unmasked}
 

@@ -1,5 +1,5 @@
 -- Bytes that come in pieces, and the frames that are given of them.
-use Rattle.std.specs.Prelude.{◌≡◌, ⊤, ℕ, List, [], ◌∷◌, ◌++◌, Option, Some, None, Result, Ok, Err, IfErr}
+use Rattle.std.specs.Prelude.{◌≡◌, ⊤, ℕ, List, [], ◌∷◌, ◌++◌, Option, Some, None, Result, Ok, IfErr}
 use Rattle.h1_model.specs.Frame as model
 use Rattle.h1_model.specs.Handed.{Begins}
 use Rattle.ws_frames.specs.declared.codec.Codec.{Codec}
