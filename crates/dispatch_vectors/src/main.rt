@@ -5,8 +5,10 @@
 #![tactic(auto)]
 
 mod block;
+mod body;
 mod files;
 mod play;
+mod reply;
 mod report;
 mod service;
 mod setup;
