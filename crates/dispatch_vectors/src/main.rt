@@ -5,7 +5,9 @@
 #![tactic(auto)]
 
 mod block;
+mod body;
 mod play;
+mod reply;
 mod report;
 mod service;
 mod setup;

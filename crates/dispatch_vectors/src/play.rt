@@ -2,7 +2,8 @@
 ghost use Rattle.http_services.specs.Serving.{unknown_call};
 ghost use Rattle.h1_dispatch.specs.View.{MayBePolled};
 
-use crate::report::{Polled, put_asked, put_deadline, put_polled, put_sent};
+use crate::body::Page;
+use crate::report::{Polled, put_asked, put_deadline, put_polled, put_sent, put_taken};
 use crate::service::{Coming, Scripted};
 use crate::setup::{Cut, Setup};
 use crate::step::Step;
@@ -17,7 +18,16 @@ use std::io;
 use std::random::RandomSource;
 
 /// A dispatcher of a scripted service.
-type Served<L> = Dispatcher<Lingering, CountedService<Scripted>, Coming, L>;
+type Served<L> = Dispatcher<Lingering, CountedService<Scripted>, Coming, L, Page>;
+
+/// How much of what came to the service was put into the report: the requests, what was taken of their bodies, and how these
+/// ended, in bytes.
+#[derive(Clone, Copy, Debug, Default)]
+struct Shown {
+    asked: usize,
+    taken: usize,
+    ends: usize,
+}
 
 /// The most polls until a dispatcher is ready.
 const MOST_POLLS: u32 = 10_000;
@@ -59,7 +69,7 @@ fn take_all<R: RandomSource + AllocGlobal, L: Recorder>(
 ) -> io::Result<()>
     requires open { MayBePolled (λ _. unknown_call) served.old }
 {
-    let mut shown = 0;
+    let mut shown = Shown::default();
     for step in steps {
         take(rt, served, *step, &mut shown, report)?;
     }
@@ -71,7 +81,7 @@ fn take<R: RandomSource + AllocGlobal, L: Recorder>(
     rt: &R,
     served: &mut Served<L>,
     step: Step,
-    shown: &mut usize,
+    shown: &mut Shown,
     report: &mut Vec<u8>,
 ) -> io::Result<()>
     requires open { MayBePolled (λ _. unknown_call) served.old }
@@ -153,11 +163,15 @@ fn poll_until_ready<R: RandomSource + AllocGlobal, L: Recorder>(
 fn put_poll<L: Recorder>(
     served: &Served<L>,
     polled: Polled,
-    shown: &mut usize,
+    shown: &mut Shown,
     report: &mut Vec<u8>,
 ) -> Result<(), NoMemory> {
-    let asked = served.service().inner().asked();
-    put_asked(report, asked.get(*shown..).unwrap_or(b""))?;
-    *shown = asked.len();
+    let service = served.service().inner();
+    put_asked(report, service.asked().get(shown.asked..).unwrap_or(b""))?;
+    let taken = service.taken().get(shown.taken..).unwrap_or(b"");
+    put_taken(report, taken, service.ends().get(shown.ends..).unwrap_or(b""))?;
+    shown.asked = service.asked().len();
+    shown.taken = service.taken().len();
+    shown.ends = service.ends().len();
     put_polled(report, polled)
 }

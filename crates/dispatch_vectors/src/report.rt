@@ -51,6 +51,17 @@ pub fn put_asked(report: &mut Vec<u8>, asked: &[u8]) -> Result<(), NoMemory> {
     put_text(report, "\n")
 }
 
+/// Puts what the service took of bodies, and how these ended.
+pub fn put_taken(report: &mut Vec<u8>, taken: &[u8], ends: &[u8]) -> Result<(), NoMemory> {
+    if taken.is_empty() && ends.is_empty() {
+        return Ok(());
+    }
+    put_text(report, "took ")?;
+    put_quoted(report, taken)?;
+    put_all(report, ends)?;
+    put_text(report, "\n")
+}
+
 /// Puts a deadline in milliseconds, or that there is none.
 pub fn put_deadline(report: &mut Vec<u8>, deadline: Option<u64>) -> Result<(), NoMemory> {
     put_text(report, "deadline ")?;

@@ -1,65 +1,28 @@
 //! A service that answers as it was told.
+ghost use Rattle.futures.specs.Poll.{OnPending};
+ghost use Rattle.futures.specs.Task.{IsArmed, Keeps};
+ghost use Rattle.http_services.specs.Lent.{LentBound, lent_of};
+
+use crate::body::{Page, Script, page};
+use crate::reply::{Kind, Reply};
 use crate::silence::Silence;
 use futures::task::{Context, Poll};
 use http_services::PlainService;
-use http_types::{ConnectionType, NoMemory, Request, Response, StatusCode};
+use http_services::h1::Payload;
+use http_types::{ConnectionType, NoMemory, PayloadError, Request, Response};
 use std::alloc::Global;
+use std::mem;
+use vectors::{put_all, put_decimal, put_text};
 
-/// What becomes of a request.
-#[derive(Clone, Copy, Debug, PartialEq, Eq)]
-pub enum Kind {
-    /// The call answers.
-    Answers,
-
-    /// The call answers an error.
-    Errs,
-
-    /// The service isn't ready for it, and says so by an error.
-    Refuses,
-}
-
-/// What the service does with one request.
-#[derive(Clone, Copy, Debug)]
-pub struct Reply {
-    /// What becomes of it.
-    pub kind: Kind,
-
-    /// The answer's status.
-    pub status: StatusCode,
-
-    /// Whether the answer closes the connection.
-    pub closes: bool,
-
-    /// How often the service is pending when it is asked whether it is ready.
-    pub unready: usize,
-
-    /// How often the call is pending, and wakes the task.
-    pub busy: usize,
-
-    /// How often it is pending before that, and wakes nobody.
-    pub asleep: usize,
-}
-
-impl Reply {
-    /// An answer with the status 200, at once.
-    pub fn plain() -> Reply {
-        Reply {
-            kind: Kind::Answers,
-            status: StatusCode::OK,
-            closes: false,
-            unready: 0,
-            busy: 0,
-            asleep: 0,
-        }
-    }
-}
-
-/// A call: its reply, and how often it is still pending in each of both ways.
-#[derive(Clone, Copy, Debug)]
+/// A call: its reply and its answer's body, how often it is still pending in each of both ways, and how many chunks it still
+/// takes of its body.
+#[derive(Drop)]
 pub struct Coming {
     reply: Reply,
+    script: Script,
     busy: usize,
     asleep: usize,
+    reads: usize,
 }
 
 /// Answers the requests one after another by the replies, and those after them by 200.
@@ -67,23 +30,34 @@ pub struct Coming {
 pub struct Scripted {
     alloc: Global,
     replies: Vec<Reply>,
+    scripts: Vec<Option<Script>>,
     silence: Silence,
     next: usize,
     unready: usize,
     asked: Vec<u8>,
+    taken: Vec<u8>,
+    ends: Vec<u8>,
     forgets: bool,
 }
 
 impl Scripted {
-    /// A service with these replies that was asked nothing.
-    pub fn new(alloc: Global, replies: Vec<Reply>, silence: Silence) -> Scripted {
+    /// A service with these replies, and the bodies of their answers, that was asked nothing.
+    pub fn new(
+        alloc: Global,
+        replies: Vec<Reply>,
+        scripts: Vec<Option<Script>>,
+        silence: Silence,
+    ) -> Scripted {
         Scripted {
             alloc,
             replies,
+            scripts,
             silence,
             next: 0,
             unready: 0,
             asked: Vec::new(alloc),
+            taken: Vec::new(alloc),
+            ends: Vec::new(alloc),
             forgets: false,
         }
     }
@@ -91,6 +65,16 @@ impl Scripted {
     /// The methods and targets of the calls so far, with a blank before each word.
     pub fn asked(&self) -> &[u8] {
         self.asked.as_slice()
+    }
+
+    /// The bytes that the calls took of their bodies.
+    pub fn taken(&self) -> &[u8] {
+        self.taken.as_slice()
+    }
+
+    /// How these bodies ended, with a blank before each word.
+    pub fn ends(&self) -> &[u8] {
+        self.ends.as_slice()
     }
 
     /// Whether memory ran out for one of these.
@@ -106,6 +90,53 @@ impl Scripted {
         }
     }
 
+    // The body of the answer to the next request.
+    fn script(&mut self) -> Script {
+        let empty = Script::new(Vec::new(self.alloc), false);
+        match self.scripts.get_mut(self.next) {
+            Some(script) => mem::replace(script, None).unwrap_or(empty),
+            None => empty,
+        }
+    }
+
+    // Takes a chunk of a call's body, or its end or fault, where there is one. It is pending where there is none, and behind a
+    // chunk.
+    fn take(
+        &mut self,
+        call: &mut Coming,
+        lent: &mut Payload,
+        cx: &mut Context<'_>,
+    ) -> Poll<()>
+        ensures bound { LentBound (lent_of lent.old) (lent_of lent.new) }
+        ensures registered { OnPending result (IsArmed cx.new) }
+        ensures kept { Keeps cx.old cx.new }
+    {
+        match lent.poll_next(cx) {
+            Poll::Pending => Poll::Pending,
+            Poll::Ready(Some(Ok(chunk))) => {
+                call.reads = call.reads.saturating_sub(1);
+                if put_all(&mut self.taken, chunk.as_slice()).is_err() {
+                    self.forgets = true;
+                }
+                cx.yield_now()
+            }
+            Poll::Ready(Some(Err(error))) => {
+                call.reads = 0;
+                if put_text(&mut self.ends, fault(error)).is_err() {
+                    self.forgets = true;
+                }
+                Poll::Ready(())
+            }
+            Poll::Ready(None) => {
+                call.reads = 0;
+                if put_end(lent, &mut self.ends).is_err() {
+                    self.forgets = true;
+                }
+                Poll::Ready(())
+            }
+        }
+    }
+
     // The next request has its reply.
     fn pass(&mut self) {
         self.next = self.next.saturating_add(1);
@@ -114,15 +145,15 @@ impl Scripted {
 }
 
 impl PlainService<Request<(), ()>> for Scripted {
-    type Response = Response<()>;
+    type Response = Response<Page>;
 
-    type Error = Response<()>;
+    type Error = Response<Page>;
 
     type Call = Coming;
 
-    type Lent = ();
+    type Lent = Payload;
 
-    fn poll_ready(&mut self, cx: &mut Context<'_>) -> Poll<Result<(), Response<()>>> {
+    fn poll_ready(&mut self, cx: &mut Context<'_>) -> Poll<Result<(), Response<Page>>> {
         let reply = self.reply();
         if self.unready < reply.unready {
             self.unready += 1;
@@ -131,8 +162,9 @@ impl PlainService<Request<(), ()>> for Scripted {
         if reply.kind != Kind::Refuses {
             return Poll::Ready(Ok(()));
         }
+        let script = self.script();
         self.pass();
-        Poll::Ready(Err(response_of(self.alloc, reply)))
+        Poll::Ready(Err(response_of(self.alloc, reply, script)))
     }
 
     fn call(&mut self, req: Request<(), ()>) -> Coming {
@@ -142,29 +174,41 @@ impl PlainService<Request<(), ()>> for Scripted {
         let reply = self.reply();
         let busy = reply.busy;
         let asleep = reply.asleep;
+        let reads = reply.reads;
+        let script = self.script();
         self.pass();
         Coming {
             reply,
+            script,
             busy,
             asleep,
+            reads,
         }
     }
 
     fn poll_call(
         &mut self,
         call: &mut Coming,
-        _lent: &mut (),
+        lent: &mut Payload,
         cx: &mut Context<'_>,
-    ) -> Poll<Result<Response<()>, Response<()>>> {
+    ) -> Poll<Result<Response<Page>, Response<Page>>> {
+        if call.reply.drops {
+            lent.drop_receiver();
+        }
         if call.asleep > 0 {
             call.asleep -= 1;
             return self.silence.poll(cx);
+        }
+        if call.reads > 0 && self.take(call, lent, cx).is_pending() {
+            return Poll::Pending;
         }
         if call.busy > 0 {
             call.busy -= 1;
             return cx.yield_now();
         }
-        let response = response_of(self.alloc, call.reply);
+        let empty = Script::new(Vec::new(self.alloc), false);
+        let script = mem::replace(&mut call.script, empty);
+        let response = response_of(self.alloc, call.reply, script);
         if call.reply.kind == Kind::Errs {
             return Poll::Ready(Err(response));
         }
@@ -173,8 +217,8 @@ impl PlainService<Request<(), ()>> for Scripted {
 }
 
 // The answer that a reply says.
-fn response_of(alloc: Global, reply: Reply) -> Response<()> {
-    let mut response = Response::new(alloc, reply.status);
+fn response_of(alloc: Global, reply: Reply, script: Script) -> Response<Page> {
+    let mut response = Response::with_body(alloc, reply.status, page(reply.size, script));
     if reply.closes {
         response
             .head_mut()
@@ -189,4 +233,22 @@ fn note(req: &Request<(), ()>, asked: &mut Vec<u8>) -> Result<(), NoMemory> {
     asked.extend_from_slice(req.method().as_str().as_bytes())?;
     asked.extend_from_slice(b" ")?;
     Ok(asked.extend_from_slice(req.path().as_bytes())?)
+}
+
+// The word for a body that can't be read further.
+fn fault(error: PayloadError) -> &'static str {
+    match error {
+        PayloadError::Incomplete => " incomplete",
+        PayloadError::EncodingCorrupted => " corrupted",
+        _ => " an error that never comes",
+    }
+}
+
+// Puts that a body has ended after the text, and how many trailers it had, if it had some.
+fn put_end(lent: &Payload, ends: &mut Vec<u8>) -> Result<(), NoMemory> {
+    if let Some(trailers) = lent.trailers() {
+        put_text(ends, " trailers ")?;
+        put_decimal(ends, trailers.len() as u64)?;
+    }
+    put_text(ends, " end")
 }

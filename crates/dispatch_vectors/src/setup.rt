@@ -1,5 +1,7 @@
 //! What a connection begins with: its settings, how its wire gives and takes, and what its service answers.
-use crate::service::{Kind, Reply, Scripted};
+use crate::body::Script;
+use crate::reply::{Kind, Reply};
+use crate::service::Scripted;
 use crate::silence::Silence;
 use crate::wire::Lingering;
 use bytes::Bytes;
@@ -19,8 +21,16 @@ pub struct Setup {
     faults: Vec<usize>,
     shut_waits: u64,
     replies: Vec<Reply>,
+    parts: Vec<Part>,
     in_any_pieces: bool,
     by_any_writes: bool,
+}
+
+/// A piece of the body of an answer: to which reply it belongs, from 1.
+#[derive(Drop)]
+struct Part {
+    reply: usize,
+    bytes: Vec<u8>,
 }
 
 /// How the wire cuts what it gives and takes.
@@ -55,6 +65,7 @@ impl Setup {
             faults: Vec::new(alloc),
             shut_waits: 0,
             replies: Vec::new(alloc),
+            parts: Vec::new(alloc),
             in_any_pieces: false,
             by_any_writes: false,
         }
@@ -103,6 +114,7 @@ impl Setup {
             b"answers" => self.put_reply(Kind::Answers, words),
             b"errs" => self.put_reply(Kind::Errs, words),
             b"refuses" => self.put_reply(Kind::Refuses, words),
+            b"piece" => self.put_part(alloc, words),
             b"in-any-pieces" => {
                 self.in_any_pieces = true;
                 Ok(())
@@ -144,6 +156,24 @@ impl Setup {
         Ok(keep(&mut self.replies, reply)?)
     }
 
+    // A piece of the last reply's body.
+    fn put_part(&mut self, alloc: Global, mut words: Cursor<'_>) -> Result<(), CaseError> {
+        let bytes = read_joined(alloc, &mut words)?;
+        let reply = self.replies.len();
+        Ok(keep(&mut self.parts, Part { reply, bytes })?)
+    }
+
+    // The body of the reply of this number, from 1.
+    fn script(&self, alloc: Global, number: usize, breaks: bool) -> Result<Script, NoMemory> {
+        let mut pieces = Vec::new(alloc);
+        for part in self.parts.iter() {
+            if part.reply == number {
+                put_piece(alloc, part.bytes.as_slice(), &mut pieces)?;
+            }
+        }
+        Ok(Script::new(pieces, breaks))
+    }
+
     /// The wire. It has room from the start for what it gives and takes, so that it never fails for want of memory.
     pub fn wire(&self, alloc: Global, cut: Cut) -> Result<Lingering, NoMemory> {
         let pieces = self.pieces_of(alloc, cut)?;
@@ -157,11 +187,15 @@ impl Setup {
     /// The service.
     pub fn service(&self, alloc: Global) -> Result<CountedService<Scripted>, NoMemory> {
         let mut replies = Vec::new(alloc);
+        let mut scripts = Vec::new(alloc);
         for reply in self.replies.iter() {
             replies.push(*reply)?;
+            let script = self.script(alloc, replies.len(), reply.breaks)?;
+            keep(&mut scripts, Some(script))?;
         }
         let silence = Silence::new(alloc)?;
-        Ok(CountedService::new(Scripted::new(alloc, replies, silence)))
+        let scripted = Scripted::new(alloc, replies, scripts, silence);
+        Ok(CountedService::new(scripted))
     }
 
     fn input_len(&self) -> usize {
@@ -254,7 +288,8 @@ fn put_numbers(mut words: Cursor<'_>, numbers: &mut Vec<usize>) -> Result<(), Ca
     Ok(())
 }
 
-// A reply: its status, and then `close`, and `unready`, `busy` and `asleep` with how often, in any order.
+// A reply: its status, and then `close`, `streams`, `breaks`, `drops` and `reads-all`, `unready`, `busy`, `asleep` and
+// `reads` with how often, and `sized` with a size, in any order.
 fn reply_of(kind: Kind, mut words: Cursor<'_>) -> Option<Reply> {
     let mut reply = Reply::plain();
     reply.kind = kind;
@@ -264,6 +299,12 @@ fn reply_of(kind: Kind, mut words: Cursor<'_>) -> Option<Reply> {
         match words.word() {
             b"" => return Some(reply),
             b"close" => reply.closes = true,
+            b"streams" => reply.size = None,
+            b"sized" => reply.size = Some(times(&mut words)? as u64),
+            b"breaks" => reply.breaks = true,
+            b"drops" => reply.drops = true,
+            b"reads" => reply.reads = times(&mut words)?,
+            b"reads-all" => reply.reads = usize::MAX,
             b"unready" => reply.unready = times(&mut words)?,
             b"busy" => reply.busy = times(&mut words)?,
             b"asleep" => reply.asleep = times(&mut words)?,

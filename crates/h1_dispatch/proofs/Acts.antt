@@ -7,9 +7,9 @@ use Rattle.http_types.specs.declared.error.DispatchError.{DispatchError}
 use Rattle.http_types.specs.declared.error.DispatchError.TheVariants as error
 use Rattle.h1_model.specs.Event as on
 use Rattle.h1_dispatch.specs.View.{View, Stage, free, waiting, calling, replying, sending, is_sending, closes, asks_next, allows_answer, allows_chunk}
-use Rattle.h1_dispatch.specs.Steps.{Step, IsStep, IsRun, ticked, drained, written, read, shut, next, closed, ready, called, answered, dropped, replied, sent, failed, failed_write, failed_read, failed_sent, asked_to_drain}
+use Rattle.h1_dispatch.specs.Steps.{Step, IsStep, IsRun, ticked, drained, written, read, shut, next, closed, ready, called, answered, pulled, paused, dropped, replied, sent, failed, failed_write, failed_read, failed_fed, failed_sent, asked_to_drain}
 use Rattle.h1_dispatch.specs.Traces.{IsNoted, AllNoted}
-use Rattle.h1_dispatch.specs.Polls.{Continues, AllContinue, EndsWith, IsShut, IsIo, IsStuck, IsHeld, IsIdle, Reads, Writes, Serves, Sends, Awaits, Looks, Ended, GoesOn, Ticks, Drains, IsBegun, BeginFails, TurnsSay, PollRuns, PollSays}
+use Rattle.h1_dispatch.specs.Polls.{Continues, AllContinue, EndsWith, IsShut, IsIo, IsStuck, IsHeld, IsIdle, Reads, Feeds, Writes, Serves, Sends, Awaits, Looks, Ended, GoesOn, Ticks, Drains, IsBegun, BeginFails, TurnsSay, PollRuns, PollSays}
 use Rattle.h1_dispatch.specs.Acts.{Act, polled, asked, ActSays, ActsSay, HasMemory, AreOneRun}
 use Rattle.h1_dispatch.proofs.Runs.{one, run_on}
 
@@ -26,12 +26,15 @@ goes_noted (closed end) goes = tt
 goes_noted (ready request answer) goes = tt
 goes_noted (called request) goes = tt
 goes_noted (answered answer) goes = tt
+goes_noted (pulled piece) goes = tt
+goes_noted paused goes = tt
 goes_noted dropped goes = tt
 goes_noted (replied answer) goes = tt
 goes_noted (sent piece) goes = tt
 goes_noted (failed event) goes = absurd goes
 goes_noted (failed_write count) goes = absurd goes
 goes_noted (failed_read came event) goes = absurd goes
+goes_noted (failed_fed bytes) goes = absurd goes
 goes_noted (failed_sent piece) goes = absurd goes
 goes_noted asked_to_drain goes = tt
 
@@ -80,7 +83,7 @@ awaits_noted v false true served waits = by_stage v.stage waits
     by_stage free is = subst (λ l. AllNoted l) (sym is) tt
     by_stage (waiting request) (inl is) = subst (λ l. AllNoted l) (sym is) (tt, tt)
     by_stage (waiting request) (inr is) = subst (λ l. AllNoted l) (sym is) (tt, (tt, tt))
-    by_stage calling is = subst (λ l. AllNoted l) (sym is) (tt, tt)
+    by_stage (calling took) is = subst (λ l. AllNoted l) (sym is) (tt, tt)
     by_stage (replying answer) is = absurd is
     by_stage (sending body) is = absurd is
 awaits_noted v false false served looks = by_looks (asks_next v) v.stage looks
@@ -88,10 +91,15 @@ awaits_noted v false false served looks = by_looks (asks_next v) v.stage looks
     by_looks : (may : Bool) (s : Stage) → Looks may s served → AllNoted served
     by_looks true free is = subst (λ l. AllNoted l) (sym is) (tt, tt)
     by_looks true (waiting request) is = subst (λ l. AllNoted l) (sym is) tt
-    by_looks true calling is = subst (λ l. AllNoted l) (sym is) tt
+    by_looks true (calling took) is = subst (λ l. AllNoted l) (sym is) tt
     by_looks true (replying answer) is = subst (λ l. AllNoted l) (sym is) tt
     by_looks true (sending body) is = subst (λ l. AllNoted l) (sym is) tt
     by_looks false s is = subst (λ l. AllNoted l) (sym is) tt
+
+feeds_noted : (u : View) (feeding : List Step) → Feeds u feeding → AllNoted feeding
+feeds_noted u feeding (inl is) = subst (λ l. AllNoted l) (sym is) (tt, tt)
+feeds_noted u feeding (inr (inl is)) = subst (λ l. AllNoted l) (sym is) (tt, tt)
+feeds_noted u feeding (inr (inr is)) = subst (λ l. AllNoted l) (sym is.0) tt
 
 reads_noted : (x : View) (reading : List Step) → Reads x reading → AllNoted reading
 reads_noted x reading (inl is) = subst (λ l. AllNoted l) (sym is) (tt, tt)
@@ -126,9 +134,10 @@ goes_run v w n most goes = record { steps = goes.steps; run = goes.run; noted = 
 
 idle_run : {P : Type 0} (v w : View) → IsIdle v w → Runs P v w
 idle_run v w idle = record {
-  steps = idle.served ++ idle.reading;
-  run = run_on v idle.between w idle.served idle.reading idle.serves idle.reads;
-  noted = λ p. noted_on idle.served idle.reading (awaits_noted v (is_sending v.stage) (allows_answer v) idle.served idle.waits) (reads_noted idle.between idle.reading idle.no_input);
+  steps = idle.served ++ (idle.feeding ++ idle.reading);
+  run = run_on v idle.between w idle.served (idle.feeding ++ idle.reading) idle.serves (run_on idle.between idle.fed w idle.feeding idle.reading idle.feeds idle.reads);
+  noted = λ p. noted_on idle.served (idle.feeding ++ idle.reading) (awaits_noted v (is_sending v.stage) (allows_answer v) idle.served idle.waits)
+      (noted_on idle.feeding idle.reading (feeds_noted idle.between idle.feeding idle.no_body) (reads_noted idle.fed idle.reading idle.no_input));
 }
 
 waits_run : {P : Type 0} (v w : View) → IsHeld v w ⊎ ((closes v ≡ false) × IsIdle v w) → Runs P v w

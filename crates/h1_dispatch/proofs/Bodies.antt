@@ -5,9 +5,10 @@ use Rattle.futures.specs.declared.task.Poll.{Poll}
 use Rattle.futures.specs.declared.task.Poll.TheVariants.{Ready, Pending}
 use Rattle.http_bodies.specs.Giving.{Given, Giving, Piece, PieceSays}
 use Rattle.http_bodies.specs.Told.{Tells, led_by}
+use Rattle.http_services.specs.Lent.{Took}
 use Rattle.http_bodies.proofs.Histories.{led_by-more, led_by-none}
 use Rattle.h1_dispatch.specs.View.{View, Asking, Answer, Stage, free, waiting, calling, replying, sending, is_replying, is_sending}
-use Rattle.h1_dispatch.specs.Steps.{Step, IsStep, IsRun, request_at, stage_at, stage_asked, stage_answered, stage_replied, stage_sent, ticked, drained, written, read, shut, next, closed, ready, called, answered, dropped, replied, sent, failed, failed_write, failed_read, failed_sent, asked_to_drain}
+use Rattle.h1_dispatch.specs.Steps.{Step, IsStep, IsRun, request_at, stage_at, stage_asked, stage_answered, stage_replied, stage_sent, ticked, drained, written, read, shut, next, closed, ready, called, answered, pulled, paused, dropped, replied, sent, failed, failed_write, failed_read, failed_fed, failed_sent, asked_to_drain}
 use Rattle.h1_dispatch.specs.Bodies.{step_pieces, ends_body, is_reply, pieces, has_end, has_reply, GoesOut, SendsBody}
 
 clash : {A : Type 0} → true ≡ false → A
@@ -30,10 +31,10 @@ asked_none request (Ready (Ok x)) = refl
 asked_none request (Ready (Err e)) = refl
 asked_none request Pending = refl
 
-answered_none : (answer : Poll (Result Answer Answer)) → is_sending (stage_answered answer) ≡ false
-answered_none (Ready (Ok x)) = refl
-answered_none (Ready (Err e)) = refl
-answered_none Pending = refl
+answered_none : (more : Option Took) (answer : Poll (Result Answer Answer)) → is_sending (stage_answered more answer) ≡ false
+answered_none more (Ready (Ok x)) = refl
+answered_none more (Ready (Err e)) = refl
+answered_none more Pending = refl
 
 apart : (v w : View) (d : Step) → step_pieces d ≡ [] → ends_body d ≡ false → is_sending v.stage ≡ false → w.stage ≡ v.stage → NoPiece d w
 apart v w d none goes not_sending same = record { none = none; not_ended = goes; after = ap is_sending same ∙ not_sending }
@@ -50,14 +51,17 @@ no_body v w (shut answer) other off is = apart v w (shut answer) refl refl off (
 no_body v w (next head) other off is = to w (next head) (stage_at (request_at head)) refl refl (asks_none (request_at head)) (ap (λ (x : View). x.stage) is.4)
 no_body v w (closed end) other off is = apart v w (closed end) refl refl off (ap (λ (x : View). x.stage) is.4)
 no_body v w (ready request answer) other off is = to w (ready request answer) (stage_asked request answer) refl refl (asked_none request answer) (ap (λ (x : View). x.stage) is.3)
-no_body v w (called request) other off is = to w (called request) calling refl refl refl (ap (λ (x : View). x.stage) is.2)
-no_body v w (answered answer) other off is = to w (answered answer) (stage_answered answer) refl refl (answered_none answer) (ap (λ (x : View). x.stage) is.4)
+no_body v w (called request) other off is = to w (called request) (calling is.2.0) refl refl refl (ap (λ (x : View). x.stage) is.2.2)
+no_body v w (answered answer) other off is = to w (answered answer) (stage_answered is.more answer) refl refl (answered_none is.more answer) (ap (λ (x : View). x.stage) is.same)
+no_body v w (pulled piece) other off is = apart v w (pulled piece) refl refl off (ap (λ (x : View). x.stage) is.2)
+no_body v w paused other off is = apart v w paused refl refl off (ap (λ (x : View). x.stage) is.4)
 no_body v w dropped other off is = apart v w dropped refl refl off (ap (λ (x : View). x.stage) is.3)
 no_body v w (replied answer) other off is = absurd (cc other)
 no_body v w (sent piece) other off is = clash (sym (ap is_sending is.1.goes_out) ∙ off)
 no_body v w (failed event) other off is = apart v w (failed event) refl refl off (ap (λ (x : View). x.stage) is.2)
 no_body v w (failed_write count) other off is = apart v w (failed_write count) refl refl off (ap (λ (x : View). x.stage) is.4)
 no_body v w (failed_read came event) other off is = apart v w (failed_read came event) refl refl off (ap (λ (x : View). x.stage) is.4)
+no_body v w (failed_fed bytes) other off is = apart v w (failed_fed bytes) refl refl off (ap (λ (x : View). x.stage) is.2)
 no_body v w (failed_sent piece) other off is = clash (sym (ap is_sending is.1.goes_out) ∙ off)
 no_body v w asked_to_drain other off is = apart v w asked_to_drain refl refl off (ap (λ (x : View). x.stage) is)
 
@@ -95,7 +99,9 @@ a_body v w (next head) body other was is = clash (ap is_sending (sym was ∙ is.
 a_body v w (closed end) body other was is = stays v w (closed end) body refl refl was (ap (λ (x : View). x.stage) is.4)
 a_body v w (ready request answer) body other was is = clash (ap is_sending (sym was ∙ is.0.1))
 a_body v w (called request) body other was is = clash (ap is_sending (sym was ∙ is.0.1))
-a_body v w (answered answer) body other was is = clash (ap is_sending (sym was ∙ is.2))
+a_body v w (answered answer) body other was is = clash (ap is_sending (sym was ∙ is.calls))
+a_body v w (pulled piece) body other was is = stays v w (pulled piece) body refl refl was (ap (λ (x : View). x.stage) is.2)
+a_body v w paused body other was is = stays v w paused body refl refl was (ap (λ (x : View). x.stage) is.4)
 a_body v w dropped body other was is = clash (sym (sym (ap is_replying was) ∙ is.1))
 a_body v w (replied answer) body other was is = absurd (cc other)
 a_body v w (sent piece) body other was is =
@@ -103,6 +109,7 @@ a_body v w (sent piece) body other was is =
 a_body v w (failed event) body other was is = stays v w (failed event) body refl refl was (ap (λ (x : View). x.stage) is.2)
 a_body v w (failed_write count) body other was is = stays v w (failed_write count) body refl refl was (ap (λ (x : View). x.stage) is.4)
 a_body v w (failed_read came event) body other was is = stays v w (failed_read came event) body refl refl was (ap (λ (x : View). x.stage) is.4)
+a_body v w (failed_fed bytes) body other was is = stays v w (failed_fed bytes) body refl refl was (ap (λ (x : View). x.stage) is.2)
 a_body v w (failed_sent piece) body other was is =
     let says = subst (λ b. PieceSays b is.0 piece) (same_body is.1.body body (sym is.1.goes_out ∙ was)) is.1.says in
     inl (is.0, ap (λ (x : View). x.stage) is.3, says.gives, refl)
@@ -208,7 +215,7 @@ body_runs v w (d ∷ steps) body was is = runs_on v is.0 w d steps body was is.1
 from : (v w : View) (steps : List Step) (stage : Stage) → v.stage ≡ stage → IsRun v steps w → SendsBody stage steps w
 from v w steps free was is = (quiet v w steps (ap is_sending was) is).none
 from v w steps (waiting request) was is = (quiet v w steps (ap is_sending was) is).none
-from v w steps calling was is = (quiet v w steps (ap is_sending was) is).none
+from v w steps (calling took) was is = (quiet v w steps (ap is_sending was) is).none
 from v w steps (replying answer) was is = (quiet v w steps (ap is_sending was) is).none
 from v w steps (sending body) was is = body_runs v w steps body was is
 

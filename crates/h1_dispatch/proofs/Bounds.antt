@@ -21,8 +21,9 @@ use Rattle.h1_machine.specs.Kept.{Reply, unanswered, sending, answered as comple
 use Rattle.h1_machine.specs.Local.{closing_by, waits_for_answer}
 use Rattle.h1_machine.specs.Body.{passing}
 use Rattle.h1_machine.specs.Clock.{is_abandoned, is_slow, is_idle, expiring, ticking}
-use Rattle.h1_machine.specs.Change.{doing_with, reading, exchange_at_end, behind_head, without_head, IsUpcoming, IsNext}
+use Rattle.h1_machine.specs.Change.{doing_with, reading, exchange_at_end, behind_head, without_head, IsUpcoming, IsNext, IsPulling}
 use Rattle.h1_machine.specs.Change.{IsStep as Machine}
+use Rattle.h1_payload.specs.Rests.{SaysPulled}
 use Rattle.h1_connection.specs.Heads.{SaysNext}
 use Rattle.h1_connection.specs.Meaning.{setting_of, end_of}
 use Rattle.h1_connection.specs.State.{Is}
@@ -32,7 +33,7 @@ use Rattle.h1_connection.specs.declared.connection.ticks.Expiry.{Expiry}
 use Rattle.h1_connection.specs.declared.connection.ticks.Expiry.TheVariants as expiries
 use Rattle.h1_line.specs.Line.{LineView}
 use Rattle.h1_dispatch.specs.View.{View, Asking, Answer, is_unanswered as is_unanswered_at, allows_next, has_write_room, buffered, view_begun}
-use Rattle.h1_dispatch.specs.Steps.{Step, Goes, Wrote, Took, IsStep, IsRun, request_at, stage_at, stage_replied, stage_sent, ticked, drained, written, read, shut, next, closed, ready, called, answered, dropped, replied, sent, failed, failed_write, failed_read, failed_sent, asked_to_drain}
+use Rattle.h1_dispatch.specs.Steps.{Step, Goes, Wrote, Took, IsStep, IsRun, request_at, stage_at, stage_replied, stage_sent, ticked, drained, written, read, shut, next, closed, ready, called, answered, pulled, paused, dropped, replied, sent, failed, failed_write, failed_read, failed_fed, failed_sent, asked_to_drain}
 use Rattle.h1_dispatch.specs.Traces.{IsNoted, AllNoted}
 use Rattle.h1_dispatch.specs.Open.{IsTied}
 use Rattle.h1_dispatch.specs.Bounds.{HasRoomForAnswer, HasExpired, GrowsInRoom}
@@ -65,6 +66,10 @@ drop_leaves k (Some x) = refl
 
 by_change : (l : List ℕ) (c d : Change) → c ≡ d → d.kept.buffered ≡ l → c.kept.buffered ≡ l
 by_change l c d is same = ap (λ (x : Change). x.kept.buffered) is ∙ same
+
+pull_leaves : (k : Kept) (e : Option Exchange) (c : Change) → IsPulling (record k { exchange = e }) e c → c.kept.buffered ≡ k.buffered
+pull_leaves k None c is = by_change k.buffered c _ is refl
+pull_leaves k (Some x) c is = by_change k.buffered c _ is.2 refl
 
 -- a moment leaves all, or tells that no head has come, where no request waits for its answer, and then the connection closes
 abbrev Ticked : Kept → Change → Type 0
@@ -275,9 +280,14 @@ step_holds v w (closed end) noted is h =
 step_holds v w (ready request answer) noted is h =
     fewer_wait v w (ready request answer) (line_less v w (ap (λ (x : View). x.line) is.3)) (λ asks. ap is_unanswered_at is.0.1) h
 step_holds v w (called request) noted is h =
-    fewer_wait v w (called request) (line_less v w (ap (λ (x : View). x.line) is.2)) (λ asks. ap is_unanswered_at is.0.1) h
+    fewer_wait v w (called request) (line_less v w (ap (λ (x : View). x.line) is.2.2)) (λ asks. ap is_unanswered_at is.0.1) h
 step_holds v w (answered answer) noted is h =
-    fewer_wait v w (answered answer) (line_less v w (ap (λ (x : View). x.line) is.4)) (λ asks. ap is_unanswered_at is.2) h
+    fewer_wait v w (answered answer) (line_less v w (ap (λ (x : View). x.line) is.same)) (λ asks. ap is_unanswered_at is.calls) h
+step_holds v w (pulled piece) noted is h =
+    as_far v w (pulled piece)
+    (same v w on.pull (SaysPulled piece) is.1 (λ out m. pull_leaves v.line.state.kept v.line.state.kept.exchange m.change m.changes) h.tied)
+    (ap (λ (x : View). x.stage) is.2) h
+step_holds v w paused noted is h = as_far v w paused (line_less v w (ap (λ (x : View). x.line) is.4)) (ap (λ (x : View). x.stage) is.4) h
 step_holds v w dropped noted is h =
     as_far v w dropped
     (same v w on.drop_body (Is on.done) is.2 (λ out m. by_change v.line.state.kept.buffered m.change _ m.changes (drop_leaves v.line.state.kept v.line.state.kept.exchange)) h.tied)
@@ -290,6 +300,7 @@ step_holds v w (sent piece) noted is h =
 step_holds v w (failed event) noted is h = absurd noted
 step_holds v w (failed_write count) noted is h = absurd noted
 step_holds v w (failed_read came event) noted is h = absurd noted
+step_holds v w (failed_fed bytes) noted is h = absurd noted
 step_holds v w (failed_sent piece) noted is h = absurd noted
 step_holds v w asked_to_drain noted is h = as_far v w asked_to_drain (line_less v w (ap (λ (x : View). x.line) is)) (ap (λ (x : View). x.stage) is) h
 

@@ -21,8 +21,8 @@ use Rattle.h1_connection.specs.Meaning.{setting_of, end_of}
 use Rattle.h1_connection.specs.State.{Is}
 use Rattle.h1_connection.specs.Ticks.{expiry_of}
 use Rattle.h1_line.specs.Line.{LineView, LineStands}
-use Rattle.h1_dispatch.specs.View.{View, sending, is_sending, is_replying, closes}
-use Rattle.h1_dispatch.specs.Steps.{Step, Goes, Wrote, IsStep, IsRun, ticked, drained, written, read, shut, next, closed, ready, called, answered, dropped, replied, sent, failed, failed_write, failed_read, failed_sent, asked_to_drain}
+use Rattle.h1_dispatch.specs.View.{View, sending, is_sending, is_awaiting, is_replying, closes, allows, allows_answer, awaits_body}
+use Rattle.h1_dispatch.specs.Steps.{Step, Goes, Wrote, IsStep, IsRun, ticked, drained, written, read, shut, next, closed, ready, called, answered, pulled, paused, dropped, replied, sent, failed, failed_write, failed_read, failed_fed, failed_sent, asked_to_drain}
 use Rattle.h1_dispatch.specs.Traces.{IsNoted, AllNoted}
 use Rattle.h1_dispatch.specs.Bodies.{IsOfEnd, OnlyEnds}
 
@@ -116,6 +116,10 @@ wrote v w Pending line stage f = still v w line stage f
 closes_now : (v : View) → HasFailed v → closes v ≡ true
 closes_now v f = closes_so (setting_of v.line.state.settings) v.line.state.kept f.fails
 
+-- no more of a request's body comes while the body of its answer goes out
+not_awaited : (v : View) (body : Giving) → v.stage ≡ sending body → awaits_body v ≡ true → ⊥
+not_awaited v body stage is = clash (sym is ∙ ap (λ s. is_awaiting s && (allows_answer v && allows v on.drop_body)) stage)
+
 step_ends : (v w : View) (d : Step) → IsNoted d → IsStep v d w → HasFailed v → IsOfEnd d × HasFailed w
 step_ends v w (ticked moment expiry) noted is f = (
   tt,
@@ -135,13 +139,16 @@ step_ends v w (closed end) noted is f = (
 )
 step_ends v w (ready request answer) noted is f = clash (ap is_sending (sym f.stage ∙ is.0.1))
 step_ends v w (called request) noted is f = clash (ap is_sending (sym f.stage ∙ is.0.1))
-step_ends v w (answered answer) noted is f = clash (ap is_sending (sym f.stage ∙ is.2))
+step_ends v w (answered answer) noted is f = clash (ap is_sending (sym f.stage ∙ is.calls))
+step_ends v w (pulled piece) noted is f = absurd (not_awaited v f.body f.stage is.0.awaits)
+step_ends v w paused noted is f = absurd (not_awaited v f.body f.stage is.1)
 step_ends v w dropped noted is f = clash (sym (sym (ap is_replying f.stage) ∙ is.1))
 step_ends v w (replied answer) noted is f = clash (ap is_sending (sym f.stage ∙ is.1))
 step_ends v w (sent piece) noted is f = absurd (no_piece (setting_of v.line.state.settings) v.line.state.kept (closes_now v f) is.1.allowed)
 step_ends v w (failed event) noted is f = absurd noted
 step_ends v w (failed_write count) noted is f = absurd noted
 step_ends v w (failed_read came event) noted is f = absurd noted
+step_ends v w (failed_fed bytes) noted is f = absurd noted
 step_ends v w (failed_sent piece) noted is f = absurd noted
 step_ends v w asked_to_drain noted is f = (tt, still v w (ap (λ (x : View). x.line) is) (ap (λ (x : View). x.stage) is) f)
 

@@ -10,3 +10,5 @@ pub mod Told
 pub mod Bodies
 pub mod Faults
 pub mod Bounds
+pub mod Pulls
+pub mod Feeds

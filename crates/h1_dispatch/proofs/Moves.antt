@@ -1,5 +1,5 @@
 -- Single steps, by what the calls of a turn ensure.
-use Rattle.std.proofs.Common.{◌≡◌, ◌<◌, ◌≤◌, ◌⊎◌, ℕ, zero, suc, Bool, true, false, Some, None, is_some, List, [], length, take, Result, Ok, inl, inr, refl, ap, ◌∙◌}
+use Rattle.std.proofs.Common.{◌≡◌, ◌<◌, ◌≤◌, ◌⊎◌, ℕ, zero, suc, Bool, true, false, Option, Some, None, is_some, List, [], length, take, Result, Ok, inl, inr, refl, sym, ap, ◌∙◌, subst}
 use Rattle.std.specs.Prelude.{not, ◌&&◌, if◌then◌else◌}
 use Rattle.futures.specs.declared.task.Poll.{Poll}
 use Rattle.futures.specs.declared.task.Poll.TheVariants.{Ready}
@@ -7,7 +7,16 @@ use Rattle.http_config.specs.declared.Failed.{Failed}
 use Rattle.http_framing.specs.declared.body.size.BodySize.{BodySize}
 use Rattle.http_framing.specs.declared.body.size.BodySize.TheVariants.{None as NoBody, Sized, Stream}
 use Rattle.http_bodies.specs.Giving.{Giving, Piece, PieceSays}
-use Rattle.http_services.specs.Serving.{AnswerSays}
+use Rattle.http_services.specs.Lent as lent
+use Rattle.http_services.specs.Lent.{LentBound, lent_of}
+use Rattle.http_services.specs.Queue.{new_queue}
+use Rattle.http_services.specs.Status.{status_of, Asked}
+use Rattle.http_services.specs.declared.h1.send.PayloadStatus.{PayloadStatus}
+use Rattle.http_services.specs.declared.h1.send.PayloadStatus.TheVariants as status
+use Rattle.h1_payload.specs.Rests.{SaysPulled}
+use Rattle.h1_payload.specs.declared.pulled.Pulled.{Pulled}
+use Rattle.h1_payload.specs.declared.pulled.Pulled.TheVariants as pieces
+use Rattle.http_services.specs.Serving.{AnswerSays, Takes}
 use Rattle.http_wires.specs.Wiring.{ReadSays, moved}
 use Rattle.h1_model.specs.Answer.{AnswerHead}
 use Rattle.h1_model.specs.Answer as answers
@@ -21,9 +30,9 @@ use Rattle.h1_connection.specs.State.{Is}
 use Rattle.h1_connection.specs.declared.connection.heads.NextHead.{NextHead}
 use Rattle.h1_line.specs.Line.{LineSteps, LineFails}
 use Rattle.h1_dispatch.specs.declared.dispatcher.Ending.TheVariants.{Broken}
-use Rattle.h1_dispatch.specs.View.{View, Answer, free, replying, sending, is_busy, is_calling, allows_chunk, allows, allows_next, has_write_room, allows_answer, any_answer, room}
-use Rattle.h1_dispatch.specs.Steps.{IsStep, Took, IsOfRead, Polls, replied, Sent, Lacked, request_at, stage_at, ending_told, stage_answered, stage_replied, stage_sent, sent, failed_sent, read, next, answered, failed_read}
-use Rattle.h1_dispatch.proofs.Turns.{now_free, now_calling, both_true}
+use Rattle.h1_dispatch.specs.View.{View, Answer, free, calling, replying, sending, is_busy, allows_chunk, allows, allows_next, has_write_room, allows_answer, any_answer, awaits_body, room}
+use Rattle.h1_dispatch.specs.Steps.{IsStep, Took, Wants, fed_with, pulled, paused, failed_fed, IsOfRead, Polls, replied, Sent, Lacked, queue_at, request_at, stage_at, ending_told, stage_answered, stage_replied, stage_sent, sent, failed_sent, read, next, answered, failed_read}
+use Rattle.h1_dispatch.proofs.Turns.{now_free, both_true}
 
 -- whether an answer is allowed doesn't depend on it
 pub any_allowed : (set : Setting) (k : Kept) (head : AnswerHead) (size : answers.BodySize) → allowed_by set k any_answer ≡ true → allowed_by set k (on.answer head size) ≡ true
@@ -40,21 +49,23 @@ pub read_fails : (v w : View) (came buf : List ℕ) (count : ℕ) (event : on.Ev
     → w ≡ record v { line = w.line; wire = w.wire; ending = Some Broken } → IsStep v (failed_read came event) w
 read_fails v w came buf count event running may some fits moves says is fails same = (running, may, (buf, count, some, fits, moves, says, is), fails, same)
 
-pub polled : (v w : View) (answer : Poll (Result Answer Answer)) → v.ending ≡ None → allows_answer v ≡ true → is_calling v.stage ≡ true → AnswerSays v.service w.service answer
-    → w ≡ record v { service = w.service; stage = w.stage } → w.stage ≡ stage_answered answer → IsStep v (answered answer) w
-polled v w answer running allowed calls says same stage =
-    (running, allowed, now_calling v.stage calls, says, same ∙ ap (λ x. record v { service = w.service; stage = x }) stage)
+pub polled : (v w : View) (took more : Option lent.Took) (answer : Poll (Result Answer Answer)) → v.ending ≡ None → allows_answer v ≡ true → v.stage ≡ calling took → AnswerSays v.service w.service answer
+    → Takes took more (lent_of v.queue) (lent_of w.queue) → LentBound (lent_of v.queue) (lent_of w.queue)
+    → w ≡ record v { service = w.service; queue = w.queue; stage = stage_answered more answer } → IsStep v (answered answer) w
+polled v w took more answer running allowed calls says takes bound same =
+    record { running = running; allowed = allowed; took = took; calls = calls; says = says; more = more; takes = takes; bound = bound; same = same }
 
 pub asked_next : (v w : View) (head : NextHead) → v.ending ≡ None → is_busy v.stage ≡ false → allows_next v ≡ true → has_write_room v ≡ true → LineSteps v.line on.next (SaysNext head) w.line
-    → w.line.state.settings ≡ v.line.state.settings → w ≡ record v { line = w.line; stage = w.stage; ending = w.ending }
-    → w.stage ≡ stage_at (request_at head) → w.ending ≡ ending_told head → IsStep v (next head) w
-asked_next v w head running idle allowed some steps settings same stage ends = (
+    → w.line.state.settings ≡ v.line.state.settings → w ≡ record v { line = w.line; queue = w.queue; stage = w.stage; ending = w.ending }
+    → w.queue ≡ queue_at head v.queue → w.stage ≡ stage_at (request_at head) → w.ending ≡ ending_told head → IsStep v (next head) w
+asked_next v w head running idle allowed some steps settings same fresh stage ends = (
   running,
   now_free v.stage idle,
   both_true (allows_next v) (has_write_room v) allowed some,
   record { steps = steps; settings = settings },
-  same ∙ ap (λ x. record v { line = w.line; stage = x; ending = w.ending }) stage
-      ∙ ap (λ x. record v { line = w.line; stage = stage_at (request_at head); ending = x }) ends,
+  same ∙ ap (λ x. record v { line = w.line; queue = x; stage = w.stage; ending = w.ending }) fresh
+      ∙ ap (λ x. record v { line = w.line; queue = queue_at head v.queue; stage = x; ending = w.ending }) stage
+      ∙ ap (λ x. record v { line = w.line; queue = queue_at head v.queue; stage = stage_at (request_at head); ending = x }) ends,
 )
 
 -- whether a piece is allowed doesn't depend on it, and where one is, the body may end or fail
@@ -112,6 +123,34 @@ replied_some body Stream some = refl
 
 -- an answer was handed on
 pub handed_on : (v w : View) (answer : Answer) → v.ending ≡ None → allows v on.drop_body ≡ false → v.stage ≡ replying answer → LineSteps v.line (on.answer (answer_of answer.head) (size_of answer.body.size)) (Is on.done) w.line
-    → w.line.state.settings ≡ v.line.state.settings → w ≡ record v { line = w.line; stage = w.stage } → w.stage ≡ stage_replied answer.body answer.body.size → IsStep v (replied answer) w
-handed_on v w answer running none is steps settings same stage =
-    ((running, none), is, record { steps = steps; settings = settings }, same ∙ ap (λ x. record v { line = w.line; stage = x }) stage)
+    → w.line.state.settings ≡ v.line.state.settings → w ≡ record v { line = w.line; queue = w.queue; stage = w.stage } → w.queue ≡ new_queue true → w.stage ≡ stage_replied answer.body answer.body.size
+    → IsStep v (replied answer) w
+handed_on v w answer running none is steps settings same fresh stage = (
+  (running, none),
+  is,
+  record { steps = steps; settings = settings },
+  same ∙ ap (λ x. record v { line = w.line; queue = x; stage = w.stage }) fresh ∙ ap (λ x. record v { line = w.line; queue = new_queue true; stage = x }) stage,
+)
+
+-- what came of a request's body was fed
+pub fed_step : (v w : View) (piece : Pulled) → Wants v → LineSteps v.line on.pull (SaysPulled piece) w.line → w.line.state.settings ≡ v.line.state.settings
+    → w ≡ record v { line = w.line; queue = w.queue } → w.queue ≡ fed_with piece v.queue → IsStep v (pulled piece) w
+fed_step v w piece wants steps settings same fed =
+    (wants, record { steps = steps; settings = settings }, same ∙ ap (λ q. record v { line = w.line; queue = q }) fed)
+
+pub fed_fails : (v w : View) (bytes : List ℕ) → Wants v → LineSteps v.line on.pull (SaysPulled (pieces.Bytes bytes)) w.line → w.line.state.settings ≡ v.line.state.settings
+    → w ≡ record v { line = w.line; queue = w.queue; ending = Some Broken } → w.queue ≡ v.queue → IsStep v (failed_fed bytes) w
+fed_fails v w bytes wants steps settings same kept =
+    (wants, record { steps = steps; settings = settings }, same ∙ ap (λ q. record v { line = w.line; queue = q; ending = Some Broken }) kept)
+
+-- a queue that wants nothing for now
+pub paused_step : (v w : View) (asked : PayloadStatus) → v.ending ≡ None → awaits_body v ≡ true → asked ≡ status_of v.queue → asked ≡ status.Pause → Asked v.queue w.queue asked
+    → w ≡ record v { queue = w.queue } → IsStep v paused w
+paused_step v w asked running awaits says is so same =
+    (running, awaits, sym says ∙ is, subst (λ x. Asked v.queue w.queue x) is so, same)
+
+-- and one that was dropped, or wants more
+pub same_queue : (v w : View) (asked : PayloadStatus) → ¬ (asked ≡ status.Pause) → Asked v.queue w.queue asked → w ≡ record v { queue = w.queue } → w ≡ v
+same_queue v w status.Read other so same = same ∙ ap (λ q. record v { queue = q }) so
+same_queue v w status.Dropped other so same = same ∙ ap (λ q. record v { queue = q }) so
+same_queue v w status.Pause other so same = absurd (other refl)

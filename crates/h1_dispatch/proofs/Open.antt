@@ -10,6 +10,7 @@ use Rattle.http_framing.specs.declared.body.size.BodySize.{BodySize}
 use Rattle.http_framing.specs.declared.body.size.BodySize.TheVariants.{None as NoBody, Sized, Stream}
 use Rattle.http_bodies.specs.Giving.{Giving, Piece}
 use Rattle.http_bodies.specs.declared.body.fault.BodyFault.TheVariants.{Body, NoMemory}
+use Rattle.http_services.specs.Lent as lent
 use Rattle.http_services.specs.Serving.{Serving}
 use Rattle.http_wires.specs.Wiring.{Wiring}
 use Rattle.h1_model.specs.Answer.{AnswerHead, shape_of, type_of}
@@ -25,8 +26,9 @@ use Rattle.h1_machine.specs.Local.{closing_by, allowed_by, waits_for_answer, is_
 use Rattle.h1_machine.specs.Body.{passing}
 use Rattle.h1_machine.specs.Clock.{is_abandoned, is_slow, is_idle, expiring, ticking}
 use Rattle.h1_machine.specs.Reply.{stated, completing, answering, sending_piece, ending_body}
-use Rattle.h1_machine.specs.Change.{doing, doing_with, reading, exchange_at_end, ending_input, behind_head, without_head, IsUpcoming, IsNext}
+use Rattle.h1_machine.specs.Change.{doing, doing_with, reading, exchange_at_end, ending_input, behind_head, without_head, IsUpcoming, IsNext, IsPulling}
 use Rattle.h1_machine.specs.Change.{IsStep as Machine}
+use Rattle.h1_payload.specs.Rests.{SaysPulled}
 use Rattle.h1_codec.specs.Meaning.{answer_of, size_of}
 use Rattle.h1_connection.specs.Heads.{SaysNext}
 use Rattle.h1_connection.specs.Meaning.{setting_of, end_of}
@@ -37,9 +39,10 @@ use Rattle.h1_connection.specs.declared.connection.heads.NextHead.TheVariants as
 use Rattle.h1_line.specs.Line.{LineView, LineStands}
 use Rattle.h1_line.proofs.Lines.{fresh_line, says_none, says_empty}
 use Rattle.h1_dispatch.specs.View.{View, Asking, Answer, Stage, waiting, calling, replying, sending as goes_out, is_unanswered as is_unanswered_at, is_sending, any_answer, view_begun}
-use Rattle.h1_dispatch.specs.Steps.{Step, Goes, Wrote, Took, IsStep, IsRun, request_at, stage_at, stage_asked, stage_answered, stage_replied, stage_sent, Sent, ticked, drained, written, read, shut, next, closed, ready, called, answered, dropped, replied, sent, failed, failed_write, failed_read, failed_sent, asked_to_drain}
+use Rattle.h1_dispatch.specs.Steps.{Step, Goes, Wrote, Took, IsStep, IsRun, request_at, stage_at, stage_asked, stage_answered, stage_replied, stage_sent, Sent, ticked, drained, written, read, shut, next, closed, ready, called, answered, pulled, paused, dropped, replied, sent, failed, failed_write, failed_read, failed_fed, failed_sent, asked_to_drain}
 use Rattle.h1_dispatch.specs.Traces.{IsNoted, AllNoted}
 use Rattle.h1_dispatch.specs.Open.{IsTied, StaysTied}
+use Rattle.h1_dispatch.proofs.Pulls.{pull_frames}
 
 -- ---- whether the last request is open and has no answer, and whether the body of its answer goes out
 
@@ -210,6 +213,12 @@ drops_in : (k : Kept) (e : Option Exchange) → asks (doing_with (λ x k. record
 drops_in k None = refl
 drops_in k (Some x) = refl
 
+-- more of a body
+pulls_asks : (k : Kept) (e : Option Exchange) (c : Change) → IsPulling (record k { exchange = e }) e c → asks c.kept.exchange ≡ asks e
+pulls_asks k None c is = by_change None c _ is refl
+pulls_asks k (Some x) c is =
+    by_change (Some x) c _ is.2 (ap (λ b. (is_unanswered x.reply && not b, is_sending_body x.reply)) (pull_frames k.has_ended x.rest k.unread is.0 is.1))
+
 -- ---- steps
 
 still : (v w : View) → w.line ≡ v.line → asks_at w.stage ≡ asks_at v.stage → IsTied v → IsTied w
@@ -264,10 +273,10 @@ asked_busy request (Ready (Ok x)) = refl
 asked_busy request (Ready (Err e)) = refl
 asked_busy request Pending = refl
 
-answered_busy : (answer : Poll (Result Answer Answer)) → asks_at (stage_answered answer) ≡ (true, false)
-answered_busy (Ready (Ok x)) = refl
-answered_busy (Ready (Err e)) = refl
-answered_busy Pending = refl
+answered_busy : (more : Option lent.Took) (answer : Poll (Result Answer Answer)) → asks_at (stage_answered more answer) ≡ (true, false)
+answered_busy more (Ready (Ok x)) = refl
+answered_busy more (Ready (Err e)) = refl
+answered_busy more Pending = refl
 
 both_busy : (v w : View) (before after : Stage) → v.stage ≡ before → w.stage ≡ after → asks_at before ≡ (true, false) → asks_at after ≡ (true, false) → asks_at w.stage ≡ asks_at v.stage
 both_busy v w before after was now busy_before busy_after = ap asks_at now ∙ busy_after ∙ sym (ap asks_at was ∙ busy_before)
@@ -326,9 +335,13 @@ step_ties v w (ready request answer) noted is t =
     still v w (ap (λ (x : View). x.line) is.3)
     (both_busy v w (waiting request) (stage_asked request answer) is.0.1 (ap (λ (x : View). x.stage) is.3) refl (asked_busy request answer)) t
 step_ties v w (called request) noted is t =
-    still v w (ap (λ (x : View). x.line) is.2) (both_busy v w (waiting request) calling is.0.1 (ap (λ (x : View). x.stage) is.2) refl refl) t
+    still v w (ap (λ (x : View). x.line) is.2.2) (both_busy v w (waiting request) (calling is.2.0) is.0.1 (ap (λ (x : View). x.stage) is.2.2) refl refl) t
 step_ties v w (answered answer) noted is t =
-    still v w (ap (λ (x : View). x.line) is.4) (both_busy v w calling (stage_answered answer) is.2 (ap (λ (x : View). x.stage) is.4) refl (answered_busy answer)) t
+    still v w (ap (λ (x : View). x.line) is.same) (both_busy v w (calling is.took) (stage_answered is.more answer) is.calls (ap (λ (x : View). x.stage) is.same) refl (answered_busy is.more answer)) t
+step_ties v w (pulled piece) noted is t =
+    same v w on.pull (SaysPulled piece) is.1 (ap (λ (x : View). x.stage) is.2)
+    (λ out m. pulls_asks v.line.state.kept v.line.state.kept.exchange m.change m.changes) t
+step_ties v w paused noted is t = still v w (ap (λ (x : View). x.line) is.4) (ap (λ (x : View). asks_at x.stage) is.4) t
 step_ties v w dropped noted is t =
     same v w on.drop_body (Is on.done) is.2 (ap (λ (x : View). x.stage) is.3)
     (λ out m. by_change _ _ _ m.changes (drops_in v.line.state.kept v.line.state.kept.exchange)) t
@@ -337,6 +350,7 @@ step_ties v w (sent piece) noted is t = sends v w piece is.1.body is.0 is.1.goes
 step_ties v w (failed event) noted is t = absurd noted
 step_ties v w (failed_write count) noted is t = absurd noted
 step_ties v w (failed_read came event) noted is t = absurd noted
+step_ties v w (failed_fed bytes) noted is t = absurd noted
 step_ties v w (failed_sent piece) noted is t = absurd noted
 step_ties v w asked_to_drain noted is t = still v w (ap (λ (x : View). x.line) is) (ap (λ (x : View). asks_at x.stage) is) t
 

@@ -8,10 +8,11 @@ use Rattle.http_framing.specs.declared.body.size.BodySize.TheVariants.{None as N
 use Rattle.http_bodies.specs.Giving.{Giving, Piece}
 use Rattle.http_bodies.specs.Told.{Grows}
 use Rattle.http_bodies.proofs.Histories.{grown, grown-none}
+use Rattle.http_services.specs.Lent.{Took}
 use Rattle.http_services.specs.Serving.{Serving}
 use Rattle.h1_connection.specs.declared.connection.heads.NextHead.{NextHead}
 use Rattle.h1_dispatch.specs.View.{View, Asking, Answer, Stage, free, waiting, calling, replying, sending}
-use Rattle.h1_dispatch.specs.Steps.{Step, IsStep, IsRun, request_at, stage_at, stage_asked, stage_answered, stage_replied, stage_sent, ticked, drained, written, read, shut, next, closed, ready, called, answered, dropped, replied, sent, failed, failed_write, failed_read, failed_sent, asked_to_drain}
+use Rattle.h1_dispatch.specs.Steps.{Step, IsStep, IsRun, request_at, stage_at, stage_asked, stage_answered, stage_replied, stage_sent, ticked, drained, written, read, shut, next, closed, ready, called, answered, pulled, paused, dropped, replied, sent, failed, failed_write, failed_read, failed_fed, failed_sent, asked_to_drain}
 use Rattle.h1_dispatch.specs.Order.{waits_in, reply_in, calls_in, step_requests, step_calls, step_left, step_answers, step_replies, requests, calls, left, answers, replies, KeepsOrder}
 
 -- what one step keeps
@@ -76,11 +77,11 @@ asked v w request (Ready (Ok x)) was now calls_so = by_stage v w (ready request 
 asked v w request (Ready (Err e)) was now calls_so = by_stage v w (ready request (Ready (Err e))) (waiting request) (replying e) was now refl refl refl calls_so
 asked v w request Pending was now calls_so = by_stage v w (ready request Pending) (waiting request) (waiting request) was now refl refl refl calls_so
 
-polled : (v w : View) (answer : Poll (Result Answer Answer)) → v.stage ≡ calling → w.stage ≡ stage_answered answer
+polled : (v w : View) (took more : Option Took) (answer : Poll (Result Answer Answer)) → v.stage ≡ calling took → w.stage ≡ stage_answered more answer
     → Grows v.service.called w.service.called [] → Keeps v (answered answer) w
-polled v w (Ready (Ok x)) was now calls_so = by_stage v w (answered (Ready (Ok x))) calling (replying x) was now refl refl refl calls_so
-polled v w (Ready (Err e)) was now calls_so = by_stage v w (answered (Ready (Err e))) calling (replying e) was now refl refl refl calls_so
-polled v w Pending was now calls_so = by_stage v w (answered Pending) calling calling was now refl refl refl calls_so
+polled v w took more (Ready (Ok x)) was now calls_so = by_stage v w (answered (Ready (Ok x))) (calling took) (replying x) was now refl refl refl calls_so
+polled v w took more (Ready (Err e)) was now calls_so = by_stage v w (answered (Ready (Err e))) (calling took) (replying e) was now refl refl refl calls_so
+polled v w took more Pending was now calls_so = by_stage v w (answered Pending) (calling took) (calling more) was now refl refl refl calls_so
 
 -- an answer was handed on, and its body goes out where it has one
 handed_on : (v w : View) (answer : Answer) (body : Giving) (size : BodySize) → v.stage ≡ replying answer → w.stage ≡ stage_replied body size → w.service ≡ v.service → Keeps v (replied answer) w
@@ -104,14 +105,17 @@ step_keeps v w (shut answer) is = apart v w _ refl refl refl refl refl (ap (λ (
 step_keeps v w (next head) is = handed v w head is.1 (ap (λ (x : View). x.stage) is.4) (ap (λ (x : View). x.service) is.4)
 step_keeps v w (closed end) is = apart v w _ refl refl refl refl refl (ap (λ (x : View). x.stage) is.4) (ap (λ (x : View). x.service) is.4)
 step_keeps v w (ready request answer) is = asked v w request answer is.0.1 (ap (λ (x : View). x.stage) is.3) (told v w is.2.called)
-step_keeps v w (called request) is = by_stage v w (called request) (waiting request) calling is.0.1 (ap (λ (x : View). x.stage) is.2) refl refl refl (subst (λ c. Grows c w.service.called (request ∷ [])) is.1.is_ready.called is.1.begun.called)
-step_keeps v w (answered answer) is = polled v w answer is.2 (ap (λ (x : View). x.stage) is.4) (told v w is.3.called)
+step_keeps v w (called request) is = by_stage v w (called request) (waiting request) (calling is.2.0) is.0.1 (ap (λ (x : View). x.stage) is.2.2) refl refl refl (subst (λ c. Grows c w.service.called (request ∷ [])) is.1.is_ready.called is.1.begun.called)
+step_keeps v w (answered answer) is = polled v w is.took is.more answer is.calls (ap (λ (x : View). x.stage) is.same) (told v w is.says.called)
+step_keeps v w (pulled piece) is = apart v w _ refl refl refl refl refl (ap (λ (x : View). x.stage) is.2) (ap (λ (x : View). x.service) is.2)
+step_keeps v w paused is = apart v w _ refl refl refl refl refl (ap (λ (x : View). x.stage) is.4) (ap (λ (x : View). x.service) is.4)
 step_keeps v w dropped is = apart v w _ refl refl refl refl refl (ap (λ (x : View). x.stage) is.3) (ap (λ (x : View). x.service) is.3)
 step_keeps v w (replied answer) is = handed_on v w answer answer.body answer.body.size is.1 (ap (λ (x : View). x.stage) is.3) (ap (λ (x : View). x.service) is.3)
 step_keeps v w (sent piece) is = sends v w piece is.1.body is.0 is.1.goes_out (ap (λ (x : View). x.stage) is.3) (ap (λ (x : View). x.service) is.3)
 step_keeps v w (failed event) is = apart v w _ refl refl refl refl refl (ap (λ (x : View). x.stage) is.2) (ap (λ (x : View). x.service) is.2)
 step_keeps v w (failed_write count) is = apart v w _ refl refl refl refl refl (ap (λ (x : View). x.stage) is.4) (ap (λ (x : View). x.service) is.4)
 step_keeps v w (failed_read came event) is = apart v w _ refl refl refl refl refl (ap (λ (x : View). x.stage) is.4) (ap (λ (x : View). x.service) is.4)
+step_keeps v w (failed_fed bytes) is = apart v w _ refl refl refl refl refl (ap (λ (x : View). x.stage) is.2) (ap (λ (x : View). x.service) is.2)
 step_keeps v w (failed_sent piece) is =
     by_stage v w (failed_sent piece) (sending is.1.body) (sending is.0) is.1.goes_out (ap (λ (x : View). x.stage) is.3) refl refl refl (same_calls v w (ap (λ (x : View). x.service) is.3))
 step_keeps v w asked_to_drain is = apart v w _ refl refl refl refl refl (ap (λ (x : View). x.stage) is) (ap (λ (x : View). x.service) is)

@@ -45,7 +45,8 @@ memory_on : (d : Step) (s : List Step) → Continues d → IsOutOfMemory s → I
 memory_on d s goes (inl is) = inl (is.0, is.1, ends_on d _ s goes is.2)
 memory_on d s goes (inr (inl is)) = inr (inl (is.0, ends_on d _ s goes is.1))
 memory_on d s goes (inr (inr (inl is))) = inr (inr (inl (is.0, is.1, ends_on d _ s goes is.2)))
-memory_on d s goes (inr (inr (inr is))) = inr (inr (inr (is.0, ends_on d _ s goes is.1)))
+memory_on d s goes (inr (inr (inr (inl is)))) = inr (inr (inr (inl (is.0, ends_on d _ s goes is.1))))
+memory_on d s goes (inr (inr (inr (inr is)))) = inr (inr (inr (inr (is.0, ends_on d _ s goes is.1))))
 
 ended_on : (w : View) (d : Step) (s : List Step) (result : Result Unit DispatchError) → Continues d → Ended w s result → Ended w (d ∷ s) result
 ended_on w d s (Ok x) goes is = shut_on w d s (Ok tt) goes is

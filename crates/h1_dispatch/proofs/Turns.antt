@@ -6,6 +6,9 @@ use Rattle.futures.specs.declared.task.Poll.TheVariants.{Ready, Pending}
 use Rattle.futures.specs.declared.task.context.Context.{Context}
 use Rattle.std.specs.Prelude.{option_map, not, ◌&&◌, ◌||◌, ◌==◌, if◌then◌else◌}
 use Rattle.http_bodies.specs.Giving.{Giving}
+use Rattle.http_services.specs.Lent.{Took}
+use Rattle.http_services.specs.Status.{status_of}
+use Rattle.http_services.specs.declared.h1.send.PayloadStatus.TheVariants as status
 use Rattle.h1_model.specs.Event as on
 use Rattle.h1_model.specs.Setting.{Setting}
 use Rattle.h1_machine.specs.Kept.{Kept, is_open}
@@ -19,9 +22,9 @@ use Rattle.http_types.specs.declared.error.DispatchError.{DispatchError}
 use Rattle.h1_dispatch.specs.declared.dispatcher.Ending.TheVariants.{Closed}
 use Rattle.h1_dispatch.specs.declared.dispatcher.Turn.{Turn}
 use Rattle.h1_dispatch.specs.declared.dispatcher.Turn.TheVariants.{Counted, Idle, Over}
-use Rattle.h1_dispatch.specs.View.{View, Asking, Stage, free, waiting, calling, replying, sending, is_busy, is_waiting, is_calling, is_sending, allows_chunk, closes, allows, allows_next, has_write_room, asks_next, allows_answer, buffered, HasNoOutput, HasNoInput}
+use Rattle.h1_dispatch.specs.View.{View, Asking, Stage, free, waiting, calling, replying, sending, is_busy, is_waiting, is_calling, is_awaiting, is_sending, allows_chunk, closes, allows, allows_next, has_write_room, asks_next, allows_answer, awaits_body, buffered, HasNoOutput, HasNoInput}
 use Rattle.h1_dispatch.specs.Steps.{Step, IsStep, written, shut, next, ready, called, answered, sent}
-use Rattle.h1_dispatch.specs.Polls.{Continues, IsShut, Ended, result_of, counts, Awaits, Looks, Sends, Serves, IsHeld, GoesOn, Ends, WritesFirst, TurnSays, ServeSays, AfterSays, EndSays, StepSays, ReadingSays, TurnsSay}
+use Rattle.h1_dispatch.specs.Polls.{Continues, IsShut, Ended, result_of, counts, Awaits, Looks, Sends, Serves, Feeds, IsHeld, GoesOn, Ends, WritesFirst, TurnSays, ServeSays, AfterSays, EndSays, StepSays, ReadingSays, FeedingSays, TurnsSay}
 use Rattle.h1_dispatch.proofs.Runs.{one, run_on, all_on, progress_on, goes_by, ends_by, goes_after, ends_after, more_goes, more_ends}
 
 pub none_of : {A : Type 0} (x : Option A) → is_some x ≡ false → x ≡ None
@@ -90,46 +93,120 @@ more_serve v w Counted says = more_goes v w 1 3 4 (omega arith) says
 more_serve v w Idle says = says
 more_serve v w (Over result) says = more_ends v w result 3 4 (omega arith) says
 
--- what was pending, and then the input
-pub pending_then : (most : ℕ) → 2 ≤ most → (v u w : View) (d : Step) (turn : Turn) → IsStep v d u → Continues d → Serves v (is_sending v.stage) (allows_answer v) (d ∷ []) → ReadingSays u w turn
+-- what was pending, and then the input, where no body of a request may come
+pub pending_then : (most : ℕ) → 2 ≤ most → (v u w : View) (d : Step) (turn : Turn) → IsStep v d u → Continues d → awaits_body u ≡ false → Serves v (is_sending v.stage) (allows_answer v) (d ∷ [])
+    → ReadingSays u w turn → ServeSays most v w turn
+pending_then most fits v u w d Counted is goes none waits says = goes_after v u w 0 1 1 (omega arith) 1 1 most (omega (arith, fits)) (goes_by 1 (omega arith) v u d 0 is goes (omega arith)) says
+pending_then most fits v u w d Idle is goes none waits says =
+    record {
+      served = d ∷ [];
+      between = u;
+      serves = one v u d is;
+      feeding = [];
+      fed = u;
+      feeds = refl;
+      reading = says.reading;
+      reads = says.reads;
+      waits = waits;
+      no_body = inr (inr (refl, inl none));
+      no_input = says.no_input;
+    }
+pending_then most fits v u w d (Over result) is goes none waits says = ends_after v u w 0 result 1 1 most (omega (arith, fits)) (goes_by 1 (omega arith) v u d 0 is goes (omega arith)) says
+
+-- and then the body of a request, and the input
+pub feed_then : (most : ℕ) → 3 ≤ most → (v u w : View) (d : Step) (turn : Turn) → IsStep v d u → Continues d → Serves v (is_sending v.stage) (allows_answer v) (d ∷ []) → FeedingSays u w turn
     → ServeSays most v w turn
-pending_then most fits v u w d Counted is goes waits says = goes_after v u w 0 1 1 (omega arith) 1 1 most (omega (arith, fits)) (goes_by 1 (omega arith) v u d 0 is goes (omega arith)) says
-pending_then most fits v u w d Idle is goes waits says =
-    record { served = d ∷ []; between = u; serves = one v u d is; reading = says.reading; reads = says.reads; waits = waits; no_input = says.no_input }
-pending_then most fits v u w d (Over result) is goes waits says = ends_after v u w 0 result 1 1 most (omega (arith, fits)) (goes_by 1 (omega arith) v u d 0 is goes (omega arith)) says
+feed_then most fits v u w d Counted is goes waits says = goes_after v u w 0 1 1 (omega arith) 1 2 most (omega (arith, fits)) (goes_by 1 (omega arith) v u d 0 is goes (omega arith)) says
+feed_then most fits v u w d Idle is goes waits says =
+    record {
+      served = d ∷ [];
+      between = u;
+      serves = one v u d is;
+      feeding = says.feeding;
+      fed = says.fed;
+      feeds = says.feeds;
+      reading = says.reading;
+      reads = says.reads;
+      waits = waits;
+      no_body = says.no_body;
+      no_input = says.no_input;
+    }
+feed_then most fits v u w d (Over result) is goes waits says = ends_after v u w 0 result 1 2 most (omega (arith, fits)) (goes_by 1 (omega arith) v u d 0 is goes (omega arith)) says
 
 -- the input alone
-pub input_then : (v w : View) (turn : Turn) → Serves v (is_sending v.stage) (allows_answer v) [] → ReadingSays v w turn → ServeSays 4 v w turn
-input_then v w Counted waits says = more_goes v w 1 1 4 (omega arith) says
-input_then v w Idle waits says =
-    record { served = []; between = v; serves = refl; reading = says.reading; reads = says.reads; waits = waits; no_input = says.no_input }
-input_then v w (Over result) waits says = more_ends v w result 1 4 (omega arith) says
+pub input_then : (v w : View) (turn : Turn) → awaits_body v ≡ false → Serves v (is_sending v.stage) (allows_answer v) [] → ReadingSays v w turn → ServeSays 4 v w turn
+input_then v w Counted none waits says = more_goes v w 1 1 4 (omega arith) says
+input_then v w Idle none waits says =
+    record {
+      served = [];
+      between = v;
+      serves = refl;
+      feeding = [];
+      fed = v;
+      feeds = refl;
+      reading = says.reading;
+      reads = says.reads;
+      waits = waits;
+      no_body = inr (inr (refl, inl none));
+      no_input = says.no_input;
+    }
+input_then v w (Over result) none waits says = more_ends v w result 1 4 (omega arith) says
+
+-- ---- the body of a request
+
+-- none comes, or nobody wants it
+pub unfed_then : (v w : View) (turn : Turn) → (awaits_body v ≡ false) ⊎ (status_of v.queue ≡ status.Dropped) → ReadingSays v w turn → FeedingSays v w turn
+unfed_then v w Counted none says = more_goes v w 1 1 2 (omega arith) says
+unfed_then v w Idle none says =
+    record { feeding = []; fed = v; feeds = refl; reading = says.reading; reads = says.reads; no_body = inr (inr (refl, none)); no_input = says.no_input }
+unfed_then v w (Over result) none says = more_ends v w result 1 2 (omega arith) says
+
+-- it was pending, or its queue was
+pub waited_then : (v u w : View) (d : Step) (turn : Turn) → IsStep v d u → Continues d → Feeds v (d ∷ []) → ReadingSays u w turn → FeedingSays v w turn
+waited_then v u w d Counted is goes waits says = goes_after v u w 0 1 1 (omega arith) 1 1 2 (omega arith) (goes_by 1 (omega arith) v u d 0 is goes (omega arith)) says
+waited_then v u w d Idle is goes waits says =
+    record { feeding = d ∷ []; fed = u; feeds = one v u d is; reading = says.reading; reads = says.reads; no_body = waits; no_input = says.no_input }
+waited_then v u w d (Over result) is goes waits says = ends_after v u w 0 result 1 1 2 (omega arith) (goes_by 1 (omega arith) v u d 0 is goes (omega arith)) says
 
 -- ---- how far the last request is
 
 pub now_free : (s : Stage) → is_busy s ≡ false → s ≡ free
 now_free free is = refl
 now_free (waiting request) is = absurd (cc is)
-now_free calling is = absurd (cc is)
+now_free (calling took) is = absurd (cc is)
 now_free (replying answer) is = absurd (cc is)
 now_free (sending body) is = absurd (cc is)
 
 pub now_waiting : (s : Stage) → is_waiting s ≡ true → (request : Asking) × (s ≡ waiting request)
 now_waiting (waiting request) is = (request, refl)
 now_waiting free is = absurd (cc is)
-now_waiting calling is = absurd (cc is)
+now_waiting (calling took) is = absurd (cc is)
 now_waiting (replying answer) is = absurd (cc is)
 now_waiting (sending body) is = absurd (cc is)
+
+pub waiting_awaits : (s : Stage) → is_waiting s ≡ true → is_awaiting s ≡ true
+waiting_awaits (waiting request) is = refl
+waiting_awaits free is = absurd (cc is)
+waiting_awaits (calling took) is = absurd (cc is)
+waiting_awaits (replying answer) is = absurd (cc is)
+waiting_awaits (sending body) is = absurd (cc is)
+
+pub sends_idle : (s : Stage) → is_sending s ≡ true → is_awaiting s ≡ false
+sends_idle (sending body) is = refl
+sends_idle free is = absurd (cc is)
+sends_idle (waiting request) is = absurd (cc is)
+sends_idle (calling took) is = absurd (cc is)
+sends_idle (replying answer) is = absurd (cc is)
 
 pub now_sending : (s : Stage) → is_sending s ≡ true → (body : Giving) × (s ≡ sending body)
 now_sending (sending body) is = (body, refl)
 now_sending free is = absurd (cc is)
 now_sending (waiting request) is = absurd (cc is)
-now_sending calling is = absurd (cc is)
+now_sending (calling took) is = absurd (cc is)
 now_sending (replying answer) is = absurd (cc is)
 
-pub now_calling : (s : Stage) → is_calling s ≡ true → s ≡ calling
-now_calling calling is = refl
+pub now_calling : (s : Stage) → is_calling s ≡ true → (took : Option Took) × (s ≡ calling took)
+now_calling (calling took) is = (took, refl)
 now_calling free is = absurd (cc is)
 now_calling (waiting request) is = absurd (cc is)
 now_calling (replying answer) is = absurd (cc is)
@@ -157,8 +234,8 @@ waits_body v goes_out allowed = sends_by v (is_sending v.stage) (allows_answer v
 pub waits_room : (v : View) → is_sending v.stage ≡ true → allows_chunk v ≡ false → Serves v (is_sending v.stage) (allows_answer v) []
 waits_room v goes_out full = sends_by v (is_sending v.stage) (allows_answer v) _ goes_out (subst (λ b. Sends b []) (sym full) refl)
 
-pub waits_call : (v : View) → allows_answer v ≡ true → v.stage ≡ calling → Serves v (is_sending v.stage) (allows_answer v) (answered Pending ∷ [])
-waits_call v allowed is = serves_by v (is_sending v.stage) (allows_answer v) _ (ap is_sending is) allowed (subst (λ s. Awaits s (answered Pending ∷ [])) (sym is) refl)
+pub waits_call : (v : View) (took : Option Took) → allows_answer v ≡ true → v.stage ≡ calling took → Serves v (is_sending v.stage) (allows_answer v) (answered Pending ∷ [])
+waits_call v took allowed is = serves_by v (is_sending v.stage) (allows_answer v) _ (ap is_sending is) allowed (subst (λ s. Awaits s (answered Pending ∷ [])) (sym is) refl)
 
 pub waits_ready : (v : View) (request : Asking) → allows_answer v ≡ true → v.stage ≡ waiting request → Serves v (is_sending v.stage) (allows_answer v) (ready request Pending ∷ [])
 waits_ready v request allowed is = serves_by v (is_sending v.stage) (allows_answer v) _ (ap is_sending is) allowed (subst (λ s. Awaits s (ready request Pending ∷ [])) (sym is) (inl refl))
@@ -169,12 +246,25 @@ waits_none v allowed is = serves_by v (is_sending v.stage) (allows_answer v) _ (
 pub both_true : (a b : Bool) → a ≡ true → b ≡ true → (a && b) ≡ true
 both_true a b is so = ap (λ x. x && b) is ∙ so
 
-first_false : (a b : Bool) → a ≡ false → (a && b) ≡ false
+pub first_false : (a b : Bool) → a ≡ false → (a && b) ≡ false
 first_false a b is = ap (λ x. x && b) is
 
 last_false : (a b : Bool) → b ≡ false → (a && b) ≡ false
 last_false true b is = is
 last_false false b is = refl
+
+-- no body comes where no request waits for its answer, or none may be answered, or the body is done with
+pub idle_body : (v : View) → is_awaiting v.stage ≡ false → awaits_body v ≡ false
+idle_body v is = first_false (is_awaiting v.stage) (allows_answer v && allows v on.drop_body) is
+
+pub late_body : (v : View) → allows_answer v ≡ false → awaits_body v ≡ false
+late_body v is = last_false (is_awaiting v.stage) _ (first_false (allows_answer v) (allows v on.drop_body) is)
+
+pub done_body : (v : View) → allows v on.drop_body ≡ false → awaits_body v ≡ false
+done_body v is = last_false (is_awaiting v.stage) _ (last_false (allows_answer v) (allows v on.drop_body) is)
+
+pub coming_body : (v : View) → is_awaiting v.stage ≡ true → allows_answer v ≡ true → allows v on.drop_body ≡ true → awaits_body v ≡ true
+coming_body v is may comes = both_true (is_awaiting v.stage) (allows_answer v && allows v on.drop_body) is (both_true (allows_answer v) (allows v on.drop_body) may comes)
 
 pub waits_head : (v : View) → allows_answer v ≡ false → asks_next v ≡ true → v.stage ≡ free → Serves v (is_sending v.stage) (allows_answer v) (next next_head.Pending ∷ [])
 waits_head v off may is =
@@ -186,7 +276,7 @@ looks_not true s is = absurd (cc is)
 
 looks_busy : (may : Bool) (s : Stage) → is_busy s ≡ true → Looks may s []
 looks_busy true (waiting request) is = refl
-looks_busy true calling is = refl
+looks_busy true (calling took) is = refl
 looks_busy true (replying answer) is = refl
 looks_busy true (sending body) is = refl
 looks_busy true free is = absurd (cc is)
@@ -205,29 +295,34 @@ pub waits_busy : (v : View) → is_sending v.stage ≡ false → allows_answer v
 waits_busy v unsent off busy = looks_by v (is_sending v.stage) (allows_answer v) _ unsent off (looks_busy (asks_next v) v.stage busy)
 
 -- a call was begun, and polled at once
-called_awaits : (u : View) (sends allows : Bool) (served : List Step) → sends ≡ false → allows ≡ true → u.stage ≡ calling → Serves u sends allows served → served ≡ answered Pending ∷ []
-called_awaits u false true served unsent is now waits = subst (λ s. Awaits s served) now waits
-called_awaits u false false served unsent is now waits = absurd (cc is)
-called_awaits u true allows served unsent is now waits = absurd (cc unsent)
+called_awaits : (u : View) (sends allows : Bool) (served : List Step) (took : Option Took) → sends ≡ false → allows ≡ true → u.stage ≡ calling took → Serves u sends allows served
+    → served ≡ answered Pending ∷ []
+called_awaits u false true served took unsent is now waits = subst (λ s. Awaits s served) now waits
+called_awaits u false false served took unsent is now waits = absurd (cc is)
+called_awaits u true allows served took unsent is now waits = absurd (cc unsent)
 
 awaits_called : (s : Stage) (request : Asking) (served : List Step) → s ≡ waiting request → served ≡ answered Pending ∷ [] → Awaits s (called request ∷ served)
 awaits_called s request served is so = subst (λ x. Awaits x (called request ∷ served)) (sym is) (inr (ap (λ l. called request ∷ l) so))
 
-pub called_then : (v u w : View) (request : Asking) (turn : Turn) → IsStep v (called request) u → allows_answer v ≡ true → allows_answer u ≡ true
-    → v.stage ≡ waiting request → u.stage ≡ calling → ServeSays 3 u w turn → ServeSays 4 v w turn
-called_then v u w request Counted is may allowed waits now says = goes_after v u w 0 1 1 (omega arith) 1 3 4 (omega arith) (goes_by 1 (omega arith) v u (called request) 0 is tt (omega arith)) says
-called_then v u w request Idle is may allowed waits now says =
+pub called_then : (v u w : View) (request : Asking) (took : Option Took) (turn : Turn) → IsStep v (called request) u → allows_answer v ≡ true → allows_answer u ≡ true
+    → v.stage ≡ waiting request → u.stage ≡ calling took → ServeSays 3 u w turn → ServeSays 4 v w turn
+called_then v u w request took Counted is may allowed waits now says = goes_after v u w 0 1 1 (omega arith) 1 3 4 (omega arith) (goes_by 1 (omega arith) v u (called request) 0 is tt (omega arith)) says
+called_then v u w request took Idle is may allowed waits now says =
     record {
       served = called request ∷ says.served;
       between = says.between;
       serves = (u, is, says.serves);
+      feeding = says.feeding;
+      fed = says.fed;
+      feeds = says.feeds;
       reading = says.reading;
       reads = says.reads;
       waits = serves_by v (is_sending v.stage) (allows_answer v) (called request ∷ says.served) (ap is_sending waits) may
-          (awaits_called v.stage request says.served waits (called_awaits u (is_sending u.stage) (allows_answer u) says.served (ap is_sending now) allowed now says.waits));
+          (awaits_called v.stage request says.served waits (called_awaits u (is_sending u.stage) (allows_answer u) says.served took (ap is_sending now) allowed now says.waits));
+      no_body = says.no_body;
       no_input = says.no_input;
     }
-called_then v u w request (Over result) is may allowed waits now says = ends_after v u w 0 result 1 3 4 (omega arith) (goes_by 1 (omega arith) v u (called request) 0 is tt (omega arith)) says
+called_then v u w request took (Over result) is may allowed waits now says = ends_after v u w 0 result 1 3 4 (omega arith) (goes_by 1 (omega arith) v u (called request) 0 is tt (omega arith)) says
 
 -- ---- after the writing
 

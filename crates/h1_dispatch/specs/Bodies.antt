@@ -54,7 +54,7 @@ pub record GoesOut (coming : Option (List Given)) (steps : List Step) (w : View)
 abbrev pub SendsBody : Stage → List Step → View → Type 0
 SendsBody free steps w = pieces steps ≡ []
 SendsBody (waiting request) steps w = pieces steps ≡ []
-SendsBody calling steps w = pieces steps ≡ []
+SendsBody (calling took) steps w = pieces steps ≡ []
 SendsBody (replying answer) steps w = pieces steps ≡ []
 SendsBody (sending body) steps w = GoesOut body.coming steps w
 

@@ -6,4 +6,5 @@ pub mod Order
 pub mod Acts
 pub mod Open
 pub mod Bodies
+pub mod Feeds
 pub mod Bounds

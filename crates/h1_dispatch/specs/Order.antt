@@ -10,21 +10,21 @@ use Rattle.h1_dispatch.specs.Steps.{Step, request_at, next, ready, called, answe
 abbrev pub waits_in : Stage → List Asking
 waits_in free = []
 waits_in (waiting request) = request ∷ []
-waits_in calling = []
+waits_in (calling took) = []
 waits_in (replying answer) = []
 waits_in (sending body) = []
 
 abbrev pub reply_in : Stage → List Answer
 reply_in free = []
 reply_in (waiting request) = []
-reply_in calling = []
+reply_in (calling took) = []
 reply_in (replying answer) = answer ∷ []
 reply_in (sending body) = []
 
 abbrev pub calls_in : Stage → ℕ
 calls_in free = 0
 calls_in (waiting request) = 0
-calls_in calling = 1
+calls_in (calling took) = 1
 calls_in (replying answer) = 0
 calls_in (sending body) = 0
 

@@ -9,6 +9,10 @@ use Rattle.http_types.specs.declared.error.DispatchError.{DispatchError}
 use Rattle.http_types.specs.declared.error.DispatchError.TheVariants as error
 use Rattle.http_types.specs.declared.error.ParseError.TheVariants as parse
 use Rattle.http_bodies.specs.Giving.{Piece}
+use Rattle.http_services.specs.Status.{status_of}
+use Rattle.http_services.specs.declared.h1.send.PayloadStatus.TheVariants as status
+use Rattle.h1_payload.specs.declared.pulled.Pulled.{Pulled}
+use Rattle.h1_payload.specs.declared.pulled.Pulled.TheVariants as pieces
 use Rattle.h1_model.specs.Event as on
 use Rattle.h1_connection.specs.declared.connection.heads.NextHead.{NextHead}
 use Rattle.h1_connection.specs.declared.connection.heads.NextHead.TheVariants as next_head
@@ -18,8 +22,8 @@ use Rattle.h1_connection.specs.declared.event.End.TheVariants as ends
 use Rattle.h1_dispatch.specs.declared.dispatcher.Ending.TheVariants.{Closed, Abandoned, Broken}
 use Rattle.h1_dispatch.specs.declared.dispatcher.Turn.{Turn}
 use Rattle.h1_dispatch.specs.declared.dispatcher.Turn.TheVariants.{Counted, Idle, Over}
-use Rattle.h1_dispatch.specs.View.{View, Stage, free, waiting, calling, replying, sending, is_sending, is_broken, closes, allows, allows_next, asks_next, allows_answer, allows_chunk, HasNoOutput, HasNoInput}
-use Rattle.h1_dispatch.specs.Steps.{Step, IsStep, IsRun, ticked, drained, written, read, shut, next, closed, ready, called, answered, dropped, replied, sent, failed, failed_write, failed_read, failed_sent, asked_to_drain}
+use Rattle.h1_dispatch.specs.View.{View, Stage, free, waiting, calling, replying, sending, is_sending, is_broken, closes, allows, allows_next, asks_next, allows_answer, awaits_body, allows_chunk, HasNoOutput, HasNoInput}
+use Rattle.h1_dispatch.specs.Steps.{Step, IsStep, IsRun, ticked, drained, written, read, shut, next, closed, ready, called, answered, pulled, paused, dropped, replied, sent, failed, failed_write, failed_read, failed_fed, failed_sent, asked_to_drain}
 
 -- ---- steps
 
@@ -46,12 +50,15 @@ Continues (closed end) = ⊤
 Continues (ready request answer) = ⊤
 Continues (called request) = ⊤
 Continues (answered answer) = ⊤
+Continues (pulled piece) = ⊤
+Continues paused = ⊤
 Continues dropped = ⊤
 Continues (replied answer) = ⊤
 Continues (sent piece) = ⊤
 Continues (failed event) = ⊥
 Continues (failed_write count) = ⊥
 Continues (failed_read came event) = ⊥
+Continues (failed_fed bytes) = ⊥
 Continues (failed_sent piece) = ⊥
 Continues asked_to_drain = ⊥
 
@@ -79,11 +86,19 @@ abbrev pub comes_of : Piece → ℕ
 comes_of (Ready x) = 1
 comes_of Pending = 0
 
+abbrev pub brings : Pulled → ℕ
+brings (pieces.Bytes bytes) = 1
+brings (pieces.Trailers trailers) = 1
+brings pieces.End = 1
+brings (pieces.Broken fault) = 1
+brings pieces.Pending = 0
+
 abbrev pub counts : Step → ℕ
 counts (written answer) = moves answer
 counts (read came answer) = moves answer
 counts (next head) = comes head
 counts (closed end) = 1
+counts (pulled piece) = brings piece
 counts dropped = 1
 counts (replied answer) = 1
 counts (sent piece) = comes_of piece
@@ -132,7 +147,8 @@ abbrev pub IsOutOfMemory : List Step → Type 0
 IsOutOfMemory steps =
     ((event : on.Event) × IsOfTurn event × EndsWith steps (failed event))
     ⊎ (((count : ℕ) × EndsWith steps (failed_write count))
-    ⊎ (((came : List ℕ) × (event : on.Event) × EndsWith steps (failed_read came event)) ⊎ ((piece : Piece) × EndsWith steps (failed_sent piece))))
+    ⊎ (((came : List ℕ) × (event : on.Event) × EndsWith steps (failed_read came event))
+    ⊎ (((bytes : List ℕ) × EndsWith steps (failed_fed bytes)) ⊎ ((piece : Piece) × EndsWith steps (failed_sent piece)))))
 
 -- Why a poll ended: each error has its cause.
 abbrev pub Ended : View → List Step → Result Unit DispatchError → Type 0
@@ -155,7 +171,7 @@ Ended w steps (Err error.InternalError) = ⊥
 abbrev pub Awaits : Stage → List Step → Type 0
 Awaits free served = served ≡ []
 Awaits (waiting request) served = (served ≡ ready request Pending ∷ []) ⊎ (served ≡ called request ∷ answered Pending ∷ [])
-Awaits calling served = served ≡ answered Pending ∷ []
+Awaits (calling took) served = served ≡ answered Pending ∷ []
 Awaits (replying answer) served = ⊥
 Awaits (sending body) served = ⊥
 
@@ -164,7 +180,7 @@ Awaits (sending body) served = ⊥
 abbrev pub Looks : Bool → Stage → List Step → Type 0
 Looks true free served = served ≡ next next_head.Pending ∷ []
 Looks true (waiting request) served = served ≡ []
-Looks true calling served = served ≡ []
+Looks true (calling took) served = served ≡ []
 Looks true (replying answer) served = served ≡ []
 Looks true (sending body) served = served ≡ []
 Looks false stage served = served ≡ []
@@ -180,6 +196,13 @@ Serves v true allows served = Sends (allows_chunk v) served
 Serves v false true served = Awaits v.stage served
 Serves v false false served = Looks (asks_next v) v.stage served
 
+-- then more of the open request's body: nothing more was there, or its queue wants no more for now and is waited for; or its
+-- body is done with, or the service has dropped it
+abbrev pub Feeds : View → List Step → Type 0
+Feeds u feeding =
+    (feeding ≡ pulled pieces.Pending ∷ [])
+    ⊎ ((feeding ≡ paused ∷ []) ⊎ ((feeding ≡ []) × ((awaits_body u ≡ false) ⊎ (status_of u.queue ≡ status.Dropped))))
+
 -- the wire had no bytes, or none may be read
 abbrev pub Reads : View → List Step → Type 0
 Reads x reading =
@@ -191,10 +214,14 @@ pub record IsIdle (v w : View) : Type 0 where
   pub served : List Step
   pub between : View
   pub serves : IsRun v served between
+  pub feeding : List Step
+  pub fed : View
+  pub feeds : IsRun between feeding fed
   pub reading : List Step
-  pub reads : IsRun between reading w
+  pub reads : IsRun fed reading w
   pub waits : Serves v (is_sending v.stage) (allows_answer v) served
-  pub no_input : Reads between reading
+  pub no_body : Feeds between feeding
+  pub no_input : Reads fed reading
 
 -- The connection closes, and its end may not be told: what is left waits to be written.
 pub record IsHeld (v w : View) : Type 0 where
@@ -245,7 +272,8 @@ pub record Ends (v w : View) (most : ℕ) (result : Result Unit DispatchError) :
 abbrev pub WritesFirst : View → List Step → Type 0
 WritesFirst v steps = HasNoOutput v ⊎ ((answer : Poll (Result ℕ Failed)) × (rest : List Step) × (steps ≡ written answer ∷ rest))
 
--- a turn, of at most five steps: the wire took nothing, a call was begun and answered, a body dropped, the answer handed on
+-- a turn, of at most five steps: the wire took nothing, a call was begun and answered, a body dropped, the answer handed on;
+-- or the call was pending, and so was the body or its queue, and the input was read
 abbrev pub TurnSays : View → View → Turn → Type 0
 TurnSays v w Counted = (goes : GoesOn v w 1 5) × WritesFirst v goes.steps
 TurnSays v w Idle = IsStuck v w
@@ -285,6 +313,21 @@ abbrev pub ReadingSays : View → View → Turn → Type 0
 ReadingSays v w Counted = GoesOn v w 1 1
 ReadingSays v w Idle = IsReadIdle v w
 ReadingSays v w (Over result) = Ends v w 1 result
+
+-- a turn that feeds the queue of a request's body, or else reads
+pub record IsFeedIdle (v w : View) : Type 0 where
+  pub feeding : List Step
+  pub fed : View
+  pub feeds : IsRun v feeding fed
+  pub reading : List Step
+  pub reads : IsRun fed reading w
+  pub no_body : Feeds v feeding
+  pub no_input : Reads fed reading
+
+abbrev pub FeedingSays : View → View → Turn → Type 0
+FeedingSays v w Counted = GoesOn v w 1 2
+FeedingSays v w Idle = IsFeedIdle v w
+FeedingSays v w (Over result) = Ends v w 2 result
 
 -- this holds where nothing more can be done
 abbrev pub OnIdle : Turn → Type 0 → Type 0

@@ -1,5 +1,5 @@
 -- The steps of a dispatcher.
-use Rattle.std.specs.Prelude.{◌≡◌, ◌≤◌, ◌<◌, ◌⊎◌, ℕ, zero, suc, true, false, Option, Some, None, List, [], ◌∷◌, length, take, ⊤, Result, Ok, Err}
+use Rattle.std.specs.Prelude.{◌≡◌, ◌≤◌, ◌<◌, ◌+◌, ◌⊎◌, ℕ, zero, suc, Bool, true, false, Option, Some, None, List, [], ◌∷◌, length, take, ⊤, Result, Ok, Err}
 use Rattle.futures.specs.declared.task.Poll.{Poll}
 use Rattle.futures.specs.declared.task.Poll.TheVariants.{Ready, Pending}
 use Rattle.http_config.specs.declared.Failed.{Failed}
@@ -7,7 +7,22 @@ use Rattle.http_framing.specs.declared.body.size.BodySize.{BodySize}
 use Rattle.http_framing.specs.declared.body.size.BodySize.TheVariants.{None as NoBody, Sized, Stream}
 use Rattle.http_bodies.specs.Giving.{Giving, Piece, PieceSays}
 use Rattle.http_bodies.specs.declared.body.fault.BodyFault.TheVariants.{Body, NoMemory}
-use Rattle.http_services.specs.Serving.{Serving, ReadySays, CallSays, AnswerSays}
+use Rattle.http_framing.specs.declared.body.kind.BodyKind.{BodyKind}
+use Rattle.http_framing.specs.declared.body.kind.BodyKind.TheVariants.{None as Bodyless, Length, Chunked, Raw}
+use Rattle.http_types.specs.declared.error.PayloadError.{PayloadError}
+use Rattle.http_types.specs.declared.error.PayloadError.TheVariants as error
+use Rattle.http_services.specs.Lent as lent
+use Rattle.http_services.specs.Lent.{LentBound, lent_of}
+use Rattle.http_services.specs.Queue as queues
+use Rattle.http_services.specs.Queue.{Queue, new_queue, fed_data, fed_trailers, fed_end, fed_error}
+use Rattle.http_services.specs.Serving.{Serving, ReadySays, CallSays, AnswerSays, TookNothing, Takes}
+use Rattle.http_services.specs.Status.{status_of, Asked}
+use Rattle.http_services.specs.declared.h1.send.PayloadStatus.TheVariants as status
+use Rattle.h1_payload.specs.Rests.{SaysPulled}
+use Rattle.h1_payload.specs.declared.pulled.BodyFault.{BodyFault}
+use Rattle.h1_payload.specs.declared.pulled.BodyFault.TheVariants.{Corrupted, Incomplete}
+use Rattle.h1_payload.specs.declared.pulled.Pulled.{Pulled}
+use Rattle.h1_payload.specs.declared.pulled.Pulled.TheVariants as pieces
 use Rattle.http_wires.specs.Wiring.{ReadSays, WriteSays, ShutSays, moved}
 use Rattle.h1_codec.specs.Meaning.{answer_of, size_of}
 use Rattle.h1_model.specs.Event as on
@@ -24,14 +39,15 @@ use Rattle.h1_connection.specs.declared.event.End.{End}
 use Rattle.h1_line.specs.Line.{LineView, LineSteps, LineFails}
 use Rattle.h1_dispatch.specs.declared.dispatcher.Ending.{Ending}
 use Rattle.h1_dispatch.specs.declared.dispatcher.Ending.TheVariants.{Closed, Abandoned, Broken}
-use Rattle.h1_dispatch.specs.View.{View, Asking, Answer, Stage, free, waiting, calling, replying, sending, is_replying, with_drain, closes, allows, allows_next, has_write_room, asks_next, allows_answer, allows_chunk, buffered, room}
+use Rattle.h1_dispatch.specs.View.{View, Asking, Answer, Stage, free, waiting, calling, replying, sending, is_replying, awaits_body, with_drain, closes, allows, allows_next, has_write_room, asks_next, allows_answer, allows_chunk, buffered, room}
 
 -- A step. A moment came; the drain came; the wire was given what waits to be written; it was asked for bytes, and these
 -- came; it was shut down; the next head was asked for; the connection closes, and told its end; the service was asked
--- whether it takes a call with a request, and takes none; it takes one, and the call was begun; a call was polled; the rest
--- of a body was dropped; the answer was handed on; its body was polled, and what came was handed on. Or memory ran out: for
--- an event, for that of bytes which the wire had moved, or for what came of a body. Or it was asked to drain, which no poll
--- does.
+-- whether it takes a call with a request, and takes none; it takes one, and the call was begun; a call was polled; more of
+-- a request's body was asked for, and what came was fed to its queue; the queue wants no more for now; the rest of a body
+-- was dropped; the answer was handed on; its body was polled, and what came was handed on. Or memory ran out: for an event,
+-- for that of bytes which the wire had moved, for bytes that came of a request's body, or for what came of an answer's. Or
+-- it was asked to drain, which no poll does.
 pub data Step : Type 0 where
   ticked : (moment : ℕ) → (expiry : Expiry) → Step
   drained : Step
@@ -43,12 +59,15 @@ pub data Step : Type 0 where
   ready : (request : Asking) → (answer : Poll (Result Unit Answer)) → Step
   called : (request : Asking) → Step
   answered : (answer : Poll (Result Answer Answer)) → Step
+  pulled : (piece : Pulled) → Step
+  paused : Step
   dropped : Step
   replied : (answer : Answer) → Step
   sent : (piece : Piece) → Step
   failed : (event : on.Event) → Step
   failed_write : (count : ℕ) → Step
   failed_read : (came : List ℕ) → (event : on.Event) → Step
+  failed_fed : (bytes : List ℕ) → Step
   failed_sent : (piece : Piece) → Step
   asked_to_drain : Step
 
@@ -106,10 +125,57 @@ stage_asked request (Ready (Err e)) = replying e
 stage_asked request Pending = waiting request
 
 -- a call that answered isn't in progress any more, and its answer, also where it is an error, is to be handed on
-abbrev pub stage_answered : Poll (Result Answer Answer) → Stage
-stage_answered (Ready (Ok x)) = replying x
-stage_answered (Ready (Err e)) = replying e
-stage_answered Pending = calling
+abbrev pub stage_answered : Option lent.Took → Poll (Result Answer Answer) → Stage
+stage_answered took (Ready (Ok x)) = replying x
+stage_answered took (Ready (Err e)) = replying e
+stage_answered took Pending = calling took
+
+-- The call in progress was polled, and was lent the queue: it took only what waited there, if its taking is known, and
+-- more waits then only where it was put back.
+pub record IsAnswered (v : View) (answer : Poll (Result Answer Answer)) (w : View) : Type 0 where
+  pub running : v.ending ≡ None
+  pub allowed : allows_answer v ≡ true
+  pub took : Option lent.Took
+  pub calls : v.stage ≡ calling took
+  pub says : AnswerSays v.service w.service answer
+  pub more : Option lent.Took
+  pub takes : Takes took more (lent_of v.queue) (lent_of w.queue)
+  pub bound : LentBound (lent_of v.queue) (lent_of w.queue)
+  pub same : w ≡ record v { service = w.service; queue = w.queue; stage = stage_answered more answer }
+
+-- the queue of a request's body is made anew with its head, and its end is fed where there is no body
+abbrev pub is_bodyless : BodyKind → Bool
+is_bodyless Bodyless = true
+is_bodyless (Length n) = false
+is_bodyless Chunked = false
+is_bodyless Raw = false
+
+abbrev pub queue_at : NextHead → Queue → Queue
+queue_at (next_head.Head item) q = new_queue (is_bodyless item.body)
+queue_at (next_head.Fault fault) q = q
+queue_at next_head.Pending q = q
+queue_at (next_head.Closed end) q = q
+
+-- what is wrong with a request's body, as its queue tells it
+abbrev pub error_of : BodyFault → PayloadError
+error_of Corrupted = error.EncodingCorrupted
+error_of Incomplete = error.Incomplete
+
+-- the queue after what came of the body was fed
+abbrev pub fed_with : Pulled → Queue → Queue
+fed_with (pieces.Bytes bytes) q = fed_data bytes q
+fed_with (pieces.Trailers trailers) q = fed_trailers trailers q
+fed_with pieces.End q = fed_end q
+fed_with (pieces.Broken fault) q = fed_error (error_of fault) q
+fed_with pieces.Pending q = q
+
+-- More of the open request's body is asked for only where its queue wants it: fewer than 32768 bytes wait there beyond those
+-- that were put back, and the service hasn't dropped it.
+pub record Wants (v : View) : Type 0 where
+  pub running : v.ending ≡ None
+  pub awaits : awaits_body v ≡ true
+  pub wanted : status_of v.queue ≡ status.Read
+  pub low : queues.waiting v.queue.chunks < 32768 + v.queue.put_back
 
 -- after an answer was handed on its body goes out, unless it has none
 abbrev pub stage_replied : Giving → BodySize → Stage
@@ -164,11 +230,13 @@ abbrev pub MayReply : View → Type 0
 MayReply v = (v.ending ≡ None) × (allows v on.drop_body ≡ false)
 
 -- memory ran out for one of these, where it is allowed: the moment, the drain where it was asked for, the next head, or the
--- end of a connection that closes, the rest of a body where the answer is there, or this answer
+-- end of a connection that closes, more of a body where its queue wants it, the rest of a body where the answer is there, or
+-- this answer
 abbrev pub MayFail : View → on.Event → Type 0
 MayFail v (on.tick moment) = allows v (on.tick moment) ≡ true
 MayFail v on.drain = (v.draining ≡ true) × (allows v on.drain ≡ true)
 MayFail v on.next = (v.ending ≡ None) × (allows_next v ≡ true) × ((closes v ≡ true) ⊎ (has_write_room v ≡ true))
+MayFail v on.pull = Wants v
 MayFail v on.drop_body = (v.ending ≡ None) × (is_replying v.stage ≡ true) × (allows v on.drop_body ≡ true)
 MayFail v (on.answer head size) =
     MayReply v × (allows_answer v ≡ true)
@@ -196,7 +264,7 @@ IsStep v (shut answer) w =
     ((end : End) × (v.ending ≡ Some (Closed end))) × ShutSays v.wire w.wire answer × (w ≡ record v { wire = w.wire })
 IsStep v (next head) w =
     (v.ending ≡ None) × (v.stage ≡ free) × (asks_next v ≡ true) × Goes v.line on.next (SaysNext head) w.line
-    × (w ≡ record v { line = w.line; stage = stage_at (request_at head); ending = ending_told head })
+    × (w ≡ record v { line = w.line; queue = queue_at head v.queue; stage = stage_at (request_at head); ending = ending_told head })
 IsStep v (closed end) w =
     (v.ending ≡ None) × (closing_by (setting_of v.line.state.settings) v.line.state.kept ≡ Some (end_of end))
     × (allows_next v ≡ true) × ((head : NextHead) × Goes v.line on.next (SaysNext head) w.line)
@@ -205,15 +273,19 @@ IsStep v (ready request answer) w =
     IsAsked v request × TakesNone answer × ReadySays v.service w.service answer
     × (w ≡ record v { service = w.service; stage = stage_asked request answer })
 IsStep v (called request) w =
-    IsAsked v request × Begins v.service w.service request × (w ≡ record v { service = w.service; stage = calling })
-IsStep v (answered answer) w =
-    (v.ending ≡ None) × (allows_answer v ≡ true) × (v.stage ≡ calling) × AnswerSays v.service w.service answer
-    × (w ≡ record v { service = w.service; stage = stage_answered answer })
+    IsAsked v request × Begins v.service w.service request
+    × ((took : Option lent.Took) × TookNothing took × (w ≡ record v { service = w.service; stage = calling took }))
+IsStep v (answered answer) w = IsAnswered v answer w
+IsStep v (pulled piece) w =
+    Wants v × Goes v.line on.pull (SaysPulled piece) w.line × (w ≡ record v { line = w.line; queue = fed_with piece v.queue })
+IsStep v paused w =
+    (v.ending ≡ None) × (awaits_body v ≡ true) × (status_of v.queue ≡ status.Pause) × Asked v.queue w.queue status.Pause
+    × (w ≡ record v { queue = w.queue })
 IsStep v dropped w =
     (v.ending ≡ None) × (is_replying v.stage ≡ true) × Goes v.line on.drop_body (Is on.done) w.line × (w ≡ record v { line = w.line })
 IsStep v (replied answer) w =
     MayReply v × (v.stage ≡ replying answer) × Goes v.line (on.answer (answer_of answer.head) (size_of answer.body.size)) (Is on.done) w.line
-    × (w ≡ record v { line = w.line; stage = stage_replied answer.body answer.body.size })
+    × (w ≡ record v { line = w.line; queue = new_queue true; stage = stage_replied answer.body answer.body.size })
 IsStep v (sent piece) w =
     (left : Giving) × Polls v left piece × Sent v.line w.line piece × (w ≡ record v { line = w.line; stage = stage_sent left piece })
 IsStep v (failed event) w = MayFail v event × LineFails v.line event w.line × (w ≡ record v { line = w.line; ending = Some Broken })
@@ -227,6 +299,8 @@ IsStep v (failed_read came event) w =
     × ReadSays {E = Failed} v.wire w.wire (Ready (Ok count)) buf × IsOfRead count came event)
     × LineFails v.line event w.line
     × (w ≡ record v { line = w.line; wire = w.wire; ending = Some Broken })
+IsStep v (failed_fed bytes) w =
+    Wants v × Goes v.line on.pull (SaysPulled (pieces.Bytes bytes)) w.line × (w ≡ record v { line = w.line; ending = Some Broken })
 IsStep v (failed_sent piece) w =
     (left : Giving) × Polls v left piece × Lacked v.line w.line piece
     × (w ≡ record v { line = w.line; stage = sending left; ending = Some Broken })

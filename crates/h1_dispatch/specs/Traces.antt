@@ -1,10 +1,13 @@
--- What the steps of a run are together: a trace of the connection, with the bytes that the wire moved, the requests that came,
--- and the answers that were handed on.
-use Rattle.std.specs.Prelude.{◌≡◌, List, [], ◌∷◌, ◌++◌, ⊤, Some, None, Ok, Err}
+-- What the steps of a run are together: a trace of the connection, with the bytes that the wire moved, the requests and their
+-- bodies that came, and the answers that were handed on.
+use Rattle.std.specs.Prelude.{◌≡◌, List, [], ◌∷◌, ◌++◌, ⊤, Option, Some, None, Ok, Err}
 use Rattle.std.specs.List.{AllByRecursion}
 use Rattle.futures.specs.declared.task.Poll.TheVariants.{Ready, Pending}
 use Rattle.http_bodies.specs.Giving.{Piece}
 use Rattle.http_bodies.specs.declared.body.fault.BodyFault.TheVariants.{Body, NoMemory}
+use Rattle.h1_payload.specs.Rests.{SaysPulled}
+use Rattle.h1_payload.specs.declared.pulled.Pulled.{Pulled}
+use Rattle.h1_payload.specs.declared.pulled.Pulled.TheVariants as pieces
 use Rattle.h1_codec.specs.Meaning.{answer_of, size_of}
 use Rattle.h1_decode.specs.HeadItem.{SaysHead}
 use Rattle.h1_decode.specs.declared.decoder.HeadItem.{HeadItem}
@@ -15,14 +18,14 @@ use Rattle.h1_model.specs.Sums as sums
 use Rattle.h1_model.specs.Sums.{taken, written}
 use Rattle.h1_line.specs.Line.{LineStands}
 use Rattle.h1_dispatch.specs.View.{View, Asking}
-use Rattle.h1_dispatch.specs.Steps.{Step, replied, sent, failed, failed_write, failed_read, failed_sent}
-use Rattle.h1_dispatch.specs.Order.{requests}
+use Rattle.h1_dispatch.specs.Steps.{Step, request_at, next, pulled, replied, sent, failed, failed_write, failed_read, failed_fed, failed_sent}
 
 -- memory didn't run out in this step
 abbrev pub IsNoted : Step → Type 0
 IsNoted (failed event) = ⊥
 IsNoted (failed_write count) = ⊥
 IsNoted (failed_read came event) = ⊥
+IsNoted (failed_fed bytes) = ⊥
 IsNoted (failed_sent piece) = ⊥
 IsNoted step = ⊤
 
@@ -59,37 +62,71 @@ abbrev pub hands : List Step → List on.Event
 hands [] = []
 hands (d ∷ steps) = step_hands d ++ hands steps
 
--- the head that was handed out, and those of a trace, the oldest first
-abbrev pub of_head : on.Outcome → List Head
-of_head (on.head h) = h ∷ []
-of_head out = []
+-- what came of requests: their heads, and of each body pieces, its trailers, its end or its fault
+abbrev pub of_request : on.Outcome → List on.Outcome
+of_request (on.head h) = on.head h ∷ []
+of_request (on.bytes bytes) = on.bytes bytes ∷ []
+of_request (on.trailers headers) = on.trailers headers ∷ []
+of_request on.body_ended = on.body_ended ∷ []
+of_request (on.broken_by fault) = on.broken_by fault ∷ []
+of_request out = []
 
-abbrev pub heads_in : List sums.Step → List Head
-heads_in [] = []
-heads_in (s ∷ trace) = heads_in trace ++ of_head s.outcome
+-- that of a trace, the oldest first
+abbrev pub requests_in : List sums.Step → List on.Outcome
+requests_in [] = []
+requests_in (s ∷ trace) = requests_in trace ++ of_request s.outcome
 
--- the request is that of this head
+-- that of a run: each request, and behind it what came of its body
+pub data Came : Type 0 where
+  came_request : (asking : Asking) → Came
+  came_piece : (given : Pulled) → Came
+
+abbrev pub heads_of : Option Asking → List Came
+heads_of None = []
+heads_of (Some asking) = came_request asking ∷ []
+
+abbrev pub pieces_of : Pulled → List Came
+pieces_of (pieces.Bytes bytes) = came_piece (pieces.Bytes bytes) ∷ []
+pieces_of (pieces.Trailers trailers) = came_piece (pieces.Trailers trailers) ∷ []
+pieces_of pieces.End = came_piece pieces.End ∷ []
+pieces_of (pieces.Broken fault) = came_piece (pieces.Broken fault) ∷ []
+pieces_of pieces.Pending = []
+
+abbrev pub step_came : Step → List Came
+step_came (next head) = heads_of (request_at head)
+step_came (pulled given) = pieces_of given
+step_came step = []
+
+abbrev pub came : List Step → List Came
+came [] = []
+came (d ∷ steps) = step_came d ++ came steps
+
+-- the request is that of this head, the piece is this one
 abbrev pub HasHead : Asking → Head → Type 0
-HasHead request h = (item : HeadItem) × SaysHead item h × (request ≡ record { head = item.head; payload = None; own = tt })
+HasHead asking h = (item : HeadItem) × SaysHead item h × (asking ≡ record { head = item.head; payload = None; own = tt })
 
--- each request is that of its head, and there is no other head
-abbrev pub HaveHeads : List Asking → List Head → Type 0
-HaveHeads [] [] = ⊤
-HaveHeads [] (h ∷ heads) = ⊥
-HaveHeads (request ∷ more) [] = ⊥
-HaveHeads (request ∷ more) (h ∷ heads) = HasHead request h × HaveHeads more heads
+abbrev pub IsCame : Came → on.Outcome → Type 0
+IsCame (came_request asking) out = (h : Head) × (out ≡ on.head h) × HasHead asking h
+IsCame (came_piece given) out = SaysPulled given out
+
+-- each is the outcome at its place, and there is no other
+abbrev pub AreCame : List Came → List on.Outcome → Type 0
+AreCame [] [] = ⊤
+AreCame [] (out ∷ outs) = ⊥
+AreCame (c ∷ more) [] = ⊥
+AreCame (c ∷ more) (out ∷ outs) = IsCame c out × AreCame more outs
 
 -- After this trace these steps of the connection came, the newest first, and the connection and what was noted stand for
 -- all of them. What the wire received is the bytes that their reads took, and what it sent is those that were written. What
--- they hand on of answers is this, and the heads that they hand out are those of these requests.
-pub record Follows (v w : View) (trace : List sums.Step) (handed : List on.Event) (asked : List Asking) : Type 0 where
+-- they hand on of answers is this, and what they hand out of requests is that.
+pub record Follows (v w : View) (trace : List sums.Step) (handed : List on.Event) (asked : List Came) : Type 0 where
   pub more : List sums.Step
   pub stands : LineStands w.line (more ++ trace)
   pub received : Grows v.wire.received w.wire.received (taken more)
   pub sent : Grows v.wire.sent w.wire.sent (written more)
   pub answers : answers_in more ≡ handed
-  pub heads : HaveHeads asked (heads_in more)
+  pub requests : AreCame asked (requests_in more)
 
 -- this holds after each trace that the connection stood for
 abbrev pub AreTraces : View → List Step → View → Type 0
-AreTraces v steps w = (trace : List sums.Step) → LineStands v.line trace → Follows v w trace (hands steps) (requests steps)
+AreTraces v steps w = (trace : List sums.Step) → LineStands v.line trace → Follows v w trace (hands steps) (came steps)

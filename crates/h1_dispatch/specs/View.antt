@@ -4,6 +4,8 @@ use Rattle.http_config.specs.Config.{Settings}
 use Rattle.http_types.specs.Request.{RequestParts}
 use Rattle.http_types.specs.Response.{FullResponse}
 use Rattle.http_bodies.specs.Giving.{Giving}
+use Rattle.http_services.specs.Lent.{Took}
+use Rattle.http_services.specs.Queue.{Queue, new_queue}
 use Rattle.http_services.specs.Serving.{Serving, Calling}
 use Rattle.http_wires.specs.Wiring.{Wiring}
 use Rattle.h1_machine.specs.Local.{closing_by, allowed_by, has_room}
@@ -46,12 +48,12 @@ told_service gives s =
     }
 
 -- How far the last request is: nothing is left to do for it, or none has come; the service is to be called with it; its
--- call is in progress; its answer wasn't handed on yet; the answer's body goes out, of which this is left. Only one of
--- these holds, so that no answer becomes that of another request.
+-- call is in progress, which took this of the queue of its body, if that is known; its answer wasn't handed on yet; the
+-- answer's body goes out, of which this is left. Only one of these holds, so that no answer becomes that of another request.
 pub data Stage : Type 0 where
   free : Stage
   waiting : (request : Asking) → Stage
-  calling : Stage
+  calling : (took : Option Took) → Stage
   replying : (answer : Answer) → Stage
   sending : (body : Giving) → Stage
 
@@ -59,15 +61,23 @@ pub data Stage : Type 0 where
 abbrev pub is_busy : Stage → Bool
 is_busy free = false
 is_busy (waiting request) = true
-is_busy calling = true
+is_busy (calling took) = true
 is_busy (replying answer) = true
 is_busy (sending body) = true
+
+-- the service has the request, or is to get it, and hasn't answered it
+abbrev pub is_awaiting : Stage → Bool
+is_awaiting free = false
+is_awaiting (waiting request) = true
+is_awaiting (calling took) = true
+is_awaiting (replying answer) = false
+is_awaiting (sending body) = false
 
 -- the request has no answer at the connection yet
 abbrev pub is_unanswered : Stage → Bool
 is_unanswered free = false
 is_unanswered (waiting request) = true
-is_unanswered calling = true
+is_unanswered (calling took) = true
 is_unanswered (replying answer) = true
 is_unanswered (sending body) = false
 
@@ -76,7 +86,7 @@ is_waiting (waiting request) = true
 is_waiting stage = false
 
 abbrev pub is_calling : Stage → Bool
-is_calling calling = true
+is_calling (calling took) = true
 is_calling stage = false
 
 abbrev pub is_replying : Stage → Bool
@@ -87,30 +97,32 @@ abbrev pub is_sending : Stage → Bool
 is_sending (sending body) = true
 is_sending stage = false
 
-abbrev pub stage_of : {C B : Type 0} → (B → Giving) → Work C B → Stage
-stage_of gives Free = free
-stage_of gives (Waiting request) = waiting request
-stage_of gives (Called call) = calling
-stage_of gives (Replying response) = replying (told_response gives response)
-stage_of gives (Sending body) = sending (gives body)
+abbrev pub stage_of : {C B : Type 0} → (C → Calling Asking) → (B → Giving) → Work C B → Stage
+stage_of calls gives Free = free
+stage_of calls gives (Waiting request) = waiting request
+stage_of calls gives (Called call) = calling (calls call).took
+stage_of calls gives (Replying response) = replying (told_response gives response)
+stage_of calls gives (Sending body) = sending (gives body)
 
--- The connection with the steps that were noted; the wire; the service; how far the last request is; how the connection
--- has ended; and that it is to be drained.
+-- The connection with the steps that were noted; the wire; the service; the queue of the last request's body; how far that
+-- request is; how the connection has ended; and that it is to be drained.
 pub record View : Type 0 where
   pub line : LineView
   pub wire : Wiring
   pub service : Serving Asking Answer Answer
+  pub queue : Queue
   pub stage : Stage
   pub ending : Option Ending
   pub draining : Bool
 
-abbrev pub view_of : {T S C L B : Type 0} → (T → Wiring) → (S → Serving Asking (FullResponse B) (FullResponse B)) → (B → Giving) → (L → Option (List Pair)) → Dispatcher T S C L B → View
-view_of wiring served gives noted d =
+abbrev pub view_of : {T S C L B : Type 0} → (T → Wiring) → (S → Serving Asking (FullResponse B) (FullResponse B)) → (C → Calling Asking) → (B → Giving) → (L → Option (List Pair)) → Dispatcher T S C L B → View
+view_of wiring served calls gives noted d =
     record {
       line = line_of noted d.line;
       wire = wiring d.wire;
       service = told_service gives (served d.service);
-      stage = stage_of gives d.work;
+      queue = d.queue;
+      stage = stage_of calls gives d.work;
       ending = d.ending;
       draining = d.is_draining;
     }
@@ -122,6 +134,7 @@ view_begun wire service settings noted =
       line = record { state = fresh_state settings; noted = noted };
       wire = wire;
       service = service;
+      queue = new_queue true;
       stage = free;
       ending = None;
       draining = false;
@@ -184,6 +197,10 @@ any_answer =
 
 abbrev pub allows_answer : View → Bool
 allows_answer v = allows v any_answer
+
+-- more of the open request's body may come: the request waits for its answer, and its body isn't done with
+abbrev pub awaits_body : View → Bool
+awaits_body v = is_awaiting v.stage && (allows_answer v && allows v on.drop_body)
 
 -- a piece of the answer's body may be handed in, which doesn't depend on it: there is room for one
 abbrev pub allows_chunk : View → Bool

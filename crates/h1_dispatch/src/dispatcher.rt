@@ -3,18 +3,21 @@ ghost use Rattle.std.specs.Prelude.{◌≡◌, ◌⊎◌, None, Some, []};
 ghost use Rattle.h1_machine.specs.Deadline.{deadline_by};
 ghost use Rattle.h1_connection.specs.Meaning.{setting_of};
 ghost use Rattle.h1_line.specs.Line.{LineStands};
-ghost use Rattle.h1_dispatch.specs.View.{view_of, view_begun, with_drain, parts_of, told_service, stage_of, is_busy, is_sending, MayBePolled};
+ghost use Rattle.http_services.specs.Serving.{Calling};
+ghost use Rattle.h1_dispatch.specs.View.{Asking, view_of, view_begun, with_drain, parts_of, told_service, stage_of, is_busy, is_sending, MayBePolled};
 
 use h1_connection::End;
 use h1_line::{Line, Recorder};
 use http_bodies::MessageBody;
 use http_services::Service;
+use http_services::h1::Payload;
 use http_types::{Request, Response, ServiceConfig};
 use http_wires::Wire;
 use std::alloc::Global;
 
 mod answer;
 mod begin;
+mod feed;
 mod poll;
 mod read;
 mod send;
@@ -57,7 +60,7 @@ enum Work<C, B> {
 impl<C, B: MessageBody> Work<C, B> {
     /// Whether the service has a request to answer, or its answer or the body of that is to be handed on.
     fn is_busy(&self) -> bool
-        ensures { result ≡ is_busy (stage_of B.gives self.now) }
+        ensures { (calls : C → Calling Asking) → result ≡ is_busy (stage_of calls B.gives self.now) }
     {
         match self {
             Work::Free => false,
@@ -70,7 +73,7 @@ impl<C, B: MessageBody> Work<C, B> {
 
     /// Whether the answer's body goes out.
     fn is_sending(&self) -> bool
-        ensures { result ≡ is_sending (stage_of B.gives self.now) }
+        ensures { (calls : C → Calling Asking) → result ≡ is_sending (stage_of calls B.gives self.now) }
     {
         match self {
             Work::Free => false,
@@ -85,15 +88,16 @@ impl<C, B: MessageBody> Work<C, B> {
 /// A service over a wire, by one connection of HTTP/1: each request goes to the service, and its answer is written.
 ///
 /// The parameters are the wire, the service and its call, the body of its answers, and who notes the steps of the
-/// connection. A piece of an answer's body is asked for once there is room for it. The body of a request isn't read: what is
-/// left of it is dropped when the request is answered.
+/// connection. A piece of an answer's body is asked for once there is room for it. What comes of a request's body is fed to
+/// a queue that is lent to the service's call, as long as that wants more; what is left of the body is dropped when the
+/// request is answered.
 #[derive(Drop)]
 pub struct Dispatcher<T, S, C, L, B = ()> {
     alloc: Global,
     line: Line<L>,
     wire: T,
     service: S,
-    lent: (),
+    queue: Payload,
     work: Work<C, B>,
     ending: Option<Ending>,
     is_draining: bool,
@@ -102,7 +106,7 @@ pub struct Dispatcher<T, S, C, L, B = ()> {
 impl<T, S, L, B> Dispatcher<T, S, S::Call, L, B>
 where
     T: Wire,
-    S: Service<Request<(), ()>, Response = Response<B>, Error = Response<B>, Lent = ()>,
+    S: Service<Request<(), ()>, Response = Response<B>, Error = Response<B>, Lent = Payload>,
     B: MessageBody,
     L: Recorder,
 {
@@ -114,8 +118,8 @@ where
         config: ServiceConfig,
         recorder: L,
     ) -> Dispatcher<T, S, S::Call, L, B>
-        ensures view { view_of T.wiring S.served B.gives L.noted result ≡ view_begun (T.wiring wire) (told_service B.gives (S.served service)) config (L.noted recorder) }
-        ensures stands { (L.noted recorder ≡ None) ⊎ (L.noted recorder ≡ Some []) → LineStands (view_of T.wiring S.served B.gives L.noted result).line [] }
+        ensures view { view_of T.wiring S.served S.calling B.gives L.noted result ≡ view_begun (T.wiring wire) (told_service B.gives (S.served service)) config (L.noted recorder) }
+        ensures stands { (L.noted recorder ≡ None) ⊎ (L.noted recorder ≡ Some []) → LineStands (view_of T.wiring S.served S.calling B.gives L.noted result).line [] }
         ensures open { MayBePolled S.calling result }
     {
         Dispatcher {
@@ -123,7 +127,7 @@ where
             line: Line::new(alloc, config, recorder),
             wire,
             service,
-            lent: (),
+            queue: Payload::create(alloc, true),
             work: Work::Free,
             ending: None,
             is_draining: false,
@@ -132,7 +136,7 @@ where
 
     /// Has the connection end once no request is open. The next poll tells it so, where it doesn't close yet.
     pub fn drain(&mut self)
-        ensures view { view_of T.wiring S.served B.gives L.noted self.new ≡ with_drain (view_of T.wiring S.served B.gives L.noted self.old) }
+        ensures view { view_of T.wiring S.served S.calling B.gives L.noted self.new ≡ with_drain (view_of T.wiring S.served S.calling B.gives L.noted self.old) }
         ensures open { MayBePolled S.calling self.old → MayBePolled S.calling self.new }
     {
         self.is_draining = true;
@@ -141,14 +145,14 @@ where
     /// The least moment at which a poll would tell that a time has run out, in milliseconds after the start of 1970, where
     /// one would. Who drives the dispatcher polls it then, if it isn't woken before.
     pub fn deadline(&self) -> Option<u64>
-        ensures { result ≡ deadline_by (setting_of (view_of T.wiring S.served B.gives L.noted self.now).line.state.settings) (view_of T.wiring S.served B.gives L.noted self.now).line.state.kept }
+        ensures { result ≡ deadline_by (setting_of (view_of T.wiring S.served S.calling B.gives L.noted self.now).line.state.settings) (view_of T.wiring S.served S.calling B.gives L.noted self.now).line.state.kept }
     {
         self.line.connection().deadline()
     }
 
     /// The service.
     pub fn service(&self) -> &S
-        ensures { told_service B.gives (S.served result.now) ≡ (view_of T.wiring S.served B.gives L.noted self.now).service }
+        ensures { told_service B.gives (S.served result.now) ≡ (view_of T.wiring S.served S.calling B.gives L.noted self.now).service }
     {
         &self.service
     }

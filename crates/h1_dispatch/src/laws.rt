@@ -1,5 +1,5 @@
 //! What the steps of every run are together.
-ghost use Rattle.std.specs.Prelude.{◌≡◌, ℕ, true, List, Option, Some, None, [], ◌∷◌, Err};
+ghost use Rattle.std.specs.Prelude.{◌≡◌, ◌≤◌, ℕ, true, List, Option, Some, None, [], ◌∷◌, length, Err};
 ghost use Rattle.futures.specs.declared.task.Poll.TheVariants.{Ready};
 ghost use Rattle.http_config.specs.Config.{Settings};
 ghost use Rattle.http_bodies.specs.Giving.{Giving, Piece};
@@ -12,9 +12,12 @@ ghost use Rattle.h1_connection.specs.Meaning.{setting_of};
 ghost use Rattle.h1_line.specs.Line.{LineStands};
 ghost use Rattle.h1_connection.specs.declared.connection.heads.NextHead.{NextHead};
 ghost use Rattle.h1_dispatch.specs.View.{View, Asking, Answer, has_write_room, view_begun};
-ghost use Rattle.h1_dispatch.specs.Steps.{Step, IsStep, IsRun, Polls, next, replied, sent, stage_replied};
+ghost use Rattle.h1_dispatch.specs.Steps.{Step, IsStep, IsRun, Polls, Wants, next, pulled, replied, sent, stage_replied};
 ghost use Rattle.h1_dispatch.specs.Bounds.{HasRoomForAnswer, GrowsInRoom};
 ghost use Rattle.h1_dispatch.specs.Bodies.{SendsBody, OnlyEnds};
+ghost use Rattle.h1_payload.specs.declared.pulled.Pulled.{Pulled};
+ghost use Rattle.h1_connection.specs.Steps.{Pair};
+ghost use Rattle.h1_dispatch.specs.Feeds.{CameBody, body_after, HasBody, HasQueueBound};
 ghost use Rattle.h1_dispatch.specs.Order.{KeepsOrder};
 ghost use Rattle.h1_dispatch.specs.Open.{IsTied, StaysTied};
 ghost use Rattle.h1_dispatch.specs.Traces.{IsNoted, AllNoted, AreTraces};
@@ -28,7 +31,8 @@ pub fn polls_are_one_run()
 
 /// Over every run in which memory doesn't run out, the steps of the connection that were noted are a trace of it, whatever
 /// came before: its reads took what the wire gave, all of it and in order, and what the wire took is what was written. The
-/// heads that it hands out are those of the requests that came to the dispatcher, each its own, all of them and in order.
+/// heads that it hands out are those of the requests that came to the dispatcher, each its own, and behind each what it hands
+/// out of its body is what came of that, all of it and in order.
 /// Each answer that was handed on stands in that trace with its head and the size of its body, and behind it all that came
 /// of the body, in order.
 pub fn runs_are_traces()
@@ -52,6 +56,20 @@ pub fn runs_send_bodies()
     ensures answers { (v w : View) (answer : Answer) (steps : List Step) → IsRun v (replied answer ∷ steps) w → SendsBody (stage_replied answer.body answer.body.size) steps w }
     ensures bounded { (v : View) (left : Giving) (piece : Piece) → Polls v left piece → has_room (setting_of v.line.state.settings) v.line.state.kept ≡ true }
     ensures failed { (v w : View) (number : ℕ) (steps : List Step) (trace : List sums.Step) → LineStands v.line trace → AllNoted steps → IsRun v (sent (Ready (Some (Err (Body number)))) ∷ steps) w → OnlyEnds steps w }
+{}
+
+/// Over every run what was fed to the queue of a request's body is what came of the body, once and in order: as long as the
+/// request waits for the service, or its call is in progress and its taking is known, what the call took and what waits are
+/// together all bytes that came of the body since its head, and its fault, if that came once; and the queue has the body's end
+/// and its trailers where those came. More of a body is asked for only where the queue wants it: the service hasn't dropped
+/// it, and fewer than 32768 bytes wait beyond those that were put back. So over every run in which memory doesn't run out
+/// fewer bytes wait there than that and as many as the connection may hold, and it holds no more than that.
+pub fn runs_feed_bodies()
+    ensures runs { (v w : View) (steps : List Step) (body : CameBody) → IsRun v steps w → HasBody body v.stage v.queue → HasBody (body_after body steps) w.stage w.queue }
+    ensures wanted { (v w : View) (piece : Pulled) → IsStep v (pulled piece) w → Wants v }
+    ensures new { (wire : Wiring) (service : Serving Asking Answer Answer) (settings : Settings) (noted : Option (List Pair)) (body : CameBody) → HasBody body (view_begun wire service settings noted).stage (view_begun wire service settings noted).queue × HasQueueBound (view_begun wire service settings noted) }
+    ensures bound { (v w : View) (steps : List Step) (trace : List sums.Step) → LineStands v.line trace → AllNoted steps → IsRun v steps w → HasQueueBound v → HasQueueBound w }
+    ensures held { (v : View) (trace : List sums.Step) → LineStands v.line trace → length v.line.state.kept.unread ≤ v.line.state.settings.h1_hold_size }
 {}
 
 /// Over every run in which memory doesn't run out, an open request without an answer waits for the service, or its call is

@@ -27,6 +27,6 @@ mod laws;
 
 pub use dispatcher::{Dispatcher, Ending};
 pub use laws::{
-    polls_are_one_run, runs_are_traces, runs_bound_output, runs_keep_order, runs_lose_no_request,
-    runs_send_bodies,
+    polls_are_one_run, runs_are_traces, runs_bound_output, runs_feed_bodies, runs_keep_order,
+    runs_lose_no_request, runs_send_bodies,
 };

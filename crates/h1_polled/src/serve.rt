@@ -1,9 +1,9 @@
 //! The loop.
-use crate::greeter::Greeter;
+use crate::site::Site;
 use futures::task::{Doorbell, Poll, Solo};
 use h1_dispatch::Dispatcher;
 use h1_line::NoRecord;
-use http_services::FnService;
+use http_services::CountedService;
 use http_types::ServiceConfig;
 use http_wires::{Clock, Wire};
 use std::alloc::AllocGlobal;
@@ -19,7 +19,7 @@ pub fn serve_connection<R: RandomSource + AllocGlobal, W: Wire, K: Clock>(
     clock: &mut K,
 ) -> io::Result<()> {
     let task = Solo::new(rt, Doorbell::spinning())?;
-    let service: FnService<Greeter, ()> = FnService::new(Greeter::new(rt.alloc()));
+    let service = CountedService::new(Site::new(rt.alloc()));
     let config = ServiceConfig::default();
     let mut dispatcher = Dispatcher::new(rt.alloc(), wire, service, config, NoRecord);
     for _ in 0..u64::MAX {

@@ -10,6 +10,7 @@ use futures::task::{Context, Poll};
 use h1_line::Recorder;
 use http_bodies::MessageBody;
 use http_services::Service;
+use http_services::h1::Payload;
 use http_types::{DispatchError, Request, Response};
 use http_wires::Wire;
 use std::mem;
@@ -17,17 +18,17 @@ use std::mem;
 impl<T, S, L, B> Dispatcher<T, S, S::Call, L, B>
 where
     T: Wire,
-    S: Service<Request<(), ()>, Response = Response<B>, Error = Response<B>, Lent = ()>,
+    S: Service<Request<(), ()>, Response = Response<B>, Error = Response<B>, Lent = Payload>,
     B: MessageBody,
     L: Recorder,
 {
-    /// Polls the call in progress, and hands its answer on.
+    /// Polls the call in progress, and hands its answer on; or else feeds the queue of its body, or reads.
     pub(super) fn answer(&mut self, cx: &mut Context<'_>) -> Turn
         requires open { MayBePolled S.calling self.old }
         requires running { self.old.ending ≡ None }
-        requires allowed { allows_answer (view_of T.wiring S.served B.gives L.noted self.old) ≡ true }
-        requires calls { is_calling (stage_of B.gives self.old.work) ≡ true }
-        ensures says { ServeSays 3 (view_of T.wiring S.served B.gives L.noted self.old) (view_of T.wiring S.served B.gives L.noted self.new) result }
+        requires allowed { allows_answer (view_of T.wiring S.served S.calling B.gives L.noted self.old) ≡ true }
+        requires calls { is_calling (stage_of S.calling B.gives self.old.work) ≡ true }
+        ensures says { ServeSays 3 (view_of T.wiring S.served S.calling B.gives L.noted self.old) (view_of T.wiring S.served S.calling B.gives L.noted self.new) result }
         ensures open { MayBePolled S.calling self.new }
         ensures registered { OnIdle result (IsArmed cx.new) }
         ensures kept { Keeps cx.old cx.new }
@@ -35,10 +36,10 @@ where
         let Work::Calling(mut call) = mem::replace(&mut self.work, Work::Free) else {
             unreachable!()
         };
-        match self.service.poll_call(&mut call, &mut self.lent, cx) {
+        match self.service.poll_call(&mut call, &mut self.queue, cx) {
             Poll::Pending => {
                 self.work = Work::Calling(call);
-                self.read_on(cx)
+                self.feed(cx)
             }
             Poll::Ready(Ok(response)) => {
                 self.work = Work::Replying(response);
@@ -55,9 +56,9 @@ where
     pub(super) fn hand_on(&mut self) -> Turn
         requires open { MayBePolled S.calling self.old }
         requires running { self.old.ending ≡ None }
-        requires allowed { allows_answer (view_of T.wiring S.served B.gives L.noted self.old) ≡ true }
-        requires answered { is_replying (stage_of B.gives self.old.work) ≡ true }
-        ensures says { EndSays 2 (view_of T.wiring S.served B.gives L.noted self.old) (view_of T.wiring S.served B.gives L.noted self.new) result }
+        requires allowed { allows_answer (view_of T.wiring S.served S.calling B.gives L.noted self.old) ≡ true }
+        requires answered { is_replying (stage_of S.calling B.gives self.old.work) ≡ true }
+        ensures says { EndSays 2 (view_of T.wiring S.served S.calling B.gives L.noted self.old) (view_of T.wiring S.served S.calling B.gives L.noted self.new) result }
         ensures open { MayBePolled S.calling self.new }
     {
         if !self.line.connection().can_pull() {
@@ -76,8 +77,8 @@ where
     fn put_reply_if_allowed(&mut self) -> Turn
         requires open { MayBePolled S.calling self.old }
         requires running { self.old.ending ≡ None }
-        requires answered { is_replying (stage_of B.gives self.old.work) ≡ true }
-        ensures says { StepSays (view_of T.wiring S.served B.gives L.noted self.old) (view_of T.wiring S.served B.gives L.noted self.new) result }
+        requires answered { is_replying (stage_of S.calling B.gives self.old.work) ≡ true }
+        ensures says { StepSays (view_of T.wiring S.served S.calling B.gives L.noted self.old) (view_of T.wiring S.served S.calling B.gives L.noted self.new) result }
         ensures open { MayBePolled S.calling self.new }
     {
         if self.line.connection().can_pull() {
@@ -90,14 +91,14 @@ where
     }
 
     /// Hands the answer on to the connection; its body goes out from then on, unless it has none. Nothing is left of the
-    /// request's body that may be dropped.
+    /// request's body that may be dropped, and what waits of it is let go.
     fn put_reply(&mut self) -> Turn
         requires open { MayBePolled S.calling self.old }
         requires running { self.old.ending ≡ None }
-        requires allowed { allows_answer (view_of T.wiring S.served B.gives L.noted self.old) ≡ true }
-        requires dropped { allows (view_of T.wiring S.served B.gives L.noted self.old) on.drop_body ≡ false }
-        requires answered { is_replying (stage_of B.gives self.old.work) ≡ true }
-        ensures says { EndSays 1 (view_of T.wiring S.served B.gives L.noted self.old) (view_of T.wiring S.served B.gives L.noted self.new) result }
+        requires allowed { allows_answer (view_of T.wiring S.served S.calling B.gives L.noted self.old) ≡ true }
+        requires dropped { allows (view_of T.wiring S.served S.calling B.gives L.noted self.old) on.drop_body ≡ false }
+        requires answered { is_replying (stage_of S.calling B.gives self.old.work) ≡ true }
+        ensures says { EndSays 1 (view_of T.wiring S.served S.calling B.gives L.noted self.old) (view_of T.wiring S.served S.calling B.gives L.noted self.new) result }
         ensures open { MayBePolled S.calling self.new }
     {
         let Work::Replying(response) = mem::replace(&mut self.work, Work::Free) else {
@@ -106,6 +107,7 @@ where
         let size = response.body().size();
         match self.line.answer(response.head(), size) {
             Ok(()) => {
+                self.queue = Payload::create(self.alloc, true);
                 if size.is_eof() {
                     return Turn::Counted;
                 }

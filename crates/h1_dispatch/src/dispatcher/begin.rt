@@ -7,20 +7,21 @@ use h1_connection::{Expiry, NoMemory};
 use h1_line::Recorder;
 use http_bodies::MessageBody;
 use http_services::Service;
+use http_services::h1::Payload;
 use http_types::{Request, Response};
 use http_wires::Wire;
 
 impl<T, S, L, B> Dispatcher<T, S, S::Call, L, B>
 where
     T: Wire,
-    S: Service<Request<(), ()>, Response = Response<B>, Error = Response<B>, Lent = ()>,
+    S: Service<Request<(), ()>, Response = Response<B>, Error = Response<B>, Lent = Payload>,
     B: MessageBody,
     L: Recorder,
 {
     /// Tells the connection the moment, and that it is to be drained.
     pub(super) fn begin(&mut self, moment: u64) -> Result<(), NoMemory>
         requires open { MayBePolled S.calling self.old }
-        ensures says { BeginSays (view_of T.wiring S.served B.gives L.noted self.old) moment (view_of T.wiring S.served B.gives L.noted self.new) result }
+        ensures says { BeginSays (view_of T.wiring S.served S.calling B.gives L.noted self.old) moment (view_of T.wiring S.served S.calling B.gives L.noted self.new) result }
         ensures open { MayBePolled S.calling self.new }
     {
         match self.tick(moment) {
@@ -31,7 +32,7 @@ where
 
     fn tick(&mut self, moment: u64) -> Result<(), NoMemory>
         requires open { MayBePolled S.calling self.old }
-        ensures says { TickSays (view_of T.wiring S.served B.gives L.noted self.old) moment (view_of T.wiring S.served B.gives L.noted self.new) result }
+        ensures says { TickSays (view_of T.wiring S.served S.calling B.gives L.noted self.old) moment (view_of T.wiring S.served S.calling B.gives L.noted self.new) result }
         ensures open { MayBePolled S.calling self.new }
     {
         if !self.line.connection().can_tick(moment) {
@@ -53,7 +54,7 @@ where
 
     fn tell_drain(&mut self) -> Result<(), NoMemory>
         requires open { MayBePolled S.calling self.old }
-        ensures says { DrainSays (view_of T.wiring S.served B.gives L.noted self.old) (view_of T.wiring S.served B.gives L.noted self.new) result }
+        ensures says { DrainSays (view_of T.wiring S.served S.calling B.gives L.noted self.old) (view_of T.wiring S.served S.calling B.gives L.noted self.new) result }
         ensures open { MayBePolled S.calling self.new }
     {
         if !self.is_draining {

@@ -10,13 +10,14 @@ use futures::task::{Context, Poll};
 use h1_line::Recorder;
 use http_bodies::MessageBody;
 use http_services::Service;
+use http_services::h1::Payload;
 use http_types::{DispatchError, Request, Response};
 use http_wires::Wire;
 
 impl<T, S, L, B> Dispatcher<T, S, S::Call, L, B>
 where
     T: Wire,
-    S: Service<Request<(), ()>, Response = Response<B>, Error = Response<B>, Lent = ()>,
+    S: Service<Request<(), ()>, Response = Response<B>, Error = Response<B>, Lent = Payload>,
     B: MessageBody,
     L: Recorder,
 {
@@ -40,7 +41,7 @@ where
     /// and does nothing. No other.
     pub fn poll(&mut self, moment: u64, cx: &mut Context<'_>) -> Poll<Result<(), DispatchError>>
         requires open { MayBePolled S.calling self.old }
-        ensures says { PollSays (view_of T.wiring S.served B.gives L.noted self.old) (view_of T.wiring S.served B.gives L.noted self.new) cx.new moment result }
+        ensures says { PollSays (view_of T.wiring S.served S.calling B.gives L.noted self.old) (view_of T.wiring S.served S.calling B.gives L.noted self.new) cx.new moment result }
         ensures open { MayBePolled S.calling self.new }
         ensures registered { OnPending result (IsArmed cx.new) }
         ensures kept { Keeps cx.old cx.new }
@@ -56,7 +57,7 @@ where
 
     // Whether memory ran out.
     fn is_broken(&self) -> bool
-        ensures { result ≡ is_broken (view_of T.wiring S.served B.gives L.noted self.now).ending }
+        ensures { result ≡ is_broken (view_of T.wiring S.served S.calling B.gives L.noted self.now).ending }
     {
         match self.ending {
             None => false,
@@ -69,7 +70,7 @@ where
     /// The turns.
     fn turns(&mut self, cx: &mut Context<'_>) -> Poll<Result<(), DispatchError>>
         requires open { MayBePolled S.calling self.old }
-        ensures says { TurnsSay (view_of T.wiring S.served B.gives L.noted self.old) (view_of T.wiring S.served B.gives L.noted self.new) cx.new result }
+        ensures says { TurnsSay (view_of T.wiring S.served S.calling B.gives L.noted self.old) (view_of T.wiring S.served S.calling B.gives L.noted self.new) cx.new result }
         ensures open { MayBePolled S.calling self.new }
         ensures registered { OnPending result (IsArmed cx.new) }
         ensures kept { Keeps cx.old cx.new }

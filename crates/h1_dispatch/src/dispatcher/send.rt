@@ -13,6 +13,7 @@ use h1_connection::NoMemory;
 use h1_line::Recorder;
 use http_bodies::{BodyFault, MessageBody};
 use http_services::Service;
+use http_services::h1::Payload;
 use http_types::{DispatchError, Request, Response};
 use http_wires::Wire;
 use std::alloc::AllocError;
@@ -21,7 +22,7 @@ use std::mem;
 impl<T, S, L, B> Dispatcher<T, S, S::Call, L, B>
 where
     T: Wire,
-    S: Service<Request<(), ()>, Response = Response<B>, Error = Response<B>, Lent = ()>,
+    S: Service<Request<(), ()>, Response = Response<B>, Error = Response<B>, Lent = Payload>,
     B: MessageBody,
     L: Recorder,
 {
@@ -29,9 +30,9 @@ where
     pub(super) fn send(&mut self, cx: &mut Context<'_>) -> Turn
         requires open { MayBePolled S.calling self.old }
         requires running { self.old.ending ≡ None }
-        requires sends { is_sending (stage_of B.gives self.old.work) ≡ true }
-        requires armed { HasNoOutput (view_of T.wiring S.served B.gives L.noted self.old) ⊎ IsArmed cx.old }
-        ensures says { ServeSays 4 (view_of T.wiring S.served B.gives L.noted self.old) (view_of T.wiring S.served B.gives L.noted self.new) result }
+        requires sends { is_sending (stage_of S.calling B.gives self.old.work) ≡ true }
+        requires armed { HasNoOutput (view_of T.wiring S.served S.calling B.gives L.noted self.old) ⊎ IsArmed cx.old }
+        ensures says { ServeSays 4 (view_of T.wiring S.served S.calling B.gives L.noted self.old) (view_of T.wiring S.served S.calling B.gives L.noted self.new) result }
         ensures open { MayBePolled S.calling self.new }
         ensures registered { OnIdle result (IsArmed cx.new) }
         ensures kept { Keeps cx.old cx.new }
@@ -46,9 +47,9 @@ where
     fn poll_body(&mut self, cx: &mut Context<'_>) -> Turn
         requires open { MayBePolled S.calling self.old }
         requires running { self.old.ending ≡ None }
-        requires sends { is_sending (stage_of B.gives self.old.work) ≡ true }
-        requires allowed { allows_chunk (view_of T.wiring S.served B.gives L.noted self.old) ≡ true }
-        ensures says { ServeSays 4 (view_of T.wiring S.served B.gives L.noted self.old) (view_of T.wiring S.served B.gives L.noted self.new) result }
+        requires sends { is_sending (stage_of S.calling B.gives self.old.work) ≡ true }
+        requires allowed { allows_chunk (view_of T.wiring S.served S.calling B.gives L.noted self.old) ≡ true }
+        ensures says { ServeSays 4 (view_of T.wiring S.served S.calling B.gives L.noted self.old) (view_of T.wiring S.served S.calling B.gives L.noted self.new) result }
         ensures open { MayBePolled S.calling self.new }
         ensures registered { OnIdle result (IsArmed cx.new) }
         ensures kept { Keeps cx.old cx.new }
@@ -84,9 +85,9 @@ where
 
     /// Hands on what came of the body: a chunk, or that it failed, and then the connection closes.
     fn put_piece(&mut self, piece: Result<Bytes, BodyFault>) -> Result<(), NoMemory>
-        requires allowed { allows_chunk (view_of T.wiring S.served B.gives L.noted self.old) ≡ true }
-        ensures ok { OnOk result (Sent (view_of T.wiring S.served B.gives L.noted self.old).line (view_of T.wiring S.served B.gives L.noted self.new).line (Ready (Some piece))) }
-        ensures err { OnErr result (Lacked (view_of T.wiring S.served B.gives L.noted self.old).line (view_of T.wiring S.served B.gives L.noted self.new).line (Ready (Some piece))) }
+        requires allowed { allows_chunk (view_of T.wiring S.served S.calling B.gives L.noted self.old) ≡ true }
+        ensures ok { OnOk result (Sent (view_of T.wiring S.served S.calling B.gives L.noted self.old).line (view_of T.wiring S.served S.calling B.gives L.noted self.new).line (Ready (Some piece))) }
+        ensures err { OnErr result (Lacked (view_of T.wiring S.served S.calling B.gives L.noted self.old).line (view_of T.wiring S.served S.calling B.gives L.noted self.new).line (Ready (Some piece))) }
         ensures stays { self.new ≡ record self.old { line = self.new.line } }
     {
         match piece {

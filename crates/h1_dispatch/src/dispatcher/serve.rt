@@ -2,14 +2,16 @@
 ghost use Rattle.std.specs.Prelude.{◌≡◌, ◌⊎◌, None, true, false};
 ghost use Rattle.futures.specs.Task.{IsArmed, Keeps};
 ghost use Rattle.h1_dispatch.specs.View.{view_of, stage_of, is_busy, is_waiting, is_sending, MayBePolled, HasNoOutput, allows_next, has_write_room, allows_answer};
+ghost use Rattle.h1_dispatch.specs.Steps.{is_bodyless};
 ghost use Rattle.h1_dispatch.specs.Polls.{OnIdle, ServeSays};
 
 use crate::dispatcher::{Dispatcher, Ending, Turn, Work};
 use futures::task::{Context, Poll};
-use h1_connection::NextHead;
+use h1_connection::{BodyKind, NextHead};
 use h1_line::Recorder;
 use http_bodies::MessageBody;
 use http_services::Service;
+use http_services::h1::Payload;
 use http_types::{DispatchError, Request, Response};
 use http_wires::Wire;
 use std::mem;
@@ -17,7 +19,7 @@ use std::mem;
 impl<T, S, L, B> Dispatcher<T, S, S::Call, L, B>
 where
     T: Wire,
-    S: Service<Request<(), ()>, Response = Response<B>, Error = Response<B>, Lent = ()>,
+    S: Service<Request<(), ()>, Response = Response<B>, Error = Response<B>, Lent = Payload>,
     B: MessageBody,
     L: Recorder,
 {
@@ -26,8 +28,8 @@ where
     pub(super) fn serve(&mut self, cx: &mut Context<'_>) -> Turn
         requires open { MayBePolled S.calling self.old }
         requires running { self.old.ending ≡ None }
-        requires armed { HasNoOutput (view_of T.wiring S.served B.gives L.noted self.old) ⊎ IsArmed cx.old }
-        ensures says { ServeSays 4 (view_of T.wiring S.served B.gives L.noted self.old) (view_of T.wiring S.served B.gives L.noted self.new) result }
+        requires armed { HasNoOutput (view_of T.wiring S.served S.calling B.gives L.noted self.old) ⊎ IsArmed cx.old }
+        ensures says { ServeSays 4 (view_of T.wiring S.served S.calling B.gives L.noted self.old) (view_of T.wiring S.served S.calling B.gives L.noted self.new) result }
         ensures open { MayBePolled S.calling self.new }
         ensures registered { OnIdle result (IsArmed cx.new) }
         ensures kept { Keeps cx.old cx.new }
@@ -52,7 +54,7 @@ where
 
     /// Whether fewer bytes wait to be written than the settings' write buffer size.
     fn has_room(&self) -> bool
-        ensures { result ≡ has_write_room (view_of T.wiring S.served B.gives L.noted self.now) }
+        ensures { result ≡ has_write_room (view_of T.wiring S.served S.calling B.gives L.noted self.now) }
     {
         0 < self.line.connection().write_room()
     }
@@ -61,9 +63,9 @@ where
     fn respond(&mut self, cx: &mut Context<'_>) -> Turn
         requires open { MayBePolled S.calling self.old }
         requires running { self.old.ending ≡ None }
-        requires allowed { allows_answer (view_of T.wiring S.served B.gives L.noted self.old) ≡ true }
-        requires unsent { is_sending (stage_of B.gives self.old.work) ≡ false }
-        ensures says { ServeSays 4 (view_of T.wiring S.served B.gives L.noted self.old) (view_of T.wiring S.served B.gives L.noted self.new) result }
+        requires allowed { allows_answer (view_of T.wiring S.served S.calling B.gives L.noted self.old) ≡ true }
+        requires unsent { is_sending (stage_of S.calling B.gives self.old.work) ≡ false }
+        ensures says { ServeSays 4 (view_of T.wiring S.served S.calling B.gives L.noted self.old) (view_of T.wiring S.served S.calling B.gives L.noted self.new) result }
         ensures open { MayBePolled S.calling self.new }
         ensures registered { OnIdle result (IsArmed cx.new) }
         ensures kept { Keeps cx.old cx.new }
@@ -81,17 +83,19 @@ where
     fn next(&mut self, cx: &mut Context<'_>) -> Turn
         requires open { MayBePolled S.calling self.old }
         requires running { self.old.ending ≡ None }
-        requires free { is_busy (stage_of B.gives self.old.work) ≡ false }
-        requires unanswered { allows_answer (view_of T.wiring S.served B.gives L.noted self.old) ≡ false }
-        requires allowed { allows_next (view_of T.wiring S.served B.gives L.noted self.old) ≡ true }
-        requires room { has_write_room (view_of T.wiring S.served B.gives L.noted self.old) ≡ true }
-        ensures says { ServeSays 4 (view_of T.wiring S.served B.gives L.noted self.old) (view_of T.wiring S.served B.gives L.noted self.new) result }
+        requires free { is_busy (stage_of S.calling B.gives self.old.work) ≡ false }
+        requires unanswered { allows_answer (view_of T.wiring S.served S.calling B.gives L.noted self.old) ≡ false }
+        requires allowed { allows_next (view_of T.wiring S.served S.calling B.gives L.noted self.old) ≡ true }
+        requires room { has_write_room (view_of T.wiring S.served S.calling B.gives L.noted self.old) ≡ true }
+        ensures says { ServeSays 4 (view_of T.wiring S.served S.calling B.gives L.noted self.old) (view_of T.wiring S.served S.calling B.gives L.noted self.new) result }
         ensures open { MayBePolled S.calling self.new }
         ensures registered { OnIdle result (IsArmed cx.new) }
         ensures kept { Keeps cx.old cx.new }
     {
         match self.line.next() {
             Ok(NextHead::Head(item)) => {
+                let has_ended = is_bodyless(item.body);
+                self.queue = Payload::create(self.alloc, has_ended);
                 self.work = Work::Waiting(Request::new(item.head, ()));
                 Turn::Counted
             }
@@ -112,15 +116,15 @@ where
     fn ask(&mut self, cx: &mut Context<'_>) -> Turn
         requires open { MayBePolled S.calling self.old }
         requires running { self.old.ending ≡ None }
-        requires allowed { allows_answer (view_of T.wiring S.served B.gives L.noted self.old) ≡ true }
-        requires waits { is_waiting (stage_of B.gives self.old.work) ≡ true }
-        ensures says { ServeSays 4 (view_of T.wiring S.served B.gives L.noted self.old) (view_of T.wiring S.served B.gives L.noted self.new) result }
+        requires allowed { allows_answer (view_of T.wiring S.served S.calling B.gives L.noted self.old) ≡ true }
+        requires waits { is_waiting (stage_of S.calling B.gives self.old.work) ≡ true }
+        ensures says { ServeSays 4 (view_of T.wiring S.served S.calling B.gives L.noted self.old) (view_of T.wiring S.served S.calling B.gives L.noted self.new) result }
         ensures open { MayBePolled S.calling self.new }
         ensures registered { OnIdle result (IsArmed cx.new) }
         ensures kept { Keeps cx.old cx.new }
     {
         match self.service.poll_ready(cx) {
-            Poll::Pending => self.read_on(cx),
+            Poll::Pending => self.feed(cx),
             Poll::Ready(Err(response)) => {
                 self.work = Work::Replying(response);
                 self.hand_on()
@@ -133,5 +137,17 @@ where
                 self.answer(cx)
             }
         }
+    }
+}
+
+/// Whether no body follows the head.
+fn is_bodyless(kind: BodyKind) -> bool
+    ensures { result ≡ is_bodyless kind }
+{
+    match kind {
+        BodyKind::None => true,
+        BodyKind::Length(_) => false,
+        BodyKind::Chunked => false,
+        BodyKind::Raw => false,
     }
 }

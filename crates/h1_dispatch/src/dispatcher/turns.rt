@@ -12,13 +12,14 @@ use h1_line::Recorder;
 use http_bodies::MessageBody;
 use http_config::Failed;
 use http_services::Service;
+use http_services::h1::Payload;
 use http_types::{DispatchError, ParseError, Request, Response};
 use http_wires::Wire;
 
 impl<T, S, L, B> Dispatcher<T, S, S::Call, L, B>
 where
     T: Wire,
-    S: Service<Request<(), ()>, Response = Response<B>, Error = Response<B>, Lent = ()>,
+    S: Service<Request<(), ()>, Response = Response<B>, Error = Response<B>, Lent = Payload>,
     B: MessageBody,
     L: Recorder,
 {
@@ -26,7 +27,7 @@ where
     #[tactic(auto, using(crate::proofs::Runs::stays_broken))]
     pub(super) fn turn(&mut self, cx: &mut Context<'_>) -> Turn
         requires open { MayBePolled S.calling self.old }
-        ensures says { TurnSays (view_of T.wiring S.served B.gives L.noted self.old) (view_of T.wiring S.served B.gives L.noted self.new) result }
+        ensures says { TurnSays (view_of T.wiring S.served S.calling B.gives L.noted self.old) (view_of T.wiring S.served S.calling B.gives L.noted self.new) result }
         ensures open { MayBePolled S.calling self.new }
         ensures registered { OnIdle result (IsArmed cx.new) }
         ensures kept { Keeps cx.old cx.new }
@@ -43,7 +44,7 @@ where
     fn shut(&mut self, end: End, cx: &mut Context<'_>) -> Turn
         requires open { MayBePolled S.calling self.old }
         requires ended { self.old.ending ≡ Some (Closed end) }
-        ensures says { TurnSays (view_of T.wiring S.served B.gives L.noted self.old) (view_of T.wiring S.served B.gives L.noted self.new) result }
+        ensures says { TurnSays (view_of T.wiring S.served S.calling B.gives L.noted self.old) (view_of T.wiring S.served S.calling B.gives L.noted self.new) result }
         ensures open { MayBePolled S.calling self.new }
         ensures registered { OnIdle result (IsArmed cx.new) }
         ensures kept { Keeps cx.old cx.new }

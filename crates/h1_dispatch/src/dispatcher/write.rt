@@ -15,13 +15,14 @@ use h1_line::Recorder;
 use http_bodies::MessageBody;
 use http_config::Failed;
 use http_services::Service;
+use http_services::h1::Payload;
 use http_types::{DispatchError, Request, Response};
 use http_wires::Wire;
 
 impl<T, S, L, B> Dispatcher<T, S, S::Call, L, B>
 where
     T: Wire,
-    S: Service<Request<(), ()>, Response = Response<B>, Error = Response<B>, Lent = ()>,
+    S: Service<Request<(), ()>, Response = Response<B>, Error = Response<B>, Lent = Payload>,
     B: MessageBody,
     L: Recorder,
 {
@@ -29,7 +30,7 @@ where
     pub(super) fn write(&mut self, cx: &mut Context<'_>) -> Turn
         requires open { MayBePolled S.calling self.old }
         requires running { self.old.ending ≡ None }
-        ensures says { TurnSays (view_of T.wiring S.served B.gives L.noted self.old) (view_of T.wiring S.served B.gives L.noted self.new) result }
+        ensures says { TurnSays (view_of T.wiring S.served S.calling B.gives L.noted self.old) (view_of T.wiring S.served S.calling B.gives L.noted self.new) result }
         ensures open { MayBePolled S.calling self.new }
         ensures registered { OnIdle result (IsArmed cx.new) }
         ensures kept { Keeps cx.old cx.new }
@@ -47,9 +48,9 @@ where
     fn give(&mut self, cx: &mut Context<'_>) -> Turn
         requires open { MayBePolled S.calling self.old }
         requires running { self.old.ending ≡ None }
-        requires some { 0 < length (buffered (view_of T.wiring S.served B.gives L.noted self.old)) }
-        requires allowed { (count : ℕ) → allows (view_of T.wiring S.served B.gives L.noted self.old) (on.write count) ≡ true }
-        ensures says { TurnSays (view_of T.wiring S.served B.gives L.noted self.old) (view_of T.wiring S.served B.gives L.noted self.new) result }
+        requires some { 0 < length (buffered (view_of T.wiring S.served S.calling B.gives L.noted self.old)) }
+        requires allowed { (count : ℕ) → allows (view_of T.wiring S.served S.calling B.gives L.noted self.old) (on.write count) ≡ true }
+        ensures says { TurnSays (view_of T.wiring S.served S.calling B.gives L.noted self.old) (view_of T.wiring S.served S.calling B.gives L.noted self.new) result }
         ensures open { MayBePolled S.calling self.new }
         ensures registered { OnIdle result (IsArmed cx.new) }
         ensures kept { Keeps cx.old cx.new }
@@ -71,8 +72,8 @@ where
     fn go_on(&mut self, cx: &mut Context<'_>) -> Turn
         requires open { MayBePolled S.calling self.old }
         requires running { self.old.ending ≡ None }
-        requires armed { HasNoOutput (view_of T.wiring S.served B.gives L.noted self.old) ⊎ IsArmed cx.old }
-        ensures says { AfterSays (view_of T.wiring S.served B.gives L.noted self.old) (view_of T.wiring S.served B.gives L.noted self.new) result }
+        requires armed { HasNoOutput (view_of T.wiring S.served S.calling B.gives L.noted self.old) ⊎ IsArmed cx.old }
+        ensures says { AfterSays (view_of T.wiring S.served S.calling B.gives L.noted self.old) (view_of T.wiring S.served S.calling B.gives L.noted self.new) result }
         ensures open { MayBePolled S.calling self.new }
         ensures registered { OnIdle result (IsArmed cx.new) }
         ensures kept { Keeps cx.old cx.new }
@@ -87,9 +88,9 @@ where
     fn close(&mut self, end: End, cx: &mut Context<'_>) -> Turn
         requires open { MayBePolled S.calling self.old }
         requires running { self.old.ending ≡ None }
-        requires closing { closing_by (setting_of (view_of T.wiring S.served B.gives L.noted self.old).line.state.settings) (view_of T.wiring S.served B.gives L.noted self.old).line.state.kept ≡ Some (end_of end) }
-        requires armed { HasNoOutput (view_of T.wiring S.served B.gives L.noted self.old) ⊎ IsArmed cx.old }
-        ensures says { AfterSays (view_of T.wiring S.served B.gives L.noted self.old) (view_of T.wiring S.served B.gives L.noted self.new) result }
+        requires closing { closing_by (setting_of (view_of T.wiring S.served S.calling B.gives L.noted self.old).line.state.settings) (view_of T.wiring S.served S.calling B.gives L.noted self.old).line.state.kept ≡ Some (end_of end) }
+        requires armed { HasNoOutput (view_of T.wiring S.served S.calling B.gives L.noted self.old) ⊎ IsArmed cx.old }
+        ensures says { AfterSays (view_of T.wiring S.served S.calling B.gives L.noted self.old) (view_of T.wiring S.served S.calling B.gives L.noted self.new) result }
         ensures open { MayBePolled S.calling self.new }
         ensures registered { OnIdle result (IsArmed cx.new) }
         ensures kept { Keeps cx.old cx.new }
@@ -107,9 +108,9 @@ where
     fn tell_end(&mut self, end: End) -> Turn
         requires open { MayBePolled S.calling self.old }
         requires running { self.old.ending ≡ None }
-        requires closing { closing_by (setting_of (view_of T.wiring S.served B.gives L.noted self.old).line.state.settings) (view_of T.wiring S.served B.gives L.noted self.old).line.state.kept ≡ Some (end_of end) }
-        requires allowed { allows_next (view_of T.wiring S.served B.gives L.noted self.old) ≡ true }
-        ensures says { EndSays 1 (view_of T.wiring S.served B.gives L.noted self.old) (view_of T.wiring S.served B.gives L.noted self.new) result }
+        requires closing { closing_by (setting_of (view_of T.wiring S.served S.calling B.gives L.noted self.old).line.state.settings) (view_of T.wiring S.served S.calling B.gives L.noted self.old).line.state.kept ≡ Some (end_of end) }
+        requires allowed { allows_next (view_of T.wiring S.served S.calling B.gives L.noted self.old) ≡ true }
+        ensures says { EndSays 1 (view_of T.wiring S.served S.calling B.gives L.noted self.old) (view_of T.wiring S.served S.calling B.gives L.noted self.new) result }
         ensures open { MayBePolled S.calling self.new }
     {
         match self.line.next() {

@@ -1,5 +1,5 @@
 //! The parts of the queue.
-ghost use Rattle.std.specs.Prelude.{◌≡◌};
+ghost use Rattle.std.specs.Prelude.{◌≡◌, ◌<◌, ◌+◌, true};
 ghost use Rattle.http_services.specs.Queue.{waiting};
 
 use bytes::Bytes;
@@ -30,6 +30,7 @@ pub struct Payload {
     pub(super) fed: Source,
     pub(super) feeder: Option<Waker>,
     ghost counted: { bytes ≡ waiting chunks.items },
+    ghost low: { wish ≡ true → waiting chunks.items < 32768 + put_back },
 }
 
 impl Model for Payload {

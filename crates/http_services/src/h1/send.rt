@@ -1,7 +1,7 @@
 //! The feeder's side of the queue.
-ghost use Rattle.std.specs.Prelude.{◌≡◌, ◌⊎◌, true, IsOk, OnOk, OnErr};
+ghost use Rattle.std.specs.Prelude.{◌≡◌, ◌<◌, ◌+◌, ◌⊎◌, true, IsOk, OnOk, OnErr};
 ghost use Rattle.futures.specs.Task.{IsArmed, Keeps};
-ghost use Rattle.http_services.specs.Queue.{fed_data, fed_error, fed_end, fed_trailers, closed};
+ghost use Rattle.http_services.specs.Queue.{waiting, fed_data, fed_error, fed_end, fed_trailers, closed};
 ghost use Rattle.http_services.specs.Status.{status_of, Asked};
 
 use crate::h1::queue::Payload;
@@ -107,6 +107,7 @@ impl Payload {
         ensures status { result ≡ status_of self.old }
         ensures asked { Asked self.old self.new result }
         ensures registered { result ≡ PayloadStatus.Pause → IsArmed cx.new }
+        ensures low { result ≡ PayloadStatus.Read → waiting self.old.chunks < 32768 + self.old.put_back }
         ensures waits { result ≡ PayloadStatus.Pause → (cx.new.lacks_waker ≡ true) ⊎ (self.new.feeder ≡ true) }
         ensures kept { Keeps cx.old cx.new }
     {
@@ -166,12 +167,14 @@ impl PayloadSender<'_> {
         self.queue.close()
     }
 
-    /// What the queue wants. If it wants nothing for now, the task is woken once it does.
+    /// What the queue wants. If it wants nothing for now, the task is woken once it does. Where it wants more, fewer than
+    /// 32768 bytes wait beyond those that were put back.
     pub fn need_read(&mut self, cx: &mut Context<'_>) -> PayloadStatus
         ensures same_reference { self.new.queue.ghost_name ≡ self.old.queue.ghost_name }
         ensures status { result ≡ status_of self.old.queue.now }
         ensures asked { Asked self.old.queue.now self.new.queue.now result }
         ensures registered { result ≡ PayloadStatus.Pause → IsArmed cx.new }
+        ensures low { result ≡ PayloadStatus.Read → waiting self.old.queue.now.chunks < 32768 + self.old.queue.now.put_back }
         ensures waits { result ≡ PayloadStatus.Pause → (cx.new.lacks_waker ≡ true) ⊎ (self.new.queue.now.feeder ≡ true) }
         ensures kept { Keeps cx.old cx.new }
     {

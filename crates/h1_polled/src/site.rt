@@ -1,0 +1,155 @@
+//! What is answered to which request.
+ghost use Rattle.futures.specs.Poll.{OnPending};
+ghost use Rattle.futures.specs.Task.{IsArmed, Keeps};
+ghost use Rattle.http_services.specs.Lent.{LentBound, lent_of};
+
+use crate::lines::Lines;
+use bytes::Bytes;
+use futures::task::{Context, Poll};
+use http_bodies::{BodyStream, Counted, EitherBody};
+use http_services::PlainService;
+use http_services::h1::Payload;
+use http_types::{Method, NoMemory, Request, Response, StatusCode};
+use std::alloc::Global;
+
+/// The most bytes of a body that are sent back.
+const MOST: usize = 65_536;
+
+/// The body of an answer: bytes, or lines that are asked for one after another.
+pub type Page = EitherBody<Bytes, BodyStream<Counted<Lines>>>;
+
+/// Answers `GET` and `HEAD` of `/`, with an empty body, and of `/lines`, with lines; and `POST` of `/echo`, with the bytes
+/// that came.
+#[derive(Drop)]
+pub struct Site {
+    alloc: Global,
+}
+
+/// A request that isn't answered yet, and what came of its body.
+#[derive(Drop)]
+pub struct Visit {
+    request: Request<(), ()>,
+    came: Vec<u8>,
+}
+
+/// How a body is received.
+enum Received {
+    /// More of it may come.
+    More,
+
+    /// It is whole.
+    Whole,
+
+    /// It is larger than is sent back, or can't be read further.
+    Refused(StatusCode),
+}
+
+impl Site {
+    pub fn new(alloc: Global) -> Site {
+        Site { alloc }
+    }
+
+    fn empty(&self, status: StatusCode) -> Response<Page> {
+        let body = EitherBody::left(Bytes::new());
+        Response::with_body(self.alloc, status, body)
+    }
+
+    fn lines(&self) -> Response<Page> {
+        let lines = BodyStream::new(Counted::new(Lines::new()));
+        Response::with_body(self.alloc, StatusCode::OK, EitherBody::right(lines))
+    }
+
+    // The answer to a request whose body isn't asked for.
+    fn plain(&self, request: &Request<(), ()>) -> Response<Page> {
+        let method = request.method();
+        if *method != Method::GET && *method != Method::HEAD {
+            return self.empty(StatusCode::METHOD_NOT_ALLOWED);
+        }
+        if request.path() == "/lines" {
+            return self.lines();
+        }
+        if request.path() != "/" {
+            return self.empty(StatusCode::NOT_FOUND);
+        }
+        self.empty(StatusCode::OK)
+    }
+
+    // The bytes that came, as an answer.
+    fn echo(&self, came: &[u8]) -> Response<Page> {
+        match Bytes::copy_from_slice(self.alloc, came) {
+            Ok(bytes) => Response::with_body(self.alloc, StatusCode::OK, EitherBody::left(bytes)),
+            Err(_) => self.empty(StatusCode::SERVICE_UNAVAILABLE),
+        }
+    }
+}
+
+impl PlainService<Request<(), ()>> for Site {
+    type Response = Response<Page>;
+
+    type Error = Response<Page>;
+
+    type Call = Visit;
+
+    type Lent = Payload;
+
+    fn poll_ready(&mut self, _cx: &mut Context<'_>) -> Poll<Result<(), Response<Page>>> {
+        Poll::Ready(Ok(()))
+    }
+
+    fn call(&mut self, request: Request<(), ()>) -> Visit {
+        Visit {
+            request,
+            came: Vec::new(self.alloc),
+        }
+    }
+
+    fn poll_call(
+        &mut self,
+        call: &mut Visit,
+        lent: &mut Payload,
+        cx: &mut Context<'_>,
+    ) -> Poll<Result<Response<Page>, Response<Page>>> {
+        if !is_echo(&call.request) {
+            return Poll::Ready(Ok(self.plain(&call.request)));
+        }
+        match receive(&mut call.came, lent, cx) {
+            Poll::Pending => Poll::Pending,
+            Poll::Ready(Received::More) => cx.yield_now(),
+            Poll::Ready(Received::Whole) => Poll::Ready(Ok(self.echo(call.came.as_slice()))),
+            Poll::Ready(Received::Refused(status)) => Poll::Ready(Err(self.empty(status))),
+        }
+    }
+}
+
+fn is_echo(request: &Request<(), ()>) -> bool {
+    *request.method() == Method::POST && request.path() == "/echo"
+}
+
+// Takes the next piece of a body.
+fn receive(came: &mut Vec<u8>, lent: &mut Payload, cx: &mut Context<'_>) -> Poll<Received>
+    ensures bound { LentBound (lent_of lent.old) (lent_of lent.new) }
+    ensures registered { OnPending result (IsArmed cx.new) }
+    ensures kept { Keeps cx.old cx.new }
+{
+    match lent.poll_next(cx) {
+        Poll::Pending => Poll::Pending,
+        Poll::Ready(None) => Poll::Ready(Received::Whole),
+        Poll::Ready(Some(Err(_))) => Poll::Ready(Received::Refused(StatusCode::BAD_REQUEST)),
+        Poll::Ready(Some(Ok(piece))) => Poll::Ready(keep(came, piece.as_slice())),
+    }
+}
+
+// Keeps a piece with those before it.
+fn keep(came: &mut Vec<u8>, piece: &[u8]) -> Received {
+    if came.len().saturating_add(piece.len()) > MOST {
+        return Received::Refused(StatusCode::PAYLOAD_TOO_LARGE);
+    }
+    match put(came, piece) {
+        Ok(()) => Received::More,
+        Err(_) => Received::Refused(StatusCode::SERVICE_UNAVAILABLE),
+    }
+}
+
+fn put(came: &mut Vec<u8>, piece: &[u8]) -> Result<(), NoMemory> {
+    Ok(came.extend_from_slice(piece)?)
+}
