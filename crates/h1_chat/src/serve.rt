@@ -85,7 +85,7 @@ fn read(
         }
         TakenIn::End => member.has_ended = true,
         TakenIn::Failed if is_not_now => member.may_read = false,
-        TakenIn::Failed => member.lose(),
+        TakenIn::Failed | TakenIn::Refused => member.lose(),
         TakenIn::Full => {}
     }
     Ok(0)
@@ -174,7 +174,10 @@ fn write_out(
 // Whether anything is owed. Where nothing is, what the connection has to write is fetched.
 fn owes(house: &mut House, number: usize, member: &mut Member) -> Result<bool, NoMemory> {
     if member.owed.is_empty() && buffered(house, number) > 0 {
-        member.owed = fetch(house, number)?;
+        match fetch(house, number)? {
+            Some(bytes) => member.owed = bytes,
+            None => member.lose(),
+        }
     }
     Ok(!member.owed.is_empty())
 }

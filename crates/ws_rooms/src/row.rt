@@ -146,8 +146,8 @@ impl Row {
         ensures { result ≡ min (byte_count self.now.waiting) (2 ^ 64 - 1) }
     {
         let mut count: usize = 0;
-        for line in &self.waiting {
-            count = count.saturating_add(line.payload().len());
+        for index in 0..self.waiting.len() {
+            count = count.saturating_add(self.waiting[index].payload().len());
         }
         count
     }
