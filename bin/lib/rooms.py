@@ -8,6 +8,9 @@ ASKED = (b"GET %s HTTP/1.1\r\nHost: a\r\nConnection: keep-alive, Upgrade\r\nUpgr
          b"Sec-WebSocket-Key: dGhlIHNhbXBsZSBub25jZQ==\r\nSec-WebSocket-Extensions: permessage-deflate\r\n\r\n")
 SECONDS = 60
 
+# How many messages are said to one that doesn't read.
+COUNT = 2000
+
 
 def frame(first, payload):
     """A frame of a client, whose mask changes nothing."""
@@ -27,13 +30,9 @@ def frames_of(seen):
     return found
 
 
-def joined(address, room, small=False):
+def joined(address, room):
     """A socket that has joined a room."""
-    sock = socket.socket()
-    if small:
-        sock.setsockopt(socket.SOL_SOCKET, socket.SO_RCVBUF, 4096)
-    sock.settimeout(SECONDS)
-    sock.connect(address)
+    sock = socket.create_connection(address, timeout=SECONDS)
     sock.sendall(ASKED % room)
     seen = b""
     while not seen.endswith(b"\r\n\r\n"):
@@ -89,6 +88,7 @@ def socket_members(address):
         with one, other:
             one.sendall(frame(0x81, b"last"))
             one.shutdown(socket.SHUT_WR)
+            time.sleep(0.5)
             other.sendall(frame(0x88, b""))
             seen = frames_of(read_all(other))
             return differs(seen, [(0x81, b"last"), (0x88, b"")]) or differs(frames_of(read_all(one)), [])
@@ -143,16 +143,16 @@ def websockets_members(address):
     member("200 members of one room", many)
 
     async def deaf():
-        # One never reads: it is told 1008 once it does, and the others get all.
-        sock, _ = joined(address, b"/deaf", small=True)
+        # One never reads: it is told 1008 once it does, and the others get all. The system holds some hundred messages, too.
+        sock, _ = joined(address, b"/deaf")
         text = "x" * 15_000
         async with join(at + "/deaf", max_queue=None) as one, join(at + "/deaf", max_queue=None) as two:
             async def hear():
-                for _ in range(1100):
+                for _ in range(COUNT):
                     if await two.recv() != text:
                         return "another text"
             hearing = asyncio.create_task(hear())
-            for _ in range(1100):
+            for _ in range(COUNT):
                 await one.send(text)
             wrong = await hearing
         if wrong:
@@ -161,7 +161,7 @@ def websockets_members(address):
             seen = frames_of(await asyncio.to_thread(read_all, sock))
         # What the socket had taken and 1024 that waited came first.
         return differs((seen[-1], len(seen) > 1024, all(one == (0x81, text.encode()) for one in seen[:-1])), ((0x88, b"\x03\xf0"), True, True))
-    member("one that never reads beside one that gets all 1,100 messages", deaf)
+    member("one that never reads beside one that gets all 2,000 messages", deaf)
 
 
 # ---- two browsers
