@@ -13,7 +13,7 @@ use Rattle.h1_model.specs.Event as on
 use Rattle.h1_model.specs.Sums.{Step, request}
 use Rattle.h1_model.specs.Trace as traces
 use Rattle.h1_machine.specs.Local.{allowed_by}
-use Rattle.h1_machine.proofs.Stands.{fresh_stands, allowed_of_trace, misplaced_of_trace}
+use Rattle.h1_machine.proofs.Stands.{allowed_of_trace, misplaced_of_trace}
 use Rattle.h1_connection.specs.Meaning.{setting_of, event_of, SaysOutcome}
 use Rattle.h1_connection.specs.State.{IsAllowed}
 use Rattle.h1_connection.specs.declared.event.Event.{Event}
@@ -22,13 +22,12 @@ use Rattle.ws_hub_model.specs.Hub.{HubEvent, opens, feeds, turns, opened, core, 
 use Rattle.ws_hub_model.specs.Member.{Member, newcomer, with_opened, member_at}
 use Rattle.ws_hub_model.specs.Seen.{Seen, steps_of, members_of}
 use Rattle.ws_hub_model.specs.Trace.{is_fed, core_trace, IsTurnEvent, Closes, GoesOn, IsHubStep, IsHubTrace}
-use Rattle.ws_hub_model.specs.Turn.{tried}
 use Rattle.ws_hub_model.proofs.RowLemmas.{length-members}
 use Rattle.ws_hub_model.proofs.StepViews.{view_of, core_opening, core_other}
 use Rattle.ws_seat.specs.Seat.{SeatState, SeatStands, SeatGoesOn, fresh_seat, GoesOnAfter as SeatGoes}
 use Rattle.ws_seat.specs.Turn.{first_message, IsSeatOf}
 use Rattle.ws_seat.specs.declared.seat.Turn.{Turn as SeatTurn}
-use Rattle.ws_seat.proofs.KeptLemmas.{closes_traced}
+use Rattle.ws_seat.proofs.KeptLemmas.{fresh_seat_stands, closes_traced}
 use Rattle.ws_hub.specs.Hub.{HubState, HubStands, GoesOnAfter, HubGoesOn, HubRefuses, SaysCore}
 use Rattle.ws_hub.specs.Moves.{closes_by, moved, followed, Takes}
 use Rattle.ws_hub.proofs.RowLemmas.{rows_moved, rows_followed}
@@ -166,11 +165,6 @@ unopened setting (s ∷ before) j x past =
         | inr other ↦ core_other setting j s before m other ∙ ih
       ]
     ]
-
--- a connection to which nothing came stands for no step
-pub fresh_seat_stands : (settings : Settings) → SeatStands (fresh_seat settings) []
-unfolding tried request
-fresh_seat_stands settings = record { stands = fresh_stands (setting_of settings); refusal_is = refl; room_is = refl }
 
 pub record AddedAt (j : ℕ) (xs : List SeatState) (v s : SeatState) : Type 0 where
   pub cases : ((length xs ≤ j) × (s ≡ v)) ⊎ (slice_get xs j ≡ Some s)

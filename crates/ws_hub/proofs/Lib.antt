@@ -5,3 +5,4 @@ pub mod RunLemmas
 pub mod FirstLemmas
 pub mod CallLemmas
 pub mod MoveLemmas
+pub mod WaitLemmas

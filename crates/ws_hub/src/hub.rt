@@ -1,9 +1,10 @@
 //! A hub.
-ghost use Rattle.std.specs.Prelude.{◌≡◌, ◌≤◌, ◌==◌, [], IfOk, IsOk, length, map, slice_get, option_map};
+ghost use Rattle.std.specs.Prelude.{◌≡◌, ◌≤◌, ◌^◌, ◌-◌, ◌==◌, [], min, IfOk, IsOk, length, map, slice_get, option_map};
 ghost use Rattle.std.specs.Option.{option_copied};
 ghost use Rattle.ws_hub.specs.Hub.{fresh_hub, hub_event_of, HubStands, HubSteps, RefusesAtOnce, buffered_of, HubOpens, HubFeeds, HubTurns};
 ghost use Rattle.h1_connection.specs.Meaning.{event_of};
 ghost use Rattle.ws_hub_model.specs.Hub.{opens, feeds, turns};
+ghost use Rattle.ws_hub_model.specs.Member.{member_at, byte_count};
 ghost use Rattle.ws_hub_model.specs.Trace.{is_fed};
 
 use crate::event::{HubEvent, HubOutcome};
@@ -73,6 +74,27 @@ impl Hub {
     {
         let seat = self.seats.get(number)?;
         Some(seat.connection())
+    }
+
+    /// How many frames wait to be sent to the member with this number; where it wasn't opened, none.
+    pub fn waiting(&self, number: usize) -> usize
+        ensures { result ≡ length (member_at number self.now.members).waiting }
+    {
+        if number >= self.rooms.len() {
+            return 0;
+        }
+        self.rooms.waiting(number)
+    }
+
+    /// How many bytes of payload wait to be sent to the member with this number, and `usize::MAX` where they are more. It
+    /// looks at each frame that waits.
+    pub fn waiting_bytes(&self, number: usize) -> usize
+        ensures { result ≡ min (byte_count (member_at number self.now.members).waiting) (2 ^ 64 - 1) }
+    {
+        if number >= self.rooms.len() {
+            return 0;
+        }
+        self.rooms.waiting_bytes(number)
     }
 
     /// The bytes that wait to be written, of each connection by its number.

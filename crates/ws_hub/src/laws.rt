@@ -2,6 +2,7 @@
 ghost use Rattle.std.specs.Prelude.{ℕ, List};
 ghost use Rattle.http_config.specs.Config.{Settings};
 ghost use Rattle.ws_hub_model.specs.Seen.{Seen};
+ghost use Rattle.ws_hub.specs.Hub.{HubState, HubStands};
 ghost use Rattle.ws_hub.specs.Run.{IsDriven};
 ghost use Rattle.ws_hub.specs.Served.{IsServed};
 ghost use Rattle.ws_hub.specs.declared.event.HubEvent.{HubEvent};
@@ -12,4 +13,9 @@ ghost use Rattle.ws_hub.specs.declared.driver.HubTrace.{HubTrace};
 pub fn each_member_is_served()
     ensures { (settings : Settings) (events : List HubEvent) (trace : HubTrace) (seen : List Seen) (i : ℕ)
         → IsDriven settings events trace seen → IsServed seen i }
+{}
+
+/// The same of every hub, at each moment: whoever feeds it from sockets, and gives it turns.
+pub fn each_member_of_a_hub_is_served()
+    ensures { (hub : HubState) (seen : List Seen) (i : ℕ) → HubStands hub seen → IsServed seen i }
 {}

@@ -1,9 +1,9 @@
 //! The table of all members.
-ghost use Rattle.std.specs.Prelude.{◌≡◌, ◌<◌, ◌++◌, ◌∷◌, [], ℕ, Some, true, length, drop, slice_get, OnOk, OnErr, IsOk};
+ghost use Rattle.std.specs.Prelude.{◌≡◌, ◌<◌, ◌^◌, ◌-◌, ◌++◌, ◌∷◌, [], ℕ, Some, true, length, drop, min, slice_get, OnOk, OnErr, IsOk};
 ghost use Rattle.std.specs.Option.{option_copied};
 ghost use Rattle.h1_model.specs.Event as on;
 ghost use Rattle.ws_frames.specs.Codec.{frame_says};
-ghost use Rattle.ws_hub_model.specs.Member.{newcomer, says, nothing, effect_in, heard, with_end, member_at, rows_from};
+ghost use Rattle.ws_hub_model.specs.Member.{newcomer, says, nothing, effect_in, heard, with_end, member_at, rows_from, byte_count};
 ghost use Rattle.ws_rooms.specs.Rows.{only, others_hear, spoken};
 
 use crate::line::Line;
@@ -84,6 +84,23 @@ impl Rooms {
         self.rows[number].front()
     }
 
+    /// How many frames wait to be sent to it.
+    pub fn waiting(&self, number: usize) -> usize
+        requires known { number < length self.now }
+        ensures { result ≡ length (member_at number self.now).waiting }
+    {
+        self.rows[number].waiting()
+    }
+
+    /// How many bytes of payload wait to be sent to it, and `usize::MAX` where they are more. It looks at each frame that
+    /// waits.
+    pub fn waiting_bytes(&self, number: usize) -> usize
+        requires known { number < length self.now }
+        ensures { result ≡ min (byte_count (member_at number self.now).waiting) (2 ^ 64 - 1) }
+    {
+        self.rows[number].waiting_bytes()
+    }
+
     /// The first frame that waits was sent to it.
     pub fn sent(&mut self, number: usize)
         requires known { number < length self.old }
@@ -94,11 +111,13 @@ impl Rooms {
     }
 
     /// A frame of it has its effect: on its own row, and, where it completes a message, on those of the others in its room.
-    /// A frame without an effect takes no memory: a Pong, and any frame of one that is in no room.
+    /// A frame without an effect takes no memory: a Pong, and any frame of one that is in no room. Where memory ran out,
+    /// there are as many rows as before.
     pub fn speak(&mut self, number: usize, frame: Frame) -> Result<(), NoMemory>
         requires known { number < length self.old }
         ensures spoken { OnOk result (self.new ≡ rows_from 0 (spoken number (member_at number self.old) (frame_says frame)) self.old) }
         ensures no_memory_needed { effect_in (member_at number self.old) (on.frame (frame_says frame)) ≡ nothing → IsOk result }
+        ensures count { length self.new ≡ length self.old }
     {
         let row = &mut self.rows[number];
         let Some(lines) = row.take(frame)? else {
@@ -116,7 +135,8 @@ fn tell(
     room: &Option<Bytes>,
     lines: &[Line],
 ) -> Result<(), NoMemory>
-    ensures { OnOk result (rows.new.items ≡ rows_from 0 (others_hear number room.now lines.now) rows.old.items) }
+    ensures told { OnOk result (rows.new.items ≡ rows_from 0 (others_hear number room.now lines.now) rows.old.items) }
+    ensures count { length rows.new.items ≡ length rows.old.items }
 {
     for index in 0..rows.len() {
         if index != number {

@@ -1,12 +1,12 @@
 // The row of one member.
-ghost use Rattle.std.specs.Prelude.{◌≡◌, ℕ, List, [], ◌∷◌, ◌++◌, not, ◌&&◌, Some, true, drop, slice_get, option_map, IfOk, IsOk, OnOk};
+ghost use Rattle.std.specs.Prelude.{◌≡◌, ℕ, ◌^◌, ◌-◌, List, [], ◌∷◌, ◌++◌, not, ◌&&◌, Some, true, length, min, drop, slice_get, option_map, IfOk, IsOk, OnOk};
 ghost use Rattle.std.specs.List.{flat_map};
 ghost use Rattle.std.specs.Option.{option_copied};
 ghost use Rattle.std.specs.Str.{is_utf8};
 ghost use Rattle.h1_model.specs.Frame as frames;
 ghost use Rattle.h1_model.specs.Event as on;
 ghost use Rattle.ws_frames.specs.Codec.{item_says, frame_says};
-ghost use Rattle.ws_hub_model.specs.Member.{nothing, newcomer, is_in, is_same_room, payload, is_text, kept, said, effect_of, effect_in, leaving, put, with_effect, with_end};
+ghost use Rattle.ws_hub_model.specs.Member.{nothing, newcomer, is_in, is_same_room, payload, byte_count, is_text, kept, said, effect_of, effect_in, leaving, put, with_effect, with_end};
 ghost use Rattle.ws_rooms.specs.Lines.{said_of};
 
 use crate::line::Line;
@@ -132,6 +132,24 @@ impl Row {
         ensures { option_copied result ≡ slice_get self.now.waiting 0 }
     {
         self.waiting.front()
+    }
+
+    // How many frames wait.
+    pub fn waiting(&self) -> usize
+        ensures { result ≡ length self.now.waiting }
+    {
+        self.waiting.len()
+    }
+
+    // How many bytes of payload wait, and `usize::MAX` where they are more.
+    pub fn waiting_bytes(&self) -> usize
+        ensures { result ≡ min (byte_count self.now.waiting) (2 ^ 64 - 1) }
+    {
+        let mut count: usize = 0;
+        for index in 0..self.waiting.len() {
+            count = count.saturating_add(self.waiting[index].payload().len());
+        }
+        count
     }
 
     // The first frame that waits was sent.

@@ -92,10 +92,3 @@ pub pull_after : (seat : SeatState) (said : Message) (v : Option Event) → allo
     → IsAsked seat.connection (socket_by seat (Some said)) v
 pull_after seat said v cannot asked =
     subst (λ (e : on.Event). IsAsked seat.connection e v) (sym (ap (λ (b : Bool). sent_by b (Some said)) cannot)) asked
-
-none_sent : (b : Bool) → sent_by b None ≡ on.pull
-none_sent true = refl
-none_sent false = refl
-
-pub pull_alone : (seat : SeatState) (v : Option Event) → IsAsked seat.connection on.pull v → IsAsked seat.connection (socket_by seat None) v
-pull_alone seat v asked = subst (λ (e : on.Event). IsAsked seat.connection e v) (sym (none_sent (allows seat (on.send frames.nop)))) asked

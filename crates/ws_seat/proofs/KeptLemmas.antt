@@ -9,11 +9,12 @@ use Rattle.h1_model.specs.Event as on
 use Rattle.h1_model.specs.Sums.{Step, head_of, request}
 use Rattle.h1_model.specs.Closing.{closing}
 use Rattle.h1_machine.specs.Local.{closing_by}
+use Rattle.h1_machine.proofs.Stands.{fresh_stands}
 use Rattle.h1_codec.specs.Meaning.{answer_of}
 use Rattle.h1_connection.proofs.GoesOnLemmas.{closing_traced}
 use Rattle.h1_payload.specs.Rests.{fault_of as body_fault_of}
 use Rattle.h1_connection.specs.Meaning.{setting_of, event_of, end_of, fault_of, failing_of, SaysOutcome}
-use Rattle.h1_connection.specs.State.{State, GoesOn}
+use Rattle.h1_connection.specs.State.{State, fresh_state, GoesOn}
 use Rattle.h1_connection.specs.declared.event.End.{End}
 use Rattle.h1_connection.specs.declared.event.Event.{Event}
 use Rattle.h1_connection.specs.declared.event.Event.TheVariants as event
@@ -26,7 +27,19 @@ use Rattle.ws_hub_model.specs.Room.{room_of}
 use Rattle.ws_hub_model.specs.Trace.{Closes}
 use Rattle.ws_hub_model.specs.Turn.{refusal_by, refusal_head, tried}
 use Rattle.ws_hub_model.proofs.RoomLemmas.{room_is_path}
-use Rattle.ws_seat.specs.Seat.{SeatState, SeatStands, SeatGoesOn, room_asked, refused_by, refusal_after, room_after}
+use Rattle.http_config.specs.Config.{Settings}
+use Rattle.ws_seat.specs.Seat.{SeatState, SeatStands, SeatGoesOn, fresh_seat, room_asked, refused_by, refusal_after, room_after}
+
+-- a connection to which nothing came stands for no step
+pub fresh_seat_stands : (settings : Settings) → SeatStands (fresh_seat settings) []
+unfolding tried request
+fresh_seat_stands settings = record { stands = fresh_stands (setting_of settings); refusal_is = refl; room_is = refl }
+
+-- so does a seat with such a connection
+pub fresh_stands_with : (settings : Settings) (connection : State) → connection ≡ fresh_state settings
+    → SeatStands (record { connection = connection; refusal = None; room = None }) []
+fresh_stands_with settings connection is =
+    subst (λ (s : State). SeatStands (record { connection = s; refusal = None; room = None }) []) (sym is) (fresh_seat_stands settings)
 
 -- ---- the check that failed
 

@@ -13,7 +13,7 @@ use Rattle.h1_connection.specs.declared.event.Event.{Event}
 use Rattle.ws_hub_model.specs.Seen.{Seen, row_of}
 use Rattle.ws_hub_model.specs.Trace.{core_trace, IsTurnEvent, IsHubTrace}
 use Rattle.ws_hub_model.specs.Turn.{accept_limit, answer_head}
-use Rattle.ws_seat.specs.Seat.{SeatState, SeatStands, GoesOnAfter}
+use Rattle.ws_seat.specs.Seat.{SeatState, SeatStands, SeatGoesOn, GoesOnAfter}
 use Rattle.ws_seat.specs.declared.seat.Turn.{Turn}
 
 -- ---- the rules of a turn as questions for a connection
@@ -54,6 +54,13 @@ asked_by seat front =
 abbrev pub IsAsked : State → on.Event → Option Event → Type 0
 IsAsked state asked None = (asked ≡ on.pull) × (allowed_by (setting_of state.settings) state.kept on.pull ≡ false)
 IsAsked state asked (Some event) = (event_of event ≡ asked) × IsAllowed state (event_of event)
+
+-- A turn's event is the one that is asked for, and the seat goes on by it. There is none only where a pull is asked for
+-- and isn't allowed, and then nothing changes.
+abbrev pub AsksBy : SeatState → Option Message → Option Turn → SeatState → Type 0
+AsksBy seat front None after = IsAsked seat.connection (asked_by seat front) None × (after ≡ seat)
+AsksBy seat front (Some turn) after =
+    IsAsked seat.connection (asked_by seat front) (Some turn.event) × SeatGoesOn seat (event_of turn.event) (SaysOutcome turn.outcome) after
 
 -- ---- a turn in a hub
 

@@ -1,5 +1,5 @@
 //! A connection of a hub.
-ghost use Rattle.std.specs.Prelude.{◌≡◌, ◌≤◌, List, Some, option_map, is_some, IfOk, OnOk};
+ghost use Rattle.std.specs.Prelude.{◌≡◌, ◌≤◌, List, [], Some, option_map, is_some, IfOk, OnOk};
 ghost use Rattle.std.specs.Option.{option_copied};
 ghost use Rattle.h1_model.specs.Event as on;
 ghost use Rattle.h1_model.specs.Limits.{MAX_FRAME_HEAD};
@@ -12,7 +12,7 @@ ghost use Rattle.h1_codec.specs.Meaning.{answer_of};
 ghost use Rattle.ws_hub_model.specs.Trace.{Closes};
 ghost use Rattle.ws_hub_model.specs.Turn.{answer_head};
 ghost use Rattle.ws_seat.specs.Seat.{fresh_seat, SeatStands, SeatGoesOn, refusal_after, room_after};
-ghost use Rattle.ws_seat.specs.Turn.{socket_by, may_accept, answer_by, asked_by, IsAsked, TurnsBy};
+ghost use Rattle.ws_seat.specs.Turn.{socket_by, may_accept, answer_by, asked_by, IsAsked, AsksBy, TurnsBy};
 
 use crate::kept::{keep_refusal, keep_room};
 use bytes::Bytes;
@@ -67,7 +67,8 @@ impl Model for Seat {
 impl Seat {
     /// A connection to which nothing has come yet. It takes no memory.
     pub fn new(alloc: Global, config: ServiceConfig) -> Seat
-        ensures { result ≡ fresh_seat config }
+        ensures value { result ≡ fresh_seat config }
+        ensures stands { SeatStands result [] }
     {
         let room = config.h1_hold_size() - MAX_FRAME_HEAD;
         Seat {
@@ -128,6 +129,7 @@ impl Seat {
     /// sends that message, or takes the next frame, whichever the rules say. Where the connection is over there is no
     /// turn, and nothing changes. For the event that is handed out, a text is copied.
     pub fn turn(&mut self, front: Option<&Message>) -> Result<Option<Turn>, NoMemory>
+        ensures asked { IfOk result (λ turn. AsksBy self.old (option_map message_says (option_copied front.entry)) turn self.new) }
         ensures turned { IfOk result (λ turn. TurnsBy self.old (option_map message_says (option_copied front.entry)) turn self.new) }
         ensures settings { self.new.connection.settings ≡ self.old.connection.settings }
     {

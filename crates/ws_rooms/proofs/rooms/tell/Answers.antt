@@ -18,5 +18,5 @@ loop-index-preserved c = elim c.if-index-number.branch [
       (unheard c.loop-index.index c.args.number c.args.room.now c.args.lines.now c.args.rows.now.items c.loop-index.rows.items c.loop-index.invariant w.if-index-number.false)
 ]
 
-pub returns : goal.returns
-returns c = changed_all _ _ _ c.loop-index.index (omega arith) c.loop-index.invariant
+pub returns-clause-told : goal.returns-clause-told
+returns-clause-told c = changed_all _ _ _ c.loop-index.index (omega arith) c.loop-index.invariant

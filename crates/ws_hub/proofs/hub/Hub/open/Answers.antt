@@ -9,7 +9,7 @@ pub returns-clause-opened : goal.returns-clause-opened
 returns-clause-opened c =
     let count : c.len-number.result ≡ length c.self.inside.seats.items = omega arith in
     goes_call _ c.args.self.now c.self.inside.config _ _ _ _ opens (λ out. out ≡ opened c.len-number.result) c.self.view_is
-    (c.in_ok-push.ensures.items ∙ ap (λ (s : SeatState). c.self.inside.seats.items ++ s ∷ []) c.new.ensures) c.in_ok-open.ensures.ok
+    (c.in_ok-push.ensures.items ∙ ap (λ (s : SeatState). c.self.inside.seats.items ++ s ∷ []) c.new.ensures.value) c.in_ok-open.ensures.ok
     (hub_opened (hub_of c.self.inside.config c.self.inside.seats.items c.self.inside.rooms) c.len-number.result count (omega arith))
 
 pub returns-in_err-open-clause-no_memory_needed : goal.returns-in_err-open-clause-no_memory_needed

@@ -17,7 +17,7 @@ returns-clause-spoken c =
     (spoken_aloud c.args.number (frame_says c.args.frame) c.args.self.now c.self.inside.rows.items c.index_mut-row.result.now c.take.new.self
     c.in_ok-room.room c.as_slice.result.now c.self.view_is c.requires.known c.index_mut-row.ensures.value c.in_ok-lines.ensures.after
     ((rw c.in-Some.is at (sym c.in_ok-lines.ensures.said)) ∙ ap Some (sym c.as_slice.ensures.value)) c.in_ok-room.ensures)
-    c.tell.ensures
+    c.tell.ensures.told
 
 pub returns-in_err-lines-clause-no_memory_needed : goal.returns-in_err-lines-clause-no_memory_needed
 returns-in_err-lines-clause-no_memory_needed c = λ none.

@@ -1,3 +1,4 @@
+use Rattle.std.proofs.Common.{refl}
 use Rattle.std.specs.Prelude.{option_map}
 use Rattle.std.specs.Option.{option_copied}
 use Rattle.ws_frames.specs.Sent.{message_says}
@@ -14,3 +15,9 @@ pub returns-in_default-clause-turned : goal.returns-in_default-clause-turned
 returns-in_default-clause-turned c =
     no_turn c.args.self.now (option_map message_says (option_copied c.args.front)) c.turn_event.ensures.holds
     (rw c.in_default.is at c.in_ok-event.ensures.asked)
+
+pub returns-clause-asked : goal.returns-clause-asked
+returns-clause-asked c = (rw c.in-Some.is at c.in_ok-event.ensures.asked, c.in_ok-outcome.ensures.stands)
+
+pub returns-in_default-clause-asked : goal.returns-in_default-clause-asked
+returns-in_default-clause-asked c = (rw c.in_default.is at c.in_ok-event.ensures.asked, refl)

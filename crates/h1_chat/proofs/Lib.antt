@@ -1,0 +1,2 @@
+pub mod HouseLemmas
+pub mod FlowLemmas
