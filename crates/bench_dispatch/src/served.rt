@@ -4,6 +4,7 @@ use bytes::Bytes;
 use futures::task::{Doorbell, Poll, Solo};
 use h1_dispatch::Dispatcher;
 use h1_line::NoRecord;
+use http_services::h1::Payload;
 use http_services::{FnService, Handler};
 use http_types::{Request, Response, ServiceConfig};
 use std::alloc::{AllocGlobal, Global};
@@ -35,7 +36,7 @@ impl Handler<Request<(), ()>> for Plain {
 /// Has a dispatcher serve so many reads of these bytes, and gives a checksum of what was written.
 pub fn serve<R: RandomSource + AllocGlobal>(rt: &R, bytes: Bytes, reads: u64) -> io::Result<u64> {
     let task = Solo::new(rt, Doorbell::spinning())?;
-    let service: FnService<Plain, ()> = FnService::new(Plain { alloc: rt.alloc() });
+    let service: FnService<Plain, Payload> = FnService::new(Plain { alloc: rt.alloc() });
     let wire = Same::new(bytes, reads);
     let config = ServiceConfig::default();
     let mut served = Dispatcher::new(rt.alloc(), wire, service, config, NoRecord);
