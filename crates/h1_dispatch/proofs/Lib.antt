@@ -12,3 +12,4 @@ pub mod Faults
 pub mod Bounds
 pub mod Pulls
 pub mod Feeds
+pub mod Lacks

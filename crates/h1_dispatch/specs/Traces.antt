@@ -14,9 +14,12 @@ use Rattle.h1_decode.specs.declared.decoder.HeadItem.{HeadItem}
 use Rattle.h1_model.specs.Event as on
 use Rattle.h1_model.specs.Request.{Head}
 use Rattle.http_bodies.specs.Told.{Grows}
+use Rattle.h1_model.specs.Setting.{Setting}
+use Rattle.h1_model.specs.Trace.{IsTrace}
+use Rattle.h1_connection.specs.Steps.{Pair}
 use Rattle.h1_model.specs.Sums as sums
 use Rattle.h1_model.specs.Sums.{taken, written}
-use Rattle.h1_line.specs.Line.{LineStands}
+use Rattle.h1_line.specs.Line.{SaysNoted, LineStands}
 use Rattle.h1_dispatch.specs.View.{View, Asking}
 use Rattle.h1_dispatch.specs.Steps.{Step, request_at, next, pulled, replied, sent, failed, failed_write, failed_read, failed_fed, failed_sent}
 
@@ -130,3 +133,9 @@ pub record Follows (v w : View) (trace : List sums.Step) (handed : List on.Event
 -- this holds after each trace that the connection stood for
 abbrev pub AreTraces : View → List Step → View → Type 0
 AreTraces v steps w = (trace : List sums.Step) → LineStands v.line trace → Follows v w trace (hands steps) (came steps)
+
+-- What was noted is a trace of a connection with these settings, which has this one at its end, as the newest step comes first.
+pub record NotesTrace (setting : Setting) (noted : Option (List Pair)) (trace : List sums.Step) : Type 0 where
+  pub more : List sums.Step
+  pub traced : IsTrace setting (more ++ trace)
+  pub notes : SaysNoted noted (more ++ trace)

@@ -20,7 +20,7 @@ ghost use Rattle.h1_connection.specs.Steps.{Pair};
 ghost use Rattle.h1_dispatch.specs.Feeds.{CameBody, body_after, HasBody, HasQueueBound};
 ghost use Rattle.h1_dispatch.specs.Order.{KeepsOrder};
 ghost use Rattle.h1_dispatch.specs.Open.{IsTied, StaysTied};
-ghost use Rattle.h1_dispatch.specs.Traces.{IsNoted, AllNoted, AreTraces};
+ghost use Rattle.h1_dispatch.specs.Traces.{IsNoted, AllNoted, AreTraces, NotesTrace};
 ghost use Rattle.h1_dispatch.specs.Acts.{Act, ActsSay, AreOneRun};
 
 /// Polls one after another, with drains asked for between them, are one run of steps: the moment, the drain and the turns
@@ -37,6 +37,12 @@ pub fn polls_are_one_run()
 /// of the body, in order.
 pub fn runs_are_traces()
     ensures { (v w : View) (steps : List Step) → AllNoted steps → IsRun v steps w → AreTraces v steps w }
+{}
+
+/// After the first step of a run in which memory runs out, what was noted is a trace of the connection still, whatever came
+/// before.
+pub fn runs_note_traces()
+    ensures { (v u w : View) (steps : List Step) (step : Step) (trace : List sums.Step) → LineStands v.line trace → AllNoted steps → IsRun v steps u → ¬ IsNoted step → IsStep u step w → NotesTrace (setting_of u.line.state.settings) w.line.noted trace }
 {}
 
 /// Over every run requests are called, or refused, in the order in which their heads were handed out; the last one may

@@ -14,12 +14,13 @@
 //! # Contract
 //!
 //! A poll says by which steps it came from one view of the dispatcher to another: a moment that came, bytes written or
-//! read, a head handed out, a call begun, an answer handed on, a piece of its body. Each step says what it takes, what the
-//! wire, the service, the body and the connection did, and that all else stays. What a poll answers says how its steps end.
+//! read, a head handed out, a call begun, a piece of its body fed to the queue that the call is lent, an answer handed on, a
+//! piece of its body. Each step says what it takes, what the wire, the service, the body and the connection did, and that all
+//! else stays. What a poll answers says how its steps end.
 //! Polls one after another are one run of steps ([`polls_are_one_run`]). Over every run in which memory doesn't run out, the
 //! steps that were noted are a trace of the connection, and an open request is at hand; over every run requests and answers
-//! keep their order, a body gives its pieces once and in order, and what waits to be written grows only where there is
-//! room.
+//! keep their order, a body gives its pieces once and in order, and what came of a request's body goes to its call once and in
+//! order. What waits to be written, or in a queue, grows only where there is room.
 #![tactic(auto)]
 
 mod dispatcher;
@@ -28,5 +29,5 @@ mod laws;
 pub use dispatcher::{Dispatcher, Ending};
 pub use laws::{
     polls_are_one_run, runs_are_traces, runs_bound_output, runs_feed_bodies, runs_keep_order,
-    runs_lose_no_request, runs_send_bodies,
+    runs_lose_no_request, runs_note_traces, runs_send_bodies,
 };
