@@ -83,7 +83,9 @@ impl ClientCodec {
         self.client.connection == ConnectionType::Upgrade
     }
 
-    /// Whether the connection is kept alive, by the request or the answer that came last.
+    /// Whether the connection is kept alive: the request that was encoded last asks for it, and no answer since says that it
+    /// closes or goes on to another protocol. It stays true after an answer of HTTP/1.0 with a length and no `Connection` line,
+    /// and after one that other readers may frame in another way: send nothing after either.
     pub fn keep_alive(&self) -> bool
         ensures { IsTrue result ↔ (client_connection (of_codec self.now) ≡ ConnectionType.KeepAlive) }
     {
