@@ -1,10 +1,8 @@
 -- What is promised of a piece of a body, by the piece that its decoder gives.
-use Rattle.std.proofs.Common.{◌≡◌, ◌↔◌, ℕ, Bool, List, ◌++◌, refl, sym, ap, ◌∙◌, subst}
+use Rattle.std.proofs.Common.{◌≡◌, ℕ, List, refl, sym, ap, ◌∙◌, subst}
 use Rattle.std.specs.Prelude.{Option, Some, None, Result, Ok, Err}
 use Rattle.http_map.specs.HeaderMap.{Entries}
 use Rattle.http_types.specs.declared.error.ParseError.{ParseError}
-use Rattle.http_types.specs.declared.error.ParseError.TheVariants as errors
-use Rattle.h1_decode.specs.declared.response.ResponseItem.{ResponseItem}
 use Rattle.h1_messages.specs.Kinds.{answers}
 use Rattle.h1_payload.specs.Decoding.{Decoding}
 use Rattle.h1_payload.specs.declared.item.DecodeError.{DecodeError}
@@ -17,7 +15,6 @@ use Rattle.h1_client_framed.specs.Answers.{IsChunked}
 use Rattle.h1_client_framed.specs.Pieces.{as_message, as_answered}
 use Rattle.h1_client_framed.specs.State.{client_standing}
 use Rattle.h1_client_framed.specs.declared.client.Client.{Client}
-use Rattle.h1_client_framed.specs.declared.error.ClientError.{ClientError}
 use Rattle.h1_client_framed.specs.declared.error.ClientError.TheVariants.{Parse, Misplaced}
 
 -- the other codec reads what comes next

@@ -1,6 +1,6 @@
 -- What is written of a head that is shared, by what is written of its own and of the headers beside it.
 use Rattle.std.proofs.Common.{◌≡◌, ℕ, List, ◌++◌, subst}
-use Rattle.std.specs.Prelude.{Option, Some, None, Result, Ok, Err, OnOk}
+use Rattle.std.specs.Prelude.{Option, Result, Ok, Err, OnOk}
 use Rattle.http_framing.specs.declared.body.size.BodySize.{BodySize}
 use Rattle.http_map.specs.HeaderMap.{Entries}
 use Rattle.http_types.specs.RequestHeadType.{shown_head, extra_headers_of}
@@ -8,8 +8,7 @@ use Rattle.http_types.specs.declared.requests.head.RequestHead.{RequestHead}
 use Rattle.http_types.specs.declared.requests.head_type.RequestHeadType.{RequestHeadType}
 use Rattle.h1_client_model.specs.RequestText.{AskedHead}
 use Rattle.h1_codec.specs.declared.error.EncodeError.{EncodeError}
-use Rattle.h1_request.specs.Meaning.{asked_head}
-use Rattle.h1_client_framed.specs.Writing.{IsRequestWritten, merged, sent_head, sent_headers, with_headers}
+use Rattle.h1_client_framed.specs.Writing.{IsRequestWritten, sent_head, sent_headers, with_headers}
 use Rattle.h1_client_framed.specs.declared.client.Client.{Client}
 
 module _ (old new : Client) (size : BodySize) (dst after : List ℕ) where

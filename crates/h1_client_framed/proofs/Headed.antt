@@ -1,6 +1,6 @@
 -- What is promised of a head, by the head that its decoder gives.
-use Rattle.std.proofs.Common.{◌≡◌, ◌↔◌, ℕ, Bool, true, false, List, ◌++◌, refl, sym, ap, subst}
-use Rattle.std.specs.Prelude.{Option, Some, None, is_some, IsSome, Result, Ok, Err, IfOk, OnErr}
+use Rattle.std.proofs.Common.{◌≡◌, ℕ, Bool, true, false, List, refl, sym, ap, subst}
+use Rattle.std.specs.Prelude.{Option, Some, None, is_some, IsSome, Result, Ok, Err}
 use Rattle.http_map.specs.HeaderMap.{Entries}
 use Rattle.http_types.specs.declared.error.ParseError.{ParseError}
 use Rattle.http_types.specs.declared.message.ConnectionType.{ConnectionType}
@@ -10,13 +10,10 @@ use Rattle.h1_messages.specs.Kinds.{answers}
 use Rattle.h1_messages.specs.OneReading.{one_answer}
 use Rattle.h1_payload.specs.Decoding.{Decoding}
 use Rattle.h1_framed.specs.Answers.{IsNexted, IsHeadGiven, IsHeadBeside, as_message}
-use Rattle.h1_framed.specs.Messages.{Messages, Standing, Reads}
 use Rattle.h1_framed.proofs.NextHeads.{head_given}
 use Rattle.h1_client_framed.specs.Answers.{HasNoted, IsHeaded}
-use Rattle.h1_client_framed.specs.Pieces.{as_answered}
 use Rattle.h1_client_framed.specs.State.{client_standing}
 use Rattle.h1_client_framed.specs.declared.client.Client.{Client}
-use Rattle.h1_client_framed.specs.declared.error.ClientError.{ClientError}
 use Rattle.h1_client_framed.specs.declared.error.ClientError.TheVariants.{Parse, Misplaced}
 
 -- no body is open where one is

@@ -4,3 +4,4 @@ pub mod Written
 pub mod Views
 pub mod Extra
 pub mod Stepped
+pub mod Lacking

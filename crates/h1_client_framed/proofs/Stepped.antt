@@ -1,5 +1,5 @@
 -- What a client's codecs answer, step by step.
-use Rattle.std.proofs.Common.{◌≡◌, ℕ, Bool, List, refl, sym, subst}
+use Rattle.std.proofs.Common.{◌≡◌, ℕ, Bool, List, sym, subst}
 use Rattle.std.specs.Prelude.{Option, Some, None, Result, Ok, Err}
 use Rattle.http_map.specs.HeaderMap.{Entries}
 use Rattle.http_types.specs.declared.error.ParseError.{ParseError}
@@ -11,7 +11,6 @@ use Rattle.h1_payload.specs.declared.item.DecodeError.{DecodeError}
 use Rattle.h1_framed.specs.Answers.{IsNoted, IsHeadGiven, IsHeadBeside}
 use Rattle.h1_framed.specs.Pieces.{IsDecodedPiece}
 use Rattle.h1_framed.specs.Steps.{IsStepFrom, IsStep}
-use Rattle.h1_framed.specs.declared.message.Message.{Message}
 use Rattle.h1_framed.specs.declared.message.Message.TheVariants.{Item}
 use Rattle.h1_framed.specs.declared.piece.Piece.{Piece}
 use Rattle.h1_framed.proofs.Stepping.{open_step, idle_step}

@@ -1,5 +1,5 @@
 -- Pieces of bodies and heads, as the items of a message that they are.
-use Rattle.std.specs.Prelude.{List, ℕ, Option, Some, None, Result, Ok, Err, option_map}
+use Rattle.std.specs.Prelude.{List, ℕ, Option, Some, None, Result, Ok, Err}
 use Rattle.http_types.specs.declared.error.ParseError.{ParseError}
 use Rattle.h1_decode.specs.declared.response.ResponseItem.{ResponseItem}
 use Rattle.h1_framed.specs.declared.message.Message.{Message}

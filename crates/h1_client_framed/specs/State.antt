@@ -1,9 +1,8 @@
 -- What a client's codecs keep, and what bytes say to them.
-use Rattle.std.specs.Prelude.{◌≡◌, ℕ, Bool, true, false, List, min, ◌==◌, Option, Some, None, ⊤}
+use Rattle.std.specs.Prelude.{ℕ, Bool, true, false, List, min, ◌==◌, Option, Some, None, ⊤}
 use Rattle.http_config.specs.Config.{Settings}
 use Rattle.http_map.specs.HeaderMap.{Entries}
 use Rattle.http_types.specs.ResponseHead.{ResponseParts}
-use Rattle.http_types.specs.declared.error.ParseError.{ParseError}
 use Rattle.http_types.specs.declared.message.ConnectionType.{ConnectionType}
 use Rattle.http_types.specs.declared.message.ConnectionType.TheVariants.{Close, KeepAlive, Upgrade}
 use Rattle.h1_codec.specs.Encoding.{Encoding}

@@ -8,6 +8,7 @@ ghost use Rattle.http_types.specs.RequestHeadType.{shown_head};
 ghost use Rattle.h1_request.specs.Meaning.{asked_head, has_text};
 ghost use Rattle.h1_messages.specs.Kinds.{answers};
 ghost use Rattle.h1_framed.specs.Answers.{IsHead, HasTrailers};
+ghost use Rattle.h1_framed.specs.Light.{NeedsNoMemory};
 ghost use Rattle.h1_framed.specs.Messages.{nothing};
 ghost use Rattle.h1_framed.specs.State.{is_enabled, allowed};
 ghost use Rattle.h1_client_framed.specs.Answers.{head_given, ClientCause, HasNoted, IsHeadStep};
@@ -82,7 +83,9 @@ impl ClientCodec {
         self.client.connection == ConnectionType::Upgrade
     }
 
-    /// Whether the connection is kept alive, by the request or the answer that came last.
+    /// Whether the connection is kept alive: the request that was encoded last asks for it, and no answer since says that it
+    /// closes or goes on to another protocol. It stays true after an answer of HTTP/1.0 with a length and no `Connection` line,
+    /// and after one that other readers may frame in another way: send nothing after either.
     pub fn keep_alive(&self) -> bool
         ensures { IsTrue result ↔ (client_connection (of_codec self.now) ≡ ConnectionType.KeepAlive) }
     {
@@ -127,7 +130,7 @@ impl ClientCodec {
     ///
     /// `Misplaced` comes exactly where a body is open: `message_type` isn't `None`. Else an error is that of the next head
     /// (`MessageDecoder::decode`) or `NoMemory`. An error changes nothing. Bytes that `None` or an error left must be there
-    /// at the next call, with any others after them.
+    /// at the next call, with any others after them. Where no head is whole yet, or it is too long, no memory is needed.
     pub fn decode(&mut self, src: &mut BytesMut) -> Result<Option<ResponseItem>, ClientError>
         ensures goes_on { IfOk result (λ answer. GoesOn HeadReads head_given self.old src.old.items (in_front HeadReads head_given answer) self.new src.new.items) }
         ensures waiting { result ≡ Ok None → HeadLooked self.old src.old.items → OnlySays HeadReads self.old src.old.items (λ said. said ≡ nothing) }
@@ -136,6 +139,7 @@ impl ClientCodec {
         ensures cause { IfErr result (ClientCause (of_codec self.old) src.old.items) }
         ensures step { IsHeadStep (of_codec self.old) src.old.items result (of_codec self.new) src.new.items }
         ensures item { IfOk result (λ answer. IsHead answers (client_is_head (of_codec self.old)) (client_standing (of_codec self.old)) src.old.items (as_head answer) (client_standing (of_codec self.new)) src.new.items) }
+        ensures no_memory_needed { NeedsNoMemory (client_standing (of_codec self.old)) src.old.items → result ≢ Err (ClientError.Parse errors.NoMemory) }
         ensures left { OnErr result ((self.new ≡ self.old) × (src.new.items ≡ src.old.items)) }
         ensures seen { OnOk result (HeadLooked self.old src.old.items → (more : List ℕ) → HeadLooked self.new (src.new.items ++ more)) }
         ensures trailers { IfOk result (λ answer. HasTrailers (client_standing (of_codec self.old)) src.old.items (client_trailers (of_codec self.old)) (as_head answer) (client_trailers (of_codec self.new))) }

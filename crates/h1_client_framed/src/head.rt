@@ -1,7 +1,9 @@
 //! The next head of an answer.
-ghost use Rattle.std.specs.Prelude.{◌≡◌, OnErr};
+ghost use Rattle.std.specs.Prelude.{◌≡◌, ◌≢◌, OnErr, Err};
+ghost use Rattle.http_types.specs.declared.error.ParseError.TheVariants as errors;
+ghost use Rattle.h1_framed.specs.Light.{NeedsNoMemory};
 ghost use Rattle.http_types.specs.Flags.{type_of_flags};
-ghost use Rattle.h1_client_framed.specs.State.{answered, passes_on};
+ghost use Rattle.h1_client_framed.specs.State.{answered, passes_on, client_standing};
 ghost use Rattle.h1_client_framed.specs.Answers.{IsHeaded, IsHeadStep};
 
 use crate::ClientError;
@@ -19,6 +21,7 @@ impl Client {
     ) -> Result<Option<ResponseItem>, ClientError>
         ensures headed { IsHeaded self.old src.old.items result self.new src.new.items }
         ensures step { IsHeadStep self.old src.old.items result self.new src.new.items }
+        ensures no_memory_needed { NeedsNoMemory (client_standing self.old) src.old.items → result ≢ Err (ClientError.Parse errors.NoMemory) }
     {
         if self.body.is_some() {
             return Err(ClientError::Misplaced);

@@ -1,10 +1,11 @@
 //! The codec of a client while the body of an answer is open.
-ghost use Rattle.std.specs.Prelude.{◌≡◌, ◌↔◌, ◌++◌, ℕ, List, None, Ok, Err, IsTrue, IfOk, IfErr, OnOk};
+ghost use Rattle.std.specs.Prelude.{◌≡◌, ◌≢◌, ◌↔◌, ◌++◌, ℕ, List, None, Ok, Err, IsTrue, IfOk, IfErr, OnOk};
 ghost use Rattle.http_framing.specs.AnyPieces.{GoesOn, OnlySays, in_front};
 ghost use Rattle.http_types.specs.declared.message.ConnectionType.{ConnectionType as Kind};
 ghost use Rattle.http_types.specs.declared.message.ConnectionType.TheVariants as kinds;
 ghost use Rattle.http_types.specs.declared.error.ParseError.TheVariants as errors;
 ghost use Rattle.h1_framed.specs.Answers.{HasBytes, HasEnded, HasTrailers};
+ghost use Rattle.h1_framed.specs.Light.{NeedsNoMemory};
 ghost use Rattle.h1_framed.specs.Messages.{nothing};
 ghost use Rattle.h1_client_framed.specs.Answers.{chunk_given, ChunkLeft, HasNoted, IsChunkStep};
 ghost use Rattle.h1_client_framed.specs.Pieces.{as_chunk};
@@ -36,7 +37,9 @@ pub struct ClientPayloadCodec {
 }
 
 impl ClientPayloadCodec {
-    /// Whether the connection is kept alive, by the request or the answer that came last.
+    /// Whether the connection is kept alive: the request that was encoded last asks for it, and no answer since says that it
+    /// closes or goes on to another protocol. It stays true after an answer of HTTP/1.0 with a length and no `Connection` line,
+    /// and after one that other readers may frame in another way: send nothing after either.
     pub fn keep_alive(&self) -> bool
         ensures { IsTrue result ↔ (client_connection (of_payload self.now) ≡ kinds.KeepAlive) }
     {
@@ -72,7 +75,8 @@ impl ClientPayloadCodec {
     /// the front of `src`.
     ///
     /// `Misplaced` comes exactly where no body is open: `message_type` is `None`. A body that breaks the grammar of chunks
-    /// is `ParseError::Chunk`, from then on for good. The only other error is `NoMemory`, and all is as before.
+    /// is `ParseError::Chunk`, from then on for good. The only other error is `NoMemory`, and all is as before. The end and a
+    /// fault need no memory, and neither does a `None`, but for the text of a trailer section that is kept.
     pub fn decode(&mut self, src: &mut BytesMut) -> Result<Option<Option<Bytes>>, ClientError>
         ensures goes_on { IfOk result (λ answer. GoesOn PayloadReads chunk_given self.old src.old.items (in_front PayloadReads chunk_given answer) self.new src.new.items) }
         ensures waiting { result ≡ Ok None → PayloadLooked self.old src.old.items → OnlySays PayloadReads self.old src.old.items (λ said. said ≡ nothing) }
@@ -81,6 +85,7 @@ impl ClientPayloadCodec {
         ensures step { IsChunkStep (of_payload self.old) src.old.items result (of_payload self.new) src.new.items }
         ensures some { IfOk result (λ answer. HasBytes (as_chunk answer)) }
         ensures ended { IfOk result (λ answer. HasEnded (as_chunk answer) (client_standing (of_payload self.new))) }
+        ensures no_memory_needed { NeedsNoMemory (client_standing (of_payload self.old)) src.old.items → result ≢ Err (ClientError.Parse errors.NoMemory) }
         ensures lacking { IfErr result (λ e. e ≡ ClientError.Parse errors.NoMemory → (self.new ≡ self.old) × (src.new.items ≡ src.old.items)) }
         ensures left { IfErr result (λ e. ChunkLeft e (of_payload self.old) src.old.items (of_payload self.new) src.new.items) }
         ensures seen { OnOk result (PayloadLooked self.old src.old.items → (more : List ℕ) → PayloadLooked self.new (src.new.items ++ more)) }

@@ -1,8 +1,11 @@
 //! The next piece of an answer's body.
-ghost use Rattle.std.specs.Prelude.{◌≡◌};
+ghost use Rattle.std.specs.Prelude.{◌≡◌, ◌≢◌, Err};
+ghost use Rattle.http_types.specs.declared.error.ParseError.TheVariants as errors;
+ghost use Rattle.h1_framed.specs.Light.{NeedsNoMemory};
 ghost use Rattle.h1_framed.specs.Answers.{IsNoted};
 ghost use Rattle.h1_client_framed.specs.Answers.{IsChunked, IsChunkStep};
 ghost use Rattle.h1_client_framed.specs.Pieces.{as_message, as_answered};
+ghost use Rattle.h1_client_framed.specs.State.{client_standing};
 
 use crate::ClientError;
 use crate::client::Client;
@@ -19,6 +22,7 @@ impl Client {
     ) -> Result<Option<Option<Bytes>>, ClientError>
         ensures chunked { IsChunked self.old src.old.items result self.new src.new.items }
         ensures step { IsChunkStep self.old src.old.items result self.new src.new.items }
+        ensures no_memory_needed { NeedsNoMemory (client_standing self.old) src.old.items → result ≢ Err (ClientError.Parse errors.NoMemory) }
     {
         match &mut self.body {
             None => Err(ClientError::Misplaced),

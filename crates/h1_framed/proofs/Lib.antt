@@ -6,3 +6,4 @@ pub mod Writing
 pub mod OneSaid
 pub mod Asking
 pub mod Stepping
+pub mod Memory

@@ -1,5 +1,5 @@
 -- What is answered is the item of the open body, or no piece of one.
-use Rattle.std.proofs.Common.{◌≡◌, ℕ, Bool, List, refl, subst}
+use Rattle.std.proofs.Common.{◌≡◌, ℕ, Bool, List, subst}
 use Rattle.std.specs.Prelude.{Option, Some, None, Result, Ok, Err}
 use Rattle.http_map.specs.HeaderMap.{Entries}
 use Rattle.http_types.specs.declared.error.ParseError.{ParseError}

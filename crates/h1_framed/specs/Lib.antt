@@ -5,3 +5,4 @@ pub mod State
 pub mod Refused
 pub mod Sameness
 pub mod Steps
+pub mod Light

@@ -1,5 +1,5 @@
 //! The codec of a server.
-ghost use Rattle.std.specs.Prelude.{◌≡◌, ◌≢◌, ◌↔◌, ◌++◌, ℕ, List, None, Ok, IsTrue, IfOk, IfErr, OnOk, OnErr, false};
+ghost use Rattle.std.specs.Prelude.{◌≡◌, ◌≢◌, ◌↔◌, ◌++◌, ℕ, List, None, Ok, Err, IsTrue, IfOk, IfErr, OnOk, OnErr, false};
 ghost use Rattle.http_config.specs.declared.keep_alive.KeepAlive.TheVariants.{Disabled};
 ghost use Rattle.http_framing.specs.AnyPieces.{GoesOn, OnlySays, in_front};
 ghost use Rattle.h1_model.specs.Request as model;
@@ -8,6 +8,7 @@ ghost use Rattle.h1_codec.specs.Meaning.{model_type, minor_of};
 ghost use Rattle.h1_messages.specs.Heads.{HasSeen};
 ghost use Rattle.h1_framed.specs.Answers.{HasTrailers, HasBytes, HasEnded, IsHead, IsCauseAt};
 ghost use Rattle.h1_messages.specs.Kinds.{requests};
+ghost use Rattle.h1_framed.specs.Light.{NeedsNoMemory};
 ghost use Rattle.h1_framed.specs.Messages.{given, nothing, Breaks};
 ghost use Rattle.h1_framed.specs.Steps.{IsStep};
 ghost use Rattle.h1_framed.specs.State.{
@@ -179,6 +180,7 @@ impl Codec {
         ensures item { IfOk result (λ answer. IsHead requests false (codec_standing self.old) src.old.items answer (codec_standing self.new) src.new.items) }
         ensures some { IfOk result HasBytes }
         ensures ended { IfOk result (λ answer. HasEnded answer (codec_standing self.new)) }
+        ensures no_memory_needed { NeedsNoMemory (codec_standing self.old) src.old.items → result ≢ Err ParseError.NoMemory }
         ensures lacking { IfErr result (λ e. e ≡ ParseError.NoMemory → (self.new ≡ self.old) × (src.new.items ≡ src.old.items)) }
         ensures left { IfErr result (λ e. CodecLeft e self.old src.old.items self.new src.new.items) }
         ensures seen { OnOk result (HasLookedAt self.old src.old.items → (more : List ℕ) → HasLookedAt self.new (src.new.items ++ more)) }

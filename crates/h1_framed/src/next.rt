@@ -1,6 +1,7 @@
 //! The next item of messages that follow one another.
-ghost use Rattle.std.specs.Prelude.{◌≡◌};
+ghost use Rattle.std.specs.Prelude.{◌≡◌, ◌≢◌, Err};
 ghost use Rattle.h1_framed.specs.Answers.{IsNexted, IsHeadGiven, IsHeadBeside, IsNoted, as_message};
+ghost use Rattle.h1_framed.specs.Light.{IsLightHead, NeedsNoMemory};
 ghost use Rattle.h1_framed.specs.Messages.{body_of};
 ghost use Rattle.h1_framed.specs.Steps.{IsStep};
 ghost use Rattle.h1_messages.specs.Kinds.{requests};
@@ -25,6 +26,7 @@ pub(crate) fn next_message(
     ensures next { IsNexted requests is_bare (record { search = heads.old; body = body.old }) src.old.items trailers.old result
         (record { search = heads.new; body = body.new }) src.new.items trailers.new }
     ensures step { IsStep requests (record { search = heads.old; body = body.old }) src.old.items result (record { search = heads.new; body = body.new }) src.new.items }
+    ensures no_memory_needed { NeedsNoMemory (record { search = heads.old; body = body.old }) src.old.items → result ≢ Err ParseError.NoMemory }
 {
     match body {
         Some(open) => {
@@ -65,7 +67,8 @@ fn note_piece(
 /// The next head of a request or an answer, once it is there; its body is then open in `body`. `is_bare` says that no head
 /// has a body, as those to HEAD. What was passed is taken off the front of `src`.
 ///
-/// The errors are those of `MessageDecoder::decode`, and then all is as before.
+/// The errors are those of `MessageDecoder::decode`, and then all is as before. Where no head is whole yet, or it is too
+/// long, no memory is needed.
 pub fn next_head<T: ReadHead>(
     heads: &mut MessageDecoder<T>,
     body: &mut Option<PayloadDecoder>,
@@ -76,6 +79,7 @@ pub fn next_head<T: ReadHead>(
     ensures given { IsHeadGiven T.kind is_bare heads.old src.old.items result heads.new body.new src.new.items }
     ensures others { IsHeadBeside result body.old trailers.old body.new trailers.new }
     ensures limit { heads.new.limit ≡ heads.old.limit }
+    ensures no_memory_needed { IsLightHead heads.old src.old.items → result ≢ Err ParseError.NoMemory }
 {
     match heads.decode(src) {
         Ok(Some((item, payload))) => {

@@ -1,5 +1,5 @@
 -- While a body is open its next piece is answered, and else the next head.
-use Rattle.std.proofs.Common.{◌≡◌, sym, subst}
+use Rattle.std.proofs.Common.{◌≡◌, sym, ◌∙◌, subst}
 use Rattle.std.specs.Prelude.{Option, Some, None, Result}
 use Rattle.http_types.specs.declared.error.ParseError.{ParseError}
 use Rattle.h1_decode.specs.declared.decoder.HeadItem.{HeadItem}
@@ -11,6 +11,8 @@ use Rattle.h1_framed.specs.Answers.{IsNexted, IsHeadBeside}
 use Rattle.h1_framed.proofs.NextHeads.{head_given}
 use Rattle.h1_framed.proofs.OpenBodies.{piece_came}
 use Rattle.h1_framed.proofs.Stepping.{open_step, idle_step}
+use Rattle.h1_framed.proofs.Memory.{message_memory, noted_memory}
+use Rattle.h1_framed.specs.Light.{NeedsNoMemoryFrom}
 use Rattle.h1_framed.specs.Steps.{IsStepFrom, IsIdleStep}
 use Rattle.h1_framed.proofs.next.next_message.Goals as goal
 
@@ -53,3 +55,15 @@ returns-in-None-clause-step c =
     (sym c.as_message.ensures)
     (idle_step requests c.args.is_bare c.args.heads.now c.next_head-head.new.heads c.args.src.now.items c.next_head-head.new.src.items c.args.trailers.now
     c.next_head-head.result c.next_head-head.new.body c.next_head-head.new.trailers c.next_head-head.ensures.given beside))
+
+pub returns-in-Some-clause-no_memory_needed : goal.returns-in-Some-clause-no_memory_needed
+returns-in-Some-clause-no_memory_needed c = λ light is.
+    let same : c.args.body.now ≡ Some c.in-Some.open = cc in
+    c.next_piece-piece.ensures.no_memory_needed (subst (λ (b : Option Decoding). NeedsNoMemoryFrom b c.args.heads.now c.args.src.now.items) same light)
+    (noted_memory c.next_piece-piece.result _ c.args.trailers.now c.note_piece.result c.note_piece.new.body c.note_piece.new.trailers c.note_piece.ensures is)
+
+pub returns-in-None-clause-no_memory_needed : goal.returns-in-None-clause-no_memory_needed
+returns-in-None-clause-no_memory_needed c = λ light is.
+    let same : c.args.body.now ≡ None = cc in
+    c.next_head-head.ensures.no_memory_needed (subst (λ (b : Option Decoding). NeedsNoMemoryFrom b c.args.heads.now c.args.src.now.items) same light)
+    (message_memory c.next_head-head.result (sym c.as_message.ensures ∙ is))

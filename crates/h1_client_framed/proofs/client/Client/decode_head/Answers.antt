@@ -1,6 +1,10 @@
 -- The head that comes next, none yet, or why it is refused.
-use Rattle.std.proofs.Common.{◌≡◌, sym, ap, ◌∙◌}
-use Rattle.std.specs.Prelude.{Some, None, Ok, Err}
+use Rattle.std.proofs.Common.{◌≡◌, sym, ap, ◌∙◌, subst}
+use Rattle.std.specs.Prelude.{Option, Some, None, Ok, Err}
+use Rattle.http_types.specs.declared.error.ParseError.TheVariants.{NoMemory}
+use Rattle.h1_payload.specs.Decoding.{Decoding}
+use Rattle.h1_framed.specs.Light.{NeedsNoMemoryFrom}
+use Rattle.h1_client_framed.proofs.Lacking.{parse_error}
 use Rattle.h1_client_framed.specs.State.{answered}
 use Rattle.h1_client_framed.proofs.Headed.{is_none, item_answered, none_answered, error_answered}
 use Rattle.h1_client_framed.proofs.Stepped.{item_step, none_step, error_step}
@@ -45,3 +49,10 @@ returns-in-Err-clause-step c =
     error_step c.args.self.now.is_head c.args.self.now.heads c.next_head.new.heads c.args.src.now.items c.next_head.new.src.items c.args.self.now.trailers c.next_head.new.trailers
     c.args.self.now.body c.next_head.new.body (is_none c.args.self.now.body (sym c.is_some.ensures ∙ c.if-is_some.false)) c.next_head.result c.in-Err.error is
     c.next_head.ensures.given c.next_head.ensures.others
+
+pub returns-in-Err-clause-no_memory_needed : goal.returns-in-Err-clause-no_memory_needed
+returns-in-Err-clause-no_memory_needed c = λ light is.
+    let same : c.next_head.result ≡ Err c.in-Err.error = cc in
+    let none = is_none c.args.self.now.body (sym c.is_some.ensures ∙ c.if-is_some.false) in
+    c.next_head.ensures.no_memory_needed (subst (λ (b : Option Decoding). NeedsNoMemoryFrom b c.args.self.now.heads c.args.src.now.items) none light)
+    (parse_error c.next_head.result c.in-Err.error NoMemory same is)

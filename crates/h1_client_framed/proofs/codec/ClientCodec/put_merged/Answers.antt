@@ -1,7 +1,4 @@
 -- What goes out has the text of both.
-use Rattle.std.proofs.Common.{◌≡◌, sym, subst}
-use Rattle.std.specs.Prelude.{Ok, Result, IfOk}
-use Rattle.http_types.specs.declared.requests.head.RequestHead.{RequestHead}
 use Rattle.h1_request.specs.Meaning.{asked_head}
 use Rattle.h1_client_framed.specs.State.{of_codec}
 use Rattle.h1_client_framed.specs.Writing.{merged, with_headers}

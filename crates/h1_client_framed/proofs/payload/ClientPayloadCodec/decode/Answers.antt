@@ -24,3 +24,6 @@ returns-clause-seen c = c.decode_chunk.ensures.chunked.seen
 
 pub returns-clause-step : goal.returns-clause-step
 returns-clause-step c = c.decode_chunk.ensures.step
+
+pub returns-clause-no_memory_needed : goal.returns-clause-no_memory_needed
+returns-clause-no_memory_needed c = c.decode_chunk.ensures.no_memory_needed
