@@ -1,6 +1,6 @@
 //! Why there is no measurement.
-use ws_hub::NoMemory;
 use thiserror::Error;
+use ws_hub::NoMemory;
 
 /// How many members hear a message.
 pub const HEARERS: usize = 100;
@@ -9,7 +9,8 @@ pub const HEARERS: usize = 100;
 pub const PIECE: usize = 16_384;
 
 /// A request for a WebSocket.
-pub const REQUEST: &[u8] = b"GET /r HTTP/1.1\r\nhost: a\r\nconnection: upgrade\r\nupgrade: websocket\r\n\
+pub const REQUEST: &[u8] =
+    b"GET /r HTTP/1.1\r\nhost: a\r\nconnection: upgrade\r\nupgrade: websocket\r\n\
 sec-websocket-version: 13\r\nsec-websocket-key: dGhlIHNhbXBsZSBub25jZQ==\r\n\r\n";
 
 /// Its frame, as its sender masks it, up to the payload.

@@ -122,10 +122,12 @@ impl Hall {
                 break;
             };
             if self.serve_one(number, uptime, &mut moved)? {
-                self.present.swap_remove(place);
+                if place < self.present.len() {
+                    self.present.swap_remove(place);
+                }
                 self.let_go(number);
             } else {
-                place += 1;
+                place = place.saturating_add(1);
             }
         }
         if self.is_renewing && self.present.is_empty() {

@@ -192,18 +192,18 @@ impl Server {
     }
 
     fn accept_visits(&mut self, uptime: u64) -> Result<(), ServeError> {
-        let mut slot = 0;
+        let mut slot: usize = 0;
         for place in &mut self.visits {
             if !self.may_visit {
                 break;
             }
             if place.is_none()
                 && let Some(mut stream) = accept(&self.pages, &mut self.may_visit)
-                && register(&self.poll, &mut stream, VISITS + slot)
+                && register(&self.poll, &mut stream, VISITS.saturating_add(slot))
             {
                 *place = Some(Visit::new(self.alloc, self.config, stream, uptime));
             }
-            slot += 1;
+            slot = slot.saturating_add(1);
         }
         Ok(())
     }
