@@ -1,2 +1,0 @@
-pub mod HouseLemmas
-pub mod FlowLemmas

@@ -1,2 +1,0 @@
-pub mod House
-pub mod Flow
