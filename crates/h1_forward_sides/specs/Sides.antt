@@ -1,0 +1,74 @@
+-- What the calls of the two connections do.
+use Rattle.std.specs.Prelude.{◌≡◌, ℕ, Bool, true, false, IsTrue, List, ⊤}
+use Rattle.h1_model.specs.Request.{Head}
+use Rattle.h1_model.specs.Event as on
+use Rattle.h1_model.specs.Sums as sums
+use Rattle.h1_machine.specs.StandsFor.{StandsFor}
+use Rattle.h1_payload.specs.Rests.{fault_of}
+use Rattle.h1_payload.specs.declared.pulled.Pulled.{Pulled}
+use Rattle.h1_payload.specs.declared.pulled.Pulled.TheVariants as pulled
+use Rattle.h1_decode.specs.HeadItem.{SaysHead}
+use Rattle.h1_decode.specs.declared.decoder.HeadItem.{HeadItem}
+use Rattle.h1_connection.specs.Meaning.{setting_of}
+use Rattle.h1_connection.specs.State.{State}
+use Rattle.h1_connection.specs.declared.connection.heads.NextHead.{NextHead}
+use Rattle.h1_connection.specs.declared.connection.heads.NextHead.TheVariants as next
+use Rattle.h1_client.specs.Meaning as asking
+use Rattle.h1_client.specs.State as servers
+use Rattle.h1_client_machine.specs.ClientEvent as asked
+use Rattle.h1_client_machine.specs.ClientEvent.{ClientRequest}
+use Rattle.h1_client_machine.specs.ClientKept.{client_allows}
+use Rattle.h1_client_machine.specs.ClientStep.{IsClientStep}
+use Rattle.h1_model.specs.Answer.{BodySize}
+use Rattle.h1_forward_traces.specs.Moves.{HasBrought, Brings, Stays}
+
+-- ---- the client's side
+
+-- the connection brought this outcome
+pub record ClientBrings (o : on.Outcome) (old new : State) : Type 0 where
+  pub settings : new.settings ≡ old.settings
+  pub brings : Brings (setting_of old.settings) o old.kept new.kept
+
+-- it brought a head that this item says
+pub record ClientBringsHead (item : HeadItem) (old new : State) : Type 0 where
+  pub settings : new.settings ≡ old.settings
+  pub brings : (trace : List sums.Step) → StandsFor (setting_of old.settings) old.kept trace → (h : Head) × SaysHead item h
+      × (more : List sums.Step) × StandsFor (setting_of old.settings) new.kept more × HasBrought (on.head h) trace more
+
+-- what comes where the next head is asked for
+abbrev pub BringsNext : NextHead → State → State → Type 0
+BringsNext (next.Head item) old new = ClientBringsHead item old new
+BringsNext (next.Fault fault) old new = ClientBrings on.done old new
+BringsNext next.Pending old new = ClientBrings on.done old new
+BringsNext (next.Closed end) old new = ClientBrings on.done old new
+
+-- what comes where more of a body is asked for
+abbrev pub BringsPulled : Pulled → State → State → Type 0
+BringsPulled (pulled.Bytes bytes) old new = ClientBrings (on.bytes bytes) old new
+BringsPulled (pulled.Trailers entries) old new = ClientBrings on.done old new
+BringsPulled pulled.End old new = ClientBrings on.body_ended old new
+BringsPulled (pulled.Broken fault) old new = ClientBrings (on.broken_by (fault_of fault)) old new
+BringsPulled pulled.Pending old new = ClientBrings on.done old new
+
+-- ---- a server's side
+
+-- nothing was written towards the server, or is to be
+pub record ServerStays (old new : servers.State) : Type 0 where
+  pub settings : new.settings ≡ old.settings
+  pub stays : Stays (asking.setting_of old.settings) old.kept new.kept
+
+-- the event was allowed, and is done
+pub record ServerDid (event : asked.ClientEvent) (old new : servers.State) : Type 0 where
+  pub settings : new.settings ≡ old.settings
+  pub allowed : IsTrue (client_allows (asking.setting_of old.settings) old.kept event)
+  pub step : IsClientStep (asking.setting_of old.settings) old.kept event asked.done new.kept
+
+-- a request was asked, or it can't be
+abbrev pub MayAsk : Bool → ClientRequest → BodySize → servers.State → servers.State → Type 0
+MayAsk true request size old new = ServerDid (asked.ask request size) old new
+MayAsk false request size old new = ⊤
+
+-- a piece of the body that is sent may come, and its end
+pub record SendsBody (s : servers.State) : Type 0 where
+  pub chunk : (bytes : List ℕ) → IsTrue (client_allows (asking.setting_of s.settings) s.kept (asked.chunk bytes))
+  pub ends : IsTrue (client_allows (asking.setting_of s.settings) s.kept asked.body_end)

@@ -1,0 +1,98 @@
+//! The calls of the client's connection, each where it is allowed.
+#![tactic(auto, using(crate::proofs::Sides::client_same))]
+
+ghost use Rattle.std.specs.Prelude.{IfOk, OnOk};
+ghost use Rattle.h1_model.specs.Event as on;
+ghost use Rattle.h1_forward_sides.specs.Sides.{ClientBrings, BringsNext, BringsPulled};
+
+use h1_connection::{BodySize, Bytes, Connection, NextHead, NoMemory, Pulled, ResponseHead};
+
+/// The next request's head.
+pub fn next_head(client: &mut Connection) -> Result<NextHead, NoMemory>
+    ensures { IfOk result (λ next. BringsNext next client.old client.new) }
+{
+    if !client.can_next() {
+        return Ok(NextHead::Pending);
+    }
+    let next = client.next()?;
+    Ok(next)
+}
+
+/// More of the request's body.
+pub fn next_bytes(client: &mut Connection) -> Result<Pulled, NoMemory>
+    ensures { IfOk result (λ pulled. BringsPulled pulled client.old client.new) }
+{
+    if !client.can_pull() {
+        return Ok(Pulled::Pending);
+    }
+    let pulled = client.pull()?;
+    Ok(pulled)
+}
+
+/// The rest of the request's body isn't wanted.
+pub fn leave_body(client: &mut Connection)
+    ensures { ClientBrings on.done client.old client.new }
+{
+    if !client.can_pull() {
+        return;
+    }
+    client.drop_body();
+}
+
+/// Tells the client to go on, where it waits for that.
+pub fn tell_to_go_on(client: &mut Connection) -> Result<(), NoMemory>
+    ensures { OnOk result (ClientBrings on.done client.old client.new) }
+{
+    if !client.can_continue() {
+        return Ok(());
+    }
+    client.send_continue()?;
+    Ok(())
+}
+
+/// The head of a reply.
+pub fn put_head(
+    client: &mut Connection,
+    head: &ResponseHead,
+    size: BodySize,
+) -> Result<(), NoMemory>
+    ensures { OnOk result (ClientBrings on.done client.old client.new) }
+{
+    if !client.can_answer() {
+        return Ok(());
+    }
+    client.answer(head, size)?;
+    Ok(())
+}
+
+/// A piece of its body.
+pub fn put_piece(client: &mut Connection, bytes: Bytes) -> Result<(), NoMemory>
+    ensures { OnOk result (ClientBrings on.done client.old client.new) }
+{
+    if !client.can_chunk() {
+        return Ok(());
+    }
+    client.chunk_bytes(bytes)?;
+    Ok(())
+}
+
+/// The end of its body.
+pub fn put_end(client: &mut Connection) -> Result<(), NoMemory>
+    ensures { OnOk result (ClientBrings on.done client.old client.new) }
+{
+    if !client.can_end_answer() {
+        return Ok(());
+    }
+    client.end_answer()?;
+    Ok(())
+}
+
+/// Its body is cut.
+pub fn cut_reply(client: &mut Connection)
+    ensures { ClientBrings on.done client.old client.new }
+{
+    if !client.can_end_answer() {
+        return;
+    }
+    client.fail_answer();
+}

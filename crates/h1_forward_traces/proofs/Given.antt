@@ -1,0 +1,30 @@
+-- What was given to a server.
+use Rattle.std.proofs.Common.{◌≡◌, ℕ, List, ◌++◌, map, flat_map, sym, ap, ◌∙◌, append_assoc}
+use Rattle.std.specs.List.{AllByRecursion}
+use Rattle.h1_model.specs.Setting.{Setting}
+use Rattle.h1_model.specs.Handed.{Begins}
+use Rattle.h1_model.specs.Parse.{Input, Message, IsParse}
+use Rattle.h1_client_machine.specs.ClientKept.{ClientKept}
+use Rattle.h1_client_machine.specs.ClientTrace.{IsClientTrace, written}
+use Rattle.h1_client_machine.proofs.Written.{is_text}
+use Rattle.h1_agreement.specs.SentRequest.{sent_request, AreBegunServed}
+use Rattle.h1_forward_model.specs.Forward.{Sent, forwarded, forward}
+use Rattle.h1_forward_model.specs.SentWhole.{IsSentWhole}
+use Rattle.h1_forward_model.proofs.SentRequests.{forwarded_so_far}
+use Rattle.h1_forward_traces.specs.Happenings.{Link, text_sent, IsLink}
+
+pub given_and_waiting : (setting : Setting) (l : Link) (k : ClientKept) → IsLink setting l → IsClientTrace setting l.happened k
+    → written l.happened ++ k.buffered ≡ text_sent l.sent
+given_and_waiting setting l k x trace = (is_text setting l.happened k trace).text ∙ x.text
+
+pub given_begins : (setting : Setting) (l : Link) → IsLink setting l → Begins (written l.happened) (text_sent l.sent)
+given_begins setting l x = (x.kept.buffered, sym (given_and_waiting setting l x.kept x x.driven))
+
+pub given_is_read : (setting : Setting) (l : Link) (i : Input) (more : List ℕ) (ss : List Sent) (ms : List Message) → IsLink setting l
+    → i.bytes ≡ written l.happened → AllByRecursion (IsSentWhole i.hold_size) ss → text_sent l.sent ++ more ≡ flat_map forward ss
+    → IsParse i ms → AreBegunServed i 0 ms (map (λ s. sent_request (forwarded s)) ss)
+given_is_read setting l i more ss ms x is all same parse =
+    let rest = x.kept.buffered in
+    forwarded_so_far i (rest ++ more) ss ms all
+    (sym (append_assoc i.bytes rest more) ∙ ap (λ b. (b ++ rest) ++ more) is
+    ∙ ap (λ t. t ++ more) (given_and_waiting setting l x.kept x x.driven) ∙ same) parse

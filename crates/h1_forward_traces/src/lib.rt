@@ -1,0 +1,4 @@
+//! All that happened to a forwarder.
+#![tactic(auto)]
+
+pub mod laws;
