@@ -1,0 +1,4 @@
+pub mod Behind
+pub mod Waiting
+pub mod Order
+pub mod First
