@@ -1,11 +1,16 @@
 //! The laws of segments.
 
-ghost use Rattle.std.specs.Prelude.{◌≡◌, ℕ, ◌≤◌, ◌+◌, ◌-◌, ◌∷◌, ◌++◌, [], List, length, Option};
+ghost use Rattle.std.specs.Prelude.{◌≡◌, ℕ, ◌≤◌, ◌+◌, ◌-◌, ◌∷◌, ◌++◌, [], List, length, Option, IsTrue};
 ghost use Rattle.h1_model.specs.Setting.{Setting};
+ghost use Rattle.h1_model.specs.Event.{Event, Outcome};
 ghost use Rattle.h1_model.specs.Request.{Head};
 ghost use Rattle.h1_model.specs.Parse.{run_between};
 ghost use Rattle.h1_model.specs.Sums.{Step, Answered, step_written, written};
 ghost use Rattle.h1_model.specs.Text.{chunk_sent, text, buffered};
+ghost use Rattle.h1_machine.specs.Kept.{Kept};
+ghost use Rattle.h1_machine.specs.Local.{allowed_by};
+ghost use Rattle.h1_machine.specs.StandsFor.{StandsFor};
+ghost use Rattle.h1_segment_model.specs.After.{marks_after};
 ghost use Rattle.h1_segment_model.specs.Runs.{AreInOrder, IsFirstSegment, runs_behind};
 ghost use Rattle.h1_segment_model.specs.Marks.{chunk_run, body_runs, front_of, step_runs, buffered_runs};
 
@@ -37,4 +42,10 @@ pub fn pieces_are_in_order()
 pub fn body_bytes_are_in_order()
     ensures all { (setting : Setting) (trace : List Step) → AreInOrder 0 (length (text setting trace)) (body_runs setting trace) }
     ensures waiting { (setting : Setting) (trace : List Step) → AreInOrder 0 (length (text setting trace) - length (written trace)) (buffered_runs setting trace) }
+{}
+
+/// What a connection keeps tells what an allowed event does to the runs of the bytes that wait, whatever its outcome.
+pub fn marks_stand()
+    ensures { (setting : Setting) (k : Kept) (trace : List Step) (event : Event) (o : Outcome) → StandsFor setting k trace → IsTrue (allowed_by setting k event)
+        → marks_after k event o (buffered_runs setting trace) ≡ buffered_runs setting (record { event = event; outcome = o } ∷ trace) }
 {}
