@@ -3,7 +3,7 @@ use crate::closes::{any_close, close};
 use crate::numbers::{close_code, key, opcode};
 use crate::reading::{cuts, declared, first, frames, parse};
 use crate::upgrades::{accept, refusal, upgrade};
-use crate::writing::{put_close, send, write};
+use crate::writing::{mask, put_close, send, write};
 use http_types::NoMemory;
 use std::alloc::Global;
 use vectors::{Case, Player};
@@ -24,6 +24,7 @@ impl Player for Frames {
             b"first" => first(alloc, case, found),
             b"parse" => parse(alloc, case, found),
             b"declared" => declared(alloc, case, found),
+            b"mask" => mask(alloc, case, found),
             b"write" => write(alloc, case, found),
             b"put-close" => put_close(alloc, case, found),
             b"send" => send(alloc, case, found),

@@ -1,11 +1,11 @@
-//! Frames and messages that are written.
+//! Frames and messages that are written, and masks.
 use crate::numbers::{number_of, opcode_of};
 use crate::shown::put_error;
 use bytes::{Bytes, BytesMut};
 use http_types::NoMemory;
 use std::alloc::Global;
 use vectors::{Case, put_quoted, put_text};
-use ws_frames::{CloseCode, CloseReason, Codec, Item, Message, NoWords, Parser};
+use ws_frames::{CloseCode, CloseReason, Codec, Item, Message, NoWords, Parser, apply_mask_fast32};
 
 // The mask of four bytes that the argument is, or none where it is `-`; nothing where it is neither.
 fn mask_of(case: &Case<'_>, index: usize) -> Option<Option<[u8; 4]>> {
@@ -14,6 +14,17 @@ fn mask_of(case: &Case<'_>, index: usize) -> Option<Option<[u8; 4]>> {
         [a, b, c, d] => Some(Some([*a, *b, *c, *d])),
         _ => None,
     }
+}
+
+/// `mask MASK PAYLOAD`: the payload under a mask of four bytes.
+pub fn mask(alloc: Global, case: &Case<'_>, found: &mut Vec<u8>) -> Result<bool, NoMemory> {
+    let Some(Some(mask)) = mask_of(case, 0) else {
+        return Ok(false);
+    };
+    let mut payload = BytesMut::copy_from_slice(alloc, case.argument(1))?;
+    apply_mask_fast32(payload.as_mut_slice(), mask);
+    put_quoted(found, payload.as_slice())?;
+    Ok(true)
 }
 
 /// `write OPCODE last MASK PAYLOAD`, or `more` in the place of `last`: the text of a frame with the opcode of this number,
