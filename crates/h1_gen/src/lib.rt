@@ -19,5 +19,7 @@ mod draw;
 mod events;
 pub mod laws;
 mod request;
+mod summary;
 
 pub use events::generate;
+pub use summary::{MAX_COUNT, summary};
