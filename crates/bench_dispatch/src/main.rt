@@ -79,5 +79,5 @@ fn repeated(alloc: Global, text: &[u8], times: u64) -> Result<Bytes, AllocError>
     for _ in 0..times {
         bytes.extend_from_slice(text)?;
     }
-    Bytes::from_vec(bytes)
+    Ok(Bytes::from_vec(bytes)?)
 }

@@ -169,7 +169,11 @@ fn put_poll<L: Recorder>(
     let service = served.service().inner();
     put_asked(report, service.asked().get(shown.asked..).unwrap_or(b""))?;
     let taken = service.taken().get(shown.taken..).unwrap_or(b"");
-    put_taken(report, taken, service.ends().get(shown.ends..).unwrap_or(b""))?;
+    put_taken(
+        report,
+        taken,
+        service.ends().get(shown.ends..).unwrap_or(b""),
+    )?;
     shown.asked = service.asked().len();
     shown.taken = service.taken().len();
     shown.ends = service.ends().len();

@@ -101,12 +101,7 @@ impl Scripted {
 
     // Takes a chunk of a call's body, or its end or fault, where there is one. It is pending where there is none, and behind a
     // chunk.
-    fn take(
-        &mut self,
-        call: &mut Coming,
-        lent: &mut Payload,
-        cx: &mut Context<'_>,
-    ) -> Poll<()>
+    fn take(&mut self, call: &mut Coming, lent: &mut Payload, cx: &mut Context<'_>) -> Poll<()>
         ensures bound { LentBound (lent_of lent.old) (lent_of lent.new) }
         ensures registered { OnPending result (IsArmed cx.new) }
         ensures kept { Keeps cx.old cx.new }
