@@ -69,8 +69,7 @@ impl<'a, R: Wait, G: Gate, M: Ledger, B> BoardService<'a, R, G, M, B> {
 }
 
 impl<'a, R: Wait, G: Gate, M: Ledger, B: Lending> Service<Request<(), ()>>
-    for BoardService<'a, R, G, M, B>
-{
+    for BoardService<'a, R, G, M, B> {
     ghost use Rattle.std.specs.Prelude.{None};
     ghost use Rattle.http_services.specs.Serving.{unknown_call};
     ghost use Rattle.h1_board_service.specs.Work.{serving_of};
