@@ -40,8 +40,21 @@ enum Received {
     /// It is whole.
     Whole,
 
-    /// It is larger than is sent back, or can't be read further.
-    Refused(StatusCode),
+    /// It isn't sent back.
+    Refused(Refusal),
+}
+
+/// Why a body isn't sent back.
+#[derive(Clone, Copy, Debug, PartialEq, Eq)]
+enum Refusal {
+    /// It breaks a rule, or the input ended inside it.
+    Broken,
+
+    /// It is larger than what is sent back.
+    TooLarge,
+
+    /// There is no memory for it.
+    NoMemory,
 }
 
 impl Site {
@@ -72,6 +85,15 @@ impl Site {
             return self.empty(StatusCode::NOT_FOUND);
         }
         self.empty(StatusCode::OK)
+    }
+
+    // The answer to a request whose body isn't sent back.
+    fn refuse(&self, refusal: Refusal) -> Response<Page> {
+        match refusal {
+            Refusal::Broken => self.empty(StatusCode::BAD_REQUEST),
+            Refusal::TooLarge => self.empty(StatusCode::PAYLOAD_TOO_LARGE),
+            Refusal::NoMemory => self.empty(StatusCode::SERVICE_UNAVAILABLE),
+        }
     }
 
     // The bytes that came, as an answer.
@@ -116,7 +138,7 @@ impl PlainService<Request<(), ()>> for Site {
             Poll::Pending => Poll::Pending,
             Poll::Ready(Received::More) => cx.yield_now(),
             Poll::Ready(Received::Whole) => Poll::Ready(Ok(self.echo(call.came.as_slice()))),
-            Poll::Ready(Received::Refused(status)) => Poll::Ready(Err(self.empty(status))),
+            Poll::Ready(Received::Refused(refusal)) => Poll::Ready(Err(self.refuse(refusal))),
         }
     }
 }
@@ -134,7 +156,7 @@ fn receive(came: &mut Vec<u8>, lent: &mut Payload, cx: &mut Context<'_>) -> Poll
     match lent.poll_next(cx) {
         Poll::Pending => Poll::Pending,
         Poll::Ready(None) => Poll::Ready(Received::Whole),
-        Poll::Ready(Some(Err(_))) => Poll::Ready(Received::Refused(StatusCode::BAD_REQUEST)),
+        Poll::Ready(Some(Err(_))) => Poll::Ready(Received::Refused(Refusal::Broken)),
         Poll::Ready(Some(Ok(piece))) => Poll::Ready(keep(came, piece.as_slice())),
     }
 }
@@ -142,11 +164,11 @@ fn receive(came: &mut Vec<u8>, lent: &mut Payload, cx: &mut Context<'_>) -> Poll
 // Keeps a piece with those before it.
 fn keep(came: &mut Vec<u8>, piece: &[u8]) -> Received {
     if came.len().saturating_add(piece.len()) > MOST {
-        return Received::Refused(StatusCode::PAYLOAD_TOO_LARGE);
+        return Received::Refused(Refusal::TooLarge);
     }
     match put(came, piece) {
         Ok(()) => Received::More,
-        Err(_) => Received::Refused(StatusCode::SERVICE_UNAVAILABLE),
+        Err(_) => Received::Refused(Refusal::NoMemory),
     }
 }
 
