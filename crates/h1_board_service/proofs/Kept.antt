@@ -1,15 +1,14 @@
 -- What was asked and answered, after one request or one answer more.
-use Rattle.std.proofs.Common.{◌≡◌, ◌≤◌, ◌<◌, ◌+◌, ◌⊎◌, ℕ, Bool, true, false, Option, Some, None, List, [], ◌∷◌, ◌++◌, length, map, inl, inr, refl, sym, ap, ◌∙◌, subst, arith, append-nil}
-use Rattle.std.specs.Prelude.{Ok, is_some, option_to_list}
+use Rattle.std.proofs.Common.{◌≡◌, ◌<◌, ℕ, Bool, true, false, Option, Some, None, List, [], ◌∷◌, ◌++◌, map, inl, refl, sym, ap, ◌∙◌, subst, append-nil}
+use Rattle.std.specs.Prelude.{Ok, is_some}
 use Rattle.std.proofs.lemmas.List.{map-append}
-use Rattle.http_config.specs.Causes.{counted}
 use Rattle.http_types.specs.Response.{FullResponse}
 use Rattle.h1_share.specs.declared.command.Command.{Command}
 use Rattle.h1_share.specs.declared.command.Entry.{Entry}
 use Rattle.h1_share.specs.Table.{command_of}
 use Rattle.h1_share.specs.Views.{Held}
 use Rattle.h1_board_service.specs.Answers.{Asking, Pair, Answered, AllAnswered, MayHaveCalled}
-use Rattle.h1_board_service.specs.Work.{Worked, Went, WentFor, InOrder, IsKept, answered_of}
+use Rattle.h1_board_service.specs.Work.{Worked, Went, InOrder, IsKept, answered_of}
 
 -- one answer more
 pub all_more : (number : ℕ) (pairs : List Pair) (p : Pair) (a b c : List Entry) → AllAnswered number pairs a b → Answered number p b c → AllAnswered number (pairs ++ p ∷ []) a c

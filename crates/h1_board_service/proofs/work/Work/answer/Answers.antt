@@ -1,6 +1,6 @@
-use Rattle.std.proofs.Common.{rules, arith, ◌≡◌, ◌∙◌, ◌<◌, ◌++◌, [], ◌∷◌, Some, None, true, map, ap, sym, subst}
+use Rattle.std.proofs.Common.{rules, arith, ◌∙◌, None, true, map, ap, sym, subst}
 use Rattle.h1_board_service.specs.Work.{Worked, IsKept}
-use Rattle.h1_board_service.proofs.Kept.{kept_answered, kept_broken, answered_more}
+use Rattle.h1_board_service.proofs.Kept.{kept_answered, kept_broken}
 use Rattle.h1_board_service.proofs.work.Work.answer.Goals as goal
 
 pub invariant_of-self : goal.invariant_of-self
