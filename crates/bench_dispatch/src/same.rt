@@ -1,4 +1,6 @@
 //! A wire in memory that gives the same bytes over and over.
+ghost use Rattle.std.specs.Prelude.{◌≡◌, ◌≤◌, length};
+
 use bench_support::Checksum;
 use bytes::Bytes;
 use futures::task::{Context, Poll};
@@ -39,7 +41,12 @@ impl Same {
     }
 
     // Moves the next bytes, and says how many.
-    fn give(&mut self, buf: &mut [u8]) -> usize {
+    fn give(&mut self, buf: &mut [u8]) -> usize
+        ensures bound { result ≤ length buf.new }
+        ensures ended { self.new.ended ≡ self.old.ended }
+        ensures shut { self.new.shut ≡ self.old.shut }
+        ensures waits { self.new.waits ≡ self.old.waits }
+    {
         let rest = self.bytes.as_slice().get(self.place..).unwrap_or(b"");
         let count = buf.len().min(rest.len());
         buf[..count].copy_from_slice(&rest[..count]);
@@ -75,16 +82,18 @@ impl Wire for Same {
             self.waits = self.waits.saturating_add(1);
             return cx.yield_now();
         }
-        if self.left > 0 {
-            let count = self.give(buf);
-            if count > 0 {
-                return Poll::Ready(Ok(count));
-            }
+        if buf.is_empty() {
+            return Poll::Ready(Ok(0));
         }
-        if !buf.is_empty() {
+        if self.left == 0 {
+            self.ended = true;
+            return Poll::Ready(Ok(0));
+        }
+        let count = self.give(buf);
+        if count == 0 {
             self.ended = true;
         }
-        Poll::Ready(Ok(0))
+        Poll::Ready(Ok(count))
     }
 
     fn poll_write(&mut self, bytes: &[u8], _cx: &mut Context<'_>) -> Poll<Result<usize, Failed>> {
