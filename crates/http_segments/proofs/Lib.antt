@@ -3,3 +3,4 @@ pub mod Moves
 pub mod CopyLemmas
 pub mod InOrder
 pub mod Framed
+pub mod Ends
