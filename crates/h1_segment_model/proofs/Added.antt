@@ -1,31 +1,27 @@
 -- What a piece of a body adds to the runs of the bytes that wait.
-use Rattle.std.proofs.Common.{◌≡◌, ℕ, ◌+◌, ◌-◌, ◌≤◌, Bool, true, false, List, [], ◌++◌, length, take, drop, Option, Some, None, refl, sym, ap, ◌∙◌, subst, inl, inr, arith, length-append}
+use Rattle.std.proofs.Common.{◌≡◌, ℕ, ◌+◌, ◌-◌, Bool, true, false, List, [], length, refl, sym, ap, ◌∙◌, inl, inr, arith, length-append}
 use Rattle.std.specs.Prelude.{IsTrue, is_some, if◌then◌else◌}
 use Rattle.std.proofs.lemmas.Bool.{and_parts, false≢true}
-use Rattle.h1_chunks.specs.Runs.{Run}
-use Rattle.h1_model.specs.Parse.{Message, run_between}
-use Rattle.h1_model.specs.Request.{Head}
+use Rattle.h1_model.specs.Parse.{run_between}
 use Rattle.h1_model.specs.Setting.{Setting}
-use Rattle.h1_model.specs.Answer.{Shape, shape_none, shape_length, shape_chunked, shape_raw, asked_of, type_of}
+use Rattle.h1_model.specs.Answer.{Shape, shape_none, shape_length, shape_chunked, shape_raw, asked_of}
 use Rattle.h1_model.specs.Event as on
-use Rattle.h1_model.specs.Sums.{Step, Answered, request, answered as answer_of, is_answering, is_complete, answer_len, written}
+use Rattle.h1_model.specs.Sums.{Step, request, answered as answer_of, is_answering, answer_len, written}
 use Rattle.h1_model.specs.Past.{ParsedStep, steps}
 use Rattle.h1_model.specs.Text.{text, buffered}
 use Rattle.h1_model.specs.Allowed.{is_allowed, has_room}
 use Rattle.h1_model.proofs.PastLemmas.{Legal}
 use Rattle.h1_model.proofs.StepLemmas.{allowed_open}
 use Rattle.h1_model.proofs.WrittenLemmas.{written_buffered}
-use Rattle.h1_machine.specs.Kept.{Kept}
 use Rattle.h1_machine.specs.Reply.{stated}
 use Rattle.h1_machine.specs.KeptOf.{kept_of}
-use Rattle.h1_machine.proofs.Current.{Current, current_of}
-use Rattle.h1_machine.proofs.ExchangeChanges.{going_out, shape_by, with_reply, kept_sending}
+use Rattle.h1_machine.proofs.Current.{current_of}
+use Rattle.h1_machine.proofs.ExchangeChanges.{going_out, shape_by, kept_sending}
 use Rattle.h1_machine.proofs.Parts.{none_answered}
-use Rattle.h1_machine.proofs.StepForms.{with_exchange}
 use Rattle.h1_machine.proofs.StepSums.{traced}
 use Rattle.h1_segment_model.specs.Runs.{runs_behind}
 use Rattle.h1_segment_model.specs.Marks.{framing_len, body_part, piece_run, chunk_run, step_runs}
-use Rattle.h1_segment_model.specs.After.{part_sent, run_sent, added}
+use Rattle.h1_segment_model.specs.After.{part_sent, added}
 use Rattle.h1_segment_model.proofs.Behind.{run_between_behind}
 
 -- a piece goes out in both alike

@@ -1,11 +1,11 @@
 -- The first segment of bytes whose runs stand in order.
-use Rattle.std.proofs.Common.{◌≡◌, ℕ, ◌<◌, ◌≤◌, Bool, true, false, List, [], ◌∷◌, length, take, nat_lt, All, refl, sym, ap, ◌∙◌, arith}
+use Rattle.std.proofs.Common.{◌≡◌, ℕ, ◌<◌, ◌≤◌, Bool, true, false, List, [], ◌∷◌, length, take, All, refl, ap, arith}
 use Rattle.std.specs.Prelude.{◌==◌, if◌then◌else◌}
 use Rattle.std.proofs.lemmas.Bool.Decides.{nat_tests}
-use Rattle.std.proofs.lemmas.List.{length-take, take_min, length-take-le}
+use Rattle.std.proofs.lemmas.List.{length-take-le}
 use Rattle.std.proofs.lemmas.List.Elements.{All-nil, All-head, All-tail, All-cons}
 use Rattle.h1_chunks.specs.Runs.{Run}
-use Rattle.h1_segment_model.specs.Runs.{front_len, first_segment, AreInOrder, IsFirstSegment}
+use Rattle.h1_segment_model.specs.Runs.{first_segment, AreInOrder, IsFirstSegment}
 
 implied : (P Q : Run → Type 0) → ((r : Run) → P r → Q r) → (rs : List Run) → All P rs → All Q rs
 implied P Q leads [] all = All-nil Q
@@ -42,8 +42,8 @@ module _ (r : Run) (rs : List Run) (bytes : List ℕ) (are : AreInOrder 0 (lengt
         begins = ap (λ n. take n bytes) size;
         some = λ some. omega (arith, size, are.1);
         piece =
-          All-cons (λ (x : Run). x.start ≡ 0 → take r.end bytes ≡ take x.end bytes) r rs (λ first. refl)
-          (implied (λ (x : Run). r.end ≤ x.start) (λ (x : Run). x.start ≡ 0 → take r.end bytes ≡ take x.end bytes) (λ x later none. absurd (omega (arith, later, none, are.1))) rs others);
+            All-cons (λ (x : Run). x.start ≡ 0 → take r.end bytes ≡ take x.end bytes) r rs (λ first. refl)
+            (implied (λ (x : Run). r.end ≤ x.start) (λ (x : Run). x.start ≡ 0 → take r.end bytes ≡ take x.end bytes) (λ x later none. absurd (omega (arith, later, none, are.1))) rs others);
         framing = λ behind. absurd (omega (arith, zero, All-head (λ (x : Run). 0 < x.start) r rs behind));
       }
 
@@ -55,11 +55,11 @@ module _ (r : Run) (rs : List Run) (bytes : List ℕ) (are : AreInOrder 0 (lengt
         begins = ap (λ n. take n bytes) size;
         some = λ more. omega (arith, size, some);
         piece =
-          All-cons (λ (x : Run). x.start ≡ 0 → take r.start bytes ≡ take x.end bytes) r rs (λ none. absurd (omega (arith, none, some)))
-          (implied (λ (x : Run). r.end ≤ x.start) (λ (x : Run). x.start ≡ 0 → take r.start bytes ≡ take x.end bytes) (λ x later none. absurd (omega (arith, later, none, are.1))) rs others);
+            All-cons (λ (x : Run). x.start ≡ 0 → take r.start bytes ≡ take x.end bytes) r rs (λ none. absurd (omega (arith, none, some)))
+            (implied (λ (x : Run). r.end ≤ x.start) (λ (x : Run). x.start ≡ 0 → take r.start bytes ≡ take x.end bytes) (λ x later none. absurd (omega (arith, later, none, are.1))) rs others);
         framing = λ behind.
-          All-cons (λ (x : Run). length (take r.start bytes) ≤ x.start) r rs (omega (arith, size))
-          (implied (λ (x : Run). r.end ≤ x.start) (λ (x : Run). length (take r.start bytes) ≤ x.start) (λ x later. omega (arith, later, size, are.1)) rs others);
+            All-cons (λ (x : Run). length (take r.start bytes) ≤ x.start) r rs (omega (arith, size))
+            (implied (λ (x : Run). r.end ≤ x.start) (λ (x : Run). length (take r.start bytes) ≤ x.start) (λ x later. omega (arith, later, size, are.1)) rs others);
       }
 
   either : IsFirstSegment (r ∷ rs) bytes (first_segment (r ∷ rs) bytes)

@@ -1,15 +1,14 @@
 -- The body bytes stand in order and apart.
-use Rattle.std.proofs.Common.{◌≡◌, ℕ, ◌+◌, ◌-◌, ◌<◌, ◌≤◌, Bool, true, false, List, [], ◌∷◌, ◌++◌, length, take, nat_lt, Option, Some, None, refl, sym, ap, ◌∙◌, subst, arith, length-append}
-use Rattle.std.specs.Prelude.{◌==◌, if◌then◌else◌, ⊤}
+use Rattle.std.proofs.Common.{◌≡◌, ℕ, ◌+◌, ◌-◌, ◌<◌, ◌≤◌, Bool, true, false, List, [], ◌∷◌, ◌++◌, length, nat_lt, Option, Some, None, refl, sym, subst, arith, length-append}
+use Rattle.std.specs.Prelude.{if◌then◌else◌}
 use Rattle.std.specs.Fmt.{digits}
 use Rattle.std.proofs.lemmas.Bool.Decides.{nat_tests}
-use Rattle.std.proofs.lemmas.List.{length-take}
 use Rattle.httparse.specs.Ascii.{crlf_bytes}
 use Rattle.h1_chunks.specs.Runs.{Run}
 use Rattle.h1_model.specs.Parse.{run_between}
 use Rattle.h1_model.specs.Request.{Head}
 use Rattle.h1_model.specs.Answer.{Shape, shape_none, shape_length, shape_chunked, shape_raw, asked_of, shape_of}
-use Rattle.h1_model.specs.AnswerText.{chunk_text, piece_text, sent_piece}
+use Rattle.h1_model.specs.AnswerText.{piece_text}
 use Rattle.h1_model.specs.Setting.{Setting}
 use Rattle.h1_model.specs.Event.{Event, Outcome}
 use Rattle.h1_model.specs.Event as on
@@ -50,7 +49,7 @@ piece_fits shape_chunked before (b ∷ bytes) some =
       length-append line (crlf_bytes ++ (b ∷ bytes ++ crlf_bytes)),
       length-append line crlf_bytes,
       length-append crlf_bytes (b ∷ bytes ++ crlf_bytes),
-      length-append (b ∷ bytes) crlf_bytes
+      length-append (b ∷ bytes) crlf_bytes,
     )
 
 piece_in_order : (place : ℕ) (shape : Shape) (before : ℕ) (bytes : List ℕ) → AreInOrder place (place + length (piece_text shape before bytes)) (piece_run place shape before bytes)
@@ -58,8 +57,10 @@ piece_in_order place shape before bytes = by_test (nat_lt start (start + len)) r
   where
     start : ℕ
     start = place + framing_len shape bytes
+
     len : ℕ
     len = length (body_part shape before bytes)
+
     by_test : (t : Bool) → nat_lt start (start + len) ≡ t → AreInOrder place (place + length (piece_text shape before bytes)) (run_between start (start + len))
     by_test true some =
         let has : 0 < len = grind (arith, nat_tests) in

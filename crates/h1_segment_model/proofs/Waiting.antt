@@ -1,5 +1,5 @@
 -- The runs of the bytes that wait, behind each kind of step.
-use Rattle.std.proofs.Common.{◌≡◌, ℕ, ◌+◌, List, [], ◌∷◌, ◌++◌, length, refl, sym, ap, ◌∙◌, append-nil, length-append}
+use Rattle.std.proofs.Common.{◌≡◌, ◌+◌, List, [], ◌∷◌, ◌++◌, length, refl, sym, ap, ◌∙◌, append-nil, length-append}
 use Rattle.h1_model.specs.Setting.{Setting}
 use Rattle.h1_model.specs.Sums.{Step, step_written, written}
 use Rattle.h1_segment_model.specs.Runs.{runs_behind}

@@ -28,6 +28,7 @@ added bytes k = of_exchange k.exchange
     of_reply : Asked → Reply → List Run
     of_reply asked (sending shape kind missing) = run_sent (length k.buffered) asked shape missing bytes
     of_reply asked _ = []
+
     of_exchange : Option Exchange → List Run
     of_exchange None = []
     of_exchange (Some x) = of_reply x.asked x.reply

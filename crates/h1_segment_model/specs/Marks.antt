@@ -1,12 +1,12 @@
 -- Which bytes of the text that a connection writes are bytes of a body, piece by piece as it was handed in.
-use Rattle.std.specs.Prelude.{ℕ, ◌+◌, ◌-◌, true, List, [], ◌∷◌, ◌++◌, length, take, if◌then◌else◌, Option, Some, None}
+use Rattle.std.specs.Prelude.{ℕ, ◌+◌, ◌-◌, true, List, [], ◌∷◌, ◌++◌, length, take, if◌then◌else◌, Option, Some}
 use Rattle.std.specs.Fmt.{digits}
 use Rattle.httparse.specs.Ascii.{crlf_bytes}
 use Rattle.h1_chunks.specs.Runs.{Run}
 use Rattle.h1_model.specs.Parse.{run_between}
 use Rattle.h1_model.specs.Request.{Head}
 use Rattle.h1_model.specs.Setting.{Setting}
-use Rattle.h1_model.specs.Answer.{asked_of, shape_of, Shape, shape_none, shape_length, shape_chunked, shape_raw}
+use Rattle.h1_model.specs.Answer.{asked_of, shape_of, Shape, shape_none, shape_length, shape_chunked}
 use Rattle.h1_model.specs.Event.{Event, Outcome}
 use Rattle.h1_model.specs.Event as on
 use Rattle.h1_model.specs.Sums.{Step, Answered, request, answered, answer_len, written}

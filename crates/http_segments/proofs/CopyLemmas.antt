@@ -93,9 +93,10 @@ piece_copied all was b0 b1 b2 own x1 x2 rest p at from n c1 c2 is here fits one 
     let here2 = left_more all was b1 b2 x2 more (at + c1) (n + length x1) c2 is1 here1 count2 put2 in
     let sum : n + length x1 + length x2 ≡ n + p.before + body_len p.body = omega (arith, size1, size2) in
     let place : from + (p.before + own_len p.body) ≡ from + p.before + own_len p.body = omega arith in
-    let own_left : drop (p.before + own_len p.body) left ≡ drop (from + p.before + own_len p.body) own = drop-drop (p.before + own_len p.body) from own ∙ ap (λ k. drop k own) place in
-    (subst (λ k. IsCopied all was b2 (at + c1 + c2) k) sum is2,
-      ap (λ k. drop k all) (sym sum) ∙ here2 ∙ ap (laid rest) own_left)
+    let own_left : drop (p.before + own_len p.body) left ≡ drop (from + p.before + own_len p.body) own = drop-drop (p.before + own_len p.body) from own ∙ ap (λ k. drop k own) place in (
+      subst (λ k. IsCopied all was b2 (at + c1 + c2) k) sum is2,
+      ap (λ k. drop k all) (sym sum) ∙ here2 ∙ ap (laid rest) own_left,
+    )
 
 pub piece_at : (ps : List Piece) (i : ℕ) (p : Piece) → i < length ps → p ≡ slice_index_or ps i p → drop i ps ≡ p ∷ drop (i + 1) ps
 piece_at ps i p fits is =

@@ -11,9 +11,11 @@ use Rattle.http_segments.proofs.Laid.{body_sum, laid_size}
 marks_in_order : (place end : ℕ) (ps : List Piece) → All HasBytes ps → place + used ps + shared ps ≤ end → AreInOrder place end (marks_from place ps)
 unfolding marks_from used shared
 marks_in_order place end [] some fits = omega (arith, fits)
-marks_in_order place end (p ∷ ps) some fits =
-    (omega arith, omega (arith, All-head HasBytes p ps some),
-      marks_in_order (place + p.before + body_len p.body) end ps (All-tail HasBytes p ps some) (omega (arith, fits, body_sum p.body)))
+marks_in_order place end (p ∷ ps) some fits = (
+  omega arith,
+  omega (arith, All-head HasBytes p ps some),
+  marks_in_order (place + p.before + body_len p.body) end ps (All-tail HasBytes p ps some) (omega (arith, fits, body_sum p.body)),
+)
 
 -- so the first segment is what is meant
 pub front_first : (ps : List Piece) (own : List ℕ) (q : Queued) (front : List ℕ) → All HasBytes ps → used ps ≤ length own → queued ps own ≡ q → front ≡ front_of q

@@ -40,7 +40,7 @@ laid_text (p ∷ ps) own text fits =
       body_text p.body (drop p.before own) text (omega arith),
       laid_text ps (drop m own) text (omega arith),
       append_assoc (take p.before own) (body_in p.body (drop p.before own) ++ laid ps (drop m own)) text,
-      append_assoc (body_in p.body (drop p.before own)) (laid ps (drop m own)) text
+      append_assoc (body_in p.body (drop p.before own)) (laid ps (drop m own)) text,
     ) refl
 
 -- ---- how many bytes there are
@@ -65,7 +65,7 @@ laid_size (p ∷ ps) own fits =
       length-take-le p.before own (omega arith),
       body_size p.body (drop p.before own) (omega arith),
       body_sum p.body,
-      laid_size ps (drop m own) (omega arith)
+      laid_size ps (drop m own) (omega arith),
     )
 
 -- ---- a piece behind them
@@ -115,7 +115,7 @@ laid_more (q ∷ ps) p own more bytes fits size is =
       body_text q.body (drop q.before own) more (omega arith),
       laid_more ps p (drop m own) more bytes (omega arith) size is,
       append_assoc (take q.before own) (body_in q.body (drop q.before own) ++ laid ps (drop m own)) bytes,
-      append_assoc (body_in q.body (drop q.before own)) (laid ps (drop m own)) bytes
+      append_assoc (body_in q.body (drop q.before own)) (laid ps (drop m own)) bytes,
     ) refl
 
 -- ---- the first bytes go

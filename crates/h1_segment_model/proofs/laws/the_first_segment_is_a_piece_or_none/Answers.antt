@@ -1,4 +1,4 @@
-use Rattle.std.proofs.Common.{length, sym, subst, ◌-◌, ◌≡◌}
+use Rattle.std.proofs.Common.{length, sym, subst, ◌-◌}
 use Rattle.std.proofs.lemmas.List.{length-drop}
 use Rattle.h1_model.specs.Sums.{written}
 use Rattle.h1_model.specs.Text.{text, buffered}

@@ -18,9 +18,11 @@ pub invariant_of-self : goal.invariant_of-self
 invariant_of-self c =
     let none = sym c.take.ensures.value ∙ c.in_default.is in
     let empty = empty_row c.self.inside.first c.self.inside.rest.items none c.self.invariant.2 in
-    let same = ap (λ f. in_row f c.self.inside.rest.items) (none ∙ sym c.take.ensures.after) in
-    (none_moved (in_row c.self.inside.first c.self.inside.rest.items) (in_row c.take.new.self c.self.inside.rest.items) c.self.inside.own.items c.pass.new.own.items c.self.inside.marked c.self.inside.shared empty same c.self.invariant.0, c.self.invariant.1,
-      subst (λ f. IsInRow f c.self.inside.rest.items) (none ∙ sym c.take.ensures.after) c.self.invariant.2)
+    let same = ap (λ f. in_row f c.self.inside.rest.items) (none ∙ sym c.take.ensures.after) in (
+      none_moved (in_row c.self.inside.first c.self.inside.rest.items) (in_row c.take.new.self c.self.inside.rest.items) c.self.inside.own.items c.pass.new.own.items c.self.inside.marked c.self.inside.shared empty same c.self.invariant.0,
+      c.self.invariant.1,
+      subst (λ f. IsInRow f c.self.inside.rest.items) (none ∙ sym c.take.ensures.after) c.self.invariant.2,
+    )
 
 pub returns-in_default-clause-rest : goal.returns-in_default-clause-rest
 returns-in_default-clause-rest c =
