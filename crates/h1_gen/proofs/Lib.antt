@@ -1,2 +1,4 @@
 pub mod Texts
 pub mod Lists
+pub mod Tallies
+pub mod Totals

@@ -1,7 +1,8 @@
 //! The events of generated exchanges.
 //!
 //! Two numbers name a run of a connection that anybody can repeat: a seed, and how many exchanges there are. `generate`
-//! makes its events, which `h1_connection::drive` brings to a new connection. What they are stands in `h1_gen_model`.
+//! makes its events, which `h1_connection::drive` brings to a new connection, and `summary_of` does both and sums up what came
+//! of them. What they are stands in `h1_gen_model`.
 //!
 //! # Example
 //!
@@ -12,7 +13,8 @@
 //!
 //! # Contract
 //!
-//! The events are exactly those that `h1_gen_model` says; `laws` has that none of them is refused.
+//! The events are exactly those that `h1_gen_model` says; `laws` has that none of them is refused. A summary is that of
+//! their one trace.
 #![tactic(auto)]
 
 mod draw;
@@ -22,4 +24,4 @@ mod request;
 mod summary;
 
 pub use events::generate;
-pub use summary::{MAX_COUNT, summary};
+pub use summary::{MAX_COUNT, summary_of};

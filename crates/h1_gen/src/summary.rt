@@ -22,7 +22,7 @@ pub const MAX_COUNT: u64 = 20_000;
 /// them, with a word and a number on each line: the events, the bytes taken, the heads handed out, the bytes of bodies
 /// handed out, and the bytes that were written or wait to be. The last line is the connection's state, which is `open`. The
 /// only error is that memory ran out.
-pub fn summary(alloc: Global, seed: u64, count: u64) -> Result<Vec<u8>, NoMemory>
+pub fn summary_of(alloc: Global, seed: u64, count: u64) -> Result<Vec<u8>, NoMemory>
     requires few { count ≤ MAX_COUNT }
     ensures { IfOk result (λ text. IsSummary seed count text.items) }
 {

@@ -3,7 +3,7 @@
 //! A script is a text: a line with the settings of a connection, then a line for each event that comes to it. The
 //! report has a line for each outcome, then the bytes that are still to be written, and the state. So an exchange can
 //! be written down, replayed and compared, byte for byte. `replay` answers a script in memory; `run` answers a
-//! program's words, over a source and a sink of any kind.
+//! program's words, over a source and a sink of any kind: a script, or a run of `h1_gen`, which it sums up.
 //!
 //! # Example
 //!

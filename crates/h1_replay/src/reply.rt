@@ -16,7 +16,7 @@ pub const WRITE_FAULT: u8 = 5;
 /// An answer, with its text where that isn't always the same.
 #[derive(Drop)]
 pub enum Reply {
-    /// The report of a script whose every event was allowed.
+    /// The report of a script whose every event was allowed, or the summary of a generated run.
     Done(Vec<u8>),
     /// The words are no command.
     Usage,
