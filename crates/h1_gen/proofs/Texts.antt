@@ -1,5 +1,5 @@
 -- Texts and lists that are made part by part.
-use Rattle.std.proofs.Common.{◌≡◌, ℕ, List, [], ◌∷◌, ◌++◌, ap, ◌∙◌, append_assoc, codes}
+use Rattle.std.proofs.Common.{◌≡◌, ℕ, List, ◌++◌, ap, ◌∙◌, append_assoc, codes}
 use Rattle.std.specs.Prelude.{decimal}
 use Rattle.h1_gen_model.specs.Generated.{Kind, method_of, framing_line, head_text}
 use Rattle.h1_gen.specs.Meaning.{request_line}

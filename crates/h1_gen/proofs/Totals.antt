@@ -1,7 +1,7 @@
 -- What a generated run adds up to is what its trace does in the model.
-use Rattle.std.proofs.Common.{◌≡◌, ℕ, ◌+◌, ◌*◌, ◌<◌, ◌≤◌, ◌^◌, min, cond, List, [], ◌∷◌, ◌++◌, length, map, reverse, refl, sym, ap, ◌∙◌, subst, arith, length-append, length-take, append-nil}
+use Rattle.std.proofs.Common.{◌≡◌, ℕ, ◌+◌, ◌<◌, ◌≤◌, ◌^◌, cond, List, [], ◌∷◌, ◌++◌, length, map, reverse, refl, sym, ap, ◌∙◌, subst, arith, length-append, length-take, append-nil}
 use Rattle.std.specs.Prelude.{is_some, sum_by, codes}
-use Rattle.std.proofs.lemmas.List.{reverse-reverse, map-append, length-reverse}
+use Rattle.std.proofs.lemmas.List.{map-append, length-reverse}
 use Rattle.std.proofs.lemmas.List.Sums.{sum_by-cons, sum_by-append}
 use Rattle.std.proofs.lemmas.Grind.{reverse_onto}
 use Rattle.http_config.specs.Config.{default_settings}
@@ -99,7 +99,7 @@ sum_reversed : (g : sums.Step → ℕ) (ts : List sums.Step) → sum_by g (rever
 sum_reversed g [] = refl
 sum_reversed g (t ∷ ts) =
     let parts : sum_by g (reverse (t ∷ ts)) ≡ sum_by g (reverse ts) + sum_by g (t ∷ []) =
-        ap (λ (l : List sums.Step). sum_by g l) (reverse_onto ts t []) ∙ sum_by-append g (reverse ts) (t ∷ []) in
+    ap (λ (l : List sums.Step). sum_by g l) (reverse_onto ts t []) ∙ sum_by-append g (reverse ts) (t ∷ []) in
     omega (arith, parts, sum_reversed g ts, sum_by-cons g t ts, sum_by-cons g t [])
 
 -- how many steps there are
@@ -210,9 +210,9 @@ generated_sums seed count events trace text counts few is x are text_is =
     let fits : count < 2 ^ 64 = omega (arith, few) in
     let same = same_totals trace x.model x.driven.says in
     let text_same : all_given trace.steps + length trace.buffered ≡ length (written x.model ++ buffered setting x.model) =
-        omega (arith, same.given, waiting seed count events trace x, length-append (written x.model) trace.buffered) in
+    omega (arith, same.given, waiting seed count events trace x, length-append (written x.model) trace.buffered) in
     let all : totals trace ≡ counts_of x.model (buffered setting x.model) =
-        λ i. record { events = same.events i; taken = same.taken_is i; heads = same.heads i; body = same.body i; text = text_same i } in
+    λ i. record { events = same.events i; taken = same.taken_is i; heads = same.heads i; body = same.body i; text = text_same i } in
     record {
       trace = x.model;
       whole = whole;

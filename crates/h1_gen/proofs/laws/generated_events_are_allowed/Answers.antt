@@ -1,4 +1,4 @@
-use Rattle.std.proofs.Common.{◌≡◌, ℕ, List, sym, subst}
+use Rattle.std.proofs.Common.{List, sym, subst}
 use Rattle.h1_model.specs.Event.{Event}
 use Rattle.h1_model.specs.Sums.{Step}
 use Rattle.h1_model.specs.Laws.Runs.{IsWhole}
