@@ -67,12 +67,8 @@ fn read_room(house: &House, number: usize) -> usize {
 }
 
 // Tells the connection of bytes that were read, and says whether it took all of them.
-fn tell(
-    alloc: Global,
-    house: &mut House,
-    number: usize,
-    bytes: &[u8],
-) -> Result<bool, NoMemory>
+#[tactic(auto, using(crate::proofs::FlowLemmas::took_all))]
+fn tell(alloc: Global, house: &mut House, number: usize, bytes: &[u8]) -> Result<bool, NoMemory>
     ensures { IfOk result (λ told. IsTrue told → TakesAll house.old number bytes.now house.new) }
 {
     let copy = Bytes::copy_from_slice(alloc, bytes)?;
@@ -83,6 +79,7 @@ fn tell(
 }
 
 /// Fetches what the connection with this number has to write, at most a piece. There is nothing where it may not write.
+#[tactic(auto, using(crate::proofs::FlowLemmas::gave_bytes))]
 pub fn fetch(house: &mut House, number: usize) -> Result<Option<Bytes>, NoMemory>
     ensures { IfOk result (λ bytes. Fetches house.old number PIECE bytes house.new) }
 {

@@ -137,7 +137,12 @@ impl Hall {
     }
 
     // A round of one member. It says whether its socket is done with.
-    fn serve_one(&mut self, number: usize, uptime: u64, moved: &mut bool) -> Result<bool, NoMemory> {
+    fn serve_one(
+        &mut self,
+        number: usize,
+        uptime: u64,
+        moved: &mut bool,
+    ) -> Result<bool, NoMemory> {
         let Some(Some(member)) = self.members.get_mut(number) else {
             return Ok(true);
         };

@@ -34,6 +34,7 @@ impl Model for House {
 
 impl House {
     /// A hub to which nothing has come. It takes no memory.
+    #[tactic(auto, using(crate::proofs::HouseLemmas::house_new))]
     pub fn new(alloc: Global, config: ServiceConfig) -> House
         ensures { result ≡ fresh_hub config }
     {
@@ -45,6 +46,7 @@ impl House {
     }
 
     /// A new hub is begun, without a connection.
+    #[tactic(auto, using(crate::proofs::HouseLemmas::house_new))]
     pub fn begin_anew(&mut self)
         ensures { self.new ≡ fresh_hub self.old.settings }
     {
@@ -78,6 +80,7 @@ impl House {
     }
 
     /// Opens a connection, and tells its number; where too many were opened, there is none more.
+    #[tactic(auto, using(crate::proofs::HouseLemmas::house_opened))]
     pub fn open(&mut self) -> Result<Option<usize>, NoMemory>
         ensures opened { IfOk result (λ number. HubOpens self.old number self.new) }
         ensures err { OnErr result (self.new ≡ fresh_hub self.old.settings) }
@@ -92,6 +95,7 @@ impl House {
     }
 
     /// Brings an event to the connection with this number, unless it is refused.
+    #[tactic(auto, using(crate::proofs::HouseLemmas::house_fed))]
     pub fn feed(&mut self, number: usize, event: &Event) -> Result<Option<Outcome>, NoMemory>
         ensures fed { IfOk result (λ outcome. HubFeeds self.old number (event_of event.now) outcome self.new) }
         ensures err { OnErr result (self.new ≡ fresh_hub self.old.settings) }
@@ -106,6 +110,7 @@ impl House {
     }
 
     /// Gives the connection with this number a turn, unless it is over.
+    #[tactic(auto, using(crate::proofs::HouseLemmas::house_turned))]
     pub fn turn(&mut self, number: usize) -> Result<Option<Turn>, NoMemory>
         ensures turned { IfOk result (λ turn. HubTurns self.old number turn self.new) }
         ensures err { OnErr result (self.new ≡ fresh_hub self.old.settings) }

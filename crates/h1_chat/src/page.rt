@@ -30,7 +30,8 @@ impl Page {
     pub fn reply(&self, asked: &RequestHead) -> Result<Reply<'_>, NoMemory> {
         if asked.method != Method::GET && asked.method != Method::HEAD {
             let mut head = ResponseHead::new(self.alloc, StatusCode::METHOD_NOT_ALLOWED);
-            head.headers.append(ALLOW, HeaderValue::from_static("GET, HEAD"))?;
+            head.headers
+                .append(ALLOW, HeaderValue::from_static("GET, HEAD"))?;
             return Ok(Reply { head, body: "" });
         }
         match asked.uri.path() {
@@ -46,7 +47,8 @@ impl Page {
 
     fn found<'a>(&self, kind: &'static str, body: &'a str) -> Result<Reply<'a>, NoMemory> {
         let mut head = ResponseHead::new(self.alloc, StatusCode::OK);
-        head.headers.append(CONTENT_TYPE, HeaderValue::from_static(kind))?;
+        head.headers
+            .append(CONTENT_TYPE, HeaderValue::from_static(kind))?;
         head.headers.append(
             HeaderName::from_static("x-content-type-options"),
             HeaderValue::from_static("nosniff"),

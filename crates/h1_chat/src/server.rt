@@ -90,8 +90,14 @@ impl Server {
         let Ok(poll) = Poll::new(&rt) else {
             return Err(ServeError::Poll);
         };
-        if poll.registry().register(&mut rooms, Token(ROOMS_TOKEN), Interest::READABLE).is_err()
-            || poll.registry().register(&mut pages, Token(PAGE_TOKEN), Interest::READABLE).is_err()
+        if poll
+            .registry()
+            .register(&mut rooms, Token(ROOMS_TOKEN), Interest::READABLE)
+            .is_err()
+            || poll
+                .registry()
+                .register(&mut pages, Token(PAGE_TOKEN), Interest::READABLE)
+                .is_err()
         {
             return Err(ServeError::Poll);
         }
@@ -122,7 +128,11 @@ impl Server {
         let mut moved = false;
         for _ in 0..u64::MAX {
             let wait = if moved { 0 } else { SECOND };
-            if self.poll.poll(&mut events, Some(Duration::from_millis(wait))).is_err() {
+            if self
+                .poll
+                .poll(&mut events, Some(Duration::from_millis(wait)))
+                .is_err()
+            {
                 return Err(ServeError::Poll);
             }
             for event in &events {
@@ -224,7 +234,10 @@ impl Server {
     // Has the end of the standard input told. What can't be watched, as a file, is at its end at once.
     fn watch_input(&mut self) {
         let mut source = SourceFd(&INPUT);
-        let watched = self.poll.registry().register(&mut source, Token(INPUT_TOKEN), Interest::READABLE);
+        let watched = self
+            .poll
+            .registry()
+            .register(&mut source, Token(INPUT_TOKEN), Interest::READABLE);
         if watched.is_err() {
             self.input_ended = true;
         }
@@ -238,7 +251,10 @@ impl Server {
             Ok(_) => {
                 // There may be more.
                 let mut source = SourceFd(&INPUT);
-                let _ = self.poll.registry().reregister(&mut source, Token(INPUT_TOKEN), Interest::READABLE);
+                let _ = self
+                    .poll
+                    .registry()
+                    .reregister(&mut source, Token(INPUT_TOKEN), Interest::READABLE);
             }
         }
     }
@@ -275,5 +291,7 @@ fn accept(listener: &TcpListener, may_accept: &mut bool) -> Option<TcpStream> {
 // Has it told when the socket is ready. One that can't be is dropped.
 fn register(poll: &Poll, stream: &mut TcpStream, token: usize) -> bool {
     let interests = Interest::READABLE | Interest::WRITABLE;
-    poll.registry().register(stream, Token(token), interests).is_ok()
+    poll.registry()
+        .register(stream, Token(token), interests)
+        .is_ok()
 }

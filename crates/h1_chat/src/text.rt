@@ -43,7 +43,8 @@ browser, if your browser can reach them.</p>
 "##;
 
 /// Its style.
-pub const STYLE: &str = r##":root { color-scheme: light dark; --ground: #fff; --ink: #1b1b1b; --line: #767676; --accent: #0b57a4; --on-accent: #fff; --own: #e8f1fb; }
+pub const STYLE: &str =
+    r##":root { color-scheme: light dark; --ground: #fff; --ink: #1b1b1b; --line: #767676; --accent: #0b57a4; --on-accent: #fff; --own: #e8f1fb; }
 @media (prefers-color-scheme: dark) {
   :root { --ground: #16181b; --ink: #ececec; --line: #8e9297; --accent: #8ec2ff; --on-accent: #10161d; --own: #22303f; }
 }

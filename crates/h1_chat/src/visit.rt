@@ -138,7 +138,10 @@ impl Visit {
     // Writes what is to be written, as far as that goes. It says whether the peer is gone.
     fn write(&mut self) -> bool {
         for _ in 0..TURNS {
-            if !self.may_write || self.connection.stretch().is_empty() || !self.connection.can_write() {
+            if !self.may_write
+                || self.connection.stretch().is_empty()
+                || !self.connection.can_write()
+            {
                 return false;
             }
             let mut sink = Outgoing::new(&self.stream);
