@@ -1,17 +1,17 @@
 //! A connection of a hub.
-ghost use Rattle.std.specs.Prelude.{◌≡◌, ◌≤◌, List, [], Some, option_map, is_some, IfOk, OnOk};
+ghost use Rattle.std.specs.Prelude.{◌≡◌, ◌≤◌, List, [], Some, option_map, is_some, true, IfOk, IsOk, OnOk, OnErr};
 ghost use Rattle.std.specs.Option.{option_copied};
 ghost use Rattle.h1_model.specs.Event as on;
 ghost use Rattle.h1_model.specs.Limits.{MAX_FRAME_HEAD};
 ghost use Rattle.h1_model.specs.Sums.{Step};
 ghost use Rattle.h1_machine.specs.Local.{closing_by};
 ghost use Rattle.h1_connection.specs.Meaning.{setting_of, event_of, failing_of, SaysOutcome};
-ghost use Rattle.h1_connection.specs.State.{IsAllowed};
+ghost use Rattle.h1_connection.specs.State.{IsAllowed, TakesNoMemory};
 ghost use Rattle.ws_frames.specs.Sent.{message_says};
 ghost use Rattle.h1_codec.specs.Meaning.{answer_of};
 ghost use Rattle.ws_hub_model.specs.Trace.{Closes};
 ghost use Rattle.ws_hub_model.specs.Turn.{answer_head};
-ghost use Rattle.ws_seat.specs.Seat.{fresh_seat, SeatStands, SeatGoesOn, refusal_after, room_after};
+ghost use Rattle.ws_seat.specs.Seat.{fresh_seat, SeatStands, SeatGoesOn, refusal_after, room_after, gives_head};
 ghost use Rattle.ws_seat.specs.Turn.{socket_by, may_accept, answer_by, asked_by, IsAsked, AsksBy, TurnsBy};
 
 use crate::kept::{keep_refusal, keep_room};
@@ -102,11 +102,15 @@ impl Seat {
         self.connection.closing().is_some()
     }
 
-    /// Takes in an event that is allowed, and answers it as the connection does.
+    /// Takes in an event that is allowed, and answers it as the connection does. Where memory runs out nothing changes,
+    /// unless the next request was asked for. An event for which the connection needs no memory needs none here.
     pub fn step(&mut self, event: &Event) -> Result<Outcome, NoMemory>
         requires allowed { IsAllowed self.old.connection (event_of event.now) }
         ensures stands { IfOk result (λ outcome. SeatGoesOn self.old (event_of event.now) (SaysOutcome outcome) self.new) }
         ensures settings { self.new.connection.settings ≡ self.old.connection.settings }
+        ensures err { OnErr result ((trace : List Step) → SeatStands self.old trace → (event_of event.now ≡ on.next → ⊥) → self.new ≡ self.old) }
+        ensures no_memory_needed { (trace : List Step) → SeatStands self.old trace → (event_of event.now ≡ on.next → ⊥)
+            → TakesNoMemory self.old.connection (event_of event.now) → IsOk result }
     {
         let outcome = self.connection.step(event)?;
         self.note(event, &outcome)?;
@@ -120,6 +124,7 @@ impl Seat {
           room = room_after outcome.now self.old.room;
         }) }
         ensures connection { self.new.connection ≡ self.old.connection }
+        ensures err { OnErr result (gives_head outcome.now ≡ true) }
     {
         keep_refusal(&mut self.refusal, event, outcome);
         keep_room(self.alloc, &mut self.room, outcome)
