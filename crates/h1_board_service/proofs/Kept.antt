@@ -1,6 +1,6 @@
 -- What was asked and answered, after one request or one answer more.
 use Rattle.std.proofs.Common.{◌≡◌, ◌≤◌, ◌<◌, ◌+◌, ◌⊎◌, ℕ, Bool, true, false, Option, Some, None, List, [], ◌∷◌, ◌++◌, length, map, inl, inr, refl, sym, ap, ◌∙◌, subst, arith, append-nil}
-use Rattle.std.specs.Prelude.{Ok, option_to_list, option_map}
+use Rattle.std.specs.Prelude.{Ok, is_some, option_to_list}
 use Rattle.std.proofs.lemmas.List.{map-append}
 use Rattle.http_config.specs.Causes.{counted}
 use Rattle.http_types.specs.Response.{FullResponse}
@@ -18,6 +18,46 @@ all_more number (q ∷ pairs) p a b c all last = (all.0, all.1, all_more number 
 
 pub answered_more : (pairs : List Pair) (p : Pair) → answered_of (pairs ++ p ∷ []) ≡ answered_of pairs ++ Ok p.1 ∷ []
 answered_more pairs p = map-append (λ q. Ok q.1) pairs (p ∷ [])
+
+-- ---- a request comes
+
+-- a request that came, as it is noted
+abbrev Call : Type 0
+Call = Asking × Unit {0}
+
+may_stay : (number : ℕ) (command : Option Command) (a b : List Entry) → b ≡ a → MayHaveCalled number command a b
+may_stay number None a b is = is
+may_stay number (Some command) a b is = inl is
+
+went_first : (broken : Bool) (number : ℕ) (r : Asking) (a b : List Entry) → Went broken number None a b → Went broken number (Some r) a b
+went_first false number r a b is = is
+went_first true number r a b is = may_stay number (command_of r.head) a b is
+
+order_first : (calls : List Asking) (answers : List Pair) (r : Asking) → InOrder false calls answers None → InOrder false (calls ++ r ∷ []) answers (Some r)
+order_first calls answers r order = ap (λ l. l ++ r ∷ []) (order ∙ append-nil (map (λ p. p.0) answers))
+
+called_more : (calls : List Call) (p : Call) → map {A = Call} {B = Asking} (λ q. q.0) (calls ++ p ∷ []) ≡ map {A = Call} {B = Asking} (λ q. q.0) calls ++ p.0 ∷ []
+called_more [] p = refl
+called_more (q ∷ calls) p = ap (λ l. q.0 ∷ l) (called_more calls p)
+
+pub none_of : {A : Type 0} (o : Option A) → is_some o ≡ false → o ≡ None
+none_of None is = refl
+none_of (Some x) is = cc
+
+-- where none waits
+pub kept_first : (w : Worked) (r : Asking) (before items : List Call) → w.calls ≡ map {A = Call} {B = Asking} (λ q. q.0) before → items ≡ before ++ (r, tt) ∷ [] → w.is_lost ≡ false → w.waiting ≡ None → IsKept w
+    → IsKept (record { pass = w.pass; waiting = Some r; is_lost = w.is_lost; is_broken = w.is_broken; waits = w.waits; calls = map {A = Call} {B = Asking} (λ q. q.0) items; answers = w.answers })
+kept_first w r before items were is lost none kept =
+    let order = subst (λ o. InOrder false w.calls w.answers o) none (subst (λ b. InOrder b w.calls w.answers w.waiting) lost kept.order) in
+    let longer : w.calls ++ r ∷ [] ≡ map {A = Call} {B = Asking} (λ q. q.0) items =
+    ap (λ l. l ++ r ∷ []) were ∙ sym (called_more before (r, tt)) ∙ ap (map {A = Call} {B = Asking} (λ q. q.0)) (sym is) in
+    record {
+      entries = kept.entries;
+      answered = kept.answered;
+      went = went_first w.is_broken w.pass.number r kept.entries w.pass.entries (subst (λ o. Went w.is_broken w.pass.number o kept.entries w.pass.entries) none kept.went);
+      order = subst (λ l. InOrder w.is_lost l w.answers (Some r)) longer (subst (λ b. InOrder b (w.calls ++ r ∷ []) w.answers (Some r)) (sym lost) (order_first w.calls w.answers r order));
+      told = kept.told;
+    }
 
 -- ---- an answer
 

@@ -1,6 +1,6 @@
 -- What one connection has asked of the board, and what it was answered.
 use Rattle.std.specs.Prelude.{◌≡◌, ◌≤◌, ◌<◌, ◌+◌, ℕ, Bool, true, false, Option, Some, None, List, [], ◌++◌, length, map, option_to_list, Result, Ok}
-use Rattle.http_config.specs.Causes.{counted}
+use Rattle.http_config.specs.Causes.{Rose}
 use Rattle.http_types.specs.Response.{FullResponse}
 use Rattle.http_services.specs.Serving.{Serving}
 use Rattle.h1_share.specs.declared.command.Entry.{Entry}
@@ -66,7 +66,7 @@ pub record IsKept (w : Worked) : Type 0 where
   pub order : InOrder w.is_lost w.calls w.answers w.waiting
   pub told : w.is_broken ≡ true → 0 < w.waits
 
--- how often nothing was answered, after this
-abbrev pub waits_after : {A : Type 0} → ℕ → Option A → ℕ
-waits_after waits None = counted waits
-waits_after waits (Some answer) = waits
+-- how often nothing was answered, after this: each time it rises, unless it stands at its end
+abbrev pub WaitsBy : {A : Type 0} → ℕ → ℕ → Option A → Type 0
+WaitsBy before now None = (before ≤ now) × Rose before now
+WaitsBy before now (Some answer) = now ≡ before

@@ -1,9 +1,5 @@
 //! The board as a service.
 ghost use Rattle.std.specs.Prelude.{◌≡◌, [], nat_lt};
-ghost use Rattle.futures.specs.Task.{IsArmed, Keeps};
-ghost use Rattle.futures.specs.Poll.{OnPending};
-ghost use Rattle.http_services.specs.Lent.{LentBound};
-ghost use Rattle.http_services.specs.Serving.{AnswerSays};
 ghost use Rattle.h1_board_service.specs.Work.{begun_work, IsKept};
 
 use crate::answer::Desk;
@@ -11,6 +7,7 @@ use crate::gate::Gate;
 use crate::work::Work;
 use futures::task::{Context, Poll};
 use h1_share::{Carried, Pass, Shared};
+use http_services::h1::Payload;
 use http_services::{Lending, Service};
 use http_types::{Request, Response};
 use std::alloc::Global;
@@ -23,7 +20,7 @@ use std::sync::ledger::Ledger;
 ///
 /// `B` is what a call is lent, of which it reads nothing.
 #[derive(Drop)]
-pub struct BoardService<'a, R: Wait, G: Gate, M: Ledger, B = ()> {
+pub struct BoardService<'a, R: Wait, G: Gate, M: Ledger, B = Payload> {
     desk: Desk<'a, R, G, M>,
     work: Work<M>,
     lent: PhantomData<B>,
@@ -64,16 +61,15 @@ impl<'a, R: Wait, G: Gate, M: Ledger, B> BoardService<'a, R, G, M, B> {
 
     /// The pass, with what was asked and answered by it.
     pub fn into_pass(self) -> Carried<M>
-        ensures pass { result.pass ≡ self.work.pass }
-        ensures kept { IsKept self.work }
+        ensures pass { result.pass ≡ self.entry.work.pass }
+        ensures kept { IsKept self.entry.work }
     {
         self.work.into_pass()
     }
 }
 
 impl<'a, R: Wait, G: Gate, M: Ledger, B: Lending> Service<Request<(), ()>>
-    for BoardService<'a, R, G, M, B>
-{
+    for BoardService<'a, R, G, M, B> {
     ghost use Rattle.std.specs.Prelude.{None};
     ghost use Rattle.http_services.specs.Serving.{unknown_call};
     ghost use Rattle.h1_board_service.specs.Work.{serving_of};
@@ -105,12 +101,7 @@ impl<'a, R: Wait, G: Gate, M: Ledger, B: Lending> Service<Request<(), ()>>
         _call: &mut (),
         _lent: &mut B,
         cx: &mut Context<'_>,
-    ) -> Poll<Result<Response<()>, Response<()>>>
-        ensures says { AnswerSays (serving_of self.old.work) (serving_of self.new.work) result }
-        ensures bound { LentBound (B.lent _lent.old) (B.lent _lent.new) }
-        ensures registered { OnPending result (IsArmed cx.new) }
-        ensures kept { Keeps cx.old cx.new }
-    {
+    ) -> Poll<Result<Response<()>, Response<()>>> {
         match self.work.respond(&self.desk) {
             Some(response) => Poll::Ready(Ok(response)),
             None => cx.yield_now(),

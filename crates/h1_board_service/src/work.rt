@@ -1,7 +1,6 @@
 // What one connection has asked of the board, and what it was answered.
 ghost use Rattle.std.specs.Prelude.{◌≡◌, [], ◌∷◌, ◌++◌, None, Ok, false, true, is_some, nat_lt, option_to_list, option_map};
-ghost use Rattle.http_config.specs.Causes.{counted};
-ghost use Rattle.h1_board_service.specs.Work.{begun_work, IsKept, answered_of, waits_after};
+ghost use Rattle.h1_board_service.specs.Work.{begun_work, IsKept, answered_of, WaitsBy};
 
 use crate::answer::Desk;
 use crate::gate::Gate;
@@ -99,7 +98,7 @@ impl<M: Ledger> Work<M> {
     ) -> Option<Response<()>>
         ensures calls { self.new.calls ≡ self.old.calls }
         ensures answers { answered_of self.new.answers ≡ answered_of self.old.answers ++ option_to_list (option_map Ok result) }
-        ensures waits { self.new.waits ≡ waits_after self.old.waits result }
+        ensures waits { WaitsBy self.old.waits self.new.waits result }
     {
         if self.is_lost {
             return self.wait();
@@ -120,7 +119,7 @@ impl<M: Ledger> Work<M> {
         requires waits { is_some self.old.waiting ≡ true }
         ensures calls { self.new.calls ≡ self.old.calls }
         ensures answers { answered_of self.new.answers ≡ answered_of self.old.answers ++ option_to_list (option_map Ok result) }
-        ensures waits { self.new.waits ≡ waits_after self.old.waits result }
+        ensures waits { WaitsBy self.old.waits self.new.waits result }
     {
         let Some(request) = self.waiting.take() else {
             unreachable!()
@@ -144,7 +143,8 @@ impl<M: Ledger> Work<M> {
     #[tactic(auto, using(crate::proofs::Kept::kept_waits))]
     fn wait(&mut self) -> Option<Response<()>>
         ensures none { result ≡ None }
-        ensures waits { self.new ≡ record self.old { waits = counted self.old.waits } }
+        ensures waits { WaitsBy self.old.waits self.new.waits result }
+        ensures others { self.new ≡ record self.old { waits = self.new.waits } }
     {
         self.waits = self.waits.saturating_add(1);
         None
