@@ -3,7 +3,6 @@
 #![tactic(auto)]
 
 mod runs;
-mod sums;
 
 use crate::runs::Runs;
 use std::io;

@@ -6,8 +6,8 @@ use Rattle.futures.specs.declared.task.context.Context.{Context}
 use Rattle.http_types.specs.declared.error.DispatchError.{DispatchError}
 use Rattle.http_types.specs.declared.error.DispatchError.TheVariants as error
 use Rattle.h1_model.specs.Event as on
-use Rattle.h1_dispatch.specs.View.{View, Stage, free, waiting, calling, replying, sending, is_sending, closes, asks_next, allows_answer, allows_chunk}
-use Rattle.h1_dispatch.specs.Steps.{Step, IsStep, IsRun, ticked, drained, written, read, shut, next, closed, ready, called, answered, pulled, paused, dropped, replied, sent, failed, failed_write, failed_read, failed_fed, failed_sent, asked_to_drain}
+use Rattle.h1_dispatch.specs.View.{View, Stage, free, waiting, calling, replying, sending, is_sending, closes, has_write_room, asks_next, allows_answer, allows_chunk}
+use Rattle.h1_dispatch.specs.Steps.{Step, IsStep, IsRun, ticked, drained, written, read, shut, next, closed, continued, ready, called, answered, pulled, paused, dropped, replied, sent, failed, failed_write, failed_read, failed_fed, failed_sent, asked_to_drain}
 use Rattle.h1_dispatch.specs.Traces.{IsNoted, AllNoted}
 use Rattle.h1_dispatch.specs.Polls.{Continues, AllContinue, EndsWith, IsShut, IsIo, IsStuck, IsHeld, IsIdle, Reads, Feeds, Writes, Serves, Sends, Awaits, Looks, Ended, GoesOn, Ticks, Drains, IsBegun, BeginFails, TurnsSay, PollRuns, PollSays}
 use Rattle.h1_dispatch.specs.Acts.{Act, polled, asked, ActSays, ActsSay, HasMemory, AreOneRun}
@@ -23,6 +23,7 @@ goes_noted (read came answer) goes = tt
 goes_noted (shut answer) goes = tt
 goes_noted (next head) goes = tt
 goes_noted (closed end) goes = tt
+goes_noted continued goes = tt
 goes_noted (ready request answer) goes = tt
 goes_noted (called request) goes = tt
 goes_noted (answered answer) goes = tt
@@ -77,19 +78,21 @@ awaits_noted v true allows served body = by_room (allows_chunk v) body
     by_room : (may : Bool) → Sends may served → AllNoted served
     by_room true is = subst (λ l. AllNoted l) (sym is) (tt, tt)
     by_room false is = subst (λ l. AllNoted l) (sym is) tt
-awaits_noted v false true served waits = by_stage v.stage waits
+awaits_noted v false true served waits = by_stage v.stage (has_write_room v) waits
   where
-    by_stage : (s : Stage) → Awaits s served → AllNoted served
-    by_stage free is = subst (λ l. AllNoted l) (sym is) tt
-    by_stage (waiting request) (inl is) = subst (λ l. AllNoted l) (sym is) (tt, tt)
-    by_stage (waiting request) (inr is) = subst (λ l. AllNoted l) (sym is) (tt, (tt, tt))
-    by_stage (calling took) is = subst (λ l. AllNoted l) (sym is) (tt, tt)
-    by_stage (replying answer) is = absurd is
-    by_stage (sending body) is = absurd is
+    by_stage : (s : Stage) (room : Bool) → Awaits s room served → AllNoted served
+    by_stage free room is = subst (λ l. AllNoted l) (sym is) tt
+    by_stage (waiting request) true (inl is) = subst (λ l. AllNoted l) (sym is) (tt, tt)
+    by_stage (waiting request) true (inr is) = subst (λ l. AllNoted l) (sym is) (tt, (tt, tt))
+    by_stage (waiting request) false is = subst (λ l. AllNoted l) (sym is) tt
+    by_stage (calling took) room is = subst (λ l. AllNoted l) (sym is) (tt, tt)
+    by_stage (replying answer) room is = absurd is
+    by_stage (sending body) room is = absurd is
 awaits_noted v false false served looks = by_looks (asks_next v) v.stage looks
   where
-    by_looks : (may : Bool) (s : Stage) → Looks may s served → AllNoted served
-    by_looks true free is = subst (λ l. AllNoted l) (sym is) (tt, tt)
+    by_looks : (may : Bool) (s : Stage) → Looks v may s served → AllNoted served
+    by_looks true free (inl is) = subst (λ l. AllNoted l) (sym is) (tt, tt)
+    by_looks true free (inr is) = subst (λ l. AllNoted l) (sym is.0) tt
     by_looks true (waiting request) is = subst (λ l. AllNoted l) (sym is) tt
     by_looks true (calling took) is = subst (λ l. AllNoted l) (sym is) tt
     by_looks true (replying answer) is = subst (λ l. AllNoted l) (sym is) tt

@@ -7,8 +7,8 @@ use Rattle.http_bodies.specs.Giving.{Given, Giving, Piece, PieceSays}
 use Rattle.http_bodies.specs.Told.{Tells, led_by}
 use Rattle.http_services.specs.Lent.{Took}
 use Rattle.http_bodies.proofs.Histories.{led_by-more, led_by-none}
-use Rattle.h1_dispatch.specs.View.{View, Asking, Answer, Stage, free, waiting, calling, replying, sending, is_replying, is_sending}
-use Rattle.h1_dispatch.specs.Steps.{Step, IsStep, IsRun, request_at, stage_at, stage_asked, stage_answered, stage_replied, stage_sent, ticked, drained, written, read, shut, next, closed, ready, called, answered, pulled, paused, dropped, replied, sent, failed, failed_write, failed_read, failed_fed, failed_sent, asked_to_drain}
+use Rattle.h1_dispatch.specs.View.{View, Asking, Answer, Stage, free, waiting, calling, replying, sending, is_waiting, is_replying, is_sending}
+use Rattle.h1_dispatch.specs.Steps.{Step, IsStep, IsRun, request_at, stage_at, stage_asked, stage_answered, stage_replied, stage_sent, ticked, drained, written, read, shut, next, closed, continued, ready, called, answered, pulled, paused, dropped, replied, sent, failed, failed_write, failed_read, failed_fed, failed_sent, asked_to_drain}
 use Rattle.h1_dispatch.specs.Bodies.{step_pieces, ends_body, is_reply, pieces, has_end, has_reply, GoesOut, SendsBody}
 
 clash : {A : Type 0} → true ≡ false → A
@@ -50,6 +50,7 @@ no_body v w (read came answer) other off is = apart v w (read came answer) refl 
 no_body v w (shut answer) other off is = apart v w (shut answer) refl refl off (ap (λ (x : View). x.stage) is.2)
 no_body v w (next head) other off is = to w (next head) (stage_at (request_at head)) refl refl (asks_none (request_at head)) (ap (λ (x : View). x.stage) is.4)
 no_body v w (closed end) other off is = apart v w (closed end) refl refl off (ap (λ (x : View). x.stage) is.4)
+no_body v w continued other off is = apart v w continued refl refl off (ap (λ (x : View). x.stage) is.3)
 no_body v w (ready request answer) other off is = to w (ready request answer) (stage_asked request answer) refl refl (asked_none request answer) (ap (λ (x : View). x.stage) is.3)
 no_body v w (called request) other off is = to w (called request) (calling is.2.0) refl refl refl (ap (λ (x : View). x.stage) is.2.2)
 no_body v w (answered answer) other off is = to w (answered answer) (stage_answered is.more answer) refl refl (answered_none is.more answer) (ap (λ (x : View). x.stage) is.same)
@@ -97,6 +98,7 @@ a_body v w (read came answer) body other was is = stays v w (read came answer) b
 a_body v w (shut answer) body other was is = stays v w (shut answer) body refl refl was (ap (λ (x : View). x.stage) is.2)
 a_body v w (next head) body other was is = clash (ap is_sending (sym was ∙ is.1))
 a_body v w (closed end) body other was is = stays v w (closed end) body refl refl was (ap (λ (x : View). x.stage) is.4)
+a_body v w continued body other was is = clash (sym (sym (ap is_waiting was) ∙ is.0.1))
 a_body v w (ready request answer) body other was is = clash (ap is_sending (sym was ∙ is.0.1))
 a_body v w (called request) body other was is = clash (ap is_sending (sym was ∙ is.0.1))
 a_body v w (answered answer) body other was is = clash (ap is_sending (sym was ∙ is.calls))

@@ -1,6 +1,6 @@
 -- What waits to be written grows only where there is room.
 use Rattle.std.proofs.Common.{◌≡◌, ◌≤◌, ◌⊎◌, ℕ, zero, suc, Bool, true, false, Option, Some, None, List, [], ◌∷◌, length, drop, Result, Ok, Err, inl, inr, refl, sym, ap, ◌∙◌, subst, arith}
-use Rattle.std.specs.Prelude.{is_none, is_some, ◌&&◌, ◌==◌, nat_lt, if◌then◌else◌}
+use Rattle.std.specs.Prelude.{is_none, is_some, ◌&&◌, nat_lt, if◌then◌else◌}
 use Rattle.std.proofs.lemmas.Bool.{lt-ltb, ltb-true}
 use Rattle.std.proofs.lemmas.List.{length-drop}
 use Rattle.futures.specs.declared.task.Poll.{Poll}
@@ -15,13 +15,12 @@ use Rattle.http_wires.specs.Wiring.{Wiring}
 use Rattle.h1_model.specs.End as ends
 use Rattle.h1_model.specs.End.{End}
 use Rattle.h1_model.specs.Event as on
-use Rattle.h1_model.specs.Request.{Reading, head_is, faulty, too_large}
 use Rattle.h1_model.specs.Setting.{Setting}
 use Rattle.h1_machine.specs.Kept.{Reply, unanswered, sending, answered as complete, Exchange, Kept, Change}
 use Rattle.h1_machine.specs.Local.{closing_by, waits_for_answer}
 use Rattle.h1_machine.specs.Body.{passing}
 use Rattle.h1_machine.specs.Clock.{is_abandoned, is_slow, is_idle, expiring, ticking}
-use Rattle.h1_machine.specs.Change.{doing_with, reading, exchange_at_end, behind_head, without_head, IsUpcoming, IsNext, IsPulling}
+use Rattle.h1_machine.specs.Change.{doing_with, reading, exchange_at_end, IsNext, IsPulling}
 use Rattle.h1_machine.specs.Change.{IsStep as Machine}
 use Rattle.h1_payload.specs.Rests.{SaysPulled}
 use Rattle.h1_connection.specs.Heads.{SaysNext}
@@ -32,14 +31,14 @@ use Rattle.h1_connection.specs.declared.connection.heads.NextHead.{NextHead}
 use Rattle.h1_connection.specs.declared.connection.ticks.Expiry.{Expiry}
 use Rattle.h1_connection.specs.declared.connection.ticks.Expiry.TheVariants as expiries
 use Rattle.h1_line.specs.Line.{LineView}
-use Rattle.h1_dispatch.specs.View.{View, Asking, Answer, is_unanswered as is_unanswered_at, allows_next, has_write_room, buffered, view_begun}
-use Rattle.h1_dispatch.specs.Steps.{Step, Goes, Wrote, Took, IsStep, IsRun, request_at, stage_at, stage_replied, stage_sent, ticked, drained, written, read, shut, next, closed, ready, called, answered, pulled, paused, dropped, replied, sent, failed, failed_write, failed_read, failed_fed, failed_sent, asked_to_drain}
+use Rattle.h1_dispatch.specs.View.{View, Asking, Answer, Stage, free, waiting, calling, replying, sending as goes_out, is_unanswered as is_unanswered_at, is_asked, is_waiting, allows_next, has_write_room, buffered, view_begun}
+use Rattle.h1_dispatch.specs.Steps.{Step, Goes, Wrote, Took, IsStep, IsRun, request_at, stage_at, stage_replied, stage_sent, ticked, drained, written, read, shut, next, closed, continued, ready, called, answered, pulled, paused, dropped, replied, sent, failed, failed_write, failed_read, failed_fed, failed_sent, asked_to_drain}
 use Rattle.h1_dispatch.specs.Traces.{IsNoted, AllNoted}
 use Rattle.h1_dispatch.specs.Open.{IsTied}
 use Rattle.h1_dispatch.specs.Bounds.{HasRoomForAnswer, HasExpired, GrowsInRoom}
 use Rattle.h1_dispatch.proofs.Faults.{closes_so}
 use Rattle.h1_dispatch.proofs.Moves.{leaves_room}
-use Rattle.h1_dispatch.proofs.Open.{hands_out, busy_at, step_ties, begun_tied, begun_tied_noted}
+use Rattle.h1_dispatch.proofs.Open.{step_ties, begun_tied, begun_tied_noted}
 
 clash : {A : Type 0} → true ≡ false → A
 clash is = absurd (cc is)
@@ -97,32 +96,6 @@ expires set k None first ms =
 
 ticks : (set : Setting) (k : Kept) (closing : Option End) (ms : ℕ) (c : Change) → c ≡ ticking set k closing ms → Ticked k c
 ticks set k closing ms c is = subst (λ (x : Change). Ticked k x) (sym is) (expires set k closing _ ms)
-
--- the next head leaves all where a request is handed out
-abbrev Nexts : Kept → Change → Type 0
-Nexts k c = (c.kept.buffered ≡ k.buffered) ⊎ ((hands_out c.outcome).0 ≡ false)
-
-behind : (k : Kept) (end : ℕ) (what : Reading) → Nexts k (behind_head k end what)
-behind k end (faulty f) = inr refl
-behind k end (head_is h) = inl refl
-
-without : (set : Setting) (k : Kept) → Nexts k (without_head set k)
-without set k = by_full (length k.unread == set.hold_size)
-  where
-    by_full : (b : Bool) → Nexts k (if b then behind_head k 0 (faulty too_large) else record { outcome = on.pending; kept = k })
-    by_full true = inr refl
-    by_full false = inl refl
-
-says_so : (k : Kept) (c d : Change) → c ≡ d → Nexts k d → Nexts k c
-says_so k c d is so = subst (λ (x : Change). Nexts k x) (sym is) so
-
-upcoming : (set : Setting) (k : Kept) (coming : Bool) (c : Change) → IsUpcoming set k coming c → Nexts k c
-upcoming set k false c is = says_so k c (without_head set k) is (without set k)
-upcoming set k true c is = says_so k c (behind_head k is.1 is.2) is.5 (behind k is.1 is.2)
-
-nexts : (set : Setting) (k : Kept) (closing : Option End) (c : Change) → IsNext set k closing c → Nexts k c
-nexts set k (Some end) c is = says_so k c _ is (inl refl)
-nexts set k None c is = upcoming set k k.is_coming c is
 
 ends_so : (set : Setting) (k : Kept) (closing : Option End) (end : End) (c : Change) → closing ≡ Some end → IsNext set k closing c → c.kept.buffered ≡ k.buffered
 ends_so set k (Some other) end c closes is = by_change k.buffered c _ is refl
@@ -197,29 +170,48 @@ took v w came Pending line t = line_less v w line
 
 record Holds (v : View) (d : Step) (w : View) : Type 0 where
   grows : GrowsInRoom v d w
-  room : is_unanswered_at w.stage ≡ true → has_write_room w ≡ true
+  room : is_asked w.stage ≡ true → has_write_room w ≡ true
 
-fewer_wait : (v w : View) (d : Step) → Less v w → (is_unanswered_at w.stage ≡ true → is_unanswered_at v.stage ≡ true) → HasRoomForAnswer v → Holds v d w
+fewer_wait : (v w : View) (d : Step) → Less v w → (is_asked w.stage ≡ true → is_asked v.stage ≡ true) → HasRoomForAnswer v → Holds v d w
 fewer_wait v w d less before h = record { grows = inl less.fewer; room = λ asks. less_room v w less (h.room (before asks)) }
+
+-- the service was asked in room
+in_room : (v w : View) (d : Step) → Less v w → has_write_room v ≡ true → Holds v d w
+in_room v w d less some = record { grows = inl less.fewer; room = λ asks. less_room v w less some }
 
 -- the last request is as far as it was
 as_far : (v w : View) (d : Step) → Less v w → w.stage ≡ v.stage → HasRoomForAnswer v → Holds v d w
-as_far v w d less stage h = fewer_wait v w d less (λ asks. sym (ap is_unanswered_at stage) ∙ asks) h
+as_far v w d less stage h = fewer_wait v w d less (λ asks. sym (ap is_asked stage) ∙ asks) h
 
--- it has its answer now
-has_answer : (v w : View) (d : Step) → has_write_room v ≡ true → is_unanswered_at w.stage ≡ false → Holds v d w
-has_answer v w d some done = record { grows = inr (inl some); room = λ asks. clash (sym asks ∙ done) }
+-- the service doesn't have it, or its answer was handed on
+none_has_it : (v w : View) (d : Step) → has_write_room v ≡ true → is_asked w.stage ≡ false → Holds v d w
+none_has_it v w d some done = record { grows = inr (inl some); room = λ asks. clash (sym asks ∙ done) }
 
-replied_so : (body : Giving) (size : BodySize) → is_unanswered_at (stage_replied body size) ≡ false
+replied_so : (body : Giving) (size : BodySize) → is_asked (stage_replied body size) ≡ false
 replied_so body NoBody = refl
 replied_so body (Sized zero) = refl
 replied_so body (Sized (suc n)) = refl
 replied_so body Stream = refl
 
-sent_so : (left : Giving) (piece : Piece) → is_unanswered_at (stage_sent left piece) ≡ false
+sent_so : (left : Giving) (piece : Piece) → is_asked (stage_sent left piece) ≡ false
 sent_so left (Ready None) = refl
 sent_so left (Ready (Some piece)) = refl
 sent_so left Pending = refl
+
+-- what the service has was not answered
+asked_open : (s : Stage) → is_asked s ≡ true → is_unanswered_at s ≡ true
+asked_open free is = absurd (cc is)
+asked_open (waiting request) is = refl
+asked_open (calling took) is = refl
+asked_open (replying answer) is = refl
+asked_open (goes_out body) is = absurd (cc is)
+
+not_yet : (s : Stage) → is_waiting s ≡ true → is_asked s ≡ false
+not_yet (waiting request) is = refl
+not_yet free is = absurd (cc is)
+not_yet (calling took) is = absurd (cc is)
+not_yet (replying answer) is = absurd (cc is)
+not_yet (goes_out body) is = absurd (cc is)
 
 expired : (moment : ℕ) (expiry : Expiry) → expiry_of expiry ≡ on.expired ends.slow_request → HasExpired (ticked moment expiry)
 expired moment expiries.None is = absurd (cc is)
@@ -239,7 +231,7 @@ ticked_holds v w moment expiry goes stage h =
         as_far v w (ticked moment expiry) (record { fewer = no_more (buffered w) (buffered v) (later ∙ same_bytes); settings = goes.settings }) stage h
     by_tick c later fails is (inr slow) = record {
       grows = inr (inr (expired moment expiry (is ∙ slow.0), closes_so (setting_of w.line.state.settings) w.line.state.kept (fails ∙ slow.2)));
-      room = λ asks. clash (sym asks ∙ ap is_unanswered_at stage ∙ sym h.tied.tied ∙ slow.1);
+      room = λ asks. clash (sym (asked_open w.stage asks) ∙ ap is_unanswered_at stage ∙ sym h.tied.tied ∙ slow.1);
     }
 
 last_true : (a b : Bool) → (a && b) ≡ true → b ≡ true
@@ -249,21 +241,10 @@ last_true false b is = absurd (cc is)
 pub asks_in_room : (v w : View) (head : NextHead) → IsStep v (next head) w → has_write_room v ≡ true
 asks_in_room v w head is = last_true (allows_next v) (has_write_room v) is.2
 
-next_holds : (v w : View) (head : NextHead) → has_write_room v ≡ true → Goes v.line on.next (SaysNext head) w.line → w.stage ≡ stage_at (request_at head) → IsTied v
-    → Holds v (next head) w
-next_holds v w head some goes stage t =
-    let x = goes.steps t.trace t.stands in
-    let k = v.line.state.kept in
-    let later = after_step (setting_of v.line.state.settings) k w.line.state.kept on.next x.0 x.2.machine in
-    let says = ap (λ (b : Bool × Bool). b.0) (ap hands_out (sym x.2.machine.answers) ∙ busy_at head x.0 x.1) in
-    by_next x.2.machine.change later says (nexts (setting_of v.line.state.settings) k (closing_by (setting_of v.line.state.settings) k) x.2.machine.change x.2.machine.changes)
-  where
-    by_next : (c : Change) → buffered w ≡ c.kept.buffered → (hands_out c.outcome).0 ≡ is_unanswered_at (stage_at (request_at head)) → Nexts v.line.state.kept c → Holds v (next head) w
-    by_next c later says (inl same_bytes) = record {
-      grows = inr (inl some);
-      room = λ asks. less_room v w (record { fewer = no_more (buffered w) (buffered v) (later ∙ same_bytes); settings = goes.settings }) some;
-    }
-    by_next c later says (inr none) = has_answer v w (next head) some (ap is_unanswered_at stage ∙ sym says ∙ none)
+-- a request that came waits for the service
+none_asked : (request : Option Asking) → is_asked (stage_at request) ≡ false
+none_asked None = refl
+none_asked (Some request) = refl
 
 step_holds : (v w : View) (d : Step) → IsNoted d → IsStep v d w → HasRoomForAnswer v → Holds v d w
 step_holds v w (ticked moment expiry) noted is h = ticked_holds v w moment expiry is.0 (ap (λ (x : View). x.stage) is.1) h
@@ -272,17 +253,16 @@ step_holds v w drained noted is h =
 step_holds v w (written answer) noted is h = as_far v w (written answer) (wrote v w answer is.3 h.tied) (ap (λ (x : View). x.stage) is.4) h
 step_holds v w (read came answer) noted is h = as_far v w (read came answer) (took v w came answer is.3 h.tied) (ap (λ (x : View). x.stage) is.4) h
 step_holds v w (shut answer) noted is h = as_far v w (shut answer) (line_less v w (ap (λ (x : View). x.line) is.2)) (ap (λ (x : View). x.stage) is.2) h
-step_holds v w (next head) noted is h = next_holds v w head (asks_in_room v w head is) is.3 (ap (λ (x : View). x.stage) is.4) h.tied
+step_holds v w (next head) noted is h = none_has_it v w (next head) (asks_in_room v w head is) (ap (λ (x : View). is_asked x.stage) is.4 ∙ none_asked (request_at head))
 step_holds v w (closed end) noted is h =
     let set = setting_of v.line.state.settings in
     let k = v.line.state.kept in
     as_far v w (closed end) (same v w on.next (SaysNext is.3.0) is.3.1 (λ out m. ends_so set k (closing_by set k) (end_of end) m.change is.1 m.changes) h.tied) (ap (λ (x : View). x.stage) is.4) h
-step_holds v w (ready request answer) noted is h =
-    fewer_wait v w (ready request answer) (line_less v w (ap (λ (x : View). x.line) is.3)) (λ asks. ap is_unanswered_at is.0.1) h
-step_holds v w (called request) noted is h =
-    fewer_wait v w (called request) (line_less v w (ap (λ (x : View). x.line) is.2.2)) (λ asks. ap is_unanswered_at is.0.1) h
+step_holds v w continued noted is h = none_has_it v w continued is.0.2 (ap (λ (x : View). is_asked x.stage) is.3 ∙ not_yet v.stage is.0.1)
+step_holds v w (ready request answer) noted is h = in_room v w (ready request answer) (line_less v w (ap (λ (x : View). x.line) is.3)) is.0.3
+step_holds v w (called request) noted is h = in_room v w (called request) (line_less v w (ap (λ (x : View). x.line) is.2.2)) is.0.3
 step_holds v w (answered answer) noted is h =
-    fewer_wait v w (answered answer) (line_less v w (ap (λ (x : View). x.line) is.same)) (λ asks. ap is_unanswered_at is.calls) h
+    fewer_wait v w (answered answer) (line_less v w (ap (λ (x : View). x.line) is.same)) (λ asks. ap is_asked is.calls) h
 step_holds v w (pulled piece) noted is h =
     as_far v w (pulled piece)
     (same v w on.pull (SaysPulled piece) is.1 (λ out m. pull_leaves v.line.state.kept v.line.state.kept.exchange m.change m.changes) h.tied)
@@ -293,10 +273,10 @@ step_holds v w dropped noted is h =
     (same v w on.drop_body (Is on.done) is.2 (λ out m. by_change v.line.state.kept.buffered m.change _ m.changes (drop_leaves v.line.state.kept v.line.state.kept.exchange)) h.tied)
     (ap (λ (x : View). x.stage) is.3) h
 step_holds v w (replied answer) noted is h =
-    has_answer v w (replied answer) (h.room (ap is_unanswered_at is.1)) (ap (λ (x : View). is_unanswered_at x.stage) is.3 ∙ replied_so answer.body answer.body.size)
+    none_has_it v w (replied answer) (h.room (ap is_asked is.1)) (ap (λ (x : View). is_asked x.stage) is.3 ∙ replied_so answer.body answer.body.size)
 step_holds v w (sent piece) noted is h =
-    has_answer v w (sent piece) (leaves_room (setting_of v.line.state.settings) v.line.state.kept is.1.allowed)
-    (ap (λ (x : View). is_unanswered_at x.stage) is.3 ∙ sent_so is.0 piece)
+    none_has_it v w (sent piece) (leaves_room (setting_of v.line.state.settings) v.line.state.kept is.1.allowed)
+    (ap (λ (x : View). is_asked x.stage) is.3 ∙ sent_so is.0 piece)
 step_holds v w (failed event) noted is h = absurd noted
 step_holds v w (failed_write count) noted is h = absurd noted
 step_holds v w (failed_read came event) noted is h = absurd noted

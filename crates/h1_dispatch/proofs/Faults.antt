@@ -21,8 +21,8 @@ use Rattle.h1_connection.specs.Meaning.{setting_of, end_of}
 use Rattle.h1_connection.specs.State.{Is}
 use Rattle.h1_connection.specs.Ticks.{expiry_of}
 use Rattle.h1_line.specs.Line.{LineView, LineStands}
-use Rattle.h1_dispatch.specs.View.{View, sending, is_sending, is_awaiting, is_replying, closes, allows, allows_answer, awaits_body}
-use Rattle.h1_dispatch.specs.Steps.{Step, Goes, Wrote, IsStep, IsRun, ticked, drained, written, read, shut, next, closed, ready, called, answered, pulled, paused, dropped, replied, sent, failed, failed_write, failed_read, failed_fed, failed_sent, asked_to_drain}
+use Rattle.h1_dispatch.specs.View.{View, sending, is_sending, is_waiting, is_awaiting, is_replying, closes, allows, allows_answer, awaits_body}
+use Rattle.h1_dispatch.specs.Steps.{Step, Goes, Wrote, IsStep, IsRun, ticked, drained, written, read, shut, next, closed, continued, ready, called, answered, pulled, paused, dropped, replied, sent, failed, failed_write, failed_read, failed_fed, failed_sent, asked_to_drain}
 use Rattle.h1_dispatch.specs.Traces.{IsNoted, AllNoted}
 use Rattle.h1_dispatch.specs.Bodies.{IsOfEnd, OnlyEnds}
 
@@ -137,6 +137,7 @@ step_ends v w (closed end) noted is f = (
   goes_on v w on.next (SaysNext is.3.0) is.3.1 (ap (λ (x : View). x.stage) is.4)
       (λ out m. ends_so (setting_of v.line.state.settings) v.line.state.kept (closing_by (setting_of v.line.state.settings) v.line.state.kept) (end_of end) m.change is.1 m.changes f.fails) f,
 )
+step_ends v w continued noted is f = clash (sym (sym (ap is_waiting f.stage) ∙ is.0.1))
 step_ends v w (ready request answer) noted is f = clash (ap is_sending (sym f.stage ∙ is.0.1))
 step_ends v w (called request) noted is f = clash (ap is_sending (sym f.stage ∙ is.0.1))
 step_ends v w (answered answer) noted is f = clash (ap is_sending (sym f.stage ∙ is.calls))

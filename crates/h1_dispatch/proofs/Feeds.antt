@@ -30,7 +30,7 @@ use Rattle.h1_connection.specs.declared.connection.heads.NextHead.{NextHead}
 use Rattle.h1_connection.specs.declared.connection.heads.NextHead.TheVariants as next_head
 use Rattle.h1_line.specs.Line.{LineView, LineStands}
 use Rattle.h1_dispatch.specs.View.{View, Asking, Answer, Stage, free, waiting, calling, replying, sending}
-use Rattle.h1_dispatch.specs.Steps.{Step, Goes, Wrote, Took, Sent, IsStep, IsRun, error_of, fed_with, queue_at, request_at, stage_at, stage_asked, stage_answered, stage_replied, stage_sent, ticked, drained, written, read, shut, next, closed, ready, called, answered, pulled, paused, dropped, replied, sent, failed, failed_write, failed_read, failed_fed, failed_sent, asked_to_drain}
+use Rattle.h1_dispatch.specs.Steps.{Step, Goes, Wrote, Took, Sent, IsStep, IsRun, error_of, fed_with, queue_at, request_at, stage_at, stage_asked, stage_answered, stage_replied, stage_sent, ticked, drained, written, read, shut, next, closed, continued, ready, called, answered, pulled, paused, dropped, replied, sent, failed, failed_write, failed_read, failed_fed, failed_sent, asked_to_drain}
 use Rattle.h1_dispatch.specs.Traces.{IsNoted, AllNoted}
 use Rattle.h1_dispatch.specs.Feeds.{CameBody, new_body, with_piece, body_at, step_body, body_after, IsOnly, IsFed, nothing_taken, HasBody, HasQueueBound}
 use Rattle.h1_dispatch.proofs.Pulls.{given_bytes, pull_fits}
@@ -175,6 +175,7 @@ step_has v w (shut answer) body is has = stays v w body (ap (λ (x : View). x.st
 step_has v w (next head) body is has =
     keeps (body_at head body) (stage_at (request_at head)) w.stage (queue_at head v.queue) w.queue (ap (λ (x : View). x.stage) is.4) (ap (λ (x : View). x.queue) is.4) (head_has body head v.queue)
 step_has v w (closed end) body is has = stays v w body (ap (λ (x : View). x.stage) is.4) (ap (λ (x : View). x.queue) is.4) has
+step_has v w continued body is has = stays v w body (ap (λ (x : View). x.stage) is.3) (ap (λ (x : View). x.queue) is.3) has
 step_has v w (ready request answer) body is has =
     keeps body (stage_asked request answer) w.stage v.queue w.queue (ap (λ (x : View). x.stage) is.3) (ap (λ (x : View). x.queue) is.3)
     (asked_has body request answer v.queue (subst (λ s. HasBody body s v.queue) is.0.1 has))
@@ -291,6 +292,7 @@ step_bound v w (shut answer) trace stands noted is b = to_queue v w v.queue (ap 
 step_bound v w (next head) trace stands noted is b =
     to_queue v w (queue_at head v.queue) is.3.settings (ap (λ (x : View). x.queue) is.4) (head_bound v.line.state.settings.h1_hold_size head v.queue b)
 step_bound v w (closed end) trace stands noted is b = to_queue v w v.queue is.3.1.settings (ap (λ (x : View). x.queue) is.4) b
+step_bound v w continued trace stands noted is b = to_queue v w v.queue is.2.settings (ap (λ (x : View). x.queue) is.3) b
 step_bound v w (ready request answer) trace stands noted is b = to_queue v w v.queue (ap (λ (x : View). x.line.state.settings) is.3) (ap (λ (x : View). x.queue) is.3) b
 step_bound v w (called request) trace stands noted is b = to_queue v w v.queue (ap (λ (x : View). x.line.state.settings) is.2.2) (ap (λ (x : View). x.queue) is.2.2) b
 step_bound v w (answered answer) trace stands noted is b =

@@ -1,6 +1,5 @@
 -- Where memory ran out, what was noted is a trace still.
-use Rattle.std.proofs.Common.{◌≡◌, Option, List, [], ◌∷◌, ◌++◌, Result, Ok, Err, Some, None, inl, inr, refl, sym, ap, ◌∙◌, subst, append_assoc}
-use Rattle.futures.specs.declared.task.Poll.{Poll}
+use Rattle.std.proofs.Common.{◌≡◌, Option, List, [], ◌∷◌, ◌++◌, Ok, Err, Some, None, sym, ap, ◌∙◌, subst, append_assoc}
 use Rattle.futures.specs.declared.task.Poll.TheVariants.{Ready, Pending}
 use Rattle.http_config.specs.Config.{Settings}
 use Rattle.http_bodies.specs.Giving.{Piece}
@@ -12,9 +11,9 @@ use Rattle.h1_model.specs.Sums as sums
 use Rattle.h1_model.specs.Trace.{IsTrace}
 use Rattle.h1_connection.specs.Meaning.{setting_of}
 use Rattle.h1_connection.specs.Steps.{Pair}
-use Rattle.h1_line.specs.Line.{LineView, SaysNoted, LineStands, LineFails}
+use Rattle.h1_line.specs.Line.{LineView, SaysNoted, LineStands}
 use Rattle.h1_dispatch.specs.View.{View}
-use Rattle.h1_dispatch.specs.Steps.{Step, Lacked, IsStep, IsRun, ticked, drained, written, read, shut, next, closed, ready, called, answered, pulled, paused, dropped, replied, sent, failed, failed_write, failed_read, failed_fed, failed_sent, asked_to_drain}
+use Rattle.h1_dispatch.specs.Steps.{Step, Lacked, IsStep, IsRun, ticked, drained, written, read, shut, next, closed, continued, ready, called, answered, pulled, paused, dropped, replied, sent, failed, failed_write, failed_read, failed_fed, failed_sent, asked_to_drain}
 use Rattle.h1_dispatch.specs.Traces.{IsNoted, AllNoted, NotesTrace}
 use Rattle.h1_dispatch.proofs.Traces.{run_follows}
 
@@ -56,6 +55,7 @@ lack_notes v w (read came answer) trace lacks is stands = absurd (lacks tt)
 lack_notes v w (shut answer) trace lacks is stands = absurd (lacks tt)
 lack_notes v w (next head) trace lacks is stands = absurd (lacks tt)
 lack_notes v w (closed end) trace lacks is stands = absurd (lacks tt)
+lack_notes v w continued trace lacks is stands = absurd (lacks tt)
 lack_notes v w (ready request answer) trace lacks is stands = absurd (lacks tt)
 lack_notes v w (called request) trace lacks is stands = absurd (lacks tt)
 lack_notes v w (answered answer) trace lacks is stands = absurd (lacks tt)

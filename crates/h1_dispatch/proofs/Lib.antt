@@ -13,3 +13,6 @@ pub mod Bounds
 pub mod Pulls
 pub mod Feeds
 pub mod Lacks
+pub mod Causes
+pub mod Once
+pub mod NoHeads

@@ -29,7 +29,10 @@ use Rattle.h1_connection.specs.Heads.{SaysNext}
 use Rattle.h1_connection.specs.State.{Is}
 use Rattle.h1_connection.specs.declared.connection.heads.NextHead.{NextHead}
 use Rattle.h1_line.specs.Line.{LineSteps, LineFails}
+use Rattle.http_types.specs.Response.{FullResponse}
 use Rattle.h1_dispatch.specs.declared.dispatcher.Ending.TheVariants.{Broken}
+use Rattle.h1_dispatch.specs.declared.dispatcher.Work.{Work}
+use Rattle.h1_dispatch.specs.declared.dispatcher.Work.TheVariants.{Replying}
 use Rattle.h1_dispatch.specs.View.{View, Answer, free, calling, replying, sending, is_busy, allows_chunk, allows, allows_next, has_write_room, allows_answer, any_answer, awaits_body, room}
 use Rattle.h1_dispatch.specs.Steps.{IsStep, Took, Wants, fed_with, pulled, paused, failed_fed, IsOfRead, Polls, replied, Sent, Lacked, queue_at, request_at, stage_at, ending_told, stage_answered, stage_replied, stage_sent, sent, failed_sent, read, next, answered, failed_read}
 use Rattle.h1_dispatch.proofs.Turns.{now_free, both_true}
@@ -120,6 +123,14 @@ replied_some body NoBody some = absurd (some (inl refl))
 replied_some body (Sized zero) some = absurd (some (inr refl))
 replied_some body (Sized (suc n)) some = refl
 replied_some body Stream some = refl
+
+-- the answer that is at hand is one
+abbrev response_in : {C B : Type 0} → Work C B → FullResponse B → FullResponse B
+response_in (Replying response) other = response
+response_in work other = other
+
+pub same_response : {C B : Type 0} (work : Work C B) (first second : FullResponse B) → work ≡ Replying first → work ≡ Replying second → second ≡ first
+same_response work first second is so = ap (λ x. response_in x first) (sym so ∙ is)
 
 -- an answer was handed on
 pub handed_on : (v w : View) (answer : Answer) → v.ending ≡ None → allows v on.drop_body ≡ false → v.stage ≡ replying answer → LineSteps v.line (on.answer (answer_of answer.head) (size_of answer.body.size)) (Is on.done) w.line

@@ -15,6 +15,7 @@ use Rattle.http_services.specs.Serving.{Serving}
 use Rattle.http_wires.specs.Wiring.{Wiring}
 use Rattle.h1_model.specs.Answer.{AnswerHead, shape_of, type_of}
 use Rattle.h1_model.specs.Answer as answers
+use Rattle.h1_model.specs.AnswerText.{interim_text}
 use Rattle.h1_model.specs.End.{End}
 use Rattle.h1_model.specs.Event as on
 use Rattle.h1_model.specs.Request.{BodyKind, no_body, fixed_body, chunked_body, raw_body, too_large, Reading, head_is, faulty}
@@ -39,7 +40,7 @@ use Rattle.h1_connection.specs.declared.connection.heads.NextHead.TheVariants as
 use Rattle.h1_line.specs.Line.{LineView, LineStands}
 use Rattle.h1_line.proofs.Lines.{fresh_line, says_none, says_empty}
 use Rattle.h1_dispatch.specs.View.{View, Asking, Answer, Stage, waiting, calling, replying, sending as goes_out, is_unanswered as is_unanswered_at, is_sending, any_answer, view_begun}
-use Rattle.h1_dispatch.specs.Steps.{Step, Goes, Wrote, Took, IsStep, IsRun, request_at, stage_at, stage_asked, stage_answered, stage_replied, stage_sent, Sent, ticked, drained, written, read, shut, next, closed, ready, called, answered, pulled, paused, dropped, replied, sent, failed, failed_write, failed_read, failed_fed, failed_sent, asked_to_drain}
+use Rattle.h1_dispatch.specs.Steps.{Step, Goes, Wrote, Took, IsStep, IsRun, request_at, stage_at, stage_asked, stage_answered, stage_replied, stage_sent, Sent, ticked, drained, written, read, shut, next, closed, continued, ready, called, answered, pulled, paused, dropped, replied, sent, failed, failed_write, failed_read, failed_fed, failed_sent, asked_to_drain}
 use Rattle.h1_dispatch.specs.Traces.{IsNoted, AllNoted}
 use Rattle.h1_dispatch.specs.Open.{IsTied, StaysTied}
 use Rattle.h1_dispatch.proofs.Pulls.{pull_frames}
@@ -209,6 +210,10 @@ ends_in : (k : Kept) (e : Option Exchange) → (asks e).1 ≡ true → asks (doi
 ends_in k None goes = absurd (cc goes)
 ends_in k (Some x) goes = asks_ended x x.reply k goes
 
+goes_ahead_in : (k : Kept) (bytes : List ℕ) (e : Option Exchange) → asks (doing_with (λ x k. record k { buffered = k.buffered ++ bytes; exchange = Some (record x { had_continue = true }) }) (record k { exchange = e })).kept.exchange ≡ asks e
+goes_ahead_in k bytes None = refl
+goes_ahead_in k bytes (Some x) = refl
+
 drops_in : (k : Kept) (e : Option Exchange) → asks (doing_with (λ x k. record k { exchange = Some (record x { was_dropped = true }) }) (record k { exchange = e })).kept.exchange ≡ asks e
 drops_in k None = refl
 drops_in k (Some x) = refl
@@ -331,6 +336,9 @@ step_ties v w (next head) noted is t =
 step_ties v w (closed end) noted is t =
     same v w on.next (SaysNext is.3.0) is.3.1 (ap (λ (x : View). x.stage) is.4)
     (λ out m. ends_so (setting_of v.line.state.settings) v.line.state.kept (closing_by (setting_of v.line.state.settings) v.line.state.kept) (end_of end) m.change is.1 m.changes) t
+step_ties v w continued noted is t =
+    same v w on.send_continue (Is on.done) is.2 (ap (λ (x : View). x.stage) is.3)
+    (λ out m. by_change _ _ _ m.changes (goes_ahead_in v.line.state.kept interim_text v.line.state.kept.exchange)) t
 step_ties v w (ready request answer) noted is t =
     still v w (ap (λ (x : View). x.line) is.3)
     (both_busy v w (waiting request) (stage_asked request answer) is.0.1 (ap (λ (x : View). x.stage) is.3) refl (asked_busy request answer)) t

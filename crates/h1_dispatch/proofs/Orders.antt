@@ -12,7 +12,7 @@ use Rattle.http_services.specs.Lent.{Took}
 use Rattle.http_services.specs.Serving.{Serving}
 use Rattle.h1_connection.specs.declared.connection.heads.NextHead.{NextHead}
 use Rattle.h1_dispatch.specs.View.{View, Asking, Answer, Stage, free, waiting, calling, replying, sending}
-use Rattle.h1_dispatch.specs.Steps.{Step, IsStep, IsRun, request_at, stage_at, stage_asked, stage_answered, stage_replied, stage_sent, ticked, drained, written, read, shut, next, closed, ready, called, answered, pulled, paused, dropped, replied, sent, failed, failed_write, failed_read, failed_fed, failed_sent, asked_to_drain}
+use Rattle.h1_dispatch.specs.Steps.{Step, IsStep, IsRun, request_at, stage_at, stage_asked, stage_answered, stage_replied, stage_sent, ticked, drained, written, read, shut, next, closed, continued, ready, called, answered, pulled, paused, dropped, replied, sent, failed, failed_write, failed_read, failed_fed, failed_sent, asked_to_drain}
 use Rattle.h1_dispatch.specs.Order.{waits_in, reply_in, calls_in, step_requests, step_calls, step_left, step_answers, step_replies, requests, calls, left, answers, replies, KeepsOrder}
 
 -- what one step keeps
@@ -104,6 +104,7 @@ step_keeps v w (read came answer) is = apart v w _ refl refl refl refl refl (ap 
 step_keeps v w (shut answer) is = apart v w _ refl refl refl refl refl (ap (λ (x : View). x.stage) is.2) (ap (λ (x : View). x.service) is.2)
 step_keeps v w (next head) is = handed v w head is.1 (ap (λ (x : View). x.stage) is.4) (ap (λ (x : View). x.service) is.4)
 step_keeps v w (closed end) is = apart v w _ refl refl refl refl refl (ap (λ (x : View). x.stage) is.4) (ap (λ (x : View). x.service) is.4)
+step_keeps v w continued is = apart v w _ refl refl refl refl refl (ap (λ (x : View). x.stage) is.3) (ap (λ (x : View). x.service) is.3)
 step_keeps v w (ready request answer) is = asked v w request answer is.0.1 (ap (λ (x : View). x.stage) is.3) (told v w is.2.called)
 step_keeps v w (called request) is = by_stage v w (called request) (waiting request) (calling is.2.0) is.0.1 (ap (λ (x : View). x.stage) is.2.2) refl refl refl (subst (λ c. Grows c w.service.called (request ∷ [])) is.1.is_ready.called is.1.begun.called)
 step_keeps v w (answered answer) is = polled v w is.took is.more answer is.calls (ap (λ (x : View). x.stage) is.same) (told v w is.says.called)

@@ -32,7 +32,7 @@ use Rattle.h1_connection.specs.declared.connection.ticks.Expiry.{Expiry}
 use Rattle.h1_connection.specs.declared.connection.ticks.Expiry.TheVariants as expiries
 use Rattle.h1_line.specs.Line.{LineView, LineStands}
 use Rattle.h1_dispatch.specs.View.{View, buffered, room}
-use Rattle.h1_dispatch.specs.Steps.{Step, Goes, Wrote, Took, Sent, IsStep, IsRun, request_at, ticked, drained, written as wrote, read, shut, next, closed, ready, called, answered, pulled, paused, dropped, replied, sent, failed, failed_write, failed_read, failed_fed, failed_sent, asked_to_drain}
+use Rattle.h1_dispatch.specs.Steps.{Step, Goes, Wrote, Took, Sent, IsStep, IsRun, request_at, ticked, drained, written as wrote, read, shut, next, closed, continued, ready, called, answered, pulled, paused, dropped, replied, sent, failed, failed_write, failed_read, failed_fed, failed_sent, asked_to_drain}
 use Rattle.h1_dispatch.specs.Traces.{IsNoted, AllNoted, of_answer, answers_in, piece_hands, step_hands, hands, of_request, requests_in, Came, heads_of, pieces_of, step_came, came, AreCame, Follows, AreTraces}
 
 -- ---- sums
@@ -266,6 +266,7 @@ step_follows v w (read came answer) noted is = took v w came is.2.0 answer is.2.
 step_follows v w (shut answer) noted is = still v w (ap (λ (x : View). x.line) is.2) (same_grows _ _ is.1.received) (same_grows _ _ is.1.sent)
 step_follows v w (next head) noted is = asked v w head (ap (λ (x : View). x.wire) is.4) is.3
 step_follows v w (closed end) noted is = told_end v w (end_of end) is.3.0 (ap (λ (x : View). x.wire) is.4) is.1 is.3.1
+step_follows v w continued noted is = done v w on.send_continue (ap (λ (x : View). x.wire) is.3) refl is.2
 step_follows v w (ready request answer) noted is = wire_same v w (ap (λ (x : View). x.line) is.3) (ap (λ (x : View). x.wire) is.3)
 step_follows v w (called request) noted is = wire_same v w (ap (λ (x : View). x.line) is.2.2) (ap (λ (x : View). x.wire) is.2.2)
 step_follows v w (answered answer) noted is = wire_same v w (ap (λ (x : View). x.line) is.same) (ap (λ (x : View). x.wire) is.same)

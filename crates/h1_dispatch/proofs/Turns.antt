@@ -22,7 +22,7 @@ use Rattle.http_types.specs.declared.error.DispatchError.{DispatchError}
 use Rattle.h1_dispatch.specs.declared.dispatcher.Ending.TheVariants.{Closed}
 use Rattle.h1_dispatch.specs.declared.dispatcher.Turn.{Turn}
 use Rattle.h1_dispatch.specs.declared.dispatcher.Turn.TheVariants.{Counted, Idle, Over}
-use Rattle.h1_dispatch.specs.View.{View, Asking, Stage, free, waiting, calling, replying, sending, is_busy, is_waiting, is_calling, is_awaiting, is_sending, allows_chunk, closes, allows, allows_next, has_write_room, asks_next, allows_answer, awaits_body, buffered, HasNoOutput, HasNoInput}
+use Rattle.h1_dispatch.specs.View.{View, Asking, Stage, free, waiting, calling, replying, sending, is_busy, is_waiting, is_calling, is_awaiting, is_sending, allows_chunk, closes, allows, allows_next, has_write_room, asks_next, allows_answer, awaits_body, buffered, HasNoByte, HasNoOutput, HasNoInput}
 use Rattle.h1_dispatch.specs.Steps.{Step, IsStep, written, shut, next, ready, called, answered, sent}
 use Rattle.h1_dispatch.specs.Polls.{Continues, IsShut, Ended, result_of, counts, Awaits, Looks, Sends, Serves, Feeds, IsHeld, GoesOn, Ends, WritesFirst, TurnSays, ServeSays, AfterSays, EndSays, StepSays, ReadingSays, FeedingSays, TurnsSay}
 use Rattle.h1_dispatch.proofs.Runs.{one, run_on, all_on, progress_on, goes_by, ends_by, goes_after, ends_after, more_goes, more_ends}
@@ -154,6 +154,25 @@ input_then v w (Over result) none waits says = more_ends v w result 1 4 (omega a
 
 -- ---- the body of a request
 
+-- where none of the request's answer was tried
+pub fed_then : (v w : View) (turn : Turn) → Serves v (is_sending v.stage) (allows_answer v) [] → FeedingSays v w turn → ServeSays 4 v w turn
+fed_then v w Counted waits says = more_goes v w 1 2 4 (omega arith) says
+fed_then v w Idle waits says =
+    record {
+      served = [];
+      between = v;
+      serves = refl;
+      feeding = says.feeding;
+      fed = says.fed;
+      feeds = says.feeds;
+      reading = says.reading;
+      reads = says.reads;
+      waits = waits;
+      no_body = says.no_body;
+      no_input = says.no_input;
+    }
+fed_then v w (Over result) waits says = more_ends v w result 2 4 (omega arith) says
+
 -- none comes, or nobody wants it
 pub unfed_then : (v w : View) (turn : Turn) → (awaits_body v ≡ false) ⊎ (status_of v.queue ≡ status.Dropped) → ReadingSays v w turn → FeedingSays v w turn
 unfed_then v w Counted none says = more_goes v w 1 1 2 (omega arith) says
@@ -214,12 +233,12 @@ now_calling (sending body) is = absurd (cc is)
 
 -- ---- what was pending
 
-serves_by : (v : View) (sends allows : Bool) (served : List Step) → sends ≡ false → allows ≡ true → Awaits v.stage served → Serves v sends allows served
+serves_by : (v : View) (sends allows : Bool) (served : List Step) → sends ≡ false → allows ≡ true → Awaits v.stage (has_write_room v) served → Serves v sends allows served
 serves_by v false true served unsent is waits = waits
 serves_by v false false served unsent is waits = absurd (cc is)
 serves_by v true allows served unsent is waits = absurd (cc unsent)
 
-looks_by : (v : View) (sends allows : Bool) (served : List Step) → sends ≡ false → allows ≡ false → Looks (asks_next v) v.stage served → Serves v sends allows served
+looks_by : (v : View) (sends allows : Bool) (served : List Step) → sends ≡ false → allows ≡ false → Looks v (asks_next v) v.stage served → Serves v sends allows served
 looks_by v false false served unsent is looks = looks
 looks_by v false true served unsent is looks = absurd (cc is)
 looks_by v true allows served unsent is looks = absurd (cc unsent)
@@ -235,13 +254,21 @@ pub waits_room : (v : View) → is_sending v.stage ≡ true → allows_chunk v �
 waits_room v goes_out full = sends_by v (is_sending v.stage) (allows_answer v) _ goes_out (subst (λ b. Sends b []) (sym full) refl)
 
 pub waits_call : (v : View) (took : Option Took) → allows_answer v ≡ true → v.stage ≡ calling took → Serves v (is_sending v.stage) (allows_answer v) (answered Pending ∷ [])
-waits_call v took allowed is = serves_by v (is_sending v.stage) (allows_answer v) _ (ap is_sending is) allowed (subst (λ s. Awaits s (answered Pending ∷ [])) (sym is) refl)
+waits_call v took allowed is = serves_by v (is_sending v.stage) (allows_answer v) _ (ap is_sending is) allowed (subst (λ s. Awaits s (has_write_room v) (answered Pending ∷ [])) (sym is) refl)
 
-pub waits_ready : (v : View) (request : Asking) → allows_answer v ≡ true → v.stage ≡ waiting request → Serves v (is_sending v.stage) (allows_answer v) (ready request Pending ∷ [])
-waits_ready v request allowed is = serves_by v (is_sending v.stage) (allows_answer v) _ (ap is_sending is) allowed (subst (λ s. Awaits s (ready request Pending ∷ [])) (sym is) (inl refl))
+pub waits_ready : (v : View) (request : Asking) → allows_answer v ≡ true → has_write_room v ≡ true → v.stage ≡ waiting request → Serves v (is_sending v.stage) (allows_answer v) (ready request Pending ∷ [])
+waits_ready v request allowed some is =
+    serves_by v (is_sending v.stage) (allows_answer v) _ (ap is_sending is) allowed
+    (subst (λ s. Awaits s (has_write_room v) (ready request Pending ∷ [])) (sym is) (subst (λ b. Awaits (waiting request) b (ready request Pending ∷ [])) (sym some) (inl refl)))
+
+-- and where there is no room for its answer
+pub waits_crowded : (v : View) (request : Asking) → allows_answer v ≡ true → has_write_room v ≡ false → v.stage ≡ waiting request → Serves v (is_sending v.stage) (allows_answer v) []
+waits_crowded v request allowed full is =
+    serves_by v (is_sending v.stage) (allows_answer v) _ (ap is_sending is) allowed
+    (subst (λ s. Awaits s (has_write_room v) []) (sym is) (subst (λ b. Awaits (waiting request) b []) (sym full) refl))
 
 pub waits_none : (v : View) → allows_answer v ≡ true → v.stage ≡ free → Serves v (is_sending v.stage) (allows_answer v) []
-waits_none v allowed is = serves_by v (is_sending v.stage) (allows_answer v) _ (ap is_sending is) allowed (subst (λ s. Awaits s []) (sym is) refl)
+waits_none v allowed is = serves_by v (is_sending v.stage) (allows_answer v) _ (ap is_sending is) allowed (subst (λ s. Awaits s (has_write_room v) []) (sym is) refl)
 
 pub both_true : (a b : Bool) → a ≡ true → b ≡ true → (a && b) ≡ true
 both_true a b is so = ap (λ x. x && b) is ∙ so
@@ -268,46 +295,52 @@ coming_body v is may comes = both_true (is_awaiting v.stage) (allows_answer v &&
 
 pub waits_head : (v : View) → allows_answer v ≡ false → asks_next v ≡ true → v.stage ≡ free → Serves v (is_sending v.stage) (allows_answer v) (next next_head.Pending ∷ [])
 waits_head v off may is =
-    looks_by v (is_sending v.stage) (allows_answer v) _ (ap is_sending is) off (subst (λ m. Looks m v.stage (next next_head.Pending ∷ [])) (sym may) (subst (λ s. Looks true s (next next_head.Pending ∷ [])) (sym is) refl))
+    looks_by v (is_sending v.stage) (allows_answer v) _ (ap is_sending is) off (subst (λ m. Looks v m v.stage (next next_head.Pending ∷ [])) (sym may) (subst (λ s. Looks v true s (next next_head.Pending ∷ [])) (sym is) (inl refl)))
 
-looks_not : (may : Bool) (s : Stage) → may ≡ false → Looks may s []
-looks_not false s is = refl
-looks_not true s is = absurd (cc is)
+-- and where no byte of one is there
+pub waits_unread : (v : View) → allows_answer v ≡ false → asks_next v ≡ true → v.stage ≡ free → HasNoByte v → Serves v (is_sending v.stage) (allows_answer v) []
+waits_unread v off may is none =
+    looks_by v (is_sending v.stage) (allows_answer v) _ (ap is_sending is) off (subst (λ m. Looks v m v.stage []) (sym may) (subst (λ s. Looks v true s []) (sym is) (inr (refl, none))))
 
-looks_busy : (may : Bool) (s : Stage) → is_busy s ≡ true → Looks may s []
-looks_busy true (waiting request) is = refl
-looks_busy true (calling took) is = refl
-looks_busy true (replying answer) is = refl
-looks_busy true (sending body) is = refl
-looks_busy true free is = absurd (cc is)
-looks_busy false s is = refl
+looks_not : (v : View) (may : Bool) (s : Stage) → may ≡ false → Looks v may s []
+looks_not v false s is = refl
+looks_not v true s is = absurd (cc is)
+
+looks_busy : (v : View) (may : Bool) (s : Stage) → is_busy s ≡ true → Looks v may s []
+looks_busy v true (waiting request) is = refl
+looks_busy v true (calling took) is = refl
+looks_busy v true (replying answer) is = refl
+looks_busy v true (sending body) is = refl
+looks_busy v true free is = absurd (cc is)
+looks_busy v false s is = refl
 
 pub waits_not : (v : View) → is_sending v.stage ≡ false → allows_answer v ≡ false → allows_next v ≡ false → Serves v (is_sending v.stage) (allows_answer v) []
 waits_not v unsent off may =
-    looks_by v (is_sending v.stage) (allows_answer v) _ unsent off (looks_not (asks_next v) v.stage (first_false (allows_next v) (has_write_room v) may))
+    looks_by v (is_sending v.stage) (allows_answer v) _ unsent off (looks_not v (asks_next v) v.stage (first_false (allows_next v) (has_write_room v) may))
 
 -- and where there is no room for an answer
 pub waits_full : (v : View) → is_sending v.stage ≡ false → allows_answer v ≡ false → has_write_room v ≡ false → Serves v (is_sending v.stage) (allows_answer v) []
 waits_full v unsent off full =
-    looks_by v (is_sending v.stage) (allows_answer v) _ unsent off (looks_not (asks_next v) v.stage (last_false (allows_next v) (has_write_room v) full))
+    looks_by v (is_sending v.stage) (allows_answer v) _ unsent off (looks_not v (asks_next v) v.stage (last_false (allows_next v) (has_write_room v) full))
 
 pub waits_busy : (v : View) → is_sending v.stage ≡ false → allows_answer v ≡ false → is_busy v.stage ≡ true → Serves v (is_sending v.stage) (allows_answer v) []
-waits_busy v unsent off busy = looks_by v (is_sending v.stage) (allows_answer v) _ unsent off (looks_busy (asks_next v) v.stage busy)
+waits_busy v unsent off busy = looks_by v (is_sending v.stage) (allows_answer v) _ unsent off (looks_busy v (asks_next v) v.stage busy)
 
 -- a call was begun, and polled at once
 called_awaits : (u : View) (sends allows : Bool) (served : List Step) (took : Option Took) → sends ≡ false → allows ≡ true → u.stage ≡ calling took → Serves u sends allows served
     → served ≡ answered Pending ∷ []
-called_awaits u false true served took unsent is now waits = subst (λ s. Awaits s served) now waits
+called_awaits u false true served took unsent is now waits = subst (λ s. Awaits s (has_write_room u) served) now waits
 called_awaits u false false served took unsent is now waits = absurd (cc is)
 called_awaits u true allows served took unsent is now waits = absurd (cc unsent)
 
-awaits_called : (s : Stage) (request : Asking) (served : List Step) → s ≡ waiting request → served ≡ answered Pending ∷ [] → Awaits s (called request ∷ served)
-awaits_called s request served is so = subst (λ x. Awaits x (called request ∷ served)) (sym is) (inr (ap (λ l. called request ∷ l) so))
+awaits_called : (s : Stage) (room : Bool) (request : Asking) (served : List Step) → s ≡ waiting request → room ≡ true → served ≡ answered Pending ∷ [] → Awaits s room (called request ∷ served)
+awaits_called s room request served is some so =
+    subst (λ x. Awaits x room (called request ∷ served)) (sym is) (subst (λ b. Awaits (waiting request) b (called request ∷ served)) (sym some) (inr (ap (λ l. called request ∷ l) so)))
 
-pub called_then : (v u w : View) (request : Asking) (took : Option Took) (turn : Turn) → IsStep v (called request) u → allows_answer v ≡ true → allows_answer u ≡ true
+pub called_then : (v u w : View) (request : Asking) (took : Option Took) (turn : Turn) → IsStep v (called request) u → allows_answer v ≡ true → has_write_room v ≡ true → allows_answer u ≡ true
     → v.stage ≡ waiting request → u.stage ≡ calling took → ServeSays 3 u w turn → ServeSays 4 v w turn
-called_then v u w request took Counted is may allowed waits now says = goes_after v u w 0 1 1 (omega arith) 1 3 4 (omega arith) (goes_by 1 (omega arith) v u (called request) 0 is tt (omega arith)) says
-called_then v u w request took Idle is may allowed waits now says =
+called_then v u w request took Counted is may some allowed waits now says = goes_after v u w 0 1 1 (omega arith) 1 3 4 (omega arith) (goes_by 1 (omega arith) v u (called request) 0 is tt (omega arith)) says
+called_then v u w request took Idle is may some allowed waits now says =
     record {
       served = called request ∷ says.served;
       between = says.between;
@@ -318,11 +351,11 @@ called_then v u w request took Idle is may allowed waits now says =
       reading = says.reading;
       reads = says.reads;
       waits = serves_by v (is_sending v.stage) (allows_answer v) (called request ∷ says.served) (ap is_sending waits) may
-          (awaits_called v.stage request says.served waits (called_awaits u (is_sending u.stage) (allows_answer u) says.served took (ap is_sending now) allowed now says.waits));
+          (awaits_called v.stage (has_write_room v) request says.served waits some (called_awaits u (is_sending u.stage) (allows_answer u) says.served took (ap is_sending now) allowed now says.waits));
       no_body = says.no_body;
       no_input = says.no_input;
     }
-called_then v u w request took (Over result) is may allowed waits now says = ends_after v u w 0 result 1 3 4 (omega arith) (goes_by 1 (omega arith) v u (called request) 0 is tt (omega arith)) says
+called_then v u w request took (Over result) is may some allowed waits now says = ends_after v u w 0 result 1 3 4 (omega arith) (goes_by 1 (omega arith) v u (called request) 0 is tt (omega arith)) says
 
 -- ---- after the writing
 

@@ -1,14 +1,15 @@
 -- How many bytes wait to be written, over a run.
 use Rattle.std.specs.Prelude.{◌≡◌, ◌≤◌, ◌⊎◌, true, ⊤, length}
 use Rattle.h1_connection.specs.declared.connection.ticks.Expiry.TheVariants.{Expired}
-use Rattle.h1_dispatch.specs.View.{View, is_unanswered, has_write_room, buffered, closes}
+use Rattle.h1_dispatch.specs.View.{View, is_asked, has_write_room, buffered, closes}
 use Rattle.h1_dispatch.specs.Steps.{Step, ticked}
 use Rattle.h1_dispatch.specs.Open.{IsTied}
 
--- The open request of the connection is at hand; and while it has no answer, there is room for one.
+-- The open request of the connection is at hand; and once the service has it, until its answer is handed on, there is room for
+-- that.
 pub record HasRoomForAnswer (v : View) : Type 0 where
   pub tied : IsTied v
-  pub room : is_unanswered v.stage ≡ true → has_write_room v ≡ true
+  pub room : is_asked v.stage ≡ true → has_write_room v ≡ true
 
 -- a time ran out, which the connection may answer itself
 abbrev pub HasExpired : Step → Type 0

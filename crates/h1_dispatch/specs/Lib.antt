@@ -8,3 +8,4 @@ pub mod Open
 pub mod Bodies
 pub mod Feeds
 pub mod Bounds
+pub mod Causes

@@ -22,8 +22,8 @@ use Rattle.h1_connection.specs.declared.event.End.TheVariants as ends
 use Rattle.h1_dispatch.specs.declared.dispatcher.Ending.TheVariants.{Closed, Abandoned, Broken}
 use Rattle.h1_dispatch.specs.declared.dispatcher.Turn.{Turn}
 use Rattle.h1_dispatch.specs.declared.dispatcher.Turn.TheVariants.{Counted, Idle, Over}
-use Rattle.h1_dispatch.specs.View.{View, Stage, free, waiting, calling, replying, sending, is_sending, is_broken, closes, allows, allows_next, asks_next, allows_answer, awaits_body, allows_chunk, HasNoOutput, HasNoInput}
-use Rattle.h1_dispatch.specs.Steps.{Step, IsStep, IsRun, ticked, drained, written, read, shut, next, closed, ready, called, answered, pulled, paused, dropped, replied, sent, failed, failed_write, failed_read, failed_fed, failed_sent, asked_to_drain}
+use Rattle.h1_dispatch.specs.View.{View, Stage, free, waiting, calling, replying, sending, is_sending, is_broken, closes, allows, allows_next, has_write_room, asks_next, allows_answer, awaits_body, allows_chunk, HasNoByte, HasNoOutput, HasNoInput}
+use Rattle.h1_dispatch.specs.Steps.{Step, IsStep, IsRun, ticked, drained, written, read, shut, next, closed, continued, ready, called, answered, pulled, paused, dropped, replied, sent, failed, failed_write, failed_read, failed_fed, failed_sent, asked_to_drain}
 
 -- ---- steps
 
@@ -47,6 +47,7 @@ Continues (read came answer) = HasNotFailed answer
 Continues (shut answer) = IsPending answer
 Continues (next head) = ⊤
 Continues (closed end) = ⊤
+Continues continued = ⊤
 Continues (ready request answer) = ⊤
 Continues (called request) = ⊤
 Continues (answered answer) = ⊤
@@ -98,6 +99,7 @@ counts (written answer) = moves answer
 counts (read came answer) = moves answer
 counts (next head) = comes head
 counts (closed end) = 1
+counts continued = 1
 counts (pulled piece) = brings piece
 counts dropped = 1
 counts (replied answer) = 1
@@ -167,23 +169,25 @@ Ended w steps (Err error.InternalError) = ⊥
 
 -- ---- waiting
 
--- the open request may be answered: its call was pending, or the service was
-abbrev pub Awaits : Stage → List Step → Type 0
-Awaits free served = served ≡ []
-Awaits (waiting request) served = (served ≡ ready request Pending ∷ []) ⊎ (served ≡ called request ∷ answered Pending ∷ [])
-Awaits (calling took) served = served ≡ answered Pending ∷ []
-Awaits (replying answer) served = ⊥
-Awaits (sending body) served = ⊥
+-- the open request may be answered: its call was pending, or the service was, or there is no room for its answer until more
+-- is written
+abbrev pub Awaits : Stage → Bool → List Step → Type 0
+Awaits free room served = served ≡ []
+Awaits (waiting request) true served = (served ≡ ready request Pending ∷ []) ⊎ (served ≡ called request ∷ answered Pending ∷ [])
+Awaits (waiting request) false served = served ≡ []
+Awaits (calling took) room served = served ≡ answered Pending ∷ []
+Awaits (replying answer) room served = ⊥
+Awaits (sending body) room served = ⊥
 
--- no request may be answered: no head was there, or none may be asked for, or there is no room for its answer until more is
--- written
-abbrev pub Looks : Bool → Stage → List Step → Type 0
-Looks true free served = served ≡ next next_head.Pending ∷ []
-Looks true (waiting request) served = served ≡ []
-Looks true (calling took) served = served ≡ []
-Looks true (replying answer) served = served ≡ []
-Looks true (sending body) served = served ≡ []
-Looks false stage served = served ≡ []
+-- no request may be answered: no head was there, or no byte of one is, or none may be asked for, or there is no room for its
+-- answer until more is written
+abbrev pub Looks : View → Bool → Stage → List Step → Type 0
+Looks v true free served = (served ≡ next next_head.Pending ∷ []) ⊎ ((served ≡ []) × HasNoByte v)
+Looks v true (waiting request) served = served ≡ []
+Looks v true (calling took) served = served ≡ []
+Looks v true (replying answer) served = served ≡ []
+Looks v true (sending body) served = served ≡ []
+Looks v false stage served = served ≡ []
 
 -- the answer's body goes out: it was pending, or there is no room for a piece of it until more is written
 abbrev pub Sends : Bool → List Step → Type 0
@@ -193,8 +197,8 @@ Sends false served = served ≡ []
 -- the body, or else the service and the connection wait, from this view on
 abbrev pub Serves : View → Bool → Bool → List Step → Type 0
 Serves v true allows served = Sends (allows_chunk v) served
-Serves v false true served = Awaits v.stage served
-Serves v false false served = Looks (asks_next v) v.stage served
+Serves v false true served = Awaits v.stage (has_write_room v) served
+Serves v false false served = Looks v (asks_next v) v.stage served
 
 -- then more of the open request's body: nothing more was there, or its queue wants no more for now and is waited for; or its
 -- body is done with, or the service has dropped it

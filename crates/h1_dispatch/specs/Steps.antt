@@ -39,15 +39,15 @@ use Rattle.h1_connection.specs.declared.event.End.{End}
 use Rattle.h1_line.specs.Line.{LineView, LineSteps, LineFails}
 use Rattle.h1_dispatch.specs.declared.dispatcher.Ending.{Ending}
 use Rattle.h1_dispatch.specs.declared.dispatcher.Ending.TheVariants.{Closed, Abandoned, Broken}
-use Rattle.h1_dispatch.specs.View.{View, Asking, Answer, Stage, free, waiting, calling, replying, sending, is_replying, awaits_body, with_drain, closes, allows, allows_next, has_write_room, asks_next, allows_answer, allows_chunk, buffered, room}
+use Rattle.h1_dispatch.specs.View.{View, Asking, Answer, Stage, free, waiting, calling, replying, sending, is_waiting, is_replying, awaits_body, with_drain, closes, allows, allows_next, has_write_room, asks_next, allows_answer, allows_chunk, buffered, room}
 
 -- A step. A moment came; the drain came; the wire was given what waits to be written; it was asked for bytes, and these
--- came; it was shut down; the next head was asked for; the connection closes, and told its end; the service was asked
--- whether it takes a call with a request, and takes none; it takes one, and the call was begun; a call was polled; more of
--- a request's body was asked for, and what came was fed to its queue; the queue wants no more for now; the rest of a body
--- was dropped; the answer was handed on; its body was polled, and what came was handed on. Or memory ran out: for an event,
--- for that of bytes which the wire had moved, for bytes that came of a request's body, or for what came of an answer's. Or
--- it was asked to drain, which no poll does.
+-- came; it was shut down; the next head was asked for; the connection closes, and told its end; the client of the request
+-- that waits was told to go on; the service was asked whether it takes a call with a request, and takes none; it takes one,
+-- and the call was begun; a call was polled; more of a request's body was asked for, and what came was fed to its queue; the
+-- queue wants no more for now; the rest of a body was dropped; the answer was handed on; its body was polled, and what came
+-- was handed on. Or memory ran out: for an event, for that of bytes which the wire had moved, for bytes that came of a
+-- request's body, or for what came of an answer's. Or it was asked to drain, which no poll does.
 pub data Step : Type 0 where
   ticked : (moment : ℕ) → (expiry : Expiry) → Step
   drained : Step
@@ -56,6 +56,7 @@ pub data Step : Type 0 where
   shut : (answer : Poll (Result Unit Failed)) → Step
   next : (head : NextHead) → Step
   closed : (end : End) → Step
+  continued : Step
   ready : (request : Asking) → (answer : Poll (Result Unit Answer)) → Step
   called : (request : Asking) → Step
   answered : (answer : Poll (Result Answer Answer)) → Step
@@ -220,22 +221,29 @@ pub record Begins (old new : Serving Asking Answer Answer) (request : Asking) : 
   pub is_ready : ReadySays old between (Ready (Ok tt))
   pub begun : CallSays between new request
 
+-- the client of the request that waits is told to go on, where there is room for the answer
+abbrev pub TellsOn : View → Type 0
+TellsOn v = (v.ending ≡ None) × (is_waiting v.stage ≡ true) × (has_write_room v ≡ true)
+
 -- the service is asked, with the request that waits, where the open request may be answered, which it may not while the
--- connection closes
+-- connection closes, where there is room for the answer, and where its client doesn't wait to be told to go on
 abbrev pub IsAsked : View → Asking → Type 0
-IsAsked v request = (v.ending ≡ None) × (v.stage ≡ waiting request) × (allows_answer v ≡ true)
+IsAsked v request =
+    (v.ending ≡ None) × (v.stage ≡ waiting request) × (allows_answer v ≡ true) × (has_write_room v ≡ true)
+    × (allows v on.send_continue ≡ false)
 
 -- an answer is handed on once what is left of its request's body was dropped, wherever it may be dropped
 abbrev pub MayReply : View → Type 0
 MayReply v = (v.ending ≡ None) × (allows v on.drop_body ≡ false)
 
 -- memory ran out for one of these, where it is allowed: the moment, the drain where it was asked for, the next head, or the
--- end of a connection that closes, more of a body where its queue wants it, the rest of a body where the answer is there, or
--- this answer
+-- end of a connection that closes, that a client is to go on, more of a body where its queue wants it, the rest of a body where
+-- the answer is there, or this answer
 abbrev pub MayFail : View → on.Event → Type 0
 MayFail v (on.tick moment) = allows v (on.tick moment) ≡ true
 MayFail v on.drain = (v.draining ≡ true) × (allows v on.drain ≡ true)
 MayFail v on.next = (v.ending ≡ None) × (allows_next v ≡ true) × ((closes v ≡ true) ⊎ (has_write_room v ≡ true))
+MayFail v on.send_continue = TellsOn v × (allows v on.send_continue ≡ true)
 MayFail v on.pull = Wants v
 MayFail v on.drop_body = (v.ending ≡ None) × (is_replying v.stage ≡ true) × (allows v on.drop_body ≡ true)
 MayFail v (on.answer head size) =
@@ -269,6 +277,9 @@ IsStep v (closed end) w =
     (v.ending ≡ None) × (closing_by (setting_of v.line.state.settings) v.line.state.kept ≡ Some (end_of end))
     × (allows_next v ≡ true) × ((head : NextHead) × Goes v.line on.next (SaysNext head) w.line)
     × (w ≡ record v { line = w.line; ending = Some (Closed end) })
+IsStep v continued w =
+    TellsOn v × (allows v on.send_continue ≡ true) × Goes v.line on.send_continue (Is on.done) w.line
+    × (w ≡ record v { line = w.line })
 IsStep v (ready request answer) w =
     IsAsked v request × TakesNone answer × ReadySays v.service w.service answer
     × (w ≡ record v { service = w.service; stage = stage_asked request answer })

@@ -1,5 +1,5 @@
 -- What a dispatcher keeps, and what is known of what it stands on.
-use Rattle.std.specs.Prelude.{◌≡◌, ◌-◌, ◌⊎◌, ◌&&◌, ℕ, Bool, true, false, Option, Some, None, is_some, option_map, List, [], map, length, ⊤, Result, Ok, Err}
+use Rattle.std.specs.Prelude.{◌≡◌, ◌<◌, ◌-◌, ◌⊎◌, ◌&&◌, ℕ, Bool, true, false, Option, Some, None, is_some, option_map, List, [], map, length, ⊤, Result, Ok, Err}
 use Rattle.http_config.specs.Config.{Settings}
 use Rattle.http_types.specs.Request.{RequestParts}
 use Rattle.http_types.specs.Response.{FullResponse}
@@ -80,6 +80,14 @@ is_unanswered (waiting request) = true
 is_unanswered (calling took) = true
 is_unanswered (replying answer) = true
 is_unanswered (sending body) = false
+
+-- the service has the request, and its answer wasn't handed on
+abbrev pub is_asked : Stage → Bool
+is_asked free = false
+is_asked (waiting request) = false
+is_asked (calling took) = true
+is_asked (replying answer) = true
+is_asked (sending body) = false
 
 abbrev pub is_waiting : Stage → Bool
 is_waiting (waiting request) = true
@@ -213,6 +221,10 @@ buffered v = v.line.state.kept.buffered
 -- how many more bytes may be held
 abbrev pub room : View → ℕ
 room v = v.line.state.settings.h1_hold_size - length v.line.state.kept.unread
+
+-- no byte of a head is there, and some may be held
+abbrev pub HasNoByte : View → Type 0
+HasNoByte v = (length v.line.state.kept.unread ≡ 0) × (0 < room v)
 
 -- nothing waits to be written, or nothing may be written any more
 abbrev pub HasNoOutput : View → Type 0

@@ -101,6 +101,7 @@ pub struct Dispatcher<T, S, C, L, B = ()> {
     work: Work<C, B>,
     ending: Option<Ending>,
     is_draining: bool,
+    has_filled_read: bool,
 }
 
 impl<T, S, L, B> Dispatcher<T, S, S::Call, L, B>
@@ -131,6 +132,7 @@ where
             work: Work::Free,
             ending: None,
             is_draining: false,
+            has_filled_read: false,
         }
     }
 

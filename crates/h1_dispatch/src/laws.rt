@@ -1,7 +1,9 @@
 //! What the steps of every run are together.
-ghost use Rattle.std.specs.Prelude.{◌≡◌, ◌≤◌, ℕ, true, List, Option, Some, None, [], ◌∷◌, length, Err};
+ghost use Rattle.std.specs.Prelude.{◌≡◌, ◌≤◌, ℕ, true, false, List, Option, Some, None, [], ◌∷◌, length, Result, Err};
 ghost use Rattle.futures.specs.declared.task.Poll.TheVariants.{Ready};
+ghost use Rattle.futures.specs.declared.task.context.Context.{Context};
 ghost use Rattle.http_config.specs.Config.{Settings};
+ghost use Rattle.http_types.specs.declared.error.DispatchError.{DispatchError};
 ghost use Rattle.http_bodies.specs.Giving.{Giving, Piece};
 ghost use Rattle.http_bodies.specs.declared.body.fault.BodyFault.TheVariants.{Body};
 ghost use Rattle.http_services.specs.Serving.{Serving};
@@ -11,7 +13,8 @@ ghost use Rattle.h1_machine.specs.Local.{has_room};
 ghost use Rattle.h1_connection.specs.Meaning.{setting_of};
 ghost use Rattle.h1_line.specs.Line.{LineStands};
 ghost use Rattle.h1_connection.specs.declared.connection.heads.NextHead.{NextHead};
-ghost use Rattle.h1_dispatch.specs.View.{View, Asking, Answer, has_write_room, view_begun};
+ghost use Rattle.h1_connection.specs.declared.connection.heads.NextHead.TheVariants.{Pending};
+ghost use Rattle.h1_dispatch.specs.View.{View, Asking, Answer, closes, has_write_room, HasNoByte, view_begun};
 ghost use Rattle.h1_dispatch.specs.Steps.{Step, IsStep, IsRun, Polls, Wants, next, pulled, replied, sent, stage_replied};
 ghost use Rattle.h1_dispatch.specs.Bounds.{HasRoomForAnswer, GrowsInRoom};
 ghost use Rattle.h1_dispatch.specs.Bodies.{SendsBody, OnlyEnds};
@@ -22,11 +25,27 @@ ghost use Rattle.h1_dispatch.specs.Order.{KeepsOrder};
 ghost use Rattle.h1_dispatch.specs.Open.{IsTied, StaysTied};
 ghost use Rattle.h1_dispatch.specs.Traces.{IsNoted, AllNoted, AreTraces, NotesTrace};
 ghost use Rattle.h1_dispatch.specs.Acts.{Act, ActsSay, AreOneRun};
+ghost use Rattle.h1_dispatch.specs.Causes.{HasCause};
+ghost use Rattle.h1_dispatch.specs.Polls.{PollSays};
 
 /// Polls one after another, with drains asked for between them, are one run of steps: the moment, the drain and the turns
 /// of each. Memory runs out in none of its steps, unless a poll answered so.
 pub fn polls_are_one_run()
     ensures { (v w : View) (acts : List Act) → ActsSay v acts w → AreOneRun v acts w }
+{}
+
+/// Where no byte is held, and some may be, no head is there: it would be pending if it were asked for, while the connection
+/// doesn't close. So a poll that is pending needn't have asked.
+pub fn no_head_comes_of_no_byte()
+    ensures { (v w : View) (head : NextHead) (trace : List sums.Step) → LineStands v.line trace → closes v ≡ false → HasNoByte v → IsStep v (next head) w → head ≡ Pending }
+{}
+
+/// Each result of a poll has its cause. Ok, `Parse`, `SlowRequestTimeout` and `Body` come only where the connection told such
+/// an end, and the wire shows that it was shut down; `DisconnectTimeout` only where a moment abandoned the connection; `Io`
+/// only where the wire's count of failures rose in this poll; `NoMemory` only where memory ran out in it or before. Of
+/// `Parse` only `Header` and `TooLarge` come. No other error comes.
+pub fn polls_end_by_their_cause()
+    ensures { (v w : View) (cx : Context) (moment : ℕ) (result : Result Unit DispatchError) → PollSays v w cx moment (Ready result) → HasCause v w result }
 {}
 
 /// Over every run in which memory doesn't run out, the steps of the connection that were noted are a trace of it, whatever
@@ -69,12 +88,14 @@ pub fn runs_send_bodies()
 /// together all bytes that came of the body since its head, and its fault, if that came once; and the queue has the body's end
 /// and its trailers where those came. More of a body is asked for only where the queue wants it: the service hasn't dropped
 /// it, and fewer than 32768 bytes wait beyond those that were put back. So over every run in which memory doesn't run out
-/// fewer bytes wait there than that and as many as the connection may hold, and it holds no more than that.
+/// fewer bytes wait there than that and as many as the connection may hold, and it holds no more than that. Over such a run a
+/// body has one fault at most.
 pub fn runs_feed_bodies()
     ensures runs { (v w : View) (steps : List Step) (body : CameBody) → IsRun v steps w → HasBody body v.stage v.queue → HasBody (body_after body steps) w.stage w.queue }
     ensures wanted { (v w : View) (piece : Pulled) → IsStep v (pulled piece) w → Wants v }
     ensures new { (wire : Wiring) (service : Serving Asking Answer Answer) (settings : Settings) (noted : Option (List Pair)) (body : CameBody) → HasBody body (view_begun wire service settings noted).stage (view_begun wire service settings noted).queue × HasQueueBound (view_begun wire service settings noted) }
     ensures bound { (v w : View) (steps : List Step) (trace : List sums.Step) → LineStands v.line trace → AllNoted steps → IsRun v steps w → HasQueueBound v → HasQueueBound w }
+    ensures once { (v w : View) (steps : List Step) (body : CameBody) (trace : List sums.Step) → LineStands v.line trace → AllNoted steps → IsRun v steps w → body.faults ≡ [] → length (body_after body steps).faults ≤ 1 }
     ensures held { (v : View) (trace : List sums.Step) → LineStands v.line trace → length v.line.state.kept.unread ≤ v.line.state.settings.h1_hold_size }
 {}
 
@@ -90,7 +111,7 @@ pub fn runs_lose_no_request()
 /// A head is asked for only where fewer bytes wait to be written than the settings' write buffer size. Over every run in
 /// which memory doesn't run out, from a new dispatcher on, each step that lets more bytes wait comes where fewer wait than
 /// that: so at most as many wait, and the text that one step adds, which is that of one answer's head, or of one piece of a
-/// body, or of its end. A moment may add the text of one answer of the connection's own, and then it closes.
+/// body, or of its end, or tells a client to go on. A moment may add the text of one answer of the connection's own, and then it closes.
 pub fn runs_bound_output()
     ensures asked { (v w : View) (head : NextHead) → IsStep v (next head) w → has_write_room v ≡ true }
     ensures new { (wire : Wiring) (service : Serving Asking Answer Answer) (settings : Settings) → HasRoomForAnswer (view_begun wire service settings None) × HasRoomForAnswer (view_begun wire service settings (Some [])) }

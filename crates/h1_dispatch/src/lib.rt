@@ -28,6 +28,7 @@ mod laws;
 
 pub use dispatcher::{Dispatcher, Ending};
 pub use laws::{
-    polls_are_one_run, runs_are_traces, runs_bound_output, runs_feed_bodies, runs_keep_order,
-    runs_lose_no_request, runs_note_traces, runs_send_bodies,
+    no_head_comes_of_no_byte, polls_are_one_run, polls_end_by_their_cause, runs_are_traces,
+    runs_bound_output, runs_feed_bodies, runs_keep_order, runs_lose_no_request, runs_note_traces,
+    runs_send_bodies,
 };

@@ -7,9 +7,10 @@ use Rattle.h1_connection.specs.Run.{IsMisplaced, AreAllowed, IsFirstRefused}
 use Rattle.h1_connection.proofs.LawLemmas.{none_refused, first_refused, not_whole}
 use Rattle.h1_connection.specs.declared.event.Event.{Event}
 use Rattle.h1_replay.specs.Script.{script_of}
+use Rattle.h1_replay.proofs.Answering.{no_both}
 use Rattle.h1_replay.proofs.Reading.{whole_consumed, past_long}
 use Rattle.h1_replay.specs.Input.{MAX_INPUT, Told, ReadsWhole}
-use Rattle.h1_replay.specs.Run.{IsReplay, IsStopped, IsStoppedText, IsAnswer, done, usage, bad_line, misplaced, read_fault, too_long, no_memory, IsScript, IsGood, IsRefused, IsRefusal, IsRefusedWith}
+use Rattle.h1_replay.specs.Run.{IsReplay, IsStopped, IsStoppedText, IsAnswer, done, summed, gen_no_memory, usage, bad_line, misplaced, read_fault, too_long, no_memory, IsScript, IsGood, IsRefused, IsRefusal, IsRefusedWith}
 
 -- what a script says
 abbrev Said : Type 0
@@ -50,7 +51,9 @@ not_long left config events x long =
 pub good_status : (words : List (List ℕ)) (before now : Told) (status : ℕ) (text : List ℕ) → IsAnswer words before now status text → IsReplay words
     → IsGood before.left → (status ≡ 4 → ⊥) → (status ≡ 0) ⊎ (status ≡ 7)
 good_status words before now status text (done bytes _ read is zero) command good no_fault = inl zero
-good_status words before now status text (usage other unread _ one) command good no_fault = absurd (other command)
+good_status words before now status text (summed seed count gen unread _ zero) command good no_fault = inl zero
+good_status words before now status text (gen_no_memory seed count gen unread _ seven) command good no_fault = inr seven
+good_status words before now status text (usage other unread _ one) command good no_fault = absurd (other.not_replay command)
 good_status words before now status text (bad_line bytes _ read is two) command good no_fault =
     absurd (not_bad (good.config, good.events) is.number (script_of bytes) (script_read before now bytes good.config good.events read good.script) is.script)
 good_status words before now status text (misplaced bytes _ read is three) command good no_fault =
@@ -82,7 +85,9 @@ pub refused_status : (words : List (List ℕ)) (before now : Told) (given given_
 refused_status words before now given given_then status index text (done bytes _ read is zero) grew command refused no_fault =
     let same = same_said (refused.config, refused.events) (is.config, is.events) (script_of bytes) (script_read before now bytes refused.config refused.events read refused.script) is.script in
     absurd (not_whole is.config is.events index is.trace is.whole (subst (λ (s : Said). IsFirstRefused s.0 s.1 index) same refused.first))
-refused_status words before now given given_then status index text (usage other unread _ one) grew command refused no_fault = absurd (other command)
+refused_status words before now given given_then status index text (summed seed count gen unread _ zero) grew command refused no_fault = absurd (no_both words seed count command gen)
+refused_status words before now given given_then status index text (gen_no_memory seed count gen unread _ seven) grew command refused no_fault = inr seven
+refused_status words before now given given_then status index text (usage other unread _ one) grew command refused no_fault = absurd (other.not_replay command)
 refused_status words before now given given_then status index text (bad_line bytes _ read is two) grew command refused no_fault =
     absurd (not_bad (refused.config, refused.events) is.number (script_of bytes) (script_read before now bytes refused.config refused.events read refused.script) is.script)
 refused_status words before now given given_then status index text (misplaced bytes _ read is three) grew command refused no_fault =

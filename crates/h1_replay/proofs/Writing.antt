@@ -1,5 +1,5 @@
 -- Writes, one after another.
-use Rattle.std.proofs.Common.{◌≡◌, ◌<◌, ◌≤◌, ℕ, List, [], ◌++◌, Option, length, take, drop, refl, sym, ap, ◌∙◌, subst, append_assoc, append-nil, take-append-drop, length-take, arith}
+use Rattle.std.proofs.Common.{◌≡◌, ◌<◌, ◌≤◌, ℕ, List, ◌++◌, length, take, drop, refl, sym, ap, ◌∙◌, append_assoc, take-append-drop, length-take, arith}
 use Rattle.std.specs.Io.KnownBytes.{Appends}
 use Rattle.http_config.specs.Causes.{Rose, counted}
 use Rattle.std.proofs.KnownBytes.{Appends-nil, Appends-trans}

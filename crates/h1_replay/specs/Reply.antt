@@ -1,6 +1,7 @@
 -- A reply as its status and its text.
 use Rattle.std.specs.Prelude.{ℕ, ⊤, List, codes}
 use Rattle.h1_connection.specs.Run.{IsMisplaced}
+use Rattle.h1_gen.specs.Run.{IsSummary}
 use Rattle.h1_replay.specs.Run.{IsDone, IsBadLine, IsStopped, usage_text, read_fault_text, too_long_text, no_memory_text}
 use Rattle.h1_replay.specs.declared.reply.Reply.{Reply}
 use Rattle.h1_replay.specs.declared.reply.Reply.TheVariants.{Done, Usage, BadLine, Misplaced, ReadFault, TooLong, NoMemory}
@@ -34,3 +35,9 @@ IsReplyTo bytes (Misplaced text) = IsStopped IsMisplaced (codes "misplaced ") by
 IsReplyTo bytes ReadFault = ⊥
 IsReplyTo bytes TooLong = ⊥
 IsReplyTo bytes NoMemory = ⊤
+
+-- what a generated run is answered with
+abbrev pub IsRunReply : ℕ → ℕ → Reply → Type 0
+IsRunReply seed count (Done text) = IsSummary seed count text.items
+IsRunReply seed count NoMemory = ⊤
+IsRunReply seed count reply = ⊥

@@ -3,16 +3,39 @@ use Rattle.std.specs.Prelude.{ℕ, ◌≡◌, ◌++◌, ◌≤◌, ◌⊎◌, Li
 use Rattle.std.specs.Io.KnownBytes.{Appends}
 use Rattle.http_config.specs.Causes.{Rose}
 use Rattle.http_config.specs.Config.{Settings}
+use Rattle.h1_model.specs.Sums as sums
+use Rattle.h1_model.specs.Laws.Runs as runs
+use Rattle.h1_gen_model.specs.Generated.{setting, generated}
+use Rattle.h1_gen.specs.Run.{IsSummary}
 use Rattle.h1_connection.specs.Run.{IsWhole, IsMisplaced, AreAllowed, IsFirstRefused}
 use Rattle.h1_connection.specs.declared.event.Event.{Event}
 use Rattle.h1_connection.specs.declared.trace.Trace.{Trace}
 use Rattle.h1_replay.specs.Input.{MAX_INPUT, Told, ReadsWhole, ReadsPast, ReadsToFault, ReadsUnfinished}
 use Rattle.h1_replay.specs.Report.{IsReport}
 use Rattle.h1_replay.specs.Script.{script_of}
+use Rattle.h1_replay.specs.Word.{number_of}
 
--- the one command that there is
+-- the command that reads the input
 abbrev pub IsReplay : List (List ℕ) → Type 0
 IsReplay words = words ≡ codes "replay" ∷ []
+
+-- two words are these numbers: a seed, and how many exchanges, at most 20000
+pub record AreNumbers (seed_word count_word : List ℕ) (seed count : ℕ) : Type 0 where
+  pub seed_is : number_of seed_word ≡ Some seed
+  pub count_is : number_of count_word ≡ Some count
+  pub within : count ≤ 20000
+
+-- the command that runs generated exchanges
+pub record IsGen (words : List (List ℕ)) (seed count : ℕ) : Type 0 where
+  pub seed_word : List ℕ
+  pub count_word : List ℕ
+  pub words_are : words ≡ codes "gen" ∷ seed_word ∷ count_word ∷ []
+  pub numbers : AreNumbers seed_word count_word seed count
+
+-- neither
+pub record IsOther (words : List (List ℕ)) : Type 0 where
+  pub not_replay : ¬ IsReplay words
+  pub not_gen : (seed count : ℕ) → ¬ IsGen words seed count
 
 -- the texts that nothing but the status decides
 abbrev pub usage_text : List ℕ
@@ -69,13 +92,19 @@ pub record IsStopped (stop : Settings → List Event → ℕ → Trace → Type 
 -- Each status says what it says, and how far the source was read, which told `before` and then `now`. Memory may run out at any time.
 pub data IsAnswer (words : List (List ℕ)) (before now : Told) (status : ℕ) (text : List ℕ) : Type 0 where
   done : (bytes : List ℕ) → IsReplay words → ReadsWhole before now bytes → IsDone bytes text → status ≡ 0 → IsAnswer words before now status text
-  usage : ¬ IsReplay words → now ≡ before → text ≡ usage_text → status ≡ 1 → IsAnswer words before now status text
+  summed : (seed count : ℕ) → IsGen words seed count → now ≡ before → IsSummary seed count text → status ≡ 0 → IsAnswer words before now status text
+  gen_no_memory : (seed count : ℕ) → IsGen words seed count → now ≡ before → text ≡ no_memory_text → status ≡ 7 → IsAnswer words before now status text
+  usage : IsOther words → now ≡ before → text ≡ usage_text → status ≡ 1 → IsAnswer words before now status text
   bad_line : (bytes : List ℕ) → IsReplay words → ReadsWhole before now bytes → IsBadLine bytes text → status ≡ 2 → IsAnswer words before now status text
   misplaced : (bytes : List ℕ) → IsReplay words → ReadsWhole before now bytes → IsStopped IsMisplaced (codes "misplaced ") bytes text → status ≡ 3
       → IsAnswer words before now status text
   read_fault : IsReplay words → ReadsToFault before now → text ≡ read_fault_text → status ≡ 4 → IsAnswer words before now status text
   too_long : IsReplay words → ReadsPast before now → text ≡ too_long_text → status ≡ 6 → IsAnswer words before now status text
   no_memory : IsReplay words → ReadsUnfinished before now → text ≡ no_memory_text → status ≡ 7 → IsAnswer words before now status text
+
+-- each of the generated events is allowed: there is a trace of all of them
+abbrev pub AreTaken : ℕ → ℕ → Type 0
+AreTaken seed count = (trace : List sums.Step) × runs.IsWhole setting (generated seed count) trace
 
 -- ---- which status comes where no end fails
 

@@ -3,7 +3,7 @@
 //! A script is a text: a line with the settings of a connection, then a line for each event that comes to it. The
 //! report has a line for each outcome, then the bytes that are still to be written, and the state. So an exchange can
 //! be written down, replayed and compared, byte for byte. `replay` answers a script in memory; `run` answers a
-//! program's words, over a source and a sink of any kind.
+//! program's words, over a source and a sink of any kind: a script, or a run of `h1_gen`, which it sums up.
 //!
 //! # Example
 //!
@@ -59,3 +59,16 @@ pub use program::run;
 pub use reply::{Reply, replay};
 pub use report::report_of;
 pub use script::{Script, ScriptError, read_script};
+
+// The parts of it, for programs with scripts and reports of their own.
+pub use input::{InputError, read_input};
+pub use output::write_all;
+pub use pieces::{Pieces, first_piece};
+pub use reply::numbered_line;
+pub use report::{
+    broken_word, end_word, fault_word, put_head, put_named, put_named_hex, put_pairs,
+};
+pub use script::{config_line, event_line, without_last_feed};
+pub use text::put_number;
+pub use websocket::{check_word, put_frame, put_rule};
+pub use word::{LineError, number};

@@ -71,7 +71,7 @@ ghost use Rattle.std.specs.Option.{option_copied};
 ghost use Rattle.h1_replay.specs.Pieces.{pieces_left};
 
 /// The piece in front of the first `mark`, and what stands after that mark, where there is one.
-fn first_piece(text: &[u8], mark: u8) -> (&[u8], Option<&[u8]>)
+pub fn first_piece(text: &[u8], mark: u8) -> (&[u8], Option<&[u8]>)
     ensures { slice_split (λ b. b == mark) text.now ≡ result.0.now ∷ pieces_left mark (option_copied result.1) }
 {
     match memchr(mark, text) {

@@ -16,7 +16,7 @@ pub const WRITE_FAULT: u8 = 5;
 /// An answer, with its text where that isn't always the same.
 #[derive(Drop)]
 pub enum Reply {
-    /// The report of a script whose every event was allowed.
+    /// The report of a script whose every event was allowed, or the summary of a generated run.
     Done(Vec<u8>),
     /// The words are no command.
     Usage,
@@ -105,7 +105,8 @@ fn stopped(alloc: Global, trace: &Trace, word: &[u8], index: usize) -> Result<Ve
     Ok(text)
 }
 
-fn numbered_line(alloc: Global, word: &[u8], number: usize) -> Result<Vec<u8>, NoMemory>
+/// A line of a word and a number.
+pub fn numbered_line(alloc: Global, word: &[u8], number: usize) -> Result<Vec<u8>, NoMemory>
     ensures { IfOk result (λ line. line.items ≡ numbered_line word.now number) }
 {
     let mut line = Vec::from_slice(alloc, word)?;

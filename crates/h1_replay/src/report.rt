@@ -68,16 +68,16 @@ fn put_outcome(alloc: Global, text: &mut Vec<u8>, noted: &Noted) -> Result<(), N
     }
 }
 
-// A word after a name.
-fn put_named(text: &mut Vec<u8>, name: &[u8], word: &[u8]) -> Result<(), NoMemory>
+/// Adds a word after a name.
+pub fn put_named(text: &mut Vec<u8>, name: &[u8], word: &[u8]) -> Result<(), NoMemory>
     ensures { OnOk result (text.new.items ≡ text.old.items ++ name.now ++ word.now) }
 {
     text.extend_from_slice(name)?;
     text.extend_from_slice(word)
 }
 
-// Bytes in hex after a name.
-fn put_named_hex(
+/// Adds bytes in hex after a name.
+pub fn put_named_hex(
     alloc: Global,
     text: &mut Vec<u8>,
     name: &[u8],
@@ -89,7 +89,8 @@ fn put_named_hex(
     put_hex(alloc, text, bytes)
 }
 
-fn put_head(alloc: Global, text: &mut Vec<u8>, item: &HeadItem) -> Result<(), NoMemory>
+/// Adds the words of a head.
+pub fn put_head(alloc: Global, text: &mut Vec<u8>, item: &HeadItem) -> Result<(), NoMemory>
     ensures { OnOk result (Adds (IsHeadLine item.now) text.old.items text.new.items) }
 {
     text.extend_from_slice(b"head")?;
@@ -137,7 +138,8 @@ fn put_body(text: &mut Vec<u8>, body: BodyKind) -> Result<(), NoMemory>
     }
 }
 
-fn put_pairs(alloc: Global, text: &mut Vec<u8>, headers: &HeaderMap) -> Result<(), NoMemory>
+/// Adds each header, after a blank.
+pub fn put_pairs(alloc: Global, text: &mut Vec<u8>, headers: &HeaderMap) -> Result<(), NoMemory>
     ensures { OnOk result (text.new.items ≡ text.old.items ++ pair_words (pairs headers.now)) }
 {
     for (name, value) in headers.iter() {
@@ -194,7 +196,8 @@ fn expect_word(expect: bool) -> &'static [u8]
     if expect { b"expect" } else { b"-" }
 }
 
-fn end_word(end: End) -> &'static [u8]
+/// Why a connection ends.
+pub fn end_word(end: End) -> &'static [u8]
     ensures { result.now ≡ end_word end }
 {
     match end {
@@ -214,7 +217,8 @@ fn end_word(end: End) -> &'static [u8]
     }
 }
 
-fn fault_word(fault: HeadFault) -> &'static [u8]
+/// What is wrong with a head.
+pub fn fault_word(fault: HeadFault) -> &'static [u8]
     ensures { result.now ≡ fault_word fault }
 {
     match fault {
@@ -223,7 +227,8 @@ fn fault_word(fault: HeadFault) -> &'static [u8]
     }
 }
 
-fn broken_word(fault: BodyFault) -> &'static [u8]
+/// What is wrong with a body.
+pub fn broken_word(fault: BodyFault) -> &'static [u8]
     ensures { result.now ≡ broken_word fault }
 {
     match fault {

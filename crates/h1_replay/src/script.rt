@@ -60,7 +60,8 @@ fn most_events(text: &[u8]) -> usize {
     memchr_iter(LINE_FEED, text).count().min(text.len() / 4 + 1)
 }
 
-fn without_last_feed(text: &[u8]) -> &[u8]
+/// A text without the line feed at its end, where there is one.
+pub fn without_last_feed(text: &[u8]) -> &[u8]
     ensures { result.now ≡ without_last_feed text.now }
 {
     match text {
@@ -89,7 +90,8 @@ fn event_lines(
     Ok(events)
 }
 
-fn config_line(line: &[u8]) -> Option<ServiceConfig>
+/// The settings that a script's first line names.
+pub fn config_line(line: &[u8]) -> Option<ServiceConfig>
     ensures { result ≡ config_of (words_of line.now) }
 {
     let mut words = Pieces::new(line, BLANK);
@@ -159,7 +161,8 @@ fn settings_by(
     Some(builder.build())
 }
 
-fn event_line(alloc: Global, hold_size: usize, line: &[u8]) -> Result<Event, LineError>
+/// The event that a line names, where so many bytes may be held.
+pub fn event_line(alloc: Global, hold_size: usize, line: &[u8]) -> Result<Event, LineError>
     ensures { Reads result (event_of hold_size (words_of line.now)) }
 {
     let mut words = Pieces::new(line, BLANK);

@@ -189,22 +189,50 @@ fn waits_for_the_last_byte_of_a_head(rt: HostRuntime) -> Result<(), Fail> {
     Ok(())
 }
 
-// Whether the words of a line are answered with the usage, and a source whose first read would fail isn't read.
-fn is_usage(alloc: Global, line: &str) -> Result<bool, AllocError> {
+// Whether the words of a line are answered so, and a source whose first read would fail isn't read.
+fn is_unread(alloc: Global, line: &str, status: u8, text: &str) -> Result<bool, AllocError> {
     let mut input = MemSource::new(Bytes::new(), vec![in alloc; 0]?);
     let mut output = SureSink::new(alloc);
     let ended = ends(alloc, line, &mut input, &mut output)?;
-    let text = b"usage: h1_run replay | h1_run gen SEED COUNT\n".as_slice();
-    Ok(ended == 1 && output.given() == text)
+    Ok(ended == status && output.given() == text.as_bytes())
 }
 
-static WRONG_WORDS: [&str; 3] = ["", "replay replay", "--help"];
+// With the usage.
+fn is_usage(alloc: Global, line: &str) -> Result<bool, AllocError> {
+    is_unread(
+        alloc,
+        line,
+        1,
+        "usage: h1_run replay | h1_run gen SEED COUNT\n",
+    )
+}
+
+static WRONG_WORDS: [&str; 9] = [
+    "",
+    "replay replay",
+    "--help",
+    "gen",
+    "gen 7",
+    "gen 7 20001",
+    "gen 7 -1",
+    "gen 18446744073709551616 1",
+    "gen 7 1 1",
+];
 
 #[test]
 fn answers_wrong_words_with_the_usage(rt: HostRuntime) -> Result<(), Fail> {
     for line in WRONG_WORDS.iter() {
         assert!(rt; is_usage(rt.alloc(), line)?, "at {line:?}");
     }
+    Ok(())
+}
+
+#[test]
+fn sums_up_generated_runs(rt: HostRuntime) -> Result<(), Fail> {
+    let one = "events 6\ntaken 20\nheads 1\nbody 0\ntext 77\nstate open\n";
+    let none = "events 1\ntaken 0\nheads 0\nbody 0\ntext 0\nstate open\n";
+    assert!(rt; is_unread(rt.alloc(), "gen 0 1", 0, one)?);
+    assert!(rt; is_unread(rt.alloc(), "gen 007 0", 0, none)?);
     Ok(())
 }
 

@@ -1,17 +1,19 @@
-//! The call of a hub.
+//! The calls of a hub and of its scripts.
 use crate::events::read_events;
 use bytes::Bytes;
 use std::alloc::{AllocError, Global};
 use vectors::{Case, Player, put_decimal, put_quoted, put_text};
 use ws_hub::{HubError, HubEvent, NoMemory, ServiceConfigBuilder, drive_hub};
+use ws_hub_replay::replay;
 
-/// The call of `ws_hub`.
+/// The calls of `ws_hub` and `ws_hub_replay`.
 pub struct Hubs;
 
 impl Player for Hubs {
     fn play(&self, alloc: Global, case: &Case<'_>, found: &mut Vec<u8>) -> Result<bool, NoMemory> {
         match case.call {
             b"hub" => hub(alloc, case, found),
+            b"script" => script(alloc, case, found),
             _ => Ok(false),
         }
     }
@@ -58,4 +60,16 @@ fn put_one(number: usize, bytes: &[u8], found: &mut Vec<u8>) -> Result<(), NoMem
     put_decimal(found, number as u64)?;
     put_text(found, " ")?;
     put_quoted(found, bytes)
+}
+
+// `script TEXT`: the status and the text of what a script is answered.
+fn script(alloc: Global, case: &Case<'_>, found: &mut Vec<u8>) -> Result<bool, NoMemory> {
+    let [text] = case.arguments.as_slice() else {
+        return Ok(false);
+    };
+    let reply = replay(alloc, text.as_slice());
+    put_decimal(found, u64::from(reply.status()))?;
+    put_text(found, " ")?;
+    put_quoted(found, reply.text())?;
+    Ok(true)
 }

@@ -4,6 +4,8 @@ use Rattle.std.specs.Prelude.{slice_get}
 use Rattle.std.proofs.lemmas.Bool.{cases_Bool}
 use Rattle.h1_model.specs.Frame.{Frame, Message}
 use Rattle.h1_model.specs.Frame as frames
+use Rattle.h1_connection.specs.declared.connection.frames.Sent.{Sent}
+use Rattle.h1_connection.specs.declared.connection.frames.Sent.TheVariants as sent
 use Rattle.h1_connection.specs.declared.event.Event.{Event}
 use Rattle.h1_connection.specs.declared.event.Event.TheVariants as event
 use Rattle.h1_connection.specs.declared.event.Outcome.{Outcome}
@@ -11,7 +13,7 @@ use Rattle.h1_connection.specs.declared.event.Outcome.TheVariants as out
 use Rattle.ws_hub_model.specs.Member.{Member, with_end, member_at, rows_from}
 use Rattle.ws_hub_model.proofs.RowLemmas.{length-rows_from}
 use Rattle.ws_rooms.specs.Rows.{only, spoken}
-use Rattle.ws_seat.specs.Turn.{first_message}
+use Rattle.ws_seat.specs.Turn.{first_message, sent_outcome}
 use Rattle.ws_hub.specs.Moves.{in_room, with_done, moved, ended}
 
 -- ---- the message that waits first
@@ -146,3 +148,12 @@ accept_done r e limit room i ms rows is joined =
 pub send_done : (e : Event) (message : Message) (room : Option (List ℕ)) (i : ℕ) (ms rows : List Member) → e ≡ event.Send message
     → rows ≡ rows_from 0 (only i (λ m. record m { waiting = drop 1 m.waiting })) ms → rows ≡ rows_from 0 (only i (with_done e room)) ms
 send_done e message room i ms rows is sent = subst (λ (v : Event). rows ≡ rows_from 0 (only i (with_done v room)) ms) (sym is) sent
+
+-- what was sent waits no more
+pub sent_moved : (what : Sent) (m : Message) (room : Option (List ℕ)) (i : ℕ) (ms rows : List Member) → what ≡ sent.Done
+    → rows ≡ rows_from 0 (only i (λ m. record m { waiting = drop 1 m.waiting })) ms → rows ≡ moved (event.Send m) (sent_outcome what) room i ms
+sent_moved what m room i ms rows is done = subst (λ (w : Sent). rows ≡ moved (event.Send m) (sent_outcome w) room i ms) (sym is) done
+
+-- in as many rows
+pub sent_count : (i : ℕ) (ms rows : List Member) → rows ≡ rows_from 0 (only i (λ m. record m { waiting = drop 1 m.waiting })) ms → length rows ≡ length ms
+sent_count i ms rows is = ap length is ∙ length-rows_from 0 (only i (λ m. record m { waiting = drop 1 m.waiting })) ms

@@ -2,7 +2,7 @@
 use Rattle.std.proofs.Common.{◌≡◌, ◌≤◌, ◌^◌, ◌-◌, ℕ, zero, suc, List, [], ◌∷◌, length, min, refl, sym, ap, ◌∙◌, arith}
 use Rattle.ws_hub_model.specs.Member.{Member, newcomer, member_at, byte_count}
 
-member_beyond : (i : ℕ) (ms : List Member) → length ms ≤ i → member_at i ms ≡ newcomer
+pub member_beyond : (i : ℕ) (ms : List Member) → length ms ≤ i → member_at i ms ≡ newcomer
 member_beyond i [] h = refl
 member_beyond zero (m ∷ ms) h = absurd (omega arith)
 member_beyond (suc i) (m ∷ ms) h = member_beyond i ms (omega arith)

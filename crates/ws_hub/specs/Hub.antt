@@ -3,10 +3,12 @@ use Rattle.std.specs.Prelude.{◌≡◌, ◌≤◌, ◌⊎◌, ℕ, Bool, List, 
 use Rattle.http_config.specs.Config.{Settings}
 use Rattle.h1_model.specs.Setting.{Setting}
 use Rattle.h1_model.specs.Event.{Event as Given, Outcome as Answer}
+use Rattle.h1_model.specs.Frame.{Message}
 use Rattle.h1_model.specs.Sums.{Step}
 use Rattle.h1_model.specs.Allowed.{is_over}
 use Rattle.h1_model.specs.Trace as traces
 use Rattle.h1_connection.specs.Meaning.{setting_of, event_of, SaysOutcome}
+use Rattle.h1_connection.specs.declared.connection.frames.Sent.{Sent}
 use Rattle.h1_connection.specs.declared.event.Outcome.{Outcome}
 use Rattle.ws_hub_model.specs.Hub.{opens, feeds, turns, opened, core, open_count, MAX_CONNECTIONS}
 use Rattle.ws_hub_model.specs.Hub as model
@@ -14,7 +16,9 @@ use Rattle.ws_hub_model.specs.Member.{Member}
 use Rattle.ws_hub_model.specs.Seen.{Seen, steps_of, members_of}
 use Rattle.ws_hub_model.specs.Trace.{is_fed, core_trace, IsHubTrace}
 use Rattle.ws_seat.specs.Seat.{SeatState, SeatStands}
+use Rattle.ws_seat.specs.Turn.{sending}
 use Rattle.ws_seat.specs.declared.seat.Turn.{Turn as SeatTurn}
+use Rattle.ws_hub.specs.Moves.{SendsNone}
 use Rattle.ws_hub.specs.declared.event.HubEvent.{HubEvent}
 use Rattle.ws_hub.specs.declared.event.HubEvent.TheVariants.{Open, Feed, Turn}
 use Rattle.ws_hub.specs.declared.event.HubOutcome.{HubOutcome}
@@ -113,3 +117,8 @@ HubFeeds hub i event (Some outcome) after = HubGoesOn hub (feeds i event) (SaysC
 abbrev pub HubTurns : HubState → ℕ → Option SeatTurn → HubState → Type 0
 HubTurns hub i None after = (after ≡ hub) × HubRefuses hub (turns i)
 HubTurns hub i (Some turn) after = HubGoesOn hub (turns i) (SaysCore (event_of turn.event) turn.outcome) after
+
+-- a connection has a turn that sends a message, or none: nothing waits for it, or nothing may be sent
+abbrev pub HubSends : HubState → ℕ → Option Sent → HubState → Type 0
+HubSends hub i None after = (after ≡ hub) × ((seat : SeatState) → slice_get hub.seats i ≡ Some seat → SendsNone seat hub.members i)
+HubSends hub i (Some what) after = (m : Message) × HubTurns hub i (Some (sending m what)) after

@@ -1,7 +1,11 @@
 -- What the code makes of the rows after an event of one connection.
-use Rattle.std.specs.Prelude.{◌≡◌, ℕ, Bool, true, false, List, drop, Option, Some, None, is_some}
+use Rattle.std.specs.Prelude.{◌≡◌, ◌⊎◌, ℕ, Bool, true, false, List, drop, Option, Some, None, is_some}
 use Rattle.h1_machine.specs.Local.{closing_by}
+use Rattle.h1_model.specs.Event as on
+use Rattle.h1_model.specs.Frame.{Message}
+use Rattle.h1_model.specs.Frame as frames
 use Rattle.h1_connection.specs.Meaning.{setting_of}
+use Rattle.h1_connection.specs.declared.connection.frames.Sent.{Sent}
 use Rattle.h1_connection.specs.declared.event.Event.{Event}
 use Rattle.h1_connection.specs.declared.event.Event.TheVariants as event
 use Rattle.h1_connection.specs.declared.event.Outcome.{Outcome}
@@ -9,7 +13,7 @@ use Rattle.h1_connection.specs.declared.event.Outcome.TheVariants as out
 use Rattle.ws_hub_model.specs.Member.{Member, with_end, member_at, rows_from}
 use Rattle.ws_rooms.specs.Rows.{only, spoken}
 use Rattle.ws_seat.specs.Seat.{SeatState}
-use Rattle.ws_seat.specs.Turn.{first_message, TurnsBy}
+use Rattle.ws_seat.specs.Turn.{first_message, allows, sending, TurnsBy}
 use Rattle.ws_seat.specs.declared.seat.Turn.{Turn}
 
 -- it is in this room, where there is one
@@ -47,3 +51,12 @@ abbrev pub Takes : SeatState → List Member → ℕ → Option Turn → SeatSta
 Takes seat ms i None after rows = TurnsBy seat (first_message (member_at i ms).waiting) None after × (rows ≡ ms)
 Takes seat ms i (Some turn) after rows =
     TurnsBy seat (first_message (member_at i ms).waiting) (Some turn) after × (rows ≡ followed turn.event turn.outcome after i ms)
+
+-- no message waits for it, or none may be sent
+abbrev pub SendsNone : SeatState → List Member → ℕ → Type 0
+SendsNone seat ms i = (first_message (member_at i ms).waiting ≡ None) ⊎ (allows seat (on.send frames.nop) ≡ false)
+
+-- a turn of this connection that sends the message that waits first, or none
+abbrev pub Sends : SeatState → List Member → ℕ → Option Sent → SeatState → List Member → Type 0
+Sends seat ms i None after rows = SendsNone seat ms i × (after ≡ seat) × (rows ≡ ms)
+Sends seat ms i (Some what) after rows = (m : Message) × Takes seat ms i (Some (sending m what)) after rows

@@ -1,16 +1,16 @@
 //! A hub.
-ghost use Rattle.std.specs.Prelude.{◌≡◌, ◌≤◌, ◌^◌, ◌-◌, ◌==◌, [], min, IfOk, IsOk, length, map, slice_get, option_map};
+ghost use Rattle.std.specs.Prelude.{◌≡◌, ◌≤◌, ◌^◌, ◌-◌, ◌==◌, [], min, IfOk, IsOk, OnErr, length, map, slice_get, option_map};
 ghost use Rattle.std.specs.Option.{option_copied};
-ghost use Rattle.ws_hub.specs.Hub.{fresh_hub, hub_event_of, HubStands, HubSteps, RefusesAtOnce, buffered_of, HubOpens, HubFeeds, HubTurns};
+ghost use Rattle.ws_hub.specs.Hub.{fresh_hub, hub_event_of, HubStands, HubSteps, RefusesAtOnce, buffered_of, HubOpens, HubFeeds, HubTurns, HubSends};
 ghost use Rattle.h1_connection.specs.Meaning.{event_of};
 ghost use Rattle.ws_hub_model.specs.Hub.{opens, feeds, turns};
 ghost use Rattle.ws_hub_model.specs.Member.{member_at, byte_count};
 ghost use Rattle.ws_hub_model.specs.Trace.{is_fed};
 
 use crate::event::{HubEvent, HubOutcome};
-use crate::moves::{follow, take_turn};
+use crate::moves::{follow, send_first, take_turn};
 use bytes::Bytes;
-use h1_connection::{Boxed, Connection, Event, NoMemory, Outcome, ServiceConfig};
+use h1_connection::{Boxed, Connection, Event, NoMemory, Outcome, Sent, ServiceConfig};
 use std::alloc::Global;
 use std::marker::Model;
 use ws_rooms::Rooms;
@@ -146,11 +146,11 @@ impl Hub {
         Ok(Some(outcome))
     }
 
-    /// Gives the connection with this number a turn. There is none, and nothing changes, where that connection wasn't
-    /// opened or is over. A turn of one that closes ends it, so what waits for it is to be written before.
+    /// Gives the connection with this number a turn. There is none, nothing changes, and it takes no memory, where that
+    /// connection wasn't opened or is over. A turn of one that closes ends it, so what waits for it is to be written before.
     pub fn turn(&mut self, number: usize) -> Result<Option<Turn>, NoMemory>
         ensures turned { IfOk result (λ turn. HubTurns self.old number turn self.new) }
-        ensures no_memory_needed { length self.old.seats ≤ number → IsOk result }
+        ensures no_memory_needed { RefusesAtOnce self.old (turns number) result }
         ensures settings { self.new.settings ≡ self.old.settings }
     {
         if number >= self.seats.len() || number >= self.rooms.len() {
@@ -159,7 +159,21 @@ impl Hub {
         take_turn(&mut self.seats[number], &mut self.rooms, number)
     }
 
-    /// The same by an event as a value: `None` where it is refused, and then nothing changes.
+    /// A turn of the connection with this number that sends the message that waits first for it. There is none, and nothing
+    /// changes, where no message waits or none may be sent: `turn` does then what the rules say. Unlike there, no event is
+    /// handed out, so nothing is copied for it. Where memory runs out nothing changes.
+    pub fn send_first(&mut self, number: usize) -> Result<Option<Sent>, NoMemory>
+        ensures sent { IfOk result (λ sent. HubSends self.old number sent self.new) }
+        ensures settings { self.new.settings ≡ self.old.settings }
+        ensures err { OnErr result (self.new ≡ self.old) }
+    {
+        if number >= self.seats.len() || number >= self.rooms.len() {
+            return Ok(None);
+        }
+        send_first(&mut self.seats[number], &mut self.rooms, number)
+    }
+
+    /// The same as these calls by an event as a value: `None` where it is refused, and then nothing changes.
     pub fn step(&mut self, event: &HubEvent) -> Result<Option<HubOutcome>, NoMemory>
         ensures steps { IfOk result (λ outcome. HubSteps self.old (hub_event_of event.now) outcome self.new) }
         ensures settings { self.new.settings ≡ self.old.settings }
@@ -206,8 +220,9 @@ impl Hub {
     }
 }
 
-// Whether the event comes from outside.
-fn is_fed(event: &Event) -> bool
+/// Whether the event is one that comes from outside: bytes that were read, the input's end, bytes that are fetched for
+/// writing, a moment, or a drain.
+pub fn is_fed(event: &Event) -> bool
     ensures { result ≡ is_fed (event_of event.now) }
 {
     match event {

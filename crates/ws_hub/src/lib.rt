@@ -13,6 +13,6 @@ mod moves;
 
 pub use driver::{HubError, HubStep, HubTrace, drive_hub};
 pub use event::{HubEvent, HubOutcome};
-pub use h1_connection::{Event, NoMemory, Outcome, ServiceConfig, ServiceConfigBuilder};
-pub use hub::Hub;
+pub use h1_connection::{Event, NoMemory, Outcome, Sent, ServiceConfig, ServiceConfigBuilder};
+pub use hub::{Hub, is_fed};
 pub use ws_seat::Turn;

@@ -1,13 +1,15 @@
 // What an event of one connection makes of the rows of all members.
-ghost use Rattle.std.specs.Prelude.{◌≡◌, ◌<◌, length, IfOk, OnOk, option_map};
+ghost use Rattle.std.specs.Prelude.{◌≡◌, ◌<◌, ℕ, List, Option, length, None, IfOk, IsOk, OnOk, OnErr, option_map};
 ghost use Rattle.std.specs.Option.{option_copied};
+ghost use Rattle.h1_model.specs.Frame.{Message as Said};
+ghost use Rattle.h1_connection.specs.declared.event.Event.TheVariants as event;
 ghost use Rattle.ws_frames.specs.Sent.{message_says};
 ghost use Rattle.ws_hub_model.specs.Member.{member_at, rows_from};
 ghost use Rattle.ws_rooms.specs.Rows.{only};
-ghost use Rattle.ws_seat.specs.Turn.{first_message};
-ghost use Rattle.ws_hub.specs.Moves.{in_room, with_done, moved, followed, Takes};
+ghost use Rattle.ws_seat.specs.Turn.{first_message, asked_by, IsAsked, sent_outcome};
+ghost use Rattle.ws_hub.specs.Moves.{in_room, with_done, moved, ended, closes_by, followed, Takes, Sends};
 
-use h1_connection::{Event, Message, NoMemory, Outcome};
+use h1_connection::{Event, Message, NoMemory, Outcome, Sent};
 use ws_rooms::Rooms;
 use ws_seat::{Seat, Turn};
 
@@ -19,6 +21,7 @@ pub fn take_turn(
 ) -> Result<Option<Turn>, NoMemory>
     requires known { number < length rooms.old }
     ensures taken { IfOk result (λ turn. Takes seat.old rooms.old number turn seat.new rooms.new) }
+    ensures no_memory_needed { IsAsked seat.old.connection (asked_by seat.old (first_message (member_at number rooms.old).waiting)) None → IsOk result }
     ensures settings { seat.new.connection.settings ≡ seat.old.connection.settings }
 {
     let Some(turn) = seat.turn(front(rooms, number))? else {
@@ -26,6 +29,49 @@ pub fn take_turn(
     };
     follow(rooms, seat, number, &turn.event, &turn.outcome)?;
     Ok(Some(turn))
+}
+
+/// A turn of the connection with this number that sends the message that waits first. There is none where no message waits,
+/// or where none may be sent.
+pub fn send_first(
+    seat: &mut Seat,
+    rooms: &mut Rooms,
+    number: usize,
+) -> Result<Option<Sent>, NoMemory>
+    requires known { number < length rooms.old }
+    ensures sent { IfOk result (λ sent. Sends seat.old rooms.old number sent seat.new rooms.new) }
+    ensures settings { seat.new.connection.settings ≡ seat.old.connection.settings }
+    ensures err { OnErr result ((seat.new ≡ seat.old) × (rooms.new ≡ rooms.old)) }
+{
+    let Some(message) = front(rooms, number) else {
+        return Ok(None);
+    };
+    let Some(sent) = seat.send_front(message)? else {
+        return Ok(None);
+    };
+    follow_sent(rooms, seat, number, sent);
+    Ok(Some(sent))
+}
+
+// Follows a message that was sent, or refused.
+fn follow_sent(rooms: &mut Rooms, seat: &Seat, number: usize, sent: Sent)
+    requires known { number < length rooms.old }
+    ensures { (m : Said) → rooms.new ≡ followed (event.Send m) (sent_outcome sent) seat.now number rooms.old }
+{
+    take_off(rooms, number, sent);
+    follow_end(rooms, seat, number);
+}
+
+// What was sent waits no more.
+fn take_off(rooms: &mut Rooms, number: usize, sent: Sent)
+    requires known { number < length rooms.old }
+    ensures moved { (m : Said) (room : Option (List ℕ)) → rooms.new ≡ moved (event.Send m) (sent_outcome sent) room number rooms.old }
+    ensures count { length rooms.new ≡ length rooms.old }
+{
+    match sent {
+        Sent::Done => rooms.sent(number),
+        Sent::Protocol(_) => {}
+    }
 }
 
 // The message that waits first.
@@ -49,10 +95,18 @@ pub fn follow(
     ensures { OnOk result (rooms.new ≡ followed event.now outcome.now seat.now number rooms.old) }
 {
     follow_outcome(rooms, seat, number, event, outcome)?;
+    follow_end(rooms, seat, number);
+    Ok(())
+}
+
+// It leaves where its connection closes.
+fn follow_end(rooms: &mut Rooms, seat: &Seat, number: usize)
+    requires known { number < length rooms.old }
+    ensures { rooms.new ≡ ended (closes_by seat.now) number rooms.old }
+{
     if seat.closes() {
         rooms.leave(number);
     }
-    Ok(())
 }
 
 // The same, but for its end.

@@ -11,6 +11,10 @@ use Rattle.h1_connection.specs.declared.event.Event.TheVariants as event
 use Rattle.ws_seat.specs.Seat.{SeatState}
 use Rattle.ws_seat.specs.Turn.{allows, sent_by, may_accept, limit_of, answer_by, asked_by, socket_by, IsAsked}
 
+pub and_false : (b : Bool) → (b && false) ≡ false
+and_false true = refl
+and_false false = refl
+
 -- ---- the choice among four
 
 abbrev choice : Bool → Bool → Bool → on.Event → on.Event → on.Event → on.Event → on.Event
@@ -92,3 +96,43 @@ pub pull_after : (seat : SeatState) (said : Message) (v : Option Event) → allo
     → IsAsked seat.connection (socket_by seat (Some said)) v
 pull_after seat said v cannot asked =
     subst (λ (e : on.Event). IsAsked seat.connection e v) (sym (ap (λ (b : Bool). sent_by b (Some said)) cannot)) asked
+
+-- ---- no event is asked for
+
+-- not where a message may be sent
+pub none_not_send : (seat : SeatState) (said : Message) → allows seat (on.send frames.nop) ≡ true → IsAsked seat.connection (socket_by seat (Some said)) None → ⊥
+none_not_send seat said may none =
+    let sends : on.send said ≡ on.pull = sym (ap (λ (b : Bool). sent_by b (Some said)) may) ∙ none.0 in cc
+
+-- nor where an answer may come
+pub none_not_answer : (seat : SeatState) (front : Option Message) → allows seat on.next ≡ false → may_accept seat ≡ false → allows seat (answer_by seat) ≡ true
+    → IsAsked seat.connection (asked_by seat front) None → ⊥
+none_not_answer seat front no_next no_accept may none =
+    let answers : answer_by seat ≡ on.pull =
+    sym (third_choice (allows seat on.next) (may_accept seat) (allows seat (answer_by seat)) on.next (on.accept (limit_of seat)) (answer_by seat) (socket_by seat front) no_next no_accept may)
+    ∙ none.0 in cc
+
+-- else it is as on a WebSocket
+pub socket_none : (seat : SeatState) (front : Option Message) → allows seat on.next ≡ false → may_accept seat ≡ false → allows seat (answer_by seat) ≡ false
+    → IsAsked seat.connection (asked_by seat front) None → IsAsked seat.connection (socket_by seat front) None
+socket_none seat front no_next no_accept no_answer none =
+    subst (λ (e : on.Event). IsAsked seat.connection e None)
+    (last_choice (allows seat on.next) (may_accept seat) (allows seat (answer_by seat)) on.next (on.accept (limit_of seat)) (answer_by seat) (socket_by seat front) no_next no_accept no_answer)
+    none
+
+-- not where one is
+pub none_not_some : (seat : SeatState) (asked : on.Event) (v : Event) → IsAsked seat.connection asked (Some v) → IsAsked seat.connection asked None → ⊥
+none_not_some seat asked v some none =
+    let yes : allows seat on.pull ≡ true = subst (λ (e : on.Event). allows seat e ≡ true) (some.0 ∙ none.0) some.1 in
+    let bad : true ≡ false = sym yes ∙ none.1 in cc
+
+-- where nothing is allowed
+pub none_asked : (seat : SeatState) (front : Option Message) → ((e : on.Event) → allows seat e ≡ false) → IsAsked seat.connection (asked_by seat front) None
+none_asked seat front never = (
+  last_choice (allows seat on.next) (may_accept seat) (allows seat (answer_by seat)) on.next (on.accept (limit_of seat)) (answer_by seat) (socket_by seat front)
+      (never on.next)
+      (ap (λ (b : Bool). not (is_some seat.refusal) && b) (never (on.accept (limit_of seat))) ∙ and_false (not (is_some seat.refusal)))
+      (never (answer_by seat))
+      ∙ ap (λ (b : Bool). sent_by b front) (never (on.send frames.nop)),
+  never on.pull,
+)

@@ -25,7 +25,8 @@ use Rattle.ws_hub_model.specs.Trace.{core_trace, IsTurnEvent}
 use Rattle.ws_hub_model.specs.Turn.{tried, socket_event, turn_event, asked_event}
 use Rattle.ws_hub_model.proofs.AskLemmas.{each_turn_asks}
 use Rattle.ws_hub_model.proofs.TurnLemmas.{each_turn}
-use Rattle.ws_seat.specs.Seat.{SeatState, IsUsable, SeatGoesOn}
+use Rattle.ws_seat.specs.Seat.{SeatState, SeatStands, IsUsable, SeatGoesOn}
+use Rattle.ws_seat.proofs.AskLemmas.{none_asked}
 use Rattle.ws_seat.specs.Turn.{allows, sent_by, may_accept, limit_of, answer_by, asked_by, first_message, IsSeatOf, IsTurnOf, TurnsBy, IsAsked}
 use Rattle.ws_seat.specs.declared.seat.Turn.{Turn}
 
@@ -124,3 +125,19 @@ no_turn seat front fits asked = (
 pub holds_of : (limit : ℕ) (old seat : SeatState) → old ≡ seat → IsUsable limit old.connection.settings
     → MAX_FRAME_HEAD ≤ seat.connection.settings.h1_hold_size
 holds_of limit old seat is usable = subst (λ (s : SeatState). MAX_FRAME_HEAD ≤ s.connection.settings.h1_hold_size) is usable.holds
+
+-- where the connection is over nothing is allowed, and no event is asked for
+never_over : (seat : SeatState) (trace : List Step) → SeatStands seat trace → is_over trace ≡ true → (e : on.Event) → allows seat e ≡ false
+never_over seat trace x over e =
+    let setting = setting_of seat.connection.settings in
+    elim (cases_Bool (allows seat e)) [
+      | inl may ↦
+          absurd
+          (let runs : is_over trace ≡ false = goes_on setting trace e ((allowed_of_trace setting seat.connection.kept trace e x.stands).0 may) in
+          let bad : true ≡ false = sym over ∙ runs in cc)
+      | inr cannot ↦ cannot
+    ]
+
+pub over_none : (seat : SeatState) (front : Option Message) (trace : List Step) → SeatStands seat trace → is_over trace ≡ true
+    → IsAsked seat.connection (asked_by seat front) None
+over_none seat front trace x over = none_asked seat front (never_over seat trace x over)

@@ -1,5 +1,5 @@
 -- A connection of a hub as its contracts see it, and the traces that it stands for.
-use Rattle.std.specs.Prelude.{◌≡◌, ◌≤◌, ℕ, List, ◌∷◌, Option, Some, None, option_map, if◌then◌else◌}
+use Rattle.std.specs.Prelude.{◌≡◌, ◌≤◌, ℕ, Bool, true, false, List, ◌∷◌, Option, Some, None, option_map, if◌then◌else◌}
 use Rattle.http_config.specs.Config.{Settings}
 use Rattle.http_uri.specs.Uri.{uri_path}
 use Rattle.h1_model.specs.Limits.{MAX_FRAME_HEAD}
@@ -72,3 +72,8 @@ refusal_after event _ before = before
 abbrev pub room_after : Outcome → Option (List ℕ) → Option (List ℕ)
 room_after (out.Head item) before = Some (uri_path item.head.uri)
 room_after _ before = before
+
+-- the outcome hands out a head
+abbrev pub gives_head : Outcome → Bool
+gives_head (out.Head item) = true
+gives_head _ = false

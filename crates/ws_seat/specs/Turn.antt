@@ -9,7 +9,12 @@ use Rattle.h1_model.specs.Trace as traces
 use Rattle.h1_machine.specs.Local.{allowed_by}
 use Rattle.h1_connection.specs.Meaning.{setting_of, event_of, SaysOutcome}
 use Rattle.h1_connection.specs.State.{State, IsAllowed}
+use Rattle.h1_connection.specs.declared.connection.frames.Sent.{Sent}
+use Rattle.h1_connection.specs.declared.connection.frames.Sent.TheVariants as sent
 use Rattle.h1_connection.specs.declared.event.Event.{Event}
+use Rattle.h1_connection.specs.declared.event.Event.TheVariants as event
+use Rattle.h1_connection.specs.declared.event.Outcome.{Outcome}
+use Rattle.h1_connection.specs.declared.event.Outcome.TheVariants as out
 use Rattle.ws_hub_model.specs.Seen.{Seen, row_of}
 use Rattle.ws_hub_model.specs.Trace.{core_trace, IsTurnEvent, IsHubTrace}
 use Rattle.ws_hub_model.specs.Turn.{accept_limit, answer_head}
@@ -87,3 +92,20 @@ abbrev pub TurnsBy : SeatState → Option Message → Option Turn → SeatState 
 TurnsBy seat front None after =
     (after ≡ seat) × ((seen : List Seen) (i : ℕ) → IsSeatOf seat front seen i → IsTrue (is_over (core_trace i seen)))
 TurnsBy seat front (Some turn) after = (seen : List Seen) (i : ℕ) → IsSeatOf seat front seen i → IsTurnOf seat seen i turn after
+
+-- ---- a turn that sends a message
+
+-- what came of a message, as an outcome
+abbrev pub sent_outcome : Sent → Outcome
+sent_outcome sent.Done = out.Done
+sent_outcome (sent.Protocol error) = out.Protocol error
+
+-- the turn that sends this message
+abbrev pub sending : Message → Sent → Turn
+sending message what = record { event = event.Send message; outcome = sent_outcome what }
+
+-- A turn sends this message, which waits first, and is that of the rules. There is none where nothing may be sent, and then
+-- nothing changes.
+abbrev pub SendsBy : SeatState → Message → Option Sent → SeatState → Type 0
+SendsBy seat message None after = (after ≡ seat) × (allows seat (on.send frames.nop) ≡ false)
+SendsBy seat message (Some what) after = TurnsBy seat (Some message) (Some (sending message what)) after

@@ -1,7 +1,7 @@
 // What is kept beside a connection of what it answers.
-ghost use Rattle.std.specs.Prelude.{◌≡◌, option_map, OnOk};
+ghost use Rattle.std.specs.Prelude.{◌≡◌, true, option_map, OnOk, OnErr};
 ghost use Rattle.h1_connection.specs.Meaning.{failing_of};
-ghost use Rattle.ws_seat.specs.Seat.{refused_by, refusal_after, room_after};
+ghost use Rattle.ws_seat.specs.Seat.{refused_by, refusal_after, room_after, gives_head};
 
 use bytes::Bytes;
 use h1_connection::{Event, HandshakeError, NoMemory, Outcome};
@@ -29,7 +29,8 @@ fn keep_error(refusal: &mut Option<HandshakeError>, event: &Event, error: Handsh
 
 // Keeps the room of a new request.
 pub fn keep_room(alloc: Global, room: &mut Option<Bytes>, outcome: &Outcome) -> Result<(), NoMemory>
-    ensures { OnOk result (room.new ≡ room_after outcome.now room.old) }
+    ensures kept { OnOk result (room.new ≡ room_after outcome.now room.old) }
+    ensures err { OnErr result (gives_head outcome.now ≡ true) }
 {
     if let Outcome::Head(item) = outcome {
         let path = Bytes::copy_from_slice(alloc, item.head.uri.path().as_bytes())?;

@@ -9,7 +9,7 @@ mod kept;
 mod seat;
 
 pub use h1_connection::{
-    Connection, Event, HandshakeError, Message, NoMemory, Outcome, ServiceConfig,
+    Connection, Event, HandshakeError, Message, NoMemory, Outcome, Sent, ServiceConfig,
     ServiceConfigBuilder,
 };
 pub use seat::{Seat, Turn};

@@ -1,24 +1,25 @@
 //! A connection of a hub.
-ghost use Rattle.std.specs.Prelude.{◌≡◌, ◌≤◌, List, [], Some, option_map, is_some, IfOk, OnOk};
+ghost use Rattle.std.specs.Prelude.{◌≡◌, ◌≤◌, List, [], Some, None, option_map, is_some, true, false, IfOk, IsOk, OnOk, OnErr};
 ghost use Rattle.std.specs.Option.{option_copied};
 ghost use Rattle.h1_model.specs.Event as on;
+ghost use Rattle.h1_model.specs.Frame as frames;
 ghost use Rattle.h1_model.specs.Limits.{MAX_FRAME_HEAD};
 ghost use Rattle.h1_model.specs.Sums.{Step};
 ghost use Rattle.h1_machine.specs.Local.{closing_by};
 ghost use Rattle.h1_connection.specs.Meaning.{setting_of, event_of, failing_of, SaysOutcome};
-ghost use Rattle.h1_connection.specs.State.{IsAllowed};
+ghost use Rattle.h1_connection.specs.State.{IsAllowed, TakesNoMemory};
 ghost use Rattle.ws_frames.specs.Sent.{message_says};
 ghost use Rattle.h1_codec.specs.Meaning.{answer_of};
 ghost use Rattle.ws_hub_model.specs.Trace.{Closes};
 ghost use Rattle.ws_hub_model.specs.Turn.{answer_head};
-ghost use Rattle.ws_seat.specs.Seat.{fresh_seat, SeatStands, SeatGoesOn, refusal_after, room_after};
-ghost use Rattle.ws_seat.specs.Turn.{socket_by, may_accept, answer_by, asked_by, IsAsked, AsksBy, TurnsBy};
+ghost use Rattle.ws_seat.specs.Seat.{fresh_seat, SeatStands, SeatGoesOn, refusal_after, room_after, gives_head};
+ghost use Rattle.ws_seat.specs.Turn.{allows, socket_by, may_accept, answer_by, asked_by, IsAsked, AsksBy, TurnsBy, SendsBy};
 
 use crate::kept::{keep_refusal, keep_room};
 use bytes::Bytes;
 use h1_connection::{
     BodySize, Boxed, Connection, Event, HandshakeError, Message, NoMemory, Outcome, ResponseHead,
-    SentMessage, ServiceConfig,
+    Sent, SentMessage, ServiceConfig,
 };
 use http_types::StatusCode;
 use std::alloc::Global;
@@ -102,11 +103,15 @@ impl Seat {
         self.connection.closing().is_some()
     }
 
-    /// Takes in an event that is allowed, and answers it as the connection does.
+    /// Takes in an event that is allowed, and answers it as the connection does. Where memory runs out nothing changes,
+    /// unless the next request was asked for. An event for which the connection needs no memory needs none here.
     pub fn step(&mut self, event: &Event) -> Result<Outcome, NoMemory>
         requires allowed { IsAllowed self.old.connection (event_of event.now) }
         ensures stands { IfOk result (λ outcome. SeatGoesOn self.old (event_of event.now) (SaysOutcome outcome) self.new) }
         ensures settings { self.new.connection.settings ≡ self.old.connection.settings }
+        ensures err { OnErr result ((trace : List Step) → SeatStands self.old trace → (event_of event.now ≡ on.next → ⊥) → self.new ≡ self.old) }
+        ensures no_memory_needed { (trace : List Step) → SeatStands self.old trace → (event_of event.now ≡ on.next → ⊥)
+            → TakesNoMemory self.old.connection (event_of event.now) → IsOk result }
     {
         let outcome = self.connection.step(event)?;
         self.note(event, &outcome)?;
@@ -120,6 +125,7 @@ impl Seat {
           room = room_after outcome.now self.old.room;
         }) }
         ensures connection { self.new.connection ≡ self.old.connection }
+        ensures err { OnErr result (gives_head outcome.now ≡ true) }
     {
         keep_refusal(&mut self.refusal, event, outcome);
         keep_room(self.alloc, &mut self.room, outcome)
@@ -127,10 +133,11 @@ impl Seat {
 
     /// Takes a turn, by the message that waits first: asks for the next request, accepts it as a WebSocket or answers it,
     /// sends that message, or takes the next frame, whichever the rules say. Where the connection is over there is no
-    /// turn, and nothing changes. For the event that is handed out, a text is copied.
+    /// turn, nothing changes, and it takes no memory. For the event that is handed out, a text is copied.
     pub fn turn(&mut self, front: Option<&Message>) -> Result<Option<Turn>, NoMemory>
         ensures asked { IfOk result (λ turn. AsksBy self.old (option_map message_says (option_copied front.entry)) turn self.new) }
         ensures turned { IfOk result (λ turn. TurnsBy self.old (option_map message_says (option_copied front.entry)) turn self.new) }
+        ensures no_memory_needed { IsAsked self.old.connection (asked_by self.old (option_map message_says (option_copied front.entry))) None → IsOk result }
         ensures settings { self.new.connection.settings ≡ self.old.connection.settings }
     {
         let Some(event) = self.turn_event(front)? else {
@@ -140,10 +147,26 @@ impl Seat {
         Ok(Some(Turn { event, outcome }))
     }
 
+    /// A turn that sends this message, which waits first. There is none where nothing may be sent: `turn` does then what the
+    /// rules say. Unlike there, no event is handed out, so nothing is copied for it. Where memory runs out nothing changes.
+    pub fn send_front(&mut self, front: &Message) -> Result<Option<Sent>, NoMemory>
+        ensures turned { IfOk result (λ sent. SendsBy self.old (message_says front.now) sent self.new) }
+        ensures settings { self.new.connection.settings ≡ self.old.connection.settings }
+        ensures no_memory_needed { allows self.old (on.send frames.nop) ≡ false → IsOk result }
+        ensures err { OnErr result (self.new ≡ self.old) }
+    {
+        if !self.connection.can_send() {
+            return Ok(None);
+        }
+        let sent = self.connection.send(front)?;
+        Ok(Some(sent))
+    }
+
     // The event that the rules say, if it is allowed.
     fn turn_event(&self, front: Option<&Message>) -> Result<Option<Event>, NoMemory>
         ensures holds { MAX_FRAME_HEAD ≤ self.now.connection.settings.h1_hold_size }
         ensures asked { IfOk result (IsAsked self.now.connection (asked_by self.now (option_map message_says (option_copied front.entry)))) }
+        ensures no_memory_needed { IsAsked self.now.connection (asked_by self.now (option_map message_says (option_copied front.entry))) None → IsOk result }
     {
         if self.connection.allowed(&Event::Next) {
             return Ok(Some(Event::Next));
@@ -190,7 +213,8 @@ impl Seat {
 
     // The event of a WebSocket: the message that waits first is sent where one may be, and else the next frame is taken.
     fn socket_event(&self, front: Option<&Message>) -> Result<Option<Event>, NoMemory>
-        ensures { IfOk result (IsAsked self.now.connection (socket_by self.now (option_map message_says (option_copied front.entry)))) }
+        ensures asked { IfOk result (IsAsked self.now.connection (socket_by self.now (option_map message_says (option_copied front.entry)))) }
+        ensures no_memory_needed { IsAsked self.now.connection (socket_by self.now (option_map message_says (option_copied front.entry))) None → IsOk result }
     {
         if let Some(message) = front {
             return self.send_event(message);
@@ -200,7 +224,8 @@ impl Seat {
 
     // The same where this message waits first.
     fn send_event(&self, message: &Message) -> Result<Option<Event>, NoMemory>
-        ensures { IfOk result (IsAsked self.now.connection (socket_by self.now (Some (message_says message.now)))) }
+        ensures asked { IfOk result (IsAsked self.now.connection (socket_by self.now (Some (message_says message.now)))) }
+        ensures no_memory_needed { IsAsked self.now.connection (socket_by self.now (Some (message_says message.now))) None → IsOk result }
     {
         if self.connection.can_send() {
             let copy = message.copy()?;

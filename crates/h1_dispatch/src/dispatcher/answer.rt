@@ -33,14 +33,11 @@ where
         ensures registered { OnIdle result (IsArmed cx.new) }
         ensures kept { Keeps cx.old cx.new }
     {
-        let Work::Calling(mut call) = mem::replace(&mut self.work, Work::Free) else {
+        let Work::Calling(call) = &mut self.work else {
             unreachable!()
         };
-        match self.service.poll_call(&mut call, &mut self.queue, cx) {
-            Poll::Pending => {
-                self.work = Work::Calling(call);
-                self.feed(cx)
-            }
+        match self.service.poll_call(call, &mut self.queue, cx) {
+            Poll::Pending => self.feed(cx),
             Poll::Ready(Ok(response)) => {
                 self.work = Work::Replying(response);
                 self.hand_on()
@@ -101,7 +98,7 @@ where
         ensures says { EndSays 1 (view_of T.wiring S.served S.calling B.gives L.noted self.old) (view_of T.wiring S.served S.calling B.gives L.noted self.new) result }
         ensures open { MayBePolled S.calling self.new }
     {
-        let Work::Replying(response) = mem::replace(&mut self.work, Work::Free) else {
+        let Work::Replying(response) = &self.work else {
             unreachable!()
         };
         let size = response.body().size();
@@ -109,13 +106,16 @@ where
             Ok(()) => {
                 self.queue = Payload::create(self.alloc, true);
                 if size.is_eof() {
+                    self.work = Work::Free;
                     return Turn::Counted;
                 }
+                let Work::Replying(response) = mem::replace(&mut self.work, Work::Free) else {
+                    unreachable!()
+                };
                 self.work = Work::Sending(response.into_body());
                 Turn::Counted
             }
             Err(_) => {
-                self.work = Work::Replying(response);
                 self.ending = Some(Ending::Broken);
                 Turn::Over(Err(DispatchError::NoMemory))
             }

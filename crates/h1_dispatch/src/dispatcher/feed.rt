@@ -1,12 +1,13 @@
 // The body of a request.
-ghost use Rattle.std.specs.Prelude.{◌≡◌, ◌<◌, ◌+◌, None, true};
+ghost use Rattle.std.specs.Prelude.{◌≡◌, ◌<◌, ◌+◌, ◌⊎◌, None, true};
 ghost use Rattle.futures.specs.Task.{IsArmed, Keeps};
 ghost use Rattle.http_services.specs.Queue.{waiting};
 ghost use Rattle.http_services.specs.Status.{status_of, Asked};
-ghost use Rattle.h1_dispatch.specs.View.{view_of, stage_of, is_awaiting, MayBePolled, allows_answer};
+ghost use Rattle.h1_dispatch.specs.View.{view_of, stage_of, is_awaiting, MayBePolled, HasNoOutput, allows_answer};
 ghost use Rattle.h1_dispatch.specs.Steps.{Wants, error_of};
 ghost use Rattle.h1_dispatch.specs.Polls.{OnIdle, FeedingSays};
 
+use crate::dispatcher::read::wake;
 use crate::dispatcher::{Dispatcher, Ending, Turn};
 use futures::task::Context;
 use h1_connection::{BodyFault, Pulled};
@@ -44,6 +45,43 @@ where
             PayloadStatus::Pause => self.read_on(cx),
             PayloadStatus::Dropped => self.read_on(cx),
         }
+    }
+
+    /// Feeds the queue, or else reads, where what waits to be written has to go out before anything else: it was tried, unless
+    /// nothing waits that may be written.
+    pub(super) fn feed_beside(&mut self, cx: &mut Context<'_>) -> Turn
+        requires open { MayBePolled S.calling self.old }
+        requires running { self.old.ending ≡ None }
+        requires allowed { allows_answer (view_of T.wiring S.served S.calling B.gives L.noted self.old) ≡ true }
+        requires awaits { is_awaiting (stage_of S.calling B.gives self.old.work) ≡ true }
+        requires armed { HasNoOutput (view_of T.wiring S.served S.calling B.gives L.noted self.old) ⊎ IsArmed cx.old }
+        ensures says { FeedingSays (view_of T.wiring S.served S.calling B.gives L.noted self.old) (view_of T.wiring S.served S.calling B.gives L.noted self.new) result }
+        ensures open { MayBePolled S.calling self.new }
+        ensures registered { OnIdle result (IsArmed cx.new) }
+        ensures kept { Keeps cx.old cx.new }
+    {
+        if self.line.connection().buffered() == 0 {
+            return self.feed_woken(cx);
+        }
+        if !self.line.connection().can_write() {
+            return self.feed_woken(cx);
+        }
+        self.feed(cx)
+    }
+
+    /// Asks for another poll, and feeds the queue, or else reads.
+    fn feed_woken(&mut self, cx: &mut Context<'_>) -> Turn
+        requires open { MayBePolled S.calling self.old }
+        requires running { self.old.ending ≡ None }
+        requires allowed { allows_answer (view_of T.wiring S.served S.calling B.gives L.noted self.old) ≡ true }
+        requires awaits { is_awaiting (stage_of S.calling B.gives self.old.work) ≡ true }
+        ensures says { FeedingSays (view_of T.wiring S.served S.calling B.gives L.noted self.old) (view_of T.wiring S.served S.calling B.gives L.noted self.new) result }
+        ensures open { MayBePolled S.calling self.new }
+        ensures registered { OnIdle result (IsArmed cx.new) }
+        ensures kept { Keeps cx.old cx.new }
+    {
+        let _: Turn = wake(cx);
+        self.feed(cx)
     }
 
     /// What the queue wants. If it wants nothing for now, the task is woken once it does.

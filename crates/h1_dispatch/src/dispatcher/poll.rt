@@ -27,9 +27,10 @@ where
     /// 64 turns, of at most five steps each, each the first of these that is possible: what is buffered is written; a
     /// connection that closes tells its end, and the wire is shut down; the body of an answer is polled, where there is room
     /// for a piece of it, and what comes is handed on; the answer of the call in progress is handed on, once what is left of
-    /// the request's body was dropped; more of that body is fed to its queue, where the queue wants it; the next head goes to
-    /// the service, where there is room for its answer; the input is read. While it closes nothing is read, no body is polled
-    /// or fed, and no request is begun or answered.
+    /// the request's body was dropped; a client that waits to be told to go on is told so, and then its request goes to the
+    /// service, where there is room for the answer; more of the body is fed to its queue, where the queue wants it; the next
+    /// head is asked for, where there is room for its answer; the input is read. While it closes nothing is read, no body is
+    /// polled or fed, and no request is begun or answered.
     ///
     /// It is pending where all that is needed is pending, or where its turns are spent: then the task is woken.
     ///

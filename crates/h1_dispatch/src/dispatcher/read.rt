@@ -17,6 +17,9 @@ use http_services::h1::Payload;
 use http_types::{DispatchError, Request, Response};
 use http_wires::Wire;
 
+// How much room a read is lent until one fills it: a browser's head mostly has no more bytes.
+const FEW_BYTES: usize = 1024;
+
 impl<T, S, L, B> Dispatcher<T, S, S::Call, L, B>
 where
     T: Wire,
@@ -40,8 +43,7 @@ where
         if !self.line.connection().can_read() {
             return wake(cx);
         }
-        let mut buf = [0; READ_SIZE];
-        self.read(&mut buf[..READ_SIZE.min(room)], cx)
+        self.read_up_to(room, cx)
     }
 
     /// Reads, where something else was pending.
@@ -61,8 +63,7 @@ where
         if !self.line.connection().can_read() {
             return Turn::Idle;
         }
-        let mut buf = [0; READ_SIZE];
-        self.read(&mut buf[..READ_SIZE.min(room)], cx)
+        self.read_up_to(room, cx)
     }
 
     /// Reads, where what waits to be written has to go out before anything else: it was tried, unless nothing waits that may
@@ -83,6 +84,44 @@ where
             return self.read_alone(cx);
         }
         self.read_on(cx)
+    }
+
+    /// Reads at most so many bytes. Room for few of them serves until a read fills it: all the room that is lent is cleared
+    /// before, and mostly few bytes come.
+    fn read_up_to(&mut self, limit: usize, cx: &mut Context<'_>) -> Turn
+        requires open { MayBePolled S.calling self.old }
+        requires running { self.old.ending ≡ None }
+        requires some { 0 < limit }
+        requires fits { limit ≤ room (view_of T.wiring S.served S.calling B.gives L.noted self.old) }
+        requires read { (bytes : List ℕ) → allows (view_of T.wiring S.served S.calling B.gives L.noted self.old) (on.read bytes) ≡ true }
+        requires eof { allows (view_of T.wiring S.served S.calling B.gives L.noted self.old) on.eof ≡ true }
+        ensures says { ReadingSays (view_of T.wiring S.served S.calling B.gives L.noted self.old) (view_of T.wiring S.served S.calling B.gives L.noted self.new) result }
+        ensures open { MayBePolled S.calling self.new }
+        ensures registered { OnIdle result (IsArmed cx.new) }
+        ensures kept { Keeps cx.old cx.new }
+    {
+        if self.has_filled_read {
+            return self.read_many(limit, cx);
+        }
+        let mut buf = [0; FEW_BYTES];
+        self.read(&mut buf[..FEW_BYTES.min(limit)], cx)
+    }
+
+    /// Reads at most so many bytes, with room for `READ_SIZE`.
+    fn read_many(&mut self, limit: usize, cx: &mut Context<'_>) -> Turn
+        requires open { MayBePolled S.calling self.old }
+        requires running { self.old.ending ≡ None }
+        requires some { 0 < limit }
+        requires fits { limit ≤ room (view_of T.wiring S.served S.calling B.gives L.noted self.old) }
+        requires read { (bytes : List ℕ) → allows (view_of T.wiring S.served S.calling B.gives L.noted self.old) (on.read bytes) ≡ true }
+        requires eof { allows (view_of T.wiring S.served S.calling B.gives L.noted self.old) on.eof ≡ true }
+        ensures says { ReadingSays (view_of T.wiring S.served S.calling B.gives L.noted self.old) (view_of T.wiring S.served S.calling B.gives L.noted self.new) result }
+        ensures open { MayBePolled S.calling self.new }
+        ensures registered { OnIdle result (IsArmed cx.new) }
+        ensures kept { Keeps cx.old cx.new }
+    {
+        let mut buf = [0; READ_SIZE];
+        self.read(&mut buf[..READ_SIZE.min(limit)], cx)
     }
 
     /// Reads as many bytes as there are, at most what fits.
@@ -108,13 +147,16 @@ where
                     Turn::Over(Err(DispatchError::NoMemory))
                 }
             },
-            Poll::Ready(Ok(count)) => match self.line.read(&buf[..count]) {
-                Ok(_) => Turn::Counted,
-                Err(_) => {
-                    self.ending = Some(Ending::Broken);
-                    Turn::Over(Err(DispatchError::NoMemory))
+            Poll::Ready(Ok(count)) => {
+                self.has_filled_read = count == buf.len();
+                match self.line.read(&buf[..count]) {
+                    Ok(_) => Turn::Counted,
+                    Err(_) => {
+                        self.ending = Some(Ending::Broken);
+                        Turn::Over(Err(DispatchError::NoMemory))
+                    }
                 }
-            },
+            }
         }
     }
 }

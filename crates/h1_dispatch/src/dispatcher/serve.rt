@@ -1,9 +1,10 @@
 // The next head is asked for, and the service.
 ghost use Rattle.std.specs.Prelude.{◌≡◌, ◌⊎◌, None, true, false};
 ghost use Rattle.futures.specs.Task.{IsArmed, Keeps};
-ghost use Rattle.h1_dispatch.specs.View.{view_of, stage_of, is_busy, is_waiting, is_sending, MayBePolled, HasNoOutput, allows_next, has_write_room, allows_answer};
+ghost use Rattle.h1_model.specs.Event as on;
+ghost use Rattle.h1_dispatch.specs.View.{view_of, stage_of, is_busy, is_waiting, is_sending, MayBePolled, HasNoOutput, allows, allows_next, has_write_room, allows_answer};
 ghost use Rattle.h1_dispatch.specs.Steps.{is_bodyless};
-ghost use Rattle.h1_dispatch.specs.Polls.{OnIdle, ServeSays};
+ghost use Rattle.h1_dispatch.specs.Polls.{OnIdle, ServeSays, EndSays};
 
 use crate::dispatcher::{Dispatcher, Ending, Turn, Work};
 use futures::task::{Context, Poll};
@@ -23,8 +24,8 @@ where
     B: MessageBody,
     L: Recorder,
 {
-    /// Goes on with the answer's body, or else the open request, or else the next head, where there is room for its answer,
-    /// or else the input.
+    /// Goes on with the answer's body, or else the open request, or else the next head, where there is room for its answer
+    /// and where some byte of it is there, or else the input.
     pub(super) fn serve(&mut self, cx: &mut Context<'_>) -> Turn
         requires open { MayBePolled S.calling self.old }
         requires running { self.old.ending ≡ None }
@@ -49,7 +50,13 @@ where
         if !self.has_room() {
             return self.read_beside(cx);
         }
-        self.next(cx)
+        if self.line.connection().held() != 0 {
+            return self.next(cx);
+        }
+        if self.line.connection().read_room() == 0 {
+            return self.next(cx);
+        }
+        self.read_alone(cx)
     }
 
     /// Whether fewer bytes wait to be written than the settings' write buffer size.
@@ -64,6 +71,7 @@ where
         requires open { MayBePolled S.calling self.old }
         requires running { self.old.ending ≡ None }
         requires allowed { allows_answer (view_of T.wiring S.served S.calling B.gives L.noted self.old) ≡ true }
+        requires armed { HasNoOutput (view_of T.wiring S.served S.calling B.gives L.noted self.old) ⊎ IsArmed cx.old }
         requires unsent { is_sending (stage_of S.calling B.gives self.old.work) ≡ false }
         ensures says { ServeSays 4 (view_of T.wiring S.served S.calling B.gives L.noted self.old) (view_of T.wiring S.served S.calling B.gives L.noted self.new) result }
         ensures open { MayBePolled S.calling self.new }
@@ -72,10 +80,53 @@ where
     {
         match self.work {
             Work::Free => self.read_alone(cx),
-            Work::Waiting(_) => self.ask(cx),
+            Work::Waiting(_) => self.admit(cx),
             Work::Calling(_) => self.answer(cx),
             Work::Replying(_) => self.hand_on(),
             Work::Sending(_) => unreachable!(),
+        }
+    }
+
+    /// Has the request that waits go to the service, where there is room for its answer, and once its client was told to go
+    /// on, if it waits for that.
+    fn admit(&mut self, cx: &mut Context<'_>) -> Turn
+        requires open { MayBePolled S.calling self.old }
+        requires running { self.old.ending ≡ None }
+        requires allowed { allows_answer (view_of T.wiring S.served S.calling B.gives L.noted self.old) ≡ true }
+        requires waits { is_waiting (stage_of S.calling B.gives self.old.work) ≡ true }
+        requires armed { HasNoOutput (view_of T.wiring S.served S.calling B.gives L.noted self.old) ⊎ IsArmed cx.old }
+        ensures says { ServeSays 4 (view_of T.wiring S.served S.calling B.gives L.noted self.old) (view_of T.wiring S.served S.calling B.gives L.noted self.new) result }
+        ensures open { MayBePolled S.calling self.new }
+        ensures registered { OnIdle result (IsArmed cx.new) }
+        ensures kept { Keeps cx.old cx.new }
+    {
+        let has_room = self.has_room();
+        if !has_room {
+            return self.feed_beside(cx);
+        }
+        let waits = self.line.connection().can_continue();
+        if waits {
+            return self.tell_on();
+        }
+        self.ask(cx)
+    }
+
+    /// Tells the client of the request that waits to go on.
+    fn tell_on(&mut self) -> Turn
+        requires open { MayBePolled S.calling self.old }
+        requires running { self.old.ending ≡ None }
+        requires waits { is_waiting (stage_of S.calling B.gives self.old.work) ≡ true }
+        requires room { has_write_room (view_of T.wiring S.served S.calling B.gives L.noted self.old) ≡ true }
+        requires told { allows (view_of T.wiring S.served S.calling B.gives L.noted self.old) on.send_continue ≡ true }
+        ensures says { EndSays 1 (view_of T.wiring S.served S.calling B.gives L.noted self.old) (view_of T.wiring S.served S.calling B.gives L.noted self.new) result }
+        ensures open { MayBePolled S.calling self.new }
+    {
+        match self.line.send_continue() {
+            Ok(()) => Turn::Counted,
+            Err(_) => {
+                self.ending = Some(Ending::Broken);
+                Turn::Over(Err(DispatchError::NoMemory))
+            }
         }
     }
 
@@ -118,6 +169,8 @@ where
         requires running { self.old.ending ≡ None }
         requires allowed { allows_answer (view_of T.wiring S.served S.calling B.gives L.noted self.old) ≡ true }
         requires waits { is_waiting (stage_of S.calling B.gives self.old.work) ≡ true }
+        requires room { has_write_room (view_of T.wiring S.served S.calling B.gives L.noted self.old) ≡ true }
+        requires told { allows (view_of T.wiring S.served S.calling B.gives L.noted self.old) on.send_continue ≡ false }
         ensures says { ServeSays 4 (view_of T.wiring S.served S.calling B.gives L.noted self.old) (view_of T.wiring S.served S.calling B.gives L.noted self.new) result }
         ensures open { MayBePolled S.calling self.new }
         ensures registered { OnIdle result (IsArmed cx.new) }

@@ -1,5 +1,6 @@
 use Rattle.std.proofs.Common.{arith}
 use Rattle.h1_dispatch.proofs.Feeds.{run_feeds, run_bound, held_bound}
+use Rattle.h1_dispatch.proofs.Once.{run_has_one}
 use Rattle.h1_dispatch.proofs.laws.runs_feed_bodies.Goals as goal
 
 pub returns-clause-runs : goal.returns-clause-runs
@@ -16,3 +17,6 @@ returns-clause-bound c = run_bound
 
 pub returns-clause-held : goal.returns-clause-held
 returns-clause-held c = held_bound
+
+pub returns-clause-once : goal.returns-clause-once
+returns-clause-once c = λ v w steps body trace stands noted run none. run_has_one v w steps body trace stands noted run none

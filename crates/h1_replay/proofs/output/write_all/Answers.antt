@@ -1,6 +1,6 @@
-use Rattle.std.proofs.Common.{[], refl, arith, rules, ◌≤◌, ◌<◌, length}
+use Rattle.std.proofs.Common.{[], refl, rules, ◌≤◌, ◌<◌, length}
 use Rattle.std.proofs.lemmas.List.{take_rest}
-use Rattle.h1_replay.specs.Output.{Takes, nothing}
+use Rattle.h1_replay.specs.Output.{nothing}
 use Rattle.h1_replay.proofs.Writing.{writes_more}
 use Rattle.h1_replay.proofs.output.write_all.Goals as goal
 

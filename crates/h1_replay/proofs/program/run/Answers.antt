@@ -1,6 +1,6 @@
-use Rattle.std.proofs.Common.{sym, ◌∙◌}
+use Rattle.std.proofs.Common.{inl, inr, refl}
 use Rattle.h1_replay.specs.Reply.{text_of_reply, status_of_reply}
-use Rattle.h1_replay.proofs.Answering.{answer_fault, answer_quiet, fault_rose}
+use Rattle.h1_replay.proofs.Answering.{answer_fault, answer_quiet, fault_rose, gen_status, gen_taken}
 use Rattle.h1_replay.proofs.Completeness.{good_status, refused_status}
 use Rattle.h1_replay.proofs.Writing.{taken_appended, taken_quiet, part_fault, part_rose}
 use Rattle.h1_replay.proofs.program.run.Goals as goal
@@ -51,3 +51,17 @@ returns-clause-complete g c = λ command good works. absurd (works.writes (part_
 
 pub returns-clause-refused : goal.returns-clause-refused
 returns-clause-refused g c = λ index command refused works. absurd (works.writes (part_rose _ _ _ c.in-Err.ensures.part))
+
+pub returns-in-Ok-clause-generated : goal.returns-in-Ok-clause-generated
+returns-in-Ok-clause-generated g c =
+    let answer = rw (← c.status.ensures.value) at c.reply_to-reply.ensures in
+    λ seed count gen. (
+      gen_taken _ seed count gen,
+      elim (gen_status _ _ _ _ _ seed count answer gen) [
+        | inl zero ↦ inl zero
+        | inr seven ↦ inr (inr seven)
+      ],
+    )
+
+pub returns-clause-generated : goal.returns-clause-generated
+returns-clause-generated g c = λ seed count gen. (gen_taken _ seed count gen, inr (inl refl))

@@ -1,6 +1,8 @@
-use Rattle.std.proofs.Common.{Option, Some, None, refl, subst}
+use Rattle.std.proofs.Common.{Option, Some, None, refl, sym, subst}
+use Rattle.std.proofs.lemmas.Bool.{false≢true}
 use Rattle.h1_model.specs.Frame.{Message}
-use Rattle.ws_seat.specs.Turn.{TurnsBy}
+use Rattle.ws_seat.specs.Turn.{asked_by, IsAsked, TurnsBy}
+use Rattle.ws_seat.proofs.AskLemmas.{none_not_some}
 use Rattle.ws_hub.proofs.moves.take_turn.Goals as goal
 
 pub returns-in_default-clause-taken : goal.returns-in_default-clause-taken
@@ -15,3 +17,14 @@ returns-clause-taken c = (
       (rw c.in-Some.is at c.in_ok-turn.ensures.turned),
   c.in_ok-follow.ensures,
 )
+
+pub returns-in_err-turn-clause-no_memory_needed : goal.returns-in_err-turn-clause-no_memory_needed
+returns-in_err-turn-clause-no_memory_needed c = λ none.
+    absurd (false≢true (c.in_err-turn.ensures.no_memory_needed
+    (subst (λ (m : Option Message). IsAsked c.args.seat.now.connection (asked_by c.args.seat.now m) None) (sym c.front.ensures) none)))
+
+pub returns-in_err-follow-clause-no_memory_needed : goal.returns-in_err-follow-clause-no_memory_needed
+returns-in_err-follow-clause-no_memory_needed c = λ none.
+    let asked = rw c.in-Some.is at c.in_ok-turn.ensures.asked in
+    absurd (none_not_some c.args.seat.now _ c.in-Some.turn.event
+    (subst (λ (m : Option Message). IsAsked c.args.seat.now.connection (asked_by c.args.seat.now m) (Some c.in-Some.turn.event)) c.front.ensures asked.0) none)

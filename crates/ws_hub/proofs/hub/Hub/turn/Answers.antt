@@ -1,9 +1,8 @@
-use Rattle.std.proofs.Common.{◌≡◌, length, inl, inr, ap, arith}
+use Rattle.std.proofs.Common.{inl, inr, arith}
 use Rattle.h1_model.specs.Event as on
 use Rattle.ws_hub_model.specs.Hub.{turns}
-use Rattle.ws_hub.specs.Hub.{HubState}
 use Rattle.ws_hub.proofs.HubLemmas.{unknown}
-use Rattle.ws_hub.proofs.CallLemmas.{takes_call, refused_call, hub_of}
+use Rattle.ws_hub.proofs.CallLemmas.{takes_call, refused_call, refused_turn, hub_of}
 use Rattle.ws_hub.proofs.hub.Hub.turn.Goals as goal
 use Rattle.ws_hub.proofs.hub.Hub.turn.Goals.{then-number-len-via-then-number-len, then-number-len-via-else-number-len+then-number-len-2}
 
@@ -26,5 +25,5 @@ returns-clause-turned c =
 
 pub returns-clause-no_memory_needed : goal.returns-clause-no_memory_needed
 returns-clause-no_memory_needed c =
-    let count : length c.self.inside.seats.items ≡ length c.args.self.now.seats = ap (λ (h : HubState). length h.seats) c.self.view_is in
-    λ past. absurd (omega (arith, past, count))
+    refused_turn c.take_turn.result c.args.self.now c.self.inside.config c.self.inside.seats.items c.self.inside.rooms c.args.number c.index_mut.result.now
+    c.self.view_is (omega arith) c.index_mut.ensures.value c.take_turn.ensures.no_memory_needed

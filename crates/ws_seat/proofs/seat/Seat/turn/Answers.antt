@@ -2,6 +2,7 @@ use Rattle.std.proofs.Common.{refl}
 use Rattle.std.specs.Prelude.{option_map}
 use Rattle.std.specs.Option.{option_copied}
 use Rattle.ws_frames.specs.Sent.{message_says}
+use Rattle.ws_seat.proofs.AskLemmas.{none_not_some}
 use Rattle.ws_seat.proofs.TurnLemmas.{turned, no_turn}
 use Rattle.ws_seat.proofs.seat.Seat.turn.Goals as goal
 
@@ -21,3 +22,7 @@ returns-clause-asked c = (rw c.in-Some.is at c.in_ok-event.ensures.asked, c.in_o
 
 pub returns-in_default-clause-asked : goal.returns-in_default-clause-asked
 returns-in_default-clause-asked c = (rw c.in_default.is at c.in_ok-event.ensures.asked, refl)
+
+pub returns-in_err-outcome-clause-no_memory_needed : goal.returns-in_err-outcome-clause-no_memory_needed
+returns-in_err-outcome-clause-no_memory_needed c = λ none.
+    absurd (none_not_some c.args.self.now _ c.in-Some.event (rw c.in-Some.is at c.in_ok-event.ensures.asked) none)

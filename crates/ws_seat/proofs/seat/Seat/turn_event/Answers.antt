@@ -6,7 +6,7 @@ use Rattle.h1_model.specs.Event as on
 use Rattle.ws_frames.specs.Sent.{message_says}
 use Rattle.ws_hub_model.specs.Turn.{answer_head}
 use Rattle.ws_seat.specs.Turn.{limit_of, answer_by}
-use Rattle.ws_seat.proofs.AskLemmas.{next_asked, accept_asked, answer_asked, socket_or, allowed_is}
+use Rattle.ws_seat.proofs.AskLemmas.{next_asked, accept_asked, answer_asked, socket_or, socket_none, none_not_answer, allowed_is}
 use Rattle.ws_seat.proofs.TurnLemmas.{holds_of}
 use Rattle.ws_seat.proofs.seat.Seat.turn_event.Goals as goal
 
@@ -32,7 +32,7 @@ returns-then-can_answer-clause-asked c =
 
 pub returns-clause-asked : goal.returns-clause-asked
 returns-clause-asked c =
-    socket_or c.args.self.now (option_map message_says (option_copied c.args.front)) c.socket_event.result c.socket_event.ensures
+    socket_or c.args.self.now (option_map message_says (option_copied c.args.front)) c.socket_event.result c.socket_event.ensures.asked
     (allowed_is _ c.args.self.now c.allowed.result false on.next c.self.view_is c.allowed.ensures.value c.if-allowed.false)
     (sym c.may_accept.ensures ∙ c.if-may_accept.false)
     (allowed_is _ c.args.self.now c.can_answer.result false (answer_by c.args.self.now) c.self.view_is
@@ -52,3 +52,20 @@ returns-then-can_answer-clause-holds c = holds_of _ _ c.args.self.now c.self.vie
 
 pub returns-clause-holds : goal.returns-clause-holds
 returns-clause-holds c = holds_of _ _ c.args.self.now c.self.view_is c.self.invariant
+
+pub returns-in_err-event-clause-no_memory_needed : goal.returns-in_err-event-clause-no_memory_needed
+returns-in_err-event-clause-no_memory_needed c = λ none.
+    absurd (none_not_answer c.args.self.now (option_map message_says (option_copied c.args.front))
+    (allowed_is _ c.args.self.now c.allowed.result false on.next c.self.view_is c.allowed.ensures.value c.if-allowed.false)
+    (sym c.may_accept.ensures ∙ c.if-may_accept.false)
+    (allowed_is _ c.args.self.now c.can_answer.result true (answer_by c.args.self.now) c.self.view_is
+    (c.can_answer.ensures (answer_head c.args.self.now.refusal) (size_of 0)) c.if-can_answer.true) none)
+
+pub returns-clause-no_memory_needed : goal.returns-clause-no_memory_needed
+returns-clause-no_memory_needed c = λ none.
+    c.socket_event.ensures.no_memory_needed
+    (socket_none c.args.self.now (option_map message_says (option_copied c.args.front))
+    (allowed_is _ c.args.self.now c.allowed.result false on.next c.self.view_is c.allowed.ensures.value c.if-allowed.false)
+    (sym c.may_accept.ensures ∙ c.if-may_accept.false)
+    (allowed_is _ c.args.self.now c.can_answer.result false (answer_by c.args.self.now) c.self.view_is
+    (c.can_answer.ensures (answer_head c.args.self.now.refusal) (size_of 0)) c.if-can_answer.false) none)

@@ -1,6 +1,6 @@
 use Rattle.std.proofs.Common.{rules}
-use Rattle.h1_dispatch.specs.View.{view_of}
-use Rattle.h1_dispatch.proofs.Turns.{input_then, late_body, waits_busy, waits_not, waits_full}
+use Rattle.h1_dispatch.specs.View.{view_of, allows_next, has_write_room}
+use Rattle.h1_dispatch.proofs.Turns.{now_free, both_true, input_then, late_body, waits_busy, waits_not, waits_full, waits_unread}
 use Rattle.h1_dispatch.proofs.dispatcher.serve.Dispatcher+T+S+S+Call+L+B.serve.Goals as goal
 
 pub returns-then-is_busy-clause-says : goal.returns-then-is_busy-clause-says
@@ -20,3 +20,10 @@ returns-then-not-has_room-clause-says g c =
     let v = view_of g.T.Wire.wiring g.S.Service.served g.S.Service.calling g.B.MessageBody.gives g.L.Recorder.noted c.args.self.now in
     let w = view_of g.T.Wire.wiring g.S.Service.served g.S.Service.calling g.B.MessageBody.gives g.L.Recorder.noted c.read_beside.new.self in
     input_then v w c.read_beside.result (late_body v (search rules)) (waits_full v (search rules) (search rules) (search rules)) c.read_beside.ensures.says
+
+pub returns-clause-says : goal.returns-clause-says
+returns-clause-says g c =
+    let v = view_of g.T.Wire.wiring g.S.Service.served g.S.Service.calling g.B.MessageBody.gives g.L.Recorder.noted c.args.self.now in
+    let w = view_of g.T.Wire.wiring g.S.Service.served g.S.Service.calling g.B.MessageBody.gives g.L.Recorder.noted c.read_alone-2.new.self in
+    input_then v w c.read_alone-2.result (late_body v (search rules))
+    (waits_unread v (search rules) (both_true (allows_next v) (has_write_room v) (search rules) (search rules)) (now_free v.stage (search rules)) (search rules, search rules)) c.read_alone-2.ensures.says

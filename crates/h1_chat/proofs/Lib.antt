@@ -1,0 +1,4 @@
+pub mod QuietLemmas
+pub mod MoveLemmas
+pub mod HouseLemmas
+pub mod FlowLemmas

@@ -1,0 +1,96 @@
+//! A connection of the rooms, with its socket.
+ghost use Rattle.std.specs.Prelude.{◌≡◌, true};
+
+use bytes::Bytes;
+use mio::net::TcpStream;
+
+/// How far a socket has come.
+#[derive(Clone, Copy, PartialEq, Eq)]
+pub enum Stage {
+    /// It is read from and written to.
+    Open,
+
+    /// A Close was sent to it: once all is written, its connection ends.
+    Closing,
+
+    /// The connection has ended, and what it owes is still written.
+    Ended,
+
+    /// All was written, and no more will be: what the peer still sends is dropped, until it ends too, or until this many
+    /// milliseconds of uptime.
+    Lingering(u64),
+}
+
+/// How a connection of the rooms and its socket stand to each other.
+#[derive(Drop)]
+pub struct Standing {
+    pub stage: Stage,
+
+    /// What the connection gave, and what isn't written yet.
+    pub owed: Bytes,
+
+    /// There may be something to read.
+    pub may_read: bool,
+
+    /// There may be room to write.
+    pub may_write: bool,
+
+    /// Something came since its connection last had nothing to hand out.
+    pub asks: bool,
+
+    /// The peer sends no more bytes.
+    pub has_ended: bool,
+
+    /// Its connection was told so, or that it is to end.
+    pub is_told: bool,
+
+    /// The peer is gone: what is owed to it is dropped.
+    pub is_lost: bool,
+
+    /// Since when nothing that waits could be written, in milliseconds of uptime.
+    pub stalled: Option<u64>,
+}
+
+impl Standing {
+    /// That of a socket of which nothing is known.
+    pub fn new() -> Standing {
+        Standing {
+            stage: Stage::Open,
+            owed: Bytes::new(),
+            may_read: true,
+            may_write: true,
+            asks: false,
+            has_ended: false,
+            is_told: false,
+            is_lost: false,
+            stalled: None,
+        }
+    }
+
+    /// The peer is gone.
+    pub fn lose(&mut self)
+        ensures { self.new.is_lost ≡ true }
+    {
+        self.is_lost = true;
+        self.has_ended = true;
+        self.may_read = false;
+        self.owed = Bytes::new();
+    }
+}
+
+/// A socket of the rooms.
+#[derive(Drop)]
+pub struct Member {
+    pub stream: TcpStream,
+    pub standing: Standing,
+}
+
+impl Member {
+    /// A socket of which nothing is known.
+    pub fn new(stream: TcpStream) -> Member {
+        Member {
+            stream,
+            standing: Standing::new(),
+        }
+    }
+}

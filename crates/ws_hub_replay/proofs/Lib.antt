@@ -1,0 +1,4 @@
+pub mod Answering
+pub mod Completeness
+pub mod EventLines
+pub mod ReportLines

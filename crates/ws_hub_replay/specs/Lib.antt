@@ -1,0 +1,5 @@
+pub mod Reading
+pub mod Reply
+pub mod Report
+pub mod Run
+pub mod Script
