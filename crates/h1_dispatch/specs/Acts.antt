@@ -8,6 +8,7 @@ use Rattle.http_types.specs.declared.error.DispatchError.{DispatchError}
 use Rattle.http_types.specs.declared.error.DispatchError.TheVariants.{NoMemory}
 use Rattle.h1_dispatch.specs.View.{View, with_drain}
 use Rattle.h1_dispatch.specs.Steps.{Step, IsRun}
+use Rattle.h1_dispatch.specs.Replies.{HandsOn}
 use Rattle.h1_dispatch.specs.Polls.{PollSays}
 use Rattle.h1_dispatch.specs.Traces.{AllNoted}
 
@@ -34,8 +35,10 @@ HasMemory asked = ⊤
 abbrev pub AllHaveMemory : List Act → Type 0
 AllHaveMemory acts = AllByRecursion HasMemory acts
 
--- All of them are one run of steps. Memory runs out in none of these, unless a poll answered so.
+-- All of them are one run of steps. Memory runs out in none of these, unless a poll answered so. Nor is an answer of the
+-- service left at hand that wasn't handed on, unless a poll answered so, or one was at hand before.
 pub record AreOneRun (v : View) (acts : List Act) (w : View) : Type 0 where
   pub steps : List Step
   pub run : IsRun v steps w
   pub noted : AllHaveMemory acts → AllNoted steps
+  pub handed : AllHaveMemory acts → HandsOn v w

@@ -1,5 +1,6 @@
 pub mod View
 pub mod Steps
+pub mod Replies
 pub mod Polls
 pub mod Traces
 pub mod Order

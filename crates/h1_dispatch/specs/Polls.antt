@@ -14,6 +14,8 @@ use Rattle.http_services.specs.declared.h1.send.PayloadStatus.TheVariants as sta
 use Rattle.h1_payload.specs.declared.pulled.Pulled.{Pulled}
 use Rattle.h1_payload.specs.declared.pulled.Pulled.TheVariants as pieces
 use Rattle.h1_model.specs.Event as on
+use Rattle.h1_model.specs.Sums as sums
+use Rattle.h1_line.specs.Line.{LineStands}
 use Rattle.h1_connection.specs.declared.connection.heads.NextHead.{NextHead}
 use Rattle.h1_connection.specs.declared.connection.heads.NextHead.TheVariants as next_head
 use Rattle.h1_connection.specs.declared.connection.ticks.Expiry.{Expiry}
@@ -24,6 +26,7 @@ use Rattle.h1_dispatch.specs.declared.dispatcher.Turn.{Turn}
 use Rattle.h1_dispatch.specs.declared.dispatcher.Turn.TheVariants.{Counted, Idle, Over}
 use Rattle.h1_dispatch.specs.View.{View, Stage, free, waiting, calling, replying, sending, is_sending, is_broken, closes, allows, allows_next, has_write_room, asks_next, allows_answer, awaits_body, allows_chunk, HasNoByte, HasNoOutput, HasNoInput}
 use Rattle.h1_dispatch.specs.Steps.{Step, IsStep, IsRun, ticked, drained, written, read, shut, next, closed, continued, ready, called, answered, pulled, paused, dropped, replied, sent, failed, failed_write, failed_read, failed_fed, failed_sent, asked_to_drain}
+use Rattle.h1_dispatch.specs.Replies.{HasNoReply, HandsOn}
 
 -- ---- steps
 
@@ -257,20 +260,23 @@ IsStuck v w = IsStuckRunning v w ⊎ IsStuckShutting v w
 
 -- ---- turns
 
--- after some steps, of which so many are progress, and which are no more than that, it goes on
+-- After some steps, of which so many are progress, and which are no more than that, it goes on. No answer of the service is
+-- left at hand, unless one was before.
 pub record GoesOn (v w : View) (n most : ℕ) : Type 0 where
   pub steps : List Step
   pub run : IsRun v steps w
   pub go_on : AllContinue steps
   pub enough : n ≤ progress steps
   pub few : length steps ≤ most
+  pub handed : HandsOn v w
 
--- after some steps, no more than that, it ends
+-- after some steps, no more than that, it ends; an answer of the service is left at hand only where memory ran out
 pub record Ends (v w : View) (most : ℕ) (result : Result Unit DispatchError) : Type 0 where
   pub steps : List Step
   pub run : IsRun v steps w
   pub ended : Ended w steps result
   pub few : length steps ≤ most
+  pub handed : (trace : List sums.Step) → LineStands v.line trace → HasNoReply v → (result ≡ Err error.NoMemory) ⊎ HasNoReply w
 
 -- the wire was given what waits to be written in the first of these steps, or nothing waits that may be written
 abbrev pub WritesFirst : View → List Step → Type 0
@@ -306,6 +312,12 @@ abbrev pub StepSays : View → View → Turn → Type 0
 StepSays v w Counted = GoesOn v w 0 1
 StepSays v w Idle = ⊥
 StepSays v w (Over result) = Ends v w 1 result
+
+-- the answer that was at hand was handed on, or memory ran out
+abbrev pub Handed : View → Turn → Type 0
+Handed w Counted = HasNoReply w
+Handed w Idle = ⊥
+Handed w (Over result) = result ≡ Err error.NoMemory
 
 -- a turn that reads
 pub record IsReadIdle (v w : View) : Type 0 where

@@ -1,9 +1,11 @@
 // The call in progress, and its answer.
-ghost use Rattle.std.specs.Prelude.{◌≡◌, None, true, false};
+ghost use Rattle.std.specs.Prelude.{◌≡◌, List, None, true, false};
 ghost use Rattle.futures.specs.Task.{IsArmed, Keeps};
 ghost use Rattle.h1_model.specs.Event as on;
+ghost use Rattle.h1_model.specs.Sums as sums;
+ghost use Rattle.h1_line.specs.Line.{LineStands};
 ghost use Rattle.h1_dispatch.specs.View.{view_of, stage_of, is_calling, is_replying, MayBePolled, allows, allows_answer};
-ghost use Rattle.h1_dispatch.specs.Polls.{OnIdle, ServeSays, EndSays, StepSays};
+ghost use Rattle.h1_dispatch.specs.Polls.{OnIdle, ServeSays, EndSays, StepSays, Handed};
 
 use crate::dispatcher::{Dispatcher, Ending, Turn, Work};
 use futures::task::{Context, Poll};
@@ -56,6 +58,7 @@ where
         requires allowed { allows_answer (view_of T.wiring S.served S.calling B.gives L.noted self.old) ≡ true }
         requires answered { is_replying (stage_of S.calling B.gives self.old.work) ≡ true }
         ensures says { EndSays 2 (view_of T.wiring S.served S.calling B.gives L.noted self.old) (view_of T.wiring S.served S.calling B.gives L.noted self.new) result }
+        ensures handed { (trace : List sums.Step) → LineStands (view_of T.wiring S.served S.calling B.gives L.noted self.old).line trace → Handed (view_of T.wiring S.served S.calling B.gives L.noted self.new) result }
         ensures open { MayBePolled S.calling self.new }
     {
         if !self.line.connection().can_pull() {
@@ -76,6 +79,7 @@ where
         requires running { self.old.ending ≡ None }
         requires answered { is_replying (stage_of S.calling B.gives self.old.work) ≡ true }
         ensures says { StepSays (view_of T.wiring S.served S.calling B.gives L.noted self.old) (view_of T.wiring S.served S.calling B.gives L.noted self.new) result }
+        ensures handed { allows (view_of T.wiring S.served S.calling B.gives L.noted self.old) on.drop_body ≡ false → allows_answer (view_of T.wiring S.served S.calling B.gives L.noted self.old) ≡ true → Handed (view_of T.wiring S.served S.calling B.gives L.noted self.new) result }
         ensures open { MayBePolled S.calling self.new }
     {
         if self.line.connection().can_pull() {
@@ -96,6 +100,7 @@ where
         requires dropped { allows (view_of T.wiring S.served S.calling B.gives L.noted self.old) on.drop_body ≡ false }
         requires answered { is_replying (stage_of S.calling B.gives self.old.work) ≡ true }
         ensures says { EndSays 1 (view_of T.wiring S.served S.calling B.gives L.noted self.old) (view_of T.wiring S.served S.calling B.gives L.noted self.new) result }
+        ensures handed { Handed (view_of T.wiring S.served S.calling B.gives L.noted self.new) result }
         ensures open { MayBePolled S.calling self.new }
     {
         let Work::Replying(response) = &self.work else {
