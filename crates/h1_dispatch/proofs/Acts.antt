@@ -1,47 +1,22 @@
 -- Polls, and what is asked between them, are one run of steps.
-use Rattle.std.proofs.Common.{◌≡◌, ◌⊎◌, ℕ, Bool, true, false, List, [], ◌∷◌, ◌++◌, Result, Ok, Err, inl, inr, refl, ap, sym, subst}
+use Rattle.std.proofs.Common.{◌≡◌, ◌⊎◌, ◌∙◌, ℕ, Bool, true, false, List, [], ◌∷◌, ◌++◌, Result, Ok, Err, inl, inr, refl, ap, sym, subst}
 use Rattle.futures.specs.declared.task.Poll.{Poll}
 use Rattle.futures.specs.declared.task.Poll.TheVariants.{Ready, Pending}
 use Rattle.futures.specs.declared.task.context.Context.{Context}
 use Rattle.http_types.specs.declared.error.DispatchError.{DispatchError}
 use Rattle.http_types.specs.declared.error.DispatchError.TheVariants as error
 use Rattle.h1_model.specs.Event as on
-use Rattle.h1_dispatch.specs.View.{View, Stage, free, waiting, calling, replying, sending, is_sending, closes, has_write_room, asks_next, allows_answer, allows_chunk}
+use Rattle.h1_dispatch.specs.View.{View, Stage, free, waiting, calling, replying, sending, is_sending, is_replying, closes, has_write_room, asks_next, allows_answer, allows_chunk}
 use Rattle.h1_dispatch.specs.Steps.{Step, IsStep, IsRun, ticked, drained, written, read, shut, next, closed, continued, ready, called, answered, pulled, paused, dropped, replied, sent, failed, failed_write, failed_read, failed_fed, failed_sent, asked_to_drain}
 use Rattle.h1_dispatch.specs.Traces.{IsNoted, AllNoted}
 use Rattle.h1_dispatch.specs.Polls.{Continues, AllContinue, EndsWith, IsShut, IsIo, IsStuck, IsHeld, IsIdle, Reads, Feeds, Writes, Serves, Sends, Awaits, Looks, Ended, GoesOn, Ticks, Drains, IsBegun, BeginFails, TurnsSay, PollRuns, PollSays}
 use Rattle.h1_dispatch.specs.Acts.{Act, polled, asked, ActSays, ActsSay, HasMemory, AreOneRun}
-use Rattle.h1_dispatch.proofs.Runs.{one, run_on}
+use Rattle.h1_dispatch.specs.Replies.{HasNoReply, HandsOn}
+use Rattle.h1_dispatch.proofs.Traces.{run_follows}
+use Rattle.h1_dispatch.proofs.Replies.{BringsNone, AllQuiet, quiet_goes, step_hands, run_hands}
+use Rattle.h1_dispatch.proofs.Runs.{one, run_on, goes_noted, all_noted}
 
 -- ---- steps that were noted
-
-goes_noted : (d : Step) → Continues d → IsNoted d
-goes_noted (ticked moment expiry) goes = tt
-goes_noted drained goes = tt
-goes_noted (written answer) goes = tt
-goes_noted (read came answer) goes = tt
-goes_noted (shut answer) goes = tt
-goes_noted (next head) goes = tt
-goes_noted (closed end) goes = tt
-goes_noted continued goes = tt
-goes_noted (ready request answer) goes = tt
-goes_noted (called request) goes = tt
-goes_noted (answered answer) goes = tt
-goes_noted (pulled piece) goes = tt
-goes_noted paused goes = tt
-goes_noted dropped goes = tt
-goes_noted (replied answer) goes = tt
-goes_noted (sent piece) goes = tt
-goes_noted (failed event) goes = absurd goes
-goes_noted (failed_write count) goes = absurd goes
-goes_noted (failed_read came event) goes = absurd goes
-goes_noted (failed_fed bytes) goes = absurd goes
-goes_noted (failed_sent piece) goes = absurd goes
-goes_noted asked_to_drain goes = tt
-
-all_noted : (steps : List Step) → AllContinue steps → AllNoted steps
-all_noted [] all = tt
-all_noted (d ∷ steps) all = (goes_noted d all.0, all_noted steps all.1)
 
 noted_on : (s t : List Step) → AllNoted s → AllNoted t → AllNoted (s ++ t)
 noted_on [] t first then = then
@@ -72,76 +47,85 @@ ended_noted w steps (Err error.H2) enough is = absurd is
 ended_noted w steps (Err error.HandlerDroppedPayload) enough is = absurd is
 ended_noted w steps (Err error.InternalError) enough is = absurd is
 
-awaits_noted : (v : View) (sends allows : Bool) (served : List Step) → Serves v sends allows served → AllNoted served
-awaits_noted v true allows served body = by_room (allows_chunk v) body
+quiet_noted : (steps : List Step) → AllQuiet steps → AllNoted steps
+quiet_noted [] all = tt
+quiet_noted (d ∷ steps) all = (goes_noted d (quiet_goes d all.0), quiet_noted steps all.1)
+
+awaits_quiet : (v : View) (sends allows : Bool) (served : List Step) → Serves v sends allows served → AllQuiet served
+awaits_quiet v true allows served body = by_room (allows_chunk v) body
   where
-    by_room : (may : Bool) → Sends may served → AllNoted served
-    by_room true is = subst (λ l. AllNoted l) (sym is) (tt, tt)
-    by_room false is = subst (λ l. AllNoted l) (sym is) tt
-awaits_noted v false true served waits = by_stage v.stage (has_write_room v) waits
+    by_room : (may : Bool) → Sends may served → AllQuiet served
+    by_room true is = subst (λ l. AllQuiet l) (sym is) (tt, tt)
+    by_room false is = subst (λ l. AllQuiet l) (sym is) tt
+awaits_quiet v false true served waits = by_stage v.stage (has_write_room v) waits
   where
-    by_stage : (s : Stage) (room : Bool) → Awaits s room served → AllNoted served
-    by_stage free room is = subst (λ l. AllNoted l) (sym is) tt
-    by_stage (waiting request) true (inl is) = subst (λ l. AllNoted l) (sym is) (tt, tt)
-    by_stage (waiting request) true (inr is) = subst (λ l. AllNoted l) (sym is) (tt, (tt, tt))
-    by_stage (waiting request) false is = subst (λ l. AllNoted l) (sym is) tt
-    by_stage (calling took) room is = subst (λ l. AllNoted l) (sym is) (tt, tt)
+    by_stage : (s : Stage) (room : Bool) → Awaits s room served → AllQuiet served
+    by_stage free room is = subst (λ l. AllQuiet l) (sym is) tt
+    by_stage (waiting request) true (inl is) = subst (λ l. AllQuiet l) (sym is) (tt, tt)
+    by_stage (waiting request) true (inr is) = subst (λ l. AllQuiet l) (sym is) (tt, (tt, tt))
+    by_stage (waiting request) false is = subst (λ l. AllQuiet l) (sym is) tt
+    by_stage (calling took) room is = subst (λ l. AllQuiet l) (sym is) (tt, tt)
     by_stage (replying answer) room is = absurd is
     by_stage (sending body) room is = absurd is
-awaits_noted v false false served looks = by_looks (asks_next v) v.stage looks
+awaits_quiet v false false served looks = by_looks (asks_next v) v.stage looks
   where
-    by_looks : (may : Bool) (s : Stage) → Looks v may s served → AllNoted served
-    by_looks true free (inl is) = subst (λ l. AllNoted l) (sym is) (tt, tt)
-    by_looks true free (inr is) = subst (λ l. AllNoted l) (sym is.0) tt
-    by_looks true (waiting request) is = subst (λ l. AllNoted l) (sym is) tt
-    by_looks true (calling took) is = subst (λ l. AllNoted l) (sym is) tt
-    by_looks true (replying answer) is = subst (λ l. AllNoted l) (sym is) tt
-    by_looks true (sending body) is = subst (λ l. AllNoted l) (sym is) tt
-    by_looks false s is = subst (λ l. AllNoted l) (sym is) tt
+    by_looks : (may : Bool) (s : Stage) → Looks v may s served → AllQuiet served
+    by_looks true free (inl is) = subst (λ l. AllQuiet l) (sym is) (tt, tt)
+    by_looks true free (inr is) = subst (λ l. AllQuiet l) (sym is.0) tt
+    by_looks true (waiting request) is = subst (λ l. AllQuiet l) (sym is) tt
+    by_looks true (calling took) is = subst (λ l. AllQuiet l) (sym is) tt
+    by_looks true (replying answer) is = subst (λ l. AllQuiet l) (sym is) tt
+    by_looks true (sending body) is = subst (λ l. AllQuiet l) (sym is) tt
+    by_looks false s is = subst (λ l. AllQuiet l) (sym is) tt
 
-feeds_noted : (u : View) (feeding : List Step) → Feeds u feeding → AllNoted feeding
-feeds_noted u feeding (inl is) = subst (λ l. AllNoted l) (sym is) (tt, tt)
-feeds_noted u feeding (inr (inl is)) = subst (λ l. AllNoted l) (sym is) (tt, tt)
-feeds_noted u feeding (inr (inr is)) = subst (λ l. AllNoted l) (sym is.0) tt
+feeds_quiet : (u : View) (feeding : List Step) → Feeds u feeding → AllQuiet feeding
+feeds_quiet u feeding (inl is) = subst (λ l. AllQuiet l) (sym is) (tt, tt)
+feeds_quiet u feeding (inr (inl is)) = subst (λ l. AllQuiet l) (sym is) (tt, tt)
+feeds_quiet u feeding (inr (inr is)) = subst (λ l. AllQuiet l) (sym is.0) tt
 
-reads_noted : (x : View) (reading : List Step) → Reads x reading → AllNoted reading
-reads_noted x reading (inl is) = subst (λ l. AllNoted l) (sym is) (tt, tt)
-reads_noted x reading (inr is) = subst (λ l. AllNoted l) (sym is.0) tt
+reads_quiet : (x : View) (reading : List Step) → Reads x reading → AllQuiet reading
+reads_quiet x reading (inl is) = subst (λ l. AllQuiet l) (sym is) (tt, tt)
+reads_quiet x reading (inr is) = subst (λ l. AllQuiet l) (sym is.0) tt
 
-writes_noted : (v : View) (writing : List Step) → Writes v writing → AllNoted writing
-writes_noted v writing (inl is) = subst (λ l. AllNoted l) (sym is) (tt, tt)
-writes_noted v writing (inr is) = subst (λ l. AllNoted l) (sym is.0) tt
+writes_quiet : (v : View) (writing : List Step) → Writes v writing → AllQuiet writing
+writes_quiet v writing (inl is) = subst (λ l. AllQuiet l) (sym is) (tt, tt)
+writes_quiet v writing (inr is) = subst (λ l. AllQuiet l) (sym is.0) tt
 
--- ---- runs, all of whose steps were noted where P holds
+-- ---- runs, all of whose steps were noted where P holds, and which then leave no answer at hand
 
 record Runs (P : Type 0) (v w : View) : Type 0 where
   steps : List Step
   run : IsRun v steps w
   noted : P → AllNoted steps
+  handed : P → HandsOn v w
 
 stays : {P : Type 0} (v w : View) → w ≡ v → Runs P v w
-stays v w is = record { steps = []; run = is; noted = λ p. tt }
+stays v w is = record { steps = []; run = is; noted = λ p. tt; handed = λ p trace stands none. ap (λ (x : View). is_replying x.stage) is ∙ none }
 
-by_one : {P : Type 0} (v w : View) (d : Step) → IsStep v d w → (P → IsNoted d) → Runs P v w
-by_one v w d is noted = record { steps = d ∷ []; run = one v w d is; noted = λ p. (noted p, tt) }
+by_one : {P : Type 0} (v w : View) (d : Step) → IsStep v d w → (P → IsNoted d) → BringsNone d → Runs P v w
+by_one v w d is noted brings =
+    record { steps = d ∷ []; run = one v w d is; noted = λ p. (noted p, tt); handed = λ p trace stands none. step_hands v w d brings is none }
 
 then_on : {P : Type 0} (v u w : View) → Runs P v u → Runs P u w → Runs P v w
 then_on v u w a b = record {
   steps = a.steps ++ b.steps;
   run = run_on v u w a.steps b.steps a.run b.run;
   noted = λ p. noted_on a.steps b.steps (a.noted p) (b.noted p);
+  handed = λ p trace stands none. b.handed p _ (run_follows v u a.steps (a.noted p) a.run trace stands).stands (a.handed p trace stands none);
 }
+
+-- by steps that bring no answer
+by_quiet : {P : Type 0} (v w : View) (steps : List Step) → AllQuiet steps → IsRun v steps w → Runs P v w
+by_quiet v w steps all run = record { steps = steps; run = run; noted = λ p. quiet_noted steps all; handed = λ p trace stands none. run_hands v w steps all run none }
 
 goes_run : {P : Type 0} (v w : View) (n most : ℕ) → GoesOn v w n most → Runs P v w
-goes_run v w n most goes = record { steps = goes.steps; run = goes.run; noted = λ p. all_noted goes.steps goes.go_on }
+goes_run v w n most goes = record { steps = goes.steps; run = goes.run; noted = λ p. all_noted goes.steps goes.go_on; handed = λ p. goes.handed }
 
 idle_run : {P : Type 0} (v w : View) → IsIdle v w → Runs P v w
-idle_run v w idle = record {
-  steps = idle.served ++ (idle.feeding ++ idle.reading);
-  run = run_on v idle.between w idle.served (idle.feeding ++ idle.reading) idle.serves (run_on idle.between idle.fed w idle.feeding idle.reading idle.feeds idle.reads);
-  noted = λ p. noted_on idle.served (idle.feeding ++ idle.reading) (awaits_noted v (is_sending v.stage) (allows_answer v) idle.served idle.waits)
-      (noted_on idle.feeding idle.reading (feeds_noted idle.between idle.feeding idle.no_body) (reads_noted idle.fed idle.reading idle.no_input));
-}
+idle_run v w idle =
+    then_on v idle.between w (by_quiet v idle.between idle.served (awaits_quiet v (is_sending v.stage) (allows_answer v) idle.served idle.waits) idle.serves)
+    (then_on idle.between idle.fed w (by_quiet idle.between idle.fed idle.feeding (feeds_quiet idle.between idle.feeding idle.no_body) idle.feeds)
+    (by_quiet idle.fed w idle.reading (reads_quiet idle.fed idle.reading idle.no_input) idle.reads))
 
 waits_run : {P : Type 0} (v w : View) → IsHeld v w ⊎ ((closes v ≡ false) × IsIdle v w) → Runs P v w
 waits_run v w (inl held) = stays v w held.stays
@@ -149,21 +133,21 @@ waits_run v w (inr idle) = idle_run v w idle.1
 
 stuck_run : {P : Type 0} (v w : View) → IsStuck v w → Runs P v w
 stuck_run v w (inl stuck) =
-    then_on v stuck.after w (record { steps = stuck.writing; run = stuck.writes; noted = λ p. writes_noted v stuck.writing stuck.no_output })
+    then_on v stuck.after w (by_quiet v stuck.after stuck.writing (writes_quiet v stuck.writing stuck.no_output) stuck.writes)
     (waits_run stuck.after w stuck.waits)
-stuck_run v w (inr shutting) = record { steps = shut Pending ∷ []; run = shutting.shuts; noted = λ p. (tt, tt) }
+stuck_run v w (inr shutting) = by_quiet v w (shut Pending ∷ []) (tt, tt) shutting.shuts
 
 ticks_run : {P : Type 0} (v w : View) (moment : ℕ) → Ticks v moment w → Runs P v w
 ticks_run v w moment (inl is) = stays v w is.1
-ticks_run v w moment (inr is) = by_one v w (ticked moment is.1.0) is.1.1 (λ p. tt)
+ticks_run v w moment (inr is) = by_one v w (ticked moment is.1.0) is.1.1 (λ p. tt) tt
 
 drains_run : {P : Type 0} (v w : View) → Drains v w → Runs P v w
 drains_run v w (inl is) = stays v w is.1
-drains_run v w (inr is) = by_one v w drained is.2 (λ p. tt)
+drains_run v w (inr is) = by_one v w drained is.2 (λ p. tt) tt
 
 fails_run : {P : Type 0} (v w : View) (moment : ℕ) → (P → ⊥) → BeginFails v moment w → Runs P v w
-fails_run v w moment never (inl is) = by_one v w (failed (on.tick moment)) is (λ p. absurd (never p))
-fails_run v w moment never (inr is) = then_on v is.0 w (ticks_run v is.0 moment is.1) (by_one is.0 w (failed on.drain) is.2 (λ p. absurd (never p)))
+fails_run v w moment never (inl is) = by_one v w (failed (on.tick moment)) is (λ p. absurd (never p)) tt
+fails_run v w moment never (inr is) = then_on v is.0 w (ticks_run v is.0 moment is.1) (by_one is.0 w (failed on.drain) is.2 (λ p. absurd (never p)) tt)
 
 begun_run : {P : Type 0} (v w : View) (moment : ℕ) → IsBegun v moment w → Runs P v w
 begun_run v w moment begun = then_on v begun.between w (ticks_run v begun.between moment begun.ticks) (drains_run begun.between w begun.drains)
@@ -171,9 +155,18 @@ begun_run v w moment begun = then_on v begun.between w (ticks_run v begun.betwee
 abbrev Enough : Poll (Result Unit DispatchError) → Type 0
 Enough result = ¬ (result ≡ Ready (Err error.NoMemory))
 
+-- an answer is left only where memory ran out
+handed_by : (w : View) (result : Result Unit DispatchError) → Enough (Ready result) → (result ≡ Err error.NoMemory) ⊎ HasNoReply w → HasNoReply w
+handed_by w result enough (inl is) = absurd (enough (ap Ready is))
+handed_by w result enough (inr none) = none
+
 turns_run : (v w : View) (cx : Context) (result : Poll (Result Unit DispatchError)) → TurnsSay v w cx result → Runs (Enough result) v w
-turns_run v w cx (Ready result) ends =
-    record { steps = ends.steps; run = ends.run; noted = λ enough. ended_noted w ends.steps result (λ is. enough (ap Ready is)) ends.ended }
+turns_run v w cx (Ready result) ends = record {
+  steps = ends.steps;
+  run = ends.run;
+  noted = λ enough. ended_noted w ends.steps result (λ is. enough (ap Ready is)) ends.ended;
+  handed = λ enough trace stands none. handed_by w result enough (ends.handed trace stands none);
+}
 turns_run v w cx Pending (inl waits) = then_on v waits.last w (goes_run v waits.last _ _ waits.goes) (stuck_run waits.last w waits.stuck)
 turns_run v w cx Pending (inr spent) = goes_run v w _ _ spent.goes
 
@@ -187,10 +180,10 @@ poll_run v w cx moment result (inr runs) = begins_run v w cx moment result runs.
 
 act_run : (v w : View) (act : Act) → ActSays v act w → Runs (HasMemory act) v w
 act_run v w (polled moment cx result) says = poll_run v w cx moment result says
-act_run v w asked says = by_one v w asked_to_drain says (λ p. tt)
+act_run v w asked says = by_one v w asked_to_drain says (λ p. tt) tt
 
 pub acts_run : (v w : View) (acts : List Act) → ActsSay v acts w → AreOneRun v acts w
-acts_run v w [] is = record { steps = []; run = is; noted = λ p. tt }
+acts_run v w [] is = record { steps = []; run = is; noted = λ p. tt; handed = λ p trace stands none. ap (λ (x : View). is_replying x.stage) is ∙ none }
 acts_run v w (act ∷ acts) is =
     let a = act_run v is.0 act is.1 in
     let b = acts_run is.0 w acts is.2 in
@@ -198,4 +191,5 @@ acts_run v w (act ∷ acts) is =
       steps = a.steps ++ b.steps;
       run = run_on v is.0 w a.steps b.steps a.run b.run;
       noted = λ all. noted_on a.steps b.steps (a.noted all.0) (b.noted all.1);
+      handed = λ all trace stands none. b.handed all.1 _ (run_follows v is.0 a.steps (a.noted all.0) a.run trace stands).stands (a.handed all.0 trace stands none);
     }

@@ -1,3 +1,5 @@
+pub mod Replies
+pub mod Drops
 pub mod Runs
 pub mod Turns
 pub mod Moves

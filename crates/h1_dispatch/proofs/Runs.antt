@@ -5,8 +5,12 @@ use Rattle.http_types.specs.declared.error.DispatchError.{DispatchError}
 use Rattle.http_types.specs.declared.error.DispatchError.TheVariants as error
 use Rattle.h1_dispatch.specs.declared.dispatcher.Ending.TheVariants.{Broken}
 use Rattle.h1_dispatch.specs.View.{View}
-use Rattle.h1_dispatch.specs.Steps.{Step, IsStep, IsRun}
+use Rattle.h1_dispatch.specs.Steps.{Step, IsStep, IsRun, ticked, drained, written, read, shut, next, closed, continued, ready, called, answered, pulled, paused, dropped, replied, sent, failed, failed_write, failed_read, failed_fed, failed_sent, asked_to_drain}
+use Rattle.h1_dispatch.specs.Replies.{HandsOn}
+use Rattle.h1_dispatch.specs.Traces.{IsNoted, AllNoted}
 use Rattle.h1_dispatch.specs.Polls.{Continues, AllContinue, EndsWith, IsShut, IsIo, IsOutOfMemory, Ended, counts, progress, GoesOn, Ends}
+use Rattle.h1_dispatch.proofs.Traces.{run_follows}
+use Rattle.h1_dispatch.proofs.Replies.{BringsNone, Quiet, quiet_goes, quiet_brings, step_hands}
 
 -- the run of one step
 pub one : (v w : View) (d : Step) → IsStep v d w → IsRun v (d ∷ []) w
@@ -48,7 +52,7 @@ memory_on d s goes (inr (inr (inl is))) = inr (inr (inl (is.0, is.1, ends_on d _
 memory_on d s goes (inr (inr (inr (inl is)))) = inr (inr (inr (inl (is.0, ends_on d _ s goes is.1))))
 memory_on d s goes (inr (inr (inr (inr is)))) = inr (inr (inr (inr (is.0, ends_on d _ s goes is.1))))
 
-ended_on : (w : View) (d : Step) (s : List Step) (result : Result Unit DispatchError) → Continues d → Ended w s result → Ended w (d ∷ s) result
+pub ended_on : (w : View) (d : Step) (s : List Step) (result : Result Unit DispatchError) → Continues d → Ended w s result → Ended w (d ∷ s) result
 ended_on w d s (Ok x) goes is = shut_on w d s (Ok tt) goes is
 ended_on w d s (Err error.Io) goes is = io_on d s goes is
 ended_on w d s (Err error.NoMemory) goes (broken, inl out) = (broken, inl (memory_on d s goes out))
@@ -67,17 +71,58 @@ ended_all : (w : View) (s t : List Step) (result : Result Unit DispatchError) �
 ended_all w [] t result goes is = is
 ended_all w (d ∷ s) t result goes is = ended_on w d (s ++ t) result goes.0 (ended_all w s t result goes.1 is)
 
+-- ---- steps that were noted
+
+pub goes_noted : (d : Step) → Continues d → IsNoted d
+goes_noted (ticked moment expiry) goes = tt
+goes_noted drained goes = tt
+goes_noted (written answer) goes = tt
+goes_noted (read came answer) goes = tt
+goes_noted (shut answer) goes = tt
+goes_noted (next head) goes = tt
+goes_noted (closed end) goes = tt
+goes_noted continued goes = tt
+goes_noted (ready request answer) goes = tt
+goes_noted (called request) goes = tt
+goes_noted (answered answer) goes = tt
+goes_noted (pulled piece) goes = tt
+goes_noted paused goes = tt
+goes_noted dropped goes = tt
+goes_noted (replied answer) goes = tt
+goes_noted (sent piece) goes = tt
+goes_noted (failed event) goes = absurd goes
+goes_noted (failed_write count) goes = absurd goes
+goes_noted (failed_read came event) goes = absurd goes
+goes_noted (failed_fed bytes) goes = absurd goes
+goes_noted (failed_sent piece) goes = absurd goes
+goes_noted asked_to_drain goes = tt
+
+pub all_noted : (steps : List Step) → AllContinue steps → AllNoted steps
+all_noted [] all = tt
+all_noted (d ∷ steps) all = (goes_noted d all.0, all_noted steps all.1)
+
+-- behind steps after each of which a turn goes on the line stands still, so that no answer of the service is left by two runs
+pub hands_on : (v u w : View) (steps : List Step) → AllContinue steps → IsRun v steps u → HandsOn v u → HandsOn u w → HandsOn v w
+hands_on v u w steps goes run first then = λ trace stands none. then _ (run_follows v u steps (all_noted steps goes) run trace stands).stands (first trace stands none)
+
 -- ---- by one step, and by more
 
-pub goes_by : (most : ℕ) → 1 ≤ most → (v w : View) (d : Step) (n : ℕ) → IsStep v d w → Continues d → n ≤ counts d → GoesOn v w n most
-goes_by most fits v w d n is goes enough =
-    record { steps = d ∷ []; run = one v w d is; go_on = (goes, tt); enough = omega (arith, enough); few = omega (arith, fits) }
+pub goes_by : (most : ℕ) → 1 ≤ most → (v w : View) (d : Step) (n : ℕ) → IsStep v d w → Quiet d → n ≤ counts d → GoesOn v w n most
+goes_by most fits v w d n is goes enough = record {
+  steps = d ∷ [];
+  run = one v w d is;
+  go_on = (quiet_goes d goes, tt);
+  enough = omega (arith, enough);
+  few = omega (arith, fits);
+  handed = λ trace stands none. step_hands v w d (quiet_brings d goes) is none;
+}
 
-pub ends_by : (most : ℕ) → 1 ≤ most → (v w : View) (d : Step) (result : Result Unit DispatchError) → IsStep v d w → Ended w (d ∷ []) result → Ends v w most result
-ends_by most fits v w d result is ended = record { steps = d ∷ []; run = one v w d is; ended = ended; few = omega (arith, fits) }
+pub ends_by : (most : ℕ) → 1 ≤ most → (v w : View) (d : Step) (result : Result Unit DispatchError) → IsStep v d w → Ended w (d ∷ []) result → BringsNone d → Ends v w most result
+ends_by most fits v w d result is ended none =
+    record { steps = d ∷ []; run = one v w d is; ended = ended; few = omega (arith, fits); handed = λ trace stands was. inr (step_hands v w d none is was) }
 
 pub goes_none : (v : View) (most : ℕ) → GoesOn v v 0 most
-goes_none v most = record { steps = []; run = refl; go_on = tt; enough = omega arith; few = omega arith }
+goes_none v most = record { steps = []; run = refl; go_on = tt; enough = omega arith; few = omega arith; handed = λ trace stands none. none }
 
 pub goes_after : (v u w : View) (m n k : ℕ) → k ≤ m + n → (x y most : ℕ) → x + y ≤ most → GoesOn v u m x → GoesOn u w n y → GoesOn v w k most
 goes_after v u w m n k enough x y most fits a b = record {
@@ -86,6 +131,7 @@ goes_after v u w m n k enough x y most fits a b = record {
   go_on = all_on a.steps b.steps a.go_on b.go_on;
   enough = omega (arith, progress_on a.steps b.steps, a.enough, b.enough, enough);
   few = omega (arith, length-append a.steps b.steps, a.few, b.few, fits);
+  handed = hands_on v u w a.steps a.go_on a.run a.handed b.handed;
 }
 
 pub ends_after : (v u w : View) (m : ℕ) (result : Result Unit DispatchError) (x y most : ℕ) → x + y ≤ most → GoesOn v u m x → Ends u w y result → Ends v w most result
@@ -94,19 +140,21 @@ ends_after v u w m result x y most fits a b = record {
   run = run_on v u w a.steps b.steps a.run b.run;
   ended = ended_all w a.steps b.steps result a.go_on b.ended;
   few = omega (arith, length-append a.steps b.steps, a.few, b.few, fits);
+  handed = λ trace stands none. b.handed _ (run_follows v u a.steps (all_noted a.steps a.go_on) a.run trace stands).stands (a.handed trace stands none);
 }
 
 -- no more steps than so many are no more than that many
 pub more_goes : (v w : View) (n x most : ℕ) → x ≤ most → GoesOn v w n x → GoesOn v w n most
-more_goes v w n x most fits g = record { steps = g.steps; run = g.run; go_on = g.go_on; enough = g.enough; few = omega (arith, g.few, fits) }
+more_goes v w n x most fits g = record { steps = g.steps; run = g.run; go_on = g.go_on; enough = g.enough; few = omega (arith, g.few, fits); handed = g.handed }
 
 pub more_ends : (v w : View) (result : Result Unit DispatchError) (x most : ℕ) → x ≤ most → Ends v w x result → Ends v w most result
-more_ends v w result x most fits e = record { steps = e.steps; run = e.run; ended = e.ended; few = omega (arith, e.few, fits) }
+more_ends v w result x most fits e = record { steps = e.steps; run = e.run; ended = e.ended; few = omega (arith, e.few, fits); handed = e.handed }
 
 -- memory ran out for this event
 pub lacks : (most : ℕ) → 1 ≤ most → (v w : View) (d : Step) → w.ending ≡ Some Broken → IsStep v d w → IsOutOfMemory (d ∷ []) → Ends v w most (Err error.NoMemory)
-lacks most fits v w d broken is out = ends_by most fits v w d (Err error.NoMemory) is (broken, inl out)
+lacks most fits v w d broken is out =
+    record { steps = d ∷ []; run = one v w d is; ended = (broken, inl out); few = omega (arith, fits); handed = λ trace stands none. inl refl }
 
 -- and where it ran out before
 pub stays_broken : (v : View) → v.ending ≡ Some Broken → Ends v v 5 (Err error.NoMemory)
-stays_broken v broken = record { steps = []; run = refl; ended = (broken, inr tt); few = omega arith }
+stays_broken v broken = record { steps = []; run = refl; ended = (broken, inr tt); few = omega arith; handed = λ trace stands none. inl refl }

@@ -11,6 +11,7 @@ use Rattle.http_services.specs.Status.{status_of}
 use Rattle.http_services.specs.declared.h1.send.PayloadStatus.TheVariants as status
 use Rattle.h1_model.specs.Event as on
 use Rattle.h1_model.specs.Setting.{Setting}
+use Rattle.h1_model.specs.Sums as sums
 use Rattle.h1_machine.specs.Kept.{Kept, is_open}
 use Rattle.h1_machine.specs.Local.{closing_by, allowed_by}
 use Rattle.h1_connection.specs.Given.{next_allowed}
@@ -18,20 +19,22 @@ use Rattle.h1_connection.specs.Meaning.{setting_of, end_of}
 use Rattle.h1_connection.specs.declared.connection.heads.NextHead.TheVariants as next_head
 use Rattle.h1_connection.specs.declared.event.End.{End}
 use Rattle.h1_connection.specs.declared.event.End.TheVariants as ends
+use Rattle.h1_line.specs.Line.{LineView, LineStands}
 use Rattle.http_types.specs.declared.error.DispatchError.{DispatchError}
 use Rattle.h1_dispatch.specs.declared.dispatcher.Ending.TheVariants.{Closed}
 use Rattle.h1_dispatch.specs.declared.dispatcher.Turn.{Turn}
 use Rattle.h1_dispatch.specs.declared.dispatcher.Turn.TheVariants.{Counted, Idle, Over}
 use Rattle.h1_dispatch.specs.View.{View, Asking, Stage, free, waiting, calling, replying, sending, is_busy, is_waiting, is_calling, is_awaiting, is_sending, allows_chunk, closes, allows, allows_next, has_write_room, asks_next, allows_answer, awaits_body, buffered, HasNoByte, HasNoOutput, HasNoInput}
 use Rattle.h1_dispatch.specs.Steps.{Step, IsStep, written, shut, next, ready, called, answered, sent}
-use Rattle.h1_dispatch.specs.Polls.{Continues, IsShut, Ended, result_of, counts, Awaits, Looks, Sends, Serves, Feeds, IsHeld, GoesOn, Ends, WritesFirst, TurnSays, ServeSays, AfterSays, EndSays, StepSays, ReadingSays, FeedingSays, TurnsSay}
-use Rattle.h1_dispatch.proofs.Runs.{one, run_on, all_on, progress_on, goes_by, ends_by, goes_after, ends_after, more_goes, more_ends}
+use Rattle.h1_dispatch.specs.Polls.{Continues, IsShut, Ended, result_of, counts, Awaits, Looks, Sends, Serves, Feeds, IsHeld, GoesOn, Ends, WritesFirst, TurnSays, ServeSays, AfterSays, EndSays, StepSays, Handed, ReadingSays, FeedingSays, TurnsSay}
+use Rattle.h1_dispatch.proofs.Replies.{Quiet, step_hands}
+use Rattle.h1_dispatch.proofs.Runs.{one, run_on, all_on, progress_on, ended_on, hands_on, goes_by, ends_by, goes_after, ends_after, more_goes, more_ends}
 
 pub none_of : {A : Type 0} (x : Option A) → is_some x ≡ false → x ≡ None
 none_of None is = refl
 none_of (Some x) is = cc
 
-clash : true ≡ false → ⊥
+pub clash : true ≡ false → ⊥
 clash is = cc is
 
 -- ---- shutting down
@@ -56,22 +59,37 @@ pub shut_over : (v w : View) (end : End) (result : Result Unit DispatchError) �
     → IsStep v (shut (Ready (Ok tt))) w → Ends v w 5 result
 shut_over v w end result is ending step =
     subst (λ r. Ends v w 5 r) (sym is)
-    (ends_by 5 (omega arith) v w (shut (Ready (Ok tt))) (result_of end) step (shut_ended w end (result_of end) refl (([], refl, tt), (end, ending, refl))))
+    (ends_by 5 (omega arith) v w (shut (Ready (Ok tt))) (result_of end) step (shut_ended w end (result_of end) refl (([], refl, tt), (end, ending, refl))) tt)
 
 -- ---- one step before what follows
 
-pub step_then : (most : ℕ) → 3 ≤ most → (v u w : View) (d : Step) (turn : Turn) → IsStep v d u → Continues d → EndSays 2 u w turn → ServeSays most v w turn
-step_then most fits v u w d Counted is goes says = goes_after v u w 0 1 1 (omega arith) 1 2 most (omega (arith, fits)) (goes_by 1 (omega arith) v u d 0 is goes (omega arith)) says
-step_then most fits v u w d Idle is goes says = absurd says
-step_then most fits v u w d (Over result) is goes says = ends_after v u w 0 result 1 2 most (omega (arith, fits)) (goes_by 1 (omega arith) v u d 0 is goes (omega arith)) says
+-- an answer of the service, which is handed on
+pub step_then : (most : ℕ) → 3 ≤ most → (v u w : View) (d : Step) (turn : Turn) → IsStep v d u → Continues d → u.line ≡ v.line → EndSays 2 u w turn
+    → ((trace : List sums.Step) → LineStands u.line trace → Handed w turn) → ServeSays most v w turn
+step_then most fits v u w d Counted is goes same says handed = record {
+  steps = d ∷ says.steps;
+  run = (u, is, says.run);
+  go_on = (goes, says.go_on);
+  enough = omega (arith, says.enough);
+  few = omega (arith, says.few, fits);
+  handed = λ trace stands none. handed trace (subst (λ (l : LineView). LineStands l trace) (sym same) stands);
+}
+step_then most fits v u w d Idle is goes same says handed = absurd says
+step_then most fits v u w d (Over result) is goes same says handed = record {
+  steps = d ∷ says.steps;
+  run = (u, is, says.run);
+  ended = ended_on w d says.steps result goes says.ended;
+  few = omega (arith, says.few, fits);
+  handed = λ trace stands none. inl (handed trace (subst (λ (l : LineView). LineStands l trace) (sym same) stands));
+}
 
-pub drop_then : (v u w : View) (d : Step) (turn : Turn) → IsStep v d u → Continues d → 1 ≤ counts d → StepSays u w turn → EndSays 2 v w turn
+pub drop_then : (v u w : View) (d : Step) (turn : Turn) → IsStep v d u → Quiet d → 1 ≤ counts d → StepSays u w turn → EndSays 2 v w turn
 drop_then v u w d Counted is goes one says = goes_after v u w 1 0 1 (omega arith) 1 1 2 (omega arith) (goes_by 1 (omega arith) v u d 1 is goes one) says
 drop_then v u w d Idle is goes one says = absurd says
 drop_then v u w d (Over result) is goes one says = ends_after v u w 0 result 1 1 2 (omega arith) (goes_by 1 (omega arith) v u d 0 is goes (omega arith)) says
 
 less : (v w : View) → GoesOn v w 1 1 → GoesOn v w 0 1
-less v w g = record { steps = g.steps; run = g.run; go_on = g.go_on; enough = omega arith; few = g.few }
+less v w g = record { steps = g.steps; run = g.run; go_on = g.go_on; enough = omega arith; few = g.few; handed = g.handed }
 
 pub left_step : (v w : View) (turn : Turn) → EndSays 1 v w turn → StepSays v w turn
 left_step v w Counted says = less v w says
@@ -94,7 +112,7 @@ more_serve v w Idle says = says
 more_serve v w (Over result) says = more_ends v w result 3 4 (omega arith) says
 
 -- what was pending, and then the input, where no body of a request may come
-pub pending_then : (most : ℕ) → 2 ≤ most → (v u w : View) (d : Step) (turn : Turn) → IsStep v d u → Continues d → awaits_body u ≡ false → Serves v (is_sending v.stage) (allows_answer v) (d ∷ [])
+pub pending_then : (most : ℕ) → 2 ≤ most → (v u w : View) (d : Step) (turn : Turn) → IsStep v d u → Quiet d → awaits_body u ≡ false → Serves v (is_sending v.stage) (allows_answer v) (d ∷ [])
     → ReadingSays u w turn → ServeSays most v w turn
 pending_then most fits v u w d Counted is goes none waits says = goes_after v u w 0 1 1 (omega arith) 1 1 most (omega (arith, fits)) (goes_by 1 (omega arith) v u d 0 is goes (omega arith)) says
 pending_then most fits v u w d Idle is goes none waits says =
@@ -114,7 +132,7 @@ pending_then most fits v u w d Idle is goes none waits says =
 pending_then most fits v u w d (Over result) is goes none waits says = ends_after v u w 0 result 1 1 most (omega (arith, fits)) (goes_by 1 (omega arith) v u d 0 is goes (omega arith)) says
 
 -- and then the body of a request, and the input
-pub feed_then : (most : ℕ) → 3 ≤ most → (v u w : View) (d : Step) (turn : Turn) → IsStep v d u → Continues d → Serves v (is_sending v.stage) (allows_answer v) (d ∷ []) → FeedingSays u w turn
+pub feed_then : (most : ℕ) → 3 ≤ most → (v u w : View) (d : Step) (turn : Turn) → IsStep v d u → Quiet d → Serves v (is_sending v.stage) (allows_answer v) (d ∷ []) → FeedingSays u w turn
     → ServeSays most v w turn
 feed_then most fits v u w d Counted is goes waits says = goes_after v u w 0 1 1 (omega arith) 1 2 most (omega (arith, fits)) (goes_by 1 (omega arith) v u d 0 is goes (omega arith)) says
 feed_then most fits v u w d Idle is goes waits says =
@@ -181,7 +199,7 @@ unfed_then v w Idle none says =
 unfed_then v w (Over result) none says = more_ends v w result 1 2 (omega arith) says
 
 -- it was pending, or its queue was
-pub waited_then : (v u w : View) (d : Step) (turn : Turn) → IsStep v d u → Continues d → Feeds v (d ∷ []) → ReadingSays u w turn → FeedingSays v w turn
+pub waited_then : (v u w : View) (d : Step) (turn : Turn) → IsStep v d u → Quiet d → Feeds v (d ∷ []) → ReadingSays u w turn → FeedingSays v w turn
 waited_then v u w d Counted is goes waits says = goes_after v u w 0 1 1 (omega arith) 1 1 2 (omega arith) (goes_by 1 (omega arith) v u d 0 is goes (omega arith)) says
 waited_then v u w d Idle is goes waits says =
     record { feeding = d ∷ []; fed = u; feeds = one v u d is; reading = says.reading; reads = says.reads; no_body = waits; no_input = says.no_input }
@@ -377,7 +395,14 @@ quiet_then v w (Over result) running none says = more_ends v w result 4 5 (omega
 
 pub written_then : (v u w : View) (turn : Turn) → v.ending ≡ None → IsStep v (written Pending) u → AfterSays u w turn → TurnSays v w turn
 written_then v u w Counted running is says = (
-  record { steps = written Pending ∷ says.steps; run = (u, is, says.run); go_on = (tt, says.go_on); enough = omega (arith, says.enough); few = omega (arith, says.few) },
+  record {
+    steps = written Pending ∷ says.steps;
+    run = (u, is, says.run);
+    go_on = (tt, says.go_on);
+    enough = omega (arith, says.enough);
+    few = omega (arith, says.few);
+    handed = (goes_after v u w 0 1 1 (omega arith) 1 4 5 (omega arith) (goes_by 1 (omega arith) v u (written Pending) 0 is tt (omega arith)) says).handed;
+  },
   inr (Pending, says.steps, refl),
 )
 written_then v u w Idle running is says =
@@ -387,7 +412,14 @@ written_then v u w (Over result) running is says = ends_after v u w 0 result 1 4
 -- the wire took bytes
 pub wrote_first : (v w : View) (count : ℕ) → IsStep v (written (Ready (Ok count))) w → TurnSays v w Counted
 wrote_first v w count is = (
-  record { steps = written (Ready (Ok count)) ∷ []; run = one v w (written (Ready (Ok count))) is; go_on = (tt, tt); enough = omega arith; few = omega arith },
+  record {
+    steps = written (Ready (Ok count)) ∷ [];
+    run = one v w (written (Ready (Ok count))) is;
+    go_on = (tt, tt);
+    enough = omega arith;
+    few = omega arith;
+    handed = λ trace stands none. step_hands v w (written (Ready (Ok count))) tt is none;
+  },
   inr (Ready (Ok count), [], refl),
 )
 
@@ -399,7 +431,7 @@ pub record Turns (v u : View) (n : ℕ) : Type 0 where
   pub first : ((n ≡ 0) × (u ≡ v) × (goes.steps ≡ [])) ⊎ WritesFirst v goes.steps
 
 pub no_turn : (v : View) → Turns v v 0
-no_turn v = record { goes = record { steps = []; run = refl; go_on = tt; enough = omega arith; few = omega arith }; first = inl (refl, refl, refl) }
+no_turn v = record { goes = record { steps = []; run = refl; go_on = tt; enough = omega arith; few = omega arith; handed = λ trace stands none. none }; first = inl (refl, refl, refl) }
 
 first_on : (v u : View) (n : ℕ) (s t : List Step) → ((n ≡ 0) × (u ≡ v) × (s ≡ [])) ⊎ WritesFirst v s → WritesFirst u t → WritesFirst v (s ++ t)
 first_on v u n s t (inl none) now = subst (λ l. WritesFirst v (l ++ t)) (sym none.2) (subst (λ x. WritesFirst x t) none.1 now)
@@ -413,7 +445,7 @@ not_none v w n s is (inr first) = first
 pub turns_spent : (v w : View) (cx : Context) (n : ℕ) (result : Poll (Result Unit DispatchError)) → n ≡ 64 → Turns v w n → cx.is_woken ≡ true → result ≡ Pending → TurnsSay v w cx result
 turns_spent v w cx n result is turns woken pending =
     let goes = turns.goes in
-    let all : GoesOn v w 64 (5 * 64) = record { steps = goes.steps; run = goes.run; go_on = goes.go_on; enough = omega (arith, goes.enough, is); few = omega (arith, goes.few, is) } in
+    let all : GoesOn v w 64 (5 * 64) = record { steps = goes.steps; run = goes.run; go_on = goes.go_on; enough = omega (arith, goes.enough, is); few = omega (arith, goes.few, is); handed = goes.handed } in
     subst (λ r. TurnsSay v w cx r) (sym pending) (inr (record { goes = all; first = not_none v w n goes.steps is turns.first; woken = woken }))
 
 pub turns_idle : (v u w : View) (cx : Context) (n : ℕ) → n < 64 → GoesOn v u n (5 * n) → TurnSays u w Idle → TurnsSay v w cx Pending
@@ -431,6 +463,7 @@ turns_on v u w n turns says = record {
     go_on = all_on turns.goes.steps says.0.steps turns.goes.go_on says.0.go_on;
     enough = omega (arith, progress_on turns.goes.steps says.0.steps, turns.goes.enough, says.0.enough);
     few = omega (arith, length-append turns.goes.steps says.0.steps, turns.goes.few, says.0.few);
+    handed = hands_on v u w turns.goes.steps turns.goes.go_on turns.goes.run turns.goes.handed says.0.handed;
   };
   first = inr (first_on v u n turns.goes.steps says.0.steps turns.first says.1);
 }

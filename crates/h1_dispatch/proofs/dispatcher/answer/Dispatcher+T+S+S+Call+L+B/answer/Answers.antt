@@ -26,7 +26,7 @@ returns-in-Ready-Ok-clause-says g c =
     let was = ap (λ x. stage_of g.S.Service.calling g.B.MessageBody.gives x) c.in-Calling.is in
     step_then 3 (omega arith) v u w (answered (Ready (Ok (told_response g.B.MessageBody.gives c.in-Ready-Ok.response)))) c.hand_on.result
     (polled v u _ (g.S.Service.calling c.poll_call.new.call).took (Ready (Ok (told_response g.B.MessageBody.gives c.in-Ready-Ok.response))) c.requires.running c.requires.allowed was (told_answer g.B.MessageBody.gives _ _ (Ready (Ok c.in-Ready-Ok.response)) (rw c.in-Ready-Ok.field-0-is at c.in-Ready-Ok.ensures.says)) c.in-Ready-Ok.ensures.polls.takes c.in-Ready-Ok.ensures.polls.bound refl) tt
-    c.hand_on.ensures.says
+    refl c.hand_on.ensures.says c.hand_on.ensures.handed
 
 pub returns-in-Ready-Err-clause-says : goal.returns-in-Ready-Err-clause-says
 returns-in-Ready-Err-clause-says g c =
@@ -36,4 +36,4 @@ returns-in-Ready-Err-clause-says g c =
     let was = ap (λ x. stage_of g.S.Service.calling g.B.MessageBody.gives x) c.in-Calling.is in
     step_then 3 (omega arith) v u w (answered (Ready (Err (told_response g.B.MessageBody.gives c.in-Ready-Err.response)))) c.hand_on-in-Ready-Err.result
     (polled v u _ (g.S.Service.calling c.poll_call.new.call).took (Ready (Err (told_response g.B.MessageBody.gives c.in-Ready-Err.response))) c.requires.running c.requires.allowed was (told_answer g.B.MessageBody.gives _ _ (Ready (Err c.in-Ready-Err.response)) (rw c.in-Ready-Err.field-0-is at c.in-Ready-Err.ensures.says)) c.in-Ready-Err.ensures.polls.takes c.in-Ready-Err.ensures.polls.bound refl) tt
-    c.hand_on-in-Ready-Err.ensures.says
+    refl c.hand_on-in-Ready-Err.ensures.says c.hand_on-in-Ready-Err.ensures.handed

@@ -49,3 +49,12 @@ returns-in-Err-clause-says g c =
     lacks 1 (omega arith) v w (failed event) refl
     (((c.requires.running, c.requires.dropped), c.requires.allowed, (answer, was, refl, refl)), rw (c.head.ensures, stated) at c.in-Err.ensures.err, refl)
     (inl (event, tt, ([], refl, tt)))
+
+pub returns-in-Replying-replace-clause-handed : goal.returns-in-Replying-replace-clause-handed
+returns-in-Replying-replace-clause-handed g c = refl
+
+pub returns-then-is_eof-clause-handed : goal.returns-then-is_eof-clause-handed
+returns-then-is_eof-clause-handed g c = refl
+
+pub returns-in-Err-clause-handed : goal.returns-in-Err-clause-handed
+returns-in-Err-clause-handed g c = refl

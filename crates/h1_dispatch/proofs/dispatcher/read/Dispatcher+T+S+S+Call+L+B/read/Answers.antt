@@ -26,7 +26,7 @@ returns-in-Ready-Err-clause-says g c =
     let answer = Ready (Err c.in-Ready-Err.field-0-0) in
     ends_by 1 (omega arith) v w (read [] answer) (Err Io)
     (read_step v w [] c.poll_read.new.buf answer c.requires.running c.requires.eof (search rules) (search rules) refl (rw c.in-Ready-Err.field-0-is at c.in-Ready-Err.ensures.says) refl refl)
-    (c.in-Ready-Err.field-0-0, inr (inl ([], ([], refl, tt))))
+    (c.in-Ready-Err.field-0-0, inr (inl ([], ([], refl, tt)))) tt
 
 pub returns-in-Ok-clause-says : goal.returns-in-Ok-clause-says
 returns-in-Ok-clause-says g c =

@@ -28,7 +28,7 @@ returns-in-Ready-Err-clause-says g c =
     let r = now_waiting v.stage c.requires.waits in
     step_then 4 (omega arith) v u w (ready r.0 (Ready (Err (told_response g.B.MessageBody.gives c.in-Ready-Err.response)))) c.hand_on.result
     ((c.requires.running, r.1, c.requires.allowed, c.requires.room, c.requires.told), tt, told_ready g.B.MessageBody.gives _ _ (Ready (Err c.in-Ready-Err.response)) (rw c.in-Ready-Err.field-0-is at c.in-Ready-Err.ensures.says), refl) tt
-    c.hand_on.ensures.says
+    refl c.hand_on.ensures.says c.hand_on.ensures.handed
 
 pub returns-in-Waiting-clause-says : goal.returns-in-Waiting-clause-says
 returns-in-Waiting-clause-says g c =

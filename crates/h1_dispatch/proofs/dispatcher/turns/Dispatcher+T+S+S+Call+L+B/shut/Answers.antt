@@ -13,7 +13,7 @@ returns-in-Ready-Err-clause-says g c =
     let w = view_of g.T.Wire.wiring g.S.Service.served g.S.Service.calling g.B.MessageBody.gives g.L.Recorder.noted (record c.args.self.now { wire = c.poll_shutdown.new.self }) in
     ends_by 5 (omega arith) v w (shut (Ready (Err c.in-Ready-Err.field-0-0))) (Err Io)
     ((c.args.end, c.requires.ended), rw c.in-Ready-Err.field-0-is at c.in-Ready-Err.ensures.says, refl)
-    (c.in-Ready-Err.field-0-0, inr (inr ([], refl, tt)))
+    (c.in-Ready-Err.field-0-0, inr (inr ([], refl, tt))) tt
 
 pub returns-in-Ready-Ok-clause-says : goal.returns-in-Ready-Ok-clause-says
 returns-in-Ready-Ok-clause-says g c =

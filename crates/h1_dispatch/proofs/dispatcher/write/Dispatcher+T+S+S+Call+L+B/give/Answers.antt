@@ -22,7 +22,7 @@ returns-in-Ready-Err-clause-says g c =
     let w = view_of g.T.Wire.wiring g.S.Service.served g.S.Service.calling g.B.MessageBody.gives g.L.Recorder.noted (record c.args.self.now { wire = c.poll_write.new.self }) in
     ends_by 5 (omega arith) v w (written (Ready (Err c.in-Ready-Err.field-0-0))) (Err Io)
     (c.requires.running, c.requires.some, rw (c.in-Ready-Err.field-0-is, c.front.ensures.value, c.connection.ensures) at c.in-Ready-Err.ensures.says, refl, refl)
-    (c.in-Ready-Err.field-0-0, inl ([], refl, tt))
+    (c.in-Ready-Err.field-0-0, inl ([], refl, tt)) tt
 
 pub returns-in-Ok-clause-says : goal.returns-in-Ok-clause-says
 returns-in-Ok-clause-says g c =
