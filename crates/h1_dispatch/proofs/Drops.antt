@@ -40,8 +40,7 @@ Left set k = (allowed_by set k on.drop_body ≡ false) × (allowed_by set k any_
 open_left : (set : Setting) (k : Kept) (x : Exchange) (rest : Rest) (coming : Bool) (since : Option (Option ℕ))
     → allowed_by set (record k { exchange = Some (record x { reply = unanswered; rest = rest }) }) any_answer ≡ true
     → Left set (later_of (dropped_in (record x { reply = unanswered; rest = rest }) k) coming since)
-unfolding allowed_by
-unfolding closing_by
+unfolding allowed_by closing_by
 open_left set k x no_rest coming since is = (never k.is_over _ false x.has_body x.body_is_done, is)
 open_left set k x raw_rest coming since is = (never k.is_over _ false x.has_body x.body_is_done, is)
 open_left set k x (fixed_rest n) coming since is = (never k.is_over _ false x.has_body x.body_is_done, is)
