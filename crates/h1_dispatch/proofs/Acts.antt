@@ -7,9 +7,9 @@ use Rattle.http_types.specs.declared.error.DispatchError.{DispatchError}
 use Rattle.http_types.specs.declared.error.DispatchError.TheVariants as error
 use Rattle.h1_model.specs.Event as on
 use Rattle.h1_dispatch.specs.View.{View, Stage, free, waiting, calling, replying, sending, is_sending, is_replying, closes, has_write_room, asks_next, allows_answer, allows_chunk}
-use Rattle.h1_dispatch.specs.Steps.{Step, IsStep, IsRun, ticked, drained, written, read, shut, next, closed, continued, ready, called, answered, pulled, paused, dropped, replied, sent, failed, failed_write, failed_read, failed_fed, failed_sent, asked_to_drain}
+use Rattle.h1_dispatch.specs.Steps.{Step, IsStep, IsRun, ticked, drained, shut, failed, asked_to_drain}
 use Rattle.h1_dispatch.specs.Traces.{IsNoted, AllNoted}
-use Rattle.h1_dispatch.specs.Polls.{Continues, AllContinue, EndsWith, IsShut, IsIo, IsStuck, IsHeld, IsIdle, Reads, Feeds, Writes, Serves, Sends, Awaits, Looks, Ended, GoesOn, Ticks, Drains, IsBegun, BeginFails, TurnsSay, PollRuns, PollSays}
+use Rattle.h1_dispatch.specs.Polls.{EndsWith, IsShut, IsIo, IsStuck, IsHeld, IsIdle, Reads, Feeds, Writes, Serves, Sends, Awaits, Looks, Ended, GoesOn, Ticks, Drains, IsBegun, BeginFails, TurnsSay, PollRuns, PollSays}
 use Rattle.h1_dispatch.specs.Acts.{Act, polled, asked, ActSays, ActsSay, HasMemory, AreOneRun}
 use Rattle.h1_dispatch.specs.Replies.{HasNoReply, HandsOn}
 use Rattle.h1_dispatch.proofs.Traces.{run_follows}

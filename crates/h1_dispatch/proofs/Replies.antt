@@ -1,5 +1,5 @@
 -- No step leaves an answer of the service at hand but the one that brings it.
-use Rattle.std.proofs.Common.{◌≡◌, ℕ, zero, suc, true, false, Option, Some, None, List, [], ◌∷◌, Result, Ok, Err, refl, sym, ap, ◌∙◌, subst}
+use Rattle.std.proofs.Common.{◌≡◌, zero, suc, false, Option, Some, None, List, [], ◌∷◌, Result, refl, ap, ◌∙◌}
 use Rattle.std.specs.Prelude.{⊤}
 use Rattle.std.specs.List.{AllByRecursion}
 use Rattle.futures.specs.declared.task.Poll.{Poll}
@@ -8,7 +8,7 @@ use Rattle.http_framing.specs.declared.body.size.BodySize.{BodySize}
 use Rattle.http_framing.specs.declared.body.size.BodySize.TheVariants.{None as NoBody, Sized, Stream}
 use Rattle.http_bodies.specs.Giving.{Giving, Piece}
 use Rattle.http_services.specs.Lent.{Took}
-use Rattle.h1_dispatch.specs.View.{View, Asking, Answer, Stage, sending, is_replying}
+use Rattle.h1_dispatch.specs.View.{View, Asking, Answer, Stage, is_replying}
 use Rattle.h1_dispatch.specs.Steps.{Step, IsStep, IsRun, stage_at, stage_asked, stage_answered, stage_replied, stage_sent, request_at, ticked, drained, written, read, shut, next, closed, continued, ready, called, answered, pulled, paused, dropped, replied, sent, failed, failed_write, failed_read, failed_fed, failed_sent, asked_to_drain}
 use Rattle.h1_dispatch.specs.Replies.{HasNoReply}
 use Rattle.h1_dispatch.specs.Polls.{IsPending, Continues}

@@ -1,5 +1,5 @@
 use Rattle.std.proofs.Common.{sym, ◌∙◌, rules}
-use Rattle.h1_dispatch.proofs.Turns.{clash, left_step}
+use Rattle.h1_dispatch.proofs.Turns.{clash}
 use Rattle.h1_dispatch.proofs.dispatcher.answer.Dispatcher+T+S+S+Call+L+B.put_reply_if_allowed.Goals as goal
 
 pub returns-then-can_pull-clause-handed : goal.returns-then-can_pull-clause-handed
