@@ -12,7 +12,7 @@ use Rattle.h1_machine.specs.Change.{IsStep as Machine}
 use Rattle.h1_connection.specs.Meaning.{setting_of}
 use Rattle.h1_dispatch.specs.View.{any_answer}
 
--- the parts behind it, as a step leaves them
+-- the parts after it, as a step leaves them
 abbrev dropped_in : Exchange → Kept → Kept
 dropped_in x k = record k { exchange = Some (record x { was_dropped = true }) }
 
@@ -32,7 +32,7 @@ unasked true closing is = cc is
 unasked false true is = cc is
 unasked false false is = cc is
 
--- what holds behind it
+-- what holds after it
 abbrev pub Left : Setting → Kept → Type 0
 Left set k = (allowed_by set k on.drop_body ≡ false) × (allowed_by set k any_answer ≡ true)
 

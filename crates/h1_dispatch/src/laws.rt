@@ -30,7 +30,7 @@ ghost use Rattle.h1_dispatch.specs.Polls.{PollSays};
 
 /// Polls one after another, with drains asked for between them, are one run of steps: the moment, the drain and the turns
 /// of each. Memory runs out in none of its steps, unless a poll answered so. And unless one did, no answer of the service is
-/// at hand behind them that wasn't handed on to the connection: where the line stands for a trace and none was at hand before.
+/// at hand after them that wasn't handed on to the connection: where the line stands for a trace and none was at hand before.
 pub fn polls_are_one_run()
     ensures { (v w : View) (acts : List Act) → ActsSay v acts w → AreOneRun v acts w }
 {}
