@@ -15,14 +15,18 @@ module _ {J O : Type 0} (polled : Polling J O) (drained : Draining J) where
   runs_on a b c (act ∷ acts) more first then = (first.0, first.1, runs_on first.0 b c acts more first.2 then)
 
   pub leads_on : (a b c : J) → Leads polled drained a b → Leads polled drained b c → Leads polled drained a c
-  leads_on a b c first then = (first.0 ++ then.0, runs_on a b c first.0 then.0 first.1 then.1)
+  leads_on a b c first then = record { acts = first.acts ++ then.acts; runs = runs_on a b c first.acts then.acts first.runs then.runs }
 
   -- a poll is a run
   pub leads_by_poll : (a b : J) (moment : ℕ) (cx : Context) (result : Poll O) → polled a moment cx result b → Leads polled drained a b
-  leads_by_poll a b moment cx result says = (poll moment cx result ∷ [], (b, says, refl))
+  leads_by_poll a b moment cx result says = record { acts = poll moment cx result ∷ []; runs = (b, says, refl) }
 
   pub leads_by_drain : (a b : J) → drained a b → Leads polled drained a b
-  leads_by_drain a b says = (drain ∷ [], (b, says, refl))
+  leads_by_drain a b says = record { acts = drain ∷ []; runs = (b, says, refl) }
+
+  -- nothing is done
+  pub leads_none : (a : J) → Leads polled drained a a
+  leads_none a = record { acts = []; runs = refl }
 
   -- a job that lives does so after a run
   pub lives_on : (begun can_poll : J → Type 0) (a b : J) → Lives polled drained begun can_poll a → Leads polled drained a b → can_poll b → Lives polled drained begun can_poll b
@@ -31,13 +35,13 @@ module _ {J O : Type 0} (polled : Polling J O) (drained : Draining J) where
 
   -- and so does a new one
   pub lives_new : (begun can_poll : J → Type 0) (a : J) → begun a → can_poll a → Lives polled drained begun can_poll a
-  lives_new begun can_poll a new may = record { first = a; new = new; leads = ([], refl); may_poll = may }
+  lives_new begun can_poll a new may = record { first = a; new = new; leads = leads_none a; may_poll = may }
 
   -- a poll is polls
   pub polls_once : (a b : J) (moment : ℕ) (result : Polled O) → ((cx : Context) × polled a moment cx (poll_of result) b) → PollsTo polled drained a moment result b
   polls_once a b moment Quiet says = leads_by_poll a b moment says.0 Pending says.1
   polls_once a b moment Woken says = leads_by_poll a b moment says.0 Pending says.1
-  polls_once a b moment (Over output) says = (a, ([], refl), says)
+  polls_once a b moment (Over output) says = (a, leads_none a, says)
 
   -- a poll that was pending, and then more
   pub polls_then : (a b c : J) (moment : ℕ) (result : Polled O) → Leads polled drained a b → PollsTo polled drained b moment result c → PollsTo polled drained a moment result c

@@ -29,8 +29,9 @@ module _ {J O : Type 0} (polled : Polling J O) (drained : Draining J) where
   Runs a (act ∷ acts) b = (m : J) × Does a act m × Runs m acts b
 
   -- some of them lead from the one to the other
-  abbrev pub Leads : J → J → Type 0
-  Leads a b = (acts : List (Act O)) × Runs a acts b
+  pub record Leads (a b : J) : Type 0 where
+    pub acts : List (Act O)
+    pub runs : Runs a acts b
 
   -- the last of them was a poll at this moment, by which it ended
   abbrev pub EndsBy : J → ℕ → O → J → Type 0

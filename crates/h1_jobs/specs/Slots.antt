@@ -1,5 +1,5 @@
 -- The slots of jobs, and what a poll of one leaves of it.
-use Rattle.std.specs.Prelude.{◌≡◌, ◌≢◌, ◌≤◌, ◌<◌, ◌-◌, ℕ, List, Option, Some, None, IfSome, slice_index, length, ⊤}
+use Rattle.std.specs.Prelude.{◌≡◌, ◌≢◌, ◌≤◌, ◌<◌, ◌-◌, ℕ, List, Option, Some, None, IfSome, IsSome, slice_index, length, ⊤}
 use Rattle.std.specs.Global.{Global}
 use Rattle.std.specs.declared.boxed.Box.{Box}
 use Rattle.slab.specs.Slab.{Slab, get, slab_len}
@@ -61,13 +61,17 @@ module _ {J O : Type 0} (polled : Polling J O) (drained : Draining J) where
     pub few : slab_len seats ≤ most
     pub lives : (number : ℕ) → IfSome (get seats number) (λ taken. Lives polled drained begun can_poll (job_of taken))
 
+-- each slot that is taken stays as it is
+abbrev pub TakenStay : {X : Type 0} → Slab X → Slab X → Type 0
+TakenStay old new = (number : ℕ) → IsSome (get old number) → get new number ≡ get old number
+
 -- no other slot changes
 abbrev pub OthersStay : {X : Type 0} → Slab X → ℕ → Slab X → Type 0
 OthersStay old number new = (other : ℕ) → other ≢ number → get new other ≡ get old other
 
 -- why a slot is polled: something happened on its connection, its deadline has come, or it asked for it
 abbrev pub IsCause : {J : Type 0} → Hall J → ℕ → ℕ → Why → Type 0
-IsCause hall number moment (why.Ready ready) = ready.number ≡ number
+IsCause hall number moment (why.Ready told) = told ≡ number
 IsCause hall number moment why.Due = slice_index hall.deadlines number ≤ moment
 IsCause hall number moment why.Asked = slice_index hall.row number < hall.asked
 

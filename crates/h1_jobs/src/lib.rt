@@ -24,11 +24,11 @@ mod limits;
 mod polls;
 mod seat;
 mod seats;
-mod turn;
+mod turns;
 mod watch;
 
 pub use job::{Job, Makes};
 pub use limits::Limits;
 pub use seats::{Seats, Went, Why};
-pub use turn::{Going, Lost, turn};
-pub use watch::{Happening, Ready, Watch};
+pub use turns::{Going, Lost, turn};
+pub use watch::{Happening, Watch};

@@ -5,7 +5,6 @@ ghost use Rattle.h1_jobs.specs.Slots.{PollsTo};
 use crate::job::Job;
 use crate::limits::Limits;
 use crate::polls::{Polled, poll_twice};
-use crate::watch::Ready;
 use futures::task::{Doorbell, Solo};
 use std::alloc::{AllocError, AllocGlobal};
 use std::random::RandomSource;
@@ -42,8 +41,8 @@ pub enum Went<O> {
 /// Why a slot is polled.
 #[derive(Clone, Copy, Debug, PartialEq, Eq)]
 pub enum Why {
-    /// Something happened on its connection.
-    Ready(Ready),
+    /// Something happened on the connection of the slot with this number.
+    Ready(usize),
 
     /// Its deadline has come.
     Due,

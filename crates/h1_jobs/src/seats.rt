@@ -2,7 +2,7 @@
 ghost use Rattle.std.specs.Prelude.{◌≡◌, ◌≤◌, ◌<◌, ◌-◌, ℕ, IfOk, IfSome, IfNone, IsSomeAnd, OnSome, OnOk, OnErr, length, slice_index, slice_set};
 ghost use Rattle.slab.specs.Slab.{get, slab_len, HasRoomFor};
 ghost use Rattle.h1_jobs.specs.Runs.{Lives};
-ghost use Rattle.h1_jobs.specs.Slots.{job_of, Becomes, OthersStay, IsCause, StandsBy};
+ghost use Rattle.h1_jobs.specs.Slots.{job_of, Becomes, OthersStay, TakenStay, IsCause, StandsBy};
 
 use crate::job::Job;
 use crate::limits::Limits;
@@ -70,7 +70,8 @@ impl<J: Job> Seats<J> {
 
     /// How many slots are taken.
     pub fn len(&self) -> usize
-        ensures { result ≡ slab_len self.now.seats }
+        ensures value { result ≡ slab_len self.now.seats }
+        ensures few { result ≤ self.now.limits.jobs }
     {
         self.seats.len()
     }
@@ -87,6 +88,7 @@ impl<J: Job> Seats<J> {
         ensures number { IfSome result (λ number. number ≡ self.now.seats.vacant_key) }
         ensures room { OnSome result (HasRoomFor self.now.seats 1) }
         ensures few { OnSome result (slab_len self.now.seats < self.now.limits.jobs) }
+        ensures free { OnSome result (get self.now.seats self.now.seats.vacant_key ≡ None) }
     {
         let len = self.seats.len();
         if len >= self.limits.jobs || len >= self.seats.capacity() {
@@ -103,7 +105,7 @@ impl<J: Job> Seats<J> {
     /// Gives a new job the slot that `vacancy` told. It is to be polled at once.
     ///
     /// There is an error where there is no memory for it.
-    #[tactic(auto, using(crate::proofs::SeatLemmas::lives_begun))]
+    #[tactic(auto, using(crate::proofs::SeatLemmas::lives_begun, crate::proofs::SeatLemmas::taken_by, crate::proofs::SeatLemmas::taken_same))]
     pub fn admit<R: RandomSource + AllocGlobal>(
         &mut self,
         rt: &R,
@@ -114,8 +116,9 @@ impl<J: Job> Seats<J> {
         requires open { J.can_poll job }
         requires room { HasRoomFor self.old.seats 1 }
         requires few { slab_len self.old.seats < self.old.limits.jobs }
+        requires free { get self.old.seats self.old.seats.vacant_key ≡ None }
         ensures slot { OnOk result (IsSomeAnd (get self.new.seats self.old.seats.vacant_key) (λ seat. job_of seat ≡ job)) }
-        ensures others { OthersStay self.old.seats self.old.seats.vacant_key self.new.seats }
+        ensures others { TakenStay self.old.seats self.new.seats }
         ensures err { OnErr result (self.new.seats ≡ self.old.seats) }
         ensures limits { self.new.limits ≡ self.old.limits }
     {
@@ -125,12 +128,13 @@ impl<J: Job> Seats<J> {
     }
 
     /// Polls the job that has a slot, if one has it.
-    #[tactic(auto, using(crate::proofs::SeatLemmas::hall_taken, crate::proofs::SeatLemmas::hall_same, crate::proofs::SeatLemmas::may_poll_here, crate::proofs::SeatLemmas::lives_polled))]
+    #[tactic(auto, using(crate::proofs::SeatLemmas::hall_taken, crate::proofs::SeatLemmas::hall_same, crate::proofs::SeatLemmas::may_poll_here))]
     pub fn poll(&mut self, number: usize, moment: u64, why: Why) -> Went<J::Output>
         requires { IsCause self.old number moment why }
         ensures slot { Becomes J.polled J.drained (get self.old.seats number) moment result (get self.new.seats number) }
         ensures others { OthersStay self.old.seats number self.new.seats }
         ensures limits { self.new.limits ≡ self.old.limits }
+        ensures asked { self.old.asked ≤ self.new.asked }
     {
         let Some(mut seat) = self.seats.try_remove(number) else {
             self.clear(number);
@@ -159,7 +163,7 @@ impl<J: Job> Seats<J> {
     }
 
     /// Asks the job that has a slot to end, if one has it, and has it polled.
-    #[tactic(auto, using(crate::proofs::SeatLemmas::hall_taken, crate::proofs::SeatLemmas::hall_same, crate::proofs::SeatLemmas::may_poll_here, crate::proofs::SeatLemmas::lives_drained))]
+    #[tactic(auto, using(crate::proofs::SeatLemmas::hall_taken, crate::proofs::SeatLemmas::hall_same, crate::proofs::SeatLemmas::may_poll_here))]
     pub fn drain(&mut self, number: usize, moment: u64)
         ensures others { OthersStay self.old.seats number self.new.seats }
         ensures limits { self.new.limits ≡ self.old.limits }
@@ -180,6 +184,7 @@ impl<J: Job> Seats<J> {
         ensures slot { get self.new.seats self.old.seats.vacant_key ≡ Some seat }
         ensures others { OthersStay self.old.seats self.old.seats.vacant_key self.new.seats }
         ensures limits { self.new.limits ≡ self.old.limits }
+        ensures asked { self.old.asked ≤ self.new.asked }
     {
         let number = self.seats.insert_reserved(seat);
         if number < self.deadlines.len() {
@@ -197,7 +202,8 @@ impl<J: Job> Seats<J> {
         ensures seats { self.new.seats ≡ self.old.seats }
         ensures deadlines { self.new.deadlines ≡ self.old.deadlines }
         ensures limits { self.new.limits ≡ self.old.limits }
-        ensures asked { number < length self.old.row → self.new.row ≡ slice_set self.old.row number self.old.asked }
+        ensures asked { self.old.asked ≤ self.new.asked }
+        ensures row { number < length self.old.row → self.new.row ≡ slice_set self.old.row number self.old.asked }
     {
         if number < self.row.len() {
             self.row.set(number, self.asked);
@@ -210,6 +216,7 @@ impl<J: Job> Seats<J> {
         ensures seats { self.new.seats ≡ self.old.seats }
         ensures deadlines { self.new.deadlines ≡ self.old.deadlines }
         ensures limits { self.new.limits ≡ self.old.limits }
+        ensures asked { self.new.asked ≡ self.old.asked }
     {
         if number < self.row.len() {
             self.row.set(number, NEVER);
@@ -220,6 +227,7 @@ impl<J: Job> Seats<J> {
     fn clear(&mut self, number: usize)
         ensures seats { self.new.seats ≡ self.old.seats }
         ensures limits { self.new.limits ≡ self.old.limits }
+        ensures asked { self.new.asked ≡ self.old.asked }
     {
         if number < self.deadlines.len() {
             self.deadlines.set(number, NEVER);

@@ -11,21 +11,11 @@ pub enum Happening {
     /// There may be new connections.
     Door,
 
-    /// A wire may be ready.
-    Ready(Ready),
+    /// The wire with this number by `accept` may be ready to be read from or written to.
+    Ready(usize),
 
     /// It is time to end.
     Stop,
-}
-
-/// A wire that may be ready to be read from or written to.
-#[derive(Clone, Copy, Debug, PartialEq, Eq)]
-pub struct Ready {
-    /// The number that it has by `accept`.
-    pub number: usize,
-
-    /// Its peer sends nothing after what is there.
-    pub has_ended: bool,
 }
 
 /// What tells which wires are ready, and gives new ones.

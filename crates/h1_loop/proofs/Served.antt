@@ -17,13 +17,13 @@ module _ {J : Type 0} (view : J → View) where
 
   pub served : (can_poll : J → Type 0) (job : J) → jobs.Lives (Polls view) (Drains view) (IsNew view) can_poll job → HasServed (view job)
   served can_poll job lives =
-      let says : ActsSay (view lives.first) (acts_of lives.leads.0) (view job) = says_of lives.first job lives.leads.0 lives.leads.1 in
+      let says : ActsSay (view lives.first) (acts_of lives.leads.acts) (view job) = says_of lives.first job lives.leads.acts lives.leads.runs in
       record {
         first = view lives.first;
         new = lives.new;
-        acts = acts_of lives.leads.0;
+        acts = acts_of lives.leads.acts;
         says = says;
-        run = acts_run (view lives.first) (view job) (acts_of lives.leads.0) says;
+        run = acts_run (view lives.first) (view job) (acts_of lives.leads.acts) says;
       }
 
   pub cause : (a b : J) (moment : ℕ) (output : Result Unit DispatchError) → jobs.EndsBy (Polls view) (Drains view) a moment output b → (v : View) × HasCause v (view b) output

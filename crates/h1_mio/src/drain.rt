@@ -2,7 +2,7 @@
 use mio::net::TcpStream;
 use std::io::{ErrorKind, Read};
 
-/// The most reads of one poll.
+/// The most reads of one poll. Who sends that many pieces faster than they are read isn't waited for.
 const READS: u32 = 64;
 
 /// Until when, by the uptime in milliseconds, and how many bytes.
@@ -35,10 +35,7 @@ pub fn drain_some(stream: &TcpStream, now: u64, drain: Drain) -> Option<Drain> {
             }
         }
     }
-    Some(Drain {
-        until: drain.until,
-        bytes,
-    })
+    None
 }
 
 /// The socket isn't ready.

@@ -22,6 +22,7 @@
 #![tactic(auto)]
 
 mod drain;
+mod input;
 mod mio_watch;
 mod mio_wire;
 

@@ -1,16 +1,18 @@
 //! Readiness by the system.
 ghost use Rattle.std.specs.Prelude.{◌≡◌, IfOk};
-ghost use Rattle.h1_jobs.specs.Watching.{unwatched};
-ghost use Rattle.h1_mio.specs.Wires.{mio_watching};
+ghost use Rattle.h1_jobs.specs.Watching.{unwatched, Enters};
+ghost use Rattle.h1_mio.specs.Wires.{mio_watching, mio_wiring};
 
+use crate::input::Input;
 use crate::mio_wire::MioWire;
-use h1_jobs::{Happening, Ready, Watch};
+use h1_jobs::{Happening, Watch};
 use h1_net::Linger;
 use http_config::Failed;
+use mio::event::Event;
 use mio::net::{TcpListener, TcpStream};
 use mio::unix::SourceFd;
 use mio::{Events, Interest, Poll, Token};
-use std::alloc::{AllocError, AllocGlobal};
+use std::alloc::{AllocError, AllocGlobal, Global};
 use std::collections::VecDeque;
 use std::io::{self, ErrorKind};
 use std::net::Net;
@@ -20,10 +22,10 @@ use std::time::{self, Duration};
 const DOOR: usize = usize::MAX;
 
 /// The token of the standard input.
-const INPUT: usize = usize::MAX - 1;
+const STOP: usize = usize::MAX - 1;
 
 /// The descriptor of the standard input.
-const INPUT_FD: i32 = 0;
+const STANDARD_INPUT: i32 = 0;
 
 /// The most connections that went away before they were accepted, in one call.
 const GONE: u32 = 64;
@@ -36,6 +38,10 @@ pub struct MioWatch<R> {
     events: Events,
     happened: VecDeque<Happening>,
     listener: TcpListener,
+
+    // The input of each wire, by its number.
+    inputs: Vec<Option<Input>>,
+    alloc: Global,
     linger: Linger,
     faults: u64,
     given: u64,
@@ -59,12 +65,15 @@ impl<R> MioWatch<R> {
             .register(&mut listener, Token(DOOR), Interest::READABLE)?;
         let events = Events::with_capacity(rt.alloc(), most)?;
         let happened = VecDeque::with_capacity(rt.alloc(), most)?;
+        let alloc = rt.alloc();
         Ok(MioWatch {
             rt,
             poll,
             events,
             happened,
             listener,
+            inputs: Vec::new(alloc),
+            alloc,
             linger,
             faults: 0,
             given: 0,
@@ -75,10 +84,10 @@ impl<R> MioWatch<R> {
     pub fn watch_input(&mut self) -> io::Result<()>
         ensures { mio_watching self.new ≡ mio_watching self.old }
     {
-        let mut source = SourceFd(&INPUT_FD);
+        let mut source = SourceFd(&STANDARD_INPUT);
         self.poll
             .registry()
-            .register(&mut source, Token(INPUT), Interest::READABLE)
+            .register(&mut source, Token(STOP), Interest::READABLE)
     }
 }
 
@@ -98,7 +107,7 @@ where
             return Err(Failed);
         }
         // There is room for all.
-        if note_all(&self.events, &mut self.happened).is_err() {
+        if note_all(&self.events, &self.inputs, &mut self.happened).is_err() {
             self.faults = self.faults.saturating_add(1);
             return Err(Failed);
         }
@@ -112,22 +121,62 @@ where
     fn accept(&mut self, number: usize) -> Result<Option<MioWire<R>>, Failed> {
         match next_stream(&self.listener) {
             Next::Later => Ok(None),
-            Next::Failed => {
-                self.faults = self.faults.saturating_add(1);
-                Err(Failed)
-            }
-            Next::Stream(stream) => match admit(&self.poll, stream, number) {
-                Some(stream) => {
-                    self.given = self.given.saturating_add(1);
-                    Ok(Some(MioWire::new(self.rt, stream, self.linger)))
-                }
-                None => {
-                    self.faults = self.faults.saturating_add(1);
-                    Err(Failed)
-                }
-            },
+            Next::Failed => self.fail(),
+            Next::Stream(stream) => self.admit(stream, number),
         }
     }
+}
+
+impl<R: time::Clock + Copy> MioWatch<R> {
+    /// A wire over a new connection, whose readiness is told by this number. One of which it can't be told is lost, and one for
+    /// which there is no memory.
+    fn admit(&mut self, mut stream: TcpStream, number: usize) -> Result<Option<MioWire<R>>, Failed>
+        ensures { Enters mio_wiring (mio_watching self.old) (mio_watching self.new) result }
+    {
+        // A socket that refuses to be set is lost, and its first read says so.
+        let _ = stream.set_nodelay(true);
+        let Ok(input) = self.input(number) else {
+            return self.fail();
+        };
+        if !is_registered(&self.poll, &mut stream, number) {
+            return self.fail();
+        }
+        self.given = self.given.saturating_add(1);
+        Ok(Some(MioWire::new(self.rt, stream, input, self.linger)))
+    }
+
+    /// A failure, which is counted.
+    fn fail(&mut self) -> Result<Option<MioWire<R>>, Failed>
+        ensures { Enters mio_wiring (mio_watching self.old) (mio_watching self.new) result }
+    {
+        self.faults = self.faults.saturating_add(1);
+        Err(Failed)
+    }
+
+    /// A new input under this number.
+    fn input(&mut self, number: usize) -> Result<Input, AllocError>
+        ensures { mio_watching self.new ≡ mio_watching self.old }
+    {
+        let input = Input::new(self.alloc)?;
+        let shared = input.share()?;
+        put_input(&mut self.inputs, number, shared)?;
+        Ok(input)
+    }
+}
+
+/// Puts an input to a number.
+fn put_input(
+    inputs: &mut Vec<Option<Input>>,
+    number: usize,
+    input: Input,
+) -> Result<(), AllocError> {
+    for _ in inputs.len()..=number {
+        inputs.push(None)?;
+    }
+    if let Some(place) = inputs.get_mut(number) {
+        *place = Some(input);
+    }
+    Ok(())
 }
 
 /// What a listener has.
@@ -159,29 +208,40 @@ fn next_stream(listener: &TcpListener) -> Next {
     Next::Failed
 }
 
-/// Small pieces go out at once, and its readiness is told by this number. One of which it can't be told is lost.
-fn admit(poll: &Poll, mut stream: TcpStream, number: usize) -> Option<TcpStream> {
-    // A socket that refuses to be set is lost, and its first read says so.
-    let _ = stream.set_nodelay(true);
+/// Has its readiness told by this number.
+fn is_registered(poll: &Poll, stream: &mut TcpStream, number: usize) -> bool {
     let both = Interest::READABLE | Interest::WRITABLE;
-    match poll.registry().register(&mut stream, Token(number), both) {
-        Ok(()) => Some(stream),
-        Err(_) => None,
-    }
+    poll.registry()
+        .register(stream, Token(number), both)
+        .is_ok()
 }
 
 /// Notes what happened.
-fn note_all(events: &Events, happened: &mut VecDeque<Happening>) -> Result<(), AllocError> {
+fn note_all(
+    events: &Events,
+    inputs: &[Option<Input>],
+    happened: &mut VecDeque<Happening>,
+) -> Result<(), AllocError> {
     for event in events {
         let happening = match event.token().0 {
             DOOR => Happening::Door,
-            INPUT => Happening::Stop,
-            number => Happening::Ready(Ready {
-                number,
-                has_ended: event.is_read_closed() || event.is_error(),
-            }),
+            STOP => Happening::Stop,
+            number => {
+                note_input(event, inputs.get(number));
+                Happening::Ready(number)
+            }
         };
         happened.push_back(happening)?;
     }
     Ok(())
+}
+
+/// Notes what is told of a socket's input.
+fn note_input(event: &Event, input: Option<&Option<Input>>) {
+    let is_last = event.is_read_closed() || event.is_error();
+    if let Some(Some(input)) = input
+        && (is_last || event.is_readable())
+    {
+        input.tell(is_last);
+    }
 }

@@ -7,6 +7,7 @@ ghost use Rattle.http_wires.specs.Opening.{IsFresh};
 ghost use Rattle.http_wires.specs.Wiring.{ReadSays, WriteSays};
 
 use crate::drain::{Drain, drain_some, is_unready};
+use crate::input::Input;
 use futures::task::{Context, Poll, Source, Waker};
 use h1_net::{Linger, uptime};
 use http_config::Failed;
@@ -29,8 +30,8 @@ pub const ENOUGH: usize = 4096;
 /// - **A write of less than 4096 bytes is put off as long as more of them come**: it is pending, and the task is woken. So an
 ///   answer that is handed in by pieces, or many small ones, are written at once, and a small answer is one call of the
 ///   system.
-/// - After a read that brought fewer bytes than there was room for, the next one is pending without a call of the system,
-///   since no more was there.
+/// - A read is a call of the system only where the socket was told to be readable since a read last brought less than there
+///   was room for.
 ///
 /// Its shutdown loses no answer: it ends the side that writes, and then reads and drops what the peer still sends, until
 /// the peer ends too or the bounds are reached. A socket that is closed over unread bytes is reset, and the reset may
@@ -50,9 +51,7 @@ pub struct MioWire<R> {
 
     // How many bytes the last write that was put off had.
     offered: usize,
-
-    // The last read brought all that was there.
-    is_dry: bool,
+    input: Input,
     ended: bool,
     shut: bool,
     faults: u64,
@@ -62,8 +61,9 @@ pub struct MioWire<R> {
 }
 
 impl<R: time::Clock> MioWire<R> {
-    /// A wire over an accepted socket that doesn't wait, whose shutdown has these bounds.
-    pub fn new(rt: R, stream: TcpStream, linger: Linger) -> MioWire<R>
+    /// A wire over an accepted socket that doesn't wait, of which this tells whether it may be read, and whose shutdown has
+    /// these bounds.
+    pub(crate) fn new(rt: R, stream: TcpStream, input: Input, linger: Linger) -> MioWire<R>
         ensures fresh { IsFresh (mio_wiring result) }
         ensures waits { result.waits ≡ false }
         ensures offered { result.offered ≡ 0 }
@@ -77,7 +77,7 @@ impl<R: time::Clock> MioWire<R> {
             waker: None,
             waits: false,
             offered: 0,
-            is_dry: false,
+            input,
             ended: false,
             shut: false,
             faults: 0,
@@ -111,8 +111,7 @@ impl<R: time::Clock + Drop> Wire for MioWire<R> {
         ensures registered { OnPending result (IsArmed cx.new) }
         ensures kept { Keeps cx.old cx.new }
     {
-        if self.waits || self.is_dry {
-            self.is_dry = self.waits && self.is_dry;
+        if self.waits || !self.input.is_there() {
             self.reads = self.reads.saturating_add(1);
             return cx.register(&self.events, &mut self.waker);
         }
@@ -124,11 +123,14 @@ impl<R: time::Clock + Drop> Wire for MioWire<R> {
                 Poll::Ready(Ok(0))
             }
             Ok(count) => {
-                self.is_dry = count < buf.len();
+                if count < buf.len() {
+                    self.input.has_gone();
+                }
                 Poll::Ready(Ok(count))
             }
             Err(error) => {
                 if is_unready(error.kind()) {
+                    self.input.has_gone();
                     self.reads = self.reads.saturating_add(1);
                     return cx.register(&self.events, &mut self.waker);
                 }

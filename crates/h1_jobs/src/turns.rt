@@ -1,11 +1,10 @@
 //! A turn of the loop: it waits, polls those that are to be polled, and lets new connections in.
-ghost use Rattle.std.specs.Prelude.{◌≡◌, ◌≤◌, ℕ, IsSome};
-ghost use Rattle.slab.specs.Slab.{get, slab_len};
-ghost use Rattle.h1_jobs.specs.Slots.{StandsBy};
+ghost use Rattle.std.specs.Prelude.{◌≡◌, ℕ};
+ghost use Rattle.h1_jobs.specs.Slots.{StandsBy, TakenStay};
 
 use crate::job::{Job, Makes};
 use crate::seats::{Seats, Went, Why};
-use crate::watch::{Happening, Ready, Watch};
+use crate::watch::{Happening, Watch};
 use http_config::Failed;
 use http_wires::{Clock, Wire};
 use std::alloc::AllocGlobal;
@@ -122,8 +121,7 @@ where
     J: Job,
     M: Makes<C, J>,
     K: Clock,
-    ensures limits { seats.new.limits ≡ seats.old.limits }
-    ensures few { slab_len seats.new.seats ≤ seats.new.limits.open }
+    ensures { seats.new.limits ≡ seats.old.limits }
 {
     let rest = wait_for(seats, going, clock.now_ms());
     if watch.wait(rest).is_err() {
@@ -150,33 +148,29 @@ fn wait_for<J: Job>(seats: &Seats<J>, going: &Going, moment: u64) -> u64
 
 /// Polls those whose connections are ready, and notes what else happened.
 fn hear<W: Watch, J: Job>(watch: &mut W, seats: &mut Seats<J>, going: &mut Going, moment: u64)
-    ensures limits { seats.new.limits ≡ seats.old.limits }
+    ensures { seats.new.limits ≡ seats.old.limits }
 {
     for _ in 0..u64::MAX {
         match watch.next() {
             None => return,
             Some(Happening::Door) => going.may_enter = true,
             Some(Happening::Stop) => end_all(seats, going, moment),
-            Some(Happening::Ready(ready)) => serve_ready(seats, going, ready, moment),
+            Some(Happening::Ready(number)) => serve_ready(seats, going, number, moment),
         }
     }
 }
 
-/// Polls one whose connection is ready; and once more in the next turn where its peer sends nothing after what is there,
-/// since nothing tells of that again.
-fn serve_ready<J: Job>(seats: &mut Seats<J>, going: &mut Going, ready: Ready, moment: u64)
-    ensures limits { seats.new.limits ≡ seats.old.limits }
+/// Polls one whose connection is ready.
+fn serve_ready<J: Job>(seats: &mut Seats<J>, going: &mut Going, number: usize, moment: u64)
+    ensures { seats.new.limits ≡ seats.old.limits }
 {
-    let went = seats.poll(ready.number, moment, Why::Ready(ready));
+    let went = seats.poll(number, moment, Why::Ready(number));
     going.count(went);
-    if ready.has_ended {
-        seats.ask(ready.number);
-    }
 }
 
 /// Polls those whose deadlines have come, each of them once at most.
 fn serve_due<J: Job>(seats: &mut Seats<J>, going: &mut Going, moment: u64)
-    ensures limits { seats.new.limits ≡ seats.old.limits }
+    ensures { seats.new.limits ≡ seats.old.limits }
 {
     for _ in 0..seats.size() {
         let Some(number) = seats.due(moment) else {
@@ -189,7 +183,7 @@ fn serve_due<J: Job>(seats: &mut Seats<J>, going: &mut Going, moment: u64)
 
 /// Polls those that had asked for a poll, in the order in which they did.
 fn serve_asking<J: Job>(seats: &mut Seats<J>, going: &mut Going, moment: u64)
-    ensures limits { seats.new.limits ≡ seats.old.limits }
+    ensures { seats.new.limits ≡ seats.old.limits }
 {
     let before = seats.asked();
     for _ in 0..seats.size() {
@@ -203,7 +197,7 @@ fn serve_asking<J: Job>(seats: &mut Seats<J>, going: &mut Going, moment: u64)
 
 /// Asks all jobs to end.
 fn end_all<J: Job>(seats: &mut Seats<J>, going: &mut Going, moment: u64)
-    ensures limits { seats.new.limits ≡ seats.old.limits }
+    ensures { seats.new.limits ≡ seats.old.limits }
 {
     if going.is_ending {
         return;
@@ -230,7 +224,7 @@ where
     J: Job,
     M: Makes<C, J>,
     ensures limits { seats.new.limits ≡ seats.old.limits }
-    ensures others { (number : ℕ) → IsSome (get seats.old.seats number) → get seats.new.seats number ≡ get seats.old.seats number }
+    ensures others { TakenStay seats.old.seats seats.new.seats }
 {
     going.retry(moment);
     for _ in 0..ENTRIES {
