@@ -81,14 +81,14 @@ module _ {J O : Type 0} (polled : Polling J O) (drained : Draining J) (begun can
       let B : Option (Taken J) → Type 0 = λ o. Becomes polled drained o moment Stays new in
       subst B (sym old_is) (b, new_is, subst L same says)
 
-not_none : {X : Type 0} → IsSome {T = X} None → ⊥
-not_none some = cc some
+not_none : (X : Type 0) → IsSome {T = X} None → ⊥
+not_none X some = cc some
 
 -- one change of a slot that was free
 pub taken_by : {X : Type 0} (old new : Slab X) (free : ℕ) → OthersStay old free new → get old free ≡ None → TakenStay old new
 taken_by {X} old new free others none = λ number some.
     let S : Option X → Type 0 = λ o. IsSome o in
-    others number (λ same. not_none (subst S none (subst (λ (k : ℕ). IsSome (get old k)) same some)))
+    others number (λ same. not_none X (subst S none (subst (λ (k : ℕ). IsSome (get old k)) same some)))
 
 pub taken_same : {X : Type 0} (old new : Slab X) → new ≡ old → TakenStay old new
 taken_same old new same = λ number some. ap (λ (s : Slab _). get s number) same
