@@ -5,16 +5,15 @@
 
 mod site;
 
+use h1_jobs::Limits;
 use h1_loop::run_many;
 use h1_mio::MioWatch;
 use h1_net::{Linger, SystemClock};
-use h1_jobs::Limits;
 use http_types::ServiceConfig;
 use site::Sites;
-use std::env;
 use std::net::TcpListener;
 use std::process::ExitCode;
-use std::thread;
+use std::{env, thread};
 
 /// How many connections a loop has at most, how long a job without a deadline isn't polled, and for how long nothing happens
 /// on its connection, in milliseconds.

@@ -57,7 +57,7 @@ impl<R> MioWatch<R> {
         linger: Linger,
     ) -> io::Result<MioWatch<R>>
     where
-        R: Net + AllocGlobal,
+        R: Net + AllocGlobal + Drop,
         ensures { IfOk result (λ watch. mio_watching watch ≡ unwatched) }
     {
         let poll = Poll::new(&rt)?;
