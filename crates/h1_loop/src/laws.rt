@@ -4,7 +4,7 @@ ghost use Rattle.http_types.specs.declared.error.DispatchError.{DispatchError};
 ghost use Rattle.h1_jobs.specs.Runs.{Lives, EndsBy};
 ghost use Rattle.h1_dispatch.specs.View.{view_of, View, MayBePolled};
 ghost use Rattle.h1_dispatch.specs.Causes.{HasCause};
-ghost use Rattle.h1_loop.specs.Served.{IsNew, Polls, Drains, HasServed};
+ghost use Rattle.h1_loop.specs.Jobs.{IsNew, Polls, Drains, HasServed};
 ghost use Rattle.h1_loop.specs.declared.served.Served.{Served as Job};
 
 use http_bodies::MessageBody;

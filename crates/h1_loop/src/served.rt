@@ -1,7 +1,7 @@
 //! A service over a wire as a job.
 ghost use Rattle.std.specs.Prelude.{None};
 ghost use Rattle.h1_dispatch.specs.View.{view_of, MayBePolled};
-ghost use Rattle.h1_loop.specs.Served.{IsNew, Polls, Drains};
+ghost use Rattle.h1_loop.specs.Jobs.{IsNew, Polls, Drains};
 
 use futures::task::{Context, Poll};
 use h1_dispatch::Dispatcher;

@@ -45,20 +45,24 @@ fn main(rt: HostRuntime) -> ExitCode {
     let Ok(listener) = TcpListener::bind(&rt, ("127.0.0.1", port)) else {
         return ExitCode::FAILURE;
     };
-    if listener.set_nonblocking(true).is_err() || !start(rt, &listener, threads) {
+    if listener.set_nonblocking(true).is_err() || !start(&rt, &listener, threads) {
         return ExitCode::FAILURE;
     }
     ExitCode::SUCCESS
 }
 
 // Serves by so many threads, until all have ended.
-fn start(rt: HostRuntime, listener: &TcpListener, threads: u64) -> bool {
+fn start<R>(rt: &R, listener: &TcpListener, threads: u64) -> bool
+where
+    R: Threads + Net + Clock + RandomSource + AllocGlobal + Copy + Send + Drop + 'static,
+{
     let mut handles = Vec::new(rt.alloc());
     for _ in 0..threads {
         let Ok(copy) = listener.try_clone() else {
             return false;
         };
-        let Ok(handle) = thread::spawn(&rt, move || serve(rt, copy)) else {
+        let rt_of_thread = *rt;
+        let Ok(handle) = thread::spawn(rt, move || serve(rt_of_thread, copy)) else {
             return false;
         };
         if handles.push(handle).is_err() {
@@ -67,13 +71,16 @@ fn start(rt: HostRuntime, listener: &TcpListener, threads: u64) -> bool {
     }
     let mut is_well = true;
     for handle in handles {
-        is_well = handle.join(&rt) && is_well;
+        is_well = handle.join(rt) && is_well;
     }
     is_well
 }
 
 // Serves what a listener gives, by this thread, and says whether it ended well.
-fn serve(rt: HostRuntime, listener: TcpListener) -> bool {
+fn serve<R>(rt: R, listener: TcpListener) -> bool
+where
+    R: Net + Clock + RandomSource + AllocGlobal + Copy + Drop,
+{
     let listener = mio::net::TcpListener::from_std(listener);
     let Ok(mut watch) = MioWatch::new(rt, listener, HAPPENINGS, LINGER) else {
         return false;

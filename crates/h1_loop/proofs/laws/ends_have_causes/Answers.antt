@@ -1,6 +1,6 @@
 use Rattle.h1_dispatch.specs.View.{view_of}
 use Rattle.std.specs.Prelude.{None}
-use Rattle.h1_loop.proofs.Served.{cause}
+use Rattle.h1_loop.proofs.Jobs.{cause}
 use Rattle.h1_loop.proofs.laws.ends_have_causes.Goals as goal
 
 pub returns : goal.returns

@@ -1,6 +1,6 @@
 use Rattle.h1_dispatch.specs.View.{view_of, MayBePolled}
 use Rattle.std.specs.Prelude.{None}
-use Rattle.h1_loop.proofs.Served.{served}
+use Rattle.h1_loop.proofs.Jobs.{served}
 use Rattle.h1_loop.proofs.laws.jobs_are_served.Goals as goal
 
 pub returns : goal.returns

@@ -7,7 +7,7 @@ use Rattle.h1_dispatch.specs.View.{View}
 use Rattle.h1_dispatch.proofs.Acts.{acts_run}
 use Rattle.h1_dispatch.proofs.Causes.{poll_has}
 use Rattle.h1_jobs.specs.Runs as jobs
-use Rattle.h1_loop.specs.Served.{IsNew, Polls, Drains, HasServed, acts_of}
+use Rattle.h1_loop.specs.Jobs.{IsNew, Polls, Drains, HasServed, acts_of}
 
 module _ {J : Type 0} (view : J → View) where
   says_of : (a b : J) (acts : List (jobs.Act (Result Unit DispatchError))) → jobs.Runs (Polls view) (Drains view) a acts b → ActsSay (view a) (acts_of acts) (view b)
