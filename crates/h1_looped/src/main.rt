@@ -11,9 +11,13 @@ use h1_mio::MioWatch;
 use h1_net::{Linger, SystemClock};
 use http_types::ServiceConfig;
 use site::Sites;
-use std::net::TcpListener;
+use std::alloc::AllocGlobal;
+use std::env;
+use std::net::{Net, TcpListener};
 use std::process::ExitCode;
-use std::{env, thread};
+use std::random::RandomSource;
+use std::thread::{self, Threads};
+use std::time::Clock;
 
 /// How many connections a loop has at most, how long a job without a deadline isn't polled, and for how long nothing happens
 /// on its connection, in milliseconds.
