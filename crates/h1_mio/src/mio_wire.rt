@@ -28,8 +28,7 @@ pub const ENOUGH: usize = 4096;
 /// - **It reads nothing while its write waits**: so a peer that doesn't read what it is sent can't make us hold more of what
 ///   it sends.
 /// - **A write of less than 4096 bytes is put off as long as more of them come**: it is pending, and the task is woken. So an
-///   answer that is handed in by pieces, or many small ones, are written at once, and a small answer is one call of the
-///   system.
+///   answer that is handed in by pieces is written at once, and a small answer is one call of the system.
 /// - A read is a call of the system only where the socket was told to be readable since a read last brought less than there
 ///   was room for.
 ///
