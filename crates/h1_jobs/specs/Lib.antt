@@ -1,0 +1,3 @@
+pub mod Runs
+pub mod Slots
+pub mod Watching
