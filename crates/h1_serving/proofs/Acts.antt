@@ -12,7 +12,7 @@ use Rattle.h1_dispatch.specs.Acts.{Act, polled, asked, ActSays, ActsSay}
 use Rattle.h1_dispatch.specs.Polls.{PollSays}
 use Rattle.h1_serving.specs.declared.error.ServeError.{ServeError}
 use Rattle.h1_serving.specs.declared.error.ServeError.TheVariants.{Dispatch, NoMemory}
-use Rattle.h1_serving.specs.Serves.{IsWait, AreWaits, PollsAt, EndsAt, Ends}
+use Rattle.h1_serving.specs.Serves.{IsWait, AreWaits, PollsAt, EndsAt, Ends, end_of}
 
 says_more : (acts : List Act) (act : Act) (v u w : View) → ActsSay v acts u → ActSays u act w → ActsSay v (acts ++ act ∷ []) w
 says_more [] act v u w say last = (w, subst (λ x. ActSays x act w) say last, refl)
@@ -70,6 +70,16 @@ module _ (polls count : ℕ) (may_give other : ℕ → Bool) (v u w : View) wher
   pub ends_err : (e : DispatchError) → AreWaits may_give v count u → count < polls → ((moment : ℕ) → other moment ≡ may_give moment) → PollsAt other u w (Ready (Err e))
       → nat_lt 0 w.service.call_waits ≡ false → Ends polls may_give v w (Err (Dispatch e))
   ends_err e waits fewer same last stuck = (at_end (Ready (Err e)) waits fewer same last, none_below w.service.call_waits stuck)
+
+  pub ends_told : (r : Result Unit DispatchError) → AreWaits may_give v count u → count < polls → ((moment : ℕ) → other moment ≡ may_give moment) → PollsAt other u w (Ready r)
+      → nat_lt 0 w.service.call_waits ≡ false → Ends polls may_give v w (end_of r)
+  ends_told (Ok tt) waits fewer same last stuck = ends_ok waits fewer same last stuck
+  ends_told (Err e) waits fewer same last stuck = ends_err e waits fewer same last stuck
+
+  pub ends_by : (answer : Poll (Result Unit DispatchError)) (r : Result Unit DispatchError) (end : Result Unit ServeError) → AreWaits may_give v count u → count < polls
+      → ((moment : ℕ) → other moment ≡ may_give moment) → PollsAt other u w answer → nat_lt 0 w.service.call_waits ≡ false → answer ≡ Ready r → end ≡ end_of r → Ends polls may_give v w end
+  ends_by answer r end waits fewer same last stuck is ended =
+      subst (λ e. Ends polls may_give v w e) (sym ended) (ends_told r waits fewer same (subst (λ a. PollsAt other u w a) is last) stuck)
 
   -- or it was pending
   pub waits_on : AreWaits may_give v count u → ((moment : ℕ) → other moment ≡ may_give moment) → PollsAt other u w Pending → AreWaits may_give v (count + 1) w

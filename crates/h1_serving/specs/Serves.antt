@@ -49,6 +49,11 @@ pub record EndsAt (may_give : ℕ → Bool) (polls : ℕ) (v w : View) (answer :
   pub waits : AreWaits may_give v count between
   pub last : PollsAt may_give between w answer
 
+-- what a dispatcher's last answer comes to
+abbrev pub end_of : Result Unit DispatchError → Result Unit ServeError
+end_of (Ok x) = Ok tt
+end_of (Err e) = Err (Dispatch e)
+
 -- Why it is served no longer: the last poll answered so; or as many polls as it may have were pending; and each call that
 -- was polled was answered. Or else there was no memory to begin with, or a call wasn't answered.
 abbrev pub Ends : ℕ → (ℕ → Bool) → View → View → Result Unit ServeError → Type 0

@@ -4,7 +4,7 @@ ghost use Rattle.http_bodies.specs.Values.{holds};
 ghost use Rattle.http_services.specs.Serving.{unknown_call};
 ghost use Rattle.h1_line.specs.Line.{LineStands};
 ghost use Rattle.h1_dispatch.specs.View.{view_of, MayBePolled};
-ghost use Rattle.h1_serving.specs.Serves.{begun_view, HasServed, Ends, PollsAt};
+ghost use Rattle.h1_serving.specs.Serves.{begun_view, HasServed, Ends, PollsAt, end_of};
 ghost use Rattle.h1_serving.specs.Told.{IsTold};
 ghost use Rattle.h1_board_service.specs.Work.{serving_of};
 
@@ -163,12 +163,21 @@ where
             return Err(ServeError::NoMemory);
         }
         match polled {
-            Poll::Ready(Ok(())) => return Ok(()),
-            Poll::Ready(Err(error)) => return Err(ServeError::Dispatch(error)),
+            Poll::Ready(ended) => return told(ended),
             Poll::Pending => {}
         }
     }
     Err(ServeError::Budget)
+}
+
+/// What a dispatcher's last answer comes to.
+fn told(ended: Result<(), DispatchError>) -> Result<(), ServeError>
+    ensures { result ≡ end_of ended }
+{
+    match ended {
+        Ok(()) => Ok(()),
+        Err(error) => Err(ServeError::Dispatch(error)),
+    }
 }
 
 /// Polls a connection, at the moment that the clock gives.

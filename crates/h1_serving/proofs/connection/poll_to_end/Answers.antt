@@ -1,5 +1,5 @@
 use Rattle.std.proofs.Common.{sym, ◌∙◌}
-use Rattle.h1_serving.proofs.Acts.{ends_stuck, waits_on, none_below}
+use Rattle.h1_serving.proofs.Acts.{ends_stuck, ends_by, waits_on, none_below}
 use Rattle.h1_serving.proofs.connection.poll_to_end.Goals as goal
 
 pub returns-then-is_stuck : goal.returns-then-is_stuck
@@ -17,4 +17,11 @@ loop-count-preserved g c = record {
   open_call = c.poll_once-polled.ensures.open;
   answered = none_below _ (sym c.is_stuck.ensures ∙ c.if-is_stuck.false);
   same = λ moment. c.poll_once-polled.ensures.same moment ∙ c.loop-count.invariant.same moment;
+}
+
+pub returns-in-Ready : goal.returns-in-Ready
+returns-in-Ready g c = record {
+  ends =
+      ends_by c.args.polls c.loop-count.count (g.K.Clock.may_give c.args.clock) (g.K.Clock.may_give c.loop-count.clock) _ _ _ c.poll_once-polled.result c.in-Ready.ended c.told.result c.loop-count.invariant.waits
+      c.loop-count-test.true c.loop-count.invariant.same c.poll_once-polled.ensures.polls (sym c.is_stuck.ensures ∙ c.if-is_stuck.false) c.in-Ready.is c.told.ensures;
 }
