@@ -1,18 +1,16 @@
 -- What each call does to the pieces and the buffer.
-use Rattle.std.proofs.Common.{◌≡◌, ℕ, ◌+◌, ◌-◌, ◌<◌, ◌≤◌, Bool, true, false, zero, suc, List, [], ◌∷◌, ◌++◌, length, take, drop, nat_lt, All, refl, sym, ap, ◌∙◌, subst, arith, append_assoc, append-nil, length-append}
+use Rattle.std.proofs.Common.{◌≡◌, ℕ, ◌+◌, ◌-◌, ◌<◌, ◌≤◌, Bool, true, false, List, [], ◌∷◌, ◌++◌, length, take, drop, nat_lt, All, refl, sym, ap, ◌∙◌, subst, arith, length-append}
 use Rattle.std.specs.Prelude.{if◌then◌else◌, ◌==◌}
-use Rattle.std.proofs.lemmas.List.{take-append-le, drop-append-le, length-drop, length-take-le, drop_all, take_all, take-append-drop, drop-take, drop-drop}
+use Rattle.std.proofs.lemmas.List.{drop-append-le, length-drop, length-take-le, drop_all, take-append-drop, drop-take, drop-drop}
 use Rattle.std.proofs.lemmas.List.Elements.{All-nil, All-head, All-tail, All-cons, All-push}
 use Rattle.std.proofs.lemmas.Bool.Decides.{nat_tests}
-use Rattle.std.proofs.lemmas.Bool.{lt-ltb, le-ltb}
 use Rattle.http_segments.specs.declared.piece.Body.{Body}
 use Rattle.http_segments.specs.declared.piece.Body.TheVariants.{Own, Shared}
 use Rattle.http_segments.specs.declared.piece.Piece.{Piece}
 use Rattle.std.proofs.Math.Seq.{take-length, take-append_seam}
 use Rattle.std.proofs.lemmas.List.{take_at, take_min, length-take}
 use Rattle.std.specs.Prelude.{slice_index_or}
-use Rattle.std.specs.Prelude.{Option, Some, None}
-use Rattle.h1_chunks.specs.Runs.{Run}
+use Rattle.std.specs.Prelude.{Option, None}
 use Rattle.h1_model.specs.Parse.{run_between}
 use Rattle.h1_segment_model.specs.Runs.{front_len, runs_behind}
 use Rattle.http_segments.specs.Queued.{IsStretch, Queued, behind, front_of, nothing, with_piece, with_text}
@@ -416,10 +414,13 @@ laid_own (p ∷ ps) own some fits none =
         ∙ ap (λ l. take p.before own ++ l) (take-append-drop n (drop p.before own)) ∙ take-append-drop p.before own
     by_body (Shared b) has none more = absurd (omega arith)
 
+-- where nothing is shared the bytes are the buffer's
+pub all_own : (ps : List Piece) (own : List ℕ) (m k : ℕ) (q : Queued) → IsLaid ps own m k → k ≡ 0 → queued ps own ≡ q → own ≡ q.bytes
+all_own ps own m k q is none view = sym (laid_own ps own is.some is.fits (omega (arith, is.many_is))) ∙ ap (λ (q : Queued). q.bytes) view
+
 pub own_stretch : (ps : List Piece) (own : List ℕ) (m k : ℕ) (all : List ℕ) (q : Queued) → IsLaid ps own m k → k ≡ 0 → queued ps own ≡ q → all ≡ own → IsStretch q.bytes all
 own_stretch ps own m k all q is none view same =
-    let whole : laid ps own ≡ own = laid_own ps own is.some is.fits (omega (arith, is.many_is)) in
-    let bytes : all ≡ q.bytes = same ∙ sym whole ∙ ap (λ (q : Queued). q.bytes) view in
+    let bytes : all ≡ q.bytes = same ∙ all_own ps own m k q is none view in
     subst (λ l. IsStretch q.bytes l) (sym bytes) (record { begins = take-length q.bytes; fits = omega arith; some = λ has. has })
 
 -- ---- all goes
