@@ -1,0 +1,4 @@
+pub mod MemDoors
+pub mod Visits
+pub mod Reports
+pub mod Runs
