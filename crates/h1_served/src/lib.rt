@@ -26,7 +26,7 @@ mod gather;
 mod mem_door;
 mod report;
 mod run;
-mod serve;
+mod server;
 mod visit;
 mod write;
 
@@ -35,5 +35,5 @@ pub use h1_serving::{Gate, NoRecords, OpenGate, Recorders, ServeError};
 pub use mem_door::MemDoor;
 pub use report::print_report;
 pub use run::{Run, serve_run};
-pub use serve::serve;
+pub use server::serve;
 pub use visit::{Differing, Ran, Report, ServeFault, Visit};

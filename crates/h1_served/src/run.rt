@@ -4,7 +4,7 @@ ghost use Rattle.http_config.specs.Causes.{Rose};
 ghost use Rattle.h1_served.specs.Runs.{SaysEnd, SaysStatus, SaysTold};
 
 use crate::report::print_report;
-use crate::serve::serve;
+use crate::server::serve;
 use crate::visit::{Report, ServeFault};
 use crate::write::write_all;
 use h1_line::Recorder;

@@ -1,5 +1,5 @@
 -- One poll more.
-use Rattle.std.proofs.Common.{◌≡◌, ◌<◌, ◌+◌, ℕ, zero, suc, Bool, true, false, List, [], ◌∷◌, ◌++◌, length, Result, Ok, Err, inr, refl, sym, ap, ◌∙◌, subst, arith}
+use Rattle.std.proofs.Common.{◌≡◌, ◌<◌, ◌+◌, ℕ, Bool, true, false, List, [], ◌∷◌, ◌++◌, length, Result, Ok, Err, inr, refl, sym, ap, ◌∙◌, subst, arith}
 use Rattle.std.specs.Prelude.{nat_lt}
 use Rattle.std.specs.List.{AllByRecursion}
 use Rattle.std.proofs.lemmas.List.{length-append}
@@ -44,17 +44,16 @@ no_waits may_give v = record { acts = []; say = refl; many = refl; each = tt }
 
 -- ---- how the polls end
 
-none_below : (n : ℕ) → nat_lt 0 n ≡ false → n ≡ 0
-none_below zero is = refl
-none_below (suc n) is = absurd (cc is)
+-- each call was answered
+pub none_below : (n : ℕ) → nat_lt 0 n ≡ false → n ≡ 0
+none_below n is = grind arith
 
 some_below : (n : ℕ) → nat_lt 0 n ≡ true → 0 < n
-some_below zero is = absurd (cc is)
-some_below (suc n) is = omega arith
+some_below n is = grind arith
 
 module _ (polls count : ℕ) (may_give other : ℕ → Bool) (v u w : View) where
   at_end : (answer : Poll (Result Unit DispatchError)) → AreWaits may_give v count u → count < polls → ((moment : ℕ) → other moment ≡ may_give moment) → PollsAt other u w answer
-      → EndsAt polls may_give v w answer
+      → EndsAt may_give polls v w answer
   at_end answer waits fewer same last =
       record { count = count; fewer = fewer; between = u; waits = waits; last = polls_alike other may_give u w answer same last }
 
@@ -75,6 +74,3 @@ module _ (polls count : ℕ) (may_give other : ℕ → Bool) (v u w : View) wher
   -- or it was pending
   pub waits_on : AreWaits may_give v count u → ((moment : ℕ) → other moment ≡ may_give moment) → PollsAt other u w Pending → AreWaits may_give v (count + 1) w
   waits_on waits same last = waits_more may_give v u w count waits (polls_alike other may_give u w Pending same last)
-
-  pub is_answered : nat_lt 0 w.service.call_waits ≡ false → w.service.call_waits ≡ 0
-  is_answered stuck = none_below w.service.call_waits stuck

@@ -183,20 +183,20 @@ waits_ran P may_give v w count waits =
     whole_ran P v w r.steps r.run (r.noted (waits_have may_give waits.acts waits.each))
 
 at_ran : (P : Type 0) (polls : ℕ) (may_give : ℕ → Bool) (v w : View) (answer : Poll (Result Unit DispatchError)) → (answer ≡ Ready (Err error.NoMemory) → P → ⊥)
-    → EndsAt polls may_give v w answer → Ran P v w
+    → EndsAt may_give polls v w answer → Ran P v w
 at_ran P polls may_give v w answer lost ends =
     let r = acts_run v ends.between ends.waits.acts ends.waits.say in
     front_ran P v ends.between w r.steps r.run (r.noted (waits_have may_give ends.waits.acts ends.waits.each))
     (poll_ran P ends.between w ends.last.cx ends.last.moment answer lost ends.last.says)
 
-same_error : (e : DispatchError) → Ready {A = Result Unit DispatchError} (Err e) ≡ Ready (Err error.NoMemory) → e ≡ error.NoMemory
-same_error e is = cc is
+same_error : (e : DispatchError) (r : Poll (Result Unit DispatchError)) → r ≡ Ready (Err e) → r ≡ Ready (Err error.NoMemory) → e ≡ error.NoMemory
+same_error e r a b = cc (a, b)
 
 pub ends_ran : (polls : ℕ) (may_give : ℕ → Bool) (v w : View) (end : Result Unit ServeError) → Ends polls may_give v w end → Ran (HadMemory end) v w
 ends_ran polls may_give v w (Ok x) ends = at_ran (HadMemory (Ok x)) polls may_give v w (Ready (Ok tt)) (λ is p. absurd (cc is)) ends.0
 ends_ran polls may_give v w (Err (Dispatch e)) ends =
     at_ran (HadMemory (Err (Dispatch e))) polls may_give v w (Ready (Err e))
-    (λ is p. subst (λ (x : DispatchError). HadMemory (Err (Dispatch x))) (same_error e is) p) ends.0
+    (λ is p. subst (λ (x : DispatchError). HadMemory (Err (Dispatch x))) (same_error e (Ready (Err e)) refl is) p) ends.0
 ends_ran polls may_give v w (Err Budget) ends = waits_ran (HadMemory (Err Budget)) may_give v w polls ends.0
 ends_ran polls may_give v w (Err NoMemory) (inl is) = stays (HadMemory (Err NoMemory)) v w is
 ends_ran polls may_give v w (Err NoMemory) (inr is) = at_ran (HadMemory (Err NoMemory)) polls may_give v w is.0 (λ e p. p) is.1

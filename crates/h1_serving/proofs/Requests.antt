@@ -112,13 +112,13 @@ pub record OneWaits (s : Stage) (o : Option Asking) : Type 0 where
   pub are : option_to_list o ++ waits_in s ≡ option_to_list waiting
   pub went : (broke : Bool) (number : ℕ) (a b : List Entry) → Went broke number o a b → Went broke number waiting a b
 
+one_is_none : (n : ℕ) → n ≡ 0 → n ≡ 1 → ⊥
+one_is_none n none one = omega (arith, none, one)
+
 pub one_waits : (s : Stage) (o : Option Asking) → length (option_to_list o) ≡ calls_in s → OneWaits s o
 one_waits free o is = record { waiting = o; are = append-nil (option_to_list o); went = λ broke number a b w. w }
 one_waits (waiting request) None is = record { waiting = Some request; are = refl; went = λ broke number a b w. went_first broke number request a b w }
-one_waits (waiting request) (Some other) is = absurd (one_is_none is)
-  where
-    one_is_none : 1 ≡ 0 → ⊥
-    one_is_none is = omega (arith, is)
+one_waits (waiting request) (Some other) is = absurd (one_is_none (length (option_to_list (Some other))) is refl)
 one_waits (calling took) o is = record { waiting = o; are = append-nil (option_to_list o); went = λ broke number a b w. w }
 one_waits (replying answer) o is = record { waiting = o; are = append-nil (option_to_list o); went = λ broke number a b w. w }
 one_waits (sending body) o is = record { waiting = o; are = append-nil (option_to_list o); went = λ broke number a b w. w }

@@ -19,11 +19,11 @@ use Rattle.h1_serving.proofs.Ran.{waits_have}
 use Rattle.h1_serving.proofs.Steps.{run_kept}
 
 -- the cause of the last poll's answer
-at_end : (polls : ℕ) (may_give : ℕ → Bool) (v w : View) (result : Result Unit DispatchError) (ends : EndsAt polls may_give v w (Ready result)) → HasCause ends.between w result
+at_end : (polls : ℕ) (may_give : ℕ → Bool) (v w : View) (result : Result Unit DispatchError) (ends : EndsAt may_give polls v w (Ready result)) → HasCause ends.between w result
 at_end polls may_give v w result ends = poll_has ends.between w ends.last.cx ends.last.moment result ends.last.says
 
 -- the wire's count before the last poll
-at_last : (polls : ℕ) (may_give : ℕ → Bool) (v w : View) (answer : Poll (Result Unit DispatchError)) (ends : EndsAt polls may_give v w answer) → is_some v.service.called ≡ true
+at_last : (polls : ℕ) (may_give : ℕ → Bool) (v w : View) (answer : Poll (Result Unit DispatchError)) (ends : EndsAt may_give polls v w answer) → is_some v.service.called ≡ true
     → v.wire.faults ≤ ends.between.wire.faults
 at_last polls may_give v w answer ends known =
     let r = acts_run v ends.between ends.waits.acts ends.waits.say in

@@ -116,15 +116,12 @@ none_asked (pieces.Broken fault) = refl
 none_asked pieces.Pending = refl
 
 -- a service that tells its calls refuses none
-never : (known : Option (List Asking)) (e : Answer) → is_some known ≡ true → NeverFails known (Ready {A = Result Unit Answer} (Err e)) → ⊥
-never None e some is = absurd (cc some)
-never (Some l) e some is = is
-
 none_refused : (known : Option (List Asking)) (request : Asking) (answer : Poll (Result Unit Answer)) → is_some known ≡ true → NeverFails known answer → TakesNone answer
     → (refused request answer ≡ []) × (refusals answer ≡ [])
-none_refused known request (Ready (Ok x)) some sure none = absurd none
-none_refused known request (Ready (Err e)) some sure none = absurd (never known e some sure)
-none_refused known request Pending some sure none = (refl, refl)
+none_refused None request answer some sure none = absurd (cc some)
+none_refused (Some l) request (Ready (Ok x)) some sure none = absurd none
+none_refused (Some l) request (Ready (Err e)) some sure none = absurd sure
+none_refused (Some l) request Pending some sure none = (refl, refl)
 
 given_values : (answer : Poll (Result Answer Answer)) → step_answers (answered answer) ≡ map value_of (given answer)
 given_values (Ready (Ok x)) = refl

@@ -107,10 +107,10 @@ moved_so begun between was now before trace first last taken_so written_so recei
   (subst (λ (x : Wiring). Grows x.sent between.wire.sent (written trace)) first (subst (λ l. Grows begun.wire.sent between.wire.sent l) (sym written_so) sent_so)),
 )
 
-pub told : (was now : Wiring) (number : ℕ) (settings : Settings) (recorded noted : Option (List noted.Pair)) (polls : ℕ) (may_give : ℕ → Bool) (pass : Held) (end : Result Unit ServeError)
-    → LineStands (begun_view was number settings recorded).line [] → HasServed (begun_view was number settings recorded) polls may_give now noted pass end
-    → IsTold settings was now noted pass end
-told was now number settings recorded noted polls may_give pass end stands served =
+pub told : (was now : Wiring) (number : ℕ) (settings : Settings) (recorded later : Option (List noted.Pair)) (polls : ℕ) (may_give : ℕ → Bool) (pass : Held) (end : Result Unit ServeError)
+    → LineStands (begun_view was number settings recorded).line [] → HasServed (begun_view was number settings recorded) polls may_give now later pass end
+    → IsTold settings was now later pass end
+told was now number settings recorded later polls may_give pass end stands served =
     let begun : View = begun_view was number settings recorded in
     let work : Worked = served.work in
     let ran : Ran (HadMemory end) begun served.last = ends_ran polls may_give begun served.last end served.ends in

@@ -149,20 +149,26 @@ where
     } = taken;
     let (visits, back) = visits_of(&serving, served, visits, back);
     let back = add_spare(spare, back);
-    let end = match shared.close(rt, back) {
-        Err(unlike) => Err(ServeFault::Unlike(Differing { unlike })),
+    match shared.close(rt, back) {
+        Err(unlike) => Ran {
+            door,
+            recorders,
+            end: Err(ServeFault::Unlike(Differing { unlike })),
+        },
         Ok(board) => {
             let report = Report { board, visits };
             if has_failed {
-                Err(ServeFault::Door(report))
-            } else {
-                Ok(report)
+                return Ran {
+                    door,
+                    recorders,
+                    end: Err(ServeFault::Door(report)),
+                };
+            }
+            Ran {
+                door,
+                recorders,
+                end: Ok(report),
             }
         }
-    };
-    Ran {
-        door,
-        recorders,
-        end,
     }
 }
