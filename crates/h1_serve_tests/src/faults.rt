@@ -18,7 +18,15 @@ fn a_wire_that_fails_ends_its_connection_alone(rt: HostRuntime) -> Result<(), Fa
         let mut wires = Vec::new(alloc);
         wires.push(wire(alloc, &[ONE], Some(call))?)?;
         wires.push(wire(alloc, &[ONE], None)?)?;
-        let ran = seen::<Brand, _, _>(&rt, Blank::new(65_536), wires, Vec::new(alloc), &OpenGate, 4, 100)?;
+        let ran = seen::<Brand, _, _>(
+            &rt,
+            Blank::new(65_536),
+            wires,
+            Vec::new(alloc),
+            &OpenGate,
+            4,
+            100,
+        )?;
         assert!(rt; ran.ended == Ended::Whole && ran.ends.len() == 2);
         assert!(rt; ran.ends[0] == Err(ServeError::Dispatch(DispatchError::Io)));
         assert!(rt; ran.ends[1] == Ok(()) && ran.sent[1].len() > 60);
@@ -31,7 +39,15 @@ fn no_more_calls_are_made(rt: HostRuntime) -> Result<(), Fail> {
     let alloc = rt.alloc();
     let mut wires = Vec::new(alloc);
     wires.push(wire(alloc, &[ONE], Some(CALLS))?)?;
-    let ran = seen::<Brand, _, _>(&rt, Blank::new(65_536), wires, Vec::new(alloc), &OpenGate, 4, 100)?;
+    let ran = seen::<Brand, _, _>(
+        &rt,
+        Blank::new(65_536),
+        wires,
+        Vec::new(alloc),
+        &OpenGate,
+        4,
+        100,
+    )?;
     assert!(rt; ran.ended == Ended::Whole && ran.ends.len() == 1 && ran.ends[0] == Ok(()));
     Ok(())
 }

@@ -2,8 +2,8 @@
 ghost use Rattle.std.specs.Prelude.{◌≡◌, nat_eq};
 
 use bytes::Bytes;
-use h1_served::{Gate, MemDoor, NoRecords, Ran, Report, ServeError, ServeFault, serve};
 use h1_line::NoRecord;
+use h1_served::{Gate, MemDoor, NoRecords, Ran, Report, ServeError, ServeFault, serve};
 use http_types::ServiceConfig;
 use http_wires::{Clock, MemWire};
 use std::alloc::{AllocError, AllocGlobal, Global};
@@ -27,7 +27,11 @@ impl Clock for Stands {
 }
 
 /// A wire that gives these pieces, an empty one as a wait, and fails this call, if one is named.
-pub fn wire(alloc: Global, pieces: &[&'static [u8]], fail: Option<usize>) -> Result<MemWire, AllocError> {
+pub fn wire(
+    alloc: Global,
+    pieces: &[&'static [u8]],
+    fail: Option<usize>,
+) -> Result<MemWire, AllocError> {
     let mut given = Vec::new(alloc);
     for piece in pieces {
         given.push(Bytes::from_static(piece))?;

@@ -3,11 +3,11 @@
 #![tactic(auto)]
 
 #[cfg(test)]
+mod faults;
+#[cfg(test)]
 mod fixture;
 #[cfg(test)]
 mod rows;
-#[cfg(test)]
-mod faults;
 #[cfg(test)]
 mod sockets;
 #[cfg(test)]

@@ -14,9 +14,8 @@ use std::random::RandomSource;
 use std::sync::Wait;
 use std::sync::ledger::{Blank, Ledger};
 use std::test::Fail;
-use std::thread;
 use std::thread::Threads;
-use std::time;
+use std::{thread, time};
 
 /// Sends a request and reads until the peer ends: how many bytes came.
 fn ask<R: Net<Stream = TcpStream>>(rt: &R, address: SocketAddr) -> usize {

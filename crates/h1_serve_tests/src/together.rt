@@ -45,7 +45,15 @@ fn two_at_once(rt: HostRuntime) -> Result<(), Fail> {
     let mut wires = Vec::new(alloc);
     wires.push(wire(alloc, &[b"POST /a HTTP/1.1\r\n\r\n"], None)?)?;
     wires.push(wire(alloc, &[b"POST /a HTTP/1.1\r\n\r\n"], None)?)?;
-    let ran = seen::<Brand, _, _>(&rt, Blank::new(65_536), wires, Vec::new(alloc), &gate, 4, 100)?;
+    let ran = seen::<Brand, _, _>(
+        &rt,
+        Blank::new(65_536),
+        wires,
+        Vec::new(alloc),
+        &gate,
+        4,
+        100,
+    )?;
     assert!(rt; !gate.gave_up.load(SeqCst));
     assert!(rt; ran.ended == Ended::Whole && ran.entries == 2 && ran.ends.len() == 2);
     Ok(())

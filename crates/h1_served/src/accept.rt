@@ -151,11 +151,7 @@ fn start<
     let job = move || -> Served<W, L, M>
         requires { (0 < serving.polls) × IsFresh (W.wiring wire) × ((L.noted recorder ≡ None) ⊎ (L.noted recorder ≡ Some [])) }
         ensures { WasServed serving.config serving.polls (K.may_give serving.clock) (W.wiring result.wire) (L.noted result.recorder) result.pass.pass result.end }
-    {
-        serve_new(
-            rt, serving, wire, shared, pass, gate, conn, recorder,
-        )
-    };
+    { serve_new(rt, serving, wire, shared, pass, gate, conn, recorder) };
     match scope.spawn_with(serving, job) {
         Ok(handle) => Ok(handle),
         Err(refused) => Err((refused.value)()),
@@ -226,9 +222,7 @@ fn accept_all<
         match door.accept() {
             Ok(Some(wire)) => {
                 let recorder = recorders.make();
-                match start(
-                    rt, scope, serving, wire, shared, pass, gate, conn, recorder,
-                ) {
+                match start(rt, scope, serving, wire, shared, pass, gate, conn, recorder) {
                     Ok(handle) => handles.push_reserved(handle),
                     Err(done) => served.push_reserved(done),
                 }
@@ -286,10 +280,6 @@ pub(crate) fn serve_all<
             ensures served { IfOk result (λ t. AllByRecursion (λ s. WasServed serving.config serving.polls (K.may_give serving.clock) (W.wiring s.wire) (L.noted s.recorder) s.pass.pass s.end) t.served.items) }
             ensures taken { IfOk result (λ t. IsTaken (D.opening door) (D.opening t.door) (vec_len t.served) (vec_len t.spare) t.has_failed) }
             ensures count { IfOk result (λ t. vec_len t.served + vec_len t.spare ≡ vec_len passes) }
-        {
-            accept_all(
-                rt, scope, serving, shared, gate, passes, door, recorders,
-            )
-        },
+        { accept_all(rt, scope, serving, shared, gate, passes, door, recorders) },
     )
 }

@@ -50,10 +50,10 @@ by_work : (v u : View) (steps : List Step) (work : Worked) → v.service.called 
     → u.service ≡ told_service (λ (x : Unit). holds []) (serving_of work) → AllKept v steps u → KeepsOrder v steps u → WorkedBy v steps u work
 by_work v u steps work no_call no_answer free_so is kept order =
     let called_so : calls steps ≡ work.calls =
-        same_some (calls steps) work.calls (sym (subst (λ c. Grows c u.service.called (calls steps)) no_call order.called) ∙ ap (λ (s : Serving Asking Answer Answer). s.called) is) in
+    same_some (calls steps) work.calls (sym (subst (λ c. Grows c u.service.called (calls steps)) no_call order.called) ∙ ap (λ (s : Serving Asking Answer Answer). s.called) is) in
     let results_so : results steps ≡ map (told_result (λ (x : Unit). holds [])) (answered_of work.answers) =
-        same_some (results steps) (map (told_result (λ (x : Unit). holds [])) (answered_of work.answers))
-        (sym (subst (λ c. Grows c u.service.answered (results steps)) no_answer kept.answered_so) ∙ ap (λ (s : Serving Asking Answer Answer). s.answered) is) in
+    same_some (results steps) (map (told_result (λ (x : Unit). holds [])) (answered_of work.answers))
+    (sym (subst (λ c. Grows c u.service.answered (results steps)) no_answer kept.answered_so) ∙ ap (λ (s : Serving Asking Answer Answer). s.answered) is) in
     let given_so : answers steps ≡ map told_of work.answers = kept.values ∙ ap (λ l. map value_of l) results_so ∙ values_are work.answers in
     record {
       called_so = called_so;
@@ -102,9 +102,9 @@ moved_so : (begun between : View) (was now : Wiring) (before trace : List sums.S
     → Grows was.received now.received (taken trace) × Grows was.sent now.sent (written trace)
 moved_so begun between was now before trace first last taken_so written_so received sent_so = (
   subst (λ (x : Wiring). Grows was.received x.received (taken trace)) last
-  (subst (λ (x : Wiring). Grows x.received between.wire.received (taken trace)) first (subst (λ l. Grows begun.wire.received between.wire.received l) (sym taken_so) received)),
+      (subst (λ (x : Wiring). Grows x.received between.wire.received (taken trace)) first (subst (λ l. Grows begun.wire.received between.wire.received l) (sym taken_so) received)),
   subst (λ (x : Wiring). Grows was.sent x.sent (written trace)) last
-  (subst (λ (x : Wiring). Grows x.sent between.wire.sent (written trace)) first (subst (λ l. Grows begun.wire.sent between.wire.sent l) (sym written_so) sent_so)),
+      (subst (λ (x : Wiring). Grows x.sent between.wire.sent (written trace)) first (subst (λ l. Grows begun.wire.sent between.wire.sent l) (sym written_so) sent_so)),
 )
 
 pub told : (was now : Wiring) (number : ℕ) (settings : Settings) (recorded later : Option (List noted.Pair)) (polls : ℕ) (may_give : ℕ → Bool) (pass : Held) (end : Result Unit ServeError)
@@ -123,7 +123,7 @@ told was now number settings recorded later polls may_give pass end stands serve
     let in_order : InOrder false work.calls work.answers work.waiting = not_lost work.is_lost work.calls work.answers work.waiting u.stage served.kept.order w.count in
     let one : OneWaits u.stage work.waiting = one_waits u.stage work.waiting (waits_count work.calls work.answers work.waiting u.stage in_order w.count) in
     let handed : hands ran.steps ≡ map hand_of (replies ran.steps) =
-        run_hands_on begun u ran.steps ran.run tt (subst (λ l. AllByRecursion IsBodiless l) (sym w.given_so) (all_bodiless work.answers)) in
+    run_hands_on begun u ran.steps ran.run tt (subst (λ l. AllByRecursion IsBodiless l) (sym w.given_so) (all_bodiless work.answers)) in
     record {
       trace = a.trace;
       traced = subst (λ (set : Settings). IsTrace (setting_of set) a.trace) kept.settings a.traced;
