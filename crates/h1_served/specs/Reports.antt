@@ -1,5 +1,5 @@
 -- What a report says of a board and of the connections that called it.
-use Rattle.std.specs.Prelude.{◌≡◌, ◌≤◌, ◌⊎◌, ℕ, Bool, Option, List, length, ⊤, IsTrue, Result, Ok, Err}
+use Rattle.std.specs.Prelude.{◌≡◌, ◌≤◌, ◌⊎◌, ℕ, Bool, Option, List, length, vec_len, ⊤, IsTrue, Result, Ok, Err}
 use Rattle.std.specs.List.{AllByRecursion, sum_by}
 use Rattle.http_config.specs.Causes.{Rose}
 use Rattle.http_config.specs.Config.{Settings}
@@ -35,11 +35,11 @@ pub record IsReport {W L : Type 0} (settings : Settings) (polls : ℕ) (may_give
 abbrev pub SaysRan : {W L M : Type 0} → Settings → ℕ → (ℕ → Bool) → (W → Wiring) → (L → Option (List Pair)) → ℕ → Opening → Opening → Result (Report W L M) (ServeFault W L M) → Type 0
 SaysRan settings polls may_give wiring noted most was now (Ok report) =
     IsReport settings polls may_give wiring noted report.board.journal report.visits.items
-    × (now.given ≡ counted_on (length report.visits.items) was.given)
-    × (IsTrue now.ended ⊎ (length report.visits.items ≡ most))
+    × (now.given ≡ counted_on (vec_len report.visits) was.given)
+    × (IsTrue now.ended ⊎ (vec_len report.visits ≡ most))
 SaysRan settings polls may_give wiring noted most was now (Err (Door report)) =
     IsReport settings polls may_give wiring noted report.board.journal report.visits.items
-    × (now.given ≡ counted_on (length report.visits.items) was.given)
+    × (now.given ≡ counted_on (vec_len report.visits) was.given)
     × Rose was.faults now.faults
 SaysRan settings polls may_give wiring noted most was now (Err (Unlike differing)) =
     Differs differing.unlike.board.journal differing.unlike.passes.items differing.unlike.number

@@ -1,6 +1,6 @@
 //! A door in memory.
 ghost use Rattle.std.specs.Prelude.{◌≡◌};
-ghost use Rattle.h1_serving.specs.MemDoors.{door_opening, unused};
+ghost use Rattle.h1_served.specs.MemDoors.{door_opening, faults_by, unused};
 
 use http_config::Failed;
 use http_wires::{Door, MemWire};
