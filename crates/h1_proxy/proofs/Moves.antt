@@ -1,0 +1,315 @@
+-- How a forwarder goes on.
+use Rattle.std.proofs.Common.{◌≡◌, ℕ, Bool, true, false, not, List, [], ◌∷◌, Option, Some, None, refl, sym, ap, ap₂, ◌∙◌, subst}
+use Rattle.std.specs.Prelude.{IsTrue, is_some, is_none, option_map, ◌&&◌}
+use Rattle.http_config.specs.Config.{Settings}
+use Rattle.h1_model.specs.Setting.{Setting}
+use Rattle.h1_model.specs.Request.{Head}
+use Rattle.h1_model.specs.Event as on
+use Rattle.h1_model.specs.Sums as sums
+use Rattle.h1_machine.specs.StandsFor.{StandsFor}
+use Rattle.h1_codec.specs.Meaning.{size_of}
+use Rattle.h1_decode.specs.HeadItem.{SaysHead}
+use Rattle.h1_decode.specs.declared.decoder.HeadItem.{HeadItem}
+use Rattle.h1_client_machine.specs.ClientEvent as asked
+use Rattle.h1_client_machine.specs.ClientKept.{client_allows}
+use Rattle.h1_client_machine.specs.ClientStep.{IsClientStep}
+use Rattle.h1_client.specs.Meaning as asking
+use Rattle.h1_client.specs.Meaning.{request_of}
+use Rattle.h1_client.specs.State as servers
+use Rattle.h1_connection.specs.Meaning.{setting_of}
+use Rattle.h1_connection.specs.State.{State, GoesOn, Is}
+use Rattle.h1_forward_model.specs.Forward.{is_forwardable}
+use Rattle.h1_forward_model.specs.Past.{ProxyStep, ProxyEvent, ProxyOutcome, client_bytes, client_written, tick_of, connected, done}
+use Rattle.h1_forward_traces.specs.Happenings.{Happenings}
+use Rattle.h1_forward_traces.specs.Carried.{UnderWay, nothing, waits, is_sent, ForwarderKept, Carries, IsNewest, Keeps, KeepsBy}
+use Rattle.h1_forward_traces.specs.Moves.{HasBrought, Brings, Does, DoesAsked, Stays}
+use Rattle.h1_forward_traces.proofs.Quiet.{BringsNothing, done_brings_nothing}
+use Rattle.h1_forward_traces.proofs.Turns.{keeps_client, keeps_closed, keeps_server, keeps_head, keeps_waiting, keeps_refused, keeps_left, keeps_whole}
+use Rattle.h1_forward_traces.proofs.Sends.{keeps_asked, keeps_piece, keeps_end, keeps_broken}
+use Rattle.h1_forward_traces.proofs.Events.{SaysNoBytes, LeavesServers, AddsNoText, ChangesServer, by_nothing, by_client, by_server, by_connected}
+use Rattle.h1_proxy.specs.declared.proxy.Proxy.{Proxy}
+use Rattle.h1_proxy.specs.declared.proxy.Unsent.{Unsent}
+use Rattle.h1_proxy.specs.declared.proxy.Sent.{Sent}
+use Rattle.h1_forward_sides.specs.Sides.{ClientBrings, ClientBringsHead, ServerStays, ServerDid}
+use Rattle.h1_proxy.specs.Kept.{under_way_of, kept_of, HasSettings, Forwards, Goes, GoesBy, GoesWith, GoesUnsent, GoesFrom, IsIdle, Runs, IsUnsent}
+
+-- ---- one after another
+
+pub goes_same : (p : Proxy) → Goes p p
+goes_same p = λ history all x. (all, x)
+
+pub goes_then : (a b c : Proxy) → Goes a b → Goes b c → Goes a c
+goes_then a b c first second = λ history all x. let y = first history all x in second history y.0 y.1
+
+pub by_then : (event : ProxyEvent) (outcome : ProxyOutcome) (a b c : Proxy) → GoesBy event outcome a b → Goes b c → GoesBy event outcome a c
+by_then event outcome a b c first second =
+    λ history all x. let y = first history all x in second (record { event = event; outcome = outcome } ∷ history) y.0 y.1
+
+pub then_by : (event : ProxyEvent) (outcome : ProxyOutcome) (a b c : Proxy) → Goes a b → GoesBy event outcome b c → GoesBy event outcome a c
+then_by event outcome a b c first second = λ history all x. let y = first history all x in second history y.0 y.1
+
+-- where a part was taken out
+pub of_server : (p q : Proxy) (s : servers.State) → p.server ≡ Some s → Goes (record p { server = Some s }) q → Goes p q
+of_server p q s is x = subst (λ (o : Option servers.State). Goes (record p { server = o }) q) (sym is) x
+
+pub of_no_unsent : (p q : Proxy) (o : Option Unsent) → p.unsent ≡ o → Goes (record p { unsent = o }) q → Goes p q
+of_no_unsent p q o is x = subst (λ (o : Option Unsent). Goes (record p { unsent = o }) q) (sym is) x
+
+pub of_no_server : (p q : Proxy) (o : Option servers.State) → p.server ≡ o → Goes (record p { server = o }) q → Goes p q
+of_no_server p q o is x = subst (λ (o : Option servers.State). Goes (record p { server = o }) q) (sym is) x
+
+pub of_unsent : (p q : Proxy) (u : Unsent) → p.unsent ≡ Some u → Goes (record p { unsent = Some u }) q → Goes p q
+of_unsent p q u is x = subst (λ (o : Option Unsent). Goes (record p { unsent = o }) q) (sym is) x
+
+abbrev theirs : Proxy → Setting
+theirs p = setting_of p.config
+
+abbrev ours : Proxy → Setting
+ours p = asking.setting_of p.config
+
+-- the request that is under way, by what is known of the fields
+as_under_way : (p : Proxy) (history : List ProxyStep) (all : Happenings) (u : UnderWay) → under_way_of p.unsent p.sent ≡ u
+    → Carries (theirs p) (ours p) (kept_of p) history all → Carries (theirs p) (ours p) (record (kept_of p) { under_way = u }) history all
+as_under_way p history all u is x = subst (λ (u : UnderWay). Carries (theirs p) (ours p) (record (kept_of p) { under_way = u }) history all) is x
+
+from_under_way : (p : Proxy) (history : List ProxyStep) (all : Happenings) (u : UnderWay) → under_way_of p.unsent p.sent ≡ u
+    → Carries (theirs p) (ours p) (record (kept_of p) { under_way = u }) history all → Carries (theirs p) (ours p) (kept_of p) history all
+from_under_way p history all u is x = subst (λ (u : UnderWay). Carries (theirs p) (ours p) (record (kept_of p) { under_way = u }) history all) (sym is) x
+
+-- ---- the client's side
+
+brings_by : (settings : Settings) (o : on.Outcome) (a b : State) → a.settings ≡ settings → ClientBrings o a b → Brings (setting_of settings) o a.kept b.kept
+brings_by settings o a b is x = subst (λ (s : Settings). Brings (setting_of s) o a.kept b.kept) is x.brings
+
+pub client_moves : (o : on.Outcome) (p : Proxy) (c : State) → BringsNothing o → ClientBrings o p.client c → Goes p (record p { client = c })
+client_moves o p c none x = λ history all f.
+    let y = keeps_client (theirs p) (ours p) o (kept_of p) c.kept none (brings_by p.config o p.client c f.client x) history all f.carries in
+    (y.0, record { client = x.settings ∙ f.client; server = f.server; carries = y.1 })
+
+pub client_done : (p : Proxy) (c : State) → ClientBrings on.done p.client c → Goes p (record p { client = c })
+client_done p c x = client_moves on.done p c done_brings_nothing x
+
+-- ---- a server's side
+
+pub closes : (p : Proxy) → Goes p (record p { server = None })
+closes p = λ history all f.
+    let y = keeps_closed (theirs p) (ours p) (kept_of p) history all f.carries in
+    (y.0, record { client = f.client; server = tt; carries = y.1 })
+
+pub closes_as : (p : Proxy) (o : Option servers.State) → o ≡ None → Goes p (record p { server = o })
+closes_as p o is = subst (λ (o : Option servers.State). Goes p (record p { server = o })) (sym is) (closes p)
+
+pub server_moves : (p : Proxy) (a b : servers.State) → ServerStays a b → Goes (record p { server = Some a }) (record p { server = Some b })
+server_moves p a b x = λ history all f.
+    let stays = subst (λ (s : Settings). Stays (asking.setting_of s) a.kept b.kept) f.server x.stays in
+    let y = keeps_server (theirs p) (ours p) (kept_of p) a.kept b.kept stays history all f.carries in
+    (y.0, record { client = f.client; server = x.settings ∙ f.server; carries = y.1 })
+
+-- ---- the request under way
+
+-- it goes on under another mark
+pub resent : (p : Proxy) (s t : Sent) → Runs s p → t.is_whole ≡ s.is_whole → Goes p (record p { sent = Some t })
+resent p s t runs same = λ history all f. (
+  all,
+  record {
+    client = f.client;
+    server = f.server;
+    carries =
+        from_under_way (record p { sent = Some t }) history all (is_sent s.is_whole)
+        (ap (λ (u : Option Unsent). under_way_of u (Some t)) runs.unsent ∙ ap is_sent same)
+        (as_under_way p history all (is_sent s.is_whole) (ap₂ under_way_of runs.unsent runs.sent) f.carries);
+  },
+)
+
+-- it is over, and its server connection is closed
+pub fails : (p : Proxy) → p.unsent ≡ None → Goes p (record p { server = None; sent = None })
+fails p none = λ history all f.
+    let y = keeps_closed (theirs p) (ours p) (kept_of p) history all f.carries in
+    let z = left p.sent (as_under_way (record p { server = None }) history y.0 (under_way_of None p.sent) (ap (λ (u : Option Unsent). under_way_of u p.sent) none) y.1) in
+    (
+      z.0,
+      record {
+        client = f.client;
+        server = tt;
+        carries =
+            from_under_way (record p { server = None; sent = None }) history z.0 nothing (ap (λ (u : Option Unsent). under_way_of u None) none) z.1;
+      },
+    )
+  where
+    left : {history : List ProxyStep} {all : Happenings} (sent : Option Sent)
+        → Carries (theirs p) (ours p) (record { client = p.client.kept; server = None; under_way = under_way_of None sent }) history all
+        → (after : Happenings) × Carries (theirs p) (ours p) (record { client = p.client.kept; server = None; under_way = nothing }) history after
+    left {history} {all} None x = (all, x)
+    left {history} {all} (Some s) x = keeps_left (theirs p) (ours p) s.is_whole p.client.kept history all x
+
+-- it is over and whole
+pub is_over : (p : Proxy) (sent : Sent) → Runs sent p → sent.is_whole ≡ true → Goes p (record p { sent = None })
+is_over p sent runs whole = λ history all f.
+    let x = as_under_way p history all (is_sent true) (ap₂ under_way_of runs.unsent runs.sent ∙ ap is_sent whole) f.carries in
+    let y = keeps_whole (theirs p) (ours p) p.client.kept (kept_of p).server history all x in
+    (
+      y.0,
+      record {
+        client = f.client;
+        server = f.server;
+        carries = from_under_way (record p { sent = None }) history y.0 nothing (ap (λ (u : Option Unsent). under_way_of u None) runs.unsent) y.1;
+      },
+    )
+
+-- a new one was handed out
+pub from_head : (item : HeadItem) (p q : Proxy) (c : State) → IsIdle p → ClientBringsHead item p.client c → GoesFrom item (record p { client = c }) q → Goes p q
+from_head item p q c idle x rest = λ history all f.
+    let is : under_way_of p.unsent p.sent ≡ nothing = ap₂ under_way_of idle.unsent idle.sent in
+    let old = as_under_way p history all nothing is f.carries in
+    let b = x.brings all.client (subst (λ (s : Settings). StandsFor (setting_of s) p.client.kept all.client) (sym f.client) f.carries.stands) in
+    let h = b.0 in
+    let y = keeps_head (theirs p) (ours p) h (kept_of p).server p.client.kept c.kept history all b.2
+        (subst (λ (s : Settings). StandsFor (setting_of s) c.kept b.2) f.client b.3) b.4 old in
+    rest history y.0 h b.1
+    (record { client = x.settings ∙ f.client; server = f.server; carries = from_under_way (record p { client = c }) history y.0 nothing is y.1 })
+    y.2
+
+-- it can't be sent on
+pub from_any : (item : HeadItem) (p q : Proxy) → Goes p q → GoesFrom item p q
+from_any item p q x = λ history all h says f newest. x history all f
+
+-- it waits to be sent on
+pub waits_from : (item : HeadItem) (p : Proxy) (u : Unsent) → IsIdle p → ((h : Head) → SaysHead item h → is_forwardable h ≡ true)
+    → ((h : Head) → SaysHead item h → is_forwardable h ≡ true → IsUnsent u h) → GoesFrom item p (record p { unsent = Some u })
+waits_from item p u idle may is = λ history all h says f newest.
+    let w = is h says (may h says) in
+    let old = as_under_way p history all nothing (ap₂ under_way_of idle.unsent idle.sent) f.carries in (
+      all,
+      record {
+        client = f.client;
+        server = f.server;
+        carries =
+            keeps_waiting (theirs p) (ours p) h (request_of u.head) (size_of u.size) u.sent.is_whole p.client.kept (kept_of p).server (may h says)
+            w.whole w.sized w.text history all old newest;
+      },
+    )
+
+-- it is sent on
+pub asks : (p : Proxy) (u : Unsent) (a b : servers.State) → ServerDid (asked.ask (request_of u.head) (size_of u.size)) a b
+    → Goes (record p { unsent = Some u; server = Some a }) (record p { unsent = None; sent = Some u.sent; server = Some b })
+asks p u a b x = λ history all f.
+    let event = asked.ask (request_of u.head) (size_of u.size) in
+    let allowed = subst (λ (s : Settings). IsTrue (client_allows (asking.setting_of s) a.kept event)) f.server x.allowed in
+    let step = subst (λ (s : Settings). IsClientStep (asking.setting_of s) a.kept event asked.done b.kept) f.server x.step in
+    let y = keeps_asked (theirs p) (ours p) (request_of u.head) (size_of u.size) u.sent.is_whole p.client.kept a.kept b.kept allowed step history all f.carries in
+    (y.0, record { client = f.client; server = x.settings ∙ f.server; carries = y.1 })
+
+-- more of its body is
+pub pieces : (bytes : List ℕ) (p : Proxy) (sent : Sent) (c : State) (a b : servers.State) → Runs sent p → ClientBrings (on.bytes bytes) p.client c
+    → ServerDid (asked.chunk bytes) a b → Goes (record p { server = Some a }) (record p { client = c; server = Some b })
+pieces bytes p sent c a b runs brings x = λ history all f.
+    let allowed = subst (λ (s : Settings). IsTrue (client_allows (asking.setting_of s) a.kept (asked.chunk bytes))) f.server x.allowed in
+    let step = subst (λ (s : Settings). IsClientStep (asking.setting_of s) a.kept (asked.chunk bytes) asked.done b.kept) f.server x.step in
+    let is : under_way_of p.unsent p.sent ≡ is_sent sent.is_whole = ap₂ under_way_of runs.unsent runs.sent in
+    let old = as_under_way (record p { server = Some a }) history all (is_sent sent.is_whole) is f.carries in
+    let y = keeps_piece (theirs p) (ours p) bytes sent.is_whole p.client.kept c.kept a.kept b.kept
+        (brings_by p.config (on.bytes bytes) p.client c f.client brings) allowed step history all old in
+    (
+      y.0,
+      record {
+        client = brings.settings ∙ f.client;
+        server = x.settings ∙ f.server;
+        carries = from_under_way (record p { client = c; server = Some b }) history y.0 (is_sent sent.is_whole) is y.1;
+      },
+    )
+
+-- its end is
+pub ends : (p : Proxy) (sent t : Sent) (c : State) (a b : servers.State) → Runs sent p → t.is_whole ≡ true → ClientBrings on.body_ended p.client c
+    → ServerDid asked.body_end a b → Goes (record p { server = Some a }) (record p { client = c; server = Some b; sent = Some t })
+ends p sent t c a b runs whole brings x = λ history all f.
+    let allowed = subst (λ (s : Settings). IsTrue (client_allows (asking.setting_of s) a.kept asked.body_end)) f.server x.allowed in
+    let step = subst (λ (s : Settings). IsClientStep (asking.setting_of s) a.kept asked.body_end asked.done b.kept) f.server x.step in
+    let is : under_way_of p.unsent p.sent ≡ is_sent sent.is_whole = ap₂ under_way_of runs.unsent runs.sent in
+    let old = as_under_way (record p { server = Some a }) history all (is_sent sent.is_whole) is f.carries in
+    let y = keeps_end (theirs p) (ours p) sent.is_whole p.client.kept c.kept a.kept b.kept
+        (brings_by p.config on.body_ended p.client c f.client brings) allowed step history all old in
+    (
+      y.0,
+      record {
+        client = brings.settings ∙ f.client;
+        server = x.settings ∙ f.server;
+        carries =
+            from_under_way (record p { client = c; server = Some b; sent = Some t }) history y.0 (is_sent true)
+            (ap (λ (u : Option Unsent). under_way_of u (Some t)) runs.unsent ∙ ap is_sent whole) y.1;
+      },
+    )
+
+-- it broke
+pub breaks : (fault : on.BodyFault) (p : Proxy) (sent : Sent) (c : State) (s : servers.State) → Runs sent p → ClientBrings (on.broken_by fault) p.client c
+    → Goes (record p { server = Some s }) (record p { client = c; server = Some s })
+breaks fault p sent c s runs brings = λ history all f.
+    let is : under_way_of p.unsent p.sent ≡ is_sent sent.is_whole = ap₂ under_way_of runs.unsent runs.sent in
+    let old = as_under_way (record p { server = Some s }) history all (is_sent sent.is_whole) is f.carries in
+    let y = keeps_broken (theirs p) (ours p) fault sent.is_whole p.client.kept c.kept s.kept
+        (brings_by p.config (on.broken_by fault) p.client c f.client brings) history all old in
+    (
+      y.0,
+      record {
+        client = brings.settings ∙ f.client;
+        server = f.server;
+        carries = from_under_way (record p { client = c; server = Some s }) history y.0 (is_sent sent.is_whole) is y.1;
+      },
+    )
+
+-- ---- events
+
+pub nothing_by : (event : ProxyEvent) (outcome : ProxyOutcome) (p : Proxy) → SaysNoBytes event outcome → LeavesServers event outcome → GoesBy event outcome p p
+nothing_by event outcome p says leaves = λ history all f.
+    let y = by_nothing (theirs p) (ours p) event outcome (kept_of p) says leaves history all f.carries in
+    (y.0, record { client = f.client; server = f.server; carries = y.1 })
+
+pub client_by : (e : on.Event) (o : on.Outcome) (event : ProxyEvent) (outcome : ProxyOutcome) (p : Proxy) (c : State) → BringsNothing o
+    → sums.step_taken e o ≡ client_bytes event outcome → sums.step_written o ≡ client_written event outcome → sums.tick_of e ≡ tick_of event
+    → LeavesServers event outcome → c.settings ≡ p.client.settings → Does (setting_of p.client.settings) e o p.client.kept c.kept
+    → GoesBy event outcome p (record p { client = c })
+client_by e o event outcome p c none takes gives tick leaves settings does = λ history all f.
+    let did = subst (λ (s : Settings). Does (setting_of s) e o p.client.kept c.kept) f.client does in
+    let y = by_client (theirs p) (ours p) e o event outcome (kept_of p) c.kept none takes gives tick leaves did history all f.carries in
+    (y.0, record { client = settings ∙ f.client; server = f.server; carries = y.1 })
+
+pub server_by : (e : asked.ClientEvent) (o : asked.ClientOutcome) (event : ProxyEvent) (outcome : ProxyOutcome) (p : Proxy) (a b : servers.State)
+    → AddsNoText e → SaysNoBytes event outcome → ChangesServer e o event outcome → b.settings ≡ a.settings
+    → DoesAsked (asking.setting_of a.settings) e o a.kept b.kept
+    → GoesBy event outcome (record p { server = Some a }) (record p { server = Some b })
+server_by e o event outcome p a b adds says changes settings does = λ history all f.
+    let did = subst (λ (s : Settings). DoesAsked (asking.setting_of s) e o a.kept b.kept) f.server does in
+    let y = by_server (theirs p) (ours p) e o event outcome (kept_of p) a.kept b.kept adds says changes did history all f.carries in
+    (y.0, record { client = f.client; server = settings ∙ f.server; carries = y.1 })
+
+pub of_server_by : (event : ProxyEvent) (outcome : ProxyOutcome) (p q : Proxy) (s : servers.State) → p.server ≡ Some s
+    → GoesBy event outcome (record p { server = Some s }) q → GoesBy event outcome p q
+of_server_by event outcome p q s is x = subst (λ (o : Option servers.State). GoesBy event outcome (record p { server = o }) q) (sym is) x
+
+pub connected_by : (p : Proxy) (u : Unsent) → p.unsent ≡ Some u → p.server ≡ None
+    → GoesBy connected done p (record p { server = Some (servers.fresh_state p.config) })
+connected_by p u waiting none = λ history all f.
+    let is : under_way_of p.unsent p.sent ≡ waits (request_of u.head) (size_of u.size) u.sent.is_whole = ap (λ (o : Option Unsent). under_way_of o p.sent) waiting in
+    let x = as_under_way p history all (waits (request_of u.head) (size_of u.size) u.sent.is_whole) is f.carries in
+    let z = subst (λ (o : Option servers.State). Carries (theirs p) (ours p) (record {
+          client = p.client.kept;
+          server = option_map (λ s. s.kept) o;
+          under_way = waits (request_of u.head) (size_of u.size) u.sent.is_whole;
+        }) history all) none x in
+    let y = by_connected (theirs p) (ours p) (request_of u.head) (size_of u.size) u.sent.is_whole p.client.kept history all z in
+    (
+      y.0,
+      record {
+        client = f.client;
+        server = refl;
+        carries =
+            from_under_way (record p { server = Some (servers.fresh_state p.config) }) (record { event = connected; outcome = done } ∷ history) y.0
+            (waits (request_of u.head) (size_of u.size) u.sent.is_whole) is y.1;
+      },
+    )
+
+pub refused_moves : (p : Proxy) (u : Unsent) → p.unsent ≡ Some u → Goes p (record p { unsent = None; sent = None })
+refused_moves p u waiting = λ history all f.
+    let is : under_way_of p.unsent p.sent ≡ waits (request_of u.head) (size_of u.size) u.sent.is_whole = ap (λ (o : Option Unsent). under_way_of o p.sent) waiting in
+    let x = as_under_way p history all (waits (request_of u.head) (size_of u.size) u.sent.is_whole) is f.carries in
+    let y = keeps_refused (theirs p) (ours p) (request_of u.head) (size_of u.size) u.sent.is_whole p.client.kept (kept_of p).server history all x in
+    (y.0, record { client = f.client; server = f.server; carries = y.1 })

@@ -1,0 +1,125 @@
+-- A forwarder as its contracts see it, and how it goes on.
+use Rattle.std.specs.Prelude.{◌≡◌, ℕ, Bool, false, not, ◌&&◌, List, [], ◌∷◌, Option, Some, None, is_some, is_none, option_map, ⊤}
+use Rattle.http_config.specs.Config.{Settings}
+use Rattle.http_framing.specs.Kinds.{kind_of}
+use Rattle.h1_model.specs.Request.{Head, has_body}
+use Rattle.h1_model.specs.Setting.{Setting}
+use Rattle.h1_model.specs.Event as on
+use Rattle.h1_machine.specs.Local.{closing_by, allowed_by}
+use Rattle.h1_codec.specs.Meaning.{size_of}
+use Rattle.h1_decode.specs.HeadItem.{SaysHead}
+use Rattle.h1_decode.specs.declared.decoder.HeadItem.{HeadItem}
+use Rattle.h1_client_model.specs.RequestText.{request_text, asked_shape, given_request_text}
+use Rattle.h1_client_machine.specs.ClientEvent as asked
+use Rattle.h1_client_machine.specs.ClientKept.{client_allows}
+use Rattle.h1_client.specs.Meaning as asking
+use Rattle.h1_client.specs.Meaning.{request_of}
+use Rattle.h1_client.specs.State as servers
+use Rattle.h1_connection.specs.Meaning.{setting_of}
+use Rattle.h1_connection.specs.State.{State}
+use Rattle.h1_forward_model.specs.Forward.{is_forwardable, forwarded, forwarded_size}
+use Rattle.h1_forward_model.specs.Past.{ProxyStep, ProxyEvent, ProxyOutcome}
+use Rattle.h1_forward_model.specs.Exchange.{unpulled}
+use Rattle.h1_forward_traces.specs.Happenings.{Happenings, sent_of}
+use Rattle.h1_forward_traces.specs.Carried.{UnderWay, nothing, waits, is_sent, ForwarderKept, Carries, IsNewest}
+use Rattle.h1_proxy.specs.declared.proxy.Proxy.{Proxy}
+use Rattle.h1_proxy.specs.declared.proxy.Unsent.{Unsent}
+use Rattle.h1_proxy.specs.declared.proxy.Sent.{Sent}
+
+-- ---- what it keeps
+
+-- the client's connection, and the connection to a server, if there is one
+abbrev pub client_of : Proxy → State
+client_of proxy = proxy.client
+
+abbrev pub server_of : Proxy → Option servers.State
+server_of proxy = proxy.server
+
+abbrev pub under_way_of : Option Unsent → Option Sent → UnderWay
+under_way_of (Some u) sent = waits (request_of u.head) (size_of u.size) u.sent.is_whole
+under_way_of None (Some s) = is_sent s.is_whole
+under_way_of None None = nothing
+
+abbrev pub kept_of : Proxy → ForwarderKept
+kept_of p = record {
+  client = p.client.kept;
+  server = option_map (λ s. s.kept) p.server;
+  under_way = under_way_of p.unsent p.sent;
+}
+
+abbrev pub HasSettings : Settings → Option servers.State → Type 0
+HasSettings settings None = ⊤
+HasSettings settings (Some s) = s.settings ≡ settings
+
+-- What a forwarder keeps is what is left of all that happened behind these events.
+pub record Forwards (p : Proxy) (history : List ProxyStep) (all : Happenings) : Type 0 where
+  pub client : p.client.settings ≡ p.config
+  pub server : HasSettings p.config p.server
+  pub carries : Carries (setting_of p.config) (asking.setting_of p.config) (kept_of p) history all
+
+-- ---- how it goes on
+
+-- without an event of its own
+abbrev pub Goes : Proxy → Proxy → Type 0
+Goes old new = (history : List ProxyStep) (all : Happenings) → Forwards old history all → (after : Happenings) × Forwards new history after
+
+-- by this event, with this outcome
+abbrev pub GoesBy : ProxyEvent → ProxyOutcome → Proxy → Proxy → Type 0
+GoesBy event outcome old new =
+    (history : List ProxyStep) (all : Happenings) → Forwards old history all
+    → (after : Happenings) × Forwards new (record { event = event; outcome = outcome } ∷ history) after
+
+-- where this is the connection to a server
+abbrev pub GoesWith : servers.State → Proxy → Proxy → Type 0
+GoesWith server old new = Goes (record old { server = Some server }) new
+
+-- where this request waits
+abbrev pub GoesUnsent : Unsent → Proxy → Proxy → Type 0
+GoesUnsent unsent old new = Goes (record old { unsent = Some unsent }) new
+
+-- by the newest request, which this item says
+abbrev pub GoesFrom : HeadItem → Proxy → Proxy → Type 0
+GoesFrom item old new =
+    (history : List ProxyStep) (all : Happenings) (h : Head) → SaysHead item h → Forwards old history all
+    → IsNewest h all → (after : Happenings) × Forwards new history after
+
+-- no request is under way
+pub record IsIdle (p : Proxy) : Type 0 where
+  pub unsent : p.unsent ≡ None
+  pub sent : p.sent ≡ None
+
+-- this one is
+pub record Runs (this : Sent) (p : Proxy) : Type 0 where
+  pub unsent : p.unsent ≡ None
+  pub sent : p.sent ≡ Some this
+
+-- a request that waits is what is to be sent on for this head
+pub record IsUnsent (u : Unsent) (h : Head) : Type 0 where
+  pub whole : u.sent.is_whole ≡ not (has_body h.body)
+  pub sized : size_of u.size ≡ forwarded_size h.body
+  pub text : (moment : ℕ) → request_text (request_of u.head).head (asked_shape (size_of u.size)) (size_of u.size) (request_of u.head).connection moment
+      ≡ given_request_text (forwarded (sent_of (unpulled h) moment))
+
+-- ---- questions
+
+-- the client's connection is to end
+abbrev pub is_closing : Proxy → Bool
+is_closing proxy = is_some (closing_by (setting_of (client_of proxy).settings) (client_of proxy).kept)
+
+-- a server connection is wanted: a request waits for one, there is none, and the client's connection isn't to end
+abbrev pub wants_server : Proxy → Bool
+wants_server proxy = is_some proxy.unsent && is_none (server_of proxy) && not (is_closing proxy)
+
+-- what waits to be written towards a server
+abbrev pub server_text : Option servers.State → List ℕ
+server_text None = []
+server_text (Some server) = server.kept.buffered
+
+-- the event is allowed on the connection to a server
+abbrev pub server_allows : Option servers.State → asked.ClientEvent → Bool
+server_allows None event = false
+server_allows (Some s) event = client_allows (asking.setting_of s.settings) s.kept event
+
+-- the event is allowed on the client's connection
+abbrev pub client_takes : Proxy → on.Event → Bool
+client_takes proxy event = allowed_by (setting_of (client_of proxy).settings) (client_of proxy).kept event

@@ -1,0 +1,462 @@
+//! What a forwarder does of its own between two events, turn by turn.
+#![tactic(auto)]
+
+ghost use Rattle.std.specs.Prelude.{◌≡◌, IsTrue, None, Some, true, OnOk};
+ghost use Rattle.h1_model.specs.Event as on;
+ghost use Rattle.h1_forward_sides.specs.Sides.{ServerStays, SendsBody};
+ghost use Rattle.h1_proxy.specs.Kept.{Goes, GoesWith, GoesUnsent, GoesFrom, IsIdle, Runs};
+
+use crate::proxy::{Proxy, Sent, Unsent};
+use h1_forward_sides::client::{
+    cut_reply, leave_body, next_bytes, next_head, put_end, put_head, put_piece, tell_to_go_on,
+};
+use h1_forward_sides::server::{ask, next_answer, next_piece, sends_body, tick_server};
+use h1_client::{ClientConnection, NextAnswer, ResponseItem};
+use h1_connection::{BodySize, HeadItem, NextHead, NoMemory, Pulled};
+use h1_forward_heads::{
+    AnswerUse, Refusal, answer_use, is_forwardable, reply_head, reply_size, says_close,
+};
+
+impl Proxy {
+    /// Makes turns until none is possible.
+    pub(crate) fn settle(&mut self) -> Result<(), NoMemory>
+        ensures { OnOk result (Goes self.old self.new) }
+    {
+        for _ in 0..u64::MAX {
+            let more = self.turn()?;
+            if !more {
+                return Ok(());
+            }
+        }
+        Ok(())
+    }
+
+    // The first turn that is possible; whether there was one.
+    fn turn(&mut self) -> Result<bool, NoMemory>
+        ensures { OnOk result (Goes self.old self.new) }
+    {
+        if self.is_still() {
+            return Ok(false);
+        }
+        match self.unsent.take() {
+            Some(unsent) => {
+                let more = self.send(unsent)?;
+                Ok(more)
+            }
+            None => {
+                let more = self.go_on()?;
+                Ok(more)
+            }
+        }
+    }
+
+    // No turn is possible: enough waits towards a side, or the client's connection is to end.
+    fn is_still(&self) -> bool {
+        if self.is_full() {
+            return true;
+        }
+        self.is_closing()
+    }
+
+    // Sends a request on, where there is a server connection.
+    fn send(&mut self, unsent: Unsent) -> Result<bool, NoMemory>
+        ensures { OnOk result (GoesUnsent unsent self.old self.new) }
+    {
+        if self.is_server_over() {
+            self.server = None;
+            self.unsent = Some(unsent);
+            return Ok(true);
+        }
+        let Some(mut server) = self.server.take() else {
+            self.unsent = Some(unsent);
+            return Ok(false);
+        };
+        self.tell_time(&mut server);
+        if ask(&mut server, &unsent.head, unsent.size)? {
+            self.server = Some(server);
+            self.sent = Some(unsent.sent);
+            self.unsent = None;
+            return Ok(true);
+        }
+        self.unsent = Some(unsent);
+        Ok(true)
+    }
+
+    // The server connection closes: it has ended, or bytes came that no request asked for.
+    fn is_server_over(&self) -> bool {
+        match &self.server {
+            Some(server) => server.closing().is_some(),
+            None => false,
+        }
+    }
+
+    fn tell_time(&self, server: &mut ClientConnection)
+        ensures { ServerStays server.old server.new }
+    {
+        if let Some(moment) = self.moment {
+            tick_server(server, moment);
+        }
+    }
+
+    // No request waits.
+    fn go_on(&mut self) -> Result<bool, NoMemory>
+        requires unsent { self.old.unsent ≡ None }
+        ensures { OnOk result (Goes self.old self.new) }
+    {
+        match self.sent {
+            Some(sent) => {
+                let more = self.pass_on(sent)?;
+                Ok(more)
+            }
+            None => {
+                let more = self.begin()?;
+                Ok(more)
+            }
+        }
+    }
+
+    // No request is under way: the server connection is idle.
+    fn begin(&mut self) -> Result<bool, NoMemory>
+        requires idle { IsIdle self.old }
+        ensures { OnOk result (Goes self.old self.new) }
+    {
+        if self.is_server_over() {
+            self.server = None;
+            return Ok(true);
+        }
+        let more = self.take_head()?;
+        Ok(more)
+    }
+
+    fn take_head(&mut self) -> Result<bool, NoMemory>
+        requires idle { IsIdle self.old }
+        ensures { OnOk result (Goes self.old self.new) }
+    {
+        match next_head(&mut self.client)? {
+            NextHead::Head(item) => {
+                self.open(item)?;
+                Ok(true)
+            }
+            NextHead::Fault(_) => Ok(true),
+            NextHead::Pending => Ok(false),
+            NextHead::Closed(_) => Ok(false),
+        }
+    }
+
+    // A request is open. One that can't be sent on gets 501, and the server connection is closed.
+    fn open(&mut self, item: HeadItem) -> Result<(), NoMemory>
+        requires idle { IsIdle self.old }
+        ensures { OnOk result (GoesFrom item self.old self.new) }
+    {
+        if !is_forwardable(&item) {
+            self.server = None;
+            self.reply(Refusal::NotForwardable)?;
+            return Ok(());
+        }
+        self.unsent = Some(Unsent::new(item));
+        tell_to_go_on(&mut self.client)?;
+        Ok(())
+    }
+
+    // A request is under way.
+    fn pass_on(&mut self, sent: Sent) -> Result<bool, NoMemory>
+        requires runs { Runs sent self.old }
+        ensures { OnOk result (Goes self.old self.new) }
+    {
+        match self.server.take() {
+            Some(server) => {
+                let more = self.pass(sent, server)?;
+                Ok(more)
+            }
+            None => {
+                self.fail(sent)?;
+                Ok(true)
+            }
+        }
+    }
+
+    // What is there of its answer is passed on; else more of its body.
+    fn pass(&mut self, sent: Sent, server: ClientConnection) -> Result<bool, NoMemory>
+        requires runs { Runs sent self.old }
+        ensures { OnOk result (GoesWith server self.old self.new) }
+    {
+        if sent.is_answered {
+            let more = self.pass_piece(sent, server)?;
+            return Ok(more);
+        }
+        let more = self.pass_answer(sent, server)?;
+        Ok(more)
+    }
+
+    // The head of its answer is passed on, where it is there; else more of its body.
+    fn pass_answer(&mut self, sent: Sent, server: ClientConnection) -> Result<bool, NoMemory>
+        requires runs { Runs sent self.old }
+        ensures { OnOk result (GoesWith server self.old self.new) }
+    {
+        let mut server = server;
+        match next_answer(&mut server)? {
+            NextAnswer::Answer(item) => {
+                self.take_answer(sent, server, item)?;
+                Ok(true)
+            }
+            NextAnswer::Fault(_) => {
+                self.fail(sent)?;
+                Ok(true)
+            }
+            NextAnswer::Closed(_) => {
+                self.fail(sent)?;
+                Ok(true)
+            }
+            NextAnswer::Pending => {
+                let more = self.pass_body(sent, server)?;
+                Ok(more)
+            }
+        }
+    }
+
+    // The head of its answer has come.
+    fn take_answer(
+        &mut self,
+        sent: Sent,
+        server: ClientConnection,
+        item: ResponseItem,
+    ) -> Result<(), NoMemory>
+        requires runs { Runs sent self.old }
+        ensures { OnOk result (GoesWith server self.old self.new) }
+    {
+        match answer_use(&item) {
+            AnswerUse::Refuse => {
+                self.fail(sent)?;
+                Ok(())
+            }
+            AnswerUse::PassOver => {
+                self.server = Some(server);
+                Ok(())
+            }
+            AnswerUse::PassOn => {
+                self.pass_head(sent, server, item)?;
+                Ok(())
+            }
+        }
+    }
+
+    fn pass_head(
+        &mut self,
+        sent: Sent,
+        server: ClientConnection,
+        item: ResponseItem,
+    ) -> Result<(), NoMemory>
+        requires runs { Runs sent self.old }
+        ensures { OnOk result (GoesWith server self.old self.new) }
+    {
+        let size = reply_size(sent.is_head, &item);
+        let sent = answered(sent, says_close(&item));
+        self.sent = Some(sent);
+        let head = reply_head(self.alloc, item)?;
+        if !size.is_eof() {
+            put_head(&mut self.client, &head, size)?;
+            self.server = Some(server);
+            return Ok(());
+        }
+        leave_body(&mut self.client);
+        put_head(&mut self.client, &head, size)?;
+        self.part(sent, server);
+        Ok(())
+    }
+
+    // More of the answer's body is passed on, where there is room for it; else more of the request's.
+    fn pass_piece(&mut self, sent: Sent, server: ClientConnection) -> Result<bool, NoMemory>
+        requires runs { Runs sent self.old }
+        ensures { OnOk result (GoesWith server self.old self.new) }
+    {
+        if !self.client.can_chunk() {
+            let more = self.pass_body(sent, server)?;
+            return Ok(more);
+        }
+        let mut server = server;
+        match next_piece(&mut server)? {
+            Pulled::Bytes(bytes) => {
+                put_piece(&mut self.client, bytes)?;
+                self.server = Some(server);
+                Ok(true)
+            }
+            Pulled::Trailers(_) => {
+                self.server = Some(server);
+                Ok(true)
+            }
+            Pulled::End => {
+                self.end_reply(sent, server)?;
+                Ok(true)
+            }
+            Pulled::Broken(_) => {
+                self.fail(sent)?;
+                Ok(true)
+            }
+            Pulled::Pending => {
+                let more = self.pass_body(sent, server)?;
+                Ok(more)
+            }
+        }
+    }
+
+    // All of the answer was passed on.
+    fn end_reply(&mut self, sent: Sent, server: ClientConnection) -> Result<(), NoMemory>
+        requires runs { Runs sent self.old }
+        ensures { OnOk result (GoesWith server self.old self.new) }
+    {
+        leave_body(&mut self.client);
+        put_end(&mut self.client)?;
+        self.part(sent, server);
+        Ok(())
+    }
+
+    // The reply is complete. The server connection is kept where both sides are whole and it goes on.
+    fn part(&mut self, sent: Sent, server: ClientConnection)
+        requires runs { Runs sent self.old }
+        ensures { GoesWith server self.old self.new }
+    {
+        self.sent = None;
+        if may_keep(sent, &server) {
+            self.server = Some(server);
+            return;
+        }
+        self.server = None;
+    }
+
+    // More of the request's body goes towards the server.
+    fn pass_body(&mut self, sent: Sent, server: ClientConnection) -> Result<bool, NoMemory>
+        requires runs { Runs sent self.old }
+        ensures { OnOk result (GoesWith server self.old self.new) }
+    {
+        if !may_send(sent, &server) {
+            self.server = Some(server);
+            return Ok(false);
+        }
+        let mut server = server;
+        match next_bytes(&mut self.client)? {
+            Pulled::Bytes(bytes) => {
+                server.chunk(bytes.as_slice())?;
+                self.server = Some(server);
+                Ok(true)
+            }
+            Pulled::Trailers(_) => {
+                self.server = Some(server);
+                Ok(true)
+            }
+            Pulled::End => {
+                server.end_body()?;
+                self.server = Some(server);
+                self.sent = Some(whole(sent));
+                Ok(true)
+            }
+            Pulled::Broken(_) => {
+                self.break_body(sent, server)?;
+                Ok(true)
+            }
+            Pulled::Pending => {
+                self.server = Some(server);
+                Ok(false)
+            }
+        }
+    }
+
+    // The request's body is broken. Where its answer is under way, that goes on; else the client gets 400, and the server
+    // connection is closed.
+    fn break_body(&mut self, sent: Sent, server: ClientConnection) -> Result<(), NoMemory>
+        requires runs { Runs sent self.old }
+        ensures { OnOk result (GoesWith server self.old self.new) }
+    {
+        if sent.is_answered {
+            self.server = Some(server);
+            self.sent = Some(broken(sent));
+            return Ok(());
+        }
+        self.server = None;
+        self.sent = None;
+        self.reply(Refusal::BrokenBody)?;
+        Ok(())
+    }
+
+    // The answer is bad, and its server connection is closed: the client gets 502, or where a head was passed on, a reply
+    // that is cut.
+    fn fail(&mut self, sent: Sent) -> Result<(), NoMemory>
+        requires unsent { self.old.unsent ≡ None }
+        ensures { OnOk result (Goes (record self.old { server = None }) self.new) }
+    {
+        self.server = None;
+        self.sent = None;
+        if sent.is_answered {
+            cut_reply(&mut self.client);
+            return Ok(());
+        }
+        self.reply(Refusal::NoAnswer)?;
+        Ok(())
+    }
+
+    // A reply of the forwarder's own.
+    pub(crate) fn reply(&mut self, refusal: Refusal) -> Result<(), NoMemory>
+        ensures { OnOk result (Goes self.old self.new) }
+    {
+        leave_body(&mut self.client);
+        let head = refusal.head(self.alloc);
+        put_head(&mut self.client, &head, BodySize::Sized(0))?;
+        Ok(())
+    }
+}
+
+// The head of its answer was passed on.
+fn answered(sent: Sent, closes: bool) -> Sent
+    ensures { result.is_whole ≡ sent.is_whole }
+{
+    Sent {
+        is_answered: true,
+        closes,
+        ..sent
+    }
+}
+
+// The end of its body was sent on.
+fn whole(sent: Sent) -> Sent
+    ensures { result.is_whole ≡ true }
+{
+    Sent {
+        is_whole: true,
+        ..sent
+    }
+}
+
+// Its body broke.
+fn broken(sent: Sent) -> Sent
+    ensures { result.is_whole ≡ sent.is_whole }
+{
+    Sent {
+        is_broken: true,
+        ..sent
+    }
+}
+
+// Whether the server connection may serve another request: both messages are whole, and it goes on.
+fn may_keep(sent: Sent, server: &ClientConnection) -> bool
+    ensures { IsTrue result → sent.is_whole ≡ true }
+{
+    if !sent.is_whole {
+        return false;
+    }
+    if sent.closes {
+        return false;
+    }
+    server.closing().is_none()
+}
+
+// Whether more of the request's body may be sent on.
+fn may_send(sent: Sent, server: &ClientConnection) -> bool
+    ensures { IsTrue result → SendsBody server.now }
+{
+    if sent.is_whole {
+        return false;
+    }
+    if sent.is_broken {
+        return false;
+    }
+    sends_body(server)
+}
