@@ -58,8 +58,8 @@ module _ (setting : Setting) where
   -- the same of what is kept before whether a head is coming is noted
   abbrev NextSo : Kept → on.Outcome → Kept → Type 0
   NextSo k (on.head h) m = client_left m + 15 ≤ client_left k
-  NextSo k (on.fault f) m = is_some m.failed ≡ true
-  NextSo k (on.closed end) m = closing_by setting k ≡ Some end
+  NextSo k (on.fault f) m = (is_some m.failed ≡ true) × (client_left m ≤ client_left k)
+  NextSo k (on.closed end) m = (closing_by setting k ≡ Some end) × (client_left m ≤ client_left k)
   NextSo k on.pending m = (k.is_coming ≡ false) × (m ≡ k)
   NextSo k o m = ⊤
 
@@ -70,12 +70,12 @@ module _ (setting : Setting) where
   upcoming k false c none x = subst (OfChange k) (sym x) (without (length k.unread == setting.hold_size))
     where
       without : (full : Bool) → OfChange k (if full then behind_head k 0 (faulty too_large) else record { outcome = on.pending; kept = k })
-      without true = refl
+      without true = (refl, omega arith)
       without false = (none, refl)
   upcoming k true c there (start, end, what, piece, reading, is) = subst (OfChange k) (sym is) (by_what what)
     where
       by_what : (what : Reading) → OfChange k (behind_head k end what)
-      by_what (faulty f) = refl
+      by_what (faulty f) = (refl, omega arith)
       by_what (head_is h) =
           let unread = drop end k.unread in
           omega (
@@ -87,16 +87,19 @@ module _ (setting : Setting) where
           )
 
   next_case : (k : Kept) (closing : Option End) (c : Change) → closing_by setting k ≡ closing → IsNext setting k closing c → OfChange k c
-  next_case k (Some end) c is x = subst (OfChange k) (sym x) is
+  next_case k (Some end) c is x = subst (OfChange k) (sym x) (is, omega arith)
   next_case k None c is x = upcoming k k.is_coming c refl x
 
   noted : (k m next : Kept) (coming : Bool) (o : on.Outcome) → next ≡ noting_since setting (record m { is_coming = coming })
       → IsComing (is_free m) m.unread coming → IsComing (is_free k) k.unread k.is_coming → NextSo k o m → LeavesBehindNext setting o k next
   unfolding closing_by
   noted k m next coming (on.head h) is comes known x = subst (λ (n : Kept). client_left n + 15 ≤ client_left k) (sym is) x
-  noted k m next coming (on.fault f) is comes known x =
-      subst (λ (n : Kept). is_some (closing_by setting n) ≡ true) (sym is) (failed_closes m.failed _ x)
-  noted k m next coming (on.closed end) is comes known x = x
+  noted k m next coming (on.fault f) is comes known x = (
+    subst (λ (n : Kept). is_some (closing_by setting n) ≡ true) (sym is) (failed_closes m.failed _ x.0),
+    subst (λ (n : Kept). client_left n ≤ client_left k) (sym is) x.1,
+  )
+  noted k m next coming (on.closed end) is comes known x =
+      (x.0, subst (λ (n : Kept). client_left n ≤ client_left k) (sym is) x.1)
   noted k m next coming on.pending is comes known x =
       let here = subst (λ (m : Kept). IsComing (is_free m) m.unread coming) x.1 comes in (
         ap (λ (n : Kept). n.is_coming) is ∙ coming_one (is_free k) k.unread coming k.is_coming here known ∙ x.0,

@@ -130,7 +130,7 @@ module _ (setting : Setting) where
   piece_so k m n (server.bytes given) p old new unread x = omega (arith, old, new, x)
   piece_so k m n (server.trailers lines) p old new unread x = omega (arith, old, new, x)
   piece_so k m n server.body_ended p old new unread x = omega (arith, old, new, x)
-  piece_so k m n (server.broken_by fault) p old new unread x = tt
+  piece_so k m n (server.broken_by fault) p old new unread x = omega (arith, old, new, x)
   piece_so k m n server.pending p old new unread x = (unread ∙ x.0, let less = x.1 in omega (arith, old, new, less))
   piece_so k m n o p old new unread x = absurd x
 
@@ -142,6 +142,7 @@ module _ (setting : Setting) where
       as_noted (on.bytes given) x = x
       as_noted (on.trailers lines) x = x
       as_noted on.body_ended x = x
+      as_noted (on.broken_by fault) x = x
       as_noted on.pending x = x
       as_noted o x = tt
 

@@ -27,8 +27,8 @@ client_left k = 16 * length k.unread + request_left k.exchange
 -- What an outcome of `next` leaves: behind a head less, by the bytes of the head; behind a fault the connection closes.
 abbrev pub LeavesBehindNext : Setting → on.Outcome → Kept → Kept → Type 0
 LeavesBehindNext setting (on.head h) old new = client_left new + 15 ≤ client_left old
-LeavesBehindNext setting (on.fault f) old new = is_some (closing_by setting new) ≡ true
-LeavesBehindNext setting (on.closed end) old new = closing_by setting old ≡ Some end
+LeavesBehindNext setting (on.fault f) old new = (is_some (closing_by setting new) ≡ true) × (client_left new ≤ client_left old)
+LeavesBehindNext setting (on.closed end) old new = (closing_by setting old ≡ Some end) × (client_left new ≤ client_left old)
 LeavesBehindNext setting on.pending old new = (new.is_coming ≡ false) × (client_left new ≤ client_left old)
 LeavesBehindNext setting o old new = ⊤
 
@@ -72,6 +72,7 @@ abbrev pub LeavesBehindPiece : asked.ClientOutcome → ClientKept → ClientKept
 LeavesBehindPiece (asked.bytes bytes) old new = server_left new + 15 ≤ server_left old
 LeavesBehindPiece (asked.trailers lines) old new = server_left new < server_left old
 LeavesBehindPiece asked.body_ended old new = server_left new ≤ server_left old
+LeavesBehindPiece (asked.broken_by fault) old new = server_left new ≤ server_left old
 LeavesBehindPiece asked.pending old new = (new.unread ≡ []) × (server_left new ≤ server_left old)
 LeavesBehindPiece o old new = ⊤
 

@@ -5,6 +5,7 @@ ghost use Rattle.std.specs.Prelude.{IsTrue, IfOk, OnOk};
 ghost use Rattle.h1_codec.specs.Meaning.{size_of};
 ghost use Rattle.h1_client.specs.Meaning.{request_of};
 ghost use Rattle.h1_forward_sides.specs.Sides.{ServerStays, MayAsk, SendsBody};
+ghost use Rattle.h1_forward_sides.specs.Leaves.{LeavesAnswer, LeavesPiece};
 
 use h1_client::{ClientConnection, NextAnswer, Pulled};
 use http_framing::BodySize;
@@ -47,7 +48,8 @@ pub fn sends_body(server: &ClientConnection) -> bool
 
 /// The next answer's head.
 pub fn next_answer(server: &mut ClientConnection) -> Result<NextAnswer, NoMemory>
-    ensures { OnOk result (ServerStays server.old server.new) }
+    ensures stays { OnOk result (ServerStays server.old server.new) }
+    ensures leaves { IfOk result (λ next. LeavesAnswer next server.old server.new) }
 {
     if !server.can_next() {
         return Ok(NextAnswer::Pending);
@@ -58,7 +60,8 @@ pub fn next_answer(server: &mut ClientConnection) -> Result<NextAnswer, NoMemory
 
 /// More of the answer's body: its end where there is none.
 pub fn next_piece(server: &mut ClientConnection) -> Result<Pulled, NoMemory>
-    ensures { OnOk result (ServerStays server.old server.new) }
+    ensures stays { OnOk result (ServerStays server.old server.new) }
+    ensures leaves { IfOk result (λ pulled. LeavesPiece pulled server.old server.new) }
 {
     if !server.can_pull() {
         return Ok(Pulled::End);
