@@ -1,6 +1,6 @@
 -- What each call of the client's connection leaves to do.
 use Rattle.std.proofs.Common.{◌≡◌, ℕ, ◌+◌, ◌*◌, ◌<◌, ◌≤◌, Bool, true, false, not, ◌&&◌, cond, List, [], ◌∷◌, ◌++◌, length, drop, Option, Some, None, refl, sym, ap, ◌∙◌, subst, subst₂, arith, length-append, length-drop}
-use Rattle.std.specs.Prelude.{◌-◌, min, ⊤, IsTrue, is_some, nat_le, if◌then◌else◌, ◌==◌, slice_range}
+use Rattle.std.specs.Prelude.{◌-◌, min, nat_lt, ⊤, IsTrue, is_some, nat_le, if◌then◌else◌, ◌==◌, slice_range}
 use Rattle.std.specs.Option.{option_or}
 use Rattle.std.proofs.lemmas.List.{length-take}
 use Rattle.std.proofs.lemmas.Bool.{false≢true, true≢false, leb-false}
@@ -19,7 +19,7 @@ use Rattle.h1_model.specs.Sums.{Step, accepted, request}
 use Rattle.h1_model.specs.Past.{ParsedStep, steps, current, passed}
 use Rattle.h1_model.proofs.PastLemmas.{legal_of}
 use Rattle.h1_machine.specs.Kept.{Rest, no_rest, raw_rest, fixed_rest, chunks_rest, Reply, unanswered, sending, answered, Exchange, Kept, Change, is_free, is_frames, is_upgraded, whole_rest, rest_in}
-use Rattle.h1_machine.specs.Local.{closing_by, allowed_by, has_body_left}
+use Rattle.h1_machine.specs.Local.{closing_by, allowed_by, has_body_left, is_answering, has_room}
 use Rattle.h1_machine.specs.Body.{passing, pass_rest}
 use Rattle.h1_machine.specs.Change.{behind_head, without_head, IsUpcoming, IsNext, pulled_from, IsPulling, IsChange, IsComing, noting_since, IsStep, doing_with}
 use Rattle.h1_machine.specs.Reply.{completing, answering, sending_piece, ending_body}
@@ -30,7 +30,7 @@ use Rattle.h1_machine.proofs.Kernel.{coming_of}
 use Rattle.h1_machine.proofs.OneStep.{coming_one}
 use Rattle.h1_machine.proofs.Stands.{table_steps}
 use Rattle.h1_client_laws.proofs.Told.{IsSound}
-use Rattle.h1_forward_left.specs.Left.{left_of_rest, bytes_left, request_left, client_left, AsksNothing, LeavesBehindNext, LeavesBehindPull}
+use Rattle.h1_forward_left.specs.Left.{left_of_rest, bytes_left, request_left, client_left, AsksNothing, LeavesBehindNext, TakesNoMorePieces, LeavesBehindPull}
 use Rattle.h1_forward_left.proofs.Pulls.{at_most_one, LeavesSo, pull_leaves, pass_leaves}
 
 -- a head has bytes
@@ -59,7 +59,7 @@ module _ (setting : Setting) where
   abbrev NextSo : Kept → on.Outcome → Kept → Type 0
   NextSo k (on.head h) m = client_left m + 15 ≤ client_left k
   NextSo k (on.fault f) m = (is_some m.failed ≡ true) × (client_left m ≤ client_left k)
-  NextSo k (on.closed end) m = (closing_by setting k ≡ Some end) × (client_left m ≤ client_left k)
+  NextSo k (on.closed end) m = (m.is_over ≡ true) × (client_left m ≤ client_left k)
   NextSo k on.pending m = (k.is_coming ≡ false) × (m ≡ k)
   NextSo k o m = ⊤
 
@@ -87,7 +87,7 @@ module _ (setting : Setting) where
           )
 
   next_case : (k : Kept) (closing : Option End) (c : Change) → closing_by setting k ≡ closing → IsNext setting k closing c → OfChange k c
-  next_case k (Some end) c is x = subst (OfChange k) (sym x) (is, omega arith)
+  next_case k (Some end) c is x = subst (OfChange k) (sym x) (refl, omega arith)
   next_case k None c is x = upcoming k k.is_coming c refl x
 
   noted : (k m next : Kept) (coming : Bool) (o : on.Outcome) → next ≡ noting_since setting (record m { is_coming = coming })
@@ -99,7 +99,7 @@ module _ (setting : Setting) where
     subst (λ (n : Kept). client_left n ≤ client_left k) (sym is) x.1,
   )
   noted k m next coming (on.closed end) is comes known x =
-      (x.0, subst (λ (n : Kept). client_left n ≤ client_left k) (sym is) x.1)
+      (ap (λ (n : Kept). n.is_over) is ∙ x.0, subst (λ (n : Kept). client_left n ≤ client_left k) (sym is) x.1)
   noted k m next coming on.pending is comes known x =
       let here = subst (λ (m : Kept). IsComing (is_free m) m.unread coming) x.1 comes in (
         ap (λ (n : Kept). n.is_coming) is ∙ coming_one (is_free k) k.unread coming k.is_coming here known ∙ x.0,
@@ -168,8 +168,17 @@ module _ (setting : Setting) where
   unfolding allowed_by
   droppable k is = third k.is_over (is_some (closing_by setting k)) (is_upgraded k) (has_body_left k) is
 
+  -- the same of what is kept before whether a head is coming is noted
+  abbrev PulledSo : on.Outcome → Kept → Kept → Type 0
+  PulledSo (on.bytes bytes) k m = client_left m + 15 ≤ client_left k
+  PulledSo (on.trailers lines) k m = client_left m < client_left k
+  PulledSo on.body_ended k m = client_left m ≤ client_left k
+  PulledSo (on.broken_by fault) k m = client_left m ≤ client_left k
+  PulledSo on.pending k m = (m.unread ≡ []) × (client_left m ≤ client_left k)
+  PulledSo o k m = ⊤
+
   pulled_so : (k m : Kept) (n : ℕ) (o : on.Outcome) (p : Pulled) → client_left k ≡ n → client_left m ≡ bytes_left p.unread p.rest → m.unread ≡ p.unread
-      → LeavesSo o n p → LeavesBehindPull o k m
+      → LeavesSo o n p → PulledSo o k m
   pulled_so k m n (on.bytes given) p old new unread x = omega (arith, old, new, x)
   pulled_so k m n (on.trailers lines) p old new unread x = omega (arith, old, new, x)
   pulled_so k m n on.body_ended p old new unread x = omega (arith, old, new, x)
@@ -177,37 +186,80 @@ module _ (setting : Setting) where
   pulled_so k m n on.pending p old new unread x = (unread ∙ x.0, let less = x.1 in omega (arith, old, new, less))
   pulled_so k m n o p old new unread x = tt
 
+  -- a pull leaves what is said of an answer
+  pub record SameAnswer (k m : Kept) : Type 0 where
+    pub over : m.is_over ≡ k.is_over
+    pub answering : is_answering m ≡ is_answering k
+    pub buffered : m.buffered ≡ k.buffered
+
   pull_case : (k : Kept) (ex : Option Exchange) (c : Change) → k.exchange ≡ ex → ((x : Exchange) → ex ≡ Some x → IsPlainSound x)
       → is_upgraded (record k { exchange = ex }) ≡ false → has_body_left (record k { exchange = ex }) ≡ true → IsPulling k ex c
-      → LeavesBehindPull c.outcome k c.kept
+      → PulledSo c.outcome k c.kept × SameAnswer (record k { exchange = ex }) c.kept
   pull_case k None c is sound plain left x = absurd (false≢true left)
   pull_case k (Some x) c is sound plain left (p, pull, same) =
-      subst (λ (c : Change). LeavesBehindPull c.outcome k c.kept) (sym same)
-      (pulled_so k (pulled_from x p k) (bytes_left k.unread x.rest) p.outcome p (ap (λ (e : Option Exchange). 16 * length k.unread + request_left e) is) refl refl
-      (pull_leaves k.has_ended x.rest k.unread p (sound x refl plain) pull))
+      subst (λ (c : Change). PulledSo c.outcome k c.kept × SameAnswer (record k { exchange = Some x }) c.kept) (sym same) (
+        pulled_so k (pulled_from x p k) (bytes_left k.unread x.rest) p.outcome p (ap (λ (e : Option Exchange). 16 * length k.unread + request_left e) is) refl refl
+            (pull_leaves k.has_ended x.rest k.unread p (sound x refl plain) pull),
+        record { over = refl; answering = refl; buffered = refl },
+      )
+
+  piece_weaker : (over closing both : Bool) → (not over && (if closing then false else both)) ≡ true → (not over && both) ≡ true
+  piece_weaker true closing both is = absurd (false≢true is)
+  piece_weaker false true both is = absurd (false≢true is)
+  piece_weaker false false both is = is
+
+  piece_allowed : (over closing both : Bool) → closing ≡ false → (not over && both) ≡ true → (not over && (if closing then false else both)) ≡ true
+  piece_allowed over true both none is = absurd (true≢false none)
+  piece_allowed over false both none is = is
+
+  -- what is allowed while a drop is: nothing closes
+  running : (k : Kept) → allowed_by setting k on.drop_body ≡ true → is_some (closing_by setting k) ≡ false
+  unfolding allowed_by
+  running k is = by_closing (is_some (closing_by setting k)) is
+    where
+      by_closing : (b : Bool) → (not k.is_over && (if b then false else (not (is_upgraded k) && has_body_left k))) ≡ true → b ≡ false
+      by_closing false is = refl
+      by_closing true is = absurd (never k.is_over is)
+        where
+          never : (o : Bool) → (not o && false) ≡ true → ⊥
+          never true is = false≢true is
+          never false is = false≢true is
+
+  no_more_pieces : (k next : Kept) → is_some (closing_by setting k) ≡ false → SameAnswer k next → TakesNoMorePieces setting k next
+  unfolding allowed_by
+  no_more_pieces k next runs same bytes is =
+      piece_allowed k.is_over (is_some (closing_by setting k)) (is_answering k && has_room setting k) runs
+      (subst₂ (λ (o a : Bool). (not o && (a && has_room setting k)) ≡ true) same.over same.answering
+      (subst (λ (b : List ℕ). (not next.is_over && (is_answering next && nat_lt (length b) setting.write_buffer)) ≡ true) same.buffered
+      (piece_weaker next.is_over (is_some (closing_by setting next)) (is_answering next && has_room setting next) is)))
 
   noted_pull : (k m next : Kept) (coming : Bool) (o : on.Outcome) → next ≡ noting_since setting (record m { is_coming = coming })
-      → LeavesBehindPull o k m → LeavesBehindPull o k next
-  noted_pull k m next coming o is x = subst (LeavesBehindPull o k) (sym is) (as_noted o x)
+      → is_some (closing_by setting k) ≡ false → SameAnswer k m → PulledSo o k m → LeavesBehindPull setting o k next
+  noted_pull k m next coming o is runs same x = subst (LeavesBehindPull setting o k) (sym is) (as_noted o x)
     where
-      as_noted : (o : on.Outcome) → LeavesBehindPull o k m → LeavesBehindPull o k (noting_since setting (record m { is_coming = coming }))
+      n : Kept
+      n = noting_since setting (record m { is_coming = coming })
+
+      as_noted : (o : on.Outcome) → PulledSo o k m → LeavesBehindPull setting o k n
       as_noted (on.bytes given) x = x
       as_noted (on.trailers lines) x = x
       as_noted on.body_ended x = x
       as_noted (on.broken_by fault) x = x
-      as_noted on.pending x = x
+      as_noted on.pending x =
+          (x.0, x.1, no_more_pieces k n runs (record { over = same.over; answering = same.answering; buffered = same.buffered }))
       as_noted o x = tt
 
   pub pull_of_client : (k next : Kept) (trace : List Step) (o : on.Outcome) → StandsFor setting k trace
-      → StandsFor setting next (record { event = on.pull; outcome = o } ∷ trace) → allowed_by setting k on.drop_body ≡ true → LeavesBehindPull o k next
+      → StandsFor setting next (record { event = on.pull; outcome = o } ∷ trace) → allowed_by setting k on.drop_body ≡ true → LeavesBehindPull setting o k next
   pull_of_client k next trace o x y may =
       let step = machine_step setting k next trace (record { event = on.pull; outcome = o }) x y in
       let c = step.change in
       let two = droppable k may in
       let sound : (e : Exchange) → k.exchange ≡ Some e → IsPlainSound e =
       λ (e : Exchange) is. sound_exchange setting x.past (current x.past) (request (steps x.past)) e (sym (ap (λ (k : Kept). k.exchange) x.parts) ∙ is) in
-      subst (λ (o : on.Outcome). LeavesBehindPull o k next) (sym step.answers)
-      (noted_pull k c.kept next step.coming c.outcome step.keeps (pull_case k k.exchange c refl sound two.0 two.1 step.changes))
+      let pulled = pull_case k k.exchange c refl sound two.0 two.1 step.changes in
+      subst (λ (o : on.Outcome). LeavesBehindPull setting o k next) (sym step.answers)
+      (noted_pull k c.kept next step.coming c.outcome step.keeps (running k may) pulled.1 pulled.0)
 
 -- ---- what leaves no more
 

@@ -1,7 +1,8 @@
 -- What each call of a server's connection leaves to do.
-use Rattle.std.proofs.Common.{◌≡◌, ℕ, ◌+◌, ◌*◌, ◌<◌, ◌≤◌, Bool, true, false, not, ◌&&◌, ◌++◌, cond, List, [], ◌∷◌, length, drop, Option, Some, None, refl, sym, ap, ◌∙◌, subst, arith, length-append, length-drop, append-nil}
+use Rattle.std.proofs.Common.{◌≡◌, ℕ, ◌+◌, ◌*◌, ◌-◌, ◌<◌, ◌≤◌, min, Bool, true, false, not, ◌&&◌, ◌++◌, cond, List, [], ◌∷◌, length, drop, Option, Some, None, refl, sym, ap, ◌∙◌, subst, arith, length-append, length-drop, append-nil}
 use Rattle.std.specs.Prelude.{⊤, IsTrue, is_some, if◌then◌else◌, ◌==◌}
 use Rattle.std.proofs.lemmas.Bool.{false≢true, true≢false}
+use Rattle.std.proofs.lemmas.List.{length-take}
 use Rattle.httparse.specs.Ascii.{line_feed}
 use Rattle.h1_model.specs.HeadPiece.{IsHeadPiece}
 use Rattle.h1_model.specs.Request.{too_large}
@@ -17,7 +18,8 @@ use Rattle.h1_client_machine.specs.ClientEvent as on
 use Rattle.h1_client_machine.specs.ClientEvent.{ClientEvent, ClientEnd, ClientOutcome}
 use Rattle.h1_client_machine.specs.ClientKept.{Waiting, SendingBody, ReadingBody, ClientKept, is_free, is_free_of, is_dropped_of, is_waited_for, has_bytes, client_closing, client_allows}
 use Rattle.h1_client_machine.specs.ClientStep.{ClientChange, sending_piece, ending_body, outcome_of, pulled_from, IsPulling, behind_final, behind_answer, behind_head, without_head, IsUpcoming, IsNext, IsClientChange, IsClientStep, KnowsComing}
-use Rattle.h1_client_machine.specs.ClientTrace.{Happened, IsClientTrace, taken}
+use Rattle.h1_client_machine.specs.ClientTrace.{Happened, IsClientTrace, taken_by, taken}
+use Rattle.h1_client_machine.proofs.Left.{step_leaves}
 use Rattle.h1_client_machine.proofs.OneStep.{coming_one}
 use Rattle.h1_client_laws.specs.Parsed.{has_ended, methods_of}
 use Rattle.h1_client_laws.specs.ReadOut.{ReadAnswer, read_out}
@@ -199,3 +201,28 @@ module _ (setting : Setting) where
   pub all_left : (k next : ClientKept) (event : ClientEvent) (o : ClientOutcome) → LeavesAll event → IsClientStep setting k event o next
       → server_left next ≡ server_left k
   all_left k next event o all step = ap server_left step.keeps ∙ change_same k event step.change all step.changes
+
+-- ---- what is held
+
+taken_as : (room : ℕ) (event : ClientEvent) (o p : ClientOutcome) → o ≡ p → length (taken_by event p) ≤ room → length (taken_by event o) ≤ room
+taken_as room event o p is x = subst (λ (o : ClientOutcome). length (taken_by event o) ≤ room) (sym is) x
+
+module _ (setting : Setting) where
+  -- an event takes no more bytes than there is room for
+  taken_fits : (k : ClientKept) (event : ClientEvent) (c : ClientChange) → IsClientChange setting k event c
+      → length (taken_by event c.outcome) ≤ setting.hold_size - length k.unread
+  taken_fits k (on.read bytes) c is =
+      let n = min (length bytes) (setting.hold_size - length k.unread) in
+      taken_as (setting.hold_size - length k.unread) (on.read bytes) c.outcome (on.took n) (ap (λ (c : ClientChange). c.outcome) is)
+      (omega (arith, length-take n bytes))
+  taken_fits k event c is = omega arith
+
+  pub held_fits : (trace : List Happened) (k : ClientKept) → IsClientTrace setting trace k → length k.unread ≤ setting.hold_size
+  held_fits [] k is = let none = ap (λ (k : ClientKept). length k.unread) is in omega (arith, none)
+  held_fits (s ∷ before) k (b, trace, allowed, step) =
+      let old = held_fits before b trace in
+      let more = taken_as (setting.hold_size - length b.unread) s.event s.outcome step.change.outcome step.answers (taken_fits b s.event step.change step.changes) in
+      let left = step_leaves setting b k s.event s.outcome step in
+      let same : length b.unread + length (taken_by s.event s.outcome) ≡ length left.0 + length k.unread =
+      sym (length-append b.unread (taken_by s.event s.outcome)) ∙ ap length left.1 ∙ length-append left.0 k.unread in
+      omega (arith, old, more, same)

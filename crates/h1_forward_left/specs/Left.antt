@@ -3,7 +3,7 @@ use Rattle.std.specs.Prelude.{◌≡◌, ℕ, ◌+◌, ◌*◌, ◌<◌, ◌≤�
 use Rattle.h1_model.specs.Event as on
 use Rattle.h1_model.specs.Setting.{Setting}
 use Rattle.h1_machine.specs.Kept.{Rest, no_rest, Exchange, Kept}
-use Rattle.h1_machine.specs.Local.{closing_by}
+use Rattle.h1_machine.specs.Local.{closing_by, allowed_by}
 use Rattle.h1_client_machine.specs.ClientEvent as asked
 use Rattle.h1_client_machine.specs.ClientKept.{ReadingBody, ClientKept, client_closing}
 
@@ -28,19 +28,23 @@ client_left k = 16 * length k.unread + request_left k.exchange
 abbrev pub LeavesBehindNext : Setting → on.Outcome → Kept → Kept → Type 0
 LeavesBehindNext setting (on.head h) old new = client_left new + 15 ≤ client_left old
 LeavesBehindNext setting (on.fault f) old new = (is_some (closing_by setting new) ≡ true) × (client_left new ≤ client_left old)
-LeavesBehindNext setting (on.closed end) old new = (closing_by setting old ≡ Some end) × (client_left new ≤ client_left old)
+LeavesBehindNext setting (on.closed end) old new = (new.is_over ≡ true) × (client_left new ≤ client_left old)
 LeavesBehindNext setting on.pending old new = (new.is_coming ≡ false) × (client_left new ≤ client_left old)
 LeavesBehindNext setting o old new = ⊤
 
 -- What an outcome of `pull` leaves: behind bytes less, by the bytes, and behind trailers, which end the body; where nothing comes, all
 -- bytes are passed.
-abbrev pub LeavesBehindPull : on.Outcome → Kept → Kept → Type 0
-LeavesBehindPull (on.bytes bytes) old new = client_left new + 15 ≤ client_left old
-LeavesBehindPull (on.trailers lines) old new = client_left new < client_left old
-LeavesBehindPull on.body_ended old new = client_left new ≤ client_left old
-LeavesBehindPull (on.broken_by fault) old new = client_left new ≤ client_left old
-LeavesBehindPull on.pending old new = (new.unread ≡ []) × (client_left new ≤ client_left old)
-LeavesBehindPull o old new = ⊤
+-- a piece of an answer may be handed in only where it might before
+abbrev pub TakesNoMorePieces : Setting → Kept → Kept → Type 0
+TakesNoMorePieces setting old new = (bytes : List ℕ) → allowed_by setting new (on.chunk bytes) ≡ true → allowed_by setting old (on.chunk bytes) ≡ true
+
+abbrev pub LeavesBehindPull : Setting → on.Outcome → Kept → Kept → Type 0
+LeavesBehindPull setting (on.bytes bytes) old new = client_left new + 15 ≤ client_left old
+LeavesBehindPull setting (on.trailers lines) old new = client_left new < client_left old
+LeavesBehindPull setting on.body_ended old new = client_left new ≤ client_left old
+LeavesBehindPull setting (on.broken_by fault) old new = client_left new ≤ client_left old
+LeavesBehindPull setting on.pending old new = (new.unread ≡ []) × (client_left new ≤ client_left old) × TakesNoMorePieces setting old new
+LeavesBehindPull setting o old new = ⊤
 
 -- the event of a call that asks for nothing
 abbrev pub AsksNothing : on.Event → Type 0

@@ -1,5 +1,5 @@
 //! What each call of a forwarder's two connections leaves to do.
-ghost use Rattle.std.specs.Prelude.{◌≡◌, ◌≤◌, ◌∷◌, true, IsTrue, List};
+ghost use Rattle.std.specs.Prelude.{◌≡◌, ◌≤◌, ◌∷◌, true, IsTrue, List, length};
 ghost use Rattle.h1_model.specs.Setting.{Setting};
 ghost use Rattle.h1_model.specs.Event as on;
 ghost use Rattle.h1_model.specs.Sums.{Step};
@@ -19,7 +19,7 @@ pub fn the_client_leaves_less()
     ensures next { (setting : Setting) (k next : Kept) (trace : List Step) (o : on.Outcome) → StandsFor setting k trace
         → StandsFor setting next (record { event = on.next; outcome = o } ∷ trace) → LeavesBehindNext setting o k next }
     ensures pull { (setting : Setting) (k next : Kept) (trace : List Step) (o : on.Outcome) → StandsFor setting k trace
-        → StandsFor setting next (record { event = on.pull; outcome = o } ∷ trace) → allowed_by setting k on.drop_body ≡ true → LeavesBehindPull o k next }
+        → StandsFor setting next (record { event = on.pull; outcome = o } ∷ trace) → allowed_by setting k on.drop_body ≡ true → LeavesBehindPull setting o k next }
     ensures others { (setting : Setting) (k next : Kept) (trace : List Step) (event : on.Event) (o : on.Outcome) → AsksNothing event → StandsFor setting k trace
         → StandsFor setting next (record { event = event; outcome = o } ∷ trace) → client_left next ≤ client_left k }
 {}
@@ -32,4 +32,10 @@ pub fn a_server_leaves_less()
         → IsTrue (client_allows setting k asked.pull) → IsClientStep setting k asked.pull o next → LeavesBehindPiece o k next }
     ensures others { (setting : Setting) (k next : ClientKept) (event : asked.ClientEvent) (o : asked.ClientOutcome) → LeavesAll event
         → IsClientStep setting k event o next → server_left next ≡ server_left k }
+{}
+
+/// Of what came from either side no more is held than may be.
+pub fn no_more_is_held()
+    ensures client { (setting : Setting) (k : Kept) (trace : List Step) → StandsFor setting k trace → length k.unread ≤ setting.hold_size }
+    ensures server { (setting : Setting) (k : ClientKept) (trace : List Happened) → IsClientTrace setting trace k → length k.unread ≤ setting.hold_size }
 {}
