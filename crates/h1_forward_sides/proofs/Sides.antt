@@ -14,7 +14,7 @@ use Rattle.h1_connection.specs.State.{State, Stands, GoesOn, Is}
 use Rattle.h1_connection.specs.declared.connection.heads.NextHead.{NextHead}
 use Rattle.h1_connection.specs.declared.connection.heads.NextHead.TheVariants as next
 use Rattle.h1_client_machine.specs.ClientEvent as asked
-use Rattle.h1_client_machine.specs.ClientTrace.{Happened, IsClientTrace, now_of, sending_of, sending_after, text_of_event, given, taken_by}
+use Rattle.h1_client_machine.specs.ClientTrace.{Happened, IsClientTrace, now_of, sending_of, sending_after, text_of_event, given, taken_by, asked_by}
 use Rattle.h1_client_machine.specs.ClientKept.{SendingBody}
 use Rattle.h1_client.specs.Answers as answers
 use Rattle.h1_client.specs.Bodies as bodies
@@ -129,13 +129,14 @@ asked_step a b event out trace settings stands =
 -- an event that takes and gives nothing, and asks nothing
 pub server_one : (a : servers.State) (event : asked.ClientEvent) (Says : asked.ClientOutcome → Type 0) (b : servers.State) → b.settings ≡ a.settings
     → (one : servers.GoesOn a event Says b) → taken_by event one.outcome ≡ [] → given one.outcome ≡ [] → is_eof event ≡ false
-    → ((n : ℕ) (body : Option SendingBody) → text_of_event event n body ≡ []) → ((body : Option SendingBody) → sending_after event body ≡ body) → ServerStays a b
-server_one a event Says b settings one takes gives going says same = record {
+    → ((n : ℕ) (body : Option SendingBody) → text_of_event event n body ≡ []) → ((body : Option SendingBody) → sending_after event body ≡ body) → asked_by event ≡ []
+    → ServerStays a b
+server_one a event Says b settings one takes gives going says same asks = record {
   settings = settings;
   stays = λ trace stands. (
     record { event = event; outcome = one.outcome } ∷ trace,
     asked_step a b event one.outcome trace settings (one.stands trace stands),
-    quiet event one.outcome trace takes gives going (says (now_of trace) (sending_of trace)) (same (sending_of trace)),
+    quiet event one.outcome trace takes gives going (says (now_of trace) (sending_of trace)) (same (sending_of trace)) asks,
   );
 }
 
@@ -160,12 +161,12 @@ pull_given pulled.Pending out says = ap given says
 
 pub next_stays : (n : NextAnswer) (a b : servers.State) → b.settings ≡ a.settings → servers.GoesOn a asked.next (answers.SaysNext n) b → ServerStays a b
 next_stays n a b settings one =
-    server_one a asked.next _ b settings one refl (next_given n one.outcome one.says) refl (λ n body. refl) (λ body. refl)
+    server_one a asked.next _ b settings one refl (next_given n one.outcome one.says) refl (λ n body. refl) (λ body. refl) refl
 
 pub pull_stays : (n : Pulled) (a b : servers.State) → b.settings ≡ a.settings → servers.GoesOn a asked.pull (bodies.SaysPulled n) b → ServerStays a b
 pull_stays n a b settings one =
-    server_one a asked.pull _ b settings one refl (pull_given n one.outcome one.says) refl (λ n body. refl) (λ body. refl)
+    server_one a asked.pull _ b settings one refl (pull_given n one.outcome one.says) refl (λ n body. refl) (λ body. refl) refl
 
 pub tick_stays : (ms : ℕ) (a b : servers.State) → b.settings ≡ a.settings → servers.GoesOn a (asked.tick ms) (servers.Is asked.done) b → ServerStays a b
 tick_stays ms a b settings one =
-    server_one a (asked.tick ms) _ b settings one refl (ap given one.says) refl (λ n body. refl) (λ body. refl)
+    server_one a (asked.tick ms) _ b settings one refl (ap given one.says) refl (λ n body. refl) (λ body. refl) refl

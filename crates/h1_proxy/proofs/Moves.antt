@@ -185,7 +185,7 @@ waits_from item p u idle may is = λ history all h says f newest.
         server = f.server;
         carries =
             keeps_waiting (theirs p) (ours p) h (request_of u.head) (size_of u.size) u.sent.is_whole p.client.kept (kept_of p).server (may h says)
-            w.whole w.sized w.text history all old newest;
+            w.method w.whole w.sized w.text history all old newest;
       },
     )
 

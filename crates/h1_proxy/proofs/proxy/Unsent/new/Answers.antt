@@ -1,6 +1,7 @@
 use Rattle.std.proofs.Common.{refl, ap, ◌∙◌}
 use Rattle.std.specs.Prelude.{not}
 use Rattle.h1_model.specs.Request.{BodyKind}
+use Rattle.h1_client_model.specs.RequestText.{AskedHead}
 use Rattle.h1_forward_model.specs.Forward.{forwarded_size, Sent}
 use Rattle.h1_forward_model.specs.Exchange.{unpulled}
 use Rattle.h1_forward_traces.specs.Happenings.{sent_of}
@@ -10,6 +11,7 @@ use Rattle.h1_proxy.proofs.proxy.Unsent.new.Goals as goal
 pub returns : goal.returns
 returns c = λ h says can.
     let sized = c.forwarded_size.ensures ∙ ap (λ (k : BodyKind). forwarded_size k) says.body in record {
+      method = ap (λ (r : AskedHead). r.method) (c.forwarded_head.ensures.says h says can);
       whole = ap not (c.has_body.ensures h says);
       sized = sized;
       text = λ moment.
