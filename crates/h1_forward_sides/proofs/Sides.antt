@@ -1,6 +1,7 @@
 -- What a call of a connection brings.
-use Rattle.std.proofs.Common.{◌≡◌, ℕ, ◌+◌, ◌<◌, ◌≤◌, true, false, List, [], ◌∷◌, Option, Some, None, refl, sym, ap, ◌∙◌, subst, arith}
-use Rattle.std.specs.Prelude.{IsTrue, is_some, ⊤}
+use Rattle.std.proofs.Common.{◌≡◌, ℕ, ◌+◌, ◌<◌, ◌≤◌, Bool, true, false, not, ◌&&◌, ◌||◌, List, [], ◌∷◌, length, Option, Some, None, refl, sym, ap, ◌∙◌, subst, arith}
+use Rattle.std.specs.Prelude.{IsTrue, is_some, ⊤, ◌==◌, if◌then◌else◌}
+use Rattle.std.proofs.lemmas.Bool.{false≢true}
 use Rattle.http_config.specs.Config.{Settings}
 use Rattle.h1_model.specs.Event as on
 use Rattle.h1_model.specs.Sums as sums
@@ -15,7 +16,7 @@ use Rattle.h1_connection.specs.State.{State, Stands, GoesOn, Is}
 use Rattle.h1_connection.specs.declared.connection.heads.NextHead.{NextHead}
 use Rattle.h1_connection.specs.declared.connection.heads.NextHead.TheVariants as next
 use Rattle.h1_client_machine.specs.ClientEvent as asked
-use Rattle.h1_client_machine.specs.ClientTrace.{Happened, IsClientTrace, now_of, sending_of, sending_after, text_of_event, given, taken_by}
+use Rattle.h1_client_machine.specs.ClientTrace.{Happened, IsClientTrace, now_of, sending_of, sending_after, text_of_event, given, taken_by, asked_by}
 use Rattle.h1_client_machine.specs.ClientKept.{SendingBody}
 use Rattle.h1_client.specs.Answers as answers
 use Rattle.h1_client.specs.Bodies as bodies
@@ -23,7 +24,9 @@ use Rattle.h1_client.specs.Meaning as asking
 use Rattle.h1_client.specs.State as servers
 use Rattle.h1_client.specs.declared.event.NextAnswer.{NextAnswer}
 use Rattle.h1_client.specs.declared.event.NextAnswer.TheVariants as answered
-use Rattle.h1_machine.specs.Local.{allowed_by}
+use Rattle.h1_machine.specs.Kept.{Kept, is_open}
+use Rattle.h1_machine.specs.Local.{closing_by, allowed_by}
+use Rattle.h1_connection.specs.Given.{next_allowed}
 use Rattle.h1_forward_left.specs.Left.{client_left, AsksNothing, LeavesBehindNext, LeavesBehindPull, server_left, LeavesBehindAnswer, LeavesBehindPiece}
 use Rattle.h1_forward_left.proofs.Client.{next_leaves, pull_of_client, no_more}
 use Rattle.h1_forward_left.proofs.Server.{answer_leaves, piece_leaves, all_left}
@@ -118,6 +121,16 @@ next_left next.Pending a b settings one = λ trace stands.
 next_left (next.Closed end) a b settings one = λ trace stands.
     (next_outcome (next.Closed end) a b trace _ (on.closed _) settings one stands (λ out is. is)).1
 
+-- behind the end nothing is asked for
+over_asks_nothing : (setting : Setting) (k : Kept) → k.is_over ≡ true → next_allowed setting k ≡ true → ⊥
+unfolding allowed_by
+over_asks_nothing setting k over is = by_over k.is_over over is
+  where
+    by_over : (o : Bool) → o ≡ true
+        → ((not o && (if is_some (closing_by setting k) then true else not (is_open k))) && (not (is_some (closing_by setting k)) || (length k.buffered == 0))) ≡ true → ⊥
+    by_over true over is = false≢true is
+    by_over false over is = false≢true over
+
 pub next_less : (n : NextHead) (a b : State) → b.settings ≡ a.settings → GoesOn a on.next (SaysNext n) b → LeavesNext n a b
 next_less (next.Head item) a b settings one = λ trace stands.
     let s = one trace stands in
@@ -126,8 +139,8 @@ next_less (next.Fault fault) a b settings one = λ trace stands.
     (next_outcome (next.Fault fault) a b trace _ (on.fault _) settings one stands (λ out is. is)).0
 next_less next.Pending a b settings one = λ trace stands allowed.
     (next_outcome next.Pending a b trace _ on.pending settings one stands (λ out is. is)).0
-next_less (next.Closed end) a b settings one = λ trace stands.
-    (next_outcome (next.Closed end) a b trace _ (on.closed _) settings one stands (λ out is. is)).0
+next_less (next.Closed end) a b settings one = λ trace stands allowed.
+    absurd (over_asks_nothing (setting_of b.settings) b.kept (next_outcome (next.Closed end) a b trace _ (on.closed _) settings one stands (λ out is. is)).0 allowed)
 
 pub next_brings : (n : NextHead) (a b : State) → b.settings ≡ a.settings → GoesOn a on.next (SaysNext n) b → BringsNext n a b
 next_brings (next.Head item) a b settings one = record {
@@ -153,7 +166,7 @@ next_brings (next.Closed end) a b settings one =
 
 pulled_outcome : (a b : State) (trace : List Step) (Says : on.Outcome → Type 0) (o : on.Outcome) → b.settings ≡ a.settings
     → allowed_by (setting_of a.settings) a.kept on.drop_body ≡ true → GoesOn a on.pull Says b → Stands a trace → ((out : on.Outcome) → Says out → out ≡ o)
-    → LeavesBehindPull o a.kept b.kept
+    → LeavesBehindPull (setting_of a.settings) o a.kept b.kept
 pulled_outcome a b trace Says o settings may one stands is =
     let s = one trace stands in
     pull_of_client (setting_of a.settings) a.kept b.kept trace o stands (stepped a b on.pull o s.0 trace settings (is s.0 s.1) s.3) may
@@ -166,8 +179,11 @@ pull_less (pulled.Trailers entries) a b settings may one = λ trace stands.
     pull_of_client (setting_of a.settings) a.kept b.kept trace (on.trailers s.1.0) stands (stepped a b on.pull (on.trailers s.1.0) s.0 trace settings s.1.1 s.3) may
 pull_less pulled.End a b settings may one = tt
 pull_less (pulled.Broken fault) a b settings may one = tt
-pull_less pulled.Pending a b settings may one = λ trace stands allowed.
-    (pulled_outcome a b trace _ on.pending settings may one stands (λ out is. is)).0
+pull_less pulled.Pending a b settings may one = λ trace stands.
+    let x = pulled_outcome a b trace _ on.pending settings may one stands (λ out is. is) in (
+      λ allowed. x.0,
+      λ bytes is. x.2 bytes (subst (λ (s : Settings). allowed_by (setting_of s) b.kept (on.chunk bytes) ≡ true) settings is),
+    )
 
 pull_left : (n : Pulled) (a b : State) → b.settings ≡ a.settings → allowed_by (setting_of a.settings) a.kept on.drop_body ≡ true
     → GoesOn a on.pull (SaysPulled n) b → LeavesNoMore a b
@@ -215,14 +231,14 @@ asked_step a b event out trace settings stands =
 -- an event that takes and gives nothing, and asks nothing
 pub server_one : (a : servers.State) (event : asked.ClientEvent) (Says : asked.ClientOutcome → Type 0) (b : servers.State) → b.settings ≡ a.settings
     → (one : servers.GoesOn a event Says b) → taken_by event one.outcome ≡ [] → given one.outcome ≡ [] → is_eof event ≡ false
-    → ((n : ℕ) (body : Option SendingBody) → text_of_event event n body ≡ []) → ((body : Option SendingBody) → sending_after event body ≡ body)
+    → ((n : ℕ) (body : Option SendingBody) → text_of_event event n body ≡ []) → ((body : Option SendingBody) → sending_after event body ≡ body) → asked_by event ≡ []
     → ((trace : List Happened) → servers.Stands a trace → server_left b.kept ≤ server_left a.kept) → ServerStays a b
-server_one a event Says b settings one takes gives going says same left = record {
+server_one a event Says b settings one takes gives going says same asks left = record {
   settings = settings;
   stays = λ trace stands. (
     record { event = event; outcome = one.outcome } ∷ trace,
     asked_step a b event one.outcome trace settings (one.stands trace stands),
-    quiet event one.outcome trace takes gives going (says (now_of trace) (sending_of trace)) (same (sending_of trace)),
+    quiet event one.outcome trace takes gives going (says (now_of trace) (sending_of trace)) (same (sending_of trace)) asks,
   );
   left = left;
 }
@@ -269,7 +285,7 @@ answer_left (answered.Closed end) a b one = λ trace stands. answer_outcome a b 
 
 pub next_stays : (n : NextAnswer) (a b : servers.State) → b.settings ≡ a.settings → servers.GoesOn a asked.next (answers.SaysNext n) b → ServerStays a b
 next_stays n a b settings one =
-    server_one a asked.next _ b settings one refl (next_given n one.outcome one.says) refl (λ n body. refl) (λ body. refl) (answer_left n a b one)
+    server_one a asked.next _ b settings one refl (next_given n one.outcome one.says) refl (λ n body. refl) (λ body. refl) refl (answer_left n a b one)
 
 piece_outcome : (a b : servers.State) (Says : asked.ClientOutcome → Type 0) (o : asked.ClientOutcome) → servers.IsAllowed a asked.pull
     → (one : servers.GoesOn a asked.pull Says b) → one.outcome ≡ o → (trace : List Happened) → servers.Stands a trace → LeavesBehindPiece o a.kept b.kept
@@ -297,9 +313,9 @@ piece_left pulled.Pending a b may one = λ trace stands. (piece_outcome a b _ as
 pub pull_stays : (n : Pulled) (a b : servers.State) → b.settings ≡ a.settings → servers.IsAllowed a asked.pull
     → servers.GoesOn a asked.pull (bodies.SaysPulled n) b → ServerStays a b
 pull_stays n a b settings may one =
-    server_one a asked.pull _ b settings one refl (pull_given n one.outcome one.says) refl (λ n body. refl) (λ body. refl) (piece_left n a b may one)
+    server_one a asked.pull _ b settings one refl (pull_given n one.outcome one.says) refl (λ n body. refl) (λ body. refl) refl (piece_left n a b may one)
 
 pub tick_stays : (ms : ℕ) (a b : servers.State) → b.settings ≡ a.settings → servers.GoesOn a (asked.tick ms) (servers.Is asked.done) b → ServerStays a b
 tick_stays ms a b settings one =
-    server_one a (asked.tick ms) _ b settings one refl (ap given one.says) refl (λ n body. refl) (λ body. refl)
+    server_one a (asked.tick ms) _ b settings one refl (ap given one.says) refl (λ n body. refl) (λ body. refl) refl
     (λ trace stands. let same = all_left (asking.setting_of a.settings) a.kept b.kept (asked.tick ms) one.outcome tt one.step in omega (arith, same))

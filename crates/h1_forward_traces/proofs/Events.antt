@@ -11,8 +11,8 @@ use Rattle.h1_model.specs.Sums.{Step}
 use Rattle.h1_machine.specs.Kept.{Kept}
 use Rattle.h1_client_machine.specs.ClientEvent as asked
 use Rattle.h1_client_machine.specs.ClientEvent.{ClientRequest}
-use Rattle.h1_client_machine.specs.ClientKept.{ClientKept, SendingBody, fresh_client}
-use Rattle.h1_client_machine.specs.ClientTrace.{now_of, sending_of, sending_after, text_of, text_of_event, taken, written}
+use Rattle.h1_client_machine.specs.ClientKept.{ClientKept, Waiting, SendingBody, fresh_client}
+use Rattle.h1_client_machine.specs.ClientTrace.{now_of, sending_of, sending_after, text_of, text_of_event, taken, written, asked_of, asked_by}
 use Rattle.h1_forward_model.specs.Past.{ProxyStep, ProxyEvent, ProxyOutcome, Server, new_server, client, server, client_eof, server_eof, connected, to_client, to_server, tick, took, gave, done, client_bytes, client_taken, client_written, client_given, tick_of, last_tick, now, changed_by, newest_changed, servers_behind, servers}
 use Rattle.h1_forward_model.specs.Past as past
 use Rattle.h1_forward_model.specs.Exchange.{pulled}
@@ -61,10 +61,11 @@ quiet_sums event outcome history a b x says same came =
     (ap sums.now same ∙ x.moment ∙ ap (λ (t : Option ℕ). unwrap_or (option_or t (last_tick history)) 0) (sym says.moment))
     came
 
--- nothing is written, or is to be
+-- nothing is written, or is to be, and nothing is asked
 pub record AddsNoText (e : asked.ClientEvent) : Type 0 where
   pub text : (moment : ℕ) (body : Option SendingBody) → text_of_event e moment body ≡ []
   pub sending : (body : Option SendingBody) → sending_after e body ≡ body
+  pub asked : asked_by e ≡ []
 
 -- the event and its outcome change the sums of the newest server as this step does
 pub record ChangesServer (e : asked.ClientEvent) (o : asked.ClientOutcome) (event : ProxyEvent) (outcome : ProxyOutcome) : Type 0 where
@@ -193,6 +194,9 @@ module _ (theirs ours : Setting) where
                       text =
                           ap (λ (more : List ℕ). text_of l.happened ++ more) (adds.text (now_of l.happened) (sending_of l.happened))
                           ∙ append-nil (text_of l.happened) ∙ old.0.text;
+                      asked =
+                          ap (λ (more : List Waiting). map (λ (w : Waiting). w.method) (asked_of l.happened ++ more)) adds.asked
+                          ∙ ap (map (λ (w : Waiting). w.method)) (append-nil (asked_of l.happened)) ∙ old.0.asked;
                       whole = old.0.whole;
                     },
                     old.1,
@@ -222,7 +226,7 @@ module _ (theirs ours : Setting) where
               requests = x.forwarded.sent.requests;
               sent = x.forwarded.sent.sent;
               rightly = x.forwarded.sent.rightly;
-              links = (record { kept = fresh_client; driven = refl; text = refl; whole = tt }, x.forwarded.sent.links);
+              links = (record { kept = fresh_client; driven = refl; text = refl; asked = refl; whole = tt }, x.forwarded.sent.links);
             };
           };
         },
@@ -285,10 +289,10 @@ write_changes n bytes = record {
 }
 
 pub read_adds : (bytes : List ℕ) → AddsNoText (asked.read bytes)
-read_adds bytes = record { text = λ moment body. refl; sending = λ body. refl }
+read_adds bytes = record { text = λ moment body. refl; sending = λ body. refl; asked = refl }
 
 pub eof_adds : AddsNoText asked.eof
-eof_adds = record { text = λ moment body. refl; sending = λ body. refl }
+eof_adds = record { text = λ moment body. refl; sending = λ body. refl; asked = refl }
 
 pub write_adds : (n : ℕ) → AddsNoText (asked.write n)
-write_adds n = record { text = λ moment body. refl; sending = λ body. refl }
+write_adds n = record { text = λ moment body. refl; sending = λ body. refl; asked = refl }

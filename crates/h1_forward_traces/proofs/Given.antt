@@ -1,17 +1,20 @@
--- What was given to a server.
-use Rattle.std.proofs.Common.{◌≡◌, ℕ, List, ◌++◌, map, flat_map, sym, ap, ◌∙◌, append_assoc}
+-- What was given to a server, and what is read of its answers.
+use Rattle.std.proofs.Common.{◌≡◌, ℕ, List, ◌++◌, map, flat_map, sym, ap, ◌∙◌, subst, append_assoc}
 use Rattle.std.specs.List.{AllByRecursion}
 use Rattle.h1_model.specs.Setting.{Setting}
 use Rattle.h1_model.specs.Handed.{Begins}
 use Rattle.h1_model.specs.Parse.{Input, Message, IsParse}
+use Rattle.h1_client_model.specs.AnswerParse.{AnswerMessage, is_interim, AreAnswersIn}
 use Rattle.h1_client_machine.specs.ClientKept.{ClientKept}
 use Rattle.h1_client_machine.specs.ClientTrace.{IsClientTrace, written}
 use Rattle.h1_client_machine.proofs.Written.{is_text}
+use Rattle.h1_client_laws.specs.Parsed.{received_of, ReadsPrefix}
+use Rattle.h1_client_laws.proofs.AllHappened.{all_is_parsed}
 use Rattle.h1_agreement.specs.SentRequest.{sent_request, AreBegunServed}
 use Rattle.h1_forward_model.specs.Forward.{Sent, forwarded, forward}
 use Rattle.h1_forward_model.specs.SentWhole.{IsSentWhole}
 use Rattle.h1_forward_model.proofs.SentRequests.{forwarded_so_far}
-use Rattle.h1_forward_traces.specs.Happenings.{Link, text_sent, IsLink}
+use Rattle.h1_forward_traces.specs.Happenings.{Link, text_sent, methods_sent, IsLink}
 
 pub given_and_waiting : (setting : Setting) (l : Link) (k : ClientKept) → IsLink setting l → IsClientTrace setting l.happened k
     → written l.happened ++ k.buffered ≡ text_sent l.sent
@@ -28,3 +31,9 @@ given_is_read setting l i more ss ms x is all same parse =
     forwarded_so_far i (rest ++ more) ss ms all
     (sym (append_assoc i.bytes rest more) ∙ ap (λ b. (b ++ rest) ++ more) is
     ∙ ap (λ t. t ++ more) (given_and_waiting setting l x.kept x x.driven) ∙ same) parse
+
+pub read_to_their_own : (setting : Setting) (l : Link) (parse : List AnswerMessage) → IsLink setting l
+    → AreAnswersIn is_interim (received_of setting l.happened) (methods_sent l.sent) parse → ReadsPrefix setting l.happened parse
+read_to_their_own setting l parse x are =
+    all_is_parsed setting l.happened x.kept parse x.driven
+    (subst (λ (ms : List (List ℕ)). AreAnswersIn is_interim (received_of setting l.happened) ms parse) (sym x.asked) are)

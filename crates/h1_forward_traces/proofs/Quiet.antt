@@ -8,8 +8,8 @@ use Rattle.h1_model.specs.Event as on
 use Rattle.h1_model.specs.Sums as sums
 use Rattle.h1_model.specs.Sums.{Step, step_taken, step_written, tick_of, head_of}
 use Rattle.h1_client_machine.specs.ClientEvent as asked
-use Rattle.h1_client_machine.specs.ClientKept.{ClientKept}
-use Rattle.h1_client_machine.specs.ClientTrace.{Happened, now_of, sending_of, sending_after, text_of, text_of_event, given, taken, written, taken_by}
+use Rattle.h1_client_machine.specs.ClientKept.{ClientKept, Waiting}
+use Rattle.h1_client_machine.specs.ClientTrace.{Happened, now_of, sending_of, sending_after, text_of, text_of_event, given, taken, written, taken_by, asked_of, asked_by}
 use Rattle.h1_forward_model.specs.Forward.{Sent}
 use Rattle.h1_forward_model.specs.Exchange.{Pulled, pulled, pulled_by, with_head}
 use Rattle.h1_forward_traces.specs.Happenings.{Link, server_of, is_eof}
@@ -46,20 +46,21 @@ pending_brings_nothing = record { head = refl; more = λ p. refl }
 
 -- ---- a server's side
 
--- a step that takes and gives nothing, and adds nothing to the text
+-- a step that takes and gives nothing, adds nothing to the text and asks nothing
 pub quiet : (event : asked.ClientEvent) (o : asked.ClientOutcome) (trace : List Happened) → taken_by event o ≡ [] → given o ≡ [] → is_eof event ≡ false
     → text_of_event event (now_of trace) (sending_of trace) ≡ [] → sending_after event (sending_of trace) ≡ sending_of trace
-    → IsQuiet trace (record { event = event; outcome = o } ∷ trace)
-quiet event o trace took gave going says same = record {
+    → asked_by event ≡ [] → IsQuiet trace (record { event = event; outcome = o } ∷ trace)
+quiet event o trace took gave going says same asks = record {
   taken = ap (λ (b : List ℕ). taken trace ++ b) took ∙ append-nil (taken trace);
   written = ap (λ (b : List ℕ). written trace ++ b) gave ∙ append-nil (written trace);
   ended = ap (λ (e : Bool). e || list_any (λ (s : Happened). is_eof s.event) trace) going;
   text = ap (λ (t : List ℕ). text_of trace ++ t) says ∙ append-nil (text_of trace);
   sending = same;
+  asked = ap (λ (ws : List Waiting). asked_of trace ++ ws) asks ∙ append-nil (asked_of trace);
 }
 
 pub stays_same : (setting : Setting) (k : ClientKept) → Stays setting k k
-stays_same setting k = λ trace stands. (trace, stands, record { taken = refl; written = refl; ended = refl; text = refl; sending = refl })
+stays_same setting k = λ trace stands. (trace, stands, record { taken = refl; written = refl; ended = refl; text = refl; sending = refl; asked = refl })
 
 -- a step that takes and gives nothing leaves what came and was given
 pub quiet_server : (l : Link) (event : asked.ClientEvent) (o : asked.ClientOutcome) (sent : List Sent) → taken_by event o ≡ [] → given o ≡ [] → is_eof event ≡ false

@@ -1,5 +1,5 @@
 -- What is sent on of the newest request is put behind the text of the others.
-use Rattle.std.proofs.Common.{◌≡◌, ℕ, ◌-◌, Bool, true, false, not, ◌&&◌, List, [], ◌∷◌, ◌++◌, flat_map, length, Option, Some, None, refl, sym, ap, ap₂, ◌∙◌, subst, append_assoc, arith}
+use Rattle.std.proofs.Common.{◌≡◌, ℕ, ◌-◌, Bool, true, false, not, ◌&&◌, List, [], ◌∷◌, ◌++◌, map, flat_map, length, Option, Some, None, refl, sym, ap, ap₂, ◌∙◌, subst, append_assoc, append-nil, arith}
 use Rattle.std.specs.Prelude.{IsTrue, is_some, cond, ◌==◌, if◌then◌else◌}
 use Rattle.std.specs.List.{AllByRecursion}
 use Rattle.std.proofs.lemmas.Bool.{false≢true, and_parts}
@@ -14,14 +14,14 @@ use Rattle.h1_machine.specs.Reply.{stated}
 use Rattle.h1_client_model.specs.RequestText.{asked_shape, joined}
 use Rattle.h1_client_machine.specs.ClientEvent as asked
 use Rattle.h1_client_machine.specs.ClientEvent.{ClientRequest}
-use Rattle.h1_client_machine.specs.ClientKept.{ClientKept, SendingBody, client_allows, client_closing, has_room}
+use Rattle.h1_client_machine.specs.ClientKept.{ClientKept, Waiting, SendingBody, waiting_of, client_allows, client_closing, has_room}
 use Rattle.h1_client_machine.specs.ClientStep.{piece_of, IsClientStep, begun_body}
-use Rattle.h1_client_machine.specs.ClientTrace.{now_of, sending_of, text_of, piece_text_of, end_text_of, body_after}
+use Rattle.h1_client_machine.specs.ClientTrace.{asked_of, now_of, sending_of, text_of, piece_text_of, end_text_of, body_after}
 use Rattle.h1_client_machine.proofs.Written.{is_text}
 use Rattle.h1_forward_model.specs.Forward.{is_forwardable, forwarded_size, Sent, forward}
 use Rattle.h1_forward_model.specs.Past.{ProxyStep}
 use Rattle.h1_forward_model.specs.Exchange.{Pulled, pulled}
-use Rattle.h1_forward_traces.specs.Happenings.{Request, Link, Happenings, sent_of, with_sent, all_sent, text_sent, AreWholeBehind, IsRightlySent, IsLink}
+use Rattle.h1_forward_traces.specs.Happenings.{Request, Link, Happenings, sent_of, with_sent, all_sent, text_sent, methods_sent, AreWholeBehind, IsRightlySent, IsLink}
 use Rattle.h1_forward_traces.specs.Carried.{waits, is_sent, IsServer, IsUnderWay, Carries, Keeps}
 use Rattle.h1_forward_traces.specs.Moves.{HasBrought, Brings}
 use Rattle.h1_forward_traces.proofs.TextLemmas.{begun_text, more_text, end_text_sent, missing_more}
@@ -46,6 +46,24 @@ resent p p' at moment ss sent before links is newest all =
 rightly_kept : (p q : Pulled) (at : Option ℕ) → q.head ≡ p.head → IsRightlySent p at → IsRightlySent q at
 rightly_kept p q None same x = x
 rightly_kept p q (Some moment) same x = ap (λ h. is_forwardable h) same ∙ x
+
+-- ---- the requests that were asked
+
+abbrev methods : List Waiting → List (List ℕ)
+methods ws = map (λ (w : Waiting). w.method) ws
+
+methods_more : (ws more : List Waiting) → methods (ws ++ more) ≡ methods ws ++ methods more
+methods_more [] more = refl
+methods_more (w ∷ ws) more = ap (λ (ms : List (List ℕ)). w.method ∷ ms) (methods_more ws more)
+
+none_asked : (ws : List Waiting) → methods (ws ++ []) ≡ methods ws
+none_asked ws = ap methods (append-nil ws)
+
+-- one more is
+asks_more : (ws : List Waiting) (ss : List Sent) (w : Waiting) (s : Sent) → methods ws ≡ methods_sent ss → w.method ≡ s.head.method
+    → methods (ws ++ w ∷ []) ≡ methods_sent (s ∷ ss)
+asks_more ws ss w s before same =
+    methods_more ws (w ∷ []) ∙ ap₂ (λ (ms : List (List ℕ)) (m : List ℕ). ms ++ m ∷ []) before same
 
 -- ---- what may be sent
 
@@ -127,6 +145,7 @@ module _ (theirs ours : Setting) where
           w.forwardable
           (s, server, allowed, step)
           (ap₂ (λ (a b : List ℕ). a ++ b) link.text (w.text moment ∙ sym (begun_text (sent_of r.pulled moment) none is_ended)))
+          (asks_more (asked_of l.happened) l.sent (waiting_of q) (sent_of r.pulled moment) link.asked w.method)
           idle
           (record {
             moment = moment;
@@ -182,6 +201,7 @@ module _ (theirs ours : Setting) where
           ∙ ap (λ n. text_sent (sent_of r.pulled u.moment ∷ u.before) ++ piece_of (asked_shape (forwarded_size p.head.body)) n bytes) body.missing
           ∙ append_assoc (text_sent u.before) (forward (sent_of r.pulled u.moment)) _
           ∙ ap (λ (t : List ℕ). text_sent u.before ++ t) (sym (more_text (sent_of r.pulled u.moment) bytes body.unended)))
+          (none_asked (asked_of l.happened) ∙ link.asked ∙ ap methods_sent u.sent)
           (subst AreWholeBehind u.sent link.whole)
           (record {
             moment = u.moment;
@@ -235,6 +255,7 @@ module _ (theirs ours : Setting) where
           ∙ ap₂ (λ (t : List ℕ) shape. t ++ end_text shape) (link.text ∙ ap text_sent u.sent) body.shape
           ∙ append_assoc (text_sent u.before) (forward (sent_of r.pulled u.moment)) _
           ∙ ap (λ (t : List ℕ). text_sent u.before ++ t) (sym (end_text_sent (sent_of r.pulled u.moment) body.unended)))
+          (none_asked (asked_of l.happened) ∙ link.asked ∙ ap methods_sent u.sent)
           (subst AreWholeBehind u.sent link.whole)
           (record {
             moment = u.moment;
@@ -271,6 +292,7 @@ module _ (theirs ours : Setting) where
           (subst (AllByRecursion (λ (r : Request). IsRightlySent r.pulled r.sent_at)) rs_are x.forwarded.sent.rightly).0)
           server
           (link.text ∙ ap text_sent u.sent)
+          (link.asked ∙ ap methods_sent u.sent)
           (subst AreWholeBehind u.sent link.whole)
           (record {
             moment = u.moment;

@@ -11,12 +11,12 @@ use Rattle.h1_machine.specs.Kept.{Kept}
 use Rattle.h1_machine.specs.StandsFor.{StandsFor}
 use Rattle.h1_client_model.specs.RequestText.{request_text, asked_shape, given_request_text}
 use Rattle.h1_client_machine.specs.ClientEvent.{ClientRequest}
-use Rattle.h1_client_machine.specs.ClientKept.{ClientKept}
-use Rattle.h1_client_machine.specs.ClientTrace.{Happened, IsClientTrace, text_of, taken, written}
+use Rattle.h1_client_machine.specs.ClientKept.{ClientKept, Waiting}
+use Rattle.h1_client_machine.specs.ClientTrace.{Happened, IsClientTrace, text_of, taken, written, asked_of}
 use Rattle.h1_forward_model.specs.Forward.{is_forwardable, forwarded, forwarded_size}
 use Rattle.h1_forward_model.specs.Past.{ProxyStep, Server, servers}
 use Rattle.h1_forward_model.specs.Exchange.{Pulled, unpulled, pulled, newest_pulled, with_head, pulled_by}
-use Rattle.h1_forward_traces.specs.Happenings.{Request, Link, Happenings, sent_of, all_sent, text_sent, AreWhole, AreWholeBehind, IsRightlySent, server_of, IsLink, AreSums}
+use Rattle.h1_forward_traces.specs.Happenings.{Request, Link, Happenings, sent_of, all_sent, text_sent, methods_sent, AreWhole, AreWholeBehind, IsRightlySent, server_of, IsLink, AreSums}
 use Rattle.h1_forward_traces.specs.Carried.{UnderWay, nothing, waits, is_sent, ForwarderKept, IsServer, IsIdle, IsUnderWay, Carries, IsNewest, Keeps}
 use Rattle.h1_forward_traces.specs.Moves.{after_outcome, HasBrought, Brings, IsQuiet, Stays}
 use Rattle.h1_forward_traces.proofs.Quiet.{BringsNothing, nothing_more}
@@ -115,7 +115,16 @@ module _ (theirs ours : Setting) where
                   requests = x.forwarded.sent.requests;
                   sent = x.forwarded.sent.sent ∙ ap (flat_map (λ (l : Link). l.sent)) is;
                   rightly = x.forwarded.sent.rightly;
-                  links = (record { kept = b; driven = did.1; text = did.2.text ∙ old.0.text; whole = old.0.whole }, old.1);
+                  links = (
+                    record {
+                      kept = b;
+                      driven = did.1;
+                      text = did.2.text ∙ old.0.text;
+                      asked = ap (map (λ (w : Waiting). w.method)) did.2.asked ∙ old.0.asked;
+                      whole = old.0.whole;
+                    },
+                    old.1,
+                  );
                 };
               };
             },
@@ -169,12 +178,13 @@ module _ (theirs ours : Setting) where
 
   -- it waits to be sent on
   pub keeps_waiting : (h : Head) (q : ClientRequest) (size : BodySize) (whole : Bool) (client : Kept) (server : Option ClientKept) → is_forwardable h ≡ true
+      → q.head.method ≡ h.method
       → whole ≡ not (has_body h.body)
       → size ≡ forwarded_size h.body
       → ((moment : ℕ) → request_text q.head (asked_shape size) size q.connection moment ≡ given_request_text (forwarded (sent_of (unpulled h) moment)))
       → (history : List ProxyStep) (all : Happenings) → Carries theirs ours (record { client = client; server = server; under_way = nothing }) history all
       → IsNewest h all → Carries theirs ours (record { client = client; server = server; under_way = waits q size whole }) history all
-  keeps_waiting h q size whole client server may is_whole sized text history all x newest = record {
+  keeps_waiting h q size whole client server may method is_whole sized text history all x newest = record {
     stands = x.stands;
     server = x.server;
     under_way = subst (λ (rs : List Request). IsUnderWay (waits q size whole) rs server all.links) (sym newest.are) (
@@ -183,6 +193,7 @@ module _ (theirs ours : Setting) where
         unsent = newest.unsent;
         untaken = newest.pulled ∙ ap (λ (p : Pulled). unpulled p.head) (sym newest.pulled);
         forwardable = ap (λ (p : Pulled). is_forwardable p.head) newest.pulled ∙ may;
+        method = method ∙ sym (ap (λ (p : Pulled). p.head.method) newest.pulled);
         whole = is_whole ∙ sym (ap (λ (p : Pulled). not (has_body p.head.body)) newest.pulled);
         sized = sized ∙ sym (ap (λ (p : Pulled). forwarded_size p.head.body) newest.pulled);
         text = λ moment. text moment ∙ sym (ap (λ (p : Pulled). given_request_text (forwarded (sent_of p moment))) newest.pulled);
@@ -240,10 +251,11 @@ module _ (theirs ours : Setting) where
       → Carries theirs ours (record { client = a; server = Some s; under_way = u }) history all → StandsFor theirs b trace → HasBrought o all.client trace
       → sums.head_of o ≡ None → r'.pulled ≡ pulled_by o r.pulled → server_of l' ≡ server_of l
       → all_sent (r' ∷ rs) ≡ flat_map (λ (l : Link). l.sent) (l' ∷ links) → IsRightlySent r'.pulled r'.sent_at
-      → IsClientTrace ours l'.happened t → text_of l'.happened ≡ text_sent l'.sent → AreWholeBehind l'.sent
+      → IsClientTrace ours l'.happened t → text_of l'.happened ≡ text_sent l'.sent
+      → map (λ (w : Waiting). w.method) (asked_of l'.happened) ≡ methods_sent l'.sent → AreWholeBehind l'.sent
       → IsUnderWay v (r' ∷ rs) (Some t) (l' ∷ links)
       → (after : Happenings) × Carries theirs ours (record { client = b; server = Some t; under_way = v }) history after
-  changed o a b s t u v r r' rs l l' links history all trace requests_are links_are x stands did none pulled_is same sent_is right driven text whole under =
+  changed o a b s t u v r r' rs l l' links history all trace requests_are links_are x stands did none pulled_is same sent_is right driven text asked whole under =
       let new : Happenings = record { client = trace; requests = r' ∷ rs; links = l' ∷ links } in (
         new,
         record {
@@ -264,7 +276,7 @@ module _ (theirs ours : Setting) where
               sent = sent_is;
               rightly = (right, (subst (AllByRecursion (λ (r : Request). IsRightlySent r.pulled r.sent_at)) requests_are x.forwarded.sent.rightly).1);
               links = (
-                record { kept = t; driven = driven; text = text; whole = whole },
+                record { kept = t; driven = driven; text = text; asked = asked; whole = whole },
                 (subst (AllByRecursion (IsLink ours)) links_are x.forwarded.sent.links).1,
               );
             };

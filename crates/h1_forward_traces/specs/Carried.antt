@@ -47,6 +47,7 @@ pub record IsWaiting (q : ClientRequest) (size : BodySize) (is_whole : Bool) (r 
   pub unsent : r.sent_at ≡ None
   pub untaken : r.pulled ≡ unpulled r.pulled.head
   pub forwardable : is_forwardable r.pulled.head ≡ true
+  pub method : q.head.method ≡ r.pulled.head.method
   pub whole : is_whole ≡ not (has_body r.pulled.head.body)
   pub sized : size ≡ forwarded_size r.pulled.head.body
   pub text : (moment : ℕ) → request_text q.head (asked_shape size) size q.connection moment ≡ given_request_text (forwarded (sent_of r.pulled moment))

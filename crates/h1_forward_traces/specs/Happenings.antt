@@ -8,7 +8,7 @@ use Rattle.h1_model.specs.Trace.{IsTrace}
 use Rattle.h1_client_machine.specs.ClientEvent as asked
 use Rattle.h1_client_machine.specs.ClientEvent.{ClientEvent}
 use Rattle.h1_client_machine.specs.ClientKept.{ClientKept}
-use Rattle.h1_client_machine.specs.ClientTrace.{Happened, IsClientTrace, taken, written, text_of}
+use Rattle.h1_client_machine.specs.ClientTrace.{Happened, IsClientTrace, taken, written, text_of, asked_of}
 use Rattle.h1_forward_model.specs.Forward.{is_forwardable, Sent, forward}
 use Rattle.h1_forward_model.specs.Past.{ProxyStep, Server, client_taken, client_given, servers, now}
 use Rattle.h1_forward_model.specs.Exchange.{Pulled, pulled}
@@ -52,6 +52,11 @@ abbrev pub text_sent : List Sent → List ℕ
 text_sent [] = []
 text_sent (s ∷ before) = text_sent before ++ forward s
 
+-- their methods, the oldest first
+abbrev pub methods_sent : List Sent → List (List ℕ)
+methods_sent [] = []
+methods_sent (s ∷ before) = methods_sent before ++ s.head.method ∷ []
+
 abbrev pub AreWhole : List Sent → Type 0
 AreWhole ss = AllByRecursion (λ s. s.is_whole ≡ true) ss
 
@@ -75,12 +80,14 @@ is_eof _ = false
 abbrev pub server_of : Link → Server
 server_of l = record { came = taken l.happened; ended = list_any (λ s. is_eof s.event) l.happened; given = written l.happened }
 
--- Each event on it was allowed and made the step of a client's connection; and all that was to be written on it, written or not, is
--- the text of the requests that were sent on it, each but the newest whole, and not one byte else.
+-- Each event on it was allowed and made the step of a client's connection; all that was to be written on it, written or not, is the
+-- text of the requests that were sent on it, each but the newest whole, and not one byte else; and these are the requests that were
+-- asked on it, so that its answers are read each to its own.
 pub record IsLink (setting : Setting) (l : Link) : Type 0 where
   pub kept : ClientKept
   pub driven : IsClientTrace setting l.happened kept
   pub text : text_of l.happened ≡ text_sent l.sent
+  pub asked : map (λ w. w.method) (asked_of l.happened) ≡ methods_sent l.sent
   pub whole : AreWholeBehind l.sent
 
 -- ---- the theorem

@@ -7,7 +7,7 @@ use Rattle.h1_machine.specs.Kept.{Kept}
 use Rattle.h1_machine.specs.StandsFor.{StandsFor}
 use Rattle.h1_client_machine.specs.ClientEvent as asked
 use Rattle.h1_client_machine.specs.ClientKept.{ClientKept}
-use Rattle.h1_client_machine.specs.ClientTrace.{Happened, IsClientTrace, sending_of, taken, written, text_of}
+use Rattle.h1_client_machine.specs.ClientTrace.{Happened, IsClientTrace, sending_of, taken, written, text_of, asked_of}
 use Rattle.h1_forward_model.specs.Exchange.{Pulled, pulled, newest_pulled, with_head}
 use Rattle.h1_forward_traces.specs.Happenings.{server_of}
 
@@ -27,13 +27,14 @@ abbrev pub Brings : Setting → on.Outcome → Kept → Kept → Type 0
 Brings setting o a b =
     (trace : List sums.Step) → StandsFor setting a trace → (new : List sums.Step) × StandsFor setting b new × HasBrought o trace new
 
--- Nothing came from a server or was written towards it, or is to be.
+-- Nothing came from a server or was written towards it, or is to be, and nothing was asked.
 pub record IsQuiet (old new : List Happened) : Type 0 where
   pub taken : taken new ≡ taken old
   pub written : written new ≡ written old
   pub ended : (server_of (record { happened = new; sent = [] })).ended ≡ (server_of (record { happened = old; sent = [] })).ended
   pub text : text_of new ≡ text_of old
   pub sending : sending_of new ≡ sending_of old
+  pub asked : asked_of new ≡ asked_of old
 
 -- a connection to a server did something of its own
 abbrev pub Stays : Setting → ClientKept → ClientKept → Type 0

@@ -1,15 +1,17 @@
-//! What a server got, by all that happened to a forwarder.
+//! What a server got, and what is read of its answers, by all that happened to a forwarder.
 ghost use Rattle.std.specs.Prelude.{◌≡◌, List, ℕ, ◌++◌, map, flat_map};
 ghost use Rattle.std.specs.List.{AllByRecursion};
 ghost use Rattle.h1_model.specs.Setting.{Setting};
 ghost use Rattle.h1_model.specs.Handed.{Begins};
 ghost use Rattle.h1_model.specs.Parse.{Input, Message, IsParse};
+ghost use Rattle.h1_client_model.specs.AnswerParse.{AnswerMessage, is_interim, AreAnswersIn};
 ghost use Rattle.h1_client_machine.specs.ClientKept.{ClientKept};
 ghost use Rattle.h1_client_machine.specs.ClientTrace.{IsClientTrace, written};
+ghost use Rattle.h1_client_laws.specs.Parsed.{received_of, ReadsPrefix};
 ghost use Rattle.h1_agreement.specs.SentRequest.{sent_request, AreBegunServed};
 ghost use Rattle.h1_forward_model.specs.Forward.{Sent, forwarded, forward};
 ghost use Rattle.h1_forward_model.specs.SentWhole.{IsSentWhole};
-ghost use Rattle.h1_forward_traces.specs.Happenings.{Link, text_sent, server_of, IsLink};
+ghost use Rattle.h1_forward_traces.specs.Happenings.{Link, text_sent, methods_sent, server_of, IsLink};
 
 /// What was given to a server, and behind it what waits to be, is the text of the requests that were sent on its connection, and not
 /// one byte else. Of a connection that is closed, what was given is the beginning of that text.
@@ -26,4 +28,12 @@ pub fn servers_read_the_requests()
     ensures { (setting : Setting) (l : Link) (i : Input) (more : List ℕ) (ss : List Sent) (ms : List Message) → IsLink setting l
         → i.bytes ≡ (server_of l).given → AllByRecursion (IsSentWhole i.hold_size) ss → text_sent l.sent ++ more ≡ flat_map forward ss
         → IsParse i ms → AreBegunServed i 0 ms (map (λ s. sent_request (forwarded s)) ss) }
+{}
+
+/// All that a server's connection hands out is the beginning of the answers in the bytes that came on it, each to its own request: the
+/// first to the first request that was sent on it, and after each final answer the next to the next one. An interim answer leaves
+/// its request waiting.
+pub fn answers_are_read_to_their_requests()
+    ensures { (setting : Setting) (l : Link) (parse : List AnswerMessage) → IsLink setting l
+        → AreAnswersIn is_interim (received_of setting l.happened) (methods_sent l.sent) parse → ReadsPrefix setting l.happened parse }
 {}

@@ -185,7 +185,7 @@ waits_from item p u idle may is = λ history all h says f newest.
         server = f.server;
         carries =
             keeps_waiting (theirs p) (ours p) h (request_of u.head) (size_of u.size) u.sent.is_whole p.client.kept (kept_of p).server (may h says)
-            w.whole w.sized w.text history all old newest;
+            w.method w.whole w.sized w.text history all old newest;
       },
     )
 
@@ -313,3 +313,9 @@ refused_moves p u waiting = λ history all f.
     let x = as_under_way p history all (waits (request_of u.head) (size_of u.size) u.sent.is_whole) is f.carries in
     let y = keeps_refused (theirs p) (ours p) (request_of u.head) (size_of u.size) u.sent.is_whole p.client.kept (kept_of p).server history all x in
     (y.0, record { client = f.client; server = f.server; carries = y.1 })
+
+-- ---- behind a head
+
+-- it goes on
+pub from_then : (item : HeadItem) (a b c : Proxy) → GoesFrom item a b → Goes b c → GoesFrom item a c
+from_then item a b c first second = λ history all h says f newest. let y = first history all h says f newest in second history y.0 y.1

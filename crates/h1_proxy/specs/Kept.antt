@@ -95,6 +95,7 @@ pub record Runs (this : Sent) (p : Proxy) : Type 0 where
 
 -- a request that waits is what is to be sent on for this head
 pub record IsUnsent (u : Unsent) (h : Head) : Type 0 where
+  pub method : (request_of u.head).head.method ≡ h.method
   pub whole : u.sent.is_whole ≡ not (has_body h.body)
   pub sized : size_of u.size ≡ forwarded_size h.body
   pub text : (moment : ℕ) → request_text (request_of u.head).head (asked_shape (size_of u.size)) (size_of u.size) (request_of u.head).connection moment

@@ -12,4 +12,4 @@ returns-clause-leaves c =
     pull_less c.in_ok-pulled.pulled c.args.client.now c.pull.new.self c.pull.ensures.settings (sym c.can_pull.ensures.value ∙ c.if-not-can_pull.false) c.in_ok-pulled.ensures.stands
 
 pub returns-then-not-can_pull-clause-leaves : goal.returns-then-not-can_pull-clause-leaves
-returns-then-not-can_pull-clause-leaves c = λ trace stands allowed. absurd (false≢true (sym c.if-not-can_pull.true ∙ c.can_pull.ensures.value ∙ allowed))
+returns-then-not-can_pull-clause-leaves c = λ trace stands. (λ allowed. absurd (false≢true (sym c.if-not-can_pull.true ∙ c.can_pull.ensures.value ∙ allowed)), λ bytes is. is)

@@ -1,0 +1,12 @@
+use Rattle.std.proofs.Common.{Some, None}
+use Rattle.h1_proxy.proofs.Moves.{goes_then, fails, resent}
+use Rattle.h1_proxy.proofs.proxy.Proxy.break_body.Goals as goal
+
+pub returns-then-is_answered : goal.returns-then-is_answered
+returns-then-is_answered c =
+    resent (record c.args.self.now { server = Some c.args.server }) c.args.sent c.broken.result
+    (record { unsent = c.requires.unsent; sent = c.requires.sent }) c.broken.ensures
+
+pub returns-else-is_answered : goal.returns-else-is_answered
+returns-else-is_answered c =
+    goes_then _ _ _ (fails (record c.args.self.now { server = Some c.args.server }) c.requires.unsent) c.in_ok-reply.ensures

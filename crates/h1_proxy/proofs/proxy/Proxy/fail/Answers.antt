@@ -1,0 +1,11 @@
+use Rattle.std.proofs.Common.{None}
+use Rattle.h1_proxy.proofs.Moves.{goes_then, fails, client_done}
+use Rattle.h1_proxy.proofs.proxy.Proxy.fail.Goals as goal
+
+pub returns-then-is_answered : goal.returns-then-is_answered
+returns-then-is_answered c =
+    goes_then _ _ _ (fails (record c.args.self.now { server = None }) c.requires)
+    (client_done (record c.args.self.now { server = None; sent = None }) c.cut_reply.new.client c.cut_reply.ensures)
+
+pub returns-else-is_answered : goal.returns-else-is_answered
+returns-else-is_answered c = goes_then _ _ _ (fails (record c.args.self.now { server = None }) c.requires) c.in_ok-reply.ensures

@@ -1,0 +1,11 @@
+use Rattle.std.proofs.Common.{Some, None, refl}
+use Rattle.h1_proxy.proofs.Moves.{fails, is_over}
+use Rattle.h1_proxy.proofs.proxy.Proxy.part.Goals as goal
+
+pub returns-then-may_keep : goal.returns-then-may_keep
+returns-then-may_keep c =
+    is_over (record c.args.self.now { server = Some c.args.server }) c.args.sent (record { unsent = c.requires.unsent; sent = c.requires.sent })
+    (c.may_keep.ensures c.if-may_keep.true)
+
+pub returns-else-may_keep : goal.returns-else-may_keep
+returns-else-may_keep c = fails (record c.args.self.now { server = Some c.args.server }) c.requires.unsent
