@@ -17,8 +17,11 @@ use Rattle.h1_proxy.specs.Kept.{is_closing, server_text}
 -- ---- nothing is left
 
 -- turns are made: the client's connection isn't to end, and fewer than 32768 bytes wait towards either side
+abbrev pub has_room : Proxy → Bool
+has_room p = nat_lt (length p.client.kept.buffered) MAX_WAITING && nat_lt (length (server_text p.server)) MAX_WAITING
+
 abbrev pub may_turn : Proxy → Bool
-may_turn p = not (is_closing p) && nat_lt (length p.client.kept.buffered) MAX_WAITING && nat_lt (length (server_text p.server)) MAX_WAITING
+may_turn p = has_room p && not (is_closing p)
 
 -- Of a request that was sent on: no head of its answer is there whole; once it was passed on, no byte of the answer's body is there,
 -- where there is room for one; and no byte of the request's body is, where one may be sent.
@@ -80,16 +83,32 @@ pub record Told (p : Proxy) : Type 0 where
   pub stands : Stands p.client trace
   pub server : ServerTold p.server
 
--- no more is left
-abbrev pub LeavesNoMore : Proxy → Proxy → Type 0
-LeavesNoMore old new = Told old → Told new × (left new ≤ left old)
+-- so much less is left
+abbrev pub LeavesLess : ℕ → Proxy → Proxy → Type 0
+LeavesLess n old new = Told old → Told new × (left new + n ≤ left old)
+
+-- at most so much more is left
+abbrev pub LeavesMore : ℕ → Proxy → Proxy → Type 0
+LeavesMore n old new = Told old → Told new × (left new ≤ left old + n)
 
 -- something was done, so that less is left; or nothing is
 abbrev pub Works : Bool → Proxy → Proxy → Type 0
 Works true old new = Told old → Told new × (work new ≤ left old)
-Works false old new = Told old → Told new × RestsWhereItMay new
+Works false old new = Told old → Told new × Rests new
 
 -- a turn that does something is made only where turns may be
 abbrev pub Turns : Bool → Proxy → Proxy → Type 0
 Turns true old new = Told old → Told new × (work new < work old)
 Turns false old new = Told old → Told new × RestsWhereItMay new
+
+-- More of the request's body was sent on; or none is there, or may be sent, and all else is as before.
+pub record BodyRests (sent : Sent) (server : servers.State) (old new : Proxy) : Type 0 where
+  pub unsent : new.unsent ≡ None
+  pub sent_is : new.sent ≡ Some sent
+  pub server_is : new.server ≡ Some server
+  pub pieces : (bytes : List ℕ) → IsAllowed new.client (on.chunk bytes) → IsAllowed old.client (on.chunk bytes)
+  pub body : sent.is_whole ≡ false → sent.is_broken ≡ false → SendsBody server → IsAllowed new.client on.drop_body → new.client.kept.unread ≡ []
+
+abbrev pub WorksBody : Sent → servers.State → Bool → Proxy → Proxy → Type 0
+WorksBody sent server true old new = Works true (record old { server = Some server }) new
+WorksBody sent server false old new = Told (record old { server = Some server }) → Told new × BodyRests sent server old new

@@ -225,7 +225,9 @@ impl Proxy {
     }
 
     /// As many bytes as are kept wait towards one of the sides.
-    pub(crate) fn is_full(&self) -> bool {
+    pub(crate) fn is_full(&self) -> bool
+        ensures { result ≡ not (has_room self.now) }
+    {
         self.client.buffered() >= MAX_WAITING || self.server_front().len() >= MAX_WAITING
     }
 }

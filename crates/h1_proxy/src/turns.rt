@@ -1,10 +1,13 @@
 //! What a forwarder does of its own between two events, turn by turn.
 #![tactic(auto)]
 
-ghost use Rattle.std.specs.Prelude.{◌≡◌, IsTrue, None, Some, true, OnOk};
+ghost use Rattle.std.specs.Prelude.{◌≡◌, ◌+◌, ◌*◌, IsTrue, List, None, Some, true, false, not, is_some, OnOk, IfOk};
+ghost use Rattle.h1_forward_model.specs.Past.{ProxyStep};
+ghost use Rattle.h1_forward_traces.specs.Happenings.{Happenings};
 ghost use Rattle.h1_model.specs.Event as on;
 ghost use Rattle.h1_forward_sides.specs.Sides.{ServerStays, SendsBody};
-ghost use Rattle.h1_proxy.specs.Kept.{Goes, GoesWith, GoesUnsent, GoesFrom, IsIdle, Runs};
+ghost use Rattle.h1_proxy.specs.Kept.{Forwards, Goes, GoesWith, GoesUnsent, GoesFrom, IsIdle, Runs};
+ghost use Rattle.h1_proxy.specs.Rests.{may_turn, RestsWhereItMay, LeavesLess, LeavesMore, Works, WorksBody, Turns};
 
 use crate::proxy::{Proxy, Sent, Unsent};
 use h1_forward_sides::client::{
@@ -20,9 +23,10 @@ use h1_forward_heads::{
 impl Proxy {
     /// Makes turns until none is possible.
     pub(crate) fn settle(&mut self) -> Result<(), NoMemory>
-        ensures { OnOk result (Goes self.old self.new) }
+        ensures goes { OnOk result (Goes self.old self.new) }
+        ensures rests { OnOk result ((history : List ProxyStep) (all : Happenings) → Forwards self.old history all → RestsWhereItMay self.new) }
     {
-        for _ in 0..u64::MAX {
+        for turn in 0..self.most_turns() {
             let more = self.turn()?;
             if !more {
                 return Ok(());
@@ -31,9 +35,17 @@ impl Proxy {
         Ok(())
     }
 
+    // No more turns are possible one after another: 32 for each byte that may be held of a side, and 8.
+    fn most_turns(&self) -> usize
+        ensures { result ≡ 32 * self.now.config.h1_hold_size + 8 }
+    {
+        32 * self.config.h1_hold_size() + 8
+    }
+
     // The first turn that is possible; whether there was one.
     fn turn(&mut self) -> Result<bool, NoMemory>
-        ensures { OnOk result (Goes self.old self.new) }
+        ensures goes { OnOk result (Goes self.old self.new) }
+        ensures works { IfOk result (λ more. Turns more self.old self.new) }
     {
         if self.is_still() {
             return Ok(false);
@@ -51,7 +63,9 @@ impl Proxy {
     }
 
     // No turn is possible: enough waits towards a side, or the client's connection is to end.
-    fn is_still(&self) -> bool {
+    fn is_still(&self) -> bool
+        ensures { result ≡ not (may_turn self.now) }
+    {
         if self.is_full() {
             return true;
         }
@@ -60,7 +74,8 @@ impl Proxy {
 
     // Sends a request on, where there is a server connection.
     fn send(&mut self, unsent: Unsent) -> Result<bool, NoMemory>
-        ensures { OnOk result (GoesUnsent unsent self.old self.new) }
+        ensures goes { OnOk result (GoesUnsent unsent self.old self.new) }
+        ensures works { IfOk result (λ more. Works more (record self.old { unsent = Some unsent }) self.new) }
     {
         if self.is_server_over() {
             self.server = None;
@@ -83,7 +98,9 @@ impl Proxy {
     }
 
     // The server connection closes: it has ended, or bytes came that no request asked for.
-    fn is_server_over(&self) -> bool {
+    fn is_server_over(&self) -> bool
+        ensures { IsTrue result → is_some self.now.server ≡ true }
+    {
         match &self.server {
             Some(server) => server.closing().is_some(),
             None => false,
@@ -101,7 +118,8 @@ impl Proxy {
     // No request waits.
     fn go_on(&mut self) -> Result<bool, NoMemory>
         requires unsent { self.old.unsent ≡ None }
-        ensures { OnOk result (Goes self.old self.new) }
+        ensures goes { OnOk result (Goes self.old self.new) }
+        ensures works { IfOk result (λ more. Works more self.old self.new) }
     {
         match self.sent {
             Some(sent) => {
@@ -118,7 +136,8 @@ impl Proxy {
     // No request is under way: the server connection is idle.
     fn begin(&mut self) -> Result<bool, NoMemory>
         requires idle { IsIdle self.old }
-        ensures { OnOk result (Goes self.old self.new) }
+        ensures goes { OnOk result (Goes self.old self.new) }
+        ensures works { IfOk result (λ more. Works more self.old self.new) }
     {
         if self.is_server_over() {
             self.server = None;
@@ -130,7 +149,8 @@ impl Proxy {
 
     fn take_head(&mut self) -> Result<bool, NoMemory>
         requires idle { IsIdle self.old }
-        ensures { OnOk result (Goes self.old self.new) }
+        ensures goes { OnOk result (Goes self.old self.new) }
+        ensures works { IfOk result (λ more. Works more self.old self.new) }
     {
         match next_head(&mut self.client)? {
             NextHead::Head(item) => {
@@ -146,7 +166,8 @@ impl Proxy {
     // A request is open. One that can't be sent on gets 501, and the server connection is closed.
     fn open(&mut self, item: HeadItem) -> Result<(), NoMemory>
         requires idle { IsIdle self.old }
-        ensures { OnOk result (GoesFrom item self.old self.new) }
+        ensures goes { OnOk result (GoesFrom item self.old self.new) }
+        ensures works { OnOk result (LeavesMore 3 self.old self.new) }
     {
         if !is_forwardable(&item) {
             self.server = None;
@@ -161,7 +182,8 @@ impl Proxy {
     // A request is under way.
     fn pass_on(&mut self, sent: Sent) -> Result<bool, NoMemory>
         requires runs { Runs sent self.old }
-        ensures { OnOk result (Goes self.old self.new) }
+        ensures goes { OnOk result (Goes self.old self.new) }
+        ensures works { IfOk result (λ more. Works more self.old self.new) }
     {
         match self.server.take() {
             Some(server) => {
@@ -178,7 +200,8 @@ impl Proxy {
     // What is there of its answer is passed on; else more of its body.
     fn pass(&mut self, sent: Sent, server: ClientConnection) -> Result<bool, NoMemory>
         requires runs { Runs sent self.old }
-        ensures { OnOk result (GoesWith server self.old self.new) }
+        ensures goes { OnOk result (GoesWith server self.old self.new) }
+        ensures works { IfOk result (λ more. Works more (record self.old { server = Some server }) self.new) }
     {
         if sent.is_answered {
             let more = self.pass_piece(sent, server)?;
@@ -191,7 +214,8 @@ impl Proxy {
     // The head of its answer is passed on, where it is there; else more of its body.
     fn pass_answer(&mut self, sent: Sent, server: ClientConnection) -> Result<bool, NoMemory>
         requires runs { Runs sent self.old }
-        ensures { OnOk result (GoesWith server self.old self.new) }
+        ensures goes { OnOk result (GoesWith server self.old self.new) }
+        ensures works { IfOk result (λ more. sent.is_answered ≡ false → Works more (record self.old { server = Some server }) self.new) }
     {
         let mut server = server;
         match next_answer(&mut server)? {
@@ -222,7 +246,8 @@ impl Proxy {
         item: ResponseItem,
     ) -> Result<(), NoMemory>
         requires runs { Runs sent self.old }
-        ensures { OnOk result (GoesWith server self.old self.new) }
+        ensures goes { OnOk result (GoesWith server self.old self.new) }
+        ensures works { OnOk result (LeavesLess 0 (record self.old { server = Some server }) self.new) }
     {
         match answer_use(&item) {
             AnswerUse::Refuse => {
@@ -247,7 +272,8 @@ impl Proxy {
         item: ResponseItem,
     ) -> Result<(), NoMemory>
         requires runs { Runs sent self.old }
-        ensures { OnOk result (GoesWith server self.old self.new) }
+        ensures goes { OnOk result (GoesWith server self.old self.new) }
+        ensures works { OnOk result (LeavesLess 0 (record self.old { server = Some server }) self.new) }
     {
         let size = reply_size(sent.is_head, &item);
         let sent = answered(sent, says_close(&item));
@@ -267,7 +293,8 @@ impl Proxy {
     // More of the answer's body is passed on, where there is room for it; else more of the request's.
     fn pass_piece(&mut self, sent: Sent, server: ClientConnection) -> Result<bool, NoMemory>
         requires runs { Runs sent self.old }
-        ensures { OnOk result (GoesWith server self.old self.new) }
+        ensures goes { OnOk result (GoesWith server self.old self.new) }
+        ensures works { IfOk result (λ more. sent.is_answered ≡ true → Works more (record self.old { server = Some server }) self.new) }
     {
         if !self.client.can_chunk() {
             let more = self.pass_body(sent, server)?;
@@ -302,7 +329,8 @@ impl Proxy {
     // All of the answer was passed on.
     fn end_reply(&mut self, sent: Sent, server: ClientConnection) -> Result<(), NoMemory>
         requires runs { Runs sent self.old }
-        ensures { OnOk result (GoesWith server self.old self.new) }
+        ensures goes { OnOk result (GoesWith server self.old self.new) }
+        ensures works { OnOk result (LeavesLess 0 (record self.old { server = Some server; sent = None }) self.new) }
     {
         leave_body(&mut self.client);
         put_end(&mut self.client)?;
@@ -313,7 +341,8 @@ impl Proxy {
     // The reply is complete. The server connection is kept where both sides are whole and it goes on.
     fn part(&mut self, sent: Sent, server: ClientConnection)
         requires runs { Runs sent self.old }
-        ensures { GoesWith server self.old self.new }
+        ensures goes { GoesWith server self.old self.new }
+        ensures works { LeavesLess 0 (record self.old { server = Some server; sent = None }) self.new }
     {
         self.sent = None;
         if may_keep(sent, &server) {
@@ -326,7 +355,8 @@ impl Proxy {
     // More of the request's body goes towards the server.
     fn pass_body(&mut self, sent: Sent, server: ClientConnection) -> Result<bool, NoMemory>
         requires runs { Runs sent self.old }
-        ensures { OnOk result (GoesWith server self.old self.new) }
+        ensures goes { OnOk result (GoesWith server self.old self.new) }
+        ensures works { IfOk result (λ more. WorksBody sent server more self.old self.new) }
     {
         if !may_send(sent, &server) {
             self.server = Some(server);
@@ -364,7 +394,8 @@ impl Proxy {
     // connection is closed.
     fn break_body(&mut self, sent: Sent, server: ClientConnection) -> Result<(), NoMemory>
         requires runs { Runs sent self.old }
-        ensures { OnOk result (GoesWith server self.old self.new) }
+        ensures goes { OnOk result (GoesWith server self.old self.new) }
+        ensures works { OnOk result (sent.is_whole ≡ false → sent.is_broken ≡ false → LeavesLess 1 (record self.old { server = Some server }) self.new) }
     {
         if sent.is_answered {
             self.server = Some(server);
@@ -381,7 +412,8 @@ impl Proxy {
     // that is cut.
     fn fail(&mut self, sent: Sent) -> Result<(), NoMemory>
         requires unsent { self.old.unsent ≡ None }
-        ensures { OnOk result (Goes (record self.old { server = None }) self.new) }
+        ensures goes { OnOk result (Goes (record self.old { server = None }) self.new) }
+        ensures works { OnOk result (LeavesLess 0 (record self.old { server = None; sent = None }) self.new) }
     {
         self.server = None;
         self.sent = None;
@@ -395,7 +427,8 @@ impl Proxy {
 
     // A reply of the forwarder's own.
     pub(crate) fn reply(&mut self, refusal: Refusal) -> Result<(), NoMemory>
-        ensures { OnOk result (Goes self.old self.new) }
+        ensures goes { OnOk result (Goes self.old self.new) }
+        ensures works { OnOk result (LeavesLess 0 self.old self.new) }
     {
         leave_body(&mut self.client);
         let head = refusal.head(self.alloc);
@@ -406,7 +439,8 @@ impl Proxy {
 
 // The head of its answer was passed on.
 fn answered(sent: Sent, closes: bool) -> Sent
-    ensures { result.is_whole ≡ sent.is_whole }
+    ensures whole { result.is_whole ≡ sent.is_whole }
+    ensures broken { result.is_broken ≡ sent.is_broken }
 {
     Sent {
         is_answered: true,
@@ -427,7 +461,8 @@ fn whole(sent: Sent) -> Sent
 
 // Its body broke.
 fn broken(sent: Sent) -> Sent
-    ensures { result.is_whole ≡ sent.is_whole }
+    ensures whole { result.is_whole ≡ sent.is_whole }
+    ensures broken { result.is_broken ≡ true }
 {
     Sent {
         is_broken: true,
@@ -450,7 +485,9 @@ fn may_keep(sent: Sent, server: &ClientConnection) -> bool
 
 // Whether more of the request's body may be sent on.
 fn may_send(sent: Sent, server: &ClientConnection) -> bool
-    ensures { IsTrue result → SendsBody server.now }
+    ensures sends { IsTrue result → SendsBody server.now }
+    ensures more { IsTrue result → (sent.is_whole ≡ false) × (sent.is_broken ≡ false) }
+    ensures none { result ≡ false → sent.is_whole ≡ false → sent.is_broken ≡ false → SendsBody server.now → ⊥ }
 {
     if sent.is_whole {
         return false;

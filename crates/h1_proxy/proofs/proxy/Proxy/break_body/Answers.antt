@@ -1,12 +1,24 @@
 use Rattle.std.proofs.Common.{Some, None}
 use Rattle.h1_proxy.proofs.Moves.{goes_then, fails, resent}
+use Rattle.h1_proxy.proofs.Work.{less_then, weaker, closed_less, drop_sent, remarked, broken_mark}
 use Rattle.h1_proxy.proofs.proxy.Proxy.break_body.Goals as goal
 
-pub returns-then-is_answered : goal.returns-then-is_answered
-returns-then-is_answered c =
+pub returns-then-is_answered-clause-goes : goal.returns-then-is_answered-clause-goes
+returns-then-is_answered-clause-goes c =
     resent (record c.args.self.now { server = Some c.args.server }) c.args.sent c.broken.result
-    (record { unsent = c.requires.unsent; sent = c.requires.sent }) c.broken.ensures
+    (record { unsent = c.requires.unsent; sent = c.requires.sent }) c.broken.ensures.whole
 
-pub returns-else-is_answered : goal.returns-else-is_answered
-returns-else-is_answered c =
-    goes_then _ _ _ (fails (record c.args.self.now { server = Some c.args.server }) c.requires.unsent) c.in_ok-reply.ensures
+pub returns-else-is_answered-clause-goes : goal.returns-else-is_answered-clause-goes
+returns-else-is_answered-clause-goes c =
+    goes_then _ _ _ (fails (record c.args.self.now { server = Some c.args.server }) c.requires.unsent) c.in_ok-reply.ensures.goes
+
+pub returns-then-is_answered-clause-works : goal.returns-then-is_answered-clause-works
+returns-then-is_answered-clause-works c = λ unended unbroken.
+    remarked 1 (record c.args.self.now { server = Some c.args.server }) c.args.sent c.broken.result
+    (record { unsent = c.requires.unsent; sent = c.requires.sent }) (broken_mark c.args.sent c.broken.result unended unbroken c.broken.ensures.broken)
+
+pub returns-else-is_answered-clause-works : goal.returns-else-is_answered-clause-works
+returns-else-is_answered-clause-works c = λ unended unbroken.
+    let p = record c.args.self.now { server = None } in
+    less_then 1 (record c.args.self.now { server = Some c.args.server }) p _ (closed_less c.args.self.now c.args.server)
+    (less_then 0 p (record p { sent = None }) _ (drop_sent p) c.in_ok-reply.ensures.works)

@@ -1,12 +1,21 @@
 use Rattle.std.proofs.Common.{Some, None, refl}
 use Rattle.h1_proxy.proofs.Moves.{goes_then, client_done}
+use Rattle.h1_model.specs.Event as on
+use Rattle.h1_proxy.proofs.Work.{less_then, client_less}
 use Rattle.h1_proxy.proofs.proxy.Proxy.end_reply.Goals as goal
 
 pub part-requires : goal.part-requires
 part-requires c = record { unsent = c.requires.unsent; sent = c.requires.sent }
 
-pub returns : goal.returns
-returns c =
+pub returns-clause-goes : goal.returns-clause-goes
+returns-clause-goes c =
     let p = record c.args.self.now { server = Some c.args.server } in
     goes_then _ _ _ (client_done p c.leave_body.new.client c.leave_body.ensures)
-    (goes_then _ _ _ (client_done (record p { client = c.leave_body.new.client }) c.put_end.new.client c.in_ok-put_end.ensures) c.part.ensures)
+    (goes_then _ _ _ (client_done (record p { client = c.leave_body.new.client }) c.put_end.new.client c.in_ok-put_end.ensures) c.part.ensures.goes)
+
+pub returns-clause-works : goal.returns-clause-works
+returns-clause-works c =
+    let p = record c.args.self.now { server = Some c.args.server; sent = None } in
+    let q = record p { client = c.leave_body.new.client } in
+    less_then 0 p q _ (client_less on.done p c.leave_body.new.client c.leave_body.ensures)
+    (less_then 0 q (record q { client = c.put_end.new.client }) _ (client_less on.done q c.put_end.new.client c.in_ok-put_end.ensures) c.part.ensures.works)

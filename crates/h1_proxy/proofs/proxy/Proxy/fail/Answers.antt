@@ -1,11 +1,19 @@
 use Rattle.std.proofs.Common.{None}
 use Rattle.h1_proxy.proofs.Moves.{goes_then, fails, client_done}
+use Rattle.h1_model.specs.Event as on
+use Rattle.h1_proxy.proofs.Work.{client_less}
 use Rattle.h1_proxy.proofs.proxy.Proxy.fail.Goals as goal
 
-pub returns-then-is_answered : goal.returns-then-is_answered
-returns-then-is_answered c =
+pub returns-then-is_answered-clause-goes : goal.returns-then-is_answered-clause-goes
+returns-then-is_answered-clause-goes c =
     goes_then _ _ _ (fails (record c.args.self.now { server = None }) c.requires)
     (client_done (record c.args.self.now { server = None; sent = None }) c.cut_reply.new.client c.cut_reply.ensures)
 
-pub returns-else-is_answered : goal.returns-else-is_answered
-returns-else-is_answered c = goes_then _ _ _ (fails (record c.args.self.now { server = None }) c.requires) c.in_ok-reply.ensures
+pub returns-else-is_answered-clause-goes : goal.returns-else-is_answered-clause-goes
+returns-else-is_answered-clause-goes c = goes_then _ _ _ (fails (record c.args.self.now { server = None }) c.requires) c.in_ok-reply.ensures.goes
+
+pub returns-then-is_answered-clause-works : goal.returns-then-is_answered-clause-works
+returns-then-is_answered-clause-works c = client_less on.done (record c.args.self.now { server = None; sent = None }) c.cut_reply.new.client c.cut_reply.ensures
+
+pub returns-else-is_answered-clause-works : goal.returns-else-is_answered-clause-works
+returns-else-is_answered-clause-works c = c.in_ok-reply.ensures.works

@@ -1,11 +1,18 @@
 use Rattle.std.proofs.Common.{Some, None, refl}
 use Rattle.h1_proxy.proofs.Moves.{fails, is_over}
+use Rattle.h1_proxy.proofs.Work.{less_same, weaker, closed_less}
 use Rattle.h1_proxy.proofs.proxy.Proxy.part.Goals as goal
 
-pub returns-then-may_keep : goal.returns-then-may_keep
-returns-then-may_keep c =
+pub returns-then-may_keep-clause-goes : goal.returns-then-may_keep-clause-goes
+returns-then-may_keep-clause-goes c =
     is_over (record c.args.self.now { server = Some c.args.server }) c.args.sent (record { unsent = c.requires.unsent; sent = c.requires.sent })
     (c.may_keep.ensures c.if-may_keep.true)
 
-pub returns-else-may_keep : goal.returns-else-may_keep
-returns-else-may_keep c = fails (record c.args.self.now { server = Some c.args.server }) c.requires.unsent
+pub returns-else-may_keep-clause-goes : goal.returns-else-may_keep-clause-goes
+returns-else-may_keep-clause-goes c = fails (record c.args.self.now { server = Some c.args.server }) c.requires.unsent
+
+pub returns-then-may_keep-clause-works : goal.returns-then-may_keep-clause-works
+returns-then-may_keep-clause-works c = less_same (record c.args.self.now { server = Some c.args.server; sent = None })
+
+pub returns-else-may_keep-clause-works : goal.returns-else-may_keep-clause-works
+returns-else-may_keep-clause-works c = weaker 1 _ _ (closed_less (record c.args.self.now { sent = None }) c.args.server)

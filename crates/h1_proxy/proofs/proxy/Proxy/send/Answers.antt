@@ -1,16 +1,17 @@
-use Rattle.std.proofs.Common.{sym, Some}
+use Rattle.std.proofs.Common.{sym, Some, true, arith}
 use Rattle.h1_proxy.proofs.Moves.{goes_then, of_server, closes, closes_as, server_moves, asks}
 use Rattle.h1_proxy.proofs.Done.{did_ask}
+use Rattle.h1_proxy.proofs.Work.{over_less, waits_rests, works, works_of_server, then_less, less_then, server_less, server_asks, sent_less, over_as}
 use Rattle.h1_proxy.proofs.proxy.Proxy.send.Goals as goal
 
-pub returns-then-is_server_over : goal.returns-then-is_server_over
-returns-then-is_server_over c = closes (record c.args.self.now { unsent = Some c.args.unsent })
+pub returns-then-is_server_over-clause-goes : goal.returns-then-is_server_over-clause-goes
+returns-then-is_server_over-clause-goes c = closes (record c.args.self.now { unsent = Some c.args.unsent })
 
-pub returns-in-None : goal.returns-in-None
-returns-in-None c = closes_as (record c.args.self.now { unsent = Some c.args.unsent }) c.take.new.self c.take.ensures.after
+pub returns-in-None-clause-goes : goal.returns-in-None-clause-goes
+returns-in-None-clause-goes c = closes_as (record c.args.self.now { unsent = Some c.args.unsent }) c.take.new.self c.take.ensures.after
 
-pub returns-then-ask : goal.returns-then-ask
-returns-then-ask c =
+pub returns-then-ask-clause-goes : goal.returns-then-ask-clause-goes
+returns-then-ask-clause-goes c =
     let p = record c.args.self.now { unsent = Some c.args.unsent } in
     let s = c.in-Some.server in
     let t = c.tell_time.new.server in
@@ -18,5 +19,28 @@ returns-then-ask c =
     (goes_then _ _ _ (server_moves p s t c.tell_time.ensures)
       (asks p c.args.unsent t c.ask.new.server (did_ask _ _ _ _ _ c.if-ask.true c.in_ok-ask.ensures)))
 
-pub returns-else-ask : goal.returns-else-ask
-returns-else-ask c = closes_as (record c.args.self.now { unsent = Some c.args.unsent }) c.take.new.self c.take.ensures.after
+pub returns-else-ask-clause-goes : goal.returns-else-ask-clause-goes
+returns-else-ask-clause-goes c = closes_as (record c.args.self.now { unsent = Some c.args.unsent }) c.take.new.self c.take.ensures.after
+
+pub returns-then-is_server_over-clause-works : goal.returns-then-is_server_over-clause-works
+returns-then-is_server_over-clause-works c =
+    works 1 _ _ (omega arith) (over_less (record c.args.self.now { unsent = Some c.args.unsent }) (c.is_server_over.ensures c.if-is_server_over.true))
+
+pub returns-in-None-clause-works : goal.returns-in-None-clause-works
+returns-in-None-clause-works c = waits_rests c.args.self.now c.args.unsent c.take.new.self (sym c.in-None.ensures.value) c.take.ensures.after
+
+pub returns-then-ask-clause-works : goal.returns-then-ask-clause-works
+returns-then-ask-clause-works c =
+    let p = record c.args.self.now { unsent = Some c.args.unsent } in
+    let s = c.in-Some.server in
+    let t = c.tell_time.new.server in
+    let u = c.ask.new.server in
+    works_of_server true p _ (Some s) (sym c.in-Some.ensures.value)
+    (works 1 (record p { server = Some s }) _ (omega arith)
+     (then_less 1 (record p { server = Some s }) (record p { server = Some t }) _ (server_less p s t c.tell_time.ensures)
+      (then_less 1 (record p { server = Some t }) (record p { server = Some u }) _ (server_asks p c.args.unsent t u (did_ask _ _ _ _ _ c.if-ask.true c.in_ok-ask.ensures))
+       (sent_less (record p { server = Some u }) c.args.unsent))))
+
+pub returns-else-ask-clause-works : goal.returns-else-ask-clause-works
+returns-else-ask-clause-works c =
+    works 1 _ _ (omega arith) (over_as (record c.args.self.now { unsent = Some c.args.unsent }) c.in-Some.server c.take.new.self (sym c.in-Some.ensures.value) c.take.ensures.after)

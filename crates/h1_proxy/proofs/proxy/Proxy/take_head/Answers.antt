@@ -1,17 +1,33 @@
 use Rattle.h1_proxy.proofs.Moves.{client_done, from_head}
+use Rattle.h1_model.specs.Event as on
+use Rattle.h1_proxy.proofs.Work.{works_more, head_less, fault_works, idle_rests}
 use Rattle.h1_proxy.proofs.proxy.Proxy.take_head.Goals as goal
 
 pub open-requires : goal.open-requires
 open-requires c = record { unsent = c.requires.unsent; sent = c.requires.sent }
 
-pub returns-in-Head : goal.returns-in-Head
-returns-in-Head c = from_head c.in-Head.item c.args.self.now _ c.next_head.new.client c.requires c.in-Head.ensures c.in_ok-open-in-Head.ensures
+pub returns-in-Head-clause-goes : goal.returns-in-Head-clause-goes
+returns-in-Head-clause-goes c = from_head c.in-Head.item c.args.self.now _ c.next_head.new.client c.requires c.in-Head.ensures.brings c.in_ok-open-in-Head.ensures.goes
 
-pub returns-in-Fault : goal.returns-in-Fault
-returns-in-Fault c = client_done c.args.self.now c.next_head.new.client c.in-Fault.ensures
+pub returns-in-Fault-clause-goes : goal.returns-in-Fault-clause-goes
+returns-in-Fault-clause-goes c = client_done c.args.self.now c.next_head.new.client c.in-Fault.ensures.brings
 
-pub returns-in-Pending : goal.returns-in-Pending
-returns-in-Pending c = client_done c.args.self.now c.next_head.new.client c.in-Pending.ensures
+pub returns-in-Pending-clause-goes : goal.returns-in-Pending-clause-goes
+returns-in-Pending-clause-goes c = client_done c.args.self.now c.next_head.new.client c.in-Pending.ensures.brings
 
-pub returns-in-Closed : goal.returns-in-Closed
-returns-in-Closed c = client_done c.args.self.now c.next_head.new.client c.in-Closed.ensures
+pub returns-in-Closed-clause-goes : goal.returns-in-Closed-clause-goes
+returns-in-Closed-clause-goes c = client_done c.args.self.now c.next_head.new.client c.in-Closed.ensures.brings
+
+pub returns-in-Head-clause-works : goal.returns-in-Head-clause-works
+returns-in-Head-clause-works c =
+    works_more c.args.self.now (record c.args.self.now { client = c.next_head.new.client }) _
+    (head_less c.in-Head.item c.args.self.now c.next_head.new.client c.in-Head.ensures.brings c.in-Head.ensures.leaves) c.in_ok-open-in-Head.ensures.works
+
+pub returns-in-Fault-clause-works : goal.returns-in-Fault-clause-works
+returns-in-Fault-clause-works c = fault_works on.done c.args.self.now c.next_head.new.client c.in-Fault.ensures.brings c.in-Fault.ensures.leaves
+
+pub returns-in-Pending-clause-works : goal.returns-in-Pending-clause-works
+returns-in-Pending-clause-works c = idle_rests on.done c.args.self.now c.next_head.new.client c.requires c.in-Pending.ensures.brings c.in-Pending.ensures.leaves
+
+pub returns-in-Closed-clause-works : goal.returns-in-Closed-clause-works
+returns-in-Closed-clause-works c = idle_rests on.done c.args.self.now c.next_head.new.client c.requires c.in-Closed.ensures.brings c.in-Closed.ensures.leaves

@@ -1,15 +1,29 @@
 use Rattle.std.proofs.Common.{sym, ◌∙◌}
 use Rattle.h1_proxy.proofs.Moves.{goes_same, of_unsent, of_no_unsent}
+use Rattle.h1_proxy.proofs.Work.{turns, still_rests, works_of_unsent, not_still, runs_on}
 use Rattle.h1_proxy.proofs.proxy.Proxy.turn.Goals as goal
 
-pub returns-then-is_still : goal.returns-then-is_still
-returns-then-is_still c = goes_same _
+pub returns-then-is_still-clause-goes : goal.returns-then-is_still-clause-goes
+returns-then-is_still-clause-goes c = goes_same _
 
-pub returns-in_ok-more-in-Some : goal.returns-in_ok-more-in-Some
-returns-in_ok-more-in-Some c = of_unsent _ _ c.in-Some.unsent (sym c.in-Some.ensures.value) c.in_ok-more-in-Some.ensures
+pub returns-in_ok-more-in-Some-clause-goes : goal.returns-in_ok-more-in-Some-clause-goes
+returns-in_ok-more-in-Some-clause-goes c = of_unsent _ _ c.in-Some.unsent (sym c.in-Some.ensures.value) c.in_ok-more-in-Some.ensures.goes
 
 pub go_on-requires : goal.go_on-requires
 go_on-requires c = c.take.ensures.after
 
-pub returns-in_ok-more : goal.returns-in_ok-more
-returns-in_ok-more c = of_no_unsent _ _ _ (sym c.in-None.ensures.value ∙ sym c.take.ensures.after) c.in_ok-more.ensures
+pub returns-in_ok-more-clause-goes : goal.returns-in_ok-more-clause-goes
+returns-in_ok-more-clause-goes c = of_no_unsent _ _ _ (sym c.in-None.ensures.value ∙ sym c.take.ensures.after) c.in_ok-more.ensures.goes
+
+pub returns-then-is_still-clause-works : goal.returns-then-is_still-clause-works
+returns-then-is_still-clause-works c = still_rests c.args.self.now (not_still _ _ c.is_still.ensures c.if-is_still.true)
+
+pub returns-in_ok-more-in-Some-clause-works : goal.returns-in_ok-more-in-Some-clause-works
+returns-in_ok-more-in-Some-clause-works c =
+    turns c.in_ok-more-in-Some.more c.args.self.now c.send.new.self (runs_on _ _ c.is_still.ensures c.if-is_still.false)
+    (works_of_unsent c.in_ok-more-in-Some.more c.args.self.now c.send.new.self _ (sym c.in-Some.ensures.value) c.in_ok-more-in-Some.ensures.works)
+
+pub returns-in_ok-more-clause-works : goal.returns-in_ok-more-clause-works
+returns-in_ok-more-clause-works c =
+    turns c.in_ok-more.more c.args.self.now c.go_on.new.self (runs_on _ _ c.is_still.ensures c.if-is_still.false)
+    (works_of_unsent c.in_ok-more.more c.args.self.now c.go_on.new.self _ (sym c.in-None.ensures.value ∙ sym c.take.ensures.after) c.in_ok-more.ensures.works)
