@@ -1,15 +1,40 @@
 //! One exchange of a file, and whether it goes as it has to.
 use crate::forwarder::play;
 use http_types::NoMemory;
-use std::alloc::{AllocError, Global};
-use vectors::{CaseError, Form, put_all, put_clear, put_decimal, put_text};
+use std::alloc::{AllocError, AllocGlobal, Global};
+use std::io;
+use vectors::{BlockPlayer, CaseError, Form, put_all, put_clear, put_decimal, put_text};
 
 /// The longest pieces in which what is read is brought, besides whole.
 const LONGEST_PIECE: usize = 8;
 
+/// Plays exchanges.
+#[derive(Clone, Copy, Debug)]
+pub struct Exchanges;
+
+impl<R: AllocGlobal> BlockPlayer<R> for Exchanges {
+    fn kind(&self) -> &str {
+        "exchanges"
+    }
+
+    fn play_block(&self, rt: &R, lines: &[&[u8]], different: &mut Vec<u8>) -> io::Result<bool> {
+        let alloc = rt.alloc();
+        let Some((name, others)) = lines.split_first() else {
+            return Ok(false);
+        };
+        let Some(mut block) = Block::begun(alloc, name) else {
+            return Ok(false);
+        };
+        for line in others {
+            block.take(alloc, line)?;
+        }
+        Ok(block.is_answered(alloc, different)?)
+    }
+}
+
 /// An exchange, as far as its lines were read.
 #[derive(Drop)]
-pub struct Block<'a> {
+struct Block<'a> {
     name: &'a [u8],
     script: Vec<&'a [u8]>,
     expected: Vec<u8>,
@@ -18,7 +43,7 @@ pub struct Block<'a> {
 
 impl<'a> Block<'a> {
     /// The block that the line names, where it begins one.
-    pub fn begun(alloc: Global, line: &'a [u8]) -> Option<Block<'a>> {
+    fn begun(alloc: Global, line: &'a [u8]) -> Option<Block<'a>> {
         Some(Block {
             name: line.strip_prefix(b"== ")?,
             script: Vec::new(alloc),
@@ -27,8 +52,8 @@ impl<'a> Block<'a> {
         })
     }
 
-    /// Takes a line of what the caller does, or of what it gets.
-    pub fn take(&mut self, alloc: Global, line: &'a [u8]) -> Result<(), NoMemory> {
+    /// Takes a line of what the owner does, or of what it gets.
+    fn take(&mut self, alloc: Global, line: &'a [u8]) -> Result<(), NoMemory> {
         if let Some(event) = line.strip_prefix(b"> ") {
             return Ok(self.script.push(event)?);
         }
@@ -45,9 +70,9 @@ impl<'a> Block<'a> {
         }
     }
 
-    /// Whether the caller gets what it has to, whole and, unless a line says `whole`, in pieces of each size. The first
-    /// that differs is written to `different`.
-    pub fn is_answered(&self, alloc: Global, different: &mut Vec<u8>) -> Result<bool, NoMemory> {
+    /// Whether the owner gets what it has to, whole and, unless a line says `whole`, in pieces of each size. The first that
+    /// differs is written to `different`.
+    fn is_answered(&self, alloc: Global, different: &mut Vec<u8>) -> Result<bool, NoMemory> {
         if !self.goes(alloc, usize::MAX, different)? {
             return Ok(false);
         }

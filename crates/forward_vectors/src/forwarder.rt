@@ -56,7 +56,7 @@ fn plain(proxy: &mut Proxy, word: &[u8], found: &mut Vec<u8>) -> Result<(), Case
     }
 }
 
-// `client "BYTES"`: bytes come from the client.
+// `client "BYTES"`: bytes come from the client. Where its connection is to end, no more are brought.
 fn read_client(
     proxy: &mut Proxy,
     bytes: &[u8],
@@ -69,7 +69,11 @@ fn read_client(
             break;
         }
         let (piece, others) = rest.split_at(size.min(rest.len()));
-        if proxy.read_client(piece)? < piece.len() {
+        let count = proxy.read_client(piece)?;
+        if proxy.closing().is_some() {
+            return put_text(found, "closing");
+        }
+        if count < piece.len() {
             return put_text(found, "not all");
         }
         rest = others;
@@ -77,7 +81,7 @@ fn read_client(
     put_text(found, "done")
 }
 
-// `server "BYTES"`: bytes come from the server.
+// `server "BYTES"`: bytes come from the server. Where its connection is closed, no more are brought.
 fn read_server(
     proxy: &mut Proxy,
     bytes: &[u8],
@@ -90,7 +94,11 @@ fn read_server(
             break;
         }
         let (piece, others) = rest.split_at(size.min(rest.len()));
-        if proxy.read_server(piece)? < piece.len() {
+        let count = proxy.read_server(piece)?;
+        if !proxy.has_server() {
+            return put_text(found, "closed");
+        }
+        if count < piece.len() {
             return put_text(found, "not all");
         }
         rest = others;

@@ -6,13 +6,13 @@
 #![tactic(auto)]
 
 mod block;
-mod files;
 mod forwarder;
 
-use crate::files::play_arguments;
+use crate::block::Exchanges;
 use std::io;
 use std::process::ExitCode;
+use vectors::play_blocks;
 
 fn main(rt: HostRuntime) -> io::Result<ExitCode> {
-    play_arguments(&rt)
+    play_blocks(&Exchanges, &rt)
 }

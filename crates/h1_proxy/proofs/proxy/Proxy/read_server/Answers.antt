@@ -1,0 +1,8 @@
+use Rattle.h1_forward_model.specs.Past.{server, took}
+use Rattle.h1_proxy.proofs.Moves.{by_then}
+use Rattle.h1_proxy.proofs.proxy.Proxy.read_server.Goals as goal
+
+pub returns : goal.returns
+returns c = record {
+  goes = by_then (server c.args.bytes.now) (took c.in_ok-taken.taken) c.args.self.now c.take_from_server.new.self c.settle.new.self c.in_ok-taken.ensures.goes c.in_ok-settle.ensures;
+}
