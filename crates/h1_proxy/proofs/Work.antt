@@ -23,14 +23,14 @@ use Rattle.h1_forward_left.specs.Left.{request_left as rest_left, client_left, a
 use Rattle.h1_forward_left.proofs.Pulls.{at_most_one}
 use Rattle.h1_forward_left.proofs.Server.{all_left, held_fits}
 use Rattle.h1_forward_sides.specs.Sides.{ClientBrings, ClientBringsHead, ServerStays, ServerDid, SendsBody}
-use Rattle.h1_forward_model.specs.Past.{ProxyStep}
+use Rattle.h1_forward_model.specs.Past.{ProxyStep, ProxyEvent, ProxyOutcome}
 use Rattle.h1_forward_traces.specs.Happenings.{Happenings, Link}
 use Rattle.h1_forward_traces.specs.Carried.{IsServer, Carries}
 use Rattle.h1_proxy.specs.declared.proxy.Proxy.{Proxy}
 use Rattle.h1_proxy.specs.declared.proxy.Unsent.{Unsent}
 use Rattle.h1_proxy.specs.declared.proxy.Sent.{Sent}
-use Rattle.h1_proxy.specs.Kept.{is_closing, HasSettings, Forwards, Goes, Runs, IsIdle}
-use Rattle.h1_proxy.specs.Rests.{has_room, may_turn, RestsSent, RestsBy, Rests, RestsWhereItMay, sent_left, request_left, side_left, left, going_on, work, ServerTold, Told, LeavesLess, LeavesMore, Works, Turns, BodyRests, WorksBody}
+use Rattle.h1_proxy.specs.Kept.{is_closing, HasSettings, Forwards, Goes, GoesBy, Runs, IsIdle}
+use Rattle.h1_proxy.specs.Rests.{has_room, may_turn, RestsSent, RestsBy, Rests, RestsWhereItMay, Settles, sent_left, request_left, side_left, left, going_on, work, ServerTold, Told, LeavesLess, LeavesMore, Works, Turns, BodyRests, WorksBody}
 
 -- ---- one after another
 
@@ -409,14 +409,20 @@ more_turns true n p q r is told old x = let y = x told in (y.0, let less = y.1 i
 more_turns false n p q r is told old x = absurd (false≢true is)
 
 pub no_more_turns : (more : Bool) (n : ℕ) (p q r : Proxy) → HasTurned n p q → more ≡ false → Turns more q r
-    → (history : List ProxyStep) (all : Happenings) → Forwards p history all → RestsWhereItMay r
-no_more_turns true n p q r turned is x history all f = absurd (true≢false is)
-no_more_turns false n p q r turned is x history all f = (x (turned.works history all f).0).1
+    → Settles p r
+no_more_turns true n p q r turned is x = absurd (true≢false is)
+no_more_turns false n p q r turned is x = λ history all f. (x (turned.works history all f).0).1
 
 -- more than are possible weren't
 pub too_many : (n : ℕ) (p q : Proxy) → HasTurned n p q → 32 * p.config.h1_hold_size + 8 ≤ n
-    → (history : List ProxyStep) (all : Happenings) → Forwards p history all → RestsWhereItMay q
-too_many n p q turned many history all f =
+    → Settles p q
+too_many n p q turned many = λ history all f.
     let y = turned.works history all f in
     let old = y.1 in
     absurd (omega (arith, old, many, work_fits p history all f))
+
+-- ---- events
+
+-- nothing is left behind what settles
+pub rests_by : (event : ProxyEvent) (outcome : ProxyOutcome) (a b c : Proxy) → GoesBy event outcome a b → Settles b c → Settles a c
+rests_by event outcome a b c first second = λ history all f. let y = first history all f in second (record { event = event; outcome = outcome } ∷ history) y.0 y.1

@@ -12,7 +12,9 @@ use Rattle.h1_forward_sides.specs.Sides.{SendsBody}
 use Rattle.h1_proxy.specs.declared.proxy.Proxy.{Proxy}
 use Rattle.h1_proxy.specs.declared.proxy.Unsent.{Unsent}
 use Rattle.h1_proxy.specs.declared.proxy.Sent.{Sent}
-use Rattle.h1_proxy.specs.Kept.{is_closing, server_text}
+use Rattle.h1_forward_model.specs.Past.{ProxyStep}
+use Rattle.h1_forward_traces.specs.Happenings.{Happenings}
+use Rattle.h1_proxy.specs.Kept.{is_closing, server_text, Forwards}
 
 -- ---- nothing is left
 
@@ -45,6 +47,10 @@ Rests p = RestsBy p.unsent p.sent p.client p.server
 
 abbrev pub RestsWhereItMay : Proxy → Type 0
 RestsWhereItMay p = may_turn p ≡ true → Rests p
+
+-- whatever happened before, nothing is left to do behind it
+abbrev pub Settles : Proxy → Proxy → Type 0
+Settles old new = (history : List ProxyStep) (all : Happenings) → Forwards old history all → RestsWhereItMay new
 
 -- ---- how much is left
 

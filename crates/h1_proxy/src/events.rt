@@ -1,15 +1,13 @@
 //! The events.
 #![tactic(auto)]
 
-ghost use Rattle.std.specs.Prelude.{◌≡◌, ◌≤◌, List, length, take, None, Some, IsTrue, IfOk, OnOk};
+ghost use Rattle.std.specs.Prelude.{◌≡◌, ◌≤◌, length, take, None, Some, IsTrue, IfOk, OnOk};
 ghost use Rattle.h1_model.specs.Event as on;
 ghost use Rattle.h1_client_machine.specs.ClientEvent as asked;
 ghost use Rattle.h1_forward_model.specs.Past.{took, gave, done};
 ghost use Rattle.h1_forward_model.specs.Past as event;
-ghost use Rattle.h1_forward_model.specs.Past.{ProxyStep};
-ghost use Rattle.h1_forward_traces.specs.Happenings.{Happenings};
-ghost use Rattle.h1_proxy.specs.Rests.{RestsWhereItMay};
-ghost use Rattle.h1_proxy.specs.Kept.{Forwards, client_of, server_of, wants_server, server_text, server_allows, client_takes, Goes, GoesBy};
+ghost use Rattle.h1_proxy.specs.Rests.{Settles};
+ghost use Rattle.h1_proxy.specs.Kept.{client_of, server_of, wants_server, server_text, server_allows, client_takes, Goes, GoesBy};
 
 use crate::proxy::Proxy;
 use h1_client::ClientConnection;
@@ -20,7 +18,7 @@ impl Proxy {
     /// Takes bytes that were read from the client, from the first on, and says how many: `client_room` at most.
     pub fn read_client(&mut self, bytes: &[u8]) -> Result<usize, NoMemory>
         ensures goes { IfOk result (λ count. GoesBy (event.client bytes.now) (took count) self.old self.new) }
-        ensures rests { OnOk result ((history : List ProxyStep) (all : Happenings) → Forwards self.old history all → RestsWhereItMay self.new) }
+        ensures rests { OnOk result (Settles self.old self.new) }
     {
         let taken = self.take_from_client(bytes)?;
         self.settle()?;
@@ -43,7 +41,7 @@ impl Proxy {
     /// Takes bytes that were read from the server, from the first on, and says how many: `server_room` at most.
     pub fn read_server(&mut self, bytes: &[u8]) -> Result<usize, NoMemory>
         ensures goes { IfOk result (λ count. GoesBy (event.server bytes.now) (took count) self.old self.new) }
-        ensures rests { OnOk result ((history : List ProxyStep) (all : Happenings) → Forwards self.old history all → RestsWhereItMay self.new) }
+        ensures rests { OnOk result (Settles self.old self.new) }
     {
         let taken = self.take_from_server(bytes)?;
         self.settle()?;
@@ -70,7 +68,7 @@ impl Proxy {
     /// The client sends no more bytes.
     pub fn client_eof(&mut self) -> Result<(), NoMemory>
         ensures goes { OnOk result (GoesBy event.client_eof done self.old self.new) }
-        ensures rests { OnOk result ((history : List ProxyStep) (all : Happenings) → Forwards self.old history all → RestsWhereItMay self.new) }
+        ensures rests { OnOk result (Settles self.old self.new) }
     {
         self.end_client();
         self.settle()?;
@@ -90,7 +88,7 @@ impl Proxy {
     pub fn server_eof(&mut self) -> Result<(), NoMemory>
         requires can_read_server { IsTrue (server_allows (server_of self.old) asked.eof) }
         ensures goes { OnOk result (GoesBy event.server_eof done self.old self.new) }
-        ensures rests { OnOk result ((history : List ProxyStep) (all : Happenings) → Forwards self.old history all → RestsWhereItMay self.new) }
+        ensures rests { OnOk result (Settles self.old self.new) }
     {
         self.end_server();
         self.settle()?;
@@ -112,7 +110,7 @@ impl Proxy {
     pub fn connected(&mut self) -> Result<(), NoMemory>
         requires wants_server { IsTrue (wants_server self.old) }
         ensures goes { OnOk result (GoesBy event.connected done self.old self.new) }
-        ensures rests { OnOk result ((history : List ProxyStep) (all : Happenings) → Forwards self.old history all → RestsWhereItMay self.new) }
+        ensures rests { OnOk result (Settles self.old self.new) }
     {
         self.server = Some(ClientConnection::new(self.alloc, self.config));
         self.settle()?;
@@ -123,7 +121,7 @@ impl Proxy {
     pub fn refused(&mut self) -> Result<(), NoMemory>
         requires wants_server { IsTrue (wants_server self.old) }
         ensures goes { OnOk result (GoesBy event.refused done self.old self.new) }
-        ensures rests { OnOk result ((history : List ProxyStep) (all : Happenings) → Forwards self.old history all → RestsWhereItMay self.new) }
+        ensures rests { OnOk result (Settles self.old self.new) }
     {
         self.unsent = None;
         self.sent = None;
@@ -137,7 +135,7 @@ impl Proxy {
         requires can_write_client { IsTrue (client_takes self.old (on.write count)) }
         requires fits { count ≤ length (client_of self.old).kept.buffered }
         ensures goes { OnOk result (GoesBy (event.to_client count) (gave (take count (client_of self.old).kept.buffered)) self.old self.new) }
-        ensures rests { OnOk result ((history : List ProxyStep) (all : Happenings) → Forwards self.old history all → RestsWhereItMay self.new) }
+        ensures rests { OnOk result (Settles self.old self.new) }
     {
         self.client.advance(count);
         self.settle()?;
@@ -149,7 +147,7 @@ impl Proxy {
         requires can_write_server { IsTrue (server_allows (server_of self.old) (asked.write count)) }
         requires fits { count ≤ length (server_text (server_of self.old)) }
         ensures goes { OnOk result (GoesBy (event.to_server count) (gave (take count (server_text (server_of self.old)))) self.old self.new) }
-        ensures rests { OnOk result ((history : List ProxyStep) (all : Happenings) → Forwards self.old history all → RestsWhereItMay self.new) }
+        ensures rests { OnOk result (Settles self.old self.new) }
     {
         self.write_server(count);
         self.settle()?;
@@ -173,7 +171,7 @@ impl Proxy {
     pub fn tick(&mut self, moment: u64) -> Result<Expiry, NoMemory>
         requires can_tick { IsTrue (client_takes self.old (on.tick moment)) }
         ensures goes { OnOk result (GoesBy (event.tick moment) done self.old self.new) }
-        ensures rests { OnOk result ((history : List ProxyStep) (all : Happenings) → Forwards self.old history all → RestsWhereItMay self.new) }
+        ensures rests { OnOk result (Settles self.old self.new) }
     {
         let expiry = self.client.tick(moment)?;
         self.moment = Some(moment);

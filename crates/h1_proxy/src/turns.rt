@@ -1,13 +1,11 @@
 //! What a forwarder does of its own between two events, turn by turn.
 #![tactic(auto)]
 
-ghost use Rattle.std.specs.Prelude.{◌≡◌, ◌+◌, ◌*◌, IsTrue, List, None, Some, true, false, not, is_some, OnOk, IfOk};
-ghost use Rattle.h1_forward_model.specs.Past.{ProxyStep};
-ghost use Rattle.h1_forward_traces.specs.Happenings.{Happenings};
+ghost use Rattle.std.specs.Prelude.{◌≡◌, ◌+◌, ◌*◌, IsTrue, None, Some, true, false, not, is_some, OnOk, IfOk};
 ghost use Rattle.h1_model.specs.Event as on;
 ghost use Rattle.h1_forward_sides.specs.Sides.{ServerStays, SendsBody};
-ghost use Rattle.h1_proxy.specs.Kept.{Forwards, Goes, GoesWith, GoesUnsent, GoesFrom, IsIdle, Runs};
-ghost use Rattle.h1_proxy.specs.Rests.{may_turn, RestsWhereItMay, LeavesLess, LeavesMore, Works, WorksBody, Turns};
+ghost use Rattle.h1_proxy.specs.Kept.{Goes, GoesWith, GoesUnsent, GoesFrom, IsIdle, Runs};
+ghost use Rattle.h1_proxy.specs.Rests.{may_turn, Settles, LeavesLess, LeavesMore, Works, WorksBody, Turns};
 
 use crate::proxy::{Proxy, Sent, Unsent};
 use h1_forward_sides::client::{
@@ -24,7 +22,7 @@ impl Proxy {
     /// Makes turns until none is possible.
     pub(crate) fn settle(&mut self) -> Result<(), NoMemory>
         ensures goes { OnOk result (Goes self.old self.new) }
-        ensures rests { OnOk result ((history : List ProxyStep) (all : Happenings) → Forwards self.old history all → RestsWhereItMay self.new) }
+        ensures rests { OnOk result (Settles self.old self.new) }
     {
         for turn in 0..self.most_turns() {
             let more = self.turn()?;

@@ -6,16 +6,16 @@ use Rattle.h1_proxy.proofs.proxy.Proxy.break_body.Goals as goal
 pub returns-then-is_answered-clause-goes : goal.returns-then-is_answered-clause-goes
 returns-then-is_answered-clause-goes c =
     resent (record c.args.self.now { server = Some c.args.server }) c.args.sent c.broken.result
-    (record { unsent = c.requires.unsent; sent = c.requires.sent }) c.broken.ensures.whole
+    (record { unsent = c.requires.runs.unsent; sent = c.requires.runs.sent }) c.broken.ensures.whole
 
 pub returns-else-is_answered-clause-goes : goal.returns-else-is_answered-clause-goes
 returns-else-is_answered-clause-goes c =
-    goes_then _ _ _ (fails (record c.args.self.now { server = Some c.args.server }) c.requires.unsent) c.in_ok-reply.ensures.goes
+    goes_then _ _ _ (fails (record c.args.self.now { server = Some c.args.server }) c.requires.runs.unsent) c.in_ok-reply.ensures.goes
 
 pub returns-then-is_answered-clause-works : goal.returns-then-is_answered-clause-works
 returns-then-is_answered-clause-works c = λ unended unbroken.
     remarked 1 (record c.args.self.now { server = Some c.args.server }) c.args.sent c.broken.result
-    (record { unsent = c.requires.unsent; sent = c.requires.sent }) (broken_mark c.args.sent c.broken.result unended unbroken c.broken.ensures.broken)
+    (record { unsent = c.requires.runs.unsent; sent = c.requires.runs.sent }) (broken_mark c.args.sent c.broken.result unended unbroken c.broken.ensures.broken)
 
 pub returns-else-is_answered-clause-works : goal.returns-else-is_answered-clause-works
 returns-else-is_answered-clause-works c = λ unended unbroken.

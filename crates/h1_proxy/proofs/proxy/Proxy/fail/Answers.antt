@@ -6,11 +6,11 @@ use Rattle.h1_proxy.proofs.proxy.Proxy.fail.Goals as goal
 
 pub returns-then-is_answered-clause-goes : goal.returns-then-is_answered-clause-goes
 returns-then-is_answered-clause-goes c =
-    goes_then _ _ _ (fails (record c.args.self.now { server = None }) c.requires)
+    goes_then _ _ _ (fails (record c.args.self.now { server = None }) c.requires.unsent)
     (client_done (record c.args.self.now { server = None; sent = None }) c.cut_reply.new.client c.cut_reply.ensures)
 
 pub returns-else-is_answered-clause-goes : goal.returns-else-is_answered-clause-goes
-returns-else-is_answered-clause-goes c = goes_then _ _ _ (fails (record c.args.self.now { server = None }) c.requires) c.in_ok-reply.ensures.goes
+returns-else-is_answered-clause-goes c = goes_then _ _ _ (fails (record c.args.self.now { server = None }) c.requires.unsent) c.in_ok-reply.ensures.goes
 
 pub returns-then-is_answered-clause-works : goal.returns-then-is_answered-clause-works
 returns-then-is_answered-clause-works c = client_less on.done (record c.args.self.now { server = None; sent = None }) c.cut_reply.new.client c.cut_reply.ensures

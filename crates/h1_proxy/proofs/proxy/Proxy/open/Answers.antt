@@ -11,7 +11,7 @@ pub returns-else-is_forwardable-clause-goes : goal.returns-else-is_forwardable-c
 returns-else-is_forwardable-clause-goes c =
     let q = record c.args.self.now { unsent = Some c.new.result } in
     from_then c.args.item c.args.self.now q _
-    (waits_from c.args.item c.args.self.now c.new.result c.requires (λ h says. sym (c.is_forwardable.ensures h says) ∙ c.if-is_forwardable.false) c.new.ensures)
+    (waits_from c.args.item c.args.self.now c.new.result c.requires.idle (λ h says. sym (c.is_forwardable.ensures h says) ∙ c.if-is_forwardable.false) c.new.ensures)
     (client_done q c.tell_to_go_on.new.client c.in_ok-tell_to_go_on.ensures)
 
 pub returns-then-is_forwardable-clause-works : goal.returns-then-is_forwardable-clause-works

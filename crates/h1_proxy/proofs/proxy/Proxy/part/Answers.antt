@@ -5,11 +5,11 @@ use Rattle.h1_proxy.proofs.proxy.Proxy.part.Goals as goal
 
 pub returns-then-may_keep-clause-goes : goal.returns-then-may_keep-clause-goes
 returns-then-may_keep-clause-goes c =
-    is_over (record c.args.self.now { server = Some c.args.server }) c.args.sent (record { unsent = c.requires.unsent; sent = c.requires.sent })
+    is_over (record c.args.self.now { server = Some c.args.server }) c.args.sent (record { unsent = c.requires.runs.unsent; sent = c.requires.runs.sent })
     (c.may_keep.ensures c.if-may_keep.true)
 
 pub returns-else-may_keep-clause-goes : goal.returns-else-may_keep-clause-goes
-returns-else-may_keep-clause-goes c = fails (record c.args.self.now { server = Some c.args.server }) c.requires.unsent
+returns-else-may_keep-clause-goes c = fails (record c.args.self.now { server = Some c.args.server }) c.requires.runs.unsent
 
 pub returns-then-may_keep-clause-works : goal.returns-then-may_keep-clause-works
 returns-then-may_keep-clause-works c = less_same (record c.args.self.now { server = Some c.args.server; sent = None })

@@ -6,16 +6,16 @@ use Rattle.h1_proxy.proofs.Work.{works, less_then, server_less, server_much_less
 use Rattle.h1_proxy.proofs.proxy.Proxy.pass_answer.Goals as goal
 
 pub take_answer-requires : goal.take_answer-requires
-take_answer-requires c = c.requires
+take_answer-requires c = record { runs = c.requires.runs }
 
 pub fail-requires : goal.fail-requires
-fail-requires c = c.requires.unsent
+fail-requires c = record { unsent = c.requires.runs.unsent }
 
 pub fail-requires-2 : goal.fail-requires-2
-fail-requires-2 c = c.requires.unsent
+fail-requires-2 c = record { unsent = c.requires.runs.unsent }
 
 pub pass_body-requires : goal.pass_body-requires
-pass_body-requires c = c.requires
+pass_body-requires c = record { runs = c.requires.runs }
 
 pub returns-in-Answer-clause-goes : goal.returns-in-Answer-clause-goes
 returns-in-Answer-clause-goes c =

@@ -8,20 +8,20 @@ use Rattle.h1_proxy.proofs.Work.{works, less_then, then_less, client_less, clien
 use Rattle.h1_proxy.proofs.proxy.Proxy.pass_body.Goals as goal
 
 pub chunk-requires : goal.chunk-requires
-chunk-requires c = (c.may_send.ensures.sends c.if-may_send.true).chunk c.as_slice.result.now
+chunk-requires c = record { can_chunk = (c.may_send.ensures.sends c.if-may_send.true).chunk c.as_slice.result.now }
 
 pub end_body-requires : goal.end_body-requires
-end_body-requires c = (c.may_send.ensures.sends c.if-may_send.true).ends
+end_body-requires c = record { can_end_body = (c.may_send.ensures.sends c.if-may_send.true).ends }
 
 pub break_body-requires : goal.break_body-requires
-break_body-requires c = record { unsent = c.requires.unsent; sent = c.requires.sent }
+break_body-requires c = record { runs = record { unsent = c.requires.runs.unsent; sent = c.requires.runs.sent } }
 
 pub returns-then-may_send-clause-goes : goal.returns-then-may_send-clause-goes
 returns-then-may_send-clause-goes c = goes_same (record c.args.self.now { server = Some c.args.server })
 
 pub returns-in-Bytes-clause-goes : goal.returns-in-Bytes-clause-goes
 returns-in-Bytes-clause-goes c =
-    pieces c.in-Bytes.bytes c.args.self.now c.args.sent c.next_bytes.new.client c.args.server c.chunk.new.self c.requires c.in-Bytes.ensures.brings
+    pieces c.in-Bytes.bytes c.args.self.now c.args.sent c.next_bytes.new.client c.args.server c.chunk.new.self c.requires.runs c.in-Bytes.ensures.brings
     (did_chunk _ _ _ _ c.as_slice.ensures
       (server_did (asked.chunk c.as_slice.result.now) _ _ c.chunk.ensures.settings ((c.may_send.ensures.sends c.if-may_send.true).chunk _) c.in_ok-chunk-in-Bytes.ensures.stands))
 
@@ -30,18 +30,18 @@ returns-in-Trailers-clause-goes c = client_done (record c.args.self.now { server
 
 pub returns-in-End-clause-goes : goal.returns-in-End-clause-goes
 returns-in-End-clause-goes c =
-    ends c.args.self.now c.args.sent c.whole.result c.next_bytes.new.client c.args.server c.end_body.new.self c.requires c.whole.ensures c.in-End.ensures.brings
+    ends c.args.self.now c.args.sent c.whole.result c.next_bytes.new.client c.args.server c.end_body.new.self c.requires.runs c.whole.ensures c.in-End.ensures.brings
     (server_did asked.body_end _ _ c.end_body.ensures.settings (c.may_send.ensures.sends c.if-may_send.true).ends c.in_ok-end_body-in-End.ensures.stands)
 
 pub returns-in-Broken-clause-goes : goal.returns-in-Broken-clause-goes
 returns-in-Broken-clause-goes c =
-    goes_then _ _ _ (breaks _ c.args.self.now c.args.sent c.next_bytes.new.client c.args.server c.requires c.in-Broken.ensures.brings) c.in_ok-break_body-in-Broken.ensures.goes
+    goes_then _ _ _ (breaks _ c.args.self.now c.args.sent c.next_bytes.new.client c.args.server c.requires.runs c.in-Broken.ensures.brings) c.in_ok-break_body-in-Broken.ensures.goes
 
 pub returns-in-Pending-clause-goes : goal.returns-in-Pending-clause-goes
 returns-in-Pending-clause-goes c = client_done (record c.args.self.now { server = Some c.args.server }) c.next_bytes.new.client c.in-Pending.ensures.brings
 
 pub returns-then-may_send-clause-works : goal.returns-then-may_send-clause-works
-returns-then-may_send-clause-works c = body_same c.args.sent c.args.server c.args.self.now c.requires (c.may_send.ensures.none c.if-may_send.false)
+returns-then-may_send-clause-works c = body_same c.args.sent c.args.server c.args.self.now c.requires.runs (c.may_send.ensures.none c.if-may_send.false)
 
 pub returns-in-Bytes-clause-works : goal.returns-in-Bytes-clause-works
 returns-in-Bytes-clause-works c =
@@ -67,7 +67,7 @@ returns-in-End-clause-works c =
     works 1 p _ (omega arith)
     (then_less 1 p q _ (client_less on.body_ended p c.next_bytes.new.client c.in-End.ensures.brings)
      (then_less 1 q r _ (server_same asked.body_end _ q c.args.server c.end_body.new.self tt c.in_ok-end_body-in-End.ensures.stands)
-      (remarked 1 r c.args.sent c.whole.result (record { unsent = c.requires.unsent; sent = c.requires.sent }) (whole_mark c.args.sent c.whole.result two.0 two.1 c.whole.ensures))))
+      (remarked 1 r c.args.sent c.whole.result (record { unsent = c.requires.runs.unsent; sent = c.requires.runs.sent }) (whole_mark c.args.sent c.whole.result two.0 two.1 c.whole.ensures))))
 
 pub returns-in-Broken-clause-works : goal.returns-in-Broken-clause-works
 returns-in-Broken-clause-works c =
@@ -79,4 +79,4 @@ returns-in-Broken-clause-works c =
 
 pub returns-in-Pending-clause-works : goal.returns-in-Pending-clause-works
 returns-in-Pending-clause-works c =
-    body_waits c.args.sent c.args.server c.args.self.now c.next_bytes.new.client c.requires c.in-Pending.ensures.brings c.in-Pending.ensures.leaves
+    body_waits c.args.sent c.args.server c.args.self.now c.next_bytes.new.client c.requires.runs c.in-Pending.ensures.brings c.in-Pending.ensures.leaves

@@ -5,10 +5,10 @@ use Rattle.h1_proxy.proofs.Work.{works, works_of_server, less_then, over_sent}
 use Rattle.h1_proxy.proofs.proxy.Proxy.pass_on.Goals as goal
 
 pub pass-requires : goal.pass-requires
-pass-requires c = record { unsent = c.requires.unsent; sent = c.requires.sent }
+pass-requires c = record { runs = record { unsent = c.requires.runs.unsent; sent = c.requires.runs.sent } }
 
 pub fail-requires : goal.fail-requires
-fail-requires c = c.requires.unsent
+fail-requires c = record { unsent = c.requires.runs.unsent }
 
 pub returns-in_ok-more-in-Some-clause-goes : goal.returns-in_ok-more-in-Some-clause-goes
 returns-in_ok-more-in-Some-clause-goes c = of_server c.args.self.now _ c.in-Some.server (sym c.in-Some.ensures.value) c.in_ok-more-in-Some.ensures.goes
@@ -24,4 +24,4 @@ pub returns-in-None-clause-works : goal.returns-in-None-clause-works
 returns-in-None-clause-works c =
     let p = record c.args.self.now { server = None } in
     works_of_server true c.args.self.now _ None (sym c.in-None.ensures.value)
-    (works 1 p _ (omega arith) (less_then 1 p (record p { sent = None }) _ (over_sent p c.args.sent (record { unsent = c.requires.unsent; sent = c.requires.sent })) c.in_ok-fail-in-None.ensures.works))
+    (works 1 p _ (omega arith) (less_then 1 p (record p { sent = None }) _ (over_sent p c.args.sent (record { unsent = c.requires.runs.unsent; sent = c.requires.runs.sent })) c.in_ok-fail-in-None.ensures.works))

@@ -7,16 +7,16 @@ use Rattle.h1_proxy.proofs.Work.{works, less_same, less_then, then_less, client_
 use Rattle.h1_proxy.proofs.proxy.Proxy.pass_piece.Goals as goal
 
 pub pass_body-requires : goal.pass_body-requires
-pass_body-requires c = c.requires
+pass_body-requires c = record { runs = c.requires.runs }
 
 pub end_reply-requires : goal.end_reply-requires
-end_reply-requires c = c.requires
+end_reply-requires c = record { runs = c.requires.runs }
 
 pub fail-requires : goal.fail-requires
-fail-requires c = c.requires.unsent
+fail-requires c = record { unsent = c.requires.runs.unsent }
 
 pub pass_body-requires-2 : goal.pass_body-requires-2
-pass_body-requires-2 c = c.requires
+pass_body-requires-2 c = record { runs = c.requires.runs }
 
 pub returns-in-Bytes-clause-goes : goal.returns-in-Bytes-clause-goes
 returns-in-Bytes-clause-goes c =
@@ -65,7 +65,7 @@ returns-in-End-clause-works c = λ answered.
     let q = record c.args.self.now { server = Some c.next_piece.new.server } in
     works 1 _ _ (omega arith)
     (then_less 1 p q _ (server_less c.args.self.now c.args.server c.next_piece.new.server c.in_ok-next_piece.ensures.stays)
-     (less_then 1 q (record q { sent = None }) _ (over_sent q c.args.sent (record { unsent = c.requires.unsent; sent = c.requires.sent })) c.in_ok-end_reply-in-End.ensures.works))
+     (less_then 1 q (record q { sent = None }) _ (over_sent q c.args.sent (record { unsent = c.requires.runs.unsent; sent = c.requires.runs.sent })) c.in_ok-end_reply-in-End.ensures.works))
 
 pub returns-in-Broken-clause-works : goal.returns-in-Broken-clause-works
 returns-in-Broken-clause-works c = λ answered.

@@ -4,7 +4,7 @@ use Rattle.h1_proxy.proofs.Work.{less_same, less_then, weaker, closed_less, drop
 use Rattle.h1_proxy.proofs.proxy.Proxy.take_answer.Goals as goal
 
 pub fail-requires : goal.fail-requires
-fail-requires c = c.requires.unsent
+fail-requires c = record { unsent = c.requires.runs.unsent }
 
 pub returns-in-Refuse-clause-goes : goal.returns-in-Refuse-clause-goes
 returns-in-Refuse-clause-goes c = goes_then _ _ _ (closes (record c.args.self.now { server = Some c.args.server })) c.in_ok-fail-in-Refuse.ensures.goes

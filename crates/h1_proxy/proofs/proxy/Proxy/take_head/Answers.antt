@@ -4,10 +4,10 @@ use Rattle.h1_proxy.proofs.Work.{works_more, head_less, fault_works, idle_rests}
 use Rattle.h1_proxy.proofs.proxy.Proxy.take_head.Goals as goal
 
 pub open-requires : goal.open-requires
-open-requires c = record { unsent = c.requires.unsent; sent = c.requires.sent }
+open-requires c = record { idle = record { unsent = c.requires.idle.unsent; sent = c.requires.idle.sent } }
 
 pub returns-in-Head-clause-goes : goal.returns-in-Head-clause-goes
-returns-in-Head-clause-goes c = from_head c.in-Head.item c.args.self.now _ c.next_head.new.client c.requires c.in-Head.ensures.brings c.in_ok-open-in-Head.ensures.goes
+returns-in-Head-clause-goes c = from_head c.in-Head.item c.args.self.now _ c.next_head.new.client c.requires.idle c.in-Head.ensures.brings c.in_ok-open-in-Head.ensures.goes
 
 pub returns-in-Fault-clause-goes : goal.returns-in-Fault-clause-goes
 returns-in-Fault-clause-goes c = client_done c.args.self.now c.next_head.new.client c.in-Fault.ensures.brings
@@ -27,7 +27,7 @@ pub returns-in-Fault-clause-works : goal.returns-in-Fault-clause-works
 returns-in-Fault-clause-works c = fault_works on.done c.args.self.now c.next_head.new.client c.in-Fault.ensures.brings c.in-Fault.ensures.leaves
 
 pub returns-in-Pending-clause-works : goal.returns-in-Pending-clause-works
-returns-in-Pending-clause-works c = idle_rests on.done c.args.self.now c.next_head.new.client c.requires c.in-Pending.ensures.brings c.in-Pending.ensures.leaves
+returns-in-Pending-clause-works c = idle_rests on.done c.args.self.now c.next_head.new.client c.requires.idle c.in-Pending.ensures.brings c.in-Pending.ensures.leaves
 
 pub returns-in-Closed-clause-works : goal.returns-in-Closed-clause-works
-returns-in-Closed-clause-works c = idle_rests on.done c.args.self.now c.next_head.new.client c.requires c.in-Closed.ensures.brings c.in-Closed.ensures.leaves
+returns-in-Closed-clause-works c = idle_rests on.done c.args.self.now c.next_head.new.client c.requires.idle c.in-Closed.ensures.brings c.in-Closed.ensures.leaves

@@ -10,7 +10,7 @@ pub returns-in_ok-more-in-Some-clause-goes : goal.returns-in_ok-more-in-Some-cla
 returns-in_ok-more-in-Some-clause-goes c = of_unsent _ _ c.in-Some.unsent (sym c.in-Some.ensures.value) c.in_ok-more-in-Some.ensures.goes
 
 pub go_on-requires : goal.go_on-requires
-go_on-requires c = c.take.ensures.after
+go_on-requires c = record { unsent = c.take.ensures.after }
 
 pub returns-in_ok-more-clause-goes : goal.returns-in_ok-more-clause-goes
 returns-in_ok-more-clause-goes c = of_no_unsent _ _ _ (sym c.in-None.ensures.value ∙ sym c.take.ensures.after) c.in_ok-more.ensures.goes

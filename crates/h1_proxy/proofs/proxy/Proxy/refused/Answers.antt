@@ -1,0 +1,22 @@
+use Rattle.std.specs.Prelude.{None}
+use Rattle.h1_forward_model.specs.Past as event
+use Rattle.h1_forward_model.specs.Past.{done}
+use Rattle.h1_proxy.proofs.Moves.{by_then}
+use Rattle.h1_proxy.proofs.Work.{rests_by}
+use Rattle.h1_proxy.proofs.EventMoves.{refuses}
+use Rattle.h1_proxy.specs.declared.proxy.Proxy.{Proxy}
+use Rattle.h1_proxy.proofs.proxy.Proxy.refused.Goals as goal
+
+pub returns-clause-goes : goal.returns-clause-goes
+returns-clause-goes c =
+    let p = c.args.self.now in
+    let mid : Proxy = record p { unsent = None; sent = None } in
+    by_then event.refused done p c.reply.new.self c.settle.new.self
+    (by_then event.refused done p mid c.reply.new.self (refuses p c.requires.wants_server) c.in_ok-reply.ensures.goes) c.in_ok-settle.ensures.goes
+
+pub returns-clause-rests : goal.returns-clause-rests
+returns-clause-rests c =
+    let p = c.args.self.now in
+    let mid : Proxy = record p { unsent = None; sent = None } in
+    rests_by event.refused done p c.reply.new.self c.settle.new.self
+    (by_then event.refused done p mid c.reply.new.self (refuses p c.requires.wants_server) c.in_ok-reply.ensures.goes) c.in_ok-settle.ensures.rests
