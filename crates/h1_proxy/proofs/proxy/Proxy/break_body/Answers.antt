@@ -5,8 +5,8 @@ use Rattle.h1_proxy.proofs.proxy.Proxy.break_body.Goals as goal
 pub returns-then-is_answered : goal.returns-then-is_answered
 returns-then-is_answered c =
     resent (record c.args.self.now { server = Some c.args.server }) c.args.sent c.broken.result
-    (record { unsent = c.requires.unsent; sent = c.requires.sent }) c.broken.ensures
+    (record { unsent = c.requires.runs.unsent; sent = c.requires.runs.sent }) c.broken.ensures
 
-pub returns-else-is_answered : goal.returns-else-is_answered
-returns-else-is_answered c =
-    goes_then _ _ _ (fails (record c.args.self.now { server = Some c.args.server }) c.requires.unsent) c.in_ok-reply.ensures
+pub returns : goal.returns
+returns c =
+    goes_then _ _ _ (fails (record c.args.self.now { server = Some c.args.server }) c.requires.runs.unsent) c.in_ok-reply.ensures

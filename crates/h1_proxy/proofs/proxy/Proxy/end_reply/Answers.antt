@@ -3,7 +3,7 @@ use Rattle.h1_proxy.proofs.Moves.{goes_then, client_done}
 use Rattle.h1_proxy.proofs.proxy.Proxy.end_reply.Goals as goal
 
 pub part-requires : goal.part-requires
-part-requires c = record { unsent = c.requires.unsent; sent = c.requires.sent }
+part-requires c = record { runs = record { unsent = c.requires.runs.unsent; sent = c.requires.runs.sent } }
 
 pub returns : goal.returns
 returns c =

@@ -4,8 +4,8 @@ use Rattle.h1_proxy.proofs.proxy.Proxy.fail.Goals as goal
 
 pub returns-then-is_answered : goal.returns-then-is_answered
 returns-then-is_answered c =
-    goes_then _ _ _ (fails (record c.args.self.now { server = None }) c.requires)
+    goes_then _ _ _ (fails (record c.args.self.now { server = None }) c.requires.unsent)
     (client_done (record c.args.self.now { server = None; sent = None }) c.cut_reply.new.client c.cut_reply.ensures)
 
-pub returns-else-is_answered : goal.returns-else-is_answered
-returns-else-is_answered c = goes_then _ _ _ (fails (record c.args.self.now { server = None }) c.requires) c.in_ok-reply.ensures
+pub returns : goal.returns
+returns c = goes_then _ _ _ (fails (record c.args.self.now { server = None }) c.requires.unsent) c.in_ok-reply.ensures

@@ -6,10 +6,10 @@ pub take_answer-requires : goal.take_answer-requires
 take_answer-requires c = c.requires
 
 pub fail-requires : goal.fail-requires
-fail-requires c = c.requires.unsent
+fail-requires c = record { unsent = c.requires.runs.unsent }
 
 pub fail-requires-2 : goal.fail-requires-2
-fail-requires-2 c = c.requires.unsent
+fail-requires-2 c = record { unsent = c.requires.runs.unsent }
 
 pub pass_body-requires : goal.pass_body-requires
 pass_body-requires c = c.requires

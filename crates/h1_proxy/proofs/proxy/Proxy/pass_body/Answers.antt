@@ -5,34 +5,34 @@ use Rattle.h1_proxy.proofs.Moves.{goes_same, goes_then, client_done, pieces, end
 use Rattle.h1_proxy.proofs.proxy.Proxy.pass_body.Goals as goal
 
 pub chunk-requires : goal.chunk-requires
-chunk-requires c = (c.may_send.ensures c.if-may_send.true).chunk c.as_slice.result.now
+chunk-requires c = record { can_chunk = (c.may_send.ensures c.if-not-may_send.false).chunk c.as_slice.result.now }
 
 pub end_body-requires : goal.end_body-requires
-end_body-requires c = (c.may_send.ensures c.if-may_send.true).ends
+end_body-requires c = record { can_end_body = (c.may_send.ensures c.if-not-may_send.false).ends }
 
 pub break_body-requires : goal.break_body-requires
-break_body-requires c = record { unsent = c.requires.unsent; sent = c.requires.sent }
+break_body-requires c = record { runs = record { unsent = c.requires.runs.unsent; sent = c.requires.runs.sent } }
 
-pub returns-then-may_send : goal.returns-then-may_send
-returns-then-may_send c = goes_same (record c.args.self.now { server = Some c.args.server })
+pub returns-then-not-may_send : goal.returns-then-not-may_send
+returns-then-not-may_send c = goes_same (record c.args.self.now { server = Some c.args.server })
 
 pub returns-in-Bytes : goal.returns-in-Bytes
 returns-in-Bytes c =
-    pieces c.in-Bytes.bytes c.args.self.now c.args.sent c.next_bytes.new.client c.args.server c.chunk.new.self c.requires c.in-Bytes.ensures
+    pieces c.in-Bytes.bytes c.args.self.now c.args.sent c.next_bytes.new.client c.args.server c.chunk.new.self c.requires.runs c.in-Bytes.ensures
     (did_chunk _ _ _ _ c.as_slice.ensures
-      (server_did (asked.chunk c.as_slice.result.now) _ _ c.chunk.ensures.settings ((c.may_send.ensures c.if-may_send.true).chunk _) c.in_ok-chunk-in-Bytes.ensures.stands))
+      (server_did (asked.chunk c.as_slice.result.now) _ _ c.chunk.ensures.settings ((c.may_send.ensures c.if-not-may_send.false).chunk _) c.in_ok-chunk-in-Bytes.ensures.stands))
 
 pub returns-in-Trailers : goal.returns-in-Trailers
 returns-in-Trailers c = client_done (record c.args.self.now { server = Some c.args.server }) c.next_bytes.new.client c.in-Trailers.ensures
 
 pub returns-in-End : goal.returns-in-End
 returns-in-End c =
-    ends c.args.self.now c.args.sent c.whole.result c.next_bytes.new.client c.args.server c.end_body.new.self c.requires c.whole.ensures c.in-End.ensures
-    (server_did asked.body_end _ _ c.end_body.ensures.settings (c.may_send.ensures c.if-may_send.true).ends c.in_ok-end_body-in-End.ensures.stands)
+    ends c.args.self.now c.args.sent c.whole.result c.next_bytes.new.client c.args.server c.end_body.new.self c.requires.runs c.whole.ensures c.in-End.ensures
+    (server_did asked.body_end _ _ c.end_body.ensures.settings (c.may_send.ensures c.if-not-may_send.false).ends c.in_ok-end_body-in-End.ensures.stands)
 
 pub returns-in-Broken : goal.returns-in-Broken
 returns-in-Broken c =
-    goes_then _ _ _ (breaks _ c.args.self.now c.args.sent c.next_bytes.new.client c.args.server c.requires c.in-Broken.ensures) c.in_ok-break_body-in-Broken.ensures
+    goes_then _ _ _ (breaks _ c.args.self.now c.args.sent c.next_bytes.new.client c.args.server c.requires.runs c.in-Broken.ensures) c.in_ok-break_body-in-Broken.ensures
 
 pub returns-in-Pending : goal.returns-in-Pending
 returns-in-Pending c = client_done (record c.args.self.now { server = Some c.args.server }) c.next_bytes.new.client c.in-Pending.ensures

@@ -9,7 +9,7 @@ pub end_reply-requires : goal.end_reply-requires
 end_reply-requires c = c.requires
 
 pub fail-requires : goal.fail-requires
-fail-requires c = c.requires.unsent
+fail-requires c = record { unsent = c.requires.runs.unsent }
 
 pub pass_body-requires-2 : goal.pass_body-requires-2
 pass_body-requires-2 c = c.requires

@@ -18,5 +18,5 @@ returns-then-ask c =
     (goes_then _ _ _ (server_moves p s t c.tell_time.ensures)
       (asks p c.args.unsent t c.ask.new.server (did_ask _ _ _ _ _ c.if-ask.true c.in_ok-ask.ensures)))
 
-pub returns-else-ask : goal.returns-else-ask
-returns-else-ask c = closes_as (record c.args.self.now { unsent = Some c.args.unsent }) c.take.new.self c.take.ensures.after
+pub returns : goal.returns
+returns c = closes_as (record c.args.self.now { unsent = Some c.args.unsent }) c.take.new.self c.take.ensures.after

@@ -6,10 +6,10 @@ pub returns-then-is_still : goal.returns-then-is_still
 returns-then-is_still c = goes_same _
 
 pub returns-in_ok-more-in-Some : goal.returns-in_ok-more-in-Some
-returns-in_ok-more-in-Some c = of_unsent _ _ c.in-Some.unsent (sym c.in-Some.ensures.value) c.in_ok-more-in-Some.ensures
+returns-in_ok-more-in-Some c = of_unsent c.args.self.now _ c.in-Some.unsent (sym c.in-Some.ensures.value) c.in_ok-more-in-Some.ensures
 
 pub go_on-requires : goal.go_on-requires
-go_on-requires c = c.take.ensures.after
+go_on-requires c = record { unsent = c.take.ensures.after }
 
 pub returns-in_ok-more : goal.returns-in_ok-more
-returns-in_ok-more c = of_no_unsent _ _ _ (sym c.in-None.ensures.value ∙ sym c.take.ensures.after) c.in_ok-more.ensures
+returns-in_ok-more c = of_no_unsent c.args.self.now _ _ (sym c.in-None.ensures.value ∙ sym c.take.ensures.after) c.in_ok-more.ensures
