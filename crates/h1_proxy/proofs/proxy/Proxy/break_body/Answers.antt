@@ -8,8 +8,8 @@ returns-then-is_answered-clause-goes c =
     resent (record c.args.self.now { server = Some c.args.server }) c.args.sent c.broken.result
     (record { unsent = c.requires.runs.unsent; sent = c.requires.runs.sent }) c.broken.ensures.whole
 
-pub returns-else-is_answered-clause-goes : goal.returns-else-is_answered-clause-goes
-returns-else-is_answered-clause-goes c =
+pub returns-clause-goes : goal.returns-clause-goes
+returns-clause-goes c =
     goes_then _ _ _ (fails (record c.args.self.now { server = Some c.args.server }) c.requires.runs.unsent) c.in_ok-reply.ensures.goes
 
 pub returns-then-is_answered-clause-works : goal.returns-then-is_answered-clause-works
@@ -17,8 +17,8 @@ returns-then-is_answered-clause-works c = λ unended unbroken.
     remarked 1 (record c.args.self.now { server = Some c.args.server }) c.args.sent c.broken.result
     (record { unsent = c.requires.runs.unsent; sent = c.requires.runs.sent }) (broken_mark c.args.sent c.broken.result unended unbroken c.broken.ensures.broken)
 
-pub returns-else-is_answered-clause-works : goal.returns-else-is_answered-clause-works
-returns-else-is_answered-clause-works c = λ unended unbroken.
+pub returns-clause-works : goal.returns-clause-works
+returns-clause-works c = λ unended unbroken.
     let p = record c.args.self.now { server = None } in
     less_then 1 (record c.args.self.now { server = Some c.args.server }) p _ (closed_less c.args.self.now c.args.server)
     (less_then 0 p (record p { sent = None }) _ (drop_sent p) c.in_ok-reply.ensures.works)

@@ -9,11 +9,11 @@ returns-then-is_answered-clause-goes c =
     goes_then _ _ _ (fails (record c.args.self.now { server = None }) c.requires.unsent)
     (client_done (record c.args.self.now { server = None; sent = None }) c.cut_reply.new.client c.cut_reply.ensures)
 
-pub returns-else-is_answered-clause-goes : goal.returns-else-is_answered-clause-goes
-returns-else-is_answered-clause-goes c = goes_then _ _ _ (fails (record c.args.self.now { server = None }) c.requires.unsent) c.in_ok-reply.ensures.goes
+pub returns-clause-goes : goal.returns-clause-goes
+returns-clause-goes c = goes_then _ _ _ (fails (record c.args.self.now { server = None }) c.requires.unsent) c.in_ok-reply.ensures.goes
 
 pub returns-then-is_answered-clause-works : goal.returns-then-is_answered-clause-works
 returns-then-is_answered-clause-works c = client_less on.done (record c.args.self.now { server = None; sent = None }) c.cut_reply.new.client c.cut_reply.ensures
 
-pub returns-else-is_answered-clause-works : goal.returns-else-is_answered-clause-works
-returns-else-is_answered-clause-works c = c.in_ok-reply.ensures.works
+pub returns-clause-works : goal.returns-clause-works
+returns-clause-works c = c.in_ok-reply.ensures.works

@@ -8,11 +8,11 @@ returns-then-may_keep-clause-goes c =
     is_over (record c.args.self.now { server = Some c.args.server }) c.args.sent (record { unsent = c.requires.runs.unsent; sent = c.requires.runs.sent })
     (c.may_keep.ensures c.if-may_keep.true)
 
-pub returns-else-may_keep-clause-goes : goal.returns-else-may_keep-clause-goes
-returns-else-may_keep-clause-goes c = fails (record c.args.self.now { server = Some c.args.server }) c.requires.runs.unsent
+pub returns-clause-goes : goal.returns-clause-goes
+returns-clause-goes c = fails (record c.args.self.now { server = Some c.args.server }) c.requires.runs.unsent
 
 pub returns-then-may_keep-clause-works : goal.returns-then-may_keep-clause-works
 returns-then-may_keep-clause-works c = less_same (record c.args.self.now { server = Some c.args.server; sent = None })
 
-pub returns-else-may_keep-clause-works : goal.returns-else-may_keep-clause-works
-returns-else-may_keep-clause-works c = weaker 1 _ _ (closed_less (record c.args.self.now { sent = None }) c.args.server)
+pub returns-clause-works : goal.returns-clause-works
+returns-clause-works c = weaker 1 _ _ (closed_less (record c.args.self.now { sent = None }) c.args.server)

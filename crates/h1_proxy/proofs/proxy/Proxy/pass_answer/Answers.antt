@@ -1,12 +1,13 @@
-use Rattle.std.proofs.Common.{Some, None}
+use Rattle.std.proofs.Common.{Some, None, refl}
 use Rattle.h1_proxy.proofs.Moves.{goes_then, closes, server_moves}
+use Rattle.std.proofs.Common.{Some, None}
 use Rattle.std.proofs.Common.{arith, true, sym, ◌∙◌}
 use Rattle.std.proofs.lemmas.Bool.{false≢true}
 use Rattle.h1_proxy.proofs.Work.{works, less_then, server_less, server_much_less, closed_less, drop_sent, then_told, sent_rests}
 use Rattle.h1_proxy.proofs.proxy.Proxy.pass_answer.Goals as goal
 
 pub take_answer-requires : goal.take_answer-requires
-take_answer-requires c = record { runs = c.requires.runs }
+take_answer-requires c = c.requires
 
 pub fail-requires : goal.fail-requires
 fail-requires c = record { unsent = c.requires.runs.unsent }
@@ -15,7 +16,7 @@ pub fail-requires-2 : goal.fail-requires-2
 fail-requires-2 c = record { unsent = c.requires.runs.unsent }
 
 pub pass_body-requires : goal.pass_body-requires
-pass_body-requires c = record { runs = c.requires.runs }
+pass_body-requires c = c.requires
 
 pub returns-in-Answer-clause-goes : goal.returns-in-Answer-clause-goes
 returns-in-Answer-clause-goes c =

@@ -8,22 +8,22 @@ use Rattle.h1_proxy.proofs.Work.{works, less_then, then_less, client_less, clien
 use Rattle.h1_proxy.proofs.proxy.Proxy.pass_body.Goals as goal
 
 pub chunk-requires : goal.chunk-requires
-chunk-requires c = record { can_chunk = (c.may_send.ensures.sends c.if-may_send.true).chunk c.as_slice.result.now }
+chunk-requires c = record { can_chunk = (c.may_send.ensures.sends c.if-not-may_send.false).chunk c.as_slice.result.now }
 
 pub end_body-requires : goal.end_body-requires
-end_body-requires c = record { can_end_body = (c.may_send.ensures.sends c.if-may_send.true).ends }
+end_body-requires c = record { can_end_body = (c.may_send.ensures.sends c.if-not-may_send.false).ends }
 
 pub break_body-requires : goal.break_body-requires
 break_body-requires c = record { runs = record { unsent = c.requires.runs.unsent; sent = c.requires.runs.sent } }
 
-pub returns-then-may_send-clause-goes : goal.returns-then-may_send-clause-goes
-returns-then-may_send-clause-goes c = goes_same (record c.args.self.now { server = Some c.args.server })
+pub returns-then-not-may_send-clause-goes : goal.returns-then-not-may_send-clause-goes
+returns-then-not-may_send-clause-goes c = goes_same (record c.args.self.now { server = Some c.args.server })
 
 pub returns-in-Bytes-clause-goes : goal.returns-in-Bytes-clause-goes
 returns-in-Bytes-clause-goes c =
     pieces c.in-Bytes.bytes c.args.self.now c.args.sent c.next_bytes.new.client c.args.server c.chunk.new.self c.requires.runs c.in-Bytes.ensures.brings
     (did_chunk _ _ _ _ c.as_slice.ensures
-      (server_did (asked.chunk c.as_slice.result.now) _ _ c.chunk.ensures.settings ((c.may_send.ensures.sends c.if-may_send.true).chunk _) c.in_ok-chunk-in-Bytes.ensures.stands))
+      (server_did (asked.chunk c.as_slice.result.now) _ _ c.chunk.ensures.settings ((c.may_send.ensures.sends c.if-not-may_send.false).chunk _) c.in_ok-chunk-in-Bytes.ensures.stands))
 
 pub returns-in-Trailers-clause-goes : goal.returns-in-Trailers-clause-goes
 returns-in-Trailers-clause-goes c = client_done (record c.args.self.now { server = Some c.args.server }) c.next_bytes.new.client c.in-Trailers.ensures.brings
@@ -31,7 +31,7 @@ returns-in-Trailers-clause-goes c = client_done (record c.args.self.now { server
 pub returns-in-End-clause-goes : goal.returns-in-End-clause-goes
 returns-in-End-clause-goes c =
     ends c.args.self.now c.args.sent c.whole.result c.next_bytes.new.client c.args.server c.end_body.new.self c.requires.runs c.whole.ensures c.in-End.ensures.brings
-    (server_did asked.body_end _ _ c.end_body.ensures.settings (c.may_send.ensures.sends c.if-may_send.true).ends c.in_ok-end_body-in-End.ensures.stands)
+    (server_did asked.body_end _ _ c.end_body.ensures.settings (c.may_send.ensures.sends c.if-not-may_send.false).ends c.in_ok-end_body-in-End.ensures.stands)
 
 pub returns-in-Broken-clause-goes : goal.returns-in-Broken-clause-goes
 returns-in-Broken-clause-goes c =
@@ -40,8 +40,8 @@ returns-in-Broken-clause-goes c =
 pub returns-in-Pending-clause-goes : goal.returns-in-Pending-clause-goes
 returns-in-Pending-clause-goes c = client_done (record c.args.self.now { server = Some c.args.server }) c.next_bytes.new.client c.in-Pending.ensures.brings
 
-pub returns-then-may_send-clause-works : goal.returns-then-may_send-clause-works
-returns-then-may_send-clause-works c = body_same c.args.sent c.args.server c.args.self.now c.requires.runs (c.may_send.ensures.none c.if-may_send.false)
+pub returns-then-not-may_send-clause-works : goal.returns-then-not-may_send-clause-works
+returns-then-not-may_send-clause-works c = body_same c.args.sent c.args.server c.args.self.now c.requires.runs (c.may_send.ensures.none c.if-not-may_send.true)
 
 pub returns-in-Bytes-clause-works : goal.returns-in-Bytes-clause-works
 returns-in-Bytes-clause-works c =
@@ -63,7 +63,7 @@ returns-in-End-clause-works c =
     let p = record c.args.self.now { server = Some c.args.server } in
     let q = record p { client = c.next_bytes.new.client } in
     let r = record q { server = Some c.end_body.new.self } in
-    let two = c.may_send.ensures.more c.if-may_send.true in
+    let two = c.may_send.ensures.more c.if-not-may_send.false in
     works 1 p _ (omega arith)
     (then_less 1 p q _ (client_less on.body_ended p c.next_bytes.new.client c.in-End.ensures.brings)
      (then_less 1 q r _ (server_same asked.body_end _ q c.args.server c.end_body.new.self tt c.in_ok-end_body-in-End.ensures.stands)
@@ -73,7 +73,7 @@ pub returns-in-Broken-clause-works : goal.returns-in-Broken-clause-works
 returns-in-Broken-clause-works c =
     let p = record c.args.self.now { server = Some c.args.server } in
     let q = record p { client = c.next_bytes.new.client } in
-    let two = c.may_send.ensures.more c.if-may_send.true in
+    let two = c.may_send.ensures.more c.if-not-may_send.false in
     works 1 p _ (omega arith)
     (then_less 1 p q _ (client_less _ p c.next_bytes.new.client c.in-Broken.ensures.brings) (c.in_ok-break_body-in-Broken.ensures.works two.0 two.1))
 

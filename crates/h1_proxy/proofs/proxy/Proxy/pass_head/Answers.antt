@@ -4,8 +4,8 @@ use Rattle.h1_model.specs.Event as on
 use Rattle.h1_proxy.proofs.Work.{less_then, client_less, drop_sent, remarked, same_mark}
 use Rattle.h1_proxy.proofs.proxy.Proxy.pass_head.Goals as goal
 
-pub returns-then-is_eof-clause-goes : goal.returns-then-is_eof-clause-goes
-returns-then-is_eof-clause-goes c =
+pub returns-then-not-is_eof-clause-goes : goal.returns-then-not-is_eof-clause-goes
+returns-then-not-is_eof-clause-goes c =
     let p = record c.args.self.now { server = Some c.args.server } in
     goes_then _ _ _ (resent p c.args.sent c.answered.result (record { unsent = c.requires.runs.unsent; sent = c.requires.runs.sent }) c.answered.ensures.whole)
     (client_done (record p { sent = Some c.answered.result }) c.put_head.new.client c.in_ok-put_head.ensures)
@@ -13,23 +13,23 @@ returns-then-is_eof-clause-goes c =
 pub part-requires : goal.part-requires
 part-requires c = record { runs = record { unsent = c.requires.runs.unsent; sent = refl } }
 
-pub returns-else-is_eof-clause-goes : goal.returns-else-is_eof-clause-goes
-returns-else-is_eof-clause-goes c =
+pub returns-clause-goes : goal.returns-clause-goes
+returns-clause-goes c =
     let p = record c.args.self.now { server = Some c.args.server } in
     let q = record p { sent = Some c.answered.result } in
     goes_then _ _ _ (resent p c.args.sent c.answered.result (record { unsent = c.requires.runs.unsent; sent = c.requires.runs.sent }) c.answered.ensures.whole)
     (goes_then _ _ _ (client_done q c.leave_body.new.client c.leave_body.ensures)
       (goes_then _ _ _ (client_done (record q { client = c.leave_body.new.client }) c.put_head-2.new.client c.in_ok-put_head-2.ensures) c.part.ensures.goes))
 
-pub returns-then-is_eof-clause-works : goal.returns-then-is_eof-clause-works
-returns-then-is_eof-clause-works c =
+pub returns-then-not-is_eof-clause-works : goal.returns-then-not-is_eof-clause-works
+returns-then-not-is_eof-clause-works c =
     let p = record c.args.self.now { server = Some c.args.server } in
     let q = record p { sent = Some c.answered.result } in
     less_then 0 p q _ (remarked 0 p c.args.sent c.answered.result (record { unsent = c.requires.runs.unsent; sent = c.requires.runs.sent }) (same_mark c.args.sent c.answered.result c.answered.ensures.whole c.answered.ensures.broken))
     (client_less on.done q c.put_head.new.client c.in_ok-put_head.ensures)
 
-pub returns-else-is_eof-clause-works : goal.returns-else-is_eof-clause-works
-returns-else-is_eof-clause-works c =
+pub returns-clause-works : goal.returns-clause-works
+returns-clause-works c =
     let p = record c.args.self.now { server = Some c.args.server } in
     let q = record p { sent = None } in
     let r = record q { client = c.leave_body.new.client } in

@@ -7,16 +7,16 @@ use Rattle.h1_proxy.proofs.Work.{works, less_same, less_then, then_less, client_
 use Rattle.h1_proxy.proofs.proxy.Proxy.pass_piece.Goals as goal
 
 pub pass_body-requires : goal.pass_body-requires
-pass_body-requires c = record { runs = c.requires.runs }
+pass_body-requires c = c.requires
 
 pub end_reply-requires : goal.end_reply-requires
-end_reply-requires c = record { runs = c.requires.runs }
+end_reply-requires c = c.requires
 
 pub fail-requires : goal.fail-requires
 fail-requires c = record { unsent = c.requires.runs.unsent }
 
 pub pass_body-requires-2 : goal.pass_body-requires-2
-pass_body-requires-2 c = record { runs = c.requires.runs }
+pass_body-requires-2 c = c.requires
 
 pub returns-in-Bytes-clause-goes : goal.returns-in-Bytes-clause-goes
 returns-in-Bytes-clause-goes c =

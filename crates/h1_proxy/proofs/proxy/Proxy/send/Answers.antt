@@ -1,6 +1,7 @@
-use Rattle.std.proofs.Common.{sym, Some, true, arith}
+use Rattle.std.proofs.Common.{sym, Some}
 use Rattle.h1_proxy.proofs.Moves.{goes_then, of_server, closes, closes_as, server_moves, asks}
 use Rattle.h1_proxy.proofs.Done.{did_ask}
+use Rattle.std.proofs.Common.{sym, Some, true, arith}
 use Rattle.h1_proxy.proofs.Work.{over_less, waits_rests, works, works_of_server, then_less, less_then, server_less, server_asks, sent_less, over_as}
 use Rattle.h1_proxy.proofs.proxy.Proxy.send.Goals as goal
 
@@ -19,8 +20,8 @@ returns-then-ask-clause-goes c =
     (goes_then _ _ _ (server_moves p s t c.tell_time.ensures)
       (asks p c.args.unsent t c.ask.new.server (did_ask _ _ _ _ _ c.if-ask.true c.in_ok-ask.ensures)))
 
-pub returns-else-ask-clause-goes : goal.returns-else-ask-clause-goes
-returns-else-ask-clause-goes c = closes_as (record c.args.self.now { unsent = Some c.args.unsent }) c.take.new.self c.take.ensures.after
+pub returns-clause-goes : goal.returns-clause-goes
+returns-clause-goes c = closes_as (record c.args.self.now { unsent = Some c.args.unsent }) c.take.new.self c.take.ensures.after
 
 pub returns-then-is_server_over-clause-works : goal.returns-then-is_server_over-clause-works
 returns-then-is_server_over-clause-works c =
@@ -41,6 +42,6 @@ returns-then-ask-clause-works c =
       (then_less 1 (record p { server = Some t }) (record p { server = Some u }) _ (server_asks p c.args.unsent t u (did_ask _ _ _ _ _ c.if-ask.true c.in_ok-ask.ensures))
        (sent_less (record p { server = Some u }) c.args.unsent))))
 
-pub returns-else-ask-clause-works : goal.returns-else-ask-clause-works
-returns-else-ask-clause-works c =
+pub returns-clause-works : goal.returns-clause-works
+returns-clause-works c =
     works 1 _ _ (omega arith) (over_as (record c.args.self.now { unsent = Some c.args.unsent }) c.in-Some.server c.take.new.self (sym c.in-Some.ensures.value) c.take.ensures.after)

@@ -9,14 +9,14 @@ loop-turn-init c = record { goes = goes_same _; works = λ history all f. (told_
 pub loop-turn-preserved : goal.loop-turn-preserved
 loop-turn-preserved c = record {
   goes = goes_then _ _ _ c.loop-turn.invariant.goes c.in_ok-more.ensures.goes;
-  works = λ history all f. let x = c.loop-turn.invariant.works history all f in more_turns _ _ _ _ _ c.if-more.true x.0 x.1 c.in_ok-more.ensures.works;
+  works = λ history all f. let x = c.loop-turn.invariant.works history all f in more_turns _ _ _ _ _ c.if-not-more.false x.0 x.1 c.in_ok-more.ensures.works;
 }
 
-pub returns-then-more-clause-goes : goal.returns-then-more-clause-goes
-returns-then-more-clause-goes c = goes_then _ _ _ c.loop-turn.invariant.goes c.in_ok-more.ensures.goes
+pub returns-then-not-more-clause-goes : goal.returns-then-not-more-clause-goes
+returns-then-not-more-clause-goes c = goes_then _ _ _ c.loop-turn.invariant.goes c.in_ok-more.ensures.goes
 
-pub returns-then-more-clause-rests : goal.returns-then-more-clause-rests
-returns-then-more-clause-rests c = no_more_turns c.in_ok-more.more c.loop-turn.turn c.args.self.now c.loop-turn.self c.turn.new.self c.loop-turn.invariant c.if-more.false c.in_ok-more.ensures.works
+pub returns-then-not-more-clause-rests : goal.returns-then-not-more-clause-rests
+returns-then-not-more-clause-rests c = no_more_turns c.in_ok-more.more c.loop-turn.turn c.args.self.now c.loop-turn.self c.turn.new.self c.loop-turn.invariant c.if-not-more.true c.in_ok-more.ensures.works
 
 pub returns-clause-goes : goal.returns-clause-goes
 returns-clause-goes c = c.loop-turn.invariant.goes

@@ -7,13 +7,13 @@ pub returns-then-is_still-clause-goes : goal.returns-then-is_still-clause-goes
 returns-then-is_still-clause-goes c = goes_same _
 
 pub returns-in_ok-more-in-Some-clause-goes : goal.returns-in_ok-more-in-Some-clause-goes
-returns-in_ok-more-in-Some-clause-goes c = of_unsent _ _ c.in-Some.unsent (sym c.in-Some.ensures.value) c.in_ok-more-in-Some.ensures.goes
+returns-in_ok-more-in-Some-clause-goes c = of_unsent c.args.self.now _ c.in-Some.unsent (sym c.in-Some.ensures.value) c.in_ok-more-in-Some.ensures.goes
 
 pub go_on-requires : goal.go_on-requires
 go_on-requires c = record { unsent = c.take.ensures.after }
 
 pub returns-in_ok-more-clause-goes : goal.returns-in_ok-more-clause-goes
-returns-in_ok-more-clause-goes c = of_no_unsent _ _ _ (sym c.in-None.ensures.value ∙ sym c.take.ensures.after) c.in_ok-more.ensures.goes
+returns-in_ok-more-clause-goes c = of_no_unsent c.args.self.now _ _ (sym c.in-None.ensures.value ∙ sym c.take.ensures.after) c.in_ok-more.ensures.goes
 
 pub returns-then-is_still-clause-works : goal.returns-then-is_still-clause-works
 returns-then-is_still-clause-works c = still_rests c.args.self.now (not_still _ _ c.is_still.ensures c.if-is_still.true)
