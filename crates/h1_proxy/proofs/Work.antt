@@ -365,6 +365,19 @@ told_of p history all f = record {
 
 -- ---- how much can be left
 
+pub client_held : (p : Proxy) (history : List ProxyStep) (all : Happenings) → Forwards p history all
+    → length p.client.kept.unread ≤ p.client.settings.h1_hold_size
+client_held p history all f = let told = told_of p history all f in unread_bounded (setting_of p.client.settings) p.client.kept told.trace told.stands
+
+pub server_held : (p : Proxy) (history : List ProxyStep) (all : Happenings) (s : servers.State) → Forwards p history all → p.server ≡ Some s
+    → length s.kept.unread ≤ p.client.settings.h1_hold_size
+server_held p history all s f is =
+    let stands = subst ServerTold is (told_of p history all f).server in
+    let same = subst (HasSettings p.config) is f.server in
+    let held = held_fits (asking.setting_of s.settings) stands.0 s.kept stands.1 in
+    let room = ap (λ (t : Settings). t.h1_hold_size) (same ∙ sym f.client) in
+    omega (arith, held, room)
+
 request_fits : (u : Option Unsent) (s : Option Sent) → request_left u s ≤ 3
 request_fits (Some u) s = omega arith
 request_fits None None = omega arith
