@@ -4,6 +4,7 @@ use Rattle.std.specs.Prelude.{IsTrue, is_some, ⊤, ◌==◌, if◌then◌else�
 use Rattle.std.proofs.lemmas.Bool.{false≢true}
 use Rattle.http_config.specs.Config.{Settings}
 use Rattle.h1_model.specs.Event as on
+use Rattle.h1_model.specs.Setting.{Setting}
 use Rattle.h1_model.specs.Sums as sums
 use Rattle.h1_model.specs.Sums.{Step}
 use Rattle.h1_machine.specs.StandsFor.{StandsFor}

@@ -1,7 +1,7 @@
 //! The calls of a connection to a server, each where it is allowed.
 #![tactic(auto, using(crate::proofs::Sides::server_same))]
 
-ghost use Rattle.std.specs.Prelude.{IsTrue, IfOk, OnOk};
+ghost use Rattle.std.specs.Prelude.{◌≡◌, false, IsTrue, IfOk, OnOk};
 ghost use Rattle.h1_codec.specs.Meaning.{size_of};
 ghost use Rattle.h1_client.specs.Meaning.{request_of};
 ghost use Rattle.h1_forward_sides.specs.Sides.{ServerStays, MayAsk, SendsBody};
@@ -38,7 +38,8 @@ pub fn ask(
 
 /// Whether a piece of the body that is sent may come, and its end.
 pub fn sends_body(server: &ClientConnection) -> bool
-    ensures { IsTrue result → SendsBody server.now }
+    ensures sends { IsTrue result → SendsBody server.now }
+    ensures none { result ≡ false → SendsBody server.now → ⊥ }
 {
     if !server.can_chunk() {
         return false;
