@@ -30,7 +30,7 @@ use Rattle.h1_proxy.specs.declared.proxy.Proxy.{Proxy}
 use Rattle.h1_proxy.specs.declared.proxy.Unsent.{Unsent}
 use Rattle.h1_proxy.specs.declared.proxy.Sent.{Sent}
 use Rattle.h1_proxy.specs.Kept.{is_closing, HasSettings, Forwards, Goes, GoesBy, Runs, IsIdle}
-use Rattle.h1_proxy.specs.Rests.{has_room, may_turn, RestsSent, RestsBy, Rests, RestsWhereItMay, Settles, sent_left, request_left, side_left, left, going_on, work, ServerTold, Told, LeavesLess, LeavesMore, Works, Turns, BodyRests, WorksBody}
+use Rattle.h1_proxy.specs.Rests.{has_room, may_turn, RestsSent, RestsBy, Rests, RestsWhereItMay, Settles, mark, sent_left, request_left, side_left, left, going_on, work, ServerTold, Told, LeavesLess, LeavesMore, Works, Turns, BodyRests, WorksBody}
 
 -- ---- one after another
 
@@ -148,7 +148,7 @@ server_much_less n p a b x less = λ told. (
 pub server_same : (event : asked.ClientEvent) (Says : asked.ClientOutcome → Type 0) (p : Proxy) (a b : servers.State) → LeavesAll event
     → servers.GoesOn a event Says b → LeavesLess 0 (record p { server = Some a }) (record p { server = Some b })
 server_same event Says p a b all one = λ told. (
-  record { trace = told.trace; stands = told.stands; server = (_, one.stands told.server.0 told.server.1) },
+  record { trace = told.trace; stands = told.stands; server = (record { event = event; outcome = one.outcome } ∷ told.server.0, one.stands told.server.0 told.server.1) },
   let same = all_left (asking.setting_of a.settings) a.kept b.kept event one.outcome all one.step in omega (arith, same),
 )
 
@@ -201,7 +201,7 @@ dropped None (Some s) = omega arith
 pub drop_sent : (p : Proxy) → LeavesLess 0 p (record p { sent = None })
 drop_sent p = λ told. (record { trace = told.trace; stands = told.stands; server = told.server }, let less = dropped p.unsent p.sent in omega (arith, less))
 
-sent_some : (b : Bool) → 0 < (if b then 1 else 2)
+sent_some : (b : Bool) → 0 < mark b
 sent_some true = omega arith
 sent_some false = omega arith
 
@@ -225,22 +225,22 @@ remarked n p s t runs less = λ told. (
 
 pub same_mark : (s t : Sent) → t.is_whole ≡ s.is_whole → t.is_broken ≡ s.is_broken → sent_left t + 0 ≤ sent_left s
 same_mark s t whole broken =
-    let same = ap₂ (λ (w b : Bool). if w || b then 1 else 2) whole broken in omega (arith, same)
+    let same = ap₂ (λ (w b : Bool). mark (w || b)) whole broken in omega (arith, same)
 
 pub whole_mark : (s t : Sent) → s.is_whole ≡ false → s.is_broken ≡ false → t.is_whole ≡ true → sent_left t + 1 ≤ sent_left s
 whole_mark s t whole broken now =
-    let old : sent_left s ≡ 2 = ap₂ (λ (w b : Bool). if w || b then 1 else 2) whole broken in
-    let new : sent_left t ≡ 1 = ap (λ (w : Bool). if w || t.is_broken then 1 else 2) now in
+    let old : sent_left s ≡ 2 = ap₂ (λ (w b : Bool). mark (w || b)) whole broken in
+    let new : sent_left t ≡ 1 = ap (λ (w : Bool). mark (w || t.is_broken)) now in
     omega (arith, old, new)
 
-or_true : (b : Bool) → (if b || true then 1 else 2) ≡ 1
+or_true : (b : Bool) → mark (b || true) ≡ 1
 or_true true = refl
 or_true false = refl
 
 pub broken_mark : (s t : Sent) → s.is_whole ≡ false → s.is_broken ≡ false → t.is_broken ≡ true → sent_left t + 1 ≤ sent_left s
 broken_mark s t whole broken now =
-    let old : sent_left s ≡ 2 = ap₂ (λ (w b : Bool). if w || b then 1 else 2) whole broken in
-    let new : sent_left t ≡ 1 = ap (λ (b : Bool). if t.is_whole || b then 1 else 2) now ∙ or_true t.is_whole in
+    let old : sent_left s ≡ 2 = ap₂ (λ (w b : Bool). mark (w || b)) whole broken in
+    let new : sent_left t ≡ 1 = ap (λ (b : Bool). mark (t.is_whole || b)) now ∙ or_true t.is_whole in
     omega (arith, old, new)
 
 -- one that waited was sent on
@@ -250,7 +250,7 @@ sent_less p u = λ told. (
   let most = mark_fits (u.sent.is_whole || u.sent.is_broken) in omega (arith, most),
 )
   where
-    mark_fits : (b : Bool) → (if b then 1 else 2) ≤ 2
+    mark_fits : (b : Bool) → mark b ≤ 2
     mark_fits true = omega arith
     mark_fits false = omega arith
 
@@ -383,7 +383,7 @@ request_fits (Some u) s = omega arith
 request_fits None None = omega arith
 request_fits None (Some s) = mark_fits (s.is_whole || s.is_broken)
   where
-    mark_fits : (b : Bool) → (if b then 1 else 2) ≤ 3
+    mark_fits : (b : Bool) → mark b ≤ 3
     mark_fits true = omega arith
     mark_fits false = omega arith
 
@@ -415,7 +415,7 @@ work_fits p history all f =
 -- so many were made
 pub record HasTurned (n : ℕ) (p q : Proxy) : Type 0 where
   pub goes : Goes p q
-  pub works : (history : List ProxyStep) (all : Happenings) → Forwards p history all → Told q × (work q + n ≤ work p)
+  pub leaves : (history : List ProxyStep) (all : Happenings) → Forwards p history all → Told q × (work q + n ≤ work p)
 
 pub more_turns : (more : Bool) (n : ℕ) (p q r : Proxy) → more ≡ true → Told q → work q + n ≤ work p → Turns more q r → Told r × (work r + (n + 1) ≤ work p)
 more_turns true n p q r is told old x = let y = x told in (y.0, let less = y.1 in omega (arith, old, less))
@@ -424,13 +424,13 @@ more_turns false n p q r is told old x = absurd (false≢true is)
 pub no_more_turns : (more : Bool) (n : ℕ) (p q r : Proxy) → HasTurned n p q → more ≡ false → Turns more q r
     → Settles p r
 no_more_turns true n p q r turned is x = absurd (true≢false is)
-no_more_turns false n p q r turned is x = λ history all f. (x (turned.works history all f).0).1
+no_more_turns false n p q r turned is x = λ history all f. (x (turned.leaves history all f).0).1
 
 -- more than are possible weren't
 pub too_many : (n : ℕ) (p q : Proxy) → HasTurned n p q → 32 * p.config.h1_hold_size + 8 ≤ n
     → Settles p q
 too_many n p q turned many = λ history all f.
-    let y = turned.works history all f in
+    let y = turned.leaves history all f in
     let old = y.1 in
     absurd (omega (arith, old, many, work_fits p history all f))
 

@@ -55,8 +55,12 @@ Settles old new = (history : List ProxyStep) (all : Happenings) → Forwards old
 -- ---- how much is left
 
 -- of a request that was sent on: until its end was handed on, or it broke
+abbrev pub mark : Bool → ℕ
+mark true = 1
+mark false = 2
+
 abbrev pub sent_left : Sent → ℕ
-sent_left s = if s.is_whole || s.is_broken then 1 else 2
+sent_left s = mark (s.is_whole || s.is_broken)
 
 abbrev pub request_left : Option Unsent → Option Sent → ℕ
 request_left (Some u) sent = 3

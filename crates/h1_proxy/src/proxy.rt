@@ -1,5 +1,5 @@
 //! A forwarder: what it keeps, and what it says of itself.
-ghost use Rattle.std.specs.Prelude.{◌≡◌, ℕ, List, [], true, None, is_some, option_map};
+ghost use Rattle.std.specs.Prelude.{◌≡◌, ℕ, List, [], true, not, None, is_some, option_map};
 ghost use Rattle.h1_model.specs.Event as on;
 ghost use Rattle.h1_model.specs.Request.{Head};
 ghost use Rattle.h1_decode.specs.HeadItem.{SaysHead};
@@ -10,6 +10,7 @@ ghost use Rattle.h1_connection.specs.State.{fresh_state};
 ghost use Rattle.h1_machine.specs.Deadline.{deadline_by};
 ghost use Rattle.h1_machine.specs.Local.{closing_by};
 ghost use Rattle.h1_forward_traces.specs.Happenings.{nothing_happened};
+ghost use Rattle.h1_proxy.specs.Rests.{has_room};
 ghost use Rattle.h1_proxy.specs.Kept.{client_of, server_of, Forwards, IsUnsent, is_closing, wants_server, server_text, server_allows, client_takes};
 
 use h1_client::ClientConnection;

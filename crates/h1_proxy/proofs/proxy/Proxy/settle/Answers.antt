@@ -4,12 +4,12 @@ use Rattle.h1_proxy.proofs.Work.{told_of, more_turns, no_more_turns, too_many}
 use Rattle.h1_proxy.proofs.proxy.Proxy.settle.Goals as goal
 
 pub loop-turn-init : goal.loop-turn-init
-loop-turn-init c = record { goes = goes_same _; works = λ history all f. (told_of _ history all f, omega arith) }
+loop-turn-init c = record { goes = goes_same _; leaves = λ history all f. (told_of _ history all f, omega arith) }
 
 pub loop-turn-preserved : goal.loop-turn-preserved
 loop-turn-preserved c = record {
   goes = goes_then _ _ _ c.loop-turn.invariant.goes c.in_ok-more.ensures.goes;
-  works = λ history all f. let x = c.loop-turn.invariant.works history all f in more_turns _ _ _ _ _ c.if-not-more.false x.0 x.1 c.in_ok-more.ensures.works;
+  leaves = λ history all f. let x = c.loop-turn.invariant.leaves history all f in more_turns _ _ _ _ _ c.if-not-more.false x.0 x.1 c.in_ok-more.ensures.works;
 }
 
 pub returns-then-not-more-clause-goes : goal.returns-then-not-more-clause-goes
