@@ -202,8 +202,8 @@ impl Proxy {
         ensures works { IfOk result (λ more. Works more (record self.old { server = Some server }) self.new) }
     {
         if sent.is_answered {
-            let more = self.pass_piece(sent, server)?;
-            return Ok(more);
+            let moved = self.pass_piece(sent, server)?;
+            return Ok(moved);
         }
         let more = self.pass_answer(sent, server)?;
         Ok(more)
@@ -295,8 +295,8 @@ impl Proxy {
         ensures works { IfOk result (λ more. sent.is_answered ≡ true → Works more (record self.old { server = Some server }) self.new) }
     {
         if !self.client.can_chunk() {
-            let more = self.pass_body(sent, server)?;
-            return Ok(more);
+            let moved = self.pass_body(sent, server)?;
+            return Ok(moved);
         }
         let mut server = server;
         match next_piece(&mut server)? {

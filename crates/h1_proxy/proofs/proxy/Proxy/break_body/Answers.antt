@@ -3,8 +3,8 @@ use Rattle.h1_proxy.proofs.Moves.{goes_then, fails, resent}
 use Rattle.h1_proxy.proofs.Work.{less_then, weaker, closed_less, drop_sent, remarked, broken_mark}
 use Rattle.h1_proxy.proofs.proxy.Proxy.break_body.Goals as goal
 
-pub returns-then-is_answered-clause-goes : goal.returns-then-is_answered-clause-goes
-returns-then-is_answered-clause-goes c =
+pub returns-then-sent-clause-goes : goal.returns-then-sent-clause-goes
+returns-then-sent-clause-goes c =
     resent (record c.args.self.now { server = Some c.args.server }) c.args.sent c.broken.result
     (record { unsent = c.requires.runs.unsent; sent = c.requires.runs.sent }) c.broken.ensures.whole
 
@@ -12,8 +12,8 @@ pub returns-clause-goes : goal.returns-clause-goes
 returns-clause-goes c =
     goes_then _ _ _ (fails (record c.args.self.now { server = Some c.args.server }) c.requires.runs.unsent) c.in_ok-reply.ensures.goes
 
-pub returns-then-is_answered-clause-works : goal.returns-then-is_answered-clause-works
-returns-then-is_answered-clause-works c = λ unended unbroken.
+pub returns-then-sent-clause-works : goal.returns-then-sent-clause-works
+returns-then-sent-clause-works c = λ unended unbroken.
     remarked 1 (record c.args.self.now { server = Some c.args.server }) c.args.sent c.broken.result
     (record { unsent = c.requires.runs.unsent; sent = c.requires.runs.sent }) (broken_mark c.args.sent c.broken.result unended unbroken c.broken.ensures.broken)
 

@@ -1,7 +1,7 @@
 use Rattle.h1_proxy.proofs.proxy.Proxy.pass.Goals as goal
 
-pub returns-in_ok-more-1-clause-works : goal.returns-in_ok-more-1-clause-works
-returns-in_ok-more-1-clause-works c = c.in_ok-more-1.ensures.works c.if-is_answered.true
+pub returns-then-sent-clause-works : goal.returns-then-sent-clause-works
+returns-then-sent-clause-works c = c.in_ok-moved.ensures.works c.if-sent.true
 
 pub returns-in_ok-more-clause-works : goal.returns-in_ok-more-clause-works
-returns-in_ok-more-clause-works c = c.in_ok-more.ensures.works c.if-is_answered.false
+returns-in_ok-more-clause-works c = c.in_ok-more.ensures.works c.if-sent.false

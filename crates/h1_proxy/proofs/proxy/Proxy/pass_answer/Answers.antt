@@ -4,6 +4,9 @@ use Rattle.std.proofs.Common.{Some, None}
 use Rattle.std.proofs.Common.{arith, true, sym, ◌∙◌}
 use Rattle.std.proofs.lemmas.Bool.{false≢true}
 use Rattle.h1_proxy.proofs.Work.{works, less_then, server_less, server_much_less, closed_less, drop_sent, then_told, sent_rests}
+use Rattle.std.proofs.Common.{subst}
+use Rattle.h1_client.specs.declared.event.NextAnswer.{NextAnswer}
+use Rattle.h1_forward_sides.specs.Leaves.{LeavesAnswer}
 use Rattle.h1_proxy.proofs.proxy.Proxy.pass_answer.Goals as goal
 
 pub take_answer-requires : goal.take_answer-requires
@@ -12,50 +15,50 @@ take_answer-requires c = c.requires
 pub fail-requires : goal.fail-requires
 fail-requires c = record { unsent = c.requires.runs.unsent }
 
-pub fail-requires-2 : goal.fail-requires-2
-fail-requires-2 c = record { unsent = c.requires.runs.unsent }
+pub fail-requires-in-Closed : goal.fail-requires-in-Closed
+fail-requires-in-Closed c = record { unsent = c.requires.runs.unsent }
 
 pub pass_body-requires : goal.pass_body-requires
 pass_body-requires c = c.requires
 
-pub returns-in-Answer-clause-goes : goal.returns-in-Answer-clause-goes
-returns-in-Answer-clause-goes c =
-    goes_then _ _ _ (server_moves c.args.self.now c.args.server c.next_answer.new.server c.in_ok-next_answer.ensures.stays) c.in_ok-take_answer-in-Answer.ensures.goes
+pub returns-in_ok-take_answer-in-Answer-clause-goes : goal.returns-in_ok-take_answer-in-Answer-clause-goes
+returns-in_ok-take_answer-in-Answer-clause-goes c =
+    goes_then _ _ _ (server_moves c.args.self.now c.args.server c.next_answer.new.server c.in_ok-item.ensures.stays) c.in_ok-take_answer-in-Answer.ensures.goes
 
-pub returns-in-Fault-clause-goes : goal.returns-in-Fault-clause-goes
-returns-in-Fault-clause-goes c = goes_then _ _ _ (closes (record c.args.self.now { server = Some c.args.server })) c.in_ok-fail-in-Fault.ensures.goes
+pub returns-in_ok-fail-in-Fault-clause-goes : goal.returns-in_ok-fail-in-Fault-clause-goes
+returns-in_ok-fail-in-Fault-clause-goes c = goes_then _ _ _ (closes (record c.args.self.now { server = Some c.args.server })) c.in_ok-fail-in-Fault.ensures.goes
 
-pub returns-in-Closed-clause-goes : goal.returns-in-Closed-clause-goes
-returns-in-Closed-clause-goes c = goes_then _ _ _ (closes (record c.args.self.now { server = Some c.args.server })) c.in_ok-fail-in-Closed.ensures.goes
+pub returns-in_ok-fail-in-Closed-clause-goes : goal.returns-in_ok-fail-in-Closed-clause-goes
+returns-in_ok-fail-in-Closed-clause-goes c = goes_then _ _ _ (closes (record c.args.self.now { server = Some c.args.server })) c.in_ok-fail-in-Closed.ensures.goes
 
-pub returns-in_ok-more-clause-goes : goal.returns-in_ok-more-clause-goes
-returns-in_ok-more-clause-goes c =
-    goes_then _ _ _ (server_moves c.args.self.now c.args.server c.next_answer.new.server c.in_ok-next_answer.ensures.stays) c.in_ok-more.ensures.goes
+pub returns-in_ok-more-in-Pending-clause-goes : goal.returns-in_ok-more-in-Pending-clause-goes
+returns-in_ok-more-in-Pending-clause-goes c =
+    goes_then _ _ _ (server_moves c.args.self.now c.args.server c.next_answer.new.server c.in_ok-item.ensures.stays) c.in_ok-more-in-Pending.ensures.goes
 
-pub returns-in-Answer-clause-works : goal.returns-in-Answer-clause-works
-returns-in-Answer-clause-works c = λ unanswered.
+pub returns-in_ok-take_answer-in-Answer-clause-works : goal.returns-in_ok-take_answer-in-Answer-clause-works
+returns-in_ok-take_answer-in-Answer-clause-works c = λ unanswered.
     works 15 _ _ (omega arith)
     (less_then 15 (record c.args.self.now { server = Some c.args.server }) (record c.args.self.now { server = Some c.next_answer.new.server }) _
-     (server_much_less 15 c.args.self.now c.args.server c.next_answer.new.server c.in_ok-next_answer.ensures.stays c.in-Answer.ensures.leaves)
+     (server_much_less 15 c.args.self.now c.args.server c.next_answer.new.server c.in_ok-item.ensures.stays (subst (λ (n : NextAnswer). LeavesAnswer n c.args.server c.next_answer.new.server) c.in-Answer.is c.in_ok-item.ensures.leaves))
      c.in_ok-take_answer-in-Answer.ensures.works)
 
-pub returns-in-Fault-clause-works : goal.returns-in-Fault-clause-works
-returns-in-Fault-clause-works c = λ unanswered.
+pub returns-in_ok-fail-in-Fault-clause-works : goal.returns-in_ok-fail-in-Fault-clause-works
+returns-in_ok-fail-in-Fault-clause-works c = λ unanswered.
     let p = record c.args.self.now { server = None } in
     works 1 _ _ (omega arith)
     (less_then 1 (record c.args.self.now { server = Some c.args.server }) p _ (closed_less c.args.self.now c.args.server)
      (less_then 0 p (record p { sent = None }) _ (drop_sent p) c.in_ok-fail-in-Fault.ensures.works))
 
-pub returns-in-Closed-clause-works : goal.returns-in-Closed-clause-works
-returns-in-Closed-clause-works c = λ unanswered.
+pub returns-in_ok-fail-in-Closed-clause-works : goal.returns-in_ok-fail-in-Closed-clause-works
+returns-in_ok-fail-in-Closed-clause-works c = λ unanswered.
     let p = record c.args.self.now { server = None } in
     works 1 _ _ (omega arith)
     (less_then 1 (record c.args.self.now { server = Some c.args.server }) p _ (closed_less c.args.self.now c.args.server)
      (less_then 0 p (record p { sent = None }) _ (drop_sent p) c.in_ok-fail-in-Closed.ensures.works))
 
-pub returns-in_ok-more-clause-works : goal.returns-in_ok-more-clause-works
-returns-in_ok-more-clause-works c = λ unanswered.
-    then_told c.args.sent c.next_answer.new.server c.in_ok-more.more c.args.server c.args.self.now c.pass_body.new.self
-    (server_less c.args.self.now c.args.server c.next_answer.new.server c.in_ok-next_answer.ensures.stays) c.in_ok-more.ensures.works
+pub returns-in_ok-more-in-Pending-clause-works : goal.returns-in_ok-more-in-Pending-clause-works
+returns-in_ok-more-in-Pending-clause-works c = λ unanswered.
+    then_told c.args.sent c.next_answer.new.server c.in_ok-more-in-Pending.more c.args.server c.args.self.now c.pass_body.new.self
+    (server_less c.args.self.now c.args.server c.next_answer.new.server c.in_ok-item.ensures.stays) c.in_ok-more-in-Pending.ensures.works
     (λ told rests. sent_rests c.args.sent c.next_answer.new.server c.args.self.now c.pass_body.new.self rests
-        (λ _. c.in-Pending.ensures.leaves told.server.0 told.server.1) (λ is. absurd (false≢true (sym unanswered ∙ is))))
+        (λ _. subst (λ (n : NextAnswer). LeavesAnswer n c.args.server c.next_answer.new.server) c.in-Pending.is c.in_ok-item.ensures.leaves told.server.0 told.server.1) (λ is. absurd (false≢true (sym unanswered ∙ is))))

@@ -7,8 +7,8 @@ use Rattle.h1_proxy.proofs.proxy.Proxy.pass_head.Goals as goal
 pub returns-then-not-is_eof-clause-goes : goal.returns-then-not-is_eof-clause-goes
 returns-then-not-is_eof-clause-goes c =
     let p = record c.args.self.now { server = Some c.args.server } in
-    goes_then _ _ _ (resent p c.args.sent c.answered.result (record { unsent = c.requires.runs.unsent; sent = c.requires.runs.sent }) c.answered.ensures.whole)
-    (client_done (record p { sent = Some c.answered.result }) c.put_head.new.client c.in_ok-put_head.ensures)
+    goes_then _ _ _ (resent p c.args.sent c.answered-sent.result (record { unsent = c.requires.runs.unsent; sent = c.requires.runs.sent }) c.answered-sent.ensures.whole)
+    (client_done (record p { sent = Some c.answered-sent.result }) c.put_head.new.client c.in_ok-put_head.ensures)
 
 pub part-requires : goal.part-requires
 part-requires c = record { runs = record { unsent = c.requires.runs.unsent; sent = refl } }
@@ -16,16 +16,16 @@ part-requires c = record { runs = record { unsent = c.requires.runs.unsent; sent
 pub returns-clause-goes : goal.returns-clause-goes
 returns-clause-goes c =
     let p = record c.args.self.now { server = Some c.args.server } in
-    let q = record p { sent = Some c.answered.result } in
-    goes_then _ _ _ (resent p c.args.sent c.answered.result (record { unsent = c.requires.runs.unsent; sent = c.requires.runs.sent }) c.answered.ensures.whole)
+    let q = record p { sent = Some c.answered-sent.result } in
+    goes_then _ _ _ (resent p c.args.sent c.answered-sent.result (record { unsent = c.requires.runs.unsent; sent = c.requires.runs.sent }) c.answered-sent.ensures.whole)
     (goes_then _ _ _ (client_done q c.leave_body.new.client c.leave_body.ensures)
       (goes_then _ _ _ (client_done (record q { client = c.leave_body.new.client }) c.put_head-2.new.client c.in_ok-put_head-2.ensures) c.part.ensures.goes))
 
 pub returns-then-not-is_eof-clause-works : goal.returns-then-not-is_eof-clause-works
 returns-then-not-is_eof-clause-works c =
     let p = record c.args.self.now { server = Some c.args.server } in
-    let q = record p { sent = Some c.answered.result } in
-    less_then 0 p q _ (remarked 0 p c.args.sent c.answered.result (record { unsent = c.requires.runs.unsent; sent = c.requires.runs.sent }) (same_mark c.args.sent c.answered.result c.answered.ensures.whole c.answered.ensures.broken))
+    let q = record p { sent = Some c.answered-sent.result } in
+    less_then 0 p q _ (remarked 0 p c.args.sent c.answered-sent.result (record { unsent = c.requires.runs.unsent; sent = c.requires.runs.sent }) (same_mark c.args.sent c.answered-sent.result c.answered-sent.ensures.whole c.answered-sent.ensures.broken))
     (client_less on.done q c.put_head.new.client c.in_ok-put_head.ensures)
 
 pub returns-clause-works : goal.returns-clause-works

@@ -13,15 +13,15 @@ fail-requires c = record { unsent = c.requires.runs.unsent }
 pub returns-in_ok-more-in-Some-clause-goes : goal.returns-in_ok-more-in-Some-clause-goes
 returns-in_ok-more-in-Some-clause-goes c = of_server c.args.self.now _ c.in-Some.server (sym c.in-Some.ensures.value) c.in_ok-more-in-Some.ensures.goes
 
-pub returns-in-None-clause-goes : goal.returns-in-None-clause-goes
-returns-in-None-clause-goes c = of_no_server c.args.self.now _ _ (sym c.in-None.ensures.value) c.in_ok-fail-in-None.ensures.goes
+pub returns-in_ok-fail-in-None-clause-goes : goal.returns-in_ok-fail-in-None-clause-goes
+returns-in_ok-fail-in-None-clause-goes c = of_no_server c.args.self.now _ _ (sym c.in-None.ensures.value) c.in_ok-fail-in-None.ensures.goes
 
 pub returns-in_ok-more-in-Some-clause-works : goal.returns-in_ok-more-in-Some-clause-works
 returns-in_ok-more-in-Some-clause-works c =
     works_of_server c.in_ok-more-in-Some.more c.args.self.now c.pass.new.self (Some c.in-Some.server) (sym c.in-Some.ensures.value) c.in_ok-more-in-Some.ensures.works
 
-pub returns-in-None-clause-works : goal.returns-in-None-clause-works
-returns-in-None-clause-works c =
+pub returns-in_ok-fail-in-None-clause-works : goal.returns-in_ok-fail-in-None-clause-works
+returns-in_ok-fail-in-None-clause-works c =
     let p = record c.args.self.now { server = None } in
     works_of_server true c.args.self.now _ None (sym c.in-None.ensures.value)
     (works 1 p _ (omega arith) (less_then 1 p (record p { sent = None }) _ (over_sent p c.args.sent (record { unsent = c.requires.runs.unsent; sent = c.requires.runs.sent })) c.in_ok-fail-in-None.ensures.works))

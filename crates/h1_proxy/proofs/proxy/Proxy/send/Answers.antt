@@ -8,17 +8,17 @@ use Rattle.h1_proxy.proofs.proxy.Proxy.send.Goals as goal
 pub returns-then-is_server_over-clause-goes : goal.returns-then-is_server_over-clause-goes
 returns-then-is_server_over-clause-goes c = closes (record c.args.self.now { unsent = Some c.args.unsent })
 
-pub returns-in-None-clause-goes : goal.returns-in-None-clause-goes
-returns-in-None-clause-goes c = closes_as (record c.args.self.now { unsent = Some c.args.unsent }) c.take.new.self c.take.ensures.after
+pub returns-in_default-clause-goes : goal.returns-in_default-clause-goes
+returns-in_default-clause-goes c = closes_as (record c.args.self.now { unsent = Some c.args.unsent }) c.take.new.self c.take.ensures.after
 
-pub returns-then-ask-clause-goes : goal.returns-then-ask-clause-goes
-returns-then-ask-clause-goes c =
+pub returns-then-branch-clause-goes : goal.returns-then-branch-clause-goes
+returns-then-branch-clause-goes c =
     let p = record c.args.self.now { unsent = Some c.args.unsent } in
     let s = c.in-Some.server in
     let t = c.tell_time.new.server in
     of_server p _ s (sym c.in-Some.ensures.value)
     (goes_then _ _ _ (server_moves p s t c.tell_time.ensures)
-      (asks p c.args.unsent t c.ask.new.server (did_ask _ _ _ _ _ c.if-ask.true c.in_ok-ask.ensures)))
+      (asks p c.args.unsent t c.ask.new.server (did_ask _ _ _ _ _ c.if-branch.true c.in_ok-ask.ensures)))
 
 pub returns-clause-goes : goal.returns-clause-goes
 returns-clause-goes c = closes_as (record c.args.self.now { unsent = Some c.args.unsent }) c.take.new.self c.take.ensures.after
@@ -27,11 +27,11 @@ pub returns-then-is_server_over-clause-works : goal.returns-then-is_server_over-
 returns-then-is_server_over-clause-works c =
     works 1 _ _ (omega arith) (over_less (record c.args.self.now { unsent = Some c.args.unsent }) (c.is_server_over.ensures c.if-is_server_over.true))
 
-pub returns-in-None-clause-works : goal.returns-in-None-clause-works
-returns-in-None-clause-works c = waits_rests c.args.self.now c.args.unsent c.take.new.self (sym c.in-None.ensures.value) c.take.ensures.after
+pub returns-in_default-clause-works : goal.returns-in_default-clause-works
+returns-in_default-clause-works c = waits_rests c.args.self.now c.args.unsent c.take.new.self (sym c.in_default.ensures.value) c.take.ensures.after
 
-pub returns-then-ask-clause-works : goal.returns-then-ask-clause-works
-returns-then-ask-clause-works c =
+pub returns-then-branch-clause-works : goal.returns-then-branch-clause-works
+returns-then-branch-clause-works c =
     let p = record c.args.self.now { unsent = Some c.args.unsent } in
     let s = c.in-Some.server in
     let t = c.tell_time.new.server in
@@ -39,7 +39,7 @@ returns-then-ask-clause-works c =
     works_of_server true p _ (Some s) (sym c.in-Some.ensures.value)
     (works 1 (record p { server = Some s }) _ (omega arith)
      (then_less 1 (record p { server = Some s }) (record p { server = Some t }) _ (server_less p s t c.tell_time.ensures)
-      (then_less 1 (record p { server = Some t }) (record p { server = Some u }) _ (server_asks p c.args.unsent t u (did_ask _ _ _ _ _ c.if-ask.true c.in_ok-ask.ensures))
+      (then_less 1 (record p { server = Some t }) (record p { server = Some u }) _ (server_asks p c.args.unsent t u (did_ask _ _ _ _ _ c.if-branch.true c.in_ok-ask.ensures))
        (sent_less (record p { server = Some u }) c.args.unsent))))
 
 pub returns-clause-works : goal.returns-clause-works

@@ -10,9 +10,9 @@ returns-then-server_room-eq-0 c = record { goes = server_nothing c.args.bytes.no
 pub returns-then-not-can_read_server : goal.returns-then-not-can_read_server
 returns-then-not-can_read_server c = record { goes = server_nothing c.args.bytes.now c.args.self.now }
 
-pub returns-in-None : goal.returns-in-None
-returns-in-None c = record {
-  goes = of_none_by (server c.args.bytes.now) (took 0) c.args.self.now c.take.new.self (sym c.in-None.ensures.value) c.take.ensures.after
+pub returns-in_default : goal.returns-in_default
+returns-in_default c = record {
+  goes = of_none_by (server c.args.bytes.now) (took 0) c.args.self.now c.take.new.self (sym c.in_default.ensures.value) c.take.ensures.after
       (server_nothing c.args.bytes.now c.args.self.now);
 }
 

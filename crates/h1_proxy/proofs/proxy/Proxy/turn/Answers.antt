@@ -12,8 +12,8 @@ returns-in_ok-more-in-Some-clause-goes c = of_unsent c.args.self.now _ c.in-Some
 pub go_on-requires : goal.go_on-requires
 go_on-requires c = record { unsent = c.take.ensures.after }
 
-pub returns-in_ok-more-clause-goes : goal.returns-in_ok-more-clause-goes
-returns-in_ok-more-clause-goes c = of_no_unsent c.args.self.now _ _ (sym c.in-None.ensures.value ∙ sym c.take.ensures.after) c.in_ok-more.ensures.goes
+pub returns-in_ok-more-in-None-clause-goes : goal.returns-in_ok-more-in-None-clause-goes
+returns-in_ok-more-in-None-clause-goes c = of_no_unsent c.args.self.now _ _ (sym c.in-None.ensures.value ∙ sym c.take.ensures.after) c.in_ok-more-in-None.ensures.goes
 
 pub returns-then-is_still-clause-works : goal.returns-then-is_still-clause-works
 returns-then-is_still-clause-works c = still_rests c.args.self.now (not_still _ _ c.is_still.ensures c.if-is_still.true)
@@ -23,7 +23,7 @@ returns-in_ok-more-in-Some-clause-works c =
     turns c.in_ok-more-in-Some.more c.args.self.now c.send.new.self (runs_on _ _ c.is_still.ensures c.if-is_still.false)
     (works_of_unsent c.in_ok-more-in-Some.more c.args.self.now c.send.new.self _ (sym c.in-Some.ensures.value) c.in_ok-more-in-Some.ensures.works)
 
-pub returns-in_ok-more-clause-works : goal.returns-in_ok-more-clause-works
-returns-in_ok-more-clause-works c =
-    turns c.in_ok-more.more c.args.self.now c.go_on.new.self (runs_on _ _ c.is_still.ensures c.if-is_still.false)
-    (works_of_unsent c.in_ok-more.more c.args.self.now c.go_on.new.self _ (sym c.in-None.ensures.value ∙ sym c.take.ensures.after) c.in_ok-more.ensures.works)
+pub returns-in_ok-more-in-None-clause-works : goal.returns-in_ok-more-in-None-clause-works
+returns-in_ok-more-in-None-clause-works c =
+    turns c.in_ok-more-in-None.more c.args.self.now c.go_on.new.self (runs_on _ _ c.is_still.ensures c.if-is_still.false)
+    (works_of_unsent c.in_ok-more-in-None.more c.args.self.now c.go_on.new.self _ (sym c.in-None.ensures.value ∙ sym c.take.ensures.after) c.in_ok-more-in-None.ensures.works)
