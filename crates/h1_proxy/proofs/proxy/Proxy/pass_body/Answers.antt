@@ -26,8 +26,9 @@ returns-then-not-may_send-clause-goes c = goes_same (record c.args.self.now { se
 pub returns-in-Bytes-clause-goes : goal.returns-in-Bytes-clause-goes
 returns-in-Bytes-clause-goes c =
     pieces c.in-Bytes.bytes c.args.self.now c.args.sent c.next_bytes.new.client c.args.server c.chunk.new.self c.requires.runs (subst (λ (n : Pulled). BringsPulled n c.args.self.now.client c.next_bytes.new.client) c.in-Bytes.is c.in_ok-bytes.ensures.brings)
-    (did_chunk _ _ _ _ c.as_slice.ensures
-      (server_did (asked.chunk c.as_slice.result.now) _ _ c.chunk.ensures.settings ((c.may_send.ensures.sends c.if-not-may_send.false).chunk _) c.in_ok-chunk-in-Bytes.ensures.stands))
+    (did_chunk c.in-Bytes.bytes c.as_slice.result.now c.args.server c.chunk.new.self c.as_slice.ensures
+    (server_did (asked.chunk c.as_slice.result.now) c.args.server c.chunk.new.self c.chunk.ensures.settings
+    ((c.may_send.ensures.sends c.if-not-may_send.false).chunk c.as_slice.result.now) c.in_ok-chunk-in-Bytes.ensures.stands))
 
 pub returns-in-Trailers-clause-goes : goal.returns-in-Trailers-clause-goes
 returns-in-Trailers-clause-goes c = client_done (record c.args.self.now { server = Some c.args.server }) c.next_bytes.new.client (subst (λ (n : Pulled). BringsPulled n c.args.self.now.client c.next_bytes.new.client) c.in-Trailers.is c.in_ok-bytes.ensures.brings)
@@ -35,7 +36,7 @@ returns-in-Trailers-clause-goes c = client_done (record c.args.self.now { server
 pub returns-in-End-clause-goes : goal.returns-in-End-clause-goes
 returns-in-End-clause-goes c =
     ends c.args.self.now c.args.sent c.whole.result c.next_bytes.new.client c.args.server c.end_body.new.self c.requires.runs c.whole.ensures (subst (λ (n : Pulled). BringsPulled n c.args.self.now.client c.next_bytes.new.client) c.in-End.is c.in_ok-bytes.ensures.brings)
-    (server_did asked.body_end _ _ c.end_body.ensures.settings (c.may_send.ensures.sends c.if-not-may_send.false).ends c.in_ok-end_body-in-End.ensures.stands)
+    (server_did asked.body_end c.args.server c.end_body.new.self c.end_body.ensures.settings (c.may_send.ensures.sends c.if-not-may_send.false).ends c.in_ok-end_body-in-End.ensures.stands)
 
 pub returns-in-Broken-clause-goes : goal.returns-in-Broken-clause-goes
 returns-in-Broken-clause-goes c =

@@ -3,6 +3,8 @@ use Rattle.h1_proxy.proofs.Moves.{goes_then, of_server, closes, closes_as, serve
 use Rattle.h1_proxy.proofs.Done.{did_ask}
 use Rattle.std.proofs.Common.{sym, Some, true, arith}
 use Rattle.h1_proxy.proofs.Work.{over_less, waits_rests, works, works_of_server, then_less, less_then, server_less, server_asks, sent_less, over_as}
+use Rattle.h1_codec.specs.Meaning.{size_of}
+use Rattle.h1_client.specs.Meaning.{request_of}
 use Rattle.h1_proxy.proofs.proxy.Proxy.send.Goals as goal
 
 pub returns-then-is_server_over-clause-goes : goal.returns-then-is_server_over-clause-goes
@@ -18,7 +20,7 @@ returns-then-branch-clause-goes c =
     let t = c.tell_time.new.server in
     of_server p _ s (sym c.in-Some.ensures.value)
     (goes_then _ _ _ (server_moves p s t c.tell_time.ensures)
-      (asks p c.args.unsent t c.ask.new.server (did_ask _ _ _ _ _ c.if-branch.true c.in_ok-ask.ensures)))
+      (asks p c.args.unsent t c.ask.new.server (did_ask _ (request_of c.args.unsent.head) (size_of c.args.unsent.size) t c.ask.new.server c.if-branch.true c.in_ok-ask.ensures)))
 
 pub returns-clause-goes : goal.returns-clause-goes
 returns-clause-goes c = closes_as (record c.args.self.now { unsent = Some c.args.unsent }) c.take.new.self c.take.ensures.after
@@ -39,7 +41,7 @@ returns-then-branch-clause-works c =
     works_of_server true p _ (Some s) (sym c.in-Some.ensures.value)
     (works 1 (record p { server = Some s }) _ (omega arith)
      (then_less 1 (record p { server = Some s }) (record p { server = Some t }) _ (server_less p s t c.tell_time.ensures)
-      (then_less 1 (record p { server = Some t }) (record p { server = Some u }) _ (server_asks p c.args.unsent t u (did_ask _ _ _ _ _ c.if-branch.true c.in_ok-ask.ensures))
+      (then_less 1 (record p { server = Some t }) (record p { server = Some u }) _ (server_asks p c.args.unsent t u (did_ask _ (request_of c.args.unsent.head) (size_of c.args.unsent.size) t c.ask.new.server c.if-branch.true c.in_ok-ask.ensures))
        (sent_less (record p { server = Some u }) c.args.unsent))))
 
 pub returns-clause-works : goal.returns-clause-works
