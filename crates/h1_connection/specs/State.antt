@@ -1,12 +1,14 @@
--- A connection as its contracts see it: its settings, and what the machine keeps.
+-- A connection as its contracts see it: its settings, what the machine keeps, and which of the bytes that wait are body bytes.
 use Rattle.std.specs.Prelude.{◌≡◌, ◌<◌, ℕ, List, [], ◌∷◌, length, take, true, IsTrue, ⊤}
 use Rattle.http_config.specs.Config.{Settings}
+use Rattle.h1_chunks.specs.Runs.{Run}
 use Rattle.h1_model.specs.Event as on
 use Rattle.h1_model.specs.Sums as sums
 use Rattle.h1_model.specs.Trace.{IsOutcome}
 use Rattle.h1_machine.specs.Kept.{Kept, fresh}
 use Rattle.h1_machine.specs.Local.{allowed_by}
 use Rattle.h1_machine.specs.StandsFor.{StandsFor}
+use Rattle.h1_segment_model.specs.Marks.{buffered_runs}
 use Rattle.h1_connection.specs.Meaning.{setting_of}
 use Rattle.h1_connection.specs.Heads.{NeedsNoMemory}
 use Rattle.h1_connection.specs.Given.{next_allowed, frame_allowed}
@@ -18,10 +20,11 @@ use Rattle.h1_connection.specs.Unsent.{SendsNoPiece, SendsNoEnd}
 pub record State : Type 0 where
   pub settings : Settings
   pub kept : Kept
+  pub marks : List Run
 
 -- a connection to which nothing came
 abbrev pub fresh_state : Settings → State
-fresh_state settings = record { settings = settings; kept = fresh }
+fresh_state settings = record { settings = settings; kept = fresh; marks = [] }
 
 -- the event is allowed
 abbrev pub IsAllowed : State → on.Event → Type 0
@@ -40,8 +43,9 @@ abbrev pub HasWriteRoom : State → Type 0
 HasWriteRoom state = length state.kept.buffered < state.settings.h1_write_buffer_size
 
 -- the connection stands for the trace
-abbrev pub Stands : State → List sums.Step → Type 0
-Stands state trace = StandsFor (setting_of state.settings) state.kept trace
+pub record Stands (state : State) (trace : List sums.Step) : Type 0 where
+  pub machine : StandsFor (setting_of state.settings) state.kept trace
+  pub marks : state.marks ≡ buffered_runs (setting_of state.settings) trace
 
 -- Behind each trace that the connection stands for, the table's outcome is such a one, and the connection stands for
 -- the longer trace.

@@ -1,5 +1,6 @@
 // A queue of segments.
-ghost use Rattle.std.specs.Prelude.{◌≡◌, ◌<◌, ◌≤◌, ◌==◌, length, take, drop, min, IfOk, IsOk, OnOk, OnErr};
+ghost use Rattle.std.specs.Prelude.{◌≡◌, ℕ, ◌<◌, ◌≤◌, ◌==◌, ◌++◌, List, [], length, take, drop, min, IfOk, IfSome, IsOk, OnOk, OnErr};
+ghost use Rattle.std.specs.Fn.{FnOnceReturnsAtMut};
 ghost use Rattle.h1_segment_model.specs.Runs.{IsFirstSegment};
 ghost use Rattle.http_segments.specs.Queued.{nothing, with_text, with_piece, behind, front_of, IsStretch};
 
@@ -137,6 +138,89 @@ impl Segments {
         Ok(())
     }
 
+    /// Puts a piece behind the others, between two texts, as a chunk stands between its size line and a line end. A piece
+    /// of [`LEAST_SHARED`] bytes is shared. Where memory is wanting nothing is changed.
+    pub fn put_framed(
+        &mut self,
+        before: &[u8],
+        bytes: Bytes,
+        after: &[u8],
+    ) -> Result<(), AllocError>
+        requires is_empty { 0 < length bytes }
+        ensures ok { OnOk result (self.new ≡ with_text after.now (with_piece bytes (with_text before.now self.old))) }
+        ensures err { OnErr result (self.new ≡ self.old) }
+    {
+        if bytes.len() < LEAST_SHARED {
+            return self.put_framed_copy(before, bytes.as_slice(), after);
+        }
+        let shared = self.shared + bytes.len();
+        if shared > MAX_SHARED {
+            return Err(AllocError);
+        }
+        self.rest.reserve(room_for(&self.first))?;
+        self.own.reserve(before.len() + after.len())?;
+        self.own.extend_reserved(before);
+        put_last(
+            &mut self.first,
+            &mut self.rest,
+            Piece {
+                before: self.own.len() - self.marked,
+                body: Body::Shared(bytes),
+            },
+        );
+        self.marked = self.own.len();
+        self.shared = shared;
+        self.own.extend_reserved(after);
+        Ok(())
+    }
+
+    /// Puts a copy of a piece behind the others, between two texts. Where memory is wanting nothing is changed.
+    pub fn put_framed_copy(
+        &mut self,
+        before: &[u8],
+        bytes: &[u8],
+        after: &[u8],
+    ) -> Result<(), AllocError>
+        requires is_empty { 0 < length bytes.now }
+        ensures ok { OnOk result (self.new ≡ with_text after.now (with_piece bytes.now (with_text before.now self.old))) }
+        ensures err { OnErr result (self.new ≡ self.old) }
+    {
+        let Some(room) = (before.len() + after.len()).checked_add(bytes.len()) else {
+            return Err(AllocError);
+        };
+        self.rest.reserve(room_for(&self.first))?;
+        self.own.reserve(room)?;
+        self.own.extend_reserved(before);
+        let framed = self.own.len() - self.marked;
+        self.own.extend_reserved(bytes);
+        put_last(
+            &mut self.first,
+            &mut self.rest,
+            Piece {
+                before: framed,
+                body: Body::Own(bytes.len()),
+            },
+        );
+        self.marked = self.own.len();
+        self.own.extend_reserved(after);
+        Ok(())
+    }
+
+    /// Puts a text behind the others by a call that puts it behind what a buffer holds. Such a call leaves the buffer as it
+    /// was, where it answers an error.
+    pub fn put_with<F: FnOnce(&mut BytesMut) -> Result<(), AllocError>>(
+        &mut self,
+        write: F,
+    ) -> Result<(), AllocError>
+        requires callable { F.IsAlwaysCallable write }
+        requires appends { (old : _) (r : _) (new : _) → FnOnceReturnsAtMut F.FnOnce write old r new
+            → (text : List ℕ) × (new.items ≡ old.items ++ text) × OnErr r (text ≡ []) }
+        ensures { (text : List ℕ) × (self.new ≡ with_text text self.old) × OnErr result (text ≡ [])
+            × (old : _) × (new : _) × FnOnceReturnsAtMut F.FnOnce write old result new × (new.items ≡ old.items ++ text) }
+    {
+        write(&mut self.own)
+    }
+
     /// The first segment: all that is left of a piece where one stands first, and else what stands before the first piece.
     pub fn front(&self) -> &[u8]
         ensures value { result.now ≡ front_of self.now }
@@ -238,6 +322,110 @@ impl Segments {
             left -= self.advance_first(left);
         }
     }
+
+    /// Gives the first bytes away, at most so many. They are copied only where some of them are shared and they aren't of
+    /// one piece, or some but not all stand with pieces in the buffer. Where memory is wanting nothing is changed.
+    pub fn give(&mut self, limit: usize) -> Result<Bytes, AllocError>
+        ensures ok { IfOk result (λ bytes. bytes ≡ take limit self.old.bytes) }
+        ensures rest { OnOk result (self.new ≡ behind (min limit (length self.old.bytes)) self.old) }
+        ensures no_memory_needed { length (take limit self.old.bytes) ≡ 0 → IsOk result }
+        ensures err { OnErr result (self.new ≡ self.old) }
+    {
+        let count = limit.min(self.len());
+        if self.marked == 0 && self.shared == 0 {
+            return give_own(&mut self.own, count);
+        }
+        if self.shared == 0 && count == self.own.len() {
+            let given = give_own(&mut self.own, count)?;
+            self.first = None;
+            self.rest.clear();
+            self.marked = 0;
+            return Ok(given);
+        }
+        let given = self.copy_of(count)?;
+        self.advance(count);
+        Ok(given)
+    }
+
+    // The first bytes, without a copy where a shared piece has them all.
+    fn copy_of(&self, count: usize) -> Result<Bytes, AllocError>
+        requires { count ≤ length self.now.bytes }
+        ensures ok { IfOk result (λ bytes. bytes ≡ take count self.now.bytes) }
+        ensures no_memory_needed { count ≡ 0 → IsOk result }
+    {
+        if count == 0 {
+            return Ok(Bytes::new());
+        }
+        if let Some(bytes) = self.shared_front(count) {
+            return bytes.slice(..count);
+        }
+        let mut copy = BytesMut::zeroed(*self.own.allocator(), count)?;
+        self.peek_into(copy.as_mut_slice());
+        copy.freeze_to(count)
+    }
+
+    // The shared piece that stands first and has so many bytes, if there is one.
+    fn shared_front(&self, count: usize) -> Option<&Bytes>
+        ensures { IfSome result (λ b. (count ≤ length b.now) × (take count b.now ≡ take count self.now.bytes)) }
+    {
+        let Some(piece) = &self.first else {
+            return None;
+        };
+        if piece.before > 0 {
+            return None;
+        }
+        match &piece.body {
+            Body::Own(_) => None,
+            Body::Shared(bytes) => if_long(bytes, count),
+        }
+    }
+
+    /// Moves the first bytes to the front of the room, as many as fit, and says how many. It takes no memory.
+    pub fn give_into(&mut self, room: &mut [u8]) -> usize
+        ensures count { result ≡ min (length room.old) (length self.old.bytes) }
+        ensures given { take result room.new ≡ take result self.old.bytes }
+        ensures rest { drop result room.new ≡ drop result room.old }
+        ensures left { self.new ≡ behind result self.old }
+    {
+        let count = self.peek_into(room);
+        self.advance(count);
+        count
+    }
+
+    /// Gives back the memory that is taken, where there is no byte in it.
+    pub fn give_back(&mut self)
+        ensures { self.new ≡ self.old }
+    {
+        if self.is_empty() {
+            *self = Segments::new(*self.own.allocator());
+        }
+    }
+}
+
+// The bytes, if there are so many.
+fn if_long(bytes: &Bytes, count: usize) -> Option<&Bytes>
+    ensures { IfSome result (λ b. (count ≤ length b.now) × (b.now ≡ bytes.now)) }
+{
+    if bytes.len() < count {
+        None
+    } else {
+        Some(bytes)
+    }
+}
+
+// Gives the first bytes of the buffer away, which stay in their memory.
+fn give_own(own: &mut BytesMut, count: usize) -> Result<Bytes, AllocError>
+    requires { count ≤ length own.old.items }
+    ensures ok { IfOk result (λ bytes. bytes ≡ take count own.old.items) }
+    ensures rest { OnOk result (own.new.items ≡ drop count own.old.items) }
+    ensures none { count ≡ 0 → IsOk result }
+    ensures err { OnErr result (own.new.items ≡ own.old.items) }
+{
+    let given = own.freeze_to(count)?;
+    if own.is_empty() {
+        own.clear();
+    }
+    Ok(given)
 }
 
 // Lets the first bytes of the buffer go. Where none is left its memory is used from the start again.

@@ -17,6 +17,7 @@ ghost use Rattle.h1_connection.specs.Parts.{kept_of, asked_in, sending_in, repli
 use crate::End;
 use crate::connection::exchange::{Reply, Sending};
 use crate::connection::parts::Parts;
+use bytes::Bytes;
 use h1_codec::{Asked, Shape, shape_of, type_of};
 use http_framing::BodySize;
 use http_types::{ConnectionType, KeepAlive, NoMemory, ResponseHead, ServiceConfig};
@@ -80,6 +81,31 @@ impl Parts {
             shape: sending.shape,
             connection: sending.connection,
             missing: sending.missing.saturating_sub(bytes.len() as u64),
+        }));
+        Ok(())
+    }
+
+    /// Puts a piece of an answer's body behind the others, without a copy where it is large.
+    pub fn chunk_bytes(&mut self, config: &ServiceConfig, bytes: Bytes) -> Result<(), NoMemory>
+        requires { IsSound config.now self.old }
+        ensures ok { OnOk result (Steps config.now self.old (on.chunk bytes) on.done self.new) }
+        ensures sound { OnOk result (IsSound config.now self.new) }
+        ensures no_memory_needed { SendsNoPiece (kept_of self.old) bytes → IsOk result }
+        ensures err { OnErr result (self.new ≡ self.old) }
+    {
+        let Some(asked) = self.asked() else {
+            return Ok(());
+        };
+        let Some(sending) = self.sending() else {
+            return Ok(());
+        };
+        let missing = sending.missing.saturating_sub(bytes.len() as u64);
+        self.output
+            .put_shared(asked, sending.shape, sending.missing, bytes)?;
+        self.set_reply(Reply::Sending(Sending {
+            shape: sending.shape,
+            connection: sending.connection,
+            missing,
         }));
         Ok(())
     }
