@@ -416,10 +416,13 @@ laid_own (p ∷ ps) own some fits none =
         ∙ ap (λ l. take p.before own ++ l) (take-append-drop n (drop p.before own)) ∙ take-append-drop p.before own
     by_body (Shared b) has none more = absurd (omega arith)
 
+-- where nothing is shared the bytes are the buffer's
+pub all_own : (ps : List Piece) (own : List ℕ) (m k : ℕ) (q : Queued) → IsLaid ps own m k → k ≡ 0 → queued ps own ≡ q → own ≡ q.bytes
+all_own ps own m k q is none view = sym (laid_own ps own is.some is.fits (omega (arith, is.many_is))) ∙ ap (λ (q : Queued). q.bytes) view
+
 pub own_stretch : (ps : List Piece) (own : List ℕ) (m k : ℕ) (all : List ℕ) (q : Queued) → IsLaid ps own m k → k ≡ 0 → queued ps own ≡ q → all ≡ own → IsStretch q.bytes all
 own_stretch ps own m k all q is none view same =
-    let whole : laid ps own ≡ own = laid_own ps own is.some is.fits (omega (arith, is.many_is)) in
-    let bytes : all ≡ q.bytes = same ∙ sym whole ∙ ap (λ (q : Queued). q.bytes) view in
+    let bytes : all ≡ q.bytes = same ∙ all_own ps own m k q is none view in
     subst (λ l. IsStretch q.bytes l) (sym bytes) (record { begins = take-length q.bytes; fits = omega arith; some = λ has. has })
 
 -- ---- all goes

@@ -1,9 +1,9 @@
 use Rattle.std.proofs.Common.{rules, ◌≡◌, ◌≤◌, length, take, min, refl, sym, ap, ◌∙◌, subst, arith}
-use Rattle.std.proofs.lemmas.List.{take_min}
+use Rattle.std.proofs.lemmas.List.{take_min, drop_all}
 use Rattle.http_segments.specs.Queued.{behind}
 use Rattle.http_segments.specs.Pieces.{in_row}
 use Rattle.http_segments.proofs.Ends.{ok_leads, own_bytes_are}
-use Rattle.http_segments.proofs.Moves.{no_pieces, no_piece, none_fits}
+use Rattle.http_segments.proofs.Moves.{no_pieces, no_piece, none_fits, none_laid, all_gone, all_own}
 use Rattle.http_segments.proofs.queue.Segments.give.Goals as goal
 
 pub give_own-requires : goal.give_own-requires
@@ -30,10 +30,26 @@ returns-then-self-eq0-2-clause-rest c =
       no_piece row row c.self.inside.own.items c.give_own.new.own.items c.min-count.result none refl is ∙ ap (behind c.min-count.result) c.self.view_is ∙ ap (λ n. behind n c.args.self.now) count)
 
 pub invariant_of-self-then-count-len : goal.invariant_of-self-then-count-len
-invariant_of-self-then-count-len c = ?
+invariant_of-self-then-count-len c =
+    let none : c.self.inside.shared ≡ 0 = search rules in
+    let all : c.min-count.result ≡ length c.self.inside.own.items = search rules in
+    let gone = c.in_ok-given.ensures.rest ∙ drop_all c.min-count.result c.self.inside.own.items (omega (arith, all)) in
+    rw none (none_laid c.clear.new.self.items c.give_own-then-count-len.new.own.items c.clear.ensures.items gone, omega arith, c.clear.ensures.items)
 
 pub returns-then-count-len-clause-ok : goal.returns-then-count-len-clause-ok
-returns-then-count-len-clause-ok c = ?
+returns-then-count-len-clause-ok c =
+    let none : c.self.inside.shared ≡ 0 = search rules in
+    let all = c.args.self.now.bytes in
+    let own_is = all_own (in_row c.self.inside.first c.self.inside.rest.items) c.self.inside.own.items c.self.inside.marked c.self.inside.shared c.args.self.now c.self.invariant.0 none c.self.view_is in
+    let count : c.min-count.result ≡ min c.args.limit (length all) = c.min-count.ensures ∙ ap (λ n. min c.args.limit n) c.len.ensures in
+    c.in_ok-given.ensures.ok ∙ ap (take c.min-count.result) own_is ∙ ap (λ n. take n all) count ∙ take_min c.args.limit all
 
 pub returns-then-count-len-clause-rest : goal.returns-then-count-len-clause-rest
-returns-then-count-len-clause-rest c = ?
+returns-then-count-len-clause-rest c =
+    let row = in_row c.self.inside.first c.self.inside.rest.items in
+    let none : c.self.inside.shared ≡ 0 = search rules in
+    let all : c.min-count.result ≡ length c.self.inside.own.items = search rules in
+    let gone = c.in_ok-given.ensures.rest ∙ drop_all c.min-count.result c.self.inside.own.items (omega (arith, all)) in
+    let count : c.min-count.result ≡ min c.args.limit (length c.args.self.now.bytes) = c.min-count.ensures ∙ ap (λ n. min c.args.limit n) c.len.ensures in
+    all_gone row c.clear.new.self.items c.self.inside.own.items c.give_own-then-count-len.new.own.items c.self.inside.marked c.self.inside.shared c.min-count.result c.self.invariant.0 none all c.clear.ensures.items gone
+    ∙ ap (behind c.min-count.result) c.self.view_is ∙ ap (λ n. behind n c.args.self.now) count
