@@ -1,10 +1,10 @@
 -- A copy of the first bytes that grows.
-use Rattle.std.proofs.Common.{◌≡◌, ℕ, ◌+◌, ◌-◌, ◌<◌, ◌≤◌, List, [], ◌∷◌, ◌++◌, length, take, drop, min, refl, sym, ap, ◌∙◌, subst, arith, append_assoc, append-nil, length-append, inl, inr}
+use Rattle.std.proofs.Common.{◌≡◌, ℕ, ◌+◌, ◌-◌, ◌<◌, ◌≤◌, List, [], ◌∷◌, ◌++◌, length, take, drop, min, refl, sym, ap, ◌∙◌, subst, arith, append-nil, length-append, inl, inr}
 use Rattle.std.specs.Prelude.{◌⊎◌}
-use Rattle.std.proofs.Math.Seq.{take-append-add, drop-append-add, take-length, drop-cons}
+use Rattle.std.proofs.Math.Seq.{take-append-add, drop-append-add, drop-cons}
 use Rattle.std.proofs.Common.{suc}
 use Rattle.std.specs.Prelude.{slice_index_or, Option, Some, None, option_to_list}
-use Rattle.std.proofs.lemmas.List.{take-append-le, drop-append-le, length-drop, length-take, length-take-le, drop_all, take_all, take-append-drop, drop-drop, take_at, drop_at}
+use Rattle.std.proofs.lemmas.List.{take-append-le, length-drop, length-take-le, take-append-drop, drop-drop, take_at, drop_at}
 use Rattle.http_segments.specs.Pieces.{IsCopied, body_in, body_len, laid, own_len, used}
 use Rattle.http_segments.specs.declared.piece.Piece.{Piece}
 use Rattle.http_segments.proofs.Laid.{body_size}

@@ -1,12 +1,12 @@
 -- The first bytes where there are none, where no piece stands, and where a shared piece does.
-use Rattle.std.proofs.Common.{◌≡◌, ℕ, ◌+◌, ◌≤◌, List, [], ◌∷◌, ◌++◌, length, take, drop, Result, Ok, Err, refl, sym, ap, ◌∙◌, arith}
+use Rattle.std.proofs.Common.{◌≡◌, ℕ, ◌≤◌, List, [], ◌∷◌, ◌++◌, length, take, Result, Ok, Err, refl, sym, ap, ◌∙◌, arith}
 use Rattle.std.specs.Prelude.{IfOk}
 use Rattle.std.proofs.lemmas.List.{take-append-le}
 use Rattle.http_segments.specs.declared.piece.Body.{Body}
 use Rattle.http_segments.specs.declared.piece.Body.TheVariants.{Shared}
 use Rattle.http_segments.specs.declared.piece.Piece.{Piece}
 use Rattle.http_segments.specs.Queued.{Queued, nothing}
-use Rattle.http_segments.specs.Pieces.{IsLaid, queued, laid, own_len}
+use Rattle.http_segments.specs.Pieces.{IsLaid, queued, laid}
 use Rattle.http_segments.proofs.Laid.{laid_size}
 use Rattle.http_segments.proofs.Moves.{none_queued, no_pieces}
 use Rattle.http_segments.proofs.CopyLemmas.{laid_none}

@@ -1,16 +1,13 @@
 -- Pieces and the buffer behind them, laid out as one list.
-use Rattle.std.proofs.Common.{◌≡◌, ℕ, ◌+◌, ◌-◌, ◌<◌, ◌≤◌, Bool, true, false, List, [], ◌∷◌, ◌++◌, length, take, drop, nat_lt, All, refl, sym, ap, ◌∙◌, arith, append_assoc, append-nil, length-append}
-use Rattle.std.specs.Prelude.{if◌then◌else◌, ◌==◌}
-use Rattle.std.proofs.lemmas.List.{take-append-le, drop-append-le, length-drop, length-take-le, drop_all, take_all, take-append-drop}
+use Rattle.std.proofs.Common.{◌≡◌, ℕ, ◌+◌, ◌-◌, ◌≤◌, Bool, true, false, List, [], ◌∷◌, ◌++◌, length, take, drop, nat_lt, All, refl, ap, ◌∙◌, arith, append_assoc, append-nil, length-append}
+use Rattle.std.proofs.lemmas.List.{take-append-le, drop-append-le, length-drop, length-take-le, drop_all, take_all}
 use Rattle.std.proofs.lemmas.List.Elements.{All-head, All-rest}
 use Rattle.std.proofs.lemmas.Bool.Decides.{nat_tests}
-use Rattle.std.proofs.lemmas.Bool.{lt-ltb}
 use Rattle.std.proofs.lemmas.List.{drop-drop}
 use Rattle.h1_chunks.specs.Runs.{Run}
-use Rattle.h1_model.specs.Parse.{run_between}
 use Rattle.h1_segment_model.specs.Runs.{runs_behind}
-use Rattle.http_segments.specs.Queued.{Queued, behind, with_piece, with_text}
-use Rattle.http_segments.specs.Pieces.{HasBytes, IsLaid, body_in, body_len, laid, marks_from, own_len, queued, shared, shared_len, used, with_rest}
+use Rattle.http_segments.specs.Queued.{Queued, behind}
+use Rattle.http_segments.specs.Pieces.{HasBytes, body_in, body_len, laid, marks_from, own_len, shared, shared_len, used}
 use Rattle.http_segments.specs.declared.piece.Body.{Body}
 use Rattle.http_segments.specs.declared.piece.Body.TheVariants.{Own, Shared}
 use Rattle.http_segments.specs.declared.piece.Piece.{Piece}

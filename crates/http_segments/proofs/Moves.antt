@@ -1,18 +1,16 @@
 -- What each call does to the pieces and the buffer.
-use Rattle.std.proofs.Common.{◌≡◌, ℕ, ◌+◌, ◌-◌, ◌<◌, ◌≤◌, Bool, true, false, zero, suc, List, [], ◌∷◌, ◌++◌, length, take, drop, nat_lt, All, refl, sym, ap, ◌∙◌, subst, arith, append_assoc, append-nil, length-append}
+use Rattle.std.proofs.Common.{◌≡◌, ℕ, ◌+◌, ◌-◌, ◌<◌, ◌≤◌, Bool, true, false, List, [], ◌∷◌, ◌++◌, length, take, drop, nat_lt, All, refl, sym, ap, ◌∙◌, subst, arith, length-append}
 use Rattle.std.specs.Prelude.{if◌then◌else◌, ◌==◌}
-use Rattle.std.proofs.lemmas.List.{take-append-le, drop-append-le, length-drop, length-take-le, drop_all, take_all, take-append-drop, drop-take, drop-drop}
+use Rattle.std.proofs.lemmas.List.{drop-append-le, length-drop, length-take-le, drop_all, take-append-drop, drop-take, drop-drop}
 use Rattle.std.proofs.lemmas.List.Elements.{All-nil, All-head, All-tail, All-cons, All-push}
 use Rattle.std.proofs.lemmas.Bool.Decides.{nat_tests}
-use Rattle.std.proofs.lemmas.Bool.{lt-ltb, le-ltb}
 use Rattle.http_segments.specs.declared.piece.Body.{Body}
 use Rattle.http_segments.specs.declared.piece.Body.TheVariants.{Own, Shared}
 use Rattle.http_segments.specs.declared.piece.Piece.{Piece}
 use Rattle.std.proofs.Math.Seq.{take-length, take-append_seam}
 use Rattle.std.proofs.lemmas.List.{take_at, take_min, length-take}
 use Rattle.std.specs.Prelude.{slice_index_or}
-use Rattle.std.specs.Prelude.{Option, Some, None}
-use Rattle.h1_chunks.specs.Runs.{Run}
+use Rattle.std.specs.Prelude.{Option, None}
 use Rattle.h1_model.specs.Parse.{run_between}
 use Rattle.h1_segment_model.specs.Runs.{front_len, runs_behind}
 use Rattle.http_segments.specs.Queued.{IsStretch, Queued, behind, front_of, nothing, with_piece, with_text}

@@ -1,5 +1,5 @@
 -- How a queue keeps its bytes: pieces in order, and a buffer with all bytes that aren't shared.
-use Rattle.std.specs.Prelude.{◌≡◌, ℕ, ◌+◌, ◌-◌, ◌<◌, ◌≤◌, ◌==◌, List, [], ◌∷◌, ◌++◌, length, take, drop, min, if◌then◌else◌, All, Option, Some, None, option_to_list}
+use Rattle.std.specs.Prelude.{◌≡◌, ℕ, ◌+◌, ◌<◌, ◌≤◌, ◌==◌, List, [], ◌∷◌, ◌++◌, length, take, drop, min, if◌then◌else◌, All, Option, Some, None, option_to_list}
 use Rattle.h1_chunks.specs.Runs.{Run}
 use Rattle.http_segments.specs.Queued.{Queued}
 use Rattle.http_segments.specs.declared.piece.Body.{Body}

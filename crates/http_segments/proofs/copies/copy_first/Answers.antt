@@ -1,5 +1,5 @@
-use Rattle.std.proofs.Common.{rules, ◌≡◌, ◌≤◌, ◌+◌, ◌-◌, ◌∷◌, ℕ, length, take, drop, refl, sym, ap, ◌∙◌, subst, arith}
-use Rattle.http_segments.specs.Pieces.{CopiesTo, IsCopied, body_len, in_row, laid, own_len, used}
+use Rattle.std.proofs.Common.{◌+◌, ap, ◌∙◌, arith}
+use Rattle.http_segments.specs.Pieces.{body_len, in_row, laid}
 use Rattle.http_segments.proofs.CopyLemmas.{used_one, used_none}
 use Rattle.http_segments.proofs.copies.copy_first.Goals as goal
 

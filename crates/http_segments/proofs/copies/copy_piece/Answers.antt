@@ -1,7 +1,6 @@
-use Rattle.std.proofs.Common.{rules, ◌≡◌, ◌≤◌, ◌+◌, ◌-◌, ◌∷◌, ℕ, length, take, drop, refl, sym, ap, ◌∙◌, subst, arith}
+use Rattle.std.proofs.Common.{◌≡◌, ◌+◌, ◌-◌, take, drop, sym, ap, ◌∙◌, arith}
 use Rattle.std.proofs.lemmas.List.{drop-drop}
-use Rattle.http_segments.specs.Pieces.{IsCopied, body_in, body_len, laid, own_len}
-use Rattle.http_segments.specs.declared.piece.Body.TheVariants.{Own, Shared}
+use Rattle.http_segments.specs.Pieces.{body_in, laid, own_len}
 use Rattle.http_segments.proofs.CopyLemmas.{piece_copied}
 use Rattle.http_segments.proofs.copies.copy_piece.Goals as goal
 

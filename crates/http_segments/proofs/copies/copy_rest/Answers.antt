@@ -1,5 +1,5 @@
-use Rattle.std.proofs.Common.{rules, ◌≡◌, ◌≤◌, ◌+◌, ◌-◌, ◌∷◌, ℕ, length, take, drop, refl, sym, ap, ◌∙◌, subst, arith}
-use Rattle.http_segments.specs.Pieces.{CopiesTo, IsCopied, body_len, laid, own_len, used}
+use Rattle.std.proofs.Common.{◌+◌, drop, ap, ◌∙◌, arith}
+use Rattle.http_segments.specs.Pieces.{body_len, laid}
 use Rattle.http_segments.proofs.CopyLemmas.{piece_at, used_first}
 use Rattle.http_segments.proofs.copies.copy_rest.Goals as goal
 

@@ -1,4 +1,4 @@
-use Rattle.std.proofs.Common.{◌≡◌, ◌+◌, ◌-◌, ◌≤◌, length, drop}
+use Rattle.std.proofs.Common.{◌+◌, ◌-◌, ◌≤◌, length, drop}
 use Rattle.http_segments.specs.Pieces.{CopiesTo, used}
 use Rattle.http_segments.proofs.copies.copy_rest.Given as given
 

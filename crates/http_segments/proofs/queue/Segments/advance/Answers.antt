@@ -1,9 +1,7 @@
-use Rattle.std.proofs.Common.{rules, ◌≡◌, ◌≤◌, ◌<◌, ◌-◌, ℕ, [], length, drop, refl, sym, ap, ◌∙◌, subst, arith}
+use Rattle.std.proofs.Common.{rules, ◌≡◌, ◌≤◌, ◌-◌, length, drop, refl, sym, ap, ◌∙◌, subst, arith}
 use Rattle.std.proofs.lemmas.List.{length-drop}
-use Rattle.std.proofs.lemmas.Bool.Decides.{nat_tests}
 use Rattle.http_segments.specs.Queued.{behind}
-use Rattle.http_segments.specs.Pieces.{IsLaid, in_row, laid, queued}
-use Rattle.http_segments.proofs.Laid.{behind_more}
+use Rattle.http_segments.specs.Pieces.{in_row}
 use Rattle.http_segments.proofs.Moves.{none_laid, all_gone, none_fits, no_piece, no_pieces, behind_none, behind_part}
 use Rattle.http_segments.proofs.queue.Segments.advance.Goals as goal
 

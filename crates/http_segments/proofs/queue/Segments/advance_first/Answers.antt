@@ -1,9 +1,8 @@
-use Rattle.std.proofs.Common.{rules, ◌≡◌, ◌≤◌, ◌<◌, ◌-◌, ℕ, ◌∷◌, length, drop, refl, sym, ap, ◌∙◌, subst, arith}
+use Rattle.std.proofs.Common.{rules, ◌≡◌, ◌≤◌, ◌<◌, ◌-◌, ◌∷◌, length, sym, ap, ◌∙◌, subst, arith}
 use Rattle.std.proofs.lemmas.Bool.Decides.{nat_tests}
 use Rattle.http_segments.specs.Queued.{behind}
-use Rattle.http_segments.specs.Pieces.{IsInRow, IsLaid, body_len, in_row, laid, queued, with_rest}
+use Rattle.http_segments.specs.Pieces.{IsInRow, body_len, in_row, queued, with_rest}
 use Rattle.http_segments.specs.declared.piece.Body.TheVariants.{Shared}
-use Rattle.http_segments.proofs.Laid.{laid_size}
 use Rattle.http_segments.proofs.Moves.{empty_row, first_some, no_piece, none_fits, none_moved, framing_fits, framing_laid, framing_queued, own_fits, own_laid, own_queued, shared_fits, shared_laid, shared_queued}
 use Rattle.http_segments.proofs.queue.Segments.advance_first.Goals as goal
 

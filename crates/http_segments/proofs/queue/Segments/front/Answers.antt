@@ -1,9 +1,8 @@
-use Rattle.std.proofs.Common.{rules, ◌≡◌, ◌≤◌, ◌<◌, ◌-◌, ◌∷◌, ℕ, [], length, take, drop, refl, sym, ap, ◌∙◌, subst, arith}
+use Rattle.std.proofs.Common.{rules, ◌≡◌, length, take, sym, ap, ◌∙◌, arith}
 use Rattle.std.proofs.lemmas.Bool.Decides.{nat_tests}
 use Rattle.std.proofs.lemmas.List.{length-take-le}
-use Rattle.http_segments.specs.Queued.{behind, front_of}
-use Rattle.http_segments.specs.Pieces.{IsLaid, body_in, in_row, laid, own_len, queued}
-use Rattle.http_segments.specs.declared.piece.Body.TheVariants.{Own, Shared}
+use Rattle.http_segments.specs.Queued.{front_of}
+use Rattle.http_segments.specs.Pieces.{body_in, in_row, own_len}
 use Rattle.http_segments.proofs.Moves.{empty_row, front_none, front_framing, front_body, first_fits, front_stretch}
 use Rattle.http_segments.proofs.InOrder.{front_first}
 use Rattle.http_segments.proofs.queue.Segments.front.Goals as goal

@@ -27,7 +27,7 @@ returns-then-self-eq0-2-clause-rest c =
     let none = no_pieces row c.self.inside.own.items c.self.inside.marked c.self.inside.shared c.self.invariant.0 (search rules) (search rules) in
     let count : c.min-count.result ≡ min c.args.limit (length c.args.self.now.bytes) = c.min-count.ensures ∙ ap (λ n. min c.args.limit n) c.len.ensures in
     ok_leads c.give_own.result c.give_own.ensures.rest (λ b is.
-      no_piece row row c.self.inside.own.items c.give_own.new.own.items c.min-count.result none refl is ∙ ap (behind c.min-count.result) c.self.view_is ∙ ap (λ n. behind n c.args.self.now) count)
+    no_piece row row c.self.inside.own.items c.give_own.new.own.items c.min-count.result none refl is ∙ ap (behind c.min-count.result) c.self.view_is ∙ ap (λ n. behind n c.args.self.now) count)
 
 pub invariant_of-self-then-count-len : goal.invariant_of-self-then-count-len
 invariant_of-self-then-count-len c =

@@ -1,4 +1,4 @@
-use Rattle.std.proofs.Common.{rules, arith, ap, sym, ◌≡◌, ◌+◌, length, ◌∙◌, refl}
+use Rattle.std.proofs.Common.{rules, arith, ap, ◌≡◌, length, refl}
 use Rattle.std.proofs.lemmas.Bool.Decides.{nat_tests}
 use Rattle.http_segments.specs.Pieces.{in_row}
 use Rattle.http_segments.proofs.Laid.{laid_size}

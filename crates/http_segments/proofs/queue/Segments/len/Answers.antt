@@ -1,4 +1,4 @@
-use Rattle.std.proofs.Common.{arith, ap, sym, ◌≡◌, ◌+◌, length, ◌∙◌}
+use Rattle.std.proofs.Common.{arith, ap, length}
 use Rattle.http_segments.specs.Pieces.{in_row}
 use Rattle.http_segments.proofs.Laid.{laid_size}
 use Rattle.http_segments.proofs.queue.Segments.len.Goals as goal

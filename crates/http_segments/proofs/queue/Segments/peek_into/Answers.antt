@@ -1,7 +1,7 @@
-use Rattle.std.proofs.Common.{rules, ◌≡◌, ◌≤◌, ◌+◌, ◌-◌, ◌∷◌, ◌++◌, ℕ, length, take, drop, min, refl, sym, ap, ◌∙◌, subst, arith}
+use Rattle.std.proofs.Common.{◌≡◌, ◌+◌, ◌-◌, ◌++◌, length, take, drop, min, sym, ap, ◌∙◌, arith}
 use Rattle.std.specs.Prelude.{option_to_list}
 use Rattle.std.proofs.lemmas.List.{take_all, length-drop}
-use Rattle.http_segments.specs.Pieces.{CopiesTo, IsCopied, in_row, laid, used}
+use Rattle.http_segments.specs.Pieces.{in_row, laid}
 use Rattle.http_segments.proofs.CopyLemmas.{none_copied, used-append, all_copied, laid_none}
 use Rattle.http_segments.proofs.queue.Segments.peek_into.Goals as goal
 

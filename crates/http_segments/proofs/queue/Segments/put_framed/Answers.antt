@@ -1,8 +1,8 @@
-use Rattle.std.proofs.Common.{rules, ◌≡◌, ◌+◌, ◌-◌, ◌∷◌, ◌++◌, [], length, refl, sym, ap, ◌∙◌, arith, append-nil}
+use Rattle.std.proofs.Common.{rules, ◌≡◌, ◌+◌, ◌-◌, ◌∷◌, ◌++◌, [], length, refl, sym, ap, ◌∙◌, append-nil}
 use Rattle.http_segments.specs.declared.piece.Body.TheVariants.{Shared}
 use Rattle.http_segments.specs.declared.piece.Piece.{Piece}
 use Rattle.http_segments.specs.Queued.{with_text, with_piece}
-use Rattle.http_segments.specs.Pieces.{IsLaid, in_row, queued}
+use Rattle.http_segments.specs.Pieces.{in_row, queued}
 use Rattle.http_segments.proofs.Framed.{framed_laid, framed_queued}
 use Rattle.http_segments.proofs.queue.Segments.put_framed.Goals as goal
 

@@ -2,7 +2,7 @@ use Rattle.std.proofs.Common.{◌≡◌, ◌-◌, ◌∷◌, ◌++◌, [], lengt
 use Rattle.http_segments.specs.declared.piece.Body.TheVariants.{Own}
 use Rattle.http_segments.specs.declared.piece.Piece.{Piece}
 use Rattle.http_segments.specs.Queued.{with_text, with_piece}
-use Rattle.http_segments.specs.Pieces.{IsLaid, in_row, queued}
+use Rattle.http_segments.specs.Pieces.{in_row, queued}
 use Rattle.http_segments.proofs.Framed.{framed_laid, framed_queued}
 use Rattle.http_segments.proofs.queue.Segments.put_framed_copy.Goals as goal
 

@@ -1,6 +1,6 @@
-use Rattle.std.proofs.Common.{◌≡◌, rules, ◌<◌, ◌-◌, ◌∷◌, ◌++◌, [], length, refl, sym, ap, ◌∙◌, subst, arith, ℕ, ◌+◌, List, take_all}
+use Rattle.std.proofs.Common.{◌≡◌, rules, ◌<◌, ◌-◌, ◌∷◌, ◌++◌, [], length, refl, ap, ◌∙◌, arith, ℕ, List, take_all}
 use Rattle.http_segments.specs.Queued.{with_piece}
-use Rattle.http_segments.specs.Pieces.{IsLaid, in_row, queued}
+use Rattle.http_segments.specs.Pieces.{in_row, queued}
 use Rattle.http_segments.specs.declared.piece.Body.TheVariants.{Own}
 use Rattle.http_segments.specs.declared.piece.Piece.{Piece}
 use Rattle.http_segments.proofs.Moves.{piece_laid, piece_queued}

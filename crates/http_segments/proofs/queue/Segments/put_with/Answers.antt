@@ -1,5 +1,4 @@
-use Rattle.std.proofs.Common.{◌≡◌, refl, ap, ◌∙◌}
-use Rattle.std.specs.Fn.{FnOnceReturnsAtMut}
+use Rattle.std.proofs.Common.{refl, ap, ◌∙◌}
 use Rattle.http_segments.specs.Queued.{with_text}
 use Rattle.http_segments.specs.Pieces.{in_row}
 use Rattle.http_segments.proofs.Moves.{text_laid, text_queued}
@@ -12,7 +11,12 @@ invariant_of-self g c =
 
 pub returns : goal.returns
 returns g c =
-    let is = c.requires.appends c.self.inside.own c.write.result c.write.new.arg2 (record { shown = _; shows = refl; left = _; met = c.write.ensures; leaves = refl }) in
-    (is.0,
+    let is = c.requires.appends c.self.inside.own c.write.result c.write.new.arg2 (record { shown = _; shows = refl; left = _; met = c.write.ensures; leaves = refl }) in (
+      is.0,
       text_queued (in_row c.self.inside.first c.self.inside.rest.items) c.self.inside.own.items c.write.new.arg2.items is.0 c.self.inside.marked c.self.inside.shared c.self.invariant.0 is.1 ∙ ap (with_text is.0) c.self.view_is,
-      is.2, c.self.inside.own, c.write.new.arg2, record { shown = _; shows = refl; left = _; met = c.write.ensures; leaves = refl }, is.1)
+      is.2,
+      c.self.inside.own,
+      c.write.new.arg2,
+      record { shown = _; shows = refl; left = _; met = c.write.ensures; leaves = refl },
+      is.1,
+    )

@@ -1,4 +1,4 @@
-use Rattle.std.proofs.Common.{rules, ◌≡◌, sym, ap, ◌∙◌}
+use Rattle.std.proofs.Common.{rules}
 use Rattle.http_segments.specs.Pieces.{in_row}
 use Rattle.http_segments.proofs.Moves.{own_stretch}
 use Rattle.http_segments.proofs.queue.Segments.stretch.Goals as goal
