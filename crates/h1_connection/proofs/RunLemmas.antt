@@ -12,6 +12,8 @@ use Rattle.h1_model.proofs.HandedParsed.{handed_prefix}
 use Rattle.h1_machine.specs.Local.{closing_by, allowed_by}
 use Rattle.h1_model.specs.Trace as traces
 use Rattle.h1_machine.proofs.Stands.{fresh_stands, misplaced_of_trace}
+use Rattle.h1_segment_model.specs.Runs.{runs_behind}
+use Rattle.h1_segment_model.specs.Marks.{body_runs}
 use Rattle.h1_connection.proofs.GoesOnLemmas.{buffered_traced, closing_traced}
 use Rattle.h1_connection.specs.Meaning.{setting_of, event_of, end_of, SaysOutcome}
 use Rattle.h1_connection.specs.State.{State, fresh_state, Stands, GoesOn}
@@ -44,8 +46,13 @@ pub record IsDrivenTo (settings : Settings) (events : List Event) (index : ℕ) 
   pub settings_are : now.settings ≡ settings
   pub events_are : map (λ (step : Step). step.event) steps ≡ take index events
   pub model : List sums.Step
-  pub stands : Stands (record { settings = settings; kept = now.kept }) model
+  pub stands : Stands (record { settings = settings; kept = now.kept; marks = now.marks }) model
   pub says : SaySteps steps (reverse model)
+
+-- a new connection stands for no event
+new_stands : (settings : Settings) → Stands (fresh_state settings) []
+unfolding body_runs runs_behind
+new_stands settings = record { machine = fresh_stands (setting_of settings); marks = refl }
 
 -- before the first one
 pub driven_new : (settings : Settings) (events : List Event) (steps : List Step) (now : State) → steps ≡ [] → now ≡ fresh_state settings
@@ -53,7 +60,7 @@ pub driven_new : (settings : Settings) (events : List Event) (steps : List Step)
 driven_new settings events steps now empty is =
     subst (λ (k : State). IsDrivenTo settings events 0 steps k) (sym is)
     (subst (λ (l : List Step). IsDrivenTo settings events 0 l (fresh_state settings)) (sym empty)
-    (record { settings_are = refl; events_are = refl; model = []; stands = fresh_stands (setting_of settings); says = tt }))
+    (record { settings_are = refl; events_are = refl; model = []; stands = new_stands settings; says = tt }))
 
 -- one more step on both sides
 say_more : (ss : List Step) (ts : List sums.Step) (s : Step) (t : sums.Step) → SaySteps ss ts → SaysStep s t → SaySteps (ss ++ s ∷ []) (ts ++ t ∷ [])
@@ -68,7 +75,7 @@ pub driven_more : (settings : Settings) (events : List Event) (index : ℕ) (ste
     → GoesOn now (event_of event) (SaysOutcome outcome) after → after.settings ≡ now.settings
     → IsDrivenTo settings events (index + 1) (steps ++ (record { event = event; outcome = outcome }) ∷ []) after
 driven_more settings events index steps now after event outcome in_range is driven goes same =
-    let stands = subst (λ (s : Settings). Stands (record { settings = s; kept = now.kept }) driven.model) (sym driven.settings_are) driven.stands in
+    let stands = subst (λ (s : Settings). Stands (record { settings = s; kept = now.kept; marks = now.marks }) driven.model) (sym driven.settings_are) driven.stands in
     let next = goes driven.model stands in
     let step : sums.Step = record { event = event_of event; outcome = next.0 } in
     record {
@@ -79,7 +86,7 @@ driven_more settings events index steps now after event outcome in_range is driv
           ∙ ap (λ (e : Event). take index events ++ e ∷ []) is
           ∙ sym (take_more events index event in_range);
       model = step ∷ driven.model;
-      stands = subst (λ (s : Settings). Stands (record { settings = s; kept = after.kept }) (step ∷ driven.model)) (same ∙ driven.settings_are) next.3;
+      stands = subst (λ (s : Settings). Stands (record { settings = s; kept = after.kept; marks = after.marks }) (step ∷ driven.model)) (same ∙ driven.settings_are) next.3;
       says =
           subst (λ (l : List sums.Step). SaySteps (steps ++ (record { event = event; outcome = outcome }) ∷ []) l) (sym (reverse_onto driven.model step []))
           (say_more steps (reverse driven.model) (record { event = event; outcome = outcome }) step driven.says (record { event = refl; outcome = next.1 }));
@@ -121,15 +128,15 @@ pub run_of : (settings : Settings) (events : List Event) (index : ℕ) (steps : 
     → IsDriven settings (take index events) trace x.model
 run_of settings events index steps now trace x steps_are buffered_are closing_is =
     let set = setting_of settings in
-    let at : State = record { settings = settings; kept = now.kept } in
+    let at : State = record { settings = settings; kept = now.kept; marks = now.marks } in
     record {
-      traced = x.stands.traced;
+      traced = x.stands.machine.traced;
       says = subst (λ (l : List Step). SaySteps l (reverse x.model)) (sym steps_are) x.says;
       events_are = ap (λ (l : List Step). map (λ (s : Step). s.event) l) steps_are ∙ x.events_are;
-      handed = λ parse parsed. handed_prefix set x.model parse x.stands.traced parsed;
+      handed = λ parse parsed. handed_prefix set x.model parse x.stands.machine.traced parsed;
       text_is =
           ap (λ (l : List ℕ). written x.model ++ l) (buffered_are ∙ buffered_traced at x.model x.stands)
-          ∙ written_buffered set x.model x.stands.traced;
+          ∙ written_buffered set x.model x.stands.machine.traced;
       closing_is = λ past is_past.
           closing_is ∙ ap (λ (s : Settings). closing_by (setting_of s) now.kept) x.settings_are ∙ closing_traced at x.model past x.stands is_past;
     }
@@ -147,7 +154,7 @@ whole_of settings events index steps now trace x steps_are buffered_are closing_
 -- an event that isn't allowed is misplaced
 refused_at : (at : State) (model : List sums.Step) (event : on.Event) (stands : Stands at model) → allowed_by (setting_of at.settings) at.kept event ≡ false
     → traces.IsMisplaced (setting_of at.settings) model event
-refused_at at model event stands refused = (misplaced_of_trace (setting_of at.settings) at.kept model event stands).0 refused
+refused_at at model event stands refused = (misplaced_of_trace (setting_of at.settings) at.kept model event stands.machine).0 refused
 
 pub misplaced_of : (settings : Settings) (events : List Event) (index : ℕ) (steps : List Step) (now : State) (trace : Trace) (event : Event)
     → IsDrivenTo settings events index steps now
@@ -161,6 +168,6 @@ misplaced_of settings events index steps now trace event x steps_are buffered_ar
       event = event;
       event_is = there;
       refused =
-          refused_at (record { settings = settings; kept = now.kept }) x.model (event_of event) x.stands
+          refused_at (record { settings = settings; kept = now.kept; marks = now.marks }) x.model (event_of event) x.stands
           (ap (λ (s : Settings). allowed_by (setting_of s) now.kept (event_of event)) (sym x.settings_are) ∙ refused);
     }

@@ -12,7 +12,6 @@ use Rattle.h1_machine.specs.Kept.{Kept, is_free, is_nothing, is_answered, now, r
 use Rattle.h1_machine.specs.Local.{closing_by}
 use Rattle.h1_machine.specs.Body.{Passed, pass_rest}
 use Rattle.h1_machine.specs.Change.{noting_since, IsStep}
-use Rattle.h1_segment_model.specs.After.{marks_after}
 use Rattle.h1_connection.specs.Incoming.{is_coming_in, IsFound}
 use Rattle.h1_connection.specs.Meaning.{setting_of, end_of, failing_of}
 use Rattle.h1_connection.specs.declared.event.End.{End}
@@ -162,11 +161,9 @@ pub record IsSettled (setting : Setting) (k : Kept) (q : Parts) : Type 0 where
 
 -- ---- a step
 
--- From these parts the event leads to those, with this outcome: in what the machine keeps, and in the places of body bytes
--- among what waits.
-pub record Steps (settings : Settings) (p : Parts) (event : on.Event) (outcome : on.Outcome) (q : Parts) : Type 0 where
-  pub kept : IsStep (setting_of settings) (kept_of p) event outcome (kept_of q)
-  pub marks : q.output.marks ≡ marks_after (kept_of p) event outcome p.output.marks
+-- from these parts the event leads to those, with this outcome
+abbrev pub Steps : Settings → Parts → on.Event → on.Outcome → Parts → Type 0
+Steps settings p event outcome q = IsStep (setting_of settings) (kept_of p) event outcome (kept_of q)
 
 -- Bytes that came from a source lead from these parts to those as an event that took them all. Of none there is no event.
 abbrev pub StepsIn : Settings → Parts → List ℕ → Parts → Type 0

@@ -1,4 +1,4 @@
-use Rattle.h1_connection.proofs.ResultLemmas.{on_map}
+use Rattle.h1_connection.proofs.ResultLemmas.{on_map, on_both}
 use Rattle.h1_connection.proofs.GoesOnLemmas.{still_sound, same_state, goes_on, allowed_parts, answer_waits}
 use Rattle.h1_connection.proofs.GivenLemmas.{answer_sends, chunk_given, end_given, fail_given}
 use Rattle.h1_connection.proofs.connection.Connection.answer.Goals as goal
@@ -8,7 +8,7 @@ invariant_of-self c = still_sound c.answer.result _ _ _ c.self.invariant c.answe
 
 pub returns-clause-stands : goal.returns-clause-stands
 returns-clause-stands c =
-    on_map c.answer.result _ _ (λ steps. goes_on _ _ _ _ _ _ c.self.view_is c.requires.can_answer steps) c.answer.ensures.ok
+    on_both c.answer.result _ _ _ (λ steps marks. goes_on _ _ _ _ _ _ c.self.view_is c.requires.can_answer steps marks) c.answer.ensures.ok c.answer.ensures.marks
 
 pub returns-clause-err : goal.returns-clause-err
 returns-clause-err c = same_state c.answer.result _ _ _ _ c.self.view_is c.answer.ensures.err

@@ -1,4 +1,4 @@
-use Rattle.h1_connection.proofs.ResultLemmas.{on_map}
+use Rattle.h1_connection.proofs.ResultLemmas.{on_map, on_both}
 use Rattle.h1_connection.proofs.GoesOnLemmas.{still_sound, same_state, goes_on}
 use Rattle.h1_connection.proofs.GivenLemmas.{continue_opens, waits_given}
 use Rattle.h1_connection.proofs.connection.Connection.send_continue.Goals as goal
@@ -8,7 +8,7 @@ invariant_of-self c = still_sound c.send_continue.result _ _ _ c.self.invariant 
 
 pub returns-clause-stands : goal.returns-clause-stands
 returns-clause-stands c =
-    on_map c.send_continue.result _ _ (λ steps. goes_on _ _ _ _ _ _ c.self.view_is c.requires.can_continue steps) c.send_continue.ensures.ok
+    on_both c.send_continue.result _ _ _ (λ steps marks. goes_on _ _ _ _ _ _ c.self.view_is c.requires.can_continue steps marks) c.send_continue.ensures.ok c.send_continue.ensures.marks
 
 pub returns-clause-err : goal.returns-clause-err
 returns-clause-err c = same_state c.send_continue.result _ _ _ _ c.self.view_is c.send_continue.ensures.err

@@ -1,4 +1,5 @@
-use Rattle.h1_connection.proofs.ResultLemmas.{ok_map}
+use Rattle.h1_connection.proofs.MarkLemmas.{quiet_tick}
+use Rattle.h1_connection.proofs.ResultLemmas.{ok_map, ok_both}
 use Rattle.h1_connection.proofs.GoesOnLemmas.{still_sound, same_state, goes_on, allowed_parts, tick_before}
 use Rattle.h1_connection.proofs.connection.Connection.tick.Goals as goal
 
@@ -10,7 +11,7 @@ invariant_of-self c = still_sound c.tick.result _ _ _ c.self.invariant c.tick.en
 
 pub returns-clause-stands : goal.returns-clause-stands
 returns-clause-stands c =
-    ok_map c.tick.result _ _ (λ expiry steps. goes_on _ _ _ _ _ _ c.self.view_is c.requires.can_tick steps) c.tick.ensures.ok
+    ok_both c.tick.result _ _ _ (λ expiry steps marks. goes_on _ _ _ _ _ _ c.self.view_is c.requires.can_tick steps (marks ∙ quiet_tick expiry _)) c.tick.ensures.ok c.tick.ensures.marks
 
 pub returns-clause-err : goal.returns-clause-err
 returns-clause-err c = same_state c.tick.result _ _ _ _ c.self.view_is c.tick.ensures.err

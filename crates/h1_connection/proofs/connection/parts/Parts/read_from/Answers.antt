@@ -16,8 +16,8 @@ returns-clause-ok g c =
       came.1,
       came.3,
       came_steps c.args.config.now c.args.self.now _ _ c.read_from.new.self came.0 c.in_ok-came.came c.if-came-eq0.false came.1 room came.2 c.pass_body.ensures.kept
-          c.settle.ensures,
+          c.settle.ensures.settled,
     )
 
 pub returns-clause-sound : goal.returns-clause-sound
-returns-clause-sound g c = read_sound c.args.config.now c.args.self.now _ _ c.read_from.new.self c.requires c.pass_body.ensures.kept c.settle.ensures
+returns-clause-sound g c = read_sound c.args.config.now c.args.self.now _ _ c.read_from.new.self c.requires c.pass_body.ensures.kept c.settle.ensures.settled
