@@ -57,4 +57,4 @@ running_deadline set k moment out result goes moment_is out_is result_is =
 
 -- it is the trace's
 pub deadline_traced : (at : State) (trace : List sums.Step) → Stands at trace → IsDeadline (setting_of at.settings) trace (deadline_by (setting_of at.settings) at.kept)
-deadline_traced at trace stands = deadline_of_trace (setting_of at.settings) at.kept trace stands.machine
+deadline_traced at trace stands = deadline_of_trace (setting_of at.settings) at.kept trace stands

@@ -33,7 +33,7 @@ use Rattle.h1_connection.specs.Parts.{kept_of, IsSound, Steps, StepsIn}
 use Rattle.h1_connection.specs.Frames.{is_raw_request}
 use Rattle.h1_connection.specs.Pulls.{IsPullFrom, IsPullOf}
 use Rattle.h1_connection.specs.Heads.{IsHeld, IsNexted, SaysNext}
-use Rattle.h1_connection.specs.State.{State, IsAllowed, IsFrameAllowed, Stands, GoesOn, ReadsIn, Is}
+use Rattle.h1_connection.specs.State.{State, IsAllowed, IsFrameAllowed, Stands, IsMarked, GoesOn, ReadsIn, Is}
 use Rattle.h1_connection.specs.declared.connection.heads.NextHead.{NextHead}
 use Rattle.h1_connection.specs.declared.connection.heads.NextHead.TheVariants as next
 use Rattle.h1_connection.specs.declared.connection.parts.Parts.{Parts}
@@ -60,14 +60,12 @@ goes_from : (s : Settings) (p q : Parts) (event : on.Event) (out : on.Outcome) �
     → IsAllowed (state_of s p) event → GoesOn (state_of s p) event (Is out) (state_of s q)
 goes_from s p q event out steps marks allowed = λ trace stands.
     let set = setting_of s in
-    let was = stands.machine in (
+    (
       out,
       refl,
-      step_outcome set (kept_of p) (kept_of q) trace event out was allowed steps,
-      record {
-        machine = step_state set (kept_of p) (kept_of q) trace event out was allowed steps;
-        marks = marks ∙ ap (λ (l : List Run). marks_after (kept_of p) event out l) stands.marks ∙ marks_go set (kept_of p) trace event out was allowed;
-      },
+      step_outcome set (kept_of p) (kept_of q) trace event out stands allowed steps,
+      step_state set (kept_of p) (kept_of q) trace event out stands allowed steps,
+      λ marked. marks ∙ ap (λ (l : List Run). marks_after (kept_of p) event out l) marked ∙ marks_go set (kept_of p) trace event out stands allowed,
     )
 
 -- a step of the parts is one of the connection
@@ -98,15 +96,15 @@ reads_in now s p q (b ∷ bytes) view allowed steps marks =
 head_from : (s : Settings) (p q : Parts) (answer : NextHead) → (IsHeld s p → IsNexted s p answer q) → q.output.marks ≡ p.output.marks → IsAllowed (state_of s p) on.next
     → GoesOn (state_of s p) on.next (SaysNext answer) (state_of s q)
 head_from s p q (next.Head item) nexted marks allowed = λ trace stands.
-    let n = nexted (unread_bounded (setting_of s) (kept_of p) trace stands.machine) in
+    let n = nexted (unread_bounded (setting_of s) (kept_of p) trace stands) in
     let goes = goes_from s p q on.next (on.head n.0) n.2 marks allowed trace stands in
-    (goes.0, (n.0, n.1, goes.1), goes.2, goes.3)
+    (goes.0, (n.0, n.1, goes.1), goes.2, goes.3, goes.4)
 head_from s p q (next.Fault fault) nexted marks allowed = λ trace stands.
-    goes_from s p q on.next (on.fault (fault_of fault)) (nexted (unread_bounded (setting_of s) (kept_of p) trace stands.machine)) marks allowed trace stands
+    goes_from s p q on.next (on.fault (fault_of fault)) (nexted (unread_bounded (setting_of s) (kept_of p) trace stands)) marks allowed trace stands
 head_from s p q next.Pending nexted marks allowed = λ trace stands.
-    goes_from s p q on.next on.pending (nexted (unread_bounded (setting_of s) (kept_of p) trace stands.machine)) marks allowed trace stands
+    goes_from s p q on.next on.pending (nexted (unread_bounded (setting_of s) (kept_of p) trace stands)) marks allowed trace stands
 head_from s p q (next.Closed end) nexted marks allowed = λ trace stands.
-    goes_from s p q on.next (on.closed (end_of end)) (nexted (unread_bounded (setting_of s) (kept_of p) trace stands.machine)) marks allowed trace stands
+    goes_from s p q on.next (on.closed (end_of end)) (nexted (unread_bounded (setting_of s) (kept_of p) trace stands)) marks allowed trace stands
 
 pub head_goes_on : (now : State) (s : Settings) (p q : Parts) (answer : NextHead) → state_of s p ≡ now → IsAllowed now on.next
     → (IsHeld s p → IsNexted s p answer q) → q.output.marks ≡ p.output.marks → GoesOn now on.next (SaysNext answer) (state_of s q)
@@ -163,11 +161,11 @@ pull_from : (s : Settings) (p q : Parts) (answer : Answer)
 pull_from s p q answer pulled marks allowed = λ trace stands.
     let set = setting_of s in
     let may = body_pulled (state_of s p) allowed in
-    let there = a_step_is_there set (kept_of p) trace on.pull stands.machine may in
+    let there = a_step_is_there set (kept_of p) trace on.pull stands may in
     let r = pulling_case (kept_of p) (kept_of p).exchange there.2.change (body_open s p allowed) there.2.changes in
     let x = pulled r.0 r.1 in
     let goes = goes_from s p q on.pull r.0.outcome x.1 (marks ∙ quiet_pull answer r.0.outcome p.output.marks x.0) may trace stands in
-    (goes.0, subst (λ (o : on.Outcome). SaysPulled answer o) (sym goes.1) x.0, goes.2, goes.3)
+    (goes.0, subst (λ (o : on.Outcome). SaysPulled answer o) (sym goes.1) x.0, goes.2, goes.3, goes.4)
 
 pub pull_goes_on : (now : State) (s : Settings) (p q : Parts) (answer : Answer) → state_of s p ≡ now → IsAllowed now on.drop_body
     → ((r : Pulled) → IsPullOf (kept_of p) r → SaysPulled answer r.outcome × Steps s p on.pull r.outcome q)
@@ -183,7 +181,7 @@ pub some_goes_on : (now : State) (s : Settings) (p q : Parts) (event : on.Event)
     → ((out : on.Outcome) → Says out → MarksGo p event out q) → ((out : on.Outcome) × Says out × Steps s p event out q) → GoesOn now event Says (state_of s q)
 some_goes_on now s p q event Says view allowed marks steps = λ trace stands.
     let goes = goes_on now s p q event steps.0 view allowed steps.2 (marks steps.0 steps.1) trace stands in
-    (goes.0, subst Says (sym goes.1) steps.1, goes.2, goes.3)
+    (goes.0, subst Says (sym goes.1) steps.1, goes.2, goes.3, goes.4)
 
 -- a frame may be asked for on a WebSocket alone
 pub frame_pulled : (now : State) → IsFrameAllowed now → IsAllowed now on.pull
@@ -250,29 +248,30 @@ tick_before s p ms allowed = before_case p.is_over (is_some (closing_by (setting
 -- whether an event is allowed
 pub allowed_traced : (now : State) (event : on.Event) (trace : List sums.Step) → Stands now trace
     → IsTrue (allowed_by (setting_of now.settings) now.kept event) ↔ traces.IsAllowed (setting_of now.settings) trace event
-allowed_traced now event trace stands = allowed_of_trace (setting_of now.settings) now.kept trace event stands.machine
+allowed_traced now event trace stands = allowed_of_trace (setting_of now.settings) now.kept trace event stands
 
 -- why it closes
 pub closing_traced : (now : State) (trace : List sums.Step) (past : List ParsedStep) → Stands now trace → IsPastOf (setting_of now.settings) trace past
     → closing_by (setting_of now.settings) now.kept ≡ closing (setting_of now.settings) past
-closing_traced now trace past stands is_past = closing_of_trace (setting_of now.settings) now.kept trace past stands.machine is_past
+closing_traced now trace past stands is_past = closing_of_trace (setting_of now.settings) now.kept trace past stands is_past
 
 -- what is to be written
 pub buffered_traced : (now : State) (trace : List sums.Step) → Stands now trace → now.kept.buffered ≡ buffered (setting_of now.settings) trace
 buffered_traced now trace stands =
-    ap (λ (k : Kept). k.buffered) stands.machine.parts ∙ ap (λ (t : List sums.Step). buffered (setting_of now.settings) t) stands.machine.of_trace.same
+    ap (λ (k : Kept). k.buffered) stands.parts ∙ ap (λ (t : List sums.Step). buffered (setting_of now.settings) t) stands.of_trace.same
 
 -- the first segment of it
-pub front_traced : (now : State) (trace : List sums.Step) → Stands now trace → first_segment now.marks now.kept.buffered ≡ front_of (setting_of now.settings) trace
-front_traced now trace stands = λ i. first_segment (stands.marks i) (buffered_traced now trace stands i)
+pub front_traced : (now : State) (trace : List sums.Step) → Stands now trace → IsMarked now trace
+    → first_segment now.marks now.kept.buffered ≡ front_of (setting_of now.settings) trace
+front_traced now trace stands marked = λ i. first_segment (marked i) (buffered_traced now trace stands i)
 
 -- what is held
 pub held_traced : (now : State) (trace : List sums.Step) → Stands now trace → length now.kept.unread ≤ (setting_of now.settings).hold_size
-held_traced now trace stands = unread_bounded (setting_of now.settings) now.kept trace stands.machine
+held_traced now trace stands = unread_bounded (setting_of now.settings) now.kept trace stands
 
 pub held_by_trace : (now : State) (trace : List sums.Step) (past : List ParsedStep) → Stands now trace → IsPastOf (setting_of now.settings) trace past
     → length now.kept.unread ≡ held past
 held_by_trace now trace past stands is_past =
-    let was = stands.machine.past in
-    ap (λ (k : Kept). length k.unread) stands.machine.parts ∙ length-drop (passed was) (taken (steps was))
-    ∙ ap held (past_of_unique (setting_of now.settings) trace was past stands.machine.of_trace is_past)
+    let was = stands.past in
+    ap (λ (k : Kept). length k.unread) stands.parts ∙ length-drop (passed was) (taken (steps was))
+    ∙ ap held (past_of_unique (setting_of now.settings) trace was past stands.of_trace is_past)

@@ -16,7 +16,7 @@ use Rattle.h1_segment_model.specs.Runs.{runs_behind}
 use Rattle.h1_segment_model.specs.Marks.{body_runs}
 use Rattle.h1_connection.proofs.GoesOnLemmas.{buffered_traced, closing_traced}
 use Rattle.h1_connection.specs.Meaning.{setting_of, event_of, end_of, SaysOutcome}
-use Rattle.h1_connection.specs.State.{State, fresh_state, Stands, GoesOn}
+use Rattle.h1_connection.specs.State.{State, fresh_state, Stands, IsMarked, GoesOn}
 use Rattle.h1_connection.specs.Run.{SaysStep, SaySteps, IsDriven, IsWhole, IsMisplaced}
 use Rattle.h1_connection.specs.Steps.{paired, Notes}
 use Rattle.h1_connection.proofs.TraceLemmas.{paired_push}
@@ -37,7 +37,7 @@ at_event now after event other outcome is goes = subst (λ (e : Event). GoesOn n
 pub says_more : (now after : State) (event : on.Event) (P : on.Outcome → Type 0) (outcome : Outcome) → ((out : on.Outcome) → P out → SaysOutcome outcome out)
     → GoesOn now event P after → GoesOn now event (SaysOutcome outcome) after
 says_more now after event P outcome says goes = λ trace stands.
-    let x = goes trace stands in (x.0, says x.0 x.1, x.2, x.3)
+    let x = goes trace stands in (x.0, says x.0 x.1, x.2, x.3, x.4)
 
 -- ---- a run
 
@@ -49,10 +49,10 @@ pub record IsDrivenTo (settings : Settings) (events : List Event) (index : ℕ) 
   pub stands : Stands (record { settings = settings; kept = now.kept; marks = now.marks }) model
   pub says : SaySteps steps (reverse model)
 
--- a new connection stands for no event
-new_stands : (settings : Settings) → Stands (fresh_state settings) []
+-- no body byte waits in a new connection
+pub new_marked : (settings : Settings) → IsMarked (fresh_state settings) []
 unfolding body_runs runs_behind
-new_stands settings = record { machine = fresh_stands (setting_of settings); marks = refl }
+new_marked settings = refl
 
 -- before the first one
 pub driven_new : (settings : Settings) (events : List Event) (steps : List Step) (now : State) → steps ≡ [] → now ≡ fresh_state settings
@@ -60,7 +60,7 @@ pub driven_new : (settings : Settings) (events : List Event) (steps : List Step)
 driven_new settings events steps now empty is =
     subst (λ (k : State). IsDrivenTo settings events 0 steps k) (sym is)
     (subst (λ (l : List Step). IsDrivenTo settings events 0 l (fresh_state settings)) (sym empty)
-    (record { settings_are = refl; events_are = refl; model = []; stands = new_stands settings; says = tt }))
+    (record { settings_are = refl; events_are = refl; model = []; stands = fresh_stands (setting_of settings); says = tt }))
 
 -- one more step on both sides
 say_more : (ss : List Step) (ts : List sums.Step) (s : Step) (t : sums.Step) → SaySteps ss ts → SaysStep s t → SaySteps (ss ++ s ∷ []) (ts ++ t ∷ [])
@@ -130,13 +130,13 @@ run_of settings events index steps now trace x steps_are buffered_are closing_is
     let set = setting_of settings in
     let at : State = record { settings = settings; kept = now.kept; marks = now.marks } in
     record {
-      traced = x.stands.machine.traced;
+      traced = x.stands.traced;
       says = subst (λ (l : List Step). SaySteps l (reverse x.model)) (sym steps_are) x.says;
       events_are = ap (λ (l : List Step). map (λ (s : Step). s.event) l) steps_are ∙ x.events_are;
-      handed = λ parse parsed. handed_prefix set x.model parse x.stands.machine.traced parsed;
+      handed = λ parse parsed. handed_prefix set x.model parse x.stands.traced parsed;
       text_is =
           ap (λ (l : List ℕ). written x.model ++ l) (buffered_are ∙ buffered_traced at x.model x.stands)
-          ∙ written_buffered set x.model x.stands.machine.traced;
+          ∙ written_buffered set x.model x.stands.traced;
       closing_is = λ past is_past.
           closing_is ∙ ap (λ (s : Settings). closing_by (setting_of s) now.kept) x.settings_are ∙ closing_traced at x.model past x.stands is_past;
     }
@@ -154,7 +154,7 @@ whole_of settings events index steps now trace x steps_are buffered_are closing_
 -- an event that isn't allowed is misplaced
 refused_at : (at : State) (model : List sums.Step) (event : on.Event) (stands : Stands at model) → allowed_by (setting_of at.settings) at.kept event ≡ false
     → traces.IsMisplaced (setting_of at.settings) model event
-refused_at at model event stands refused = (misplaced_of_trace (setting_of at.settings) at.kept model event stands.machine).0 refused
+refused_at at model event stands refused = (misplaced_of_trace (setting_of at.settings) at.kept model event stands).0 refused
 
 pub misplaced_of : (settings : Settings) (events : List Event) (index : ℕ) (steps : List Step) (now : State) (trace : Trace) (event : Event)
     → IsDrivenTo settings events index steps now

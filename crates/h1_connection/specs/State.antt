@@ -43,17 +43,21 @@ abbrev pub HasWriteRoom : State → Type 0
 HasWriteRoom state = length state.kept.buffered < state.settings.h1_write_buffer_size
 
 -- the connection stands for the trace
-pub record Stands (state : State) (trace : List sums.Step) : Type 0 where
-  pub machine : StandsFor (setting_of state.settings) state.kept trace
-  pub marks : state.marks ≡ buffered_runs (setting_of state.settings) trace
+abbrev pub Stands : State → List sums.Step → Type 0
+Stands state trace = StandsFor (setting_of state.settings) state.kept trace
+
+-- the body bytes among those that wait are the trace's, piece by piece
+abbrev pub IsMarked : State → List sums.Step → Type 0
+IsMarked state trace = state.marks ≡ buffered_runs (setting_of state.settings) trace
 
 -- Behind each trace that the connection stands for, the table's outcome is such a one, and the connection stands for
--- the longer trace.
+-- the longer trace, also with the places of the body bytes among those that wait.
 abbrev pub GoesOn : State → on.Event → (on.Outcome → Type 0) → State → Type 0
 GoesOn state event Says after =
     (trace : List sums.Step) → Stands state trace
     → (out : on.Outcome) × Says out × IsOutcome (setting_of state.settings) trace event out
     × Stands after (record { event = event; outcome = out } ∷ trace)
+    × (IsMarked state trace → IsMarked after (record { event = event; outcome = out } ∷ trace))
 
 -- The event takes no memory: the input's end, a drop, a drain, an answer's body that fails; a next one that closes, or
 -- finds no head and room for more bytes; a pull that tells the end or a fault, or gives nothing; a piece or an end of

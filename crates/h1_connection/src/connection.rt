@@ -23,7 +23,7 @@ ghost use Rattle.h1_connection.specs.Pulls.{IsLightPull};
 ghost use Rattle.h1_connection.specs.Unsent.{SendsNoPiece, SendsNoEnd};
 ghost use Rattle.h1_connection.specs.Ticks.{expiry_of, IsQuietTick};
 ghost use Rattle.h1_connection.specs.Given.{is_head, is_head_kind};
-ghost use Rattle.h1_connection.specs.State.{fresh_state, IsAllowed, IsNextAllowed, IsFrameAllowed, HasWriteRoom, Stands, GoesOn, ReadsIn, Is};
+ghost use Rattle.h1_connection.specs.State.{fresh_state, IsAllowed, IsNextAllowed, IsFrameAllowed, HasWriteRoom, Stands, IsMarked, GoesOn, ReadsIn, Is};
 
 use crate::connection::clock::Clock;
 pub use crate::connection::frames::{Accepted, PulledFrame, Sent};
@@ -385,7 +385,7 @@ impl Connection {
     /// waits.
     pub fn front(&self) -> &[u8]
         ensures value { result.now ≡ first_segment self.now.marks self.now.kept.buffered }
-        ensures traced { (trace : List sums.Step) → Stands self.now trace → result.now ≡ front_of (setting_of self.now.settings) trace }
+        ensures traced { (trace : List sums.Step) → Stands self.now trace → IsMarked self.now trace → result.now ≡ front_of (setting_of self.now.settings) trace }
         ensures segment { IsFirstSegment self.now.marks self.now.kept.buffered result.now }
         ensures first { (rest : List ℕ) × (result.now ++ rest ≡ self.now.kept.buffered) }
         ensures fits { length result.now ≤ length self.now.kept.buffered }

@@ -9,8 +9,8 @@ pub returns-clause-value : goal.returns-clause-value
 returns-clause-value c = c.front.ensures.value ∙ ap (λ (s : State). first_segment s.marks s.kept.buffered) c.self.view_is
 
 pub returns-clause-traced : goal.returns-clause-traced
-returns-clause-traced c = λ trace stands.
-    c.front.ensures.value ∙ ap (λ (s : State). first_segment s.marks s.kept.buffered) c.self.view_is ∙ front_traced c.args.self.now trace stands
+returns-clause-traced c = λ trace stands marked.
+    c.front.ensures.value ∙ ap (λ (s : State). first_segment s.marks s.kept.buffered) c.self.view_is ∙ front_traced c.args.self.now trace stands marked
 
 pub returns-clause-segment : goal.returns-clause-segment
 returns-clause-segment c = subst (λ (s : State). IsFirstSegment s.marks s.kept.buffered c.front.result.now) c.self.view_is c.front.ensures.first
