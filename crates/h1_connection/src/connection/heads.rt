@@ -73,12 +73,36 @@ impl Parts {
         ensures no_memory_needed { NeedsNoMemory (setting_of config.now) (kept_of self.old) → IsOk result }
         ensures err { OnErr result (self.new ≡ self.old) }
     {
+        if self.input.has_none() {
+            return self.next_without(config);
+        }
         let mut item = HeadItem::new(alloc);
         match self.next_into(alloc, config, &mut item, &mut HeadRoom::new())? {
             NextKind::Head => Ok(NextHead::Head(item)),
             NextKind::Fault(fault) => Ok(NextHead::Fault(fault)),
             NextKind::Pending => Ok(NextHead::Pending),
             NextKind::Closed(end) => Ok(NextHead::Closed(end)),
+        }
+    }
+
+    // The same where no whole head is there.
+    fn next_without(&mut self, config: &ServiceConfig) -> Result<NextHead, NoMemory>
+        requires sound { IsSound config.now self.old }
+        requires none { IsHeadOf self.old.input None }
+        ensures ok { IfOk result (λ next. IsHeld config.now self.old → IsNexted config.now self.old next self.new) }
+        ensures marks { OnOk result (self.new.output.marks ≡ self.old.output.marks) }
+        ensures no_head { IfOk result (λ next. is_head next ≡ false) }
+        ensures sound { OnOk result (IsSound config.now self.new) }
+        ensures no_memory_needed { NeedsNoMemory (setting_of config.now) (kept_of self.old) → IsOk result }
+        ensures err { OnErr result (self.new ≡ self.old) }
+    {
+        if let Some(end) = self.noted_closing(config) {
+            self.is_over = true;
+            return Ok(NextHead::Closed(end));
+        }
+        match self.go_without(config)? {
+            NextKind::Fault(fault) => Ok(NextHead::Fault(fault)),
+            _ => Ok(NextHead::Pending),
         }
     }
 

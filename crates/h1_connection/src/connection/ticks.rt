@@ -31,7 +31,7 @@ pub enum Expiry {
 
 impl Parts {
     /// A moment has come, in milliseconds after the start of 1970. The memory of an idle connection is given back: one
-    /// that is busy takes memory anew once a tick at most.
+    /// that is busy takes memory anew once a moment at most.
     pub fn tick(&mut self, config: &ServiceConfig, moment: u64) -> Result<Expiry, NoMemory>
         requires sound { IsSound config.now self.old }
         requires before { moment < MAX_MOMENT }
@@ -41,15 +41,15 @@ impl Parts {
         ensures no_memory_needed { IsQuietTick (setting_of config.now) (kept_of self.old) moment → IsOk result }
         ensures err { OnErr result (self.new ≡ self.old) }
     {
-        self.give_back();
+        self.give_back(moment);
         self.take_tick(config, moment)
     }
 
-    // Where no request is under way, the memory in which no byte is held is given back.
-    fn give_back(&mut self)
+    // At a new moment, where no request is under way, the memory in which no byte is held is given back.
+    fn give_back(&mut self, moment: u64)
         ensures { self.new ≡ self.old }
     {
-        if self.is_free() {
+        if self.clock.last != Some(moment) && self.is_free() {
             self.input.give_back();
             self.output.give_back();
         }
