@@ -15,6 +15,10 @@ use Rattle.http_segments.specs.Queued.{Queued, with_text, with_piece}
 use Rattle.h1_codec.proofs.Pieces.{not_empty}
 use Rattle.h1_connection.specs.Sent.{with_sent, with_chunk}
 
+pub no_bytes : (l : List ℕ) → length l ≡ 0 → l ≡ []
+no_bytes [] none = refl
+no_bytes (b ∷ l) none = absurd (omega arith)
+
 -- ---- a text that a call puts behind what a buffer holds
 
 -- such a call adds some text, and none where it fails
@@ -30,14 +34,6 @@ text_put (Ok a) q now text more old new is added ok =
     let same : more ≡ text = append_cancel_left old more text (sym added ∙ ok) in
     is ∙ ap (λ l. with_text l q) same
 text_put (Err e) q now text more old new is added ok = tt
-
--- of a text that is the same for each of these
-pub text_put_each : {A E S T : Type 0} (r : Result A E) (q now : Queued) (text : S → T → List ℕ) (more old new : List ℕ) → now ≡ with_text more q → new ≡ old ++ more
-    → OnOk r ((s : S) (t : T) → new ≡ old ++ text s t) → OnOk r ((s : S) (t : T) → now ≡ with_text (text s t) q)
-text_put_each (Ok a) q now text more old new is added ok = λ s t.
-    let same : more ≡ text s t = append_cancel_left old more (text s t) (sym added ∙ ok s t) in
-    is ∙ ap (λ l. with_text l q) same
-text_put_each (Err e) q now text more old new is added ok = tt
 
 pub no_text : (q now : Queued) → now ≡ with_text [] q → now ≡ q
 no_text q now is = is ∙ (λ i. record q { bytes = append-nil q.bytes i })

@@ -1,23 +1,21 @@
 // What is to be written to the peer.
-ghost use Rattle.std.specs.Prelude.{◌≡◌, ◌<◌, ◌≤◌, ◌==◌, Bool, [], length, take, drop, min, IfOk, OnOk, OnErr, IsOk};
+ghost use Rattle.std.specs.Prelude.{◌≡◌, ◌<◌, ◌≤◌, ◌==◌, ◌++◌, [], length, take, drop, min, IfOk, OnOk, OnErr, IsOk};
 ghost use Rattle.h1_codec.specs.Meaning.{answer_of, size_of, model_type, model_shape};
 ghost use Rattle.h1_model.specs.Limits.{MAX_MOMENT};
 ghost use Rattle.h1_model.specs.Answer as answers;
 ghost use Rattle.h1_model.specs.AnswerText.{head_text, sent_end, interim_text, timeout_text};
 ghost use Rattle.h1_model.specs.Frame.{nop};
-ghost use Rattle.h1_model.specs.Handshake.{accepting_head};
-ghost use Rattle.h1_model.specs.Setting.{Setting};
-ghost use Rattle.h1_model.specs.Text.{answer_head_text, fault_answer, message_text};
+ghost use Rattle.h1_model.specs.Text.{fault_answer, message_text};
 ghost use Rattle.ws_frames.specs.Sent.{message_says};
 ghost use Rattle.h1_machine.specs.Reply.{piece_sent};
 ghost use Rattle.h1_segment_model.specs.Runs.{IsFirstSegment};
 ghost use Rattle.http_segments.specs.Queued.{nothing, with_text, behind, front_of, IsStretch};
 ghost use Rattle.h1_connection.specs.Meaning.{fault_of};
-ghost use Rattle.h1_connection.specs.Sent.{with_sent, with_chunk};
+ghost use Rattle.h1_connection.specs.Sent.{with_sent, with_chunk, accepting_text};
 
 use crate::HeadFault;
 use crate::connection::messages::put_message;
-use bytes::Bytes;
+use bytes::{Bytes, BytesMut};
 use h1_codec::{
     Asked, DateLine, Shape, SizeLine, first_bytes, put_accept, put_answer_head, put_bad_request,
     put_end, put_interim, put_timeout, put_too_large,
@@ -244,13 +242,12 @@ impl Output {
     /// The head that upgrades the connection to WebSocket, by the answer to the request's key.
     pub fn put_accept(&mut self, asked: Asked, key: &[u8; 28], moment: u64) -> Result<(), NoMemory>
         requires { moment < MAX_MOMENT }
-        ensures ok { OnOk result ((setting : Setting) (draining : Bool)
-            → self.new ≡ with_text (answer_head_text setting draining asked (accepting_head key.now) answers.size_stream moment) self.old) }
+        ensures ok { OnOk result (self.new ≡ with_text (accepting_text asked key.now moment) self.old) }
         ensures err { OnErr result (self.new ≡ self.old) }
     {
         let date = &mut self.date;
         self.queue
-            .put_with(|out| put_accept(out, asked, key, date, moment))
+            .put_with(|out| put_upgrade(out, asked, key, date, moment))
     }
 
     /// A message of a WebSocket. To put nothing takes no memory.
@@ -286,6 +283,21 @@ impl Output {
         let date = &mut self.date;
         self.queue.put_with(|out| put_timeout(out, date, moment))
     }
+}
+
+// The head of an upgrade, with the text that it has whatever the settings are.
+fn put_upgrade(
+    out: &mut BytesMut,
+    asked: Asked,
+    key: &[u8; 28],
+    date: &mut DateLine,
+    moment: u64,
+) -> Result<(), NoMemory>
+    requires { moment < MAX_MOMENT }
+    ensures ok { OnOk result (out.new.items ≡ out.old.items ++ accepting_text asked key.now moment) }
+    ensures err { OnErr result (out.new.items ≡ out.old.items) }
+{
+    put_accept(out, asked, key, date, moment)
 }
 
 // At most so many bytes, from the first on.

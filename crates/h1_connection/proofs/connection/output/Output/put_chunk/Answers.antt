@@ -1,14 +1,14 @@
 use Rattle.std.proofs.Common.{rules, ◌≡◌, ◌<◌, [], length, sym, ap, ◌∙◌}
 use Rattle.httparse.specs.Ascii.{crlf_bytes}
 use Rattle.http_segments.specs.Queued.{with_text, with_piece}
-use Rattle.h1_connection.proofs.OutputLemmas.{empty_chunk, framed_chunk}
+use Rattle.h1_connection.proofs.OutputLemmas.{no_bytes, empty_chunk, framed_chunk}
 use Rattle.h1_connection.proofs.ResultLemmas.{on_map}
 use Rattle.h1_connection.proofs.connection.output.Output.put_chunk.Goals as goal
 
 pub returns-then-is_empty-clause-ok : goal.returns-then-is_empty-clause-ok
 returns-then-is_empty-clause-ok c =
-    let none : c.args.bytes.now ≡ [] = search rules in
-    empty_chunk c.args.bytes.now c.args.self.now none
+    let none : length c.args.bytes.now ≡ 0 = search rules in
+    empty_chunk c.args.bytes.now c.args.self.now (no_bytes c.args.bytes.now none)
 
 pub returns-clause-ok : goal.returns-clause-ok
 returns-clause-ok c =

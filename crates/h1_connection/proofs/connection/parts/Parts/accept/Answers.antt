@@ -5,7 +5,6 @@ use Rattle.h1_model.specs.Text.{answer_head_text}
 use Rattle.h1_connection.proofs.FrameLemmas.{framed_may, framed_steps, framed_sound, refused_steps, no_accept}
 use Rattle.http_segments.specs.Queued.{Queued}
 use Rattle.h1_connection.specs.declared.connection.parts.Parts.{Parts}
-use Rattle.h1_connection.specs.Meaning.{setting_of}
 use Rattle.h1_connection.proofs.connection.parts.Parts.accept.Goals as goal
 
 pub note-requires : goal.note-requires
@@ -22,7 +21,7 @@ returns-in-Some-refusal-clause-ok c =
 pub returns-clause-ok : goal.returns-clause-ok
 returns-clause-ok c =
     framed_steps c.args.config.now c.args.self.now _ _ c.in-Some.request c.args.limit _ c.requires.sound c.requires.waits c.requires.raw (sym c.request.ensures ∙ c.in-Some.is) c.in_default-refusal.is
-    (λ setting draining. ap (λ (q : Queued). q.bytes) (c.in_ok-put_accept.ensures.ok setting draining)
+    (λ setting draining. ap (λ (q : Queued). q.bytes) c.in_ok-put_accept.ensures.ok
     ∙ (λ i. c.args.self.now.output.bytes ++ answer_head_text setting draining c.in-Some.request.asked (accepting_head (c.kept_key-key.ensures i)) size_stream (c.now.ensures i)))
     c.set_frames.ensures c.note.ensures.kept c.note.ensures.input
 
@@ -33,4 +32,4 @@ returns-clause-sound c =
 
 pub returns-clause-marks : goal.returns-clause-marks
 returns-clause-marks c =
-    ap (λ (q : Queued). q.marks) (c.note.ensures.output ∙ ap (λ (p : Parts). p.output) c.set_frames.ensures ∙ c.in_ok-put_accept.ensures.ok (setting_of c.args.config.now) false)
+    ap (λ (q : Queued). q.marks) (c.note.ensures.output ∙ ap (λ (p : Parts). p.output) c.set_frames.ensures ∙ c.in_ok-put_accept.ensures.ok)
