@@ -19,13 +19,13 @@ returns-in-None-clause-ok c =
 pub returns-in-Length-clause-ok : goal.returns-in-Length-clause-ok
 returns-in-Length-clause-ok c =
     on_map c.put_shared.result _ _ (λ is. is ∙ (λ i. with_piece (c.at_most.ensures i) (c.self.view_is i))
-    ∙ length_sent c.args.asked c.args.missing c.args.bytes c.args.self.now (sym c.is_head.ensures ∙ c.if-is_head.false) _
+    ∙ length_sent c.args.asked c.args.missing c.args.bytes c.args.self.now (sym c.is_head.ensures ∙ c.if-is_head.false) c.in-Length.field-0
     ∙ ap (λ (s : Shape). with_sent c.args.asked (model_shape s) c.args.missing c.args.bytes c.args.self.now) (sym c.in-Length.is)) c.put_shared.ensures.ok
 
 pub returns-in-Length-clause-no_memory_needed : goal.returns-in-Length-clause-no_memory_needed
 returns-in-Length-clause-no_memory_needed c = λ none.
     c.put_shared.ensures.no_memory_needed (ap length c.at_most.ensures
-    ∙ length_out c.args.asked c.args.missing c.args.bytes c.args.self.now (sym c.is_head.ensures ∙ c.if-is_head.false) _
+    ∙ length_out c.args.asked c.args.missing c.args.bytes c.args.self.now (sym c.is_head.ensures ∙ c.if-is_head.false) c.in-Length.field-0
     (subst (λ (s : Shape). piece_sent c.args.asked (model_shape s) c.args.missing c.args.bytes ≡ []) c.in-Length.is none))
 
 pub returns-in-Chunked-clause-ok : goal.returns-in-Chunked-clause-ok
@@ -41,7 +41,7 @@ returns-in-Chunked-clause-no_memory_needed c = λ none.
 
 pub returns-in-Raw-clause-ok : goal.returns-in-Raw-clause-ok
 returns-in-Raw-clause-ok c =
-    on_map c.put_shared-in-Raw.result _ _ (λ is. is ∙ ap (with_piece c.args.bytes) c.self.view_is
+    on_map c.put_shared-in-Raw.result _ _ (λ is. is ∙ ap (with_piece c.args.bytes) c.self-in-Raw.view_is
     ∙ raw_sent c.args.asked c.args.missing c.args.bytes c.args.self.now (sym c.is_head.ensures ∙ c.if-is_head.false)
     ∙ ap (λ (s : Shape). with_sent c.args.asked (model_shape s) c.args.missing c.args.bytes c.args.self.now) (sym c.in-Raw.is)) c.put_shared-in-Raw.ensures.ok
 
