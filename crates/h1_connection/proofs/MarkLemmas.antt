@@ -1,5 +1,5 @@
 -- The places of body bytes among those that wait, behind each event.
-use Rattle.std.proofs.Common.{◌≡◌, ℕ, ◌≤◌, List, [], ◌++◌, length, take, drop, Option, Some, None, refl, sym, ap, ◌∙◌, append-nil, take-append-drop, arith}
+use Rattle.std.proofs.Common.{◌≡◌, ℕ, ◌<◌, ◌≤◌, List, [], ◌∷◌, ◌++◌, length, take, drop, Option, Some, None, refl, sym, ap, ◌∙◌, append-nil, take-append-drop, arith}
 use Rattle.std.specs.Prelude.{min, option_map}
 use Rattle.std.proofs.lemmas.List.{length-take, length-take-le, take_min, drop_min}
 use Rattle.h1_chunks.specs.Runs.{Run}
@@ -114,7 +114,11 @@ pub stretch_first : (all front : List ℕ) → IsStretch all front → (rest : L
 stretch_first all front is = (drop (length front) all, ap (λ l. l ++ drop (length front) all) (sym is.begins) ∙ take-append-drop (length front) all)
 
 pub stretch_some : (all front : List ℕ) → IsStretch all front → length front ≡ 0 → length all ≡ 0
-stretch_some all front is none = omega (arith, is.some)
+stretch_some [] front is none = refl
+stretch_some (b ∷ all) front is none =
+    absurd
+    (let has : 0 < length front = is.some (omega arith) in
+    omega arith)
 
 -- a copy of the first bytes, as many as fit
 pub copied_first : (all now : List ℕ) (room count : ℕ) → count ≡ min room (length all) → take count now ≡ take count all → take count now ≡ take room all

@@ -20,14 +20,14 @@ returns-in-Some-refusal-clause-ok c =
 
 pub returns-clause-ok : goal.returns-clause-ok
 returns-clause-ok c =
-    framed_steps c.args.config.now c.args.self.now _ _ c.in-Some.request c.args.limit _ c.requires.sound c.requires.waits c.requires.raw (sym c.request.ensures ∙ c.in-Some.is) c.in_default-refusal.is
+    framed_steps c.args.config.now c.args.self.now c.set_frames.new.self c.note.new.self c.in-Some.request c.args.limit c.put_accept.new.self c.requires.sound c.requires.waits c.requires.raw (sym c.request.ensures ∙ c.in-Some.is) c.in_default-refusal.is
     (λ setting draining. ap (λ (q : Queued). q.bytes) c.in_ok-put_accept.ensures.ok
     ∙ (λ i. c.args.self.now.output.bytes ++ answer_head_text setting draining c.in-Some.request.asked (accepting_head (c.kept_key-key.ensures i)) size_stream (c.now.ensures i)))
     c.set_frames.ensures c.note.ensures.kept c.note.ensures.input
 
 pub returns-clause-sound : goal.returns-clause-sound
 returns-clause-sound c =
-    framed_sound c.args.config.now c.args.self.now _ _ c.in-Some.request c.args.limit _ c.requires.sound c.requires.waits (sym c.request.ensures ∙ c.in-Some.is) c.set_frames.ensures
+    framed_sound c.args.config.now c.args.self.now c.set_frames.new.self c.note.new.self c.in-Some.request c.args.limit c.put_accept.new.self c.requires.sound c.requires.waits (sym c.request.ensures ∙ c.in-Some.is) c.set_frames.ensures
     c.note.ensures.kept c.note.ensures.input
 
 pub returns-clause-marks : goal.returns-clause-marks

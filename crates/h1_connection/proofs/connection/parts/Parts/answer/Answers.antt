@@ -16,7 +16,7 @@ returns-in_default-clause-ok c = no_answer c.args.config.now c.args.self.now _ _
 
 pub returns-then-is_at_once-clause-ok : goal.returns-then-is_at_once-clause-ok
 returns-then-is_at_once-clause-ok c =
-    at_once_steps c.args.config.now c.args.self.now _ c.in-Some.asked (answer_of c.args.head.now) (size_of c.args.size) c.type_of-connection.result _
+    at_once_steps c.args.config.now c.args.self.now _ c.in-Some.asked (answer_of c.args.head.now) (size_of c.args.size) c.type_of-connection.result c.put_head.new.self
     (sym c.asked.ensures ∙ c.in-Some.is) (sym c.is_at_once.ensures ∙ c.if-is_at_once.true)
     (c.type_of-connection.ensures (setting_of c.args.config.now) (sym (c.keeps.ensures ∙ ap (λ (k : KeepAlive). keeps (keep_alive_of k)) c.keep_alive.ensures.value)))
     (ap (λ (q : Queued). q.bytes) c.in_ok-put_head.ensures.ok
@@ -28,7 +28,7 @@ returns-then-is_at_once-clause-sound c = complete_sound c.args.config.now (recor
 
 pub returns-else-is_at_once-clause-ok : goal.returns-else-is_at_once-clause-ok
 returns-else-is_at_once-clause-ok c =
-    later_steps_by c.args.config.now c.args.self.now _ c.in-Some.asked (answer_of c.args.head.now) (size_of c.args.size) _ _
+    later_steps_by c.args.config.now c.args.self.now c.set_reply.new.self c.in-Some.asked (answer_of c.args.head.now) (size_of c.args.size) _ c.put_head.new.self
     (sym c.asked.ensures ∙ c.in-Some.is) c.requires.waits (sym c.is_at_once.ensures ∙ c.if-is_at_once.false)
     (c.type_of-connection.ensures (setting_of c.args.config.now) (sym (c.keeps.ensures ∙ ap (λ (k : KeepAlive). keeps (keep_alive_of k)) c.keep_alive.ensures.value)))
     c.shape_of-shape.ensures c.stated.ensures

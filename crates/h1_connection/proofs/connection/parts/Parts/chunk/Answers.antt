@@ -14,7 +14,7 @@ returns-in_default-sending-clause-ok c = no_chunk c.args.config.now c.args.self.
 
 pub returns-clause-ok : goal.returns-clause-ok
 returns-clause-ok c =
-    chunked_steps c.args.config.now c.args.self.now _ c.in-Some.asked c.in-Some-sending.sending _ _ _ (sym c.asked.ensures ∙ c.in-Some.is) (sym c.sending.ensures ∙ c.in-Some-sending.is)
+    chunked_steps c.args.config.now c.args.self.now c.set_reply.new.self c.in-Some.asked c.in-Some-sending.sending _ _ c.put_piece.new.self (sym c.asked.ensures ∙ c.in-Some.is) (sym c.sending.ensures ∙ c.in-Some-sending.is)
     (ap (λ (q : Queued). q.bytes) c.in_ok-put_piece.ensures.ok) (λ i. record c.in-Some-sending.sending { missing = c.saturating_sub.ensures i }) c.requires c.set_reply.ensures
 
 pub returns-clause-sound : goal.returns-clause-sound

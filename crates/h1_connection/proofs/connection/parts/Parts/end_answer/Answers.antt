@@ -18,12 +18,12 @@ returns-in_default-sending-clause-ok c = no_end c.args.config.now c.args.self.no
 
 pub returns-clause-ok : goal.returns-clause-ok
 returns-clause-ok c =
-    ended_steps c.args.config.now c.args.self.now _ _ c.in-Some.asked c.in-Some-sending.sending _ (sym c.asked.ensures ∙ c.in-Some.is) (sym c.sending.ensures ∙ c.in-Some-sending.is)
+    ended_steps c.args.config.now c.args.self.now c.note_short.new.self c.complete.new.self c.in-Some.asked c.in-Some-sending.sending c.put_end.new.self (sym c.asked.ensures ∙ c.in-Some.is) (sym c.sending.ensures ∙ c.in-Some-sending.is)
     (ap (λ (q : Queued). q.bytes) c.in_ok-put_end.ensures.ok) c.note_short.ensures.failed c.note_short.ensures.parts c.complete.ensures.settled
 
 pub returns-clause-sound : goal.returns-clause-sound
 returns-clause-sound c =
-    ended_sound c.args.config.now c.args.self.now _ _ c.in-Some-sending.sending _ c.requires c.note_short.ensures.parts c.complete.ensures.settled
+    ended_sound c.args.config.now c.args.self.now c.note_short.new.self c.complete.new.self c.in-Some-sending.sending c.put_end.new.self c.requires c.note_short.ensures.parts c.complete.ensures.settled
 
 pub returns-in_err-put_end-clause-no_memory_needed : goal.returns-in_err-put_end-clause-no_memory_needed
 returns-in_err-put_end-clause-no_memory_needed c = λ none.

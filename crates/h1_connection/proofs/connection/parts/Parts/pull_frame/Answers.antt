@@ -17,12 +17,12 @@ note-requires c = frame_may c.args.self.now _ c.in-Some.exchange _ _ c.in_ok-pul
 
 pub returns-clause-ok : goal.returns-clause-ok
 returns-clause-ok c =
-    frame_steps c.args.config.now c.args.self.now _ _ c.in-Some.exchange _ _ c.in_ok-pulled.pulled c.in-Some.is c.requires.upgraded c.requires.sound
+    frame_steps c.args.config.now c.args.self.now c.fail_by.new.self c.note.new.self c.in-Some.exchange _ _ c.in_ok-pulled.pulled c.in-Some.is c.requires.upgraded c.requires.sound
     c.in_ok-pulled.ensures.pulled c.fail_by.ensures.failed c.fail_by.ensures.parts c.note.ensures.kept c.note.ensures.input
 
 pub returns-clause-sound : goal.returns-clause-sound
 returns-clause-sound c =
-    frame_sound c.args.config.now c.args.self.now _ _ c.in-Some.exchange _ _ c.in_ok-pulled.pulled c.requires.sound
+    frame_sound c.args.config.now c.args.self.now c.fail_by.new.self c.note.new.self c.in-Some.exchange _ _ c.in_ok-pulled.pulled c.requires.sound
     c.in_ok-pulled.ensures.pulled c.fail_by.ensures.parts c.note.ensures.kept c.note.ensures.input
 
 pub returns-in_err-pulled-clause-no_memory_needed : goal.returns-in_err-pulled-clause-no_memory_needed

@@ -12,16 +12,16 @@ note-requires c = sound_may c.args.config.now c.args.self.now c.requires
 
 pub returns-in-Some-clause-ok : goal.returns-in-Some-clause-ok
 returns-in-Some-clause-ok c =
-    unsent_steps c.args.config.now c.args.self.now _ _ c.in-Some.error (sym c.send_error.ensures ∙ c.in-Some.is) c.requires c.note.ensures.kept c.note.ensures.input
+    unsent_steps c.args.config.now c.args.self.now c.note.new.self _ c.in-Some.error (sym c.send_error.ensures ∙ c.in-Some.is) c.requires c.note.ensures.kept c.note.ensures.input
 
 pub returns-in-Some-clause-sound : goal.returns-in-Some-clause-sound
-returns-in-Some-clause-sound c = unsent_sound c.args.config.now c.args.self.now _ c.requires c.note.ensures.kept c.note.ensures.input
+returns-in-Some-clause-sound c = unsent_sound c.args.config.now c.args.self.now c.note.new.self c.requires c.note.ensures.kept c.note.ensures.input
 
 pub returns-clause-ok : goal.returns-clause-ok
 returns-clause-ok c = (
   on.done,
   refl,
-  sent_steps c.args.config.now c.args.self.now _ _ _ (no_rule _ (sym c.send_error.ensures ∙ c.in_default.is)) (ap (λ (q : Queued). q.bytes) c.in_ok-put_message.ensures.ok) c.sending_after-self.ensures c.requires,
+  sent_steps c.args.config.now c.args.self.now _ c.put_message.new.self _ (no_rule _ (sym c.send_error.ensures ∙ c.in_default.is)) (ap (λ (q : Queued). q.bytes) c.in_ok-put_message.ensures.ok) c.sending_after-self.ensures c.requires,
 )
 
 pub returns-clause-sound : goal.returns-clause-sound

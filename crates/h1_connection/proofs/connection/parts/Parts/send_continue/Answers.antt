@@ -9,7 +9,7 @@ returns-then-is_none-clause-ok c = none_told c.args.config.now c.args.self.now c
 
 pub returns-clause-ok : goal.returns-clause-ok
 returns-clause-ok c =
-    told_steps c.args.config.now c.args.self.now _ _ c.requires (c.is_none.ensures ∙ ap not c.if-is_none.false) (ap (λ (q : Queued). q.bytes) c.in_ok-put_interim.ensures.ok) c.set_had_continue.ensures
+    told_steps c.args.config.now c.args.self.now c.set_had_continue.new.self c.put_interim.new.self c.requires (c.is_none.ensures ∙ ap not c.if-is_none.false) (ap (λ (q : Queued). q.bytes) c.in_ok-put_interim.ensures.ok) c.set_had_continue.ensures
 
 pub returns-clause-sound : goal.returns-clause-sound
 returns-clause-sound c = told_sound_by c.args.config.now c.args.self.now _ _ c.requires c.set_had_continue.ensures

@@ -12,12 +12,12 @@ note-requires c = tick_may c.args.config.now c.args.self.now c.expire.new.self c
 
 pub returns-clause-ok : goal.returns-clause-ok
 returns-clause-ok c =
-    tick_steps_by c.args.config.now c.args.self.now c.expire.new.self _ c.unwrap_or-first.result c.args.moment _ c.in_ok-expiry.expiry c.requires.sound c.unwrap_or-first.ensures c.in_ok-expiry.ensures.ok
+    tick_steps_by c.args.config.now c.args.self.now c.expire.new.self c.note.new.self c.unwrap_or-first.result c.args.moment _ c.in_ok-expiry.expiry c.requires.sound c.unwrap_or-first.ensures c.in_ok-expiry.ensures.ok
     c.expire.ensures.exchange c.expire.ensures.input c.advance.ensures c.note.ensures.kept c.note.ensures.input
 
 pub returns-clause-sound : goal.returns-clause-sound
 returns-clause-sound c =
-    tick_sound_by c.args.config.now c.args.self.now c.expire.new.self _ c.args.moment _ c.requires.before c.requires.sound
+    tick_sound_by c.args.config.now c.args.self.now c.expire.new.self c.note.new.self c.args.moment _ c.requires.before c.requires.sound
     c.expire.ensures.exchange c.expire.ensures.input c.advance.ensures c.note.ensures.kept c.note.ensures.input
 
 pub returns-clause-marks : goal.returns-clause-marks
