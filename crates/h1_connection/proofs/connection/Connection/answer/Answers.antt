@@ -18,12 +18,12 @@ answer-requires-clause-waits c = answer_waits c.self.inside.config _ _ _ (allowe
 
 pub returns-clause-can_chunk : goal.returns-clause-can_chunk
 returns-clause-can_chunk c =
-    on_map c.answer.result _ _ (λ steps bytes later room. chunk_given c.self.inside.config c.answer.new.self bytes room (answer_sends c.args.self.now c.self.inside.config _ _ _ _ c.self.view_is c.requires.can_answer steps later)) c.answer.ensures.ok
+    on_map c.answer.result _ _ (λ steps bytes later room. chunk_given c.self.inside.config c.answer.new.self bytes room (answer_sends c.args.self.now c.self.inside.config c.self.inside.parts c.answer.new.self _ _ c.self.view_is c.requires.can_answer steps later)) c.answer.ensures.ok
 
 pub returns-clause-can_end_answer : goal.returns-clause-can_end_answer
 returns-clause-can_end_answer c =
-    on_map c.answer.result _ _ (λ steps later. end_given c.self.inside.config c.answer.new.self (answer_sends c.args.self.now c.self.inside.config _ _ _ _ c.self.view_is c.requires.can_answer steps later)) c.answer.ensures.ok
+    on_map c.answer.result _ _ (λ steps later. end_given c.self.inside.config c.answer.new.self (answer_sends c.args.self.now c.self.inside.config c.self.inside.parts c.answer.new.self _ _ c.self.view_is c.requires.can_answer steps later)) c.answer.ensures.ok
 
 pub returns-clause-can_fail_answer : goal.returns-clause-can_fail_answer
 returns-clause-can_fail_answer c =
-    on_map c.answer.result _ _ (λ steps later. fail_given c.self.inside.config c.answer.new.self (answer_sends c.args.self.now c.self.inside.config _ _ _ _ c.self.view_is c.requires.can_answer steps later)) c.answer.ensures.ok
+    on_map c.answer.result _ _ (λ steps later. fail_given c.self.inside.config c.answer.new.self (answer_sends c.args.self.now c.self.inside.config c.self.inside.parts c.answer.new.self _ _ c.self.view_is c.requires.can_answer steps later)) c.answer.ensures.ok

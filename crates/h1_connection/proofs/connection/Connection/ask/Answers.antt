@@ -15,4 +15,4 @@ returns-clause-err c = same_state c.next.result _ _ _ _ c.self.view_is c.next.en
 
 pub returns-clause-can_answer : goal.returns-clause-can_answer
 returns-clause-can_answer c =
-    ok_map c.next.result _ _ (λ answer opened head size is. answer_given _ _ _ _ c.self.view_is c.requires.allowed (opened is) head size) c.next.ensures.opened
+    ok_map c.next.result _ _ (λ answer opened head size is. answer_given _ _ _ c.next.new.self c.self.view_is c.requires.allowed (opened is) head size) c.next.ensures.opened

@@ -15,12 +15,12 @@ returns-clause-err c = same_state c.chunk.result _ _ _ _ c.self.view_is c.chunk.
 
 pub returns-clause-can_chunk : goal.returns-clause-can_chunk
 returns-clause-can_chunk c =
-    on_map c.chunk.result _ _ (λ steps more room. chunk_given c.self.inside.config c.chunk.new.self more room (chunk_sends c.args.self.now c.self.inside.config _ _ _ c.self.view_is c.requires.can_chunk steps)) c.chunk.ensures.ok
+    on_map c.chunk.result _ _ (λ steps more room. chunk_given c.self.inside.config c.chunk.new.self more room (chunk_sends c.args.self.now c.self.inside.config c.self.inside.parts c.chunk.new.self _ c.self.view_is c.requires.can_chunk steps)) c.chunk.ensures.ok
 
 pub returns-clause-can_end_answer : goal.returns-clause-can_end_answer
 returns-clause-can_end_answer c =
-    on_map c.chunk.result _ _ (λ steps. end_given c.self.inside.config c.chunk.new.self (chunk_sends c.args.self.now c.self.inside.config _ _ _ c.self.view_is c.requires.can_chunk steps)) c.chunk.ensures.ok
+    on_map c.chunk.result _ _ (λ steps. end_given c.self.inside.config c.chunk.new.self (chunk_sends c.args.self.now c.self.inside.config c.self.inside.parts c.chunk.new.self _ c.self.view_is c.requires.can_chunk steps)) c.chunk.ensures.ok
 
 pub returns-clause-can_fail_answer : goal.returns-clause-can_fail_answer
 returns-clause-can_fail_answer c =
-    on_map c.chunk.result _ _ (λ steps. fail_given c.self.inside.config c.chunk.new.self (chunk_sends c.args.self.now c.self.inside.config _ _ _ c.self.view_is c.requires.can_chunk steps)) c.chunk.ensures.ok
+    on_map c.chunk.result _ _ (λ steps. fail_given c.self.inside.config c.chunk.new.self (chunk_sends c.args.self.now c.self.inside.config c.self.inside.parts c.chunk.new.self _ c.self.view_is c.requires.can_chunk steps)) c.chunk.ensures.ok

@@ -27,4 +27,4 @@ returns-clause-kept_item c =
 
 pub returns-clause-can_answer : goal.returns-clause-can_answer
 returns-clause-can_answer c =
-    ok_map c.next_into.result _ _ (λ kind opened head size is. answer_given _ _ _ _ c.self.view_is (next_is_allowed c.args.self.now c.requires.can_next) (opened is) head size) c.next_into.ensures.opened
+    ok_map c.next_into.result _ _ (λ kind opened head size is. answer_given _ _ _ c.next_into.new.self c.self.view_is (next_is_allowed c.args.self.now c.requires.can_next) (opened is) head size) c.next_into.ensures.opened

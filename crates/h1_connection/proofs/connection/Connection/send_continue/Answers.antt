@@ -15,4 +15,4 @@ returns-clause-err c = same_state c.send_continue.result _ _ _ _ c.self.view_is 
 
 pub returns-clause-can_answer : goal.returns-clause-can_answer
 returns-clause-can_answer c =
-    on_map c.send_continue.result _ _ (λ steps head size. waits_given c.self.inside.config c.send_continue.new.self (continue_opens c.args.self.now c.self.inside.config _ _ c.self.view_is c.requires.can_continue steps) head size) c.send_continue.ensures.ok
+    on_map c.send_continue.result _ _ (λ steps head size. waits_given c.self.inside.config c.send_continue.new.self (continue_opens c.args.self.now c.self.inside.config c.self.inside.parts c.send_continue.new.self c.self.view_is c.requires.can_continue steps) head size) c.send_continue.ensures.ok
