@@ -9,10 +9,10 @@ use Rattle.h1_connection.proofs.GoesOnLemmas.{still_sound, same_state, state_of,
 use Rattle.h1_connection.proofs.connection.Connection.accept.Goals as goal
 
 pub accept-requires-clause-waits : goal.accept-requires-clause-waits
-accept-requires-clause-waits c = accept_waits c.self.inside.config _ _ (allowed_parts _ _ _ _ c.self.view_is c.requires.can_accept)
+accept-requires-clause-waits c = accept_waits c.self.inside.config c.self.inside.parts _ (allowed_parts _ _ c.self.inside.parts _ c.self.view_is c.requires.can_accept)
 
 pub accept-requires-clause-raw : goal.accept-requires-clause-raw
-accept-requires-clause-raw c = accept_raw c.self.inside.config _ _ (allowed_parts _ _ _ _ c.self.view_is c.requires.can_accept)
+accept-requires-clause-raw c = accept_raw c.self.inside.config c.self.inside.parts _ (allowed_parts _ _ c.self.inside.parts _ c.self.view_is c.requires.can_accept)
 
 pub invariant_of-self : goal.invariant_of-self
 invariant_of-self c = still_sound c.accept.result _ _ _ c.self.invariant c.accept.ensures.sound c.accept.ensures.err

@@ -14,7 +14,7 @@ pub returns-clause-err : goal.returns-clause-err
 returns-clause-err c = same_state c.answer.result _ _ _ _ c.self.view_is c.answer.ensures.err
 
 pub answer-requires-clause-waits : goal.answer-requires-clause-waits
-answer-requires-clause-waits c = answer_waits c.self.inside.config _ _ _ (allowed_parts _ _ _ _ c.self.view_is c.requires.can_answer)
+answer-requires-clause-waits c = answer_waits c.self.inside.config c.self.inside.parts _ _ (allowed_parts _ _ c.self.inside.parts _ c.self.view_is c.requires.can_answer)
 
 pub returns-clause-can_chunk : goal.returns-clause-can_chunk
 returns-clause-can_chunk c =

@@ -3,10 +3,10 @@ use Rattle.h1_connection.proofs.GoesOnLemmas.{still_sound, same_state, allowed_p
 use Rattle.h1_connection.proofs.connection.Connection.pull.Goals as goal
 
 pub pull-requires-clause-open : goal.pull-requires-clause-open
-pull-requires-clause-open c = body_open c.self.inside.config _ (allowed_parts _ _ _ _ c.self.view_is c.requires.can_pull)
+pull-requires-clause-open c = body_open c.self.inside.config c.self.inside.parts (allowed_parts _ _ c.self.inside.parts _ c.self.view_is c.requires.can_pull)
 
 pub pull-requires-clause-plain : goal.pull-requires-clause-plain
-pull-requires-clause-plain c = body_plain c.self.inside.config _ (allowed_parts _ _ _ _ c.self.view_is c.requires.can_pull)
+pull-requires-clause-plain c = body_plain c.self.inside.config c.self.inside.parts (allowed_parts _ _ c.self.inside.parts _ c.self.view_is c.requires.can_pull)
 
 pub invariant_of-self : goal.invariant_of-self
 invariant_of-self c = still_sound c.pull.result _ _ _ c.self.invariant c.pull.ensures.sound c.pull.ensures.err

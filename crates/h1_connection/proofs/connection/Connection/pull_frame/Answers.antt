@@ -1,4 +1,4 @@
-use Rattle.std.proofs.Common.{subst}
+use Rattle.std.proofs.Common.{◌∙◌, subst}
 use Rattle.std.specs.Prelude.{IsOk}
 use Rattle.h1_connection.specs.Pulls.{IsLightPull}
 use Rattle.h1_connection.specs.State.{State}
@@ -8,7 +8,7 @@ use Rattle.h1_connection.proofs.GoesOnLemmas.{still_sound, same_state, some_goes
 use Rattle.h1_connection.proofs.connection.Connection.pull_frame.Goals as goal
 
 pub pull_frame-requires-clause-upgraded : goal.pull_frame-requires-clause-upgraded
-pull_frame-requires-clause-upgraded c = frame_parts c.args.self.now c.self.inside.config _ c.self.view_is c.requires.can_pull_frame
+pull_frame-requires-clause-upgraded c = frame_parts c.args.self.now c.self.inside.config c.self.inside.parts c.self.view_is c.requires.can_pull_frame
 
 pub invariant_of-self : goal.invariant_of-self
 invariant_of-self c = still_sound c.pull_frame.result _ _ _ c.self.invariant c.pull_frame.ensures.sound c.pull_frame.ensures.err
