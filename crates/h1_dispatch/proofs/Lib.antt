@@ -1,5 +1,6 @@
 pub mod Replies
 pub mod Drops
+pub mod Held
 pub mod Runs
 pub mod Turns
 pub mod Moves

@@ -1,5 +1,5 @@
 -- What a dispatcher keeps, and what is known of what it stands on.
-use Rattle.std.specs.Prelude.{◌≡◌, ◌<◌, ◌-◌, ◌⊎◌, ◌&&◌, ℕ, Bool, true, false, Option, Some, None, is_some, option_map, List, [], map, length, ⊤, Result, Ok, Err}
+use Rattle.std.specs.Prelude.{◌≡◌, ◌<◌, ◌-◌, ◌⊎◌, ◌&&◌, not, ℕ, Bool, true, false, Option, Some, None, is_some, option_map, List, [], map, length, ⊤, Result, Ok, Err}
 use Rattle.http_config.specs.Config.{Settings}
 use Rattle.http_types.specs.Request.{RequestParts}
 use Rattle.http_types.specs.Response.{FullResponse}
@@ -113,7 +113,8 @@ stage_of calls gives (Replying response) = replying (told_response gives respons
 stage_of calls gives (Sending body) = sending (gives body)
 
 -- The connection with the steps that were noted; the wire; the service; the queue of the last request's body; how far that
--- request is; how the connection has ended; and that it is to be drained.
+-- request is; how the connection has ended; that it is to be drained; that requests which ask for an upgrade are to be held
+-- back; and that the last request is, if it asks for one.
 pub record View : Type 0 where
   pub line : LineView
   pub wire : Wiring
@@ -122,6 +123,8 @@ pub record View : Type 0 where
   pub stage : Stage
   pub ending : Option Ending
   pub draining : Bool
+  pub upgrades : Bool
+  pub holding : Bool
 
 abbrev pub view_of : {T S C L B : Type 0} → (T → Wiring) → (S → Serving Asking (FullResponse B) (FullResponse B)) → (C → Calling Asking) → (B → Giving) → (L → Option (List Pair)) → Dispatcher T S C L B → View
 view_of wiring served calls gives noted d =
@@ -133,6 +136,8 @@ view_of wiring served calls gives noted d =
       stage = stage_of calls gives d.work;
       ending = d.ending;
       draining = d.is_draining;
+      upgrades = d.upgrades;
+      holding = d.is_holding;
     }
 
 -- a new dispatcher over this wire and this service
@@ -146,11 +151,21 @@ view_begun wire service settings noted =
       stage = free;
       ending = None;
       draining = false;
+      upgrades = false;
+      holding = false;
     }
 
 -- the same, to be drained
 abbrev pub with_drain : View → View
 with_drain v = record v { draining = true }
+
+-- the same, and the next requests that ask for an upgrade are to be held back, or aren't
+abbrev pub with_upgrades : Bool → View → View
+with_upgrades on v = record v { upgrades = on }
+
+-- the same, and the last request isn't held back
+abbrev pub with_release : View → View
+with_release v = record v { holding = false }
 
 -- the wire, the service and the recorder
 abbrev pub parts_of : {T S C L B : Type 0} → Dispatcher T S C L B → T × S × L
@@ -205,6 +220,14 @@ any_answer =
 
 abbrev pub allows_answer : View → Bool
 allows_answer v = allows v any_answer
+
+-- the request that waits asks for an upgrade and is held back: it is told no answer, and the service isn't asked with it
+abbrev pub is_held : View → Bool
+is_held v = is_waiting v.stage && (v.holding && allows v (on.accept 0))
+
+-- it may be accepted, or declined: its client doesn't wait to be told to go on
+abbrev pub is_offered : View → Bool
+is_offered v = is_held v && not (allows v on.send_continue)
 
 -- more of the open request's body may come: the request waits for its answer, and its body isn't done with
 abbrev pub awaits_body : View → Bool

@@ -26,7 +26,7 @@
 mod dispatcher;
 mod laws;
 
-pub use dispatcher::{Dispatcher, Ending};
+pub use dispatcher::{Accepting, Dispatcher, Ending, Upgraded};
 pub use laws::{
     no_head_comes_of_no_byte, polls_are_one_run, polls_end_by_their_cause, runs_are_traces,
     runs_bound_output, runs_feed_bodies, runs_keep_order, runs_lose_no_request, runs_note_traces,

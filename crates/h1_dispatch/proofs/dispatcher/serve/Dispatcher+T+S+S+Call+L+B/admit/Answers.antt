@@ -11,7 +11,7 @@ returns-then-not-has_room-clause-says g c =
     let v = view_of g.T.Wire.wiring g.S.Service.served g.S.Service.calling g.B.MessageBody.gives g.L.Recorder.noted c.args.self.now in
     let w = view_of g.T.Wire.wiring g.S.Service.served g.S.Service.calling g.B.MessageBody.gives g.L.Recorder.noted c.feed_beside.new.self in
     let r = now_waiting v.stage c.requires.waits in
-    fed_then v w c.feed_beside.result (waits_crowded v r.0 c.requires.allowed (search rules) r.1) c.feed_beside.ensures.says
+    fed_then v w c.feed_beside.result (waits_crowded v r.0 c.requires.allowed (search rules) (search rules) r.1) c.feed_beside.ensures.says
 
 pub returns-then-waits-clause-says : goal.returns-then-waits-clause-says
 returns-then-waits-clause-says g c =

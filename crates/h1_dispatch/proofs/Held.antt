@@ -1,0 +1,98 @@
+-- Requests that are held back.
+use Rattle.std.proofs.Common.{◌≡◌, ℕ, Bool, true, false, Option, Some, None, refl, sym, ap, ◌∙◌, subst}
+use Rattle.std.specs.Prelude.{not, ◌&&◌, unwrap_or}
+use Rattle.h1_model.specs.Event as on
+use Rattle.h1_model.specs.Handshake.{HandshakeError}
+use Rattle.h1_model.specs.Setting.{Setting}
+use Rattle.h1_machine.specs.Kept.{Exchange, Kept, Change}
+use Rattle.h1_machine.specs.Change.{accepting, accepting_with}
+use Rattle.h1_machine.specs.Change.{IsStep as Machine}
+use Rattle.h1_connection.specs.Meaning.{setting_of, SaysOutcome}
+use Rattle.h1_connection.specs.State.{Is}
+use Rattle.h1_connection.specs.declared.event.Outcome.{Outcome}
+use Rattle.h1_line.specs.Line.{LineView, LineSteps}
+use Rattle.h1_dispatch.specs.View.{View, is_waiting, is_calling, is_held, is_offered}
+use Rattle.h1_dispatch.specs.Upgrades.{refused_in}
+
+first_true : (a b : Bool) → (a && b) ≡ true → a ≡ true
+first_true true b is = refl
+first_true false b is = absurd (cc is)
+
+-- one that is held back waits, and so does one that may be accepted
+pub held_waits : (v : View) → is_held v ≡ true → is_waiting v.stage ≡ true
+held_waits v is = first_true (is_waiting v.stage) _ is
+
+pub offered_held : (v : View) → is_offered v ≡ true → is_held v ≡ true
+offered_held v is = first_true (is_held v) _ is
+
+pub offered_waits : (v : View) → is_offered v ≡ true → is_waiting v.stage ≡ true
+offered_waits v is = held_waits v (offered_held v is)
+
+-- ---- what the connection does with an upgrade
+
+by_refusal : (set : Setting) (limit : ℕ) (x : Exchange) (k : Kept) (e : Option HandshakeError) (error : HandshakeError) → on.refused error ≡ (accepting set limit x k e).outcome
+    → (accepting set limit x k e).kept ≡ k
+by_refusal set limit x k (Some other) error is = refl
+by_refusal set limit x k None error is = absurd (cc is)
+
+by_exchange : (set : Setting) (limit : ℕ) (k : Kept) (e : Option Exchange) (error : HandshakeError) → on.refused error ≡ (accepting_with set limit k e).outcome
+    → (accepting_with set limit k e).kept ≡ k
+by_exchange set limit k None error is = absurd (cc is)
+by_exchange set limit k (Some x) error is = by_refusal set limit x k x.refusal error is
+
+by_change : (set : Setting) (limit : ℕ) (k : Kept) (c : Change) (error : HandshakeError) → c ≡ accepting_with set limit k k.exchange → on.refused error ≡ c.outcome → c.kept ≡ k
+by_change set limit k c error is so =
+    ap (λ (x : Change). x.kept) is ∙ by_exchange set limit k k.exchange error (so ∙ ap (λ (x : Change). x.outcome) is)
+
+-- one that is refused changes nothing
+pub refused_keeps : (set : Setting) (k later : Kept) (limit : ℕ) (error : HandshakeError) (out : on.Outcome) → out ≡ on.refused error
+    → (m : Machine set k (on.accept limit) out later) → m.change.kept ≡ k
+refused_keeps set k later limit error out says m = by_change set limit k m.change error m.changes (sym says ∙ m.answers)
+
+-- and one that isn't is done
+done_refusal : (set : Setting) (limit : ℕ) (x : Exchange) (k : Kept) (e : Option HandshakeError) → refused_in (accepting set limit x k e).outcome ≡ None
+    → (accepting set limit x k e).outcome ≡ on.done
+done_refusal set limit x k (Some other) is = absurd (cc is)
+done_refusal set limit x k None is = refl
+
+done_exchange : (set : Setting) (limit : ℕ) (k : Kept) (e : Option Exchange) → refused_in (accepting_with set limit k e).outcome ≡ None
+    → (accepting_with set limit k e).outcome ≡ on.done
+done_exchange set limit k None is = refl
+done_exchange set limit k (Some x) is = done_refusal set limit x k x.refusal is
+
+pub unrefused_done : (set : Setting) (k later : Kept) (limit : ℕ) (out : on.Outcome) → refused_in out ≡ None → Machine set k (on.accept limit) out later → out ≡ on.done
+unrefused_done set k later limit out none m =
+    let is = m.answers ∙ ap (λ (x : Change). x.outcome) m.changes in
+    is ∙ done_exchange set limit k k.exchange (ap refused_in (sym is) ∙ none)
+
+-- the same of a line, by what the outcome says
+pub accepted_steps : (old new : LineView) (limit : ℕ) (outcome : Outcome) → ((out : on.Outcome) → SaysOutcome outcome out → None ≡ refused_in out)
+    → LineSteps old (on.accept limit) (SaysOutcome outcome) new → LineSteps old (on.accept limit) (Is on.done) new
+accepted_steps old new limit outcome none steps = λ trace stands.
+    let x = steps trace stands in
+    let done = unrefused_done (setting_of old.state.settings) old.state.kept new.state.kept limit x.0 (sym (none x.0 x.1)) x.2.machine in
+    (x.0, done, x.2)
+
+refused_is : (error : HandshakeError) (out : on.Outcome) → Some error ≡ refused_in out → out ≡ on.refused error
+refused_is error (on.refused other) is = ap (λ (e : Option HandshakeError). on.refused (unwrap_or e error)) (sym is)
+refused_is error (on.took n) is = absurd (cc is)
+refused_is error (on.head h) is = absurd (cc is)
+refused_is error (on.bytes b) is = absurd (cc is)
+refused_is error (on.trailers h) is = absurd (cc is)
+refused_is error on.body_ended is = absurd (cc is)
+refused_is error (on.frame f) is = absurd (cc is)
+refused_is error on.pending is = absurd (cc is)
+refused_is error (on.closed end) is = absurd (cc is)
+refused_is error (on.fault f) is = absurd (cc is)
+refused_is error (on.broken_by f) is = absurd (cc is)
+refused_is error (on.protocol e) is = absurd (cc is)
+refused_is error (on.gave b) is = absurd (cc is)
+refused_is error (on.expired end) is = absurd (cc is)
+refused_is error on.abandoned is = absurd (cc is)
+refused_is error on.done is = absurd (cc is)
+
+pub refused_steps : (old new : LineView) (limit : ℕ) (outcome : Outcome) (error : HandshakeError) → ((out : on.Outcome) → SaysOutcome outcome out → Some error ≡ refused_in out)
+    → LineSteps old (on.accept limit) (SaysOutcome outcome) new → LineSteps old (on.accept limit) (Is (on.refused error)) new
+refused_steps old new limit outcome error some steps = λ trace stands.
+    let x = steps trace stands in
+    (x.0, refused_is error x.0 (some x.0 x.1), x.2)
