@@ -10,7 +10,7 @@ use Rattle.http_bodies.proofs.Histories.{led_by-more, led_by-none}
 use Rattle.h1_dispatch.specs.View.{View, Asking, Answer, Stage, free, waiting, calling, replying, sending, is_waiting, is_replying, is_sending}
 use Rattle.h1_dispatch.specs.Steps.{Step, IsStep, IsRun, request_at, stage_at, stage_asked, stage_answered, stage_replied, stage_sent, ticked, drained, written, read, shut, next, closed, continued, ready, called, answered, pulled, paused, dropped, replied, sent, failed, failed_write, failed_read, failed_fed, failed_sent, asked_to_drain, asked_to_hold, declined, refused}
 use Rattle.h1_dispatch.specs.Bodies.{step_pieces, ends_body, is_reply, pieces, has_end, has_reply, GoesOut, SendsBody}
-use Rattle.h1_dispatch.proofs.Held.{offered_waits}
+use Rattle.h1_dispatch.proofs.Held.{accepts_waits}
 
 clash : {A : Type 0} → true ≡ false → A
 clash is = absurd (cc is)
@@ -68,7 +68,7 @@ no_body v w (failed_sent piece) other off is = clash (sym (ap is_sending is.1.go
 no_body v w asked_to_drain other off is = apart v w asked_to_drain refl refl off (ap (λ (x : View). x.stage) is)
 no_body v w (asked_to_hold on) other off is = apart v w (asked_to_hold on) refl refl off (ap (λ (x : View). x.stage) is)
 no_body v w declined other off is = apart v w declined refl refl off (ap (λ (x : View). x.stage) is)
-no_body v w (refused limit error) other off is = apart v w (refused limit error) refl refl off (ap (λ (x : View). x.stage) is.3)
+no_body v w (refused limit error) other off is = apart v w (refused limit error) refl refl off (ap (λ (x : View). x.stage) is.2)
 
 -- ---- a step of a body that goes out
 
@@ -122,7 +122,7 @@ a_body v w (failed_sent piece) body other was is =
 a_body v w asked_to_drain body other was is = stays v w asked_to_drain body refl refl was (ap (λ (x : View). x.stage) is)
 a_body v w (asked_to_hold on) body other was is = stays v w (asked_to_hold on) body refl refl was (ap (λ (x : View). x.stage) is)
 a_body v w declined body other was is = stays v w declined body refl refl was (ap (λ (x : View). x.stage) is)
-a_body v w (refused limit error) body other was is = clash (sym (sym (ap is_waiting was) ∙ offered_waits v is.1))
+a_body v w (refused limit error) body other was is = clash (sym (sym (ap is_waiting was) ∙ accepts_waits v limit is.0))
 
 -- ---- runs
 

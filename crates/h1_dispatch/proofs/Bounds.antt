@@ -294,7 +294,7 @@ step_holds v w (failed_sent piece) noted is h = absurd noted
 step_holds v w asked_to_drain noted is h = as_far v w asked_to_drain (line_less v w (ap (λ (x : View). x.line) is)) (ap (λ (x : View). x.stage) is) h
 step_holds v w (asked_to_hold on) noted is h = as_far v w (asked_to_hold on) (line_less v w (ap (λ (x : View). x.line) is)) (ap (λ (x : View). x.stage) is) h
 step_holds v w declined noted is h = as_far v w declined (line_less v w (ap (λ (x : View). x.line) is)) (ap (λ (x : View). x.stage) is) h
-step_holds v w (refused limit error) noted is h = as_far v w (refused limit error) (refused_less v w limit error is.2 h.tied) (ap (λ (x : View). x.stage) is.3) h
+step_holds v w (refused limit error) noted is h = as_far v w (refused limit error) (refused_less v w limit error is.1 h.tied) (ap (λ (x : View). x.stage) is.2) h
 
 -- ---- runs
 

@@ -58,7 +58,7 @@ step_counts v w (failed_sent piece) is = stays v w (ap (λ (x : View). x.wire.fa
 step_counts v w asked_to_drain is = stays v w (ap (λ (x : View). x.wire.faults) is)
 step_counts v w (asked_to_hold on) is = stays v w (ap (λ (x : View). x.wire.faults) is)
 step_counts v w declined is = stays v w (ap (λ (x : View). x.wire.faults) is)
-step_counts v w (refused limit error) is = stays v w (ap (λ (x : View). x.wire.faults) is.3)
+step_counts v w (refused limit error) is = stays v w (ap (λ (x : View). x.wire.faults) is.2)
 
 more_counts : (v u w : View) → Counts v u → Counts u w → Counts v w
 more_counts v u w first then = omega (arith, first, then)

@@ -25,7 +25,7 @@ use Rattle.h1_dispatch.specs.View.{View, sending, is_sending, is_waiting, is_awa
 use Rattle.h1_dispatch.specs.Steps.{Step, Goes, Wrote, IsStep, IsRun, ticked, drained, written, read, shut, next, closed, continued, ready, called, answered, pulled, paused, dropped, replied, sent, failed, failed_write, failed_read, failed_fed, failed_sent, asked_to_drain, asked_to_hold, declined, refused}
 use Rattle.h1_dispatch.specs.Traces.{IsNoted, AllNoted}
 use Rattle.h1_dispatch.specs.Bodies.{IsOfEnd, OnlyEnds}
-use Rattle.h1_dispatch.proofs.Held.{offered_waits}
+use Rattle.h1_dispatch.proofs.Held.{accepts_waits}
 
 clash : {A : Type 0} → true ≡ false → A
 clash is = absurd (cc is)
@@ -155,7 +155,7 @@ step_ends v w (failed_sent piece) noted is f = absurd noted
 step_ends v w asked_to_drain noted is f = (tt, still v w (ap (λ (x : View). x.line) is) (ap (λ (x : View). x.stage) is) f)
 step_ends v w (asked_to_hold on) noted is f = (tt, still v w (ap (λ (x : View). x.line) is) (ap (λ (x : View). x.stage) is) f)
 step_ends v w declined noted is f = (tt, still v w (ap (λ (x : View). x.line) is) (ap (λ (x : View). x.stage) is) f)
-step_ends v w (refused limit error) noted is f = clash (sym (sym (ap is_waiting f.stage) ∙ offered_waits v is.1))
+step_ends v w (refused limit error) noted is f = clash (sym (sym (ap is_waiting f.stage) ∙ accepts_waits v limit is.0))
 
 ends_on : (v u w : View) (d : Step) (steps : List Step) → IsOfEnd d × HasFailed u → (HasFailed u → OnlyEnds steps w) → OnlyEnds (d ∷ steps) w
 ends_on v u w d steps first rest = let x = rest first.1 in record { closing = x.closing; each = (first.0, x.each) }

@@ -201,7 +201,7 @@ step_has v w (failed_sent piece) body is has = subst (λ s. HasBody body s w.que
 step_has v w asked_to_drain body is has = stays v w body (ap (λ (x : View). x.stage) is) (ap (λ (x : View). x.queue) is) has
 step_has v w (asked_to_hold on) body is has = stays v w body (ap (λ (x : View). x.stage) is) (ap (λ (x : View). x.queue) is) has
 step_has v w declined body is has = stays v w body (ap (λ (x : View). x.stage) is) (ap (λ (x : View). x.queue) is) has
-step_has v w (refused limit error) body is has = stays v w body (ap (λ (x : View). x.stage) is.3) (ap (λ (x : View). x.queue) is.3) has
+step_has v w (refused limit error) body is has = stays v w body (ap (λ (x : View). x.stage) is.2) (ap (λ (x : View). x.queue) is.2) has
 
 pub run_feeds : (v w : View) (steps : List Step) (body : CameBody) → IsRun v steps w → HasBody body v.stage v.queue → HasBody (body_after body steps) w.stage w.queue
 run_feeds v w [] body is has = stays v w body (ap (λ (x : View). x.stage) is) (ap (λ (x : View). x.queue) is) has
@@ -316,7 +316,7 @@ step_bound v w (failed_sent piece) trace stands noted is b = absurd noted
 step_bound v w asked_to_drain trace stands noted is b = to_queue v w v.queue (ap (λ (x : View). x.line.state.settings) is) (ap (λ (x : View). x.queue) is) b
 step_bound v w (asked_to_hold on) trace stands noted is b = to_queue v w v.queue (ap (λ (x : View). x.line.state.settings) is) (ap (λ (x : View). x.queue) is) b
 step_bound v w declined trace stands noted is b = to_queue v w v.queue (ap (λ (x : View). x.line.state.settings) is) (ap (λ (x : View). x.queue) is) b
-step_bound v w (refused limit error) trace stands noted is b = to_queue v w v.queue is.2.settings (ap (λ (x : View). x.queue) is.3) b
+step_bound v w (refused limit error) trace stands noted is b = to_queue v w v.queue is.1.settings (ap (λ (x : View). x.queue) is.2) b
 
 pub run_bound : (v w : View) (steps : List Step) (trace : List sums.Step) → LineStands v.line trace → AllNoted steps → IsRun v steps w → HasQueueBound v → HasQueueBound w
 run_bound v w [] trace stands noted is b = to_queue v w v.queue (ap (λ (x : View). x.line.state.settings) is) (ap (λ (x : View). x.queue) is) b

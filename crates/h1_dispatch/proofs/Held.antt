@@ -1,5 +1,5 @@
 -- Requests that are held back.
-use Rattle.std.proofs.Common.{◌≡◌, ℕ, Bool, true, false, Option, Some, None, refl, sym, ap, ◌∙◌, subst}
+use Rattle.std.proofs.Common.{◌≡◌, ℕ, Bool, true, false, Option, Some, None, is_some, refl, sym, ap, ◌∙◌, subst}
 use Rattle.std.specs.Prelude.{not, ◌&&◌, unwrap_or}
 use Rattle.h1_model.specs.Event as on
 use Rattle.h1_model.specs.Handshake.{HandshakeError}
@@ -11,7 +11,7 @@ use Rattle.h1_connection.specs.Meaning.{setting_of, SaysOutcome}
 use Rattle.h1_connection.specs.State.{Is}
 use Rattle.h1_connection.specs.declared.event.Outcome.{Outcome}
 use Rattle.h1_line.specs.Line.{LineView, LineSteps}
-use Rattle.h1_dispatch.specs.View.{View, is_waiting, is_calling, is_held, is_offered}
+use Rattle.h1_dispatch.specs.View.{View, is_waiting, is_calling, is_held, is_offered, may_accept, allows}
 use Rattle.h1_dispatch.specs.Upgrades.{refused_in}
 
 first_true : (a b : Bool) → (a && b) ≡ true → a ≡ true
@@ -22,11 +22,15 @@ first_true false b is = absurd (cc is)
 pub held_waits : (v : View) → is_held v ≡ true → is_waiting v.stage ≡ true
 held_waits v is = first_true (is_waiting v.stage) _ is
 
-pub offered_held : (v : View) → is_offered v ≡ true → is_held v ≡ true
-offered_held v is = first_true (is_held v) _ is
+last_true : (a b : Bool) → (a && b) ≡ true → b ≡ true
+last_true true b is = is
+last_true false b is = absurd (cc is)
 
-pub offered_waits : (v : View) → is_offered v ≡ true → is_waiting v.stage ≡ true
-offered_waits v is = held_waits v (offered_held v is)
+pub accepts_waits : (v : View) (limit : ℕ) → may_accept v limit ≡ true → is_waiting v.stage ≡ true
+accepts_waits v limit is = held_waits v (first_true (is_held v) _ (last_true (not (is_some v.ending)) _ (first_true (is_offered v) _ is)))
+
+pub accepts_allowed : (v : View) (limit : ℕ) → may_accept v limit ≡ true → allows v (on.accept limit) ≡ true
+accepts_allowed v limit is = last_true (is_offered v) _ is
 
 -- ---- what the connection does with an upgrade
 

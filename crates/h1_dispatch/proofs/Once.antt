@@ -402,7 +402,7 @@ step_once v w declined body noted is o = still v w body.faults (ap (λ (x : View
 step_once v w (refused limit error) body noted is o =
     let set = setting_of v.line.state.settings in
     let k = v.line.state.kept in
-    went v w body.faults body.faults (on.accept limit) (Is (on.refused error)) is.2
+    went v w body.faults body.faults (on.accept limit) (Is (on.refused error)) is.1
     (λ out says m. done_on body.faults k.exchange m.change.kept.exchange (ap (λ (x : Kept). is_done x.exchange) (refused_keeps set k w.line.state.kept limit error out says m)) o.once) o
 
 run_once : (v w : View) (steps : List Step) (body : CameBody) → AllNoted steps → IsRun v steps w → Once body.faults v → Once (body_after body steps).faults w

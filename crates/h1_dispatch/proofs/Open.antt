@@ -365,9 +365,9 @@ step_ties v w asked_to_drain noted is t = still v w (ap (λ (x : View). x.line) 
 step_ties v w (asked_to_hold on) noted is t = still v w (ap (λ (x : View). x.line) is) (ap (λ (x : View). asks_at x.stage) is) t
 step_ties v w declined noted is t = still v w (ap (λ (x : View). x.line) is) (ap (λ (x : View). asks_at x.stage) is) t
 step_ties v w (refused limit error) noted is t =
-    went v w (on.accept limit) (Is (on.refused error)) is.2
+    went v w (on.accept limit) (Is (on.refused error)) is.1
     (λ out says m was. ap (λ (x : Kept). asks x.exchange) (refused_keeps (setting_of v.line.state.settings) v.line.state.kept w.line.state.kept limit error out says m)
-    ∙ was ∙ ap (λ (x : View). asks_at x.stage) (sym is.3)) t
+    ∙ was ∙ ap (λ (x : View). asks_at x.stage) (sym is.2)) t
 
 run_ties : (v w : View) (steps : List Step) → AllNoted steps → IsRun v steps w → IsTied v → IsTied w
 run_ties v w [] noted is t = subst IsTied (sym is) t

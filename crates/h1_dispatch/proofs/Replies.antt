@@ -136,7 +136,7 @@ step_hands v w (failed_sent piece) brings is none = now v w _ (ap (λ (x : View)
 step_hands v w asked_to_drain brings is none = now v w v.stage (ap (λ (x : View). x.stage) is) none
 step_hands v w (asked_to_hold on) brings is none = now v w v.stage (ap (λ (x : View). x.stage) is) none
 step_hands v w declined brings is none = now v w v.stage (ap (λ (x : View). x.stage) is) none
-step_hands v w (refused limit error) brings is none = now v w v.stage (ap (λ (x : View). x.stage) is.3) none
+step_hands v w (refused limit error) brings is none = now v w v.stage (ap (λ (x : View). x.stage) is.2) none
 
 pub run_hands : (v w : View) (steps : List Step) → AllQuiet steps → IsRun v steps w → HasNoReply v → HasNoReply w
 run_hands v w [] all is none = ap (λ (x : View). is_replying x.stage) is ∙ none

@@ -284,8 +284,8 @@ step_follows v w asked_to_drain noted is = wire_same v w (ap (λ (x : View). x.l
 step_follows v w (asked_to_hold on) noted is = wire_same v w (ap (λ (x : View). x.line) is) (ap (λ (x : View). x.wire) is)
 step_follows v w declined noted is = wire_same v w (ap (λ (x : View). x.line) is) (ap (λ (x : View). x.wire) is)
 step_follows v w (refused limit error) noted is =
-    went v w (on.accept limit) [] (Is (on.refused error)) is.2
-    (λ out says machine. quiet v w (on.accept limit) out (ap (λ (x : View). x.wire) is.3) (ap (λ o. step_taken (on.accept limit) o) says) (ap step_written says) (ap of_request says))
+    went v w (on.accept limit) [] (Is (on.refused error)) is.1
+    (λ out says machine. quiet v w (on.accept limit) out (ap (λ (x : View). x.wire) is.2) (ap (λ o. step_taken (on.accept limit) o) says) (ap step_written says) (ap of_request says))
 
 follows_on : (v u w : View) (first then : List on.Event) (asks later : List Came) → By v first asks u → By u then later w → By v (first ++ then) (asks ++ later) w
 follows_on v u w first then asks later a b = λ trace stands.

@@ -40,7 +40,7 @@ use Rattle.h1_connection.specs.declared.event.End.{End}
 use Rattle.h1_line.specs.Line.{LineView, LineSteps, LineFails}
 use Rattle.h1_dispatch.specs.declared.dispatcher.Ending.{Ending}
 use Rattle.h1_dispatch.specs.declared.dispatcher.Ending.TheVariants.{Closed, Abandoned, Broken}
-use Rattle.h1_dispatch.specs.View.{View, Asking, Answer, Stage, free, waiting, calling, replying, sending, is_waiting, is_replying, awaits_body, with_drain, with_upgrades, with_release, closes, allows, allows_next, has_write_room, asks_next, allows_answer, is_held, is_offered, allows_chunk, buffered, room}
+use Rattle.h1_dispatch.specs.View.{View, Asking, Answer, Stage, free, waiting, calling, replying, sending, is_waiting, is_replying, awaits_body, with_drain, with_upgrades, with_release, closes, allows, allows_next, has_write_room, asks_next, allows_answer, is_held, may_accept, allows_chunk, buffered, room}
 
 -- A step. A moment came; the drain came; the wire was given what waits to be written; it was asked for bytes, and these
 -- came; it was shut down; the next head was asked for; the connection closes, and told its end; the client of the request
@@ -334,7 +334,7 @@ IsStep v asked_to_drain w = w ≡ with_drain v
 IsStep v (asked_to_hold on) w = w ≡ with_upgrades on v
 IsStep v declined w = w ≡ with_release v
 IsStep v (refused limit error) w =
-    (v.ending ≡ None) × (is_offered v ≡ true) × Goes v.line (on.accept limit) (Is (on.refused error)) w.line
+    (may_accept v limit ≡ true) × Goes v.line (on.accept limit) (Is (on.refused error)) w.line
     × (w ≡ record (with_release v) { line = w.line })
 
 -- one step after another

@@ -30,6 +30,11 @@ waiting_in stage = None
 abbrev pub held_in : View → Option Asking
 held_in v = if is_offered v then waiting_in v.stage else None
 
+-- the upgrade came to the connection, which did it, or refused it
+abbrev pub Accepts : View → ℕ → View → Option HandshakeError → Type 0
+Accepts v limit w None = Goes v.line (on.accept limit) (Is on.done) w.line × (w ≡ record v { line = w.line })
+Accepts v limit w (Some error) = IsStep v (refused limit error) w
+
 -- What was handed over: the request that waited; the connection, to which the upgrade came, with the step that was noted; the
 -- wire and the service, as they were.
 pub record HandsOver {T S L B : Type 0} (wiring : T → Wiring) (served : S → Serving Asking (FullResponse B) (FullResponse B)) (gives : B → Giving) (noted : L → Option (List Pair)) (v : View) (limit : ℕ) (handed : Upgraded T S L) : Type 0 where

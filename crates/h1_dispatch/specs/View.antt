@@ -225,9 +225,13 @@ allows_answer v = allows v any_answer
 abbrev pub is_held : View → Bool
 is_held v = is_waiting v.stage && (v.holding && allows v (on.accept 0))
 
--- it may be accepted, or declined: its client doesn't wait to be told to go on
+-- it may be accepted, or declined: the connection hasn't ended, and its client doesn't wait to be told to go on
 abbrev pub is_offered : View → Bool
-is_offered v = is_held v && not (allows v on.send_continue)
+is_offered v = not (is_some v.ending) && (is_held v && not (allows v on.send_continue))
+
+-- it may be accepted with this limit
+abbrev pub may_accept : View → ℕ → Bool
+may_accept v limit = is_offered v && allows v (on.accept limit)
 
 -- more of the open request's body may come: the request waits for its answer, and its body isn't done with
 abbrev pub awaits_body : View → Bool

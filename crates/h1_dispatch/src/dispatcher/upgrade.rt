@@ -1,10 +1,11 @@
 // Requests that ask for an upgrade are held back for who polls, who accepts or declines them.
-ghost use Rattle.std.specs.Prelude.{◌≡◌, None, true, IfOk, option_map, option_copied};
+ghost use Rattle.std.specs.Prelude.{◌≡◌, None, true, IfOk, option_map};
+ghost use Rattle.std.specs.Option.{option_copied};
 ghost use Rattle.futures.specs.Task.{IsArmed, Keeps};
 ghost use Rattle.h1_model.specs.Event as on;
 ghost use Rattle.h1_connection.specs.Meaning.{SaysOutcome, failing_of};
-ghost use Rattle.h1_dispatch.specs.View.{view_of, stage_of, is_waiting, is_held, is_offered, with_upgrades, with_release, allows, allows_answer, MayBePolled};
-ghost use Rattle.h1_dispatch.specs.Upgrades.{refused_in, held_in, AcceptSays};
+ghost use Rattle.h1_dispatch.specs.View.{view_of, stage_of, waiting, is_waiting, is_held, is_offered, may_accept, with_upgrades, with_release, allows_answer, MayBePolled};
+ghost use Rattle.h1_dispatch.specs.Upgrades.{refused_in, held_in, Accepts, AcceptSays};
 ghost use Rattle.h1_dispatch.specs.Polls.{OnIdle, ServeSays};
 
 use crate::dispatcher::{Dispatcher, Turn, Work};
@@ -77,10 +78,7 @@ where
     pub fn held(&self) -> Option<&Request<(), ()>>
         ensures { option_copied result ≡ held_in (view_of T.wiring S.served S.calling B.gives L.noted self.now) }
     {
-        if !self.is_held() {
-            return None;
-        }
-        if self.line.connection().can_continue() {
+        if !self.is_offered() {
             return None;
         }
         match &self.work {
@@ -100,12 +98,28 @@ where
         self.is_holding = false;
     }
 
-    /// Whether the request that is held back may be accepted with this limit: as many bytes as a frame with such a payload has
-    /// may be held.
+    /// Whether a request is held back, and may be accepted with this limit: its client doesn't wait to be told to go on, and
+    /// as many bytes as a frame with such a payload has may be held.
     pub fn can_accept(&self, limit: usize) -> bool
-        ensures { result ≡ allows (view_of T.wiring S.served S.calling B.gives L.noted self.now) (on.accept limit) }
+        ensures { result ≡ may_accept (view_of T.wiring S.served S.calling B.gives L.noted self.now) limit }
     {
+        if !self.is_offered() {
+            return false;
+        }
         self.line.connection().can_accept(limit)
+    }
+
+    // Whether a request is held back, and its client doesn't wait to be told to go on.
+    fn is_offered(&self) -> bool
+        ensures { result ≡ is_offered (view_of T.wiring S.served S.calling B.gives L.noted self.now) }
+    {
+        if self.ending.is_some() {
+            return false;
+        }
+        if !self.is_held() {
+            return false;
+        }
+        !self.line.connection().can_continue()
     }
 
     /// Accepts that the request that is held back upgrades the connection to WebSocket (RFC 6455, section 4.2), of whose
@@ -114,25 +128,52 @@ where
     /// the request. A request that fails a check of the upgrade is declined. On an error all is dropped.
     pub fn accept(self, limit: usize) -> Result<Accepting<T, S, S::Call, L, B>, NoMemory>
         requires open { MayBePolled S.calling self }
-        requires running { self.ending ≡ None }
-        requires offered { is_offered (view_of T.wiring S.served S.calling B.gives L.noted self) ≡ true }
-        requires allowed { allows (view_of T.wiring S.served S.calling B.gives L.noted self) (on.accept limit) ≡ true }
+        requires can_accept { may_accept (view_of T.wiring S.served S.calling B.gives L.noted self) limit ≡ true }
         ensures says { IfOk result (AcceptSays T.wiring S.served S.calling B.gives L.noted (view_of T.wiring S.served S.calling B.gives L.noted self) limit) }
     {
         let mut dispatcher = self;
-        let outcome = dispatcher.line.step(&Event::Accept(limit))?;
-        match refusal_in(&outcome) {
-            Some(error) => {
-                dispatcher.is_holding = false;
-                Ok(Accepting::Refused(dispatcher, error))
-            }
-            None => {
-                let Dispatcher { line, wire, service, work, .. } = dispatcher;
-                let Work::Waiting(request) = work else {
-                    unreachable!()
-                };
-                Ok(Accepting::Done(Upgraded { request, line, wire, service }))
-            }
+        match dispatcher.step_accept(limit) {
+            Ok(None) => Ok(Accepting::Done(dispatcher.hand_over())),
+            Ok(Some(error)) => Ok(Accepting::Refused(dispatcher, error)),
+            Err(error) => Err(error),
+        }
+    }
+
+    // The upgrade comes to the connection. Where it is refused, the request isn't held back any more.
+    fn step_accept(&mut self, limit: usize) -> Result<Option<HandshakeError>, NoMemory>
+        requires open { MayBePolled S.calling self.old }
+        requires can_accept { may_accept (view_of T.wiring S.served S.calling B.gives L.noted self.old) limit ≡ true }
+        ensures says { IfOk result (λ refusal. Accepts (view_of T.wiring S.served S.calling B.gives L.noted self.old) limit (view_of T.wiring S.served S.calling B.gives L.noted self.new) (option_map failing_of refusal)) }
+        ensures open { MayBePolled S.calling self.new }
+    {
+        match self.line.step(&Event::Accept(limit)) {
+            Ok(outcome) => match refusal_in(&outcome) {
+                None => Ok(None),
+                Some(error) => {
+                    self.is_holding = false;
+                    Ok(Some(error))
+                }
+            },
+            Err(error) => Err(error),
+        }
+    }
+
+    // The request that waits, with the connection, the wire and the service.
+    fn hand_over(self) -> Upgraded<T, S, L>
+        requires waits { is_waiting (stage_of S.calling B.gives self.work) ≡ true }
+        ensures request { stage_of S.calling B.gives self.work ≡ waiting result.request }
+        ensures line { result.line ≡ self.line }
+        ensures wire { result.wire ≡ self.wire }
+        ensures service { result.service ≡ self.service }
+    {
+        let Work::Waiting(request) = self.work else {
+            unreachable!()
+        };
+        Upgraded {
+            request,
+            line: self.line,
+            wire: self.wire,
+            service: self.service,
         }
     }
 
