@@ -15,6 +15,15 @@ pub enum Step {
 
     /// Its deadline is asked for.
     Deadline,
+
+    /// Requests that ask for an upgrade are held back from the next head on.
+    Hold,
+
+    /// The request that is held back goes to the service.
+    Decline,
+
+    /// The request that is held back is accepted, with this limit of payloads. Nothing is done after it.
+    Accept(usize),
 }
 
 /// The step that these words say, where they say one.
@@ -25,6 +34,9 @@ pub fn step_of(word: &[u8], mut words: Cursor<'_>) -> Option<Step> {
         b"poll-until-ready" => Some(Step::PollUntilReady(words.number()? as u64)),
         b"drain" => Some(Step::Drain),
         b"deadline" => Some(Step::Deadline),
+        b"hold" => Some(Step::Hold),
+        b"decline" => Some(Step::Decline),
+        b"accept" => Some(Step::Accept(words.number()? as usize)),
         _ => None,
     }
 }
