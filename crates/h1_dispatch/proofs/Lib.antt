@@ -6,6 +6,7 @@ pub mod Turns
 pub mod Moves
 pub mod Begins
 pub mod Traces
+pub mod Results
 pub mod Orders
 pub mod Acts
 pub mod Open

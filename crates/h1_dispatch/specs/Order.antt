@@ -3,6 +3,7 @@ use Rattle.std.specs.Prelude.{◌≡◌, ◌+◌, ℕ, List, [], ◌∷◌, ◌+
 use Rattle.futures.specs.declared.task.Poll.{Poll}
 use Rattle.futures.specs.declared.task.Poll.TheVariants.{Ready, Pending}
 use Rattle.http_bodies.specs.Told.{Grows}
+use Rattle.http_services.specs.Serving as services
 use Rattle.h1_dispatch.specs.View.{View, Asking, Answer, Stage, free, waiting, calling, replying, sending}
 use Rattle.h1_dispatch.specs.Steps.{Step, request_at, next, ready, called, answered, replied}
 
@@ -68,6 +69,11 @@ step_answers (ready request answer) = refusals answer
 step_answers (answered answer) = given answer
 step_answers step = []
 
+-- what the calls answered, as answers or as errors
+abbrev pub step_results : Step → List (Result Answer Answer)
+step_results (answered answer) = services.given answer
+step_results step = []
+
 -- the answers that were handed on
 abbrev pub step_replies : Step → List Answer
 step_replies (replied answer) = answer ∷ []
@@ -89,15 +95,21 @@ abbrev pub answers : List Step → List Answer
 answers [] = []
 answers (d ∷ steps) = step_answers d ++ answers steps
 
+abbrev pub results : List Step → List (Result Answer Answer)
+results [] = []
+results (d ∷ steps) = step_results d ++ results steps
+
 abbrev pub replies : List Step → List Answer
 replies [] = []
 replies (d ∷ steps) = step_replies d ++ replies steps
 
 -- Requests are called, or refused, in the order in which their heads were handed out, and the last one may wait. Each of
 -- them has one answer, but for the last one while its call is in progress. Answers are handed on in the order in which they
--- came, all of them, and the last one may wait. What the service tells of its calls grows by those of the steps.
+-- came, all of them, and the last one may wait. What the service tells of its calls grows by those of the steps, and what it
+-- tells of its answers by what these calls answered.
 pub record KeepsOrder (v : View) (steps : List Step) (w : View) : Type 0 where
   pub waits : waits_in v.stage ++ requests steps ≡ left steps ++ waits_in w.stage
   pub each : calls_in v.stage + length (left steps) ≡ length (answers steps) + calls_in w.stage
   pub replied : reply_in v.stage ++ answers steps ≡ replies steps ++ reply_in w.stage
   pub called : Grows v.service.called w.service.called (calls steps)
+  pub answered : Grows v.service.answered w.service.answered (results steps)
