@@ -79,7 +79,7 @@ fn accept<L: Recorder>(served: Served<L>, limit: usize, report: &mut Vec<u8>) ->
 }
 
 // Puts what was handed over: the request, what waits to be written, and how many bytes are held behind the request.
-fn put_handed<L>(
+fn put_handed<L: Recorder>(
     upgraded: Upgraded<Lingering, CountedService<Scripted>, L>,
     report: &mut Vec<u8>,
 ) -> io::Result<()> {
