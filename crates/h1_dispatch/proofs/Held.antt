@@ -1,6 +1,6 @@
 -- Requests that are held back.
 use Rattle.std.proofs.Common.{◌≡◌, ℕ, Bool, true, false, Option, Some, None, is_some, refl, sym, ap, ◌∙◌, subst}
-use Rattle.std.specs.Prelude.{not, ◌&&◌, unwrap_or}
+use Rattle.std.specs.Prelude.{not, ◌&&◌, if◌then◌else◌, unwrap_or}
 use Rattle.h1_model.specs.Event as on
 use Rattle.h1_model.specs.Handshake.{HandshakeError}
 use Rattle.h1_model.specs.Setting.{Setting}
@@ -10,9 +10,10 @@ use Rattle.h1_machine.specs.Change.{IsStep as Machine}
 use Rattle.h1_connection.specs.Meaning.{setting_of, SaysOutcome}
 use Rattle.h1_connection.specs.State.{Is}
 use Rattle.h1_connection.specs.declared.event.Outcome.{Outcome}
+use Rattle.h1_connection.specs.declared.event.Outcome.TheVariants as outcomes
 use Rattle.h1_line.specs.Line.{LineView, LineSteps}
-use Rattle.h1_dispatch.specs.View.{View, is_waiting, is_calling, is_held, is_offered, may_accept, allows}
-use Rattle.h1_dispatch.specs.Upgrades.{refused_in}
+use Rattle.h1_dispatch.specs.View.{View, Asking, waiting, is_waiting, is_calling, is_held, is_offered, may_accept, allows}
+use Rattle.h1_dispatch.specs.Upgrades.{refused_in, refusal_of, waiting_in, held_in}
 
 first_true : (a b : Bool) → (a && b) ≡ true → a ≡ true
 first_true true b is = refl
@@ -69,12 +70,32 @@ unrefused_done set k later limit out none m =
     let is = m.answers ∙ ap (λ (x : Change). x.outcome) m.changes in
     is ∙ done_exchange set limit k k.exchange (ap refused_in (sym is) ∙ none)
 
--- the same of a line, by what the outcome says
-pub accepted_steps : (old new : LineView) (limit : ℕ) (outcome : Outcome) → ((out : on.Outcome) → SaysOutcome outcome out → None ≡ refused_in out)
+-- ---- what an outcome says
+
+pub refusal_says : (outcome : Outcome) (out : on.Outcome) → SaysOutcome outcome out → refusal_of outcome ≡ refused_in out
+refusal_says (outcomes.Took count) out says = ap refused_in (sym says)
+refusal_says (outcomes.Head item) out says = ap refused_in (sym says.2)
+refusal_says (outcomes.Bytes bytes) out says = ap refused_in (sym says)
+refusal_says (outcomes.Trailers map) out says = ap refused_in (sym says.2)
+refusal_says (outcomes.Frame frame) out says = ap refused_in (sym says)
+refusal_says outcomes.BodyEnd out says = ap refused_in (sym says)
+refusal_says outcomes.Pending out says = ap refused_in (sym says)
+refusal_says (outcomes.Closed end) out says = ap refused_in (sym says)
+refusal_says (outcomes.Fault fault) out says = ap refused_in (sym says)
+refusal_says (outcomes.Broken fault) out says = ap refused_in (sym says)
+refusal_says (outcomes.Protocol error) out says = ap refused_in (sym says.outcome_is)
+refusal_says (outcomes.Refused error) out says = ap refused_in (sym says)
+refusal_says (outcomes.Gave bytes) out says = ap refused_in (sym says)
+refusal_says (outcomes.Expired end) out says = ap refused_in (sym says)
+refusal_says outcomes.Abandoned out says = ap refused_in (sym says)
+refusal_says outcomes.Done out says = ap refused_in (sym says)
+
+-- the same of a line
+pub accepted_steps : (old new : LineView) (limit : ℕ) (outcome : Outcome) → None ≡ refusal_of outcome
     → LineSteps old (on.accept limit) (SaysOutcome outcome) new → LineSteps old (on.accept limit) (Is on.done) new
 accepted_steps old new limit outcome none steps = λ trace stands.
     let x = steps trace stands in
-    let done = unrefused_done (setting_of old.state.settings) old.state.kept new.state.kept limit x.0 (sym (none x.0 x.1)) x.2.machine in
+    let done = unrefused_done (setting_of old.state.settings) old.state.kept new.state.kept limit x.0 (sym (none ∙ refusal_says outcome x.0 x.1)) x.2.machine in
     (x.0, done, x.2)
 
 refused_is : (error : HandshakeError) (out : on.Outcome) → Some error ≡ refused_in out → out ≡ on.refused error
@@ -95,8 +116,23 @@ refused_is error (on.expired end) is = absurd (cc is)
 refused_is error on.abandoned is = absurd (cc is)
 refused_is error on.done is = absurd (cc is)
 
-pub refused_steps : (old new : LineView) (limit : ℕ) (outcome : Outcome) (error : HandshakeError) → ((out : on.Outcome) → SaysOutcome outcome out → Some error ≡ refused_in out)
+pub refused_steps : (old new : LineView) (limit : ℕ) (outcome : Outcome) (error : HandshakeError) → Some error ≡ refusal_of outcome
     → LineSteps old (on.accept limit) (SaysOutcome outcome) new → LineSteps old (on.accept limit) (Is (on.refused error)) new
 refused_steps old new limit outcome error some steps = λ trace stands.
     let x = steps trace stands in
-    (x.0, refused_is error x.0 (some x.0 x.1), x.2)
+    (x.0, refused_is error x.0 (some ∙ refusal_says outcome x.0 x.1), x.2)
+
+-- ---- the one that is shown
+
+pub held_off : (v : View) → is_offered v ≡ false → None ≡ held_in v
+held_off v is = ap (λ (b : Bool). if b then waiting_in v.stage else None) (sym is)
+
+pub held_none : (v : View) → waiting_in v.stage ≡ None → None ≡ held_in v
+held_none v none = by_offer (is_offered v)
+  where
+    by_offer : (b : Bool) → None ≡ (if b then waiting_in v.stage else None)
+    by_offer true = sym none
+    by_offer false = refl
+
+pub held_some : (v : View) (request : Asking) → is_offered v ≡ true → v.stage ≡ waiting request → Some request ≡ held_in v
+held_some v request is stage = sym (ap waiting_in stage) ∙ ap (λ (b : Bool). if b then waiting_in v.stage else None) (sym is)

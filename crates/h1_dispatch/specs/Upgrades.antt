@@ -9,6 +9,8 @@ use Rattle.h1_model.specs.Handshake.{HandshakeError}
 use Rattle.h1_connection.specs.Meaning.{failing_of}
 use Rattle.h1_connection.specs.State.{Is}
 use Rattle.h1_connection.specs.Steps.{Pair}
+use Rattle.h1_connection.specs.declared.event.Outcome.{Outcome}
+use Rattle.h1_connection.specs.declared.event.Outcome.TheVariants as outcomes
 use Rattle.h1_line.specs.Line.{line_of}
 use Rattle.h1_dispatch.specs.declared.dispatcher.upgrade.Accepting.{Accepting}
 use Rattle.h1_dispatch.specs.declared.dispatcher.upgrade.Accepting.TheVariants.{Done, Refused}
@@ -20,6 +22,11 @@ use Rattle.h1_dispatch.specs.Steps.{Goes, IsStep, refused}
 abbrev pub refused_in : on.Outcome → Option HandshakeError
 refused_in (on.refused error) = Some error
 refused_in out = None
+
+-- the same of an outcome of the connection
+abbrev pub refusal_of : Outcome → Option HandshakeError
+refusal_of (outcomes.Refused error) = Some (failing_of error)
+refusal_of outcome = None
 
 -- the request that waits, if one does
 abbrev pub waiting_in : Stage → Option Asking

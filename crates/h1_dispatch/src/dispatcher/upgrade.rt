@@ -3,9 +3,9 @@ ghost use Rattle.std.specs.Prelude.{◌≡◌, None, true, IfOk, option_map};
 ghost use Rattle.std.specs.Option.{option_copied};
 ghost use Rattle.futures.specs.Task.{IsArmed, Keeps};
 ghost use Rattle.h1_model.specs.Event as on;
-ghost use Rattle.h1_connection.specs.Meaning.{SaysOutcome, failing_of};
+ghost use Rattle.h1_connection.specs.Meaning.{failing_of};
 ghost use Rattle.h1_dispatch.specs.View.{view_of, stage_of, waiting, is_waiting, is_held, is_offered, may_accept, with_upgrades, with_release, allows_answer, MayBePolled};
-ghost use Rattle.h1_dispatch.specs.Upgrades.{refused_in, held_in, Accepts, AcceptSays};
+ghost use Rattle.h1_dispatch.specs.Upgrades.{refusal_of, held_in, Accepts, AcceptSays};
 ghost use Rattle.h1_dispatch.specs.Polls.{OnIdle, ServeSays};
 
 use crate::dispatcher::{Dispatcher, Turn, Work};
@@ -75,6 +75,7 @@ where
     }
 
     /// The request that is held back, once its client doesn't wait to be told to go on.
+    #[tactic(auto, using(crate::proofs::Held::held_off, crate::proofs::Held::held_none, crate::proofs::Held::held_some))]
     pub fn held(&self) -> Option<&Request<(), ()>>
         ensures { option_copied result ≡ held_in (view_of T.wiring S.served S.calling B.gives L.noted self.now) }
     {
@@ -232,7 +233,7 @@ where
 
 /// Why an upgrade was refused, if it was.
 fn refusal_in(outcome: &Outcome) -> Option<HandshakeError>
-    ensures { (out : on.Outcome) → SaysOutcome outcome.now out → option_map failing_of result ≡ refused_in out }
+    ensures { option_map failing_of result ≡ refusal_of outcome.now }
 {
     match outcome {
         Outcome::Took(_) => None,
