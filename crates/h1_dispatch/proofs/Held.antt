@@ -1,6 +1,6 @@
 -- Requests that are held back.
 use Rattle.std.proofs.Common.{◌≡◌, ℕ, Bool, true, false, Option, Some, None, is_some, refl, sym, ap, ◌∙◌, subst}
-use Rattle.std.specs.Prelude.{not, ◌&&◌, if◌then◌else◌, unwrap_or}
+use Rattle.std.specs.Prelude.{not, ◌&&◌, ◌||◌, if◌then◌else◌, unwrap_or}
 use Rattle.h1_model.specs.Event as on
 use Rattle.h1_model.specs.Handshake.{HandshakeError}
 use Rattle.h1_model.specs.Setting.{Setting}
@@ -12,7 +12,7 @@ use Rattle.h1_connection.specs.State.{Is}
 use Rattle.h1_connection.specs.declared.event.Outcome.{Outcome}
 use Rattle.h1_connection.specs.declared.event.Outcome.TheVariants as outcomes
 use Rattle.h1_line.specs.Line.{LineView, LineSteps}
-use Rattle.h1_dispatch.specs.View.{View, Asking, waiting, is_waiting, is_calling, is_held, is_offered, may_accept, allows}
+use Rattle.h1_dispatch.specs.View.{View, Asking, waiting, is_waiting, is_calling, is_held, is_checked, is_offered, may_accept, may_refuse, allows, any_answer, has_write_room}
 use Rattle.h1_dispatch.specs.Upgrades.{refused_in, refusal_of, waiting_in, held_in}
 
 first_true : (a b : Bool) → (a && b) ≡ true → a ≡ true
@@ -28,10 +28,31 @@ last_true true b is = is
 last_true false b is = absurd (cc is)
 
 pub accepts_waits : (v : View) (limit : ℕ) → may_accept v limit ≡ true → is_waiting v.stage ≡ true
-accepts_waits v limit is = held_waits v (first_true (is_held v) _ (last_true (not (is_some v.ending)) _ (first_true (is_offered v) _ is)))
+accepts_waits v limit is =
+    first_true (is_waiting v.stage) _ (first_true (is_waiting v.stage && (v.holding && allows v (on.accept 0))) _ (last_true (not (is_some v.ending)) _ (first_true (is_offered v) _ is)))
 
 pub accepts_allowed : (v : View) (limit : ℕ) → may_accept v limit ≡ true → allows v (on.accept limit) ≡ true
 accepts_allowed v limit is = last_true (is_offered v) _ is
+
+-- ---- a client that is held back
+
+refuses_checked : (v : View) → may_refuse v ≡ true → (is_checked v && (allows v any_answer && has_write_room v)) ≡ true
+refuses_checked v is = last_true (not (is_some v.ending)) _ is
+
+pub refuses_in_room : (v : View) → may_refuse v ≡ true → has_write_room v ≡ true
+refuses_in_room v is = last_true (allows v any_answer) _ (last_true (is_checked v) _ (refuses_checked v is))
+
+pub refuses_waits : (v : View) → may_refuse v ≡ true → is_waiting v.stage ≡ true
+refuses_waits v is = first_true (is_waiting v.stage) _ (first_true (is_checked v) _ (refuses_checked v is))
+
+-- one that isn't held back is let on
+unchecked : (waits leave upgrade : Bool) → (waits && (leave || upgrade)) ≡ false → (waits && leave) ≡ false
+unchecked true true upgrade is = is
+unchecked true false upgrade is = refl
+unchecked false leave upgrade is = refl
+
+pub unheld_unchecked : (v : View) → is_held v ≡ false → is_checked v ≡ false
+unheld_unchecked v is = unchecked (is_waiting v.stage) (v.checking && allows v on.send_continue) (v.holding && allows v (on.accept 0)) is
 
 -- ---- what the connection does with an upgrade
 

@@ -12,7 +12,7 @@ use Rattle.http_services.specs.Lent.{Took}
 use Rattle.http_services.specs.Serving.{Serving}
 use Rattle.h1_connection.specs.declared.connection.heads.NextHead.{NextHead}
 use Rattle.h1_dispatch.specs.View.{View, Asking, Answer, Stage, free, waiting, calling, replying, sending}
-use Rattle.h1_dispatch.specs.Steps.{Step, IsStep, IsRun, request_at, stage_at, stage_asked, stage_answered, stage_replied, stage_sent, ticked, drained, written, read, shut, next, closed, continued, ready, called, answered, pulled, paused, dropped, replied, sent, failed, failed_write, failed_read, failed_fed, failed_sent, asked_to_drain, asked_to_hold, declined, refused}
+use Rattle.h1_dispatch.specs.Steps.{Step, IsStep, IsRun, request_at, stage_at, stage_asked, stage_answered, stage_replied, stage_sent, ticked, drained, written, read, shut, next, closed, continued, ready, called, answered, pulled, paused, dropped, replied, sent, failed, failed_write, failed_read, failed_fed, failed_sent, asked_to_drain, asked_to_hold, declined, let_on, turned_away, refused}
 use Rattle.h1_dispatch.specs.Order.{waits_in, reply_in, calls_in, step_requests, step_calls, step_left, step_answers, step_results, step_replies, requests, calls, left, answers, results, replies, KeepsOrder}
 use Rattle.h1_dispatch.proofs.Results.{same_results, step_results_grow}
 
@@ -121,8 +121,10 @@ step_keeps v w (failed_fed bytes) is = apart v w _ refl refl refl refl refl (ap 
 step_keeps v w (failed_sent piece) is =
     by_stage v w (failed_sent piece) (sending is.1.body) (sending is.0) is.1.goes_out (ap (λ (x : View). x.stage) is.3) refl refl refl (same_calls v w (ap (λ (x : View). x.service) is.3))
 step_keeps v w asked_to_drain is = apart v w _ refl refl refl refl refl (ap (λ (x : View). x.stage) is) (ap (λ (x : View). x.service) is)
-step_keeps v w (asked_to_hold on) is = apart v w _ refl refl refl refl refl (ap (λ (x : View). x.stage) is) (ap (λ (x : View). x.service) is)
+step_keeps v w (asked_to_hold upgrades expects) is = apart v w _ refl refl refl refl refl (ap (λ (x : View). x.stage) is) (ap (λ (x : View). x.service) is)
 step_keeps v w declined is = apart v w _ refl refl refl refl refl (ap (λ (x : View). x.stage) is) (ap (λ (x : View). x.service) is)
+step_keeps v w let_on is = apart v w _ refl refl refl refl refl (ap (λ (x : View). x.stage) is) (ap (λ (x : View). x.service) is)
+step_keeps v w (turned_away request answer) is = by_stage v w (turned_away request answer) (waiting request) (replying answer) is.1 (ap (λ (x : View). x.stage) is.2) refl refl refl (same_calls v w (ap (λ (x : View). x.service) is.2))
 step_keeps v w (refused limit error) is = apart v w _ refl refl refl refl refl (ap (λ (x : View). x.stage) is.2) (ap (λ (x : View). x.service) is.2)
 
 -- what came in front goes out in front

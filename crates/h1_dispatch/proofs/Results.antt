@@ -4,7 +4,7 @@ use Rattle.http_bodies.specs.Told.{Grows}
 use Rattle.http_bodies.proofs.Histories.{grown-none}
 use Rattle.http_services.specs.Serving.{Serving}
 use Rattle.h1_dispatch.specs.View.{View, Asking, Answer}
-use Rattle.h1_dispatch.specs.Steps.{Step, IsStep, ticked, drained, written, read, shut, next, closed, continued, ready, called, answered, pulled, paused, dropped, replied, sent, failed, failed_write, failed_read, failed_fed, failed_sent, asked_to_drain, asked_to_hold, declined, refused}
+use Rattle.h1_dispatch.specs.Steps.{Step, IsStep, ticked, drained, written, read, shut, next, closed, continued, ready, called, answered, pulled, paused, dropped, replied, sent, failed, failed_write, failed_read, failed_fed, failed_sent, asked_to_drain, asked_to_hold, declined, let_on, turned_away, refused}
 use Rattle.h1_dispatch.specs.Order.{step_results}
 
 -- it tells no more
@@ -37,6 +37,8 @@ step_results_grow v w (failed_read came event) is = same_results v w (ap (λ (x 
 step_results_grow v w (failed_fed bytes) is = same_results v w (ap (λ (x : View). x.service) is.2)
 step_results_grow v w (failed_sent piece) is = same_results v w (ap (λ (x : View). x.service) is.3)
 step_results_grow v w asked_to_drain is = same_results v w (ap (λ (x : View). x.service) is)
-step_results_grow v w (asked_to_hold on) is = same_results v w (ap (λ (x : View). x.service) is)
+step_results_grow v w (asked_to_hold upgrades expects) is = same_results v w (ap (λ (x : View). x.service) is)
 step_results_grow v w declined is = same_results v w (ap (λ (x : View). x.service) is)
+step_results_grow v w let_on is = same_results v w (ap (λ (x : View). x.service) is)
+step_results_grow v w (turned_away request answer) is = same_results v w (ap (λ (x : View). x.service) is.2)
 step_results_grow v w (refused limit error) is = same_results v w (ap (λ (x : View). x.service) is.2)

@@ -5,7 +5,7 @@ use Rattle.futures.specs.declared.task.Poll.TheVariants.{Ready, Pending}
 use Rattle.http_bodies.specs.Giving.{Given, Giving, Piece, gave}
 use Rattle.http_bodies.specs.Told.{Tells, led_by}
 use Rattle.h1_dispatch.specs.View.{View, Stage, free, waiting, calling, replying, sending, closes}
-use Rattle.h1_dispatch.specs.Steps.{Step, ticked, drained, written, shut, closed, replied, sent, failed_sent, asked_to_drain, asked_to_hold, declined}
+use Rattle.h1_dispatch.specs.Steps.{Step, ticked, drained, written, shut, closed, replied, sent, failed_sent, asked_to_drain, asked_to_hold, declined, let_on}
 
 -- what a body gave in this step
 abbrev pub step_pieces : Step → List Given
@@ -67,8 +67,9 @@ IsOfEnd (written answer) = ⊤
 IsOfEnd (shut answer) = ⊤
 IsOfEnd (closed end) = ⊤
 IsOfEnd asked_to_drain = ⊤
-IsOfEnd (asked_to_hold on) = ⊤
+IsOfEnd (asked_to_hold upgrades expects) = ⊤
 IsOfEnd declined = ⊤
+IsOfEnd let_on = ⊤
 IsOfEnd step = ⊥
 
 -- The connection closes, and each of the steps is one of its end: no byte is read, no request is begun or answered, and no

@@ -5,7 +5,7 @@ use Rattle.futures.specs.declared.task.Poll.TheVariants.{Ready, Pending}
 use Rattle.http_bodies.specs.Told.{Grows}
 use Rattle.http_services.specs.Serving as services
 use Rattle.h1_dispatch.specs.View.{View, Asking, Answer, Stage, free, waiting, calling, replying, sending}
-use Rattle.h1_dispatch.specs.Steps.{Step, request_at, next, ready, called, answered, replied}
+use Rattle.h1_dispatch.specs.Steps.{Step, request_at, next, ready, called, answered, replied, turned_away}
 
 -- the request that waits for the service, the answer that wasn't handed on, and how many calls are in progress
 abbrev pub waits_in : Stage → List Asking
@@ -57,16 +57,19 @@ given (Ready (Ok x)) = x ∷ []
 given (Ready (Err e)) = e ∷ []
 given Pending = []
 
--- the requests that wait no more: those that the service was called with, and those that were refused, one by each failure
+-- the requests that wait no more: those that the service was called with, those that were refused, one by each failure, and
+-- those that were turned away
 abbrev pub step_left : Step → List Asking
 step_left (ready request answer) = refused request answer
 step_left (called request) = request ∷ []
+step_left (turned_away request answer) = request ∷ []
 step_left step = []
 
--- the answers to be handed on: those of calls, and errors of the service's readiness
+-- the answers to be handed on: those of calls, errors of the service's readiness, and those of requests that were turned away
 abbrev pub step_answers : Step → List Answer
 step_answers (ready request answer) = refusals answer
 step_answers (answered answer) = given answer
+step_answers (turned_away request answer) = answer ∷ []
 step_answers step = []
 
 -- what the calls answered, as answers or as errors

@@ -25,7 +25,7 @@ use Rattle.h1_dispatch.specs.declared.dispatcher.Ending.TheVariants.{Closed, Aba
 use Rattle.h1_dispatch.specs.declared.dispatcher.Turn.{Turn}
 use Rattle.h1_dispatch.specs.declared.dispatcher.Turn.TheVariants.{Counted, Idle, Over}
 use Rattle.h1_dispatch.specs.View.{View, Asking, Stage, free, waiting, calling, replying, sending, is_sending, is_broken, closes, allows, allows_next, has_write_room, asks_next, allows_answer, is_held, awaits_body, allows_chunk, HasNoByte, HasNoOutput, HasNoInput}
-use Rattle.h1_dispatch.specs.Steps.{Step, IsStep, IsRun, ticked, drained, written, read, shut, next, closed, continued, ready, called, answered, pulled, paused, dropped, replied, sent, failed, failed_write, failed_read, failed_fed, failed_sent, asked_to_drain, asked_to_hold, declined, refused}
+use Rattle.h1_dispatch.specs.Steps.{Step, IsStep, IsRun, ticked, drained, written, read, shut, next, closed, continued, ready, called, answered, pulled, paused, dropped, replied, sent, failed, failed_write, failed_read, failed_fed, failed_sent, asked_to_drain, asked_to_hold, declined, let_on, turned_away, refused}
 use Rattle.h1_dispatch.specs.Replies.{HasNoReply, HandsOn}
 
 -- ---- steps
@@ -65,8 +65,10 @@ Continues (failed_read came event) = ⊥
 Continues (failed_fed bytes) = ⊥
 Continues (failed_sent piece) = ⊥
 Continues asked_to_drain = ⊥
-Continues (asked_to_hold on) = ⊥
+Continues (asked_to_hold upgrades expects) = ⊥
 Continues declined = ⊥
+Continues let_on = ⊥
+Continues (turned_away request answer) = ⊥
 Continues (refused limit error) = ⊥
 
 -- it goes on after each of these steps

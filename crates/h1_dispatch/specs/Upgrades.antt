@@ -1,4 +1,4 @@
--- Requests that ask for an upgrade, and are held back for who polls.
+-- Requests that are held back for who polls: they ask for an upgrade, or their clients wait to be told to go on.
 use Rattle.std.specs.Prelude.{◌≡◌, ℕ, Option, Some, None, List, if◌then◌else◌}
 use Rattle.http_types.specs.Response.{FullResponse}
 use Rattle.http_bodies.specs.Giving.{Giving}
@@ -15,7 +15,7 @@ use Rattle.h1_line.specs.Line.{line_of}
 use Rattle.h1_dispatch.specs.declared.dispatcher.upgrade.Accepting.{Accepting}
 use Rattle.h1_dispatch.specs.declared.dispatcher.upgrade.Accepting.TheVariants.{Done, Refused}
 use Rattle.h1_dispatch.specs.declared.dispatcher.upgrade.Upgraded.{Upgraded}
-use Rattle.h1_dispatch.specs.View.{View, Asking, Stage, waiting, view_of, told_service, is_offered, MayBePolled}
+use Rattle.h1_dispatch.specs.View.{View, Asking, Stage, waiting, view_of, told_service, may_refuse, is_offered, MayBePolled}
 use Rattle.h1_dispatch.specs.Steps.{Goes, IsStep, refused}
 
 -- why an upgrade was refused, if it was
@@ -36,6 +36,10 @@ waiting_in stage = None
 -- the one that is held back, and may be accepted or declined
 abbrev pub held_in : View → Option Asking
 held_in v = if is_offered v then waiting_in v.stage else None
+
+-- the one whose client is held back, and may go on or be turned away
+abbrev pub expecting_in : View → Option Asking
+expecting_in v = if may_refuse v then waiting_in v.stage else None
 
 -- the upgrade came to the connection, which did it, or refused it
 abbrev pub Accepts : View → ℕ → View → Option HandshakeError → Type 0

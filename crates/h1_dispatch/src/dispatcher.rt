@@ -17,6 +17,7 @@ use std::alloc::Global;
 
 mod answer;
 mod begin;
+mod check;
 mod feed;
 mod poll;
 mod read;
@@ -118,7 +119,9 @@ pub struct Dispatcher<T, S, C, L, B = ()> {
     ending: Option<Ending>,
     is_draining: bool,
     upgrades: bool,
+    expects: bool,
     is_holding: bool,
+    is_checking: bool,
     has_filled_read: bool,
 }
 
@@ -151,7 +154,9 @@ where
             ending: None,
             is_draining: false,
             upgrades: false,
+            expects: false,
             is_holding: false,
+            is_checking: false,
             has_filled_read: false,
         }
     }

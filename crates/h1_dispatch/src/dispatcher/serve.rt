@@ -2,7 +2,7 @@
 ghost use Rattle.std.specs.Prelude.{◌≡◌, ◌⊎◌, None, true, false};
 ghost use Rattle.futures.specs.Task.{IsArmed, Keeps};
 ghost use Rattle.h1_model.specs.Event as on;
-ghost use Rattle.h1_dispatch.specs.View.{view_of, stage_of, is_busy, is_waiting, is_sending, MayBePolled, HasNoOutput, allows, allows_next, has_write_room, allows_answer, is_held};
+ghost use Rattle.h1_dispatch.specs.View.{view_of, stage_of, is_busy, is_waiting, is_sending, MayBePolled, HasNoOutput, allows, allows_next, has_write_room, allows_answer, is_checked, is_held};
 ghost use Rattle.h1_dispatch.specs.Steps.{is_bodyless};
 ghost use Rattle.h1_dispatch.specs.Polls.{OnIdle, ServeSays, EndSays};
 
@@ -121,6 +121,7 @@ where
         requires waits { is_waiting (stage_of S.calling B.gives self.old.work) ≡ true }
         requires room { has_write_room (view_of T.wiring S.served S.calling B.gives L.noted self.old) ≡ true }
         requires told { allows (view_of T.wiring S.served S.calling B.gives L.noted self.old) on.send_continue ≡ true }
+        requires unchecked { is_checked (view_of T.wiring S.served S.calling B.gives L.noted self.old) ≡ false }
         ensures says { EndSays 1 (view_of T.wiring S.served S.calling B.gives L.noted self.old) (view_of T.wiring S.served S.calling B.gives L.noted self.new) result }
         ensures open { MayBePolled S.calling self.new }
     {
@@ -152,6 +153,7 @@ where
                 self.queue = Payload::create(self.alloc, has_ended);
                 self.work = Work::Waiting(Request::new(item.head, ()));
                 self.is_holding = self.upgrades;
+                self.is_checking = self.expects;
                 Turn::Counted
             }
             Ok(NextHead::Fault(_)) => Turn::Counted,

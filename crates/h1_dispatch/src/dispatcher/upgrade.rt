@@ -1,10 +1,10 @@
 // Requests that ask for an upgrade are held back for who polls, who accepts or declines them.
-ghost use Rattle.std.specs.Prelude.{◌≡◌, None, true, IfOk, option_map};
+ghost use Rattle.std.specs.Prelude.{◌≡◌, ◌&&◌, None, true, IfOk, option_map};
 ghost use Rattle.std.specs.Option.{option_copied};
 ghost use Rattle.futures.specs.Task.{IsArmed, Keeps};
 ghost use Rattle.h1_model.specs.Event as on;
 ghost use Rattle.h1_connection.specs.Meaning.{failing_of};
-ghost use Rattle.h1_dispatch.specs.View.{view_of, stage_of, waiting, is_waiting, is_held, is_offered, may_accept, with_upgrades, with_release, allows_answer, MayBePolled};
+ghost use Rattle.h1_dispatch.specs.View.{view_of, stage_of, waiting, is_waiting, is_held, is_offered, may_accept, with_holds, with_release, allows, allows_answer, MayBePolled};
 ghost use Rattle.h1_dispatch.specs.Upgrades.{refusal_of, held_in, Accepts, AcceptSays};
 ghost use Rattle.h1_dispatch.specs.Polls.{OnIdle, ServeSays};
 
@@ -68,7 +68,7 @@ where
     /// pending, and the task is woken, until who polls accepts or declines it. It asks for an upgrade by its body, which is
     /// raw: an `Upgrade` field, or the method CONNECT (RFC 7230, section 6.7; RFC 7231, section 4.3.6).
     pub fn hold_upgrades(&mut self, on: bool)
-        ensures view { view_of T.wiring S.served S.calling B.gives L.noted self.new ≡ with_upgrades on (view_of T.wiring S.served S.calling B.gives L.noted self.old) }
+        ensures view { view_of T.wiring S.served S.calling B.gives L.noted self.new ≡ with_holds on (view_of T.wiring S.served S.calling B.gives L.noted self.old).expects (view_of T.wiring S.served S.calling B.gives L.noted self.old) }
         ensures open { MayBePolled S.calling self.old → MayBePolled S.calling self.new }
     {
         self.upgrades = on;
@@ -117,7 +117,10 @@ where
         if self.ending.is_some() {
             return false;
         }
-        if !self.is_held() {
+        if !self.work.is_waiting() {
+            return false;
+        }
+        if !self.asks_upgrade() {
             return false;
         }
         !self.line.connection().can_continue()
@@ -185,13 +188,24 @@ where
         if !self.work.is_waiting() {
             return false;
         }
+        if self.waits_for_leave() {
+            return true;
+        }
+        self.asks_upgrade()
+    }
+
+    // Whether an upgrade of the last request is to be held back, and may be accepted.
+    fn asks_upgrade(&self) -> bool
+        ensures { result ≡ ((view_of T.wiring S.served S.calling B.gives L.noted self.now).holding && allows (view_of T.wiring S.served S.calling B.gives L.noted self.now) (on.accept 0)) }
+    {
         if !self.is_holding {
             return false;
         }
         self.line.connection().can_accept(0)
     }
 
-    /// Tells the client of a request that is held back to go on, if it waits for that and there is room; or else reads.
+    /// Tells the client of a request that is held back to go on, if it waits for that, isn't held back itself, and there is
+    /// room; or else reads.
     pub(super) fn hold(&mut self, cx: &mut Context<'_>) -> Turn
         requires open { MayBePolled S.calling self.old }
         requires running { self.old.ending ≡ None }
@@ -203,6 +217,9 @@ where
         ensures registered { OnIdle result (IsArmed cx.new) }
         ensures kept { Keeps cx.old cx.new }
     {
+        if self.waits_for_leave() {
+            return self.wait_held(cx);
+        }
         let has_room = self.has_room();
         if !has_room {
             return self.wait_held(cx);

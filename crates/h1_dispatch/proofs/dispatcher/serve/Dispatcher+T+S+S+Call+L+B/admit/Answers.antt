@@ -1,10 +1,14 @@
 use Rattle.std.proofs.Common.{rules}
 use Rattle.h1_dispatch.specs.View.{view_of}
+use Rattle.h1_dispatch.proofs.Held.{unheld_unchecked}
 use Rattle.h1_dispatch.proofs.Turns.{now_waiting, waiting_awaits, waits_crowded, fed_then, more_end, only_end}
 use Rattle.h1_dispatch.proofs.dispatcher.serve.Dispatcher+T+S+S+Call+L+B.admit.Goals as goal
 
 pub feed_beside-requires-clause-awaits : goal.feed_beside-requires-clause-awaits
 feed_beside-requires-clause-awaits g c = waiting_awaits _ c.requires.waits
+
+pub tell_on-requires-clause-unchecked : goal.tell_on-requires-clause-unchecked
+tell_on-requires-clause-unchecked g c = unheld_unchecked _ (search rules)
 
 pub returns-then-not-has_room-clause-says : goal.returns-then-not-has_room-clause-says
 returns-then-not-has_room-clause-says g c =
