@@ -6,7 +6,7 @@ use crate::body::Page;
 use crate::report::{
     Polled, put_asked, put_deadline, put_polled, put_refused, put_sent, put_taken, put_upgraded,
 };
-use crate::service::{Coming, Scripted};
+use crate::service::{Coming, Scripted, refusal};
 use crate::setup::{Cut, Setup};
 use crate::step::Step;
 use crate::wire::Lingering;
@@ -14,8 +14,8 @@ use futures::task::{Doorbell, Poll, Solo};
 use h1_dispatch::{Accepting, Dispatcher, Upgraded};
 use h1_line::Recorder;
 use http_services::CountedService;
-use http_types::{DispatchError, NoMemory};
-use std::alloc::{AllocError, AllocGlobal};
+use http_types::{DispatchError, NoMemory, StatusCode};
+use std::alloc::{AllocError, AllocGlobal, Global};
 use std::io;
 use std::random::RandomSource;
 
@@ -144,6 +144,18 @@ fn take<R: RandomSource + AllocGlobal, L: Recorder>(
             served.decline();
             Ok(())
         }
+        Step::HoldExpects => {
+            served.hold_expects(true);
+            Ok(())
+        }
+        Step::LetOn => {
+            served.let_on();
+            Ok(())
+        }
+        Step::TurnAway(status) => {
+            turn_away(rt.alloc(), served, status);
+            Ok(())
+        }
         Step::Accept(_) => Ok(()),
         Step::Poll(moment) => {
             let polled = poll(rt, served, moment)?;
@@ -153,6 +165,16 @@ fn take<R: RandomSource + AllocGlobal, L: Recorder>(
             let polled = poll_until_ready(rt, served, moment)?;
             Ok(put_poll(served, polled, shown, report)?)
         }
+    }
+}
+
+// Turns the request away whose client is held back, where one is.
+fn turn_away<L: Recorder>(alloc: Global, served: &mut Served<L>, status: StatusCode)
+    requires open { MayBePolled (λ _. unknown_call) served.old }
+    ensures open { MayBePolled (λ _. unknown_call) served.new }
+{
+    if served.can_refuse() {
+        served.refuse(refusal(alloc, status));
     }
 }
 

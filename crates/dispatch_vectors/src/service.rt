@@ -222,6 +222,11 @@ fn response_of(alloc: Global, reply: Reply, script: Script) -> Response<Page> {
     response
 }
 
+/// An answer with this status and without a byte.
+pub fn refusal(alloc: Global, status: StatusCode) -> Response<Page> {
+    Response::with_body(alloc, status, page(Some(0), Script::new(Vec::new(alloc), false)))
+}
+
 // Puts the request's method and target after the text.
 fn note(req: &Request<(), ()>, asked: &mut Vec<u8>) -> Result<(), NoMemory> {
     asked.extend_from_slice(b" ")?;
