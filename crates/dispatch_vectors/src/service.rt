@@ -9,7 +9,7 @@ use crate::silence::Silence;
 use futures::task::{Context, Poll};
 use http_services::PlainService;
 use http_services::h1::Payload;
-use http_types::{ConnectionType, NoMemory, PayloadError, Request, Response};
+use http_types::{ConnectionType, NoMemory, PayloadError, Request, Response, StatusCode};
 use std::alloc::Global;
 use std::mem;
 use vectors::{put_all, put_decimal, put_text};
