@@ -51,6 +51,13 @@ unchecked true true upgrade is = is
 unchecked true false upgrade is = refl
 unchecked false leave upgrade is = refl
 
+second_false : (a b : Bool) → b ≡ false → (a && b) ≡ false
+second_false true b is = is
+second_false false b is = refl
+
+pub unasked_unchecked : (v : View) → (v.checking && allows v on.send_continue) ≡ false → is_checked v ≡ false
+unasked_unchecked v is = second_false (is_waiting v.stage) _ is
+
 pub unheld_unchecked : (v : View) → is_held v ≡ false → is_checked v ≡ false
 unheld_unchecked v is = unchecked (is_waiting v.stage) (v.checking && allows v on.send_continue) (v.holding && allows v (on.accept 0)) is
 
