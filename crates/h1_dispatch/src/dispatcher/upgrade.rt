@@ -170,14 +170,21 @@ where
         ensures wire { result.wire ≡ self.wire }
         ensures service { result.service ≡ self.service }
     {
-        let Work::Waiting(request) = self.work else {
+        let Dispatcher {
+            line,
+            wire,
+            service,
+            work,
+            ..
+        } = self;
+        let Work::Waiting(request) = work else {
             unreachable!()
         };
         Upgraded {
             request,
-            line: self.line,
-            wire: self.wire,
-            service: self.service,
+            line,
+            wire,
+            service,
         }
     }
 
