@@ -49,24 +49,23 @@ fn main(rt: HostRuntime) -> ExitCode {
     let Ok(listener) = TcpListener::bind(&rt, ("127.0.0.1", port)) else {
         return ExitCode::FAILURE;
     };
-    if listener.set_nonblocking(true).is_err() || !start(&rt, &listener, threads) {
+    if listener.set_nonblocking(true).is_err() || !start(&rt, rt, &listener, threads) {
         return ExitCode::FAILURE;
     }
     ExitCode::SUCCESS
 }
 
 // Serves by so many threads, until all have ended.
-fn start<R>(rt: &R, listener: &TcpListener, threads: u64) -> bool
+fn start<R>(rt: &R, system: HostRuntime, listener: &TcpListener, threads: u64) -> bool
 where
-    R: Threads + Net + Clock + RandomSource + AllocGlobal + Copy + Send + Drop + 'static,
+    R: Threads,
 {
-    let mut handles = Vec::new(rt.alloc());
+    let mut handles = Vec::new(system.alloc());
     for _ in 0..threads {
         let Ok(copy) = listener.try_clone() else {
             return false;
         };
-        let rt_of_thread = *rt;
-        let Ok(handle) = thread::spawn(rt, move || serve(rt_of_thread, copy)) else {
+        let Ok(handle) = thread::spawn(rt, move || serve(system, copy)) else {
             return false;
         };
         if handles.push(handle).is_err() {
