@@ -1,7 +1,10 @@
 -- What a call of a connection brings.
-use Rattle.std.proofs.Common.{◌≡◌, ℕ, false, List, [], ◌∷◌, Option, None, refl, sym, ap, ◌∙◌, subst}
+use Rattle.std.proofs.Common.{◌≡◌, ℕ, ◌+◌, ◌<◌, ◌≤◌, Bool, true, false, not, ◌&&◌, ◌||◌, List, [], ◌∷◌, length, Option, Some, None, refl, sym, ap, ◌∙◌, subst, arith}
+use Rattle.std.specs.Prelude.{IsTrue, is_some, ⊤, ◌==◌, if◌then◌else◌}
+use Rattle.std.proofs.lemmas.Bool.{false≢true}
 use Rattle.http_config.specs.Config.{Settings}
 use Rattle.h1_model.specs.Event as on
+use Rattle.h1_model.specs.Setting.{Setting}
 use Rattle.h1_model.specs.Sums as sums
 use Rattle.h1_model.specs.Sums.{Step}
 use Rattle.h1_machine.specs.StandsFor.{StandsFor}
@@ -22,11 +25,18 @@ use Rattle.h1_client.specs.Meaning as asking
 use Rattle.h1_client.specs.State as servers
 use Rattle.h1_client.specs.declared.event.NextAnswer.{NextAnswer}
 use Rattle.h1_client.specs.declared.event.NextAnswer.TheVariants as answered
+use Rattle.h1_machine.specs.Kept.{Kept, is_open}
+use Rattle.h1_machine.specs.Local.{closing_by, allowed_by}
+use Rattle.h1_connection.specs.Given.{next_allowed}
+use Rattle.h1_forward_left.specs.Left.{client_left, AsksNothing, LeavesBehindNext, LeavesBehindPull, server_left, LeavesBehindAnswer, LeavesBehindPiece}
+use Rattle.h1_forward_left.proofs.Client.{next_leaves, pull_of_client, no_more}
+use Rattle.h1_forward_left.proofs.Server.{answer_leaves, piece_leaves, all_left}
 use Rattle.h1_forward_traces.specs.Happenings.{is_eof}
 use Rattle.h1_forward_traces.specs.Moves.{HasBrought, Does, DoesAsked}
 use Rattle.h1_forward_model.specs.Exchange.{pulled as all_pulled}
 use Rattle.h1_forward_traces.proofs.Quiet.{brought, quiet, stays_same, BringsNothing, nothing_more, done_brings_nothing, pending_brings_nothing}
-use Rattle.h1_forward_sides.specs.Sides.{ClientBrings, BringsNext, BringsPulled, ServerStays}
+use Rattle.h1_forward_sides.specs.Sides.{LeavesNoMore, ClientBrings, BringsNext, BringsPulled, ServerStays}
+use Rattle.h1_forward_sides.specs.Leaves.{LeavesNext, LeavesPulled, LeavesAnswer, LeavesPiece}
 
 -- ---- the client's side
 
@@ -38,6 +48,7 @@ client_same a = record {
     stands,
     record { taken = refl; written = refl; moment = refl; pulled = sym (nothing_more on.done done_brings_nothing (all_pulled trace)) },
   );
+  left = λ trace stands. omega arith;
 }
 
 -- the connection's step, by its own settings
@@ -49,8 +60,8 @@ stepped a b event o out trace settings is stands =
 
 -- an event that takes and gives nothing
 pub client_one : (a : State) (event : on.Event) (o : on.Outcome) (b : State) → b.settings ≡ a.settings → GoesOn a event (Is o) b
-    → sums.step_taken event o ≡ [] → sums.step_written o ≡ [] → sums.tick_of event ≡ None → ClientBrings o a b
-client_one a event o b settings one takes gives tick = record {
+    → sums.step_taken event o ≡ [] → sums.step_written o ≡ [] → sums.tick_of event ≡ None → LeavesNoMore a b → ClientBrings o a b
+client_one a event o b settings one takes gives tick left = record {
   settings = settings;
   brings = λ trace stands.
       let s = one trace stands in (
@@ -58,7 +69,16 @@ client_one a event o b settings one takes gives tick = record {
         stepped a b event o s.0 trace settings s.1 s.3,
         brought event o trace takes gives tick,
       );
+  left = left;
 }
+
+-- the same of a call that asks for nothing
+pub client_plain : (a : State) (event : on.Event) (o : on.Outcome) (b : State) → b.settings ≡ a.settings → GoesOn a event (Is o) b
+    → sums.step_taken event o ≡ [] → sums.step_written o ≡ [] → sums.tick_of event ≡ None → AsksNothing event → ClientBrings o a b
+client_plain a event o b settings one takes gives tick asks =
+    client_one a event o b settings one takes gives tick (λ trace stands.
+        let s = one trace stands in
+        no_more (setting_of a.settings) a.kept b.kept trace event o asks stands (stepped a b event o s.0 trace settings s.1 s.3))
 
 -- the same of an event of which the tables tell what comes
 pub client_does : (a : State) (event : on.Event) (o : on.Outcome) (b : State) → b.settings ≡ a.settings → GoesOn a event (Is o) b
@@ -78,7 +98,50 @@ pub client_nothing : (o : on.Outcome) → BringsNothing o → (a b : State) → 
 client_nothing o none a b x = record {
   settings = x.settings;
   brings = λ trace stands. let y = x.brings trace stands in (y.0, y.1, as_done o none trace y.0 y.2);
+  left = x.left;
 }
+
+-- ---- the next head
+
+-- what the outcome leaves
+next_outcome : (n : NextHead) (a b : State) (trace : List Step) (Says : on.Outcome → Type 0) (o : on.Outcome) → b.settings ≡ a.settings
+    → GoesOn a on.next Says b → Stands a trace → ((out : on.Outcome) → Says out → out ≡ o) → LeavesBehindNext (setting_of a.settings) o a.kept b.kept
+next_outcome n a b trace Says o settings one stands is =
+    let s = one trace stands in
+    next_leaves (setting_of a.settings) a.kept b.kept trace o stands (stepped a b on.next o s.0 trace settings (is s.0 s.1) s.3)
+
+next_left : (n : NextHead) (a b : State) → b.settings ≡ a.settings → GoesOn a on.next (SaysNext n) b → LeavesNoMore a b
+next_left (next.Head item) a b settings one = λ trace stands.
+    let s = one trace stands in
+    let less = next_leaves (setting_of a.settings) a.kept b.kept trace (on.head s.1.0) stands (stepped a b on.next (on.head s.1.0) s.0 trace settings s.1.2 s.3) in
+    omega (arith, less)
+next_left (next.Fault fault) a b settings one = λ trace stands.
+    (next_outcome (next.Fault fault) a b trace _ (on.fault _) settings one stands (λ out is. is)).1
+next_left next.Pending a b settings one = λ trace stands.
+    (next_outcome next.Pending a b trace _ on.pending settings one stands (λ out is. is)).1
+next_left (next.Closed end) a b settings one = λ trace stands.
+    (next_outcome (next.Closed end) a b trace _ (on.closed _) settings one stands (λ out is. is)).1
+
+-- behind the end nothing is asked for
+over_asks_nothing : (setting : Setting) (k : Kept) → k.is_over ≡ true → next_allowed setting k ≡ true → ⊥
+unfolding allowed_by
+over_asks_nothing setting k over is = by_over k.is_over over is
+  where
+    by_over : (o : Bool) → o ≡ true
+        → ((not o && (if is_some (closing_by setting k) then true else not (is_open k))) && (not (is_some (closing_by setting k)) || (length k.buffered == 0))) ≡ true → ⊥
+    by_over true over is = false≢true is
+    by_over false over is = false≢true over
+
+pub next_less : (n : NextHead) (a b : State) → b.settings ≡ a.settings → GoesOn a on.next (SaysNext n) b → LeavesNext n a b
+next_less (next.Head item) a b settings one = λ trace stands.
+    let s = one trace stands in
+    next_leaves (setting_of a.settings) a.kept b.kept trace (on.head s.1.0) stands (stepped a b on.next (on.head s.1.0) s.0 trace settings s.1.2 s.3)
+next_less (next.Fault fault) a b settings one = λ trace stands.
+    (next_outcome (next.Fault fault) a b trace _ (on.fault _) settings one stands (λ out is. is)).0
+next_less next.Pending a b settings one = λ trace stands allowed.
+    (next_outcome next.Pending a b trace _ on.pending settings one stands (λ out is. is)).0
+next_less (next.Closed end) a b settings one = λ trace stands allowed.
+    absurd (over_asks_nothing (setting_of b.settings) b.kept (next_outcome (next.Closed end) a b trace _ (on.closed _) settings one stands (λ out is. is)).0 allowed)
 
 pub next_brings : (n : NextHead) (a b : State) → b.settings ≡ a.settings → GoesOn a on.next (SaysNext n) b → BringsNext n a b
 next_brings (next.Head item) a b settings one = record {
@@ -91,17 +154,53 @@ next_brings (next.Head item) a b settings one = record {
         stepped a b on.next (on.head s.1.0) s.0 trace settings s.1.2 s.3,
         brought on.next (on.head s.1.0) trace refl refl refl,
       );
+  left = next_left (next.Head item) a b settings one;
 }
 next_brings (next.Fault fault) a b settings one =
-    client_nothing _ (record { head = refl; more = λ p. refl }) a b (client_one a on.next _ b settings one refl refl refl)
+    client_nothing _ (record { head = refl; more = λ p. refl }) a b (client_one a on.next _ b settings one refl refl refl (next_left (next.Fault fault) a b settings one))
 next_brings next.Pending a b settings one =
-    client_nothing _ (record { head = refl; more = λ p. refl }) a b (client_one a on.next _ b settings one refl refl refl)
+    client_nothing _ (record { head = refl; more = λ p. refl }) a b (client_one a on.next _ b settings one refl refl refl (next_left next.Pending a b settings one))
 next_brings (next.Closed end) a b settings one =
-    client_nothing _ (record { head = refl; more = λ p. refl }) a b (client_one a on.next _ b settings one refl refl refl)
+    client_nothing _ (record { head = refl; more = λ p. refl }) a b (client_one a on.next _ b settings one refl refl refl (next_left (next.Closed end) a b settings one))
 
-pub pull_brings : (n : Pulled) (a b : State) → b.settings ≡ a.settings → GoesOn a on.pull (SaysPulled n) b → BringsPulled n a b
-pull_brings (pulled.Bytes bytes) a b settings one = client_one a on.pull (on.bytes bytes) b settings one refl refl refl
-pull_brings (pulled.Trailers entries) a b settings one = record {
+-- ---- more of a body
+
+pulled_outcome : (a b : State) (trace : List Step) (Says : on.Outcome → Type 0) (o : on.Outcome) → b.settings ≡ a.settings
+    → allowed_by (setting_of a.settings) a.kept on.drop_body ≡ true → GoesOn a on.pull Says b → Stands a trace → ((out : on.Outcome) → Says out → out ≡ o)
+    → LeavesBehindPull (setting_of a.settings) o a.kept b.kept
+pulled_outcome a b trace Says o settings may one stands is =
+    let s = one trace stands in
+    pull_of_client (setting_of a.settings) a.kept b.kept trace o stands (stepped a b on.pull o s.0 trace settings (is s.0 s.1) s.3) may
+
+pub pull_less : (n : Pulled) (a b : State) → b.settings ≡ a.settings → allowed_by (setting_of a.settings) a.kept on.drop_body ≡ true
+    → GoesOn a on.pull (SaysPulled n) b → LeavesPulled n a b
+pull_less (pulled.Bytes bytes) a b settings may one = λ trace stands. pulled_outcome a b trace _ (on.bytes bytes) settings may one stands (λ out is. is)
+pull_less (pulled.Trailers entries) a b settings may one = λ trace stands.
+    let s = one trace stands in
+    pull_of_client (setting_of a.settings) a.kept b.kept trace (on.trailers s.1.0) stands (stepped a b on.pull (on.trailers s.1.0) s.0 trace settings s.1.1 s.3) may
+pull_less pulled.End a b settings may one = tt
+pull_less (pulled.Broken fault) a b settings may one = tt
+pull_less pulled.Pending a b settings may one = λ trace stands.
+    let x = pulled_outcome a b trace _ on.pending settings may one stands (λ out is. is) in (
+      λ allowed. x.0,
+      λ bytes is. x.2 bytes (subst (λ (s : Settings). allowed_by (setting_of s) b.kept (on.chunk bytes) ≡ true) settings is),
+    )
+
+pull_left : (n : Pulled) (a b : State) → b.settings ≡ a.settings → allowed_by (setting_of a.settings) a.kept on.drop_body ≡ true
+    → GoesOn a on.pull (SaysPulled n) b → LeavesNoMore a b
+pull_left (pulled.Bytes bytes) a b settings may one = λ trace stands.
+    let less = pull_less (pulled.Bytes bytes) a b settings may one trace stands in omega (arith, less)
+pull_left (pulled.Trailers entries) a b settings may one = λ trace stands.
+    let less = pull_less (pulled.Trailers entries) a b settings may one trace stands in omega (arith, less)
+pull_left pulled.End a b settings may one = λ trace stands. pulled_outcome a b trace _ on.body_ended settings may one stands (λ out is. is)
+pull_left (pulled.Broken fault) a b settings may one = λ trace stands. pulled_outcome a b trace _ (on.broken_by _) settings may one stands (λ out is. is)
+pull_left pulled.Pending a b settings may one = λ trace stands. (pulled_outcome a b trace _ on.pending settings may one stands (λ out is. is)).1
+
+pub pull_brings : (n : Pulled) (a b : State) → b.settings ≡ a.settings → allowed_by (setting_of a.settings) a.kept on.drop_body ≡ true
+    → GoesOn a on.pull (SaysPulled n) b → BringsPulled n a b
+pull_brings (pulled.Bytes bytes) a b settings may one =
+    client_one a on.pull (on.bytes bytes) b settings one refl refl refl (pull_left (pulled.Bytes bytes) a b settings may one)
+pull_brings (pulled.Trailers entries) a b settings may one = record {
   settings = settings;
   brings = λ trace stands.
       let s = one trace stands in (
@@ -109,16 +208,20 @@ pull_brings (pulled.Trailers entries) a b settings one = record {
         stepped a b on.pull (on.trailers s.1.0) s.0 trace settings s.1.1 s.3,
         as_done (on.trailers s.1.0) (record { head = refl; more = λ p. refl }) trace _ (brought on.pull (on.trailers s.1.0) trace refl refl refl),
       );
+  left = pull_left (pulled.Trailers entries) a b settings may one;
 }
-pull_brings pulled.End a b settings one = client_one a on.pull on.body_ended b settings one refl refl refl
-pull_brings (pulled.Broken fault) a b settings one = client_one a on.pull (on.broken_by _) b settings one refl refl refl
-pull_brings pulled.Pending a b settings one =
-    client_nothing on.pending pending_brings_nothing a b (client_one a on.pull on.pending b settings one refl refl refl)
+pull_brings pulled.End a b settings may one =
+    client_one a on.pull on.body_ended b settings one refl refl refl (pull_left pulled.End a b settings may one)
+pull_brings (pulled.Broken fault) a b settings may one =
+    client_one a on.pull (on.broken_by _) b settings one refl refl refl (pull_left (pulled.Broken fault) a b settings may one)
+pull_brings pulled.Pending a b settings may one =
+    client_nothing on.pending pending_brings_nothing a b
+    (client_one a on.pull on.pending b settings one refl refl refl (pull_left pulled.Pending a b settings may one))
 
 -- ---- a server's side
 
 pub server_same : (a : servers.State) → ServerStays a a
-server_same a = record { settings = refl; stays = stays_same (asking.setting_of a.settings) a.kept }
+server_same a = record { settings = refl; stays = stays_same (asking.setting_of a.settings) a.kept; left = λ trace stands. omega arith }
 
 asked_step : (a b : servers.State) (event : asked.ClientEvent) (out : asked.ClientOutcome) (trace : List Happened) → b.settings ≡ a.settings
     → servers.Stands b (record { event = event; outcome = out } ∷ trace)
@@ -130,14 +233,15 @@ asked_step a b event out trace settings stands =
 pub server_one : (a : servers.State) (event : asked.ClientEvent) (Says : asked.ClientOutcome → Type 0) (b : servers.State) → b.settings ≡ a.settings
     → (one : servers.GoesOn a event Says b) → taken_by event one.outcome ≡ [] → given one.outcome ≡ [] → is_eof event ≡ false
     → ((n : ℕ) (body : Option SendingBody) → text_of_event event n body ≡ []) → ((body : Option SendingBody) → sending_after event body ≡ body) → asked_by event ≡ []
-    → ServerStays a b
-server_one a event Says b settings one takes gives going says same asks = record {
+    → ((trace : List Happened) → servers.Stands a trace → server_left b.kept ≤ server_left a.kept) → ServerStays a b
+server_one a event Says b settings one takes gives going says same asks left = record {
   settings = settings;
   stays = λ trace stands. (
     record { event = event; outcome = one.outcome } ∷ trace,
     asked_step a b event one.outcome trace settings (one.stands trace stands),
     quiet event one.outcome trace takes gives going (says (now_of trace) (sending_of trace)) (same (sending_of trace)) asks,
   );
+  left = left;
 }
 
 pub server_does : (a : servers.State) (event : asked.ClientEvent) (o : asked.ClientOutcome) (b : servers.State) → b.settings ≡ a.settings
@@ -159,14 +263,60 @@ pull_given pulled.End out says = ap given says
 pull_given (pulled.Broken fault) out says = ap given says
 pull_given pulled.Pending out says = ap given says
 
+-- what is left by the outcome of the step
+answer_outcome : (a b : servers.State) (Says : asked.ClientOutcome → Type 0) (o : asked.ClientOutcome) (one : servers.GoesOn a asked.next Says b)
+    → one.outcome ≡ o → (trace : List Happened) → servers.Stands a trace → LeavesBehindAnswer o a.kept b.kept
+answer_outcome a b Says o one is trace stands =
+    subst (λ (o : asked.ClientOutcome). LeavesBehindAnswer o a.kept b.kept) is
+    (answer_leaves (asking.setting_of a.settings) a.kept b.kept trace one.outcome stands one.step)
+
+pub answer_less : (n : NextAnswer) (a b : servers.State) → servers.GoesOn a asked.next (answers.SaysNext n) b → LeavesAnswer n a b
+answer_less (answered.Answer item) a b one = answer_outcome a b _ (asked.answer one.says.0) one one.says.2
+answer_less (answered.Fault fault) a b one = tt
+answer_less answered.Pending a b one = λ trace stands allowed. (answer_outcome a b _ asked.pending one one.says trace stands).0
+answer_less (answered.Closed end) a b one = tt
+
+answer_left : (n : NextAnswer) (a b : servers.State) → servers.GoesOn a asked.next (answers.SaysNext n) b → (trace : List Happened) → servers.Stands a trace
+    → server_left b.kept ≤ server_left a.kept
+answer_left (answered.Answer item) a b one = λ trace stands.
+    let less = answer_outcome a b _ (asked.answer one.says.0) one one.says.2 trace stands in omega (arith, less)
+answer_left (answered.Fault fault) a b one = λ trace stands. answer_outcome a b _ (asked.fault _) one one.says trace stands
+answer_left answered.Pending a b one = λ trace stands. (answer_outcome a b _ asked.pending one one.says trace stands).1
+answer_left (answered.Closed end) a b one = λ trace stands. answer_outcome a b _ (asked.closed _) one one.says trace stands
+
 pub next_stays : (n : NextAnswer) (a b : servers.State) → b.settings ≡ a.settings → servers.GoesOn a asked.next (answers.SaysNext n) b → ServerStays a b
 next_stays n a b settings one =
-    server_one a asked.next _ b settings one refl (next_given n one.outcome one.says) refl (λ n body. refl) (λ body. refl) refl
+    server_one a asked.next _ b settings one refl (next_given n one.outcome one.says) refl (λ n body. refl) (λ body. refl) refl (answer_left n a b one)
 
-pub pull_stays : (n : Pulled) (a b : servers.State) → b.settings ≡ a.settings → servers.GoesOn a asked.pull (bodies.SaysPulled n) b → ServerStays a b
-pull_stays n a b settings one =
-    server_one a asked.pull _ b settings one refl (pull_given n one.outcome one.says) refl (λ n body. refl) (λ body. refl) refl
+piece_outcome : (a b : servers.State) (Says : asked.ClientOutcome → Type 0) (o : asked.ClientOutcome) → servers.IsAllowed a asked.pull
+    → (one : servers.GoesOn a asked.pull Says b) → one.outcome ≡ o → (trace : List Happened) → servers.Stands a trace → LeavesBehindPiece o a.kept b.kept
+piece_outcome a b Says o may one is trace stands =
+    subst (λ (o : asked.ClientOutcome). LeavesBehindPiece o a.kept b.kept) is
+    (piece_leaves (asking.setting_of a.settings) a.kept b.kept trace one.outcome stands may one.step)
+
+pub piece_less : (n : Pulled) (a b : servers.State) → servers.IsAllowed a asked.pull → servers.GoesOn a asked.pull (bodies.SaysPulled n) b → LeavesPiece n a b
+piece_less (pulled.Bytes bytes) a b may one = piece_outcome a b _ (asked.bytes bytes) may one one.says
+piece_less (pulled.Trailers entries) a b may one = piece_outcome a b _ (asked.trailers one.says.0) may one one.says.1
+piece_less pulled.End a b may one = tt
+piece_less (pulled.Broken fault) a b may one = tt
+piece_less pulled.Pending a b may one = λ trace stands. (piece_outcome a b _ asked.pending may one one.says trace stands).0
+
+piece_left : (n : Pulled) (a b : servers.State) → servers.IsAllowed a asked.pull → servers.GoesOn a asked.pull (bodies.SaysPulled n) b → (trace : List Happened)
+    → servers.Stands a trace → server_left b.kept ≤ server_left a.kept
+piece_left (pulled.Bytes bytes) a b may one = λ trace stands.
+    let less = piece_outcome a b _ (asked.bytes bytes) may one one.says trace stands in omega (arith, less)
+piece_left (pulled.Trailers entries) a b may one = λ trace stands.
+    let less = piece_outcome a b _ (asked.trailers one.says.0) may one one.says.1 trace stands in omega (arith, less)
+piece_left pulled.End a b may one = λ trace stands. piece_outcome a b _ asked.body_ended may one one.says trace stands
+piece_left (pulled.Broken fault) a b may one = λ trace stands. piece_outcome a b _ (asked.broken_by _) may one one.says trace stands
+piece_left pulled.Pending a b may one = λ trace stands. (piece_outcome a b _ asked.pending may one one.says trace stands).1
+
+pub pull_stays : (n : Pulled) (a b : servers.State) → b.settings ≡ a.settings → servers.IsAllowed a asked.pull
+    → servers.GoesOn a asked.pull (bodies.SaysPulled n) b → ServerStays a b
+pull_stays n a b settings may one =
+    server_one a asked.pull _ b settings one refl (pull_given n one.outcome one.says) refl (λ n body. refl) (λ body. refl) refl (piece_left n a b may one)
 
 pub tick_stays : (ms : ℕ) (a b : servers.State) → b.settings ≡ a.settings → servers.GoesOn a (asked.tick ms) (servers.Is asked.done) b → ServerStays a b
 tick_stays ms a b settings one =
     server_one a (asked.tick ms) _ b settings one refl (ap given one.says) refl (λ n body. refl) (λ body. refl) refl
+    (λ trace stands. let same = all_left (asking.setting_of a.settings) a.kept b.kept (asked.tick ms) one.outcome tt one.step in omega (arith, same))

@@ -1,5 +1,5 @@
 -- What the calls of the two connections do.
-use Rattle.std.specs.Prelude.{◌≡◌, ℕ, Bool, true, false, IsTrue, List, ⊤}
+use Rattle.std.specs.Prelude.{◌≡◌, ℕ, ◌≤◌, Bool, true, false, IsTrue, List, ⊤}
 use Rattle.h1_model.specs.Request.{Head}
 use Rattle.h1_model.specs.Event as on
 use Rattle.h1_model.specs.Sums as sums
@@ -20,20 +20,28 @@ use Rattle.h1_client_machine.specs.ClientEvent.{ClientRequest}
 use Rattle.h1_client_machine.specs.ClientKept.{client_allows}
 use Rattle.h1_client_machine.specs.ClientStep.{IsClientStep}
 use Rattle.h1_model.specs.Answer.{BodySize}
+use Rattle.h1_client_machine.specs.ClientTrace.{Happened}
+use Rattle.h1_forward_left.specs.Left.{client_left, server_left}
 use Rattle.h1_forward_traces.specs.Moves.{HasBrought, Brings, Stays}
 
 -- ---- the client's side
+
+-- no more is left to do with what came from the client
+abbrev pub LeavesNoMore : State → State → Type 0
+LeavesNoMore old new = (trace : List sums.Step) → StandsFor (setting_of old.settings) old.kept trace → client_left new.kept ≤ client_left old.kept
 
 -- the connection brought this outcome
 pub record ClientBrings (o : on.Outcome) (old new : State) : Type 0 where
   pub settings : new.settings ≡ old.settings
   pub brings : Brings (setting_of old.settings) o old.kept new.kept
+  pub left : LeavesNoMore old new
 
 -- it brought a head that this item says
 pub record ClientBringsHead (item : HeadItem) (old new : State) : Type 0 where
   pub settings : new.settings ≡ old.settings
   pub brings : (trace : List sums.Step) → StandsFor (setting_of old.settings) old.kept trace → (h : Head) × SaysHead item h
       × (more : List sums.Step) × StandsFor (setting_of old.settings) new.kept more × HasBrought (on.head h) trace more
+  pub left : LeavesNoMore old new
 
 -- what comes where the next head is asked for
 abbrev pub BringsNext : NextHead → State → State → Type 0
@@ -56,6 +64,7 @@ BringsPulled pulled.Pending old new = ClientBrings on.done old new
 pub record ServerStays (old new : servers.State) : Type 0 where
   pub settings : new.settings ≡ old.settings
   pub stays : Stays (asking.setting_of old.settings) old.kept new.kept
+  pub left : (trace : List Happened) → servers.Stands old trace → server_left new.kept ≤ server_left old.kept
 
 -- the event was allowed, and is done
 pub record ServerDid (event : asked.ClientEvent) (old new : servers.State) : Type 0 where

@@ -4,12 +4,14 @@
 ghost use Rattle.std.specs.Prelude.{IfOk, OnOk};
 ghost use Rattle.h1_model.specs.Event as on;
 ghost use Rattle.h1_forward_sides.specs.Sides.{ClientBrings, BringsNext, BringsPulled};
+ghost use Rattle.h1_forward_sides.specs.Leaves.{LeavesNext, LeavesPulled};
 
 use h1_connection::{BodySize, Bytes, Connection, NextHead, NoMemory, Pulled, ResponseHead};
 
 /// The next request's head.
 pub fn next_head(client: &mut Connection) -> Result<NextHead, NoMemory>
-    ensures { IfOk result (λ next. BringsNext next client.old client.new) }
+    ensures brings { IfOk result (λ next. BringsNext next client.old client.new) }
+    ensures leaves { IfOk result (λ next. LeavesNext next client.old client.new) }
 {
     if !client.can_next() {
         return Ok(NextHead::Pending);
@@ -20,7 +22,8 @@ pub fn next_head(client: &mut Connection) -> Result<NextHead, NoMemory>
 
 /// More of the request's body.
 pub fn next_bytes(client: &mut Connection) -> Result<Pulled, NoMemory>
-    ensures { IfOk result (λ pulled. BringsPulled pulled client.old client.new) }
+    ensures brings { IfOk result (λ pulled. BringsPulled pulled client.old client.new) }
+    ensures leaves { IfOk result (λ pulled. LeavesPulled pulled client.old client.new) }
 {
     if !client.can_pull() {
         return Ok(Pulled::Pending);

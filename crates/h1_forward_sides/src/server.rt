@@ -1,10 +1,11 @@
 //! The calls of a connection to a server, each where it is allowed.
 #![tactic(auto, using(crate::proofs::Sides::server_same))]
 
-ghost use Rattle.std.specs.Prelude.{IsTrue, IfOk, OnOk};
+ghost use Rattle.std.specs.Prelude.{◌≡◌, false, IsTrue, IfOk, OnOk};
 ghost use Rattle.h1_codec.specs.Meaning.{size_of};
 ghost use Rattle.h1_client.specs.Meaning.{request_of};
 ghost use Rattle.h1_forward_sides.specs.Sides.{ServerStays, MayAsk, SendsBody};
+ghost use Rattle.h1_forward_sides.specs.Leaves.{LeavesAnswer, LeavesPiece};
 
 use h1_client::{ClientConnection, NextAnswer, Pulled};
 use http_framing::BodySize;
@@ -37,7 +38,8 @@ pub fn ask(
 
 /// Whether a piece of the body that is sent may come, and its end.
 pub fn sends_body(server: &ClientConnection) -> bool
-    ensures { IsTrue result → SendsBody server.now }
+    ensures sends { IsTrue result → SendsBody server.now }
+    ensures none { result ≡ false → SendsBody server.now → ⊥ }
 {
     if !server.can_chunk() {
         return false;
@@ -47,7 +49,8 @@ pub fn sends_body(server: &ClientConnection) -> bool
 
 /// The next answer's head.
 pub fn next_answer(server: &mut ClientConnection) -> Result<NextAnswer, NoMemory>
-    ensures { OnOk result (ServerStays server.old server.new) }
+    ensures stays { OnOk result (ServerStays server.old server.new) }
+    ensures leaves { IfOk result (λ next. LeavesAnswer next server.old server.new) }
 {
     if !server.can_next() {
         return Ok(NextAnswer::Pending);
@@ -58,7 +61,8 @@ pub fn next_answer(server: &mut ClientConnection) -> Result<NextAnswer, NoMemory
 
 /// More of the answer's body: its end where there is none.
 pub fn next_piece(server: &mut ClientConnection) -> Result<Pulled, NoMemory>
-    ensures { OnOk result (ServerStays server.old server.new) }
+    ensures stays { OnOk result (ServerStays server.old server.new) }
+    ensures leaves { IfOk result (λ pulled. LeavesPiece pulled server.old server.new) }
 {
     if !server.can_pull() {
         return Ok(Pulled::End);

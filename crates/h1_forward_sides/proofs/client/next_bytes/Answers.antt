@@ -1,5 +1,15 @@
-use Rattle.h1_forward_sides.proofs.Sides.{pull_brings}
+use Rattle.std.proofs.Common.{sym, ◌∙◌}
+use Rattle.std.proofs.lemmas.Bool.{false≢true}
+use Rattle.h1_forward_sides.proofs.Sides.{pull_brings, pull_less}
 use Rattle.h1_forward_sides.proofs.client.next_bytes.Goals as goal
 
-pub returns : goal.returns
-returns c = pull_brings c.in_ok-pulled.pulled c.args.client.now c.pull.new.self c.pull.ensures.settings c.in_ok-pulled.ensures.stands
+pub returns-clause-brings : goal.returns-clause-brings
+returns-clause-brings c =
+    pull_brings c.in_ok-pulled.pulled c.args.client.now c.pull.new.self c.pull.ensures.settings (sym c.can_pull.ensures.value ∙ c.if-not-can_pull.false) c.in_ok-pulled.ensures.stands
+
+pub returns-clause-leaves : goal.returns-clause-leaves
+returns-clause-leaves c =
+    pull_less c.in_ok-pulled.pulled c.args.client.now c.pull.new.self c.pull.ensures.settings (sym c.can_pull.ensures.value ∙ c.if-not-can_pull.false) c.in_ok-pulled.ensures.stands
+
+pub returns-then-not-can_pull-clause-leaves : goal.returns-then-not-can_pull-clause-leaves
+returns-then-not-can_pull-clause-leaves c = λ trace stands. (λ allowed. absurd (false≢true (sym c.if-not-can_pull.true ∙ c.can_pull.ensures.value ∙ allowed)), λ bytes is. is)

@@ -1,5 +1,13 @@
-use Rattle.h1_forward_sides.proofs.Sides.{next_brings}
+use Rattle.std.proofs.Common.{sym, ◌∙◌}
+use Rattle.std.proofs.lemmas.Bool.{false≢true}
+use Rattle.h1_forward_sides.proofs.Sides.{client_same, next_brings, next_less}
 use Rattle.h1_forward_sides.proofs.client.next_head.Goals as goal
 
-pub returns : goal.returns
-returns c = next_brings c.in_ok-next.next c.args.client.now c.next.new.self c.next.ensures.settings c.in_ok-next.ensures.stands
+pub returns-clause-brings : goal.returns-clause-brings
+returns-clause-brings c = next_brings c.in_ok-next.next c.args.client.now c.next.new.self c.next.ensures.settings c.in_ok-next.ensures.stands
+
+pub returns-clause-leaves : goal.returns-clause-leaves
+returns-clause-leaves c = next_less c.in_ok-next.next c.args.client.now c.next.new.self c.next.ensures.settings c.in_ok-next.ensures.stands
+
+pub returns-then-not-can_next-clause-leaves : goal.returns-then-not-can_next-clause-leaves
+returns-then-not-can_next-clause-leaves c = λ trace stands allowed. absurd (false≢true (sym c.if-not-can_next.true ∙ c.can_next.ensures.value ∙ allowed))

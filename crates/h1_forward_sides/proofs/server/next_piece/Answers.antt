@@ -1,5 +1,11 @@
-use Rattle.h1_forward_sides.proofs.Sides.{pull_stays}
+use Rattle.std.proofs.Common.{sym, ◌∙◌}
+use Rattle.h1_forward_sides.proofs.Sides.{pull_stays, piece_less}
 use Rattle.h1_forward_sides.proofs.server.next_piece.Goals as goal
 
-pub returns : goal.returns
-returns c = pull_stays c.in_ok-pulled.pulled c.args.server.now c.pull.new.self c.pull.ensures.settings c.in_ok-pulled.ensures.stands
+pub returns-clause-stays : goal.returns-clause-stays
+returns-clause-stays c =
+    pull_stays c.in_ok-pulled.pulled c.args.server.now c.pull.new.self c.pull.ensures.settings (sym c.can_pull.ensures ∙ c.if-not-can_pull.false) c.in_ok-pulled.ensures.stands
+
+pub returns-clause-leaves : goal.returns-clause-leaves
+returns-clause-leaves c =
+    piece_less c.in_ok-pulled.pulled c.args.server.now c.pull.new.self (sym c.can_pull.ensures ∙ c.if-not-can_pull.false) c.in_ok-pulled.ensures.stands

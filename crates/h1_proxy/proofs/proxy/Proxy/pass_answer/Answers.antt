@@ -16,7 +16,7 @@ pass_body-requires c = c.requires
 
 pub returns-in-Answer : goal.returns-in-Answer
 returns-in-Answer c =
-    goes_then _ _ _ (server_moves c.args.self.now c.args.server c.next_answer.new.server c.in_ok-next_answer.ensures) c.in_ok-take_answer-in-Answer.ensures
+    goes_then _ _ _ (server_moves c.args.self.now c.args.server c.next_answer.new.server c.in_ok-next_answer.ensures.stays) c.in_ok-take_answer-in-Answer.ensures
 
 pub returns-in-Fault : goal.returns-in-Fault
 returns-in-Fault c = goes_then _ _ _ (closes (record c.args.self.now { server = Some c.args.server })) c.in_ok-fail-in-Fault.ensures
@@ -26,4 +26,4 @@ returns-in-Closed c = goes_then _ _ _ (closes (record c.args.self.now { server =
 
 pub returns-in_ok-more : goal.returns-in_ok-more
 returns-in_ok-more c =
-    goes_then _ _ _ (server_moves c.args.self.now c.args.server c.next_answer.new.server c.in_ok-next_answer.ensures) c.in_ok-more.ensures
+    goes_then _ _ _ (server_moves c.args.self.now c.args.server c.next_answer.new.server c.in_ok-next_answer.ensures.stays) c.in_ok-more.ensures

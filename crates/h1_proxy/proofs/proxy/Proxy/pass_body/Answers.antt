@@ -18,21 +18,21 @@ returns-then-not-may_send c = goes_same (record c.args.self.now { server = Some 
 
 pub returns-in-Bytes : goal.returns-in-Bytes
 returns-in-Bytes c =
-    pieces c.in-Bytes.bytes c.args.self.now c.args.sent c.next_bytes.new.client c.args.server c.chunk.new.self c.requires.runs c.in-Bytes.ensures
+    pieces c.in-Bytes.bytes c.args.self.now c.args.sent c.next_bytes.new.client c.args.server c.chunk.new.self c.requires.runs c.in-Bytes.ensures.brings
     (did_chunk _ _ _ _ c.as_slice.ensures
       (server_did (asked.chunk c.as_slice.result.now) _ _ c.chunk.ensures.settings ((c.may_send.ensures c.if-not-may_send.false).chunk _) c.in_ok-chunk-in-Bytes.ensures.stands))
 
 pub returns-in-Trailers : goal.returns-in-Trailers
-returns-in-Trailers c = client_done (record c.args.self.now { server = Some c.args.server }) c.next_bytes.new.client c.in-Trailers.ensures
+returns-in-Trailers c = client_done (record c.args.self.now { server = Some c.args.server }) c.next_bytes.new.client c.in-Trailers.ensures.brings
 
 pub returns-in-End : goal.returns-in-End
 returns-in-End c =
-    ends c.args.self.now c.args.sent c.whole.result c.next_bytes.new.client c.args.server c.end_body.new.self c.requires.runs c.whole.ensures c.in-End.ensures
+    ends c.args.self.now c.args.sent c.whole.result c.next_bytes.new.client c.args.server c.end_body.new.self c.requires.runs c.whole.ensures c.in-End.ensures.brings
     (server_did asked.body_end _ _ c.end_body.ensures.settings (c.may_send.ensures c.if-not-may_send.false).ends c.in_ok-end_body-in-End.ensures.stands)
 
 pub returns-in-Broken : goal.returns-in-Broken
 returns-in-Broken c =
-    goes_then _ _ _ (breaks _ c.args.self.now c.args.sent c.next_bytes.new.client c.args.server c.requires.runs c.in-Broken.ensures) c.in_ok-break_body-in-Broken.ensures
+    goes_then _ _ _ (breaks _ c.args.self.now c.args.sent c.next_bytes.new.client c.args.server c.requires.runs c.in-Broken.ensures.brings) c.in_ok-break_body-in-Broken.ensures
 
 pub returns-in-Pending : goal.returns-in-Pending
-returns-in-Pending c = client_done (record c.args.self.now { server = Some c.args.server }) c.next_bytes.new.client c.in-Pending.ensures
+returns-in-Pending c = client_done (record c.args.self.now { server = Some c.args.server }) c.next_bytes.new.client c.in-Pending.ensures.brings

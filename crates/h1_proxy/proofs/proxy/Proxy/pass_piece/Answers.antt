@@ -16,19 +16,19 @@ pass_body-requires-2 c = c.requires
 
 pub returns-in-Bytes : goal.returns-in-Bytes
 returns-in-Bytes c =
-    goes_then _ _ _ (server_moves c.args.self.now c.args.server c.next_piece.new.server c.in_ok-next_piece.ensures)
+    goes_then _ _ _ (server_moves c.args.self.now c.args.server c.next_piece.new.server c.in_ok-next_piece.ensures.stays)
     (client_done (record c.args.self.now { server = Some c.next_piece.new.server }) c.put_piece.new.client c.in_ok-put_piece-in-Bytes.ensures)
 
 pub returns-in-Trailers : goal.returns-in-Trailers
-returns-in-Trailers c = server_moves c.args.self.now c.args.server c.next_piece.new.server c.in_ok-next_piece.ensures
+returns-in-Trailers c = server_moves c.args.self.now c.args.server c.next_piece.new.server c.in_ok-next_piece.ensures.stays
 
 pub returns-in-End : goal.returns-in-End
 returns-in-End c =
-    goes_then _ _ _ (server_moves c.args.self.now c.args.server c.next_piece.new.server c.in_ok-next_piece.ensures) c.in_ok-end_reply-in-End.ensures
+    goes_then _ _ _ (server_moves c.args.self.now c.args.server c.next_piece.new.server c.in_ok-next_piece.ensures.stays) c.in_ok-end_reply-in-End.ensures
 
 pub returns-in-Broken : goal.returns-in-Broken
 returns-in-Broken c = goes_then _ _ _ (closes (record c.args.self.now { server = Some c.args.server })) c.in_ok-fail-in-Broken.ensures
 
 pub returns-in_ok-more : goal.returns-in_ok-more
 returns-in_ok-more c =
-    goes_then _ _ _ (server_moves c.args.self.now c.args.server c.next_piece.new.server c.in_ok-next_piece.ensures) c.in_ok-more.ensures
+    goes_then _ _ _ (server_moves c.args.self.now c.args.server c.next_piece.new.server c.in_ok-next_piece.ensures.stays) c.in_ok-more.ensures

@@ -1,0 +1,49 @@
+-- What the calls of the two connections leave to do, where more is asked for.
+use Rattle.std.specs.Prelude.{◌≡◌, ℕ, ◌+◌, ◌<◌, ◌≤◌, true, false, List, [], is_some, ⊤}
+use Rattle.h1_model.specs.Event as on
+use Rattle.h1_model.specs.Sums as sums
+use Rattle.h1_machine.specs.Local.{closing_by}
+use Rattle.h1_payload.specs.declared.pulled.Pulled.{Pulled}
+use Rattle.h1_payload.specs.declared.pulled.Pulled.TheVariants as pulled
+use Rattle.h1_connection.specs.Meaning.{setting_of}
+use Rattle.h1_connection.specs.State.{State, Stands, IsAllowed, IsNextAllowed}
+use Rattle.h1_connection.specs.declared.connection.heads.NextHead.{NextHead}
+use Rattle.h1_connection.specs.declared.connection.heads.NextHead.TheVariants as next
+use Rattle.h1_client.specs.State as servers
+use Rattle.h1_client.specs.declared.event.NextAnswer.{NextAnswer}
+use Rattle.h1_client.specs.declared.event.NextAnswer.TheVariants as answered
+use Rattle.h1_client_machine.specs.ClientEvent as asked
+use Rattle.h1_client_machine.specs.ClientTrace.{Happened}
+use Rattle.h1_forward_left.specs.Left.{client_left, server_left}
+
+-- ---- the client's side
+
+-- A head leaves less, by all its bytes; behind a fault the connection is to end; where none is there, none is coming.
+abbrev pub LeavesNext : NextHead → State → State → Type 0
+LeavesNext (next.Head item) old new = (trace : List sums.Step) → Stands old trace → client_left new.kept + 15 ≤ client_left old.kept
+LeavesNext (next.Fault fault) old new = (trace : List sums.Step) → Stands old trace → is_some (closing_by (setting_of old.settings) new.kept) ≡ true
+LeavesNext next.Pending old new = (trace : List sums.Step) → Stands old trace → IsNextAllowed new → new.kept.is_coming ≡ false
+LeavesNext (next.Closed end) old new = (trace : List sums.Step) → Stands old trace → IsNextAllowed new → new.kept.is_coming ≡ false
+
+-- Bytes leave less, and so do trailers, which end the body; where nothing is there, all bytes are passed, and a piece of an answer may be
+-- handed in only where it might before.
+abbrev pub LeavesPulled : Pulled → State → State → Type 0
+LeavesPulled (pulled.Bytes bytes) old new = (trace : List sums.Step) → Stands old trace → client_left new.kept + 15 ≤ client_left old.kept
+LeavesPulled (pulled.Trailers entries) old new = (trace : List sums.Step) → Stands old trace → client_left new.kept < client_left old.kept
+LeavesPulled pulled.Pending old new =
+    (trace : List sums.Step) → Stands old trace
+    → (IsAllowed new on.drop_body → new.kept.unread ≡ []) × ((bytes : List ℕ) → IsAllowed new (on.chunk bytes) → IsAllowed old (on.chunk bytes))
+LeavesPulled pulled old new = ⊤
+
+-- ---- a server's side
+
+abbrev pub LeavesAnswer : NextAnswer → servers.State → servers.State → Type 0
+LeavesAnswer (answered.Answer item) old new = (trace : List Happened) → servers.Stands old trace → server_left new.kept + 15 ≤ server_left old.kept
+LeavesAnswer answered.Pending old new = (trace : List Happened) → servers.Stands old trace → servers.IsAllowed new asked.next → new.kept.is_coming ≡ false
+LeavesAnswer answer old new = ⊤
+
+abbrev pub LeavesPiece : Pulled → servers.State → servers.State → Type 0
+LeavesPiece (pulled.Bytes bytes) old new = (trace : List Happened) → servers.Stands old trace → server_left new.kept + 15 ≤ server_left old.kept
+LeavesPiece (pulled.Trailers entries) old new = (trace : List Happened) → servers.Stands old trace → server_left new.kept < server_left old.kept
+LeavesPiece pulled.Pending old new = (trace : List Happened) → servers.Stands old trace → new.kept.unread ≡ []
+LeavesPiece pulled old new = ⊤
