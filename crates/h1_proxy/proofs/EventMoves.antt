@@ -1,5 +1,7 @@
 -- The events of a forwarder, each by what it does to one of the two connections.
-use Rattle.std.proofs.Common.{◌≡◌, ℕ, true, false, List, [], ◌∷◌, take, Option, Some, None, refl, sym, ap, ◌∙◌, subst}
+use Rattle.std.proofs.Common.{◌≡◌, ℕ, ◌≤◌, Bool, true, false, not, ◌&&◌, List, [], ◌∷◌, length, take, Option, Some, None, refl, sym, ap, ◌∙◌, subst}
+use Rattle.std.specs.Prelude.{IsTrue, is_some, is_none}
+use Rattle.std.proofs.lemmas.Bool.{false≢true}
 use Rattle.h1_model.specs.Event as on
 use Rattle.h1_model.specs.Sums as sums
 use Rattle.h1_client_machine.specs.ClientEvent as asked
@@ -19,8 +21,9 @@ use Rattle.h1_forward_traces.proofs.Quiet.{BringsNothing, done_brings_nothing}
 use Rattle.h1_forward_traces.proofs.Events.{client_leaves, client_eof_leaves, to_client_leaves, tick_leaves, refused_leaves, server_none_leaves, read_changes, eof_changes, write_changes, read_adds, eof_adds, write_adds}
 use Rattle.h1_forward_sides.proofs.Sides.{client_does, server_does}
 use Rattle.h1_proxy.specs.declared.proxy.Proxy.{Proxy}
-use Rattle.h1_proxy.specs.Kept.{Forwards, Goes, GoesBy, client_of, server_of, server_text}
-use Rattle.h1_proxy.proofs.Moves.{nothing_by, client_by, server_by, of_server_by, by_then, then_by, refused_moves}
+use Rattle.h1_proxy.specs.declared.proxy.Unsent.{Unsent}
+use Rattle.h1_proxy.specs.Kept.{Forwards, Goes, GoesBy, is_closing, wants_server, server_allows, server_text}
+use Rattle.h1_proxy.proofs.Moves.{nothing_by, client_by, server_by, of_server_by, by_then, connected_by, refused_moves}
 
 -- ---- nothing happens
 
@@ -141,3 +144,43 @@ new_forwards p c is =
         };
       };
     })
+
+-- ---- a server connection that is wanted
+
+three_parts : (a b c : Bool) → IsTrue (a && b && c) → (a ≡ true) × (b ≡ true)
+three_parts true true c x = (refl, refl)
+three_parts true false c x = absurd (false≢true x)
+three_parts false b c x = absurd (false≢true x)
+
+some_unsent : (u : Option Unsent) → is_some u ≡ true → (x : Unsent) × (u ≡ Some x)
+some_unsent (Some x) is = (x, refl)
+some_unsent None is = absurd (false≢true is)
+
+none_server : (s : Option servers.State) → is_none s ≡ true → s ≡ None
+none_server None is = refl
+none_server (Some s) is = absurd (false≢true is)
+
+pub connects : (p : Proxy) (s : servers.State) → IsTrue (wants_server p) → s ≡ servers.fresh_state p.config
+    → GoesBy connected done p (record p { server = Some s })
+connects p s wants is =
+    let two = three_parts (is_some p.unsent) (is_none p.server) (not (is_closing p)) wants in
+    let u = some_unsent p.unsent two.0 in
+    subst (λ (s : servers.State). GoesBy connected done p (record p { server = Some s })) (sym is) (connected_by p u.0 u.1 (none_server p.server two.1))
+
+pub refuses : (p : Proxy) → IsTrue (wants_server p) → GoesBy refused done p (record p { unsent = None; sent = None })
+refuses p wants =
+    let two = three_parts (is_some p.unsent) (is_none p.server) (not (is_closing p)) wants in
+    let u = some_unsent p.unsent two.0 in
+    by_then refused done p p (record p { unsent = None; sent = None }) (refused_nothing p) (refused_moves p u.0 u.1)
+
+-- ---- what a server's connection allows
+
+pub allows_of : (event : asked.ClientEvent) (o : Option servers.State) (s : servers.State) → o ≡ Some s → IsTrue (server_allows o event)
+    → servers.IsAllowed s event
+allows_of event o s is x = subst (λ (o : Option servers.State). IsTrue (server_allows o event)) is x
+
+pub none_allows : (event : asked.ClientEvent) (o : Option servers.State) → o ≡ None → IsTrue (server_allows o event) → ⊥
+none_allows event o is x = false≢true (subst (λ (o : Option servers.State). IsTrue (server_allows o event)) is x)
+
+pub text_of : (n : ℕ) (o : Option servers.State) (s : servers.State) → o ≡ Some s → n ≤ length (server_text o) → n ≤ length s.kept.buffered
+text_of n o s is x = subst (λ (o : Option servers.State). n ≤ length (server_text o)) is x

@@ -1,0 +1,18 @@
+use Rattle.std.proofs.Common.{sym}
+use Rattle.h1_client_machine.specs.ClientEvent as asked
+use Rattle.h1_proxy.proofs.EventMoves.{allows_of, none_allows, text_of, server_writes}
+use Rattle.h1_proxy.proofs.proxy.Proxy.write_server.Goals as goal
+
+pub advance-requires : goal.advance-requires
+advance-requires c = record {
+  can_write = allows_of (asked.write c.args.count) _ c.in-Some.server (sym c.in-Some.ensures.value) c.requires.can_write_server;
+  fits = text_of c.args.count _ c.in-Some.server (sym c.in-Some.ensures.value) c.requires.fits;
+}
+
+pub returns-in-None : goal.returns-in-None
+returns-in-None c = absurd (none_allows (asked.write c.args.count) _ (sym c.in-None.ensures.value) c.requires.can_write_server)
+
+pub returns-in-Some : goal.returns-in-Some
+returns-in-Some c = record {
+  goes = server_writes c.args.count c.args.self.now c.in-Some.server c.advance.new.self (sym c.in-Some.ensures.value) c.advance.ensures.settings c.advance.ensures.stands;
+}
