@@ -1,15 +1,15 @@
 -- What the connections did, as their contracts have it.
-use Rattle.std.proofs.Common.{◌≡◌, ℕ, Bool, true, false, List, subst}
-use Rattle.std.specs.Prelude.{IsTrue}
+use Rattle.std.proofs.Common.{◌≡◌, ℕ, Bool, true, List, subst}
 use Rattle.h1_model.specs.Answer.{BodySize}
-use Rattle.h1_model.specs.Event as on
 use Rattle.h1_client_machine.specs.ClientEvent as asked
 use Rattle.h1_client_machine.specs.ClientEvent.{ClientRequest}
-use Rattle.h1_client_machine.specs.ClientKept.{client_allows}
 use Rattle.h1_client_machine.specs.ClientStep.{IsClientStep}
 use Rattle.h1_client.specs.Meaning as asking
 use Rattle.h1_client.specs.State as servers
-use Rattle.h1_forward_sides.specs.Sides.{ServerDid, MayAsk}
+use Rattle.h1_payload.specs.declared.pulled.Pulled.{Pulled}
+use Rattle.h1_connection.specs.State.{State}
+use Rattle.h1_connection.specs.declared.connection.heads.NextHead.{NextHead}
+use Rattle.h1_forward_sides.specs.Sides.{BringsNext, BringsPulled, ServerDid, MayAsk}
 
 -- an event that was allowed, and is done
 pub server_did : (event : asked.ClientEvent) (a b : servers.State) → b.settings ≡ a.settings → servers.IsAllowed a event
@@ -28,3 +28,11 @@ did_ask b request size s t is x = subst (λ (b : Bool). MayAsk b request size s 
 -- the same piece by another name
 pub did_chunk : (bytes more : List ℕ) (s t : servers.State) → more ≡ bytes → ServerDid (asked.chunk more) s t → ServerDid (asked.chunk bytes) s t
 did_chunk bytes more s t is x = subst (λ (l : List ℕ). ServerDid (asked.chunk l) s t) is x
+
+-- ---- what comes, by its variant
+
+pub by_next : (n m : NextHead) (a b : State) → n ≡ m → BringsNext n a b → BringsNext m a b
+by_next n m a b is x = subst (λ (n : NextHead). BringsNext n a b) is x
+
+pub by_pull : (n m : Pulled) (a b : State) → n ≡ m → BringsPulled n a b → BringsPulled m a b
+by_pull n m a b is x = subst (λ (n : Pulled). BringsPulled n a b) is x

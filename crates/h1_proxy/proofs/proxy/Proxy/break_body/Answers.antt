@@ -2,8 +2,8 @@ use Rattle.std.proofs.Common.{Some, None}
 use Rattle.h1_proxy.proofs.Moves.{goes_then, fails, resent}
 use Rattle.h1_proxy.proofs.proxy.Proxy.break_body.Goals as goal
 
-pub returns-then-is_answered : goal.returns-then-is_answered
-returns-then-is_answered c =
+pub returns-then-sent : goal.returns-then-sent
+returns-then-sent c =
     resent (record c.args.self.now { server = Some c.args.server }) c.args.sent c.broken.result
     (record { unsent = c.requires.runs.unsent; sent = c.requires.runs.sent }) c.broken.ensures
 

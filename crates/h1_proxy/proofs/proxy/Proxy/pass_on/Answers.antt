@@ -11,5 +11,5 @@ fail-requires c = record { unsent = c.requires.runs.unsent }
 pub returns-in_ok-more-in-Some : goal.returns-in_ok-more-in-Some
 returns-in_ok-more-in-Some c = of_server c.args.self.now _ c.in-Some.server (sym c.in-Some.ensures.value) c.in_ok-more-in-Some.ensures
 
-pub returns-in-None : goal.returns-in-None
-returns-in-None c = of_no_server c.args.self.now _ _ (sym c.in-None.ensures.value) c.in_ok-fail-in-None.ensures
+pub returns-in_ok-fail-in-None : goal.returns-in_ok-fail-in-None
+returns-in_ok-fail-in-None c = of_no_server c.args.self.now _ _ (sym c.in-None.ensures.value) c.in_ok-fail-in-None.ensures

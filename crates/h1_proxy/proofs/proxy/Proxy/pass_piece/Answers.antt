@@ -11,24 +11,24 @@ end_reply-requires c = c.requires
 pub fail-requires : goal.fail-requires
 fail-requires c = record { unsent = c.requires.runs.unsent }
 
-pub pass_body-requires-2 : goal.pass_body-requires-2
-pass_body-requires-2 c = c.requires
+pub pass_body-requires-in-Pending : goal.pass_body-requires-in-Pending
+pass_body-requires-in-Pending c = c.requires
 
-pub returns-in-Bytes : goal.returns-in-Bytes
-returns-in-Bytes c =
-    goes_then _ _ _ (server_moves c.args.self.now c.args.server c.next_piece.new.server c.in_ok-next_piece.ensures.stays)
+pub returns-in_ok-put_piece-in-Bytes : goal.returns-in_ok-put_piece-in-Bytes
+returns-in_ok-put_piece-in-Bytes c =
+    goes_then _ _ _ (server_moves c.args.self.now c.args.server c.next_piece.new.server c.in_ok-bytes.ensures.stays)
     (client_done (record c.args.self.now { server = Some c.next_piece.new.server }) c.put_piece.new.client c.in_ok-put_piece-in-Bytes.ensures)
 
 pub returns-in-Trailers : goal.returns-in-Trailers
-returns-in-Trailers c = server_moves c.args.self.now c.args.server c.next_piece.new.server c.in_ok-next_piece.ensures.stays
+returns-in-Trailers c = server_moves c.args.self.now c.args.server c.next_piece.new.server c.in_ok-bytes.ensures.stays
 
-pub returns-in-End : goal.returns-in-End
-returns-in-End c =
-    goes_then _ _ _ (server_moves c.args.self.now c.args.server c.next_piece.new.server c.in_ok-next_piece.ensures.stays) c.in_ok-end_reply-in-End.ensures
+pub returns-in_ok-end_reply-in-End : goal.returns-in_ok-end_reply-in-End
+returns-in_ok-end_reply-in-End c =
+    goes_then _ _ _ (server_moves c.args.self.now c.args.server c.next_piece.new.server c.in_ok-bytes.ensures.stays) c.in_ok-end_reply-in-End.ensures
 
-pub returns-in-Broken : goal.returns-in-Broken
-returns-in-Broken c = goes_then _ _ _ (closes (record c.args.self.now { server = Some c.args.server })) c.in_ok-fail-in-Broken.ensures
+pub returns-in_ok-fail-in-Broken : goal.returns-in_ok-fail-in-Broken
+returns-in_ok-fail-in-Broken c = goes_then _ _ _ (closes (record c.args.self.now { server = Some c.args.server })) c.in_ok-fail-in-Broken.ensures
 
-pub returns-in_ok-more : goal.returns-in_ok-more
-returns-in_ok-more c =
-    goes_then _ _ _ (server_moves c.args.self.now c.args.server c.next_piece.new.server c.in_ok-next_piece.ensures.stays) c.in_ok-more.ensures
+pub returns-in_ok-more-in-Pending : goal.returns-in_ok-more-in-Pending
+returns-in_ok-more-in-Pending c =
+    goes_then _ _ _ (server_moves c.args.self.now c.args.server c.next_piece.new.server c.in_ok-bytes.ensures.stays) c.in_ok-more-in-Pending.ensures

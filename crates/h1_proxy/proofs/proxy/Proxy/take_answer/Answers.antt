@@ -5,8 +5,8 @@ use Rattle.h1_proxy.proofs.proxy.Proxy.take_answer.Goals as goal
 pub fail-requires : goal.fail-requires
 fail-requires c = record { unsent = c.requires.runs.unsent }
 
-pub returns-in-Refuse : goal.returns-in-Refuse
-returns-in-Refuse c = goes_then _ _ _ (closes (record c.args.self.now { server = Some c.args.server })) c.in_ok-fail-in-Refuse.ensures
+pub returns-in_ok-fail-in-Refuse : goal.returns-in_ok-fail-in-Refuse
+returns-in_ok-fail-in-Refuse c = goes_then _ _ _ (closes (record c.args.self.now { server = Some c.args.server })) c.in_ok-fail-in-Refuse.ensures
 
 pub returns-in-PassOver : goal.returns-in-PassOver
 returns-in-PassOver c = goes_same (record c.args.self.now { server = Some c.args.server })

@@ -1,17 +1,26 @@
+use Rattle.h1_proxy.proofs.Done.{by_next}
 use Rattle.h1_proxy.proofs.Moves.{client_done, from_head}
 use Rattle.h1_proxy.proofs.proxy.Proxy.take_head.Goals as goal
 
 pub open-requires : goal.open-requires
 open-requires c = record { idle = record { unsent = c.requires.idle.unsent; sent = c.requires.idle.sent } }
 
-pub returns-in-Head : goal.returns-in-Head
-returns-in-Head c = from_head c.in-Head.item c.args.self.now _ c.next_head.new.client c.requires.idle c.in-Head.ensures.brings c.in_ok-open-in-Head.ensures
+pub returns-in_ok-open-in-Head : goal.returns-in_ok-open-in-Head
+returns-in_ok-open-in-Head c =
+    let brings = by_next _ _ c.args.self.now.client c.next_head.new.client c.in-Head.is c.in_ok-item.ensures.brings in
+    from_head c.in-Head.item c.args.self.now _ c.next_head.new.client c.requires.idle brings c.in_ok-open-in-Head.ensures
 
 pub returns-in-Fault : goal.returns-in-Fault
-returns-in-Fault c = client_done c.args.self.now c.next_head.new.client c.in-Fault.ensures.brings
+returns-in-Fault c =
+    let brings = by_next _ _ c.args.self.now.client c.next_head.new.client c.in-Fault.is c.in_ok-item.ensures.brings in
+    client_done c.args.self.now c.next_head.new.client brings
 
 pub returns-in-Pending : goal.returns-in-Pending
-returns-in-Pending c = client_done c.args.self.now c.next_head.new.client c.in-Pending.ensures.brings
+returns-in-Pending c =
+    let brings = by_next _ _ c.args.self.now.client c.next_head.new.client c.in-Pending.is c.in_ok-item.ensures.brings in
+    client_done c.args.self.now c.next_head.new.client brings
 
 pub returns-in-Closed : goal.returns-in-Closed
-returns-in-Closed c = client_done c.args.self.now c.next_head.new.client c.in-Closed.ensures.brings
+returns-in-Closed c =
+    let brings = by_next _ _ c.args.self.now.client c.next_head.new.client c.in-Closed.is c.in_ok-item.ensures.brings in
+    client_done c.args.self.now c.next_head.new.client brings

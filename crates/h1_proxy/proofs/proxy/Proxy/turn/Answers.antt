@@ -11,5 +11,5 @@ returns-in_ok-more-in-Some c = of_unsent c.args.self.now _ c.in-Some.unsent (sym
 pub go_on-requires : goal.go_on-requires
 go_on-requires c = record { unsent = c.take.ensures.after }
 
-pub returns-in_ok-more : goal.returns-in_ok-more
-returns-in_ok-more c = of_no_unsent c.args.self.now _ _ (sym c.in-None.ensures.value ∙ sym c.take.ensures.after) c.in_ok-more.ensures
+pub returns-in_ok-more-in-None : goal.returns-in_ok-more-in-None
+returns-in_ok-more-in-None c = of_no_unsent c.args.self.now _ _ (sym c.in-None.ensures.value ∙ sym c.take.ensures.after) c.in_ok-more-in-None.ensures

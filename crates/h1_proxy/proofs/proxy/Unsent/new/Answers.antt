@@ -10,11 +10,11 @@ use Rattle.h1_proxy.proofs.proxy.Unsent.new.Goals as goal
 
 pub returns : goal.returns
 returns c = λ h says can.
-    let sized = c.forwarded_size.ensures ∙ ap (λ (k : BodyKind). forwarded_size k) says.body in record {
+    let sized = c.forwarded_size-size.ensures ∙ ap (λ (k : BodyKind). forwarded_size k) says.body in record {
       method = ap (λ (r : AskedHead). r.method) (c.forwarded_head.ensures.says h says can);
       whole = ap not (c.has_body.ensures h says);
       sized = sized;
       text = λ moment.
-          waiting_text h c.forwarded_head.result c.forwarded_size.result moment _ sized (plain_keeps _ c.forwarded_head.ensures.flags c.forwarded_head.ensures.version)
+          waiting_text h c.forwarded_head.result c.forwarded_size-size.result moment _ sized (plain_keeps _ c.forwarded_head.ensures.flags c.forwarded_head.ensures.version)
           (c.forwarded_head.ensures.text h says can (sent_of (unpulled h) moment) refl);
     }
