@@ -1,5 +1,6 @@
 use Rattle.std.proofs.Common.{refl, ap, ◌∙◌}
 use Rattle.std.specs.Prelude.{not}
+use Rattle.h1_codec.specs.Meaning.{size_of}
 use Rattle.h1_model.specs.Request.{BodyKind}
 use Rattle.h1_client_model.specs.RequestText.{AskedHead}
 use Rattle.h1_forward_model.specs.Forward.{forwarded_size, Sent}
@@ -15,6 +16,6 @@ returns c = λ h says can.
       whole = ap not (c.has_body.ensures h says);
       sized = sized;
       text = λ moment.
-          waiting_text h c.forwarded_head.result c.forwarded_size-size.result moment _ sized (plain_keeps _ c.forwarded_head.ensures.flags c.forwarded_head.ensures.version)
+          waiting_text h c.forwarded_head.result (size_of c.forwarded_size-size.result) moment _ sized (plain_keeps _ c.forwarded_head.ensures.flags c.forwarded_head.ensures.version)
           (c.forwarded_head.ensures.text h says can (sent_of (unpulled h) moment) refl);
     }
