@@ -6,8 +6,5 @@ use Rattle.h1_proxy.proofs.proxy.Proxy.end_server.Goals as goal
 pub eof-requires : goal.eof-requires
 eof-requires c = record { can_read = allows_of asked.eof _ c.in-Some.server (sym c.in-Some.ensures.value) c.requires.can_read_server }
 
-pub returns-in-None : goal.returns-in-None
-returns-in-None c = absurd (none_allows asked.eof _ (sym c.in-None.ensures.value) c.requires.can_read_server)
-
-pub returns-in-Some : goal.returns-in-Some
-returns-in-Some c = record { goes = server_ends c.args.self.now c.in-Some.server c.eof.new.self (sym c.in-Some.ensures.value) c.eof.ensures.settings c.eof.ensures.stands }
+pub returns : goal.returns
+returns c = record { goes = server_ends c.args.self.now c.in-Some.server c.eof.new.self (sym c.in-Some.ensures.value) c.eof.ensures.settings c.eof.ensures.stands }

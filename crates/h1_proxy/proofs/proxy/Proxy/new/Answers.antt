@@ -1,5 +1,17 @@
+use Rattle.std.specs.Prelude.{None}
 use Rattle.h1_proxy.proofs.EventMoves.{new_forwards}
+use Rattle.h1_proxy.specs.declared.proxy.Proxy.{Proxy}
 use Rattle.h1_proxy.proofs.proxy.Proxy.new.Goals as goal
 
 pub returns-clause-forwards : goal.returns-clause-forwards
-returns-clause-forwards c = new_forwards _ c.new.result c.new.ensures
+returns-clause-forwards c =
+    let p : Proxy = record {
+      alloc = c.args.alloc;
+      config = c.args.config;
+      client = c.new.result;
+      server = None;
+      unsent = None;
+      sent = None;
+      moment = None;
+    } in
+    new_forwards p c.new.result c.new.ensures

@@ -1,8 +1,8 @@
 use Rattle.h1_proxy.proofs.EventMoves.{client_nothing, client_reads}
 use Rattle.h1_proxy.proofs.proxy.Proxy.take_from_client.Goals as goal
 
-pub returns-then-client_room-eq-0 : goal.returns-then-client_room-eq-0
-returns-then-client_room-eq-0 c = record { goes = client_nothing c.args.bytes.now c.args.self.now }
+pub returns-then-client_room-eq0 : goal.returns-then-client_room-eq0
+returns-then-client_room-eq0 c = record { goes = client_nothing c.args.bytes.now c.args.self.now }
 
 pub returns-then-not-can_read : goal.returns-then-not-can_read
 returns-then-not-can_read c = record { goes = client_nothing c.args.bytes.now c.args.self.now }

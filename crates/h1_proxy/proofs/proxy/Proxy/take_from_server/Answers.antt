@@ -4,17 +4,11 @@ use Rattle.h1_forward_model.specs.Past.{server, took}
 use Rattle.h1_proxy.proofs.EventMoves.{server_nothing, server_reads, allows_of, of_none_by}
 use Rattle.h1_proxy.proofs.proxy.Proxy.take_from_server.Goals as goal
 
-pub returns-then-server_room-eq-0 : goal.returns-then-server_room-eq-0
-returns-then-server_room-eq-0 c = record { goes = server_nothing c.args.bytes.now c.args.self.now }
+pub returns-then-server_room-eq0 : goal.returns-then-server_room-eq0
+returns-then-server_room-eq0 c = record { goes = server_nothing c.args.bytes.now c.args.self.now }
 
 pub returns-then-not-can_read_server : goal.returns-then-not-can_read_server
 returns-then-not-can_read_server c = record { goes = server_nothing c.args.bytes.now c.args.self.now }
-
-pub returns-in-None : goal.returns-in-None
-returns-in-None c = record {
-  goes = of_none_by (server c.args.bytes.now) (took 0) c.args.self.now c.take.new.self (sym c.in-None.ensures.value) c.take.ensures.after
-      (server_nothing c.args.bytes.now c.args.self.now);
-}
 
 pub read-requires : goal.read-requires
 read-requires c = record {

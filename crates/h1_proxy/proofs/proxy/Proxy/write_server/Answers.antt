@@ -9,10 +9,7 @@ advance-requires c = record {
   fits = text_of c.args.count _ c.in-Some.server (sym c.in-Some.ensures.value) c.requires.fits;
 }
 
-pub returns-in-None : goal.returns-in-None
-returns-in-None c = absurd (none_allows (asked.write c.args.count) _ (sym c.in-None.ensures.value) c.requires.can_write_server)
-
-pub returns-in-Some : goal.returns-in-Some
-returns-in-Some c = record {
+pub returns : goal.returns
+returns c = record {
   goes = server_writes c.args.count c.args.self.now c.in-Some.server c.advance.new.self (sym c.in-Some.ensures.value) c.advance.ensures.settings c.advance.ensures.stands;
 }
