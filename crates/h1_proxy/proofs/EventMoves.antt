@@ -120,9 +120,9 @@ pub server_writes : (n : ℕ) (p : Proxy) (a b : servers.State) → p.server ≡
 server_writes n p a b is settings one =
     let bytes = take n a.kept.buffered in
     let made : GoesBy (to_server n) (gave bytes) p (record p { server = Some b }) =
-            of_server_by (to_server n) (gave bytes) p (record p { server = Some b }) a is
-            (server_by (asked.write n) (asked.gave bytes) (to_server n) (gave bytes) p a b (write_adds n) (record { taken = refl; written = refl; moment = refl })
-            (write_changes n bytes) settings (server_does a (asked.write n) (asked.gave bytes) b settings one)) in
+    of_server_by (to_server n) (gave bytes) p (record p { server = Some b }) a is
+    (server_by (asked.write n) (asked.gave bytes) (to_server n) (gave bytes) p a b (write_adds n) (record { taken = refl; written = refl; moment = refl })
+    (write_changes n bytes) settings (server_does a (asked.write n) (asked.gave bytes) b settings one)) in
     subst (λ (o : Option servers.State). GoesBy (to_server n) (gave (take n (server_text o))) p (record p { server = Some b })) (sym is) made
 
 -- ---- a new forwarder

@@ -125,8 +125,7 @@ resent p s t runs same = λ history all f. (
 pub fails : (p : Proxy) → p.unsent ≡ None → Goes p (record p { server = None; sent = None })
 fails p none = λ history all f.
     let y = keeps_closed (theirs p) (ours p) (kept_of p) history all f.carries in
-    let z = left p.sent (as_under_way (record p { server = None }) history y.0 (under_way_of None p.sent) (ap (λ (u : Option Unsent). under_way_of u p.sent) none) y.1) in
-    (
+    let z = left p.sent (as_under_way (record p { server = None }) history y.0 (under_way_of None p.sent) (ap (λ (u : Option Unsent). under_way_of u p.sent) none) y.1) in (
       z.0,
       record {
         client = f.client;
@@ -146,8 +145,7 @@ fails p none = λ history all f.
 pub is_over : (p : Proxy) (sent : Sent) → Runs sent p → sent.is_whole ≡ true → Goes p (record p { sent = None })
 is_over p sent runs whole = λ history all f.
     let x = as_under_way p history all (is_sent true) (ap₂ under_way_of runs.unsent runs.sent ∙ ap is_sent whole) f.carries in
-    let y = keeps_whole (theirs p) (ours p) p.client.kept (kept_of p).server history all x in
-    (
+    let y = keeps_whole (theirs p) (ours p) p.client.kept (kept_of p).server history all x in (
       y.0,
       record {
         client = f.client;
@@ -164,7 +162,7 @@ from_head item p q c idle x rest = λ history all f.
     let b = x.brings all.client (subst (λ (s : Settings). StandsFor (setting_of s) p.client.kept all.client) (sym f.client) f.carries.stands) in
     let h = b.0 in
     let y = keeps_head (theirs p) (ours p) h (kept_of p).server p.client.kept c.kept history all b.2
-        (subst (λ (s : Settings). StandsFor (setting_of s) c.kept b.2) f.client b.3) b.4 old in
+    (subst (λ (s : Settings). StandsFor (setting_of s) c.kept b.2) f.client b.3) b.4 old in
     rest history y.0 h b.1
     (record { client = x.settings ∙ f.client; server = f.server; carries = from_under_way (record p { client = c }) history y.0 nothing is y.1 })
     y.2
@@ -208,8 +206,7 @@ pieces bytes p sent c a b runs brings x = λ history all f.
     let is : under_way_of p.unsent p.sent ≡ is_sent sent.is_whole = ap₂ under_way_of runs.unsent runs.sent in
     let old = as_under_way (record p { server = Some a }) history all (is_sent sent.is_whole) is f.carries in
     let y = keeps_piece (theirs p) (ours p) bytes sent.is_whole p.client.kept c.kept a.kept b.kept
-        (brings_by p.config (on.bytes bytes) p.client c f.client brings) allowed step history all old in
-    (
+    (brings_by p.config (on.bytes bytes) p.client c f.client brings) allowed step history all old in (
       y.0,
       record {
         client = brings.settings ∙ f.client;
@@ -227,8 +224,7 @@ ends p sent t c a b runs whole brings x = λ history all f.
     let is : under_way_of p.unsent p.sent ≡ is_sent sent.is_whole = ap₂ under_way_of runs.unsent runs.sent in
     let old = as_under_way (record p { server = Some a }) history all (is_sent sent.is_whole) is f.carries in
     let y = keeps_end (theirs p) (ours p) sent.is_whole p.client.kept c.kept a.kept b.kept
-        (brings_by p.config on.body_ended p.client c f.client brings) allowed step history all old in
-    (
+    (brings_by p.config on.body_ended p.client c f.client brings) allowed step history all old in (
       y.0,
       record {
         client = brings.settings ∙ f.client;
@@ -246,8 +242,7 @@ breaks fault p sent c s runs brings = λ history all f.
     let is : under_way_of p.unsent p.sent ≡ is_sent sent.is_whole = ap₂ under_way_of runs.unsent runs.sent in
     let old = as_under_way (record p { server = Some s }) history all (is_sent sent.is_whole) is f.carries in
     let y = keeps_broken (theirs p) (ours p) fault sent.is_whole p.client.kept c.kept s.kept
-        (brings_by p.config (on.broken_by fault) p.client c f.client brings) history all old in
-    (
+    (brings_by p.config (on.broken_by fault) p.client c f.client brings) history all old in (
       y.0,
       record {
         client = brings.settings ∙ f.client;
@@ -291,12 +286,11 @@ connected_by p u waiting none = λ history all f.
     let is : under_way_of p.unsent p.sent ≡ waits (request_of u.head) (size_of u.size) u.sent.is_whole = ap (λ (o : Option Unsent). under_way_of o p.sent) waiting in
     let x = as_under_way p history all (waits (request_of u.head) (size_of u.size) u.sent.is_whole) is f.carries in
     let z = subst (λ (o : Option servers.State). Carries (theirs p) (ours p) (record {
-          client = p.client.kept;
-          server = option_map (λ s. s.kept) o;
-          under_way = waits (request_of u.head) (size_of u.size) u.sent.is_whole;
-        }) history all) none x in
-    let y = by_connected (theirs p) (ours p) (request_of u.head) (size_of u.size) u.sent.is_whole p.client.kept history all z in
-    (
+      client = p.client.kept;
+      server = option_map (λ s. s.kept) o;
+      under_way = waits (request_of u.head) (size_of u.size) u.sent.is_whole;
+    }) history all) none x in
+    let y = by_connected (theirs p) (ours p) (request_of u.head) (size_of u.size) u.sent.is_whole p.client.kept history all z in (
       y.0,
       record {
         client = f.client;

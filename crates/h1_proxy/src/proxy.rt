@@ -206,7 +206,9 @@ impl Proxy {
 
     /// The most bytes that a read from the client takes now: none while 32768 wait towards the server.
     pub fn client_room(&self) -> usize {
-        if self.is_closing() || !self.client.can_read() || self.server_front().len() >= MAX_WAITING
+        if self.is_closing()
+            || !self.client.can_read()
+            || self.server_front().len() >= MAX_WAITING
         {
             return 0;
         }

@@ -7,15 +7,15 @@ ghost use Rattle.h1_forward_sides.specs.Sides.{ServerStays, SendsBody};
 ghost use Rattle.h1_proxy.specs.Kept.{Goes, GoesWith, GoesUnsent, GoesFrom, IsIdle, Runs};
 
 use crate::proxy::{Proxy, Sent, Unsent};
-use h1_forward_sides::client::{
-    cut_reply, leave_body, next_bytes, next_head, put_end, put_head, put_piece, tell_to_go_on,
-};
-use h1_forward_sides::server::{ask, next_answer, next_piece, sends_body, tick_server};
 use h1_client::{ClientConnection, NextAnswer, ResponseItem};
 use h1_connection::{BodySize, HeadItem, NextHead, NoMemory, Pulled};
 use h1_forward_heads::{
     AnswerUse, Refusal, answer_use, is_forwardable, reply_head, reply_size, says_close,
 };
+use h1_forward_sides::client::{
+    cut_reply, leave_body, next_bytes, next_head, put_end, put_head, put_piece, tell_to_go_on,
+};
+use h1_forward_sides::server::{ask, next_answer, next_piece, sends_body, tick_server};
 
 impl Proxy {
     /// Makes turns until none is possible.

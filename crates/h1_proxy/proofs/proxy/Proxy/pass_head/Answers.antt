@@ -17,4 +17,4 @@ returns c =
     let q = record p { sent = Some c.answered-sent.result } in
     goes_then _ _ _ (resent p c.args.sent c.answered-sent.result (record { unsent = c.requires.runs.unsent; sent = c.requires.runs.sent }) c.answered-sent.ensures)
     (goes_then _ _ _ (client_done q c.leave_body.new.client c.leave_body.ensures)
-      (goes_then _ _ _ (client_done (record q { client = c.leave_body.new.client }) c.put_head-2.new.client c.in_ok-put_head-2.ensures) c.part.ensures))
+    (goes_then _ _ _ (client_done (record q { client = c.leave_body.new.client }) c.put_head-2.new.client c.in_ok-put_head-2.ensures) c.part.ensures))

@@ -3,7 +3,7 @@ use Rattle.std.specs.Prelude.{not}
 use Rattle.h1_codec.specs.Meaning.{size_of}
 use Rattle.h1_model.specs.Request.{BodyKind}
 use Rattle.h1_client_model.specs.RequestText.{AskedHead}
-use Rattle.h1_forward_model.specs.Forward.{forwarded_size, Sent}
+use Rattle.h1_forward_model.specs.Forward.{forwarded, forwarded_size}
 use Rattle.h1_forward_model.specs.Exchange.{unpulled}
 use Rattle.h1_forward_traces.specs.Happenings.{sent_of}
 use Rattle.h1_proxy.proofs.Waits.{plain_keeps, waiting_text}
@@ -16,6 +16,6 @@ returns c = λ h says can.
       whole = ap not (c.has_body.ensures h says);
       sized = sized;
       text = λ moment.
-          waiting_text h c.forwarded_head.result (size_of c.forwarded_size-size.result) moment _ sized (plain_keeps _ c.forwarded_head.ensures.flags c.forwarded_head.ensures.version)
+          waiting_text h c.forwarded_head.result (size_of c.forwarded_size-size.result) moment (forwarded (sent_of (unpulled h) moment)) sized (plain_keeps c.forwarded_head.result c.forwarded_head.ensures.flags c.forwarded_head.ensures.version)
           (c.forwarded_head.ensures.text h says can (sent_of (unpulled h) moment) refl);
     }
