@@ -237,12 +237,17 @@ pub fn take(
 
 /// All that waits is written.
 pub fn give(connection: &mut Connection, checksum: &mut Checksum) -> Result<(), BenchError> {
-    if !connection.can_write() {
-        return Err(BenchError::Misplaced);
+    for _ in 0..connection.buffered() {
+        if connection.stretch().is_empty() {
+            break;
+        }
+        if !connection.can_write() {
+            return Err(BenchError::Misplaced);
+        }
+        let written = connection.stretch().len();
+        checksum.add_bytes(connection.stretch());
+        connection.advance(written);
     }
-    let written = connection.front().len();
-    checksum.add_bytes(connection.front());
-    connection.advance(written);
     Ok(())
 }
 

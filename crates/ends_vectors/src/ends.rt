@@ -116,7 +116,7 @@ impl Between {
         if self.asking.end.is_some() {
             return Ok(lose_from_server(&mut self.server));
         }
-        let waiting = self.server.front().len();
+        let waiting = self.server.stretch().len();
         let count = piece(self.cut, self.to_client, waiting);
         let taken = pass_to_client(&mut self.server, &mut self.client, count)?;
         self.to_client = self.to_client.saturating_add(taken);
@@ -184,9 +184,9 @@ fn pass_to_client(
     if count == 0 || !client.can_read() || !server.can_write() {
         return Ok(0);
     }
-    let front = server.front();
+    let front = server.stretch();
     let taken = client.read(&front[..count.min(front.len())])?;
-    if taken <= server.front().len() {
+    if taken <= server.buffered() {
         server.advance(taken);
     }
     Ok(taken)
@@ -218,7 +218,7 @@ fn lose_from_client(client: &mut ClientConnection) -> bool {
 }
 
 fn lose_from_server(server: &mut Connection) -> bool {
-    let count = server.front().len();
+    let count = server.buffered();
     if count == 0 || !server.can_write() {
         return false;
     }

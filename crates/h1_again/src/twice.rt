@@ -82,7 +82,8 @@ fn put_outcome(alloc: Global, outcome: &Outcome, text: &mut String) -> Result<()
 }
 
 fn put_waiting(alloc: Global, connection: &Connection, text: &mut String) -> Result<(), NoMemory> {
-    let bytes = connection.front();
+    let waiting = connection.copy_buffered()?;
+    let bytes = waiting.as_slice();
     let end = connection.closing();
     let line = format!(in alloc; "{bytes:?} {end:?}\n")?;
     text.push_str(line.as_str())

@@ -1,6 +1,6 @@
 pub mod Pieces
 pub mod CamelCase
-pub mod SizeLine
+pub mod SizeLines
 pub mod ByName
 pub mod HeaderLines
 pub mod HeadText

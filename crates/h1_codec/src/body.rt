@@ -49,7 +49,7 @@ pub fn put_end(out: &mut BytesMut, asked: Asked, shape: Shape) -> Result<(), NoM
 }
 
 /// At most so many bytes, from the first on.
-pub(crate) fn first_bytes(bytes: &[u8], most: u64) -> &[u8]
+pub fn first_bytes(bytes: &[u8], most: u64) -> &[u8]
     ensures { result.now ≡ take most bytes.now }
 {
     if most < bytes.len() as u64 {

@@ -6,9 +6,46 @@ ghost use Rattle.h1_model.specs.AnswerText.{chunk_text, last_chunk};
 
 use bytes::BytesMut;
 use http_types::NoMemory;
+use std::marker::Model;
 
 // Sixteen digits, which say any size, and a line end.
 const SIZE_LINE_LEN: usize = 18;
+
+/// The line in front of a chunk's bytes: how many there are, in upper-case hexadecimal digits, and a line end (RFC 7230,
+/// section 4.1). A clause sees its bytes.
+#[derive(Drop)]
+pub struct SizeLine {
+    line: [u8; SIZE_LINE_LEN],
+    start: usize,
+}
+
+impl Model for SizeLine {
+    ghost use Rattle.std.specs.Prelude.{ℕ, ◌≤◌, List, drop};
+
+    ghost Value = { List ℕ };
+
+    ghost view = { λ s. drop s.start s.line };
+
+    ghost invariant = { λ s. s.start ≤ 18 };
+}
+
+impl SizeLine {
+    /// That of a chunk of so many bytes.
+    pub fn of(size: u64) -> SizeLine
+        ensures { result ≡ digits 16 true size ++ crlf_bytes }
+    {
+        let mut line = *b"0000000000000000\r\n";
+        let start = put_digits(size, &mut line);
+        SizeLine { line, start }
+    }
+
+    /// Its bytes.
+    pub fn as_slice(&self) -> &[u8]
+        ensures { result.now ≡ self.now }
+    {
+        &self.line[self.start..]
+    }
+}
 
 /// Puts a chunk: its length in upper-case hexadecimal digits, and its bytes. No bytes are no chunk, and take
 /// no memory.
@@ -20,10 +57,9 @@ pub(crate) fn put_chunk(out: &mut BytesMut, bytes: &[u8]) -> Result<(), NoMemory
     if bytes.is_empty() {
         return Ok(());
     }
-    let mut line = *b"0000000000000000\r\n";
-    let start = put_digits(bytes.len() as u64, &mut line);
+    let line = SizeLine::of(bytes.len() as u64);
     out.reserve(bytes.len() + SIZE_LINE_LEN + 2)?;
-    out.extend_reserved(&line[start..]);
+    out.extend_reserved(line.as_slice());
     out.extend_reserved(bytes);
     out.extend_reserved(b"\r\n");
     Ok(())

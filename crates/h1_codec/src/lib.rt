@@ -38,7 +38,8 @@ mod shape;
 
 pub use accept::put_accept;
 pub use asked::Asked;
-pub use body::{put_end, put_piece};
+pub use body::{first_bytes, put_end, put_piece};
+pub use chunk::SizeLine;
 pub use connection_type::type_of;
 pub use date::{DateLine, write_date_header};
 pub use encoder::{EncodeHead, MessageEncoder, TransferEncoding};

@@ -19,6 +19,7 @@ use Rattle.h1_machine.specs.Body.{passing}
 use Rattle.h1_machine.specs.Reply.{stated, completing, piece_sent, short_end}
 use Rattle.h1_machine.specs.Change.{IsChange}
 use Rattle.h1_decode.specs.declared.scan.HeadScan.{HeadScan}
+use Rattle.http_segments.specs.Queued.{Queued}
 use Rattle.h1_connection.specs.Meaning.{setting_of, end_of}
 use Rattle.h1_connection.specs.Parts.{kept_of, exchange_of, reply_of, asked_in, sending_in, sending_by, replied, completed, IsSettled, IsSound, Steps}
 use Rattle.h1_connection.specs.Unsent.{NoPieceBy, NoPieceOf, SendsNoPiece, NoEndBy, NoEndOf, SendsNoEnd}
@@ -49,22 +50,22 @@ abbrev pub text_by : Asked → AnswerHead → BodySize → model.ConnectionType 
 text_by asked head size kind moment = head_text asked.minor head (shape_of asked head size) size kind moment
 
 -- with its text behind what is to be written
-abbrev pub with_output : List ℕ → Parts → Parts
-with_output bytes p = record p { output = bytes }
+abbrev pub with_output : Queued → Parts → Parts
+with_output queue p = record p { output = queue }
 
-at_once_change : (set : Setting) (p : Parts) (x : Exchange) (head : AnswerHead) (size : BodySize) (kind : ConnectionType) (bytes : List ℕ)
+at_once_change : (set : Setting) (p : Parts) (x : Exchange) (head : AnswerHead) (size : BodySize) (kind : ConnectionType) (queue : Queued)
     → is_at_once size ≡ true → model_type kind ≡ type_of set p.is_draining x.request.asked head size
-    → bytes ≡ p.output ++ text_by x.request.asked head size (model_type kind) (now (kept_of p))
+    → queue.bytes ≡ p.output.bytes ++ text_by x.request.asked head size (model_type kind) (now (kept_of p))
     → IsChange set (kept_of (record p { exchange = Some x })) (on.answer head size)
-    (record { outcome = on.done; kept = passing (kept_of (completed kind (record p { exchange = Some x; output = bytes }))) })
-at_once_change set p x head size kind bytes once kind_is bytes_are =
+    (record { outcome = on.done; kept = passing (kept_of (completed kind (record p { exchange = Some x; output = queue }))) })
+at_once_change set p x head size kind queue once kind_is bytes_are =
     let asked = x.request.asked in
-    let all : bytes ≡ p.output ++ answer_head_text set p.is_draining asked head size (now (kept_of p)) =
-    bytes_are ∙ ap (λ (k : model.ConnectionType). p.output ++ text_by asked head size k (now (kept_of p))) kind_is in
+    let all : queue.bytes ≡ p.output.bytes ++ answer_head_text set p.is_draining asked head size (now (kept_of p)) =
+    bytes_are ∙ ap (λ (k : model.ConnectionType). p.output.bytes ++ text_by asked head size k (now (kept_of p))) kind_is in
     let type : model.ConnectionType = type_of set p.is_draining asked head size in
     (λ i. record {
       outcome = on.done;
-      kept = completing (kind_is i) (exchange_of x) (kept_of (record p { exchange = Some x; output = all i }));
+      kept = completing (kind_is i) (exchange_of x) (record (kept_of (record p { exchange = Some x })) { buffered = all i });
     }) ∙ sym (ap (λ (k : Kept). record { outcome = on.done; kept = k })
     (chosen (is_at_once size) _ _ once))
   where
@@ -72,20 +73,20 @@ at_once_change set p x head size kind bytes once kind_is bytes_are =
     chosen true m n is = refl
     chosen false m n is = absurd (cc is)
 
-later_change : (set : Setting) (p : Parts) (x : Exchange) (head : AnswerHead) (size : BodySize) (y : Sending) (bytes : List ℕ)
+later_change : (set : Setting) (p : Parts) (x : Exchange) (head : AnswerHead) (size : BodySize) (y : Sending) (queue : Queued)
     → is_at_once size ≡ false → model_type y.connection ≡ type_of set p.is_draining x.request.asked head size
     → model_shape y.shape ≡ shape_of x.request.asked head size → y.missing ≡ stated (model_shape y.shape)
-    → bytes ≡ p.output ++ text_by x.request.asked head size (model_type y.connection) (now (kept_of p))
+    → queue.bytes ≡ p.output.bytes ++ text_by x.request.asked head size (model_type y.connection) (now (kept_of p))
     → IsChange set (kept_of (record p { exchange = Some x })) (on.answer head size)
-    (record { outcome = on.done; kept = kept_of (record p { exchange = Some (record x { reply = GoesOut y }); output = bytes }) })
-later_change set p x head size y bytes later kind_is shape_is missing_is bytes_are =
+    (record { outcome = on.done; kept = kept_of (record p { exchange = Some (record x { reply = GoesOut y }); output = queue }) })
+later_change set p x head size y queue later kind_is shape_is missing_is bytes_are =
     let asked = x.request.asked in
-    let all : bytes ≡ p.output ++ answer_head_text set p.is_draining asked head size (now (kept_of p)) =
-    bytes_are ∙ ap (λ (k : model.ConnectionType). p.output ++ text_by asked head size k (now (kept_of p))) kind_is in
+    let all : queue.bytes ≡ p.output.bytes ++ answer_head_text set p.is_draining asked head size (now (kept_of p)) =
+    bytes_are ∙ ap (λ (k : model.ConnectionType). p.output.bytes ++ text_by asked head size k (now (kept_of p))) kind_is in
     let missing : y.missing ≡ stated (shape_of asked head size) = missing_is ∙ ap (λ (f : Shape). stated f) shape_is in
     (λ i. record {
       outcome = on.done;
-      kept = record (kept_of (record p { output = all i })) { exchange = Some (record (exchange_of x) { reply = machine.sending (shape_is i) (kind_is i) (missing i) }) };
+      kept = record (kept_of p) { buffered = all i; exchange = Some (record (exchange_of x) { reply = machine.sending (shape_is i) (kind_is i) (missing i) }) };
     }) ∙ sym (ap (λ (k : Kept). record { outcome = on.done; kept = k })
     (chosen (is_at_once size) _ _ later))
   where
@@ -106,44 +107,44 @@ some_asked : (e : Option Exchange) (asked : Asked) → asked_in e ≡ Some asked
 some_asked None asked is = absurd (cc is)
 some_asked (Some x) asked is = (x, refl, cc is)
 
-pub at_once_steps : (s : Settings) (p q : Parts) (asked : Asked) (head : AnswerHead) (size : BodySize) (kind : ConnectionType) (bytes : List ℕ)
+pub at_once_steps : (s : Settings) (p q : Parts) (asked : Asked) (head : AnswerHead) (size : BodySize) (kind : ConnectionType) (queue : Queued)
     → asked_in p.exchange ≡ Some asked → is_at_once size ≡ true → model_type kind ≡ type_of (setting_of s) p.is_draining asked head size
-    → bytes ≡ p.output ++ text_by asked head size (model_type kind) (now (kept_of p))
-    → IsSettled (setting_of s) (passing (kept_of (completed kind (with_output bytes p)))) q → Steps s p (on.answer head size) on.done q
-at_once_steps s p q asked head size kind bytes asks once kind_is bytes_are settled =
+    → queue.bytes ≡ p.output.bytes ++ text_by asked head size (model_type kind) (now (kept_of p))
+    → IsSettled (setting_of s) (passing (kept_of (completed kind (with_output queue p)))) q → Steps s p (on.answer head size) on.done q
+at_once_steps s p q asked head size kind queue asks once kind_is bytes_are settled =
     let e = some_asked p.exchange asked asks in
     let x = e.0 in
-    let c : Kept = passing (kept_of (completed kind (record p { exchange = Some x; output = bytes }))) in
+    let c : Kept = passing (kept_of (completed kind (record p { exchange = Some x; output = queue }))) in
     let kind_too = subst (λ (a : Asked). model_type kind ≡ type_of (setting_of s) p.is_draining a head size) (sym e.2) kind_is in
-    let bytes_too = subst (λ (a : Asked). bytes ≡ p.output ++ text_by a head size (model_type kind) (now (kept_of p))) (sym e.2) bytes_are in
+    let bytes_too = subst (λ (a : Asked). queue.bytes ≡ p.output.bytes ++ text_by a head size (model_type kind) (now (kept_of p))) (sym e.2) bytes_are in
     at_exchange s p q x (on.answer head size) on.done e.1
     (settled_step s (record p { exchange = Some x }) q (on.answer head size) on.done c c c.is_coming
-    (at_once_change (setting_of s) p x head size kind bytes once kind_too bytes_too) refl
-    (subst (λ (o : Option Exchange). IsSettled (setting_of s) (passing (kept_of (completed kind (record p { exchange = o; output = bytes })))) q) e.1 settled))
+    (at_once_change (setting_of s) p x head size kind queue once kind_too bytes_too) refl
+    (subst (λ (o : Option Exchange). IsSettled (setting_of s) (passing (kept_of (completed kind (record p { exchange = o; output = queue })))) q) e.1 settled))
 
 -- a body that is going out leaves whether the connection closes
-sending_noted : (set : Setting) (p : Parts) (x : Exchange) (r : Reply) (y : Sending) (bytes : List ℕ) → is_answered (reply_of r) ≡ false
-    → closing_by set (kept_of (record p { exchange = Some (record x { reply = GoesOut y }); output = bytes }))
+sending_noted : (set : Setting) (p : Parts) (x : Exchange) (r : Reply) (y : Sending) (queue : Queued) → is_answered (reply_of r) ≡ false
+    → closing_by set (kept_of (record p { exchange = Some (record x { reply = GoesOut y }); output = queue }))
     ≡ closing_by set (kept_of (record p { exchange = Some (record x { reply = r }) }))
 unfolding closing_by
-sending_noted set p x Unanswered y bytes unsent = refl
-sending_noted set p x (GoesOut z) y bytes unsent = refl
-sending_noted set p x (Answered kind) y bytes unsent = absurd (cc unsent)
+sending_noted set p x Unanswered y queue unsent = refl
+sending_noted set p x (GoesOut z) y queue unsent = refl
+sending_noted set p x (Answered kind) y queue unsent = absurd (cc unsent)
 
 -- where nothing of the exchange is done with, it isn't free
 pub not_free : (answered nothing : Bool) → answered ≡ false → (answered && nothing) ≡ false
 not_free true nothing is = absurd (cc is)
 not_free false nothing is = refl
 
-sending_sound : (s : Settings) (p : Parts) (x : Exchange) (y : Sending) (bytes : List ℕ) → p.exchange ≡ Some x → is_answered (reply_of x.reply) ≡ false → IsSound s p
-    → IsSound s (record p { exchange = Some (record x { reply = GoesOut y }); output = bytes })
-sending_sound s p x y bytes there unsent sound =
+sending_sound : (s : Settings) (p : Parts) (x : Exchange) (y : Sending) (queue : Queued) → p.exchange ≡ Some x → is_answered (reply_of x.reply) ≡ false → IsSound s p
+    → IsSound s (record p { exchange = Some (record x { reply = GoesOut y }); output = queue })
+sending_sound s p x y queue there unsent sound =
     let here = at_sound s p x there sound in
     record {
       moment = sound.moment;
       searched = here.searched ∙ not_free (is_answered (reply_of x.reply)) (is_nothing x.rest) unsent;
       scanned = sound.scanned;
-      noted = λ c. here.noted (sym (ap is_some (sending_noted (setting_of s) p x x.reply y bytes unsent)) ∙ c);
+      noted = λ c. here.noted (sym (ap is_some (sending_noted (setting_of s) p x x.reply y queue unsent)) ∙ c);
     }
 
 -- a request that waits for its answer has none
@@ -167,31 +168,31 @@ waiting_unsearched s p asked asks waits sound =
     let here = at_sound s p e.0 e.1 sound in
     nothing_found p.input.piece (here.searched ∙ not_free (is_answered (reply_of e.0.reply)) (is_nothing e.0.rest) (waiting_open p e.0 e.1 waits))
 
-pub later_steps : (s : Settings) (p : Parts) (asked : Asked) (head : AnswerHead) (size : BodySize) (y : Sending) (bytes : List ℕ)
+pub later_steps : (s : Settings) (p : Parts) (asked : Asked) (head : AnswerHead) (size : BodySize) (y : Sending) (queue : Queued)
     → asked_in p.exchange ≡ Some asked → waits_for_answer (kept_of p) ≡ true → is_at_once size ≡ false
     → model_type y.connection ≡ type_of (setting_of s) p.is_draining asked head size
     → model_shape y.shape ≡ shape_of asked head size → y.missing ≡ stated (model_shape y.shape)
-    → bytes ≡ p.output ++ text_by asked head size (model_type y.connection) (now (kept_of p)) → IsSound s p
-    → Steps s p (on.answer head size) on.done (record p { exchange = replied (GoesOut y) p.exchange; output = bytes })
-later_steps s p asked head size y bytes asks waits later kind_is shape_is missing_is bytes_are sound =
+    → queue.bytes ≡ p.output.bytes ++ text_by asked head size (model_type y.connection) (now (kept_of p)) → IsSound s p
+    → Steps s p (on.answer head size) on.done (record p { exchange = replied (GoesOut y) p.exchange; output = queue })
+later_steps s p asked head size y queue asks waits later kind_is shape_is missing_is bytes_are sound =
     let e = some_asked p.exchange asked asks in
     let x = e.0 in
-    let q : Parts = record p { exchange = Some (record x { reply = GoesOut y }); output = bytes } in
+    let q : Parts = record p { exchange = Some (record x { reply = GoesOut y }); output = queue } in
     let kind_too = subst (λ (a : Asked). model_type y.connection ≡ type_of (setting_of s) p.is_draining a head size) (sym e.2) kind_is in
     let shape_too = subst (λ (a : Asked). model_shape y.shape ≡ shape_of a head size) (sym e.2) shape_is in
-    let bytes_too = subst (λ (a : Asked). bytes ≡ p.output ++ text_by a head size (model_type y.connection) (now (kept_of p))) (sym e.2) bytes_are in
-    subst (λ (o : Option Exchange). Steps s p (on.answer head size) on.done (record p { exchange = replied (GoesOut y) o; output = bytes })) (sym e.1)
+    let bytes_too = subst (λ (a : Asked). queue.bytes ≡ p.output.bytes ++ text_by a head size (model_type y.connection) (now (kept_of p))) (sym e.2) bytes_are in
+    subst (λ (o : Option Exchange). Steps s p (on.answer head size) on.done (record p { exchange = replied (GoesOut y) o; output = queue })) (sym e.1)
     (at_exchange s p q x (on.answer head size) on.done e.1
     (quiet_step s (record p { exchange = Some x }) q (on.answer head size) on.done
-    (later_change (setting_of s) p x head size y bytes later kind_too shape_too missing_is bytes_too)
-    (sending_sound s p x y bytes e.1 (waiting_open p x e.1 waits) sound)))
+    (later_change (setting_of s) p x head size y queue later kind_too shape_too missing_is bytes_too)
+    (sending_sound s p x y queue e.1 (waiting_open p x e.1 waits) sound)))
 
-pub later_sound : (s : Settings) (p : Parts) (asked : Asked) (y : Sending) (bytes : List ℕ) → asked_in p.exchange ≡ Some asked → waits_for_answer (kept_of p) ≡ true
-    → IsSound s p → IsSound s (record p { exchange = replied (GoesOut y) p.exchange; output = bytes })
-later_sound s p asked y bytes asks waits sound =
+pub later_sound : (s : Settings) (p : Parts) (asked : Asked) (y : Sending) (queue : Queued) → asked_in p.exchange ≡ Some asked → waits_for_answer (kept_of p) ≡ true
+    → IsSound s p → IsSound s (record p { exchange = replied (GoesOut y) p.exchange; output = queue })
+later_sound s p asked y queue asks waits sound =
     let e = some_asked p.exchange asked asks in
-    subst (λ (o : Option Exchange). IsSound s (record p { exchange = replied (GoesOut y) o; output = bytes })) (sym e.1)
-    (sending_sound s p e.0 y bytes e.1 (waiting_open p e.0 e.1 waits) sound)
+    subst (λ (o : Option Exchange). IsSound s (record p { exchange = replied (GoesOut y) o; output = queue })) (sym e.1)
+    (sending_sound s p e.0 y queue e.1 (waiting_open p e.0 e.1 waits) sound)
 
 -- where no request was handed out, nothing is done
 pub no_answer : (s : Settings) (p : Parts) (head : AnswerHead) (size : BodySize) → asked_in p.exchange ≡ None → IsSound s p → Steps s p (on.answer head size) on.done p
@@ -207,7 +208,7 @@ no_answer s p head size asks sound = nothing p.exchange refl asks
 -- ---- a piece of the body, and its end
 
 -- the exchange whose answer's body is going out
-some_sending : (e : Option Exchange) (asked : Asked) (z : Sending) → asked_in e ≡ Some asked → sending_in e ≡ Some z
+pub some_sending : (e : Option Exchange) (asked : Asked) (z : Sending) → asked_in e ≡ Some asked → sending_in e ≡ Some z
     → (x : Exchange) × (e ≡ Some (record x { reply = GoesOut z })) × (x.request.asked ≡ asked)
 some_sending None asked z asks sends = absurd (cc asks)
 some_sending (Some x) asked z asks sends = (x, ap (λ (y : Exchange). Some y) (by_reply x.reply refl sends), cc asks)
@@ -229,26 +230,26 @@ sending_unsearched s p asked z asks sends sound =
 abbrev pub sent : Sending → ℕ → Sending
 sent z n = record z { missing = z.missing - n }
 
-pub chunk_sound : (s : Settings) (p : Parts) (asked : Asked) (z y : Sending) (bytes : List ℕ) → asked_in p.exchange ≡ Some asked → sending_in p.exchange ≡ Some z → IsSound s p
-    → IsSound s (record p { exchange = replied (GoesOut y) p.exchange; output = bytes })
-chunk_sound s p asked z y bytes asks sends sound =
+pub chunk_sound : (s : Settings) (p : Parts) (asked : Asked) (z y : Sending) (queue : Queued) → asked_in p.exchange ≡ Some asked → sending_in p.exchange ≡ Some z → IsSound s p
+    → IsSound s (record p { exchange = replied (GoesOut y) p.exchange; output = queue })
+chunk_sound s p asked z y queue asks sends sound =
     let e = some_sending p.exchange asked z asks sends in
-    subst (λ (o : Option Exchange). IsSound s (record p { exchange = replied (GoesOut y) o; output = bytes })) (sym e.1)
-    (sending_sound s p (record e.0 { reply = GoesOut z }) y bytes e.1 refl sound)
+    subst (λ (o : Option Exchange). IsSound s (record p { exchange = replied (GoesOut y) o; output = queue })) (sym e.1)
+    (sending_sound s p (record e.0 { reply = GoesOut z }) y queue e.1 refl sound)
 
-pub chunk_steps : (s : Settings) (p : Parts) (asked : Asked) (z y : Sending) (piece bytes : List ℕ) → asked_in p.exchange ≡ Some asked → sending_in p.exchange ≡ Some z
-    → bytes ≡ p.output ++ piece_sent asked (model_shape z.shape) z.missing piece → y ≡ sent z (length piece) → IsSound s p
-    → Steps s p (on.chunk piece) on.done (record p { exchange = replied (GoesOut y) p.exchange; output = bytes })
-chunk_steps s p asked z y piece bytes asks sends bytes_are y_is sound =
+pub chunk_steps : (s : Settings) (p : Parts) (asked : Asked) (z y : Sending) (piece : List ℕ) (queue : Queued) → asked_in p.exchange ≡ Some asked → sending_in p.exchange ≡ Some z
+    → queue.bytes ≡ p.output.bytes ++ piece_sent asked (model_shape z.shape) z.missing piece → y ≡ sent z (length piece) → IsSound s p
+    → Steps s p (on.chunk piece) on.done (record p { exchange = replied (GoesOut y) p.exchange; output = queue })
+chunk_steps s p asked z y piece queue asks sends bytes_are y_is sound =
     let e = some_sending p.exchange asked z asks sends in
     let x : Exchange = record e.0 { reply = GoesOut z } in
-    let bytes_too = subst (λ (a : Asked). bytes ≡ p.output ++ piece_sent a (model_shape z.shape) z.missing piece) (sym e.2) bytes_are in
-    let q : Parts = record p { exchange = Some (record x { reply = GoesOut y }); output = bytes } in
-    subst (λ (o : Option Exchange). Steps s p (on.chunk piece) on.done (record p { exchange = replied (GoesOut y) o; output = bytes })) (sym e.1)
+    let bytes_too = subst (λ (a : Asked). queue.bytes ≡ p.output.bytes ++ piece_sent a (model_shape z.shape) z.missing piece) (sym e.2) bytes_are in
+    let q : Parts = record p { exchange = Some (record x { reply = GoesOut y }); output = queue } in
+    subst (λ (o : Option Exchange). Steps s p (on.chunk piece) on.done (record p { exchange = replied (GoesOut y) o; output = queue })) (sym e.1)
     (at_exchange s p q x (on.chunk piece) on.done e.1
     (quiet_step s (record p { exchange = Some x }) q (on.chunk piece) on.done
-    (λ i. record { outcome = on.done; kept = kept_of (record p { exchange = Some (record x { reply = GoesOut (y_is i) }); output = bytes_too i }) })
-    (sending_sound s p x y bytes e.1 refl sound)))
+    (λ i. record { outcome = on.done; kept = record (kept_of (record p { exchange = Some (record x { reply = GoesOut (y_is i) }) })) { buffered = bytes_too i } })
+    (sending_sound s p x y queue e.1 refl sound)))
 
 -- where none is going out, nothing is done
 none_reply : (set : Setting) (p : Parts) (x : Exchange) (r : Reply) (piece : List ℕ) → sending_by r ≡ None
@@ -297,68 +298,68 @@ no_end s p sends sound = nothing p.exchange refl sends
         (record { outcome = on.done; kept = kept_of (record p { exchange = o }) })) (sym there) refl) sound
 
 -- the body's end
-pub end_steps : (s : Settings) (p q : Parts) (asked : Asked) (z : Sending) (bytes : List ℕ) (failed : Option End)
-    → asked_in p.exchange ≡ Some asked → sending_in p.exchange ≡ Some z → bytes ≡ p.output ++ sent_end asked (model_shape z.shape)
+pub end_steps : (s : Settings) (p q : Parts) (asked : Asked) (z : Sending) (queue : Queued) (failed : Option End)
+    → asked_in p.exchange ≡ Some asked → sending_in p.exchange ≡ Some z → queue.bytes ≡ p.output.bytes ++ sent_end asked (model_shape z.shape)
     → option_map end_of failed ≡ option_or (short_end asked (model_shape z.shape) z.missing) (option_map end_of p.failed)
-    → IsSettled (setting_of s) (passing (kept_of (completed z.connection (record p { output = bytes; failed = failed })))) q
+    → IsSettled (setting_of s) (passing (kept_of (completed z.connection (record p { output = queue; failed = failed })))) q
     → Steps s p on.body_end on.done q
-end_steps s p q asked z bytes failed asks sends bytes_are failed_is settled =
+end_steps s p q asked z queue failed asks sends bytes_are failed_is settled =
     let e = some_sending p.exchange asked z asks sends in
     let x : Exchange = record e.0 { reply = GoesOut z } in
-    let bytes_too = subst (λ (a : Asked). bytes ≡ p.output ++ sent_end a (model_shape z.shape)) (sym e.2) bytes_are in
+    let bytes_too = subst (λ (a : Asked). queue.bytes ≡ p.output.bytes ++ sent_end a (model_shape z.shape)) (sym e.2) bytes_are in
     let failed_too = subst (λ (a : Asked). option_map end_of failed ≡ option_or (short_end a (model_shape z.shape) z.missing) (option_map end_of p.failed)) (sym e.2) failed_is in
-    let c : Kept = passing (kept_of (completed z.connection (record p { exchange = Some x; output = bytes; failed = failed }))) in
+    let c : Kept = passing (kept_of (completed z.connection (record p { exchange = Some x; output = queue; failed = failed }))) in
     at_exchange s p q x on.body_end on.done e.1
     (settled_step s (record p { exchange = Some x }) q on.body_end on.done c c c.is_coming
     (λ i. record {
       outcome = on.done;
-      kept = completing (model_type z.connection) (exchange_of x) (record (kept_of (record p { exchange = Some x; output = bytes_too i })) { failed = failed_too i });
+      kept = completing (model_type z.connection) (exchange_of x) (record (kept_of (record p { exchange = Some x })) { buffered = bytes_too i; failed = failed_too i });
     }) refl
-    (subst (λ (o : Option Exchange). IsSettled (setting_of s) (passing (kept_of (completed z.connection (record p { exchange = o; output = bytes; failed = failed })))) q) e.1 settled))
+    (subst (λ (o : Option Exchange). IsSettled (setting_of s) (passing (kept_of (completed z.connection (record p { exchange = o; output = queue; failed = failed })))) q) e.1 settled))
 
 -- ---- the same of parts that are these
 
-pub chunked_steps : (s : Settings) (p q : Parts) (asked : Asked) (z y : Sending) (piece bytes : List ℕ) → asked_in p.exchange ≡ Some asked → sending_in p.exchange ≡ Some z
-    → bytes ≡ p.output ++ piece_sent asked (model_shape z.shape) z.missing piece → y ≡ sent z (length piece) → IsSound s p
-    → q ≡ record p { exchange = replied (GoesOut y) p.exchange; output = bytes } → Steps s p (on.chunk piece) on.done q
-chunked_steps s p q asked z y piece bytes asks sends bytes_are y_is sound is =
-    subst (λ (r : Parts). Steps s p (on.chunk piece) on.done r) (sym is) (chunk_steps s p asked z y piece bytes asks sends bytes_are y_is sound)
+pub chunked_steps : (s : Settings) (p q : Parts) (asked : Asked) (z y : Sending) (piece : List ℕ) (queue : Queued) → asked_in p.exchange ≡ Some asked → sending_in p.exchange ≡ Some z
+    → queue.bytes ≡ p.output.bytes ++ piece_sent asked (model_shape z.shape) z.missing piece → y ≡ sent z (length piece) → IsSound s p
+    → q ≡ record p { exchange = replied (GoesOut y) p.exchange; output = queue } → Steps s p (on.chunk piece) on.done q
+chunked_steps s p q asked z y piece queue asks sends bytes_are y_is sound is =
+    subst (λ (r : Parts). Steps s p (on.chunk piece) on.done r) (sym is) (chunk_steps s p asked z y piece queue asks sends bytes_are y_is sound)
 
-pub chunked_sound : (s : Settings) (p q : Parts) (asked : Asked) (z y : Sending) (bytes : List ℕ) → asked_in p.exchange ≡ Some asked → sending_in p.exchange ≡ Some z → IsSound s p
-    → q ≡ record p { exchange = replied (GoesOut y) p.exchange; output = bytes } → IsSound s q
-chunked_sound s p q asked z y bytes asks sends sound is = subst (λ (r : Parts). IsSound s r) (sym is) (chunk_sound s p asked z y bytes asks sends sound)
+pub chunked_sound : (s : Settings) (p q : Parts) (asked : Asked) (z y : Sending) (queue : Queued) → asked_in p.exchange ≡ Some asked → sending_in p.exchange ≡ Some z → IsSound s p
+    → q ≡ record p { exchange = replied (GoesOut y) p.exchange; output = queue } → IsSound s q
+chunked_sound s p q asked z y queue asks sends sound is = subst (λ (r : Parts). IsSound s r) (sym is) (chunk_sound s p asked z y queue asks sends sound)
 
 -- what a short body leaves
-pub short_parts_piece : (p m : Parts) (bytes : List ℕ) → m ≡ record p { output = bytes; failed = m.failed } → p.input.piece ≡ None → m.input.piece ≡ None
-short_parts_piece p m bytes is none = ap (λ (r : Parts). r.input.piece) is ∙ none
+pub short_parts_piece : (p m : Parts) (queue : Queued) → m ≡ record p { output = queue; failed = m.failed } → p.input.piece ≡ None → m.input.piece ≡ None
+short_parts_piece p m queue is none = ap (λ (r : Parts). r.input.piece) is ∙ none
 
-pub ended_steps : (s : Settings) (p m q : Parts) (asked : Asked) (z : Sending) (bytes : List ℕ)
-    → asked_in p.exchange ≡ Some asked → sending_in p.exchange ≡ Some z → bytes ≡ p.output ++ sent_end asked (model_shape z.shape)
+pub ended_steps : (s : Settings) (p m q : Parts) (asked : Asked) (z : Sending) (queue : Queued)
+    → asked_in p.exchange ≡ Some asked → sending_in p.exchange ≡ Some z → queue.bytes ≡ p.output.bytes ++ sent_end asked (model_shape z.shape)
     → option_map end_of m.failed ≡ option_or (short_end asked (model_shape z.shape) z.missing) (option_map end_of p.failed)
-    → m ≡ record p { output = bytes; failed = m.failed }
+    → m ≡ record p { output = queue; failed = m.failed }
     → IsSettled (setting_of s) (passing (kept_of (completed z.connection m))) q → Steps s p on.body_end on.done q
-ended_steps s p m q asked z bytes asks sends bytes_are failed is settled =
-    end_steps s p q asked z bytes m.failed asks sends bytes_are failed
+ended_steps s p m q asked z queue asks sends bytes_are failed is settled =
+    end_steps s p q asked z queue m.failed asks sends bytes_are failed
     (subst (λ (r : Parts). IsSettled (setting_of s) (passing (kept_of (completed z.connection r))) q) is settled)
 
-pub ended_sound : (s : Settings) (p m q : Parts) (z : Sending) (bytes : List ℕ) → IsSound s p → m ≡ record p { output = bytes; failed = m.failed }
+pub ended_sound : (s : Settings) (p m q : Parts) (z : Sending) (queue : Queued) → IsSound s p → m ≡ record p { output = queue; failed = m.failed }
     → IsSettled (setting_of s) (passing (kept_of (completed z.connection m))) q → IsSound s q
-ended_sound s p m q z bytes sound is settled =
+ended_sound s p m q z queue sound is settled =
     complete_sound s m q z.connection (subst (λ (k : Kept). now k < MAX_MOMENT) (sym (ap (λ (r : Parts). kept_of r) is)) sound.moment) settled
 
-pub later_steps_by : (s : Settings) (p q : Parts) (asked : Asked) (head : AnswerHead) (size : BodySize) (y : Sending) (bytes : List ℕ)
+pub later_steps_by : (s : Settings) (p q : Parts) (asked : Asked) (head : AnswerHead) (size : BodySize) (y : Sending) (queue : Queued)
     → asked_in p.exchange ≡ Some asked → waits_for_answer (kept_of p) ≡ true → is_at_once size ≡ false
     → model_type y.connection ≡ type_of (setting_of s) p.is_draining asked head size
     → model_shape y.shape ≡ shape_of asked head size → y.missing ≡ stated (model_shape y.shape)
-    → bytes ≡ p.output ++ text_by asked head size (model_type y.connection) (now (kept_of p)) → IsSound s p
-    → q ≡ record p { exchange = replied (GoesOut y) p.exchange; output = bytes } → Steps s p (on.answer head size) on.done q
-later_steps_by s p q asked head size y bytes asks waits later kind_is shape_is missing_is bytes_are sound is =
+    → queue.bytes ≡ p.output.bytes ++ text_by asked head size (model_type y.connection) (now (kept_of p)) → IsSound s p
+    → q ≡ record p { exchange = replied (GoesOut y) p.exchange; output = queue } → Steps s p (on.answer head size) on.done q
+later_steps_by s p q asked head size y queue asks waits later kind_is shape_is missing_is bytes_are sound is =
     subst (λ (r : Parts). Steps s p (on.answer head size) on.done r) (sym is)
-    (later_steps s p asked head size y bytes asks waits later kind_is shape_is missing_is bytes_are sound)
+    (later_steps s p asked head size y queue asks waits later kind_is shape_is missing_is bytes_are sound)
 
-pub later_sound_by : (s : Settings) (p q : Parts) (asked : Asked) (y : Sending) (bytes : List ℕ) → asked_in p.exchange ≡ Some asked
-    → waits_for_answer (kept_of p) ≡ true → IsSound s p → q ≡ record p { exchange = replied (GoesOut y) p.exchange; output = bytes } → IsSound s q
-later_sound_by s p q asked y bytes asks waits sound is = subst (λ (r : Parts). IsSound s r) (sym is) (later_sound s p asked y bytes asks waits sound)
+pub later_sound_by : (s : Settings) (p q : Parts) (asked : Asked) (y : Sending) (queue : Queued) → asked_in p.exchange ≡ Some asked
+    → waits_for_answer (kept_of p) ≡ true → IsSound s p → q ≡ record p { exchange = replied (GoesOut y) p.exchange; output = queue } → IsSound s q
+later_sound_by s p q asked y queue asks waits sound is = subst (λ (r : Parts). IsSound s r) (sym is) (later_sound s p asked y queue asks waits sound)
 
 -- ---- where nothing goes out
 

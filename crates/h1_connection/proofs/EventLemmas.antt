@@ -12,6 +12,7 @@ use Rattle.h1_machine.specs.Kept.{Kept, Change, Rest, no_rest, raw_rest, fixed_r
 use Rattle.h1_machine.specs.Local.{closing_by}
 use Rattle.h1_machine.specs.Body.{passing}
 use Rattle.h1_machine.specs.Change.{IsChange, noting_since, ending_input, exchange_at_end}
+use Rattle.http_segments.specs.Queued.{Queued}
 use Rattle.h1_connection.specs.Incoming.{Incoming, is_coming_in, IsFound}
 use Rattle.h1_connection.specs.Meaning.{setting_of}
 use Rattle.h1_connection.specs.Parts.{kept_of, exchange_of, reply_of, ended_exchange, dropped, with_continue, MayBeSearched, IsNoted, IsSound, IsSettled, Steps, StepsIn}
@@ -150,14 +151,15 @@ drop_sound s p q sound kept input =
 -- ---- writes
 
 -- what is to be written is no matter for why it closes
-output_sound : (s : Settings) (p : Parts) (bytes : List ℕ) → IsSound s p → IsSound s (record p { output = bytes })
+output_sound : (s : Settings) (p : Parts) (queue : Queued) → IsSound s p → IsSound s (record p { output = queue })
 unfolding closing_by
-output_sound s p bytes sound = record { moment = sound.moment; searched = sound.searched; scanned = sound.scanned; noted = sound.noted }
+output_sound s p queue sound = record { moment = sound.moment; searched = sound.searched; scanned = sound.scanned; noted = sound.noted }
 
-pub write_sound : (s : Settings) (p : Parts) (bytes : List ℕ) → IsSound s p → IsSound s (record p { output = bytes })
-write_sound s p bytes sound = output_sound s p bytes sound
+pub write_sound : (s : Settings) (p : Parts) (queue : Queued) → IsSound s p → IsSound s (record p { output = queue })
+write_sound s p queue sound = output_sound s p queue sound
 
-pub write_steps : (s : Settings) (p : Parts) (limit : ℕ) (given rest : List ℕ) → IsSound s p → given ≡ take limit p.output → rest ≡ drop limit p.output
+pub write_steps : (s : Settings) (p : Parts) (limit : ℕ) (given : List ℕ) (rest : Queued) → IsSound s p → given ≡ take limit p.output.bytes
+    → rest.bytes ≡ drop limit p.output.bytes
     → Steps s p (on.write limit) (on.gave given) (record p { output = rest })
 write_steps s p limit given rest sound given_is rest_is =
     quiet_step s p (record p { output = rest }) (on.write limit) (on.gave given)
@@ -165,34 +167,34 @@ write_steps s p limit given rest sound given_is rest_is =
 
 -- ---- the interim line
 
-told_reply : (set : Setting) (p : Parts) (x : Exchange) (r : Reply) (bytes : List ℕ) → IsNoted set (kept_of (record p { exchange = Some (record x { reply = r }) }))
-    → IsNoted set (kept_of (record p { exchange = Some (record x { reply = r; had_continue = true }); output = bytes }))
+told_reply : (set : Setting) (p : Parts) (x : Exchange) (r : Reply) (queue : Queued) → IsNoted set (kept_of (record p { exchange = Some (record x { reply = r }) }))
+    → IsNoted set (kept_of (record p { exchange = Some (record x { reply = r; had_continue = true }); output = queue }))
 unfolding closing_by
-told_reply set p x Unanswered bytes noted = noted
-told_reply set p x (Sending y) bytes noted = noted
-told_reply set p x (Answered kind) bytes noted = noted
+told_reply set p x Unanswered queue noted = noted
+told_reply set p x (Sending y) queue noted = noted
+told_reply set p x (Answered kind) queue noted = noted
 
-told_sound : (s : Settings) (p : Parts) (x : Exchange) (bytes : List ℕ) → p.exchange ≡ Some x → IsSound s p
-    → IsSound s (record p { exchange = Some (record x { had_continue = true }); output = bytes })
-told_sound s p x bytes there sound =
+told_sound : (s : Settings) (p : Parts) (x : Exchange) (queue : Queued) → p.exchange ≡ Some x → IsSound s p
+    → IsSound s (record p { exchange = Some (record x { had_continue = true }); output = queue })
+told_sound s p x queue there sound =
     let was : IsSound s (record p { exchange = Some x }) = subst (λ (e : Option Exchange). IsSound s (record p { exchange = e })) there sound in
-    record { moment = was.moment; searched = was.searched; scanned = was.scanned; noted = told_reply (setting_of s) p x x.reply bytes was.noted }
+    record { moment = was.moment; searched = was.searched; scanned = was.scanned; noted = told_reply (setting_of s) p x x.reply queue was.noted }
 
-pub continue_sound : (s : Settings) (p : Parts) (bytes : List ℕ) → IsSound s p → IsSound s (record p { exchange = with_continue p.exchange; output = bytes })
-continue_sound s p bytes sound = of_exchange p.exchange refl
+pub continue_sound : (s : Settings) (p : Parts) (queue : Queued) → IsSound s p → IsSound s (record p { exchange = with_continue p.exchange; output = queue })
+continue_sound s p queue sound = of_exchange p.exchange refl
   where
-    of_exchange : (x : Option Exchange) → p.exchange ≡ x → IsSound s (record p { exchange = with_continue x; output = bytes })
-    of_exchange None there = subst (λ (e : Option Exchange). IsSound s (record p { exchange = e; output = bytes })) there (output_sound s p bytes sound)
-    of_exchange (Some x) there = told_sound s p x bytes there sound
+    of_exchange : (x : Option Exchange) → p.exchange ≡ x → IsSound s (record p { exchange = with_continue x; output = queue })
+    of_exchange None there = subst (λ (e : Option Exchange). IsSound s (record p { exchange = e; output = queue })) there (output_sound s p queue sound)
+    of_exchange (Some x) there = told_sound s p x queue there sound
 
-pub continue_steps : (s : Settings) (p : Parts) (x : Exchange) (bytes : List ℕ) → IsSound s p → p.exchange ≡ Some x → bytes ≡ p.output ++ interim_text
-    → Steps s p on.send_continue on.done (record p { exchange = with_continue p.exchange; output = bytes })
-continue_steps s p x bytes sound there bytes_are =
-    quiet_step s p (record p { exchange = with_continue p.exchange; output = bytes }) on.send_continue on.done
+pub continue_steps : (s : Settings) (p : Parts) (x : Exchange) (queue : Queued) → IsSound s p → p.exchange ≡ Some x → queue.bytes ≡ p.output.bytes ++ interim_text
+    → Steps s p on.send_continue on.done (record p { exchange = with_continue p.exchange; output = queue })
+continue_steps s p x queue sound there bytes_are =
+    quiet_step s p (record p { exchange = with_continue p.exchange; output = queue }) on.send_continue on.done
     (subst (λ (e : Option Exchange). IsChange (setting_of s) (kept_of (record p { exchange = e })) on.send_continue
-    (record { outcome = on.done; kept = kept_of (record p { exchange = with_continue e; output = bytes }) })) (sym there)
-    (λ i. record { outcome = on.done; kept = kept_of (record p { exchange = with_continue (Some x); output = bytes_are i }) }))
-    (continue_sound s p bytes sound)
+    (record { outcome = on.done; kept = kept_of (record p { exchange = with_continue e; output = queue }) })) (sym there)
+    (λ i. record { outcome = on.done; kept = record (kept_of (record p { exchange = with_continue (Some x) })) { buffered = bytes_are i } }))
+    (continue_sound s p queue sound)
 
 -- where no request was handed out, nothing is done
 pub no_continue : (s : Settings) (p : Parts) → IsSound s p → p.exchange ≡ None → Steps s p on.send_continue on.done p
@@ -220,16 +222,16 @@ none_told s p sound none = no_continue s p sound (of_none p.exchange none)
     of_none None is = refl
     of_none (Some x) is = absurd (cc is)
 
-pub told_steps : (s : Settings) (p q : Parts) (bytes : List ℕ) → IsSound s p → is_some p.exchange ≡ true → bytes ≡ p.output ++ interim_text
-    → q ≡ record p { exchange = with_continue p.exchange; output = bytes } → Steps s p on.send_continue on.done q
-told_steps s p q bytes sound some bytes_are is = subst (λ (r : Parts). Steps s p on.send_continue on.done r) (sym is) (of_some p.exchange refl some)
+pub told_steps : (s : Settings) (p q : Parts) (queue : Queued) → IsSound s p → is_some p.exchange ≡ true → queue.bytes ≡ p.output.bytes ++ interim_text
+    → q ≡ record p { exchange = with_continue p.exchange; output = queue } → Steps s p on.send_continue on.done q
+told_steps s p q queue sound some bytes_are is = subst (λ (r : Parts). Steps s p on.send_continue on.done r) (sym is) (of_some p.exchange refl some)
   where
-    of_some : (e : Option Exchange) → p.exchange ≡ e → is_some e ≡ true → Steps s p on.send_continue on.done (record p { exchange = with_continue p.exchange; output = bytes })
+    of_some : (e : Option Exchange) → p.exchange ≡ e → is_some e ≡ true → Steps s p on.send_continue on.done (record p { exchange = with_continue p.exchange; output = queue })
     of_some None there is = absurd (cc is)
-    of_some (Some x) there is = continue_steps s p x bytes sound there bytes_are
+    of_some (Some x) there is = continue_steps s p x queue sound there bytes_are
 
-pub told_sound_by : (s : Settings) (p q : Parts) (bytes : List ℕ) → IsSound s p → q ≡ record p { exchange = with_continue p.exchange; output = bytes } → IsSound s q
-told_sound_by s p q bytes sound is = subst (λ (r : Parts). IsSound s r) (sym is) (continue_sound s p bytes sound)
+pub told_sound_by : (s : Settings) (p q : Parts) (queue : Queued) → IsSound s p → q ≡ record p { exchange = with_continue p.exchange; output = queue } → IsSound s q
+told_sound_by s p q queue sound is = subst (λ (r : Parts). IsSound s r) (sym is) (continue_sound s p queue sound)
 
 pub eof_may_by : (s : Settings) (p m : Parts) → IsSound s p → m ≡ ended_parts p → MayBeSearched m
 eof_may_by s p m sound is = subst (λ (r : Parts). MayBeSearched r) (sym is) (eof_may s p sound)

@@ -21,6 +21,7 @@ use Rattle.h1_machine.specs.Kept.{Kept, Change, Rest, no_rest, raw_rest, fixed_r
 use Rattle.h1_machine.specs.Local.{closing_by, waits_for_answer}
 use Rattle.h1_machine.specs.Pull as pulls
 use Rattle.h1_decode.specs.declared.scan.HeadScan.{HeadScan}
+use Rattle.http_segments.specs.Queued.{Queued}
 use Rattle.ws_frames.specs.Refusal.{refusal}
 use Rattle.ws_frames.specs.Sent.{sending_after}
 use Rattle.ws_frames.specs.declared.error.ProtocolError.{ProtocolError}
@@ -63,24 +64,24 @@ waiting_none s p x there waits sound =
     nothing_found p.input.piece ((at_sound s p x there sound).searched ∙ not_free (is_answered (reply_of x.reply)) (is_nothing x.rest) (waiting_open p x there waits))
 
 -- the parts whose frames are read from now on
-abbrev pub framed : Parts → ℕ → List ℕ → Parts
-framed p limit bytes = record p { output = bytes; exchange = with_frames limit p.exchange }
+abbrev pub framed : Parts → ℕ → Queued → Parts
+framed p limit queue = record p { output = queue; exchange = with_frames limit p.exchange }
 
-framed_searched : (s : Settings) (p : Parts) (x : Exchange) (limit : ℕ) (bytes : List ℕ) → p.exchange ≡ Some x → waits_for_answer (kept_of p) ≡ true → IsSound s p
-    → is_some p.input.piece ≡ is_free (kept_of (framed (record p { exchange = Some x }) limit bytes))
-framed_searched s p x limit bytes there waits sound =
+framed_searched : (s : Settings) (p : Parts) (x : Exchange) (limit : ℕ) (queue : Queued) → p.exchange ≡ Some x → waits_for_answer (kept_of p) ≡ true → IsSound s p
+    → is_some p.input.piece ≡ is_free (kept_of (framed (record p { exchange = Some x }) limit queue))
+framed_searched s p x limit queue there waits sound =
     ap is_some (waiting_none s p x there waits sound) ∙ sym (not_free (is_answered (reply_of x.reply)) false (waiting_open p x there waits))
 
-framed_change : (set : Setting) (p : Parts) (x : Exchange) (limit : ℕ) (bytes : List ℕ) → x.request.refusal ≡ None → x.request.asked.is_raw ≡ true
+framed_change : (set : Setting) (p : Parts) (x : Exchange) (limit : ℕ) (queue : Queued) → x.request.refusal ≡ None → x.request.asked.is_raw ≡ true
     → ((setting : Setting) (draining : Bool)
-    → bytes ≡ p.output ++ answer_head_text setting draining x.request.asked (accepting_head (key_or_zeros x.request.accept_key)) size_stream (now (kept_of p)))
+    → queue.bytes ≡ p.output.bytes ++ answer_head_text setting draining x.request.asked (accepting_head (key_or_zeros x.request.accept_key)) size_stream (now (kept_of p)))
     → IsChange set (kept_of (record p { exchange = Some x })) (on.accept limit)
-    (record { outcome = on.done; kept = kept_of (framed (record p { exchange = Some x }) limit bytes) })
-framed_change set p x limit bytes none raw text =
+    (record { outcome = on.done; kept = kept_of (framed (record p { exchange = Some x }) limit queue) })
+framed_change set p x limit queue none raw text =
     let k : Kept = kept_of (record p { exchange = Some x }) in
-    let all : bytes ≡ p.output ++ answer_head_text set p.is_draining x.request.asked (accepting_head (key_bytes x.request.asked.is_raw x.request.accept_key)) size_stream (now k) =
+    let all : queue.bytes ≡ p.output.bytes ++ answer_head_text set p.is_draining x.request.asked (accepting_head (key_bytes x.request.asked.is_raw x.request.accept_key)) size_stream (now k) =
     text set p.is_draining
-    ∙ ap (λ (b : Bool). p.output ++ answer_head_text set p.is_draining x.request.asked (accepting_head (key_bytes b x.request.accept_key)) size_stream (now k)) (sym raw) in
+    ∙ ap (λ (b : Bool). p.output.bytes ++ answer_head_text set p.is_draining x.request.asked (accepting_head (key_bytes b x.request.accept_key)) size_stream (now k)) (sym raw) in
     (λ i. record { outcome = on.done; kept = record k { buffered = all i; exchange = Some (record (exchange_of x) { rest = frames_rest false limit }) } })
     ∙ ap (λ (o : Option HandshakeError). accepting set limit (exchange_of x) k (option_map failing_of o)) (sym none)
 
@@ -101,41 +102,41 @@ upgrades p request is raw =
       },
     )
 
-pub framed_may : (s : Settings) (p m : Parts) (request : Request) (limit : ℕ) (bytes : List ℕ) → m ≡ framed p limit bytes → request_in p.exchange ≡ Some request
+pub framed_may : (s : Settings) (p m : Parts) (request : Request) (limit : ℕ) (queue : Queued) → m ≡ framed p limit queue → request_in p.exchange ≡ Some request
     → waits_for_answer (kept_of p) ≡ true → IsSound s p → MayBeSearched m
-framed_may s p m request limit bytes is asks waits sound =
+framed_may s p m request limit queue is asks waits sound =
     let e = some_request p.exchange request asks in
     λ busy. ap (λ (r : Parts). r.input.piece) is ∙ waiting_none s p e.0 e.1 waits sound
 
-pub framed_steps : (s : Settings) (p m q : Parts) (request : Request) (limit : ℕ) (bytes : List ℕ) → IsSound s p → waits_for_answer (kept_of p) ≡ true
+pub framed_steps : (s : Settings) (p m q : Parts) (request : Request) (limit : ℕ) (queue : Queued) → IsSound s p → waits_for_answer (kept_of p) ≡ true
     → is_raw_request (kept_of p) ≡ true → request_in p.exchange ≡ Some request → request.refusal ≡ None
     → ((setting : Setting) (draining : Bool)
-    → bytes ≡ p.output ++ answer_head_text setting draining request.asked (accepting_head (key_or_zeros request.accept_key)) size_stream (now (kept_of p)))
-    → m ≡ framed p limit bytes → kept_of q ≡ noting_since (setting_of s) (kept_of m) → q.input ≡ m.input → Steps s p (on.accept limit) on.done q
-framed_steps s p m q request limit bytes sound waits raw asks none text is kept input =
+    → queue.bytes ≡ p.output.bytes ++ answer_head_text setting draining request.asked (accepting_head (key_or_zeros request.accept_key)) size_stream (now (kept_of p)))
+    → m ≡ framed p limit queue → kept_of q ≡ noting_since (setting_of s) (kept_of m) → q.input ≡ m.input → Steps s p (on.accept limit) on.done q
+framed_steps s p m q request limit queue sound waits raw asks none text is kept input =
     let e = upgrades p request asks raw in
     let x = e.0 in
     let u = e.1 in
-    let same : m ≡ framed (record p { exchange = Some x }) limit bytes = is ∙ ap (λ (o : Option Exchange). framed (record p { exchange = o }) limit bytes) u.there in
+    let same : m ≡ framed (record p { exchange = Some x }) limit queue = is ∙ ap (λ (o : Option Exchange). framed (record p { exchange = o }) limit queue) u.there in
     let none_too : x.request.refusal ≡ None = ap (λ (r : Request). r.refusal) u.asks ∙ none in
     let text_too : (setting : Setting) (draining : Bool)
-    → bytes ≡ p.output ++ answer_head_text setting draining x.request.asked (accepting_head (key_or_zeros x.request.accept_key)) size_stream (now (kept_of p)) =
+    → queue.bytes ≡ p.output.bytes ++ answer_head_text setting draining x.request.asked (accepting_head (key_or_zeros x.request.accept_key)) size_stream (now (kept_of p)) =
     subst (λ (r : Request). (setting : Setting) (draining : Bool)
-    → bytes ≡ p.output ++ answer_head_text setting draining r.asked (accepting_head (key_or_zeros r.accept_key)) size_stream (now (kept_of p))) (sym u.asks) text in
+    → queue.bytes ≡ p.output.bytes ++ answer_head_text setting draining r.asked (accepting_head (key_or_zeros r.accept_key)) size_stream (now (kept_of p))) (sym u.asks) text in
     at_exchange s p q x (on.accept limit) on.done u.there
-    (noted_step s (record p { exchange = Some x }) (framed (record p { exchange = Some x }) limit bytes) q (on.accept limit) on.done
-    (framed_change (setting_of s) p x limit bytes none_too u.raw text_too)
+    (noted_step s (record p { exchange = Some x }) (framed (record p { exchange = Some x }) limit queue) q (on.accept limit) on.done
+    (framed_change (setting_of s) p x limit queue none_too u.raw text_too)
     (kept ∙ ap (λ (r : Parts). noting_since (setting_of s) (kept_of r)) same) (input ∙ ap (λ (r : Parts). r.input) same)
-    (framed_searched s p x limit bytes u.there waits sound) sound.scanned)
+    (framed_searched s p x limit queue u.there waits sound) sound.scanned)
 
-pub framed_sound : (s : Settings) (p m q : Parts) (request : Request) (limit : ℕ) (bytes : List ℕ) → IsSound s p → waits_for_answer (kept_of p) ≡ true
-    → request_in p.exchange ≡ Some request → m ≡ framed p limit bytes → kept_of q ≡ noting_since (setting_of s) (kept_of m) → q.input ≡ m.input → IsSound s q
-framed_sound s p m q request limit bytes sound waits asks is kept input =
+pub framed_sound : (s : Settings) (p m q : Parts) (request : Request) (limit : ℕ) (queue : Queued) → IsSound s p → waits_for_answer (kept_of p) ≡ true
+    → request_in p.exchange ≡ Some request → m ≡ framed p limit queue → kept_of q ≡ noting_since (setting_of s) (kept_of m) → q.input ≡ m.input → IsSound s q
+framed_sound s p m q request limit queue sound waits asks is kept input =
     let e = some_request p.exchange request asks in
-    let same : m ≡ framed (record p { exchange = Some e.0 }) limit bytes = is ∙ ap (λ (o : Option Exchange). framed (record p { exchange = o }) limit bytes) e.1 in
-    noted_sound s (framed (record p { exchange = Some e.0 }) limit bytes) q sound.moment
+    let same : m ≡ framed (record p { exchange = Some e.0 }) limit queue = is ∙ ap (λ (o : Option Exchange). framed (record p { exchange = o }) limit queue) e.1 in
+    noted_sound s (framed (record p { exchange = Some e.0 }) limit queue) q sound.moment
     (kept ∙ ap (λ (r : Parts). noting_since (setting_of s) (kept_of r)) same) (input ∙ ap (λ (r : Parts). r.input) same)
-    (framed_searched s p e.0 limit bytes e.1 waits sound) sound.scanned
+    (framed_searched s p e.0 limit queue e.1 waits sound) sound.scanned
 
 -- it is refused
 pub refused_steps : (s : Settings) (p : Parts) (request : Request) (limit : ℕ) (error : HandshakeError) → IsSound s p → request_in p.exchange ≡ Some request
@@ -267,10 +268,10 @@ light_frame p x there light =
 
 -- ---- messages
 
-sent_change : (set : Setting) (p : Parts) (m : Message) (bytes : List ℕ) (sending : Bool) → send_error p.is_sending m ≡ None
-    → bytes ≡ p.output ++ message_text m → sending ≡ sending_after p.is_sending m
-    → IsChange set (kept_of p) (on.send m) (record { outcome = on.done; kept = kept_of (record p { output = bytes; is_sending = sending }) })
-sent_change set p m bytes sending none bytes_are sending_is =
+sent_change : (set : Setting) (p : Parts) (m : Message) (queue : Queued) (sending : Bool) → send_error p.is_sending m ≡ None
+    → queue.bytes ≡ p.output.bytes ++ message_text m → sending ≡ sending_after p.is_sending m
+    → IsChange set (kept_of p) (on.send m) (record { outcome = on.done; kept = kept_of (record p { output = queue; is_sending = sending }) })
+sent_change set p m queue sending none bytes_are sending_is =
     (λ i. record { outcome = on.done; kept = record (kept_of p) { buffered = bytes_are i; is_sending = (sending_is ∙ after m) i } })
     ∙ ap (λ (o : Option Rule). sending_message m (kept_of p) o) (sym none)
   where
@@ -278,19 +279,19 @@ sent_change set p m bytes sending none bytes_are sending_is =
     after (frame f) = refl
     after nop = refl
 
-sent_sound_at : (s : Settings) (p : Parts) (bytes : List ℕ) (sending : Bool) → IsSound s p → IsSound s (record p { output = bytes; is_sending = sending })
+sent_sound_at : (s : Settings) (p : Parts) (queue : Queued) (sending : Bool) → IsSound s p → IsSound s (record p { output = queue; is_sending = sending })
 unfolding closing_by
-sent_sound_at s p bytes sending sound = record { moment = sound.moment; searched = sound.searched; scanned = sound.scanned; noted = sound.noted }
+sent_sound_at s p queue sending sound = record { moment = sound.moment; searched = sound.searched; scanned = sound.scanned; noted = sound.noted }
 
-pub sent_sound : (s : Settings) (p q : Parts) (bytes : List ℕ) (sending : Bool) → q ≡ record p { output = bytes; is_sending = sending } → IsSound s p → IsSound s q
-sent_sound s p q bytes sending is sound = subst (λ (r : Parts). IsSound s r) (sym is) (sent_sound_at s p bytes sending sound)
+pub sent_sound : (s : Settings) (p q : Parts) (queue : Queued) (sending : Bool) → q ≡ record p { output = queue; is_sending = sending } → IsSound s p → IsSound s q
+sent_sound s p q queue sending is sound = subst (λ (r : Parts). IsSound s r) (sym is) (sent_sound_at s p queue sending sound)
 
-pub sent_steps : (s : Settings) (p : Parts) (m : Message) (bytes : List ℕ) (sending : Bool) → send_error p.is_sending m ≡ None
-    → bytes ≡ p.output ++ message_text m → sending ≡ sending_after p.is_sending m → IsSound s p
-    → Steps s p (on.send m) on.done (record p { output = bytes; is_sending = sending })
-sent_steps s p m bytes sending none bytes_are sending_is sound =
-    quiet_step s p (record p { output = bytes; is_sending = sending }) (on.send m) on.done
-    (sent_change (setting_of s) p m bytes sending none bytes_are sending_is) (sent_sound_at s p bytes sending sound)
+pub sent_steps : (s : Settings) (p : Parts) (m : Message) (queue : Queued) (sending : Bool) → send_error p.is_sending m ≡ None
+    → queue.bytes ≡ p.output.bytes ++ message_text m → sending ≡ sending_after p.is_sending m → IsSound s p
+    → Steps s p (on.send m) on.done (record p { output = queue; is_sending = sending })
+sent_steps s p m queue sending none bytes_are sending_is sound =
+    quiet_step s p (record p { output = queue; is_sending = sending }) (on.send m) on.done
+    (sent_change (setting_of s) p m queue sending none bytes_are sending_is) (sent_sound_at s p queue sending sound)
 
 -- the rule that a message breaks
 broken_rule : (o : Option Rule) (error : ProtocolError) → option_map refusal o ≡ Some error → (rule : Rule) × (o ≡ Some rule) × (error ≡ refusal rule)

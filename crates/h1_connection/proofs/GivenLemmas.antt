@@ -252,4 +252,4 @@ fail_given s q x = runs_allowed (setting_of s) (kept_of q) on.body_error x.over 
 
 pub chunk_given : (s : Settings) (q : Parts) (bytes : List ℕ) → HasWriteRoom (state_of s q) → IsSendingBody (setting_of s) (kept_of q) → IsAllowed (state_of s q) (on.chunk bytes)
 chunk_given s q bytes room x =
-    runs_allowed (setting_of s) (kept_of q) (on.chunk bytes) x.over x.runs (both_true _ _ x.answering (lt-ltb (length q.output) s.h1_write_buffer_size room))
+    runs_allowed (setting_of s) (kept_of q) (on.chunk bytes) x.over x.runs (both_true _ _ x.answering (lt-ltb (length q.output.bytes) s.h1_write_buffer_size room))

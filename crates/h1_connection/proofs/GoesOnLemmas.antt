@@ -18,6 +18,11 @@ use Rattle.h1_machine.specs.Change.{IsPulling}
 use Rattle.h1_machine.specs.Pull.{Pulled}
 use Rattle.h1_machine.proofs.Stands.{closing_of_trace, allowed_of_trace, a_step_is_there, step_outcome, step_state}
 use Rattle.h1_machine.proofs.KeptBounds.{unread_bounded}
+use Rattle.h1_chunks.specs.Runs.{Run}
+use Rattle.h1_segment_model.specs.Runs.{first_segment}
+use Rattle.h1_segment_model.specs.Marks.{front_of}
+use Rattle.h1_segment_model.specs.After.{marks_after}
+use Rattle.h1_segment_model.proofs.Goes.{marks_go}
 use Rattle.h1_payload.specs.Rests.{SaysPulled}
 use Rattle.h1_payload.specs.declared.pulled.Pulled.{Pulled as Answer}
 use Rattle.std.proofs.lemmas.Bool.{ltb-true}
@@ -28,10 +33,11 @@ use Rattle.h1_connection.specs.Parts.{kept_of, IsSound, Steps, StepsIn}
 use Rattle.h1_connection.specs.Frames.{is_raw_request}
 use Rattle.h1_connection.specs.Pulls.{IsPullFrom, IsPullOf}
 use Rattle.h1_connection.specs.Heads.{IsHeld, IsNexted, SaysNext}
-use Rattle.h1_connection.specs.State.{State, IsAllowed, IsFrameAllowed, Stands, GoesOn, ReadsIn, Is}
+use Rattle.h1_connection.specs.State.{State, IsAllowed, IsFrameAllowed, Stands, IsMarked, GoesOn, ReadsIn, Is}
 use Rattle.h1_connection.specs.declared.connection.heads.NextHead.{NextHead}
 use Rattle.h1_connection.specs.declared.connection.heads.NextHead.TheVariants as next
 use Rattle.h1_connection.specs.declared.connection.parts.Parts.{Parts}
+use Rattle.h1_connection.proofs.MarkLemmas.{MarksGo, quiet_pull}
 use Rattle.h1_connection.proofs.ResultLemmas.{err_map}
 
 -- ---- results
@@ -44,23 +50,29 @@ still_sound (Err e) s p q was sound same = subst (λ (p : Parts). IsSound s p) (
 -- ---- a state
 
 abbrev pub state_of : Settings → Parts → State
-state_of s p = record { settings = s; kept = kept_of p }
+state_of s p = record { settings = s; kept = kept_of p; marks = p.output.marks }
 
 -- an error changes nothing
 pub same_state : {A E : Type 0} (r : Result A E) (s : Settings) (p q : Parts) (now : State) → state_of s p ≡ now → OnErr r (q ≡ p) → OnErr r (state_of s q ≡ now)
 same_state r s p q now view same = err_map r (q ≡ p) (state_of s q ≡ now) (λ e. ap (λ (p : Parts). state_of s p) e ∙ view) same
 
-goes_from : (s : Settings) (p q : Parts) (event : on.Event) (out : on.Outcome) → Steps s p event out q
+goes_from : (s : Settings) (p q : Parts) (event : on.Event) (out : on.Outcome) → Steps s p event out q → MarksGo p event out q
     → IsAllowed (state_of s p) event → GoesOn (state_of s p) event (Is out) (state_of s q)
-goes_from s p q event out steps allowed = λ trace stands.
+goes_from s p q event out steps marks allowed = λ trace stands.
     let set = setting_of s in
-    (out, refl, step_outcome set (kept_of p) (kept_of q) trace event out stands allowed steps, step_state set (kept_of p) (kept_of q) trace event out stands allowed steps)
+    (
+      out,
+      refl,
+      step_outcome set (kept_of p) (kept_of q) trace event out stands allowed steps,
+      step_state set (kept_of p) (kept_of q) trace event out stands allowed steps,
+      λ marked. marks ∙ ap (λ (l : List Run). marks_after (kept_of p) event out l) marked ∙ marks_go set (kept_of p) trace event out stands allowed,
+    )
 
 -- a step of the parts is one of the connection
 pub goes_on : (now : State) (s : Settings) (p q : Parts) (event : on.Event) (out : on.Outcome) → state_of s p ≡ now
-    → IsAllowed now event → Steps s p event out q → GoesOn now event (Is out) (state_of s q)
-goes_on now s p q event out view allowed steps =
-    subst (λ (m : State). IsAllowed m event → GoesOn m event (Is out) (state_of s q)) view (goes_from s p q event out steps) allowed
+    → IsAllowed now event → Steps s p event out q → MarksGo p event out q → GoesOn now event (Is out) (state_of s q)
+goes_on now s p q event out view allowed steps marks =
+    subst (λ (m : State). IsAllowed m event → GoesOn m event (Is out) (state_of s q)) view (goes_from s p q event out steps marks) allowed
 
 -- what is said of the connection is said of its parts
 pub allowed_parts : (now : State) (s : Settings) (p : Parts) (event : on.Event) → state_of s p ≡ now → IsAllowed now event → IsAllowed (state_of s p) event
@@ -74,30 +86,30 @@ unfolding allowed_by
 any_read now bytes allowed = allowed
 
 pub reads_in : (now : State) (s : Settings) (p q : Parts) (bytes : List ℕ) → state_of s p ≡ now → IsAllowed now (on.read []) → StepsIn s p bytes q
-    → ReadsIn now bytes (state_of s q)
-reads_in now s p q [] view allowed same = ap (λ (p : Parts). state_of s p) same ∙ view
-reads_in now s p q (b ∷ bytes) view allowed steps =
-    goes_on now s p q (on.read (b ∷ bytes)) (on.took (length (b ∷ bytes))) view (any_read now (b ∷ bytes) allowed) steps
+    → q.output.marks ≡ p.output.marks → ReadsIn now bytes (state_of s q)
+reads_in now s p q [] view allowed same marks = ap (λ (p : Parts). state_of s p) same ∙ view
+reads_in now s p q (b ∷ bytes) view allowed steps marks =
+    goes_on now s p q (on.read (b ∷ bytes)) (on.took (length (b ∷ bytes))) view (any_read now (b ∷ bytes) allowed) steps marks
 
 -- ---- the next head
 
-head_from : (s : Settings) (p q : Parts) (answer : NextHead) → (IsHeld s p → IsNexted s p answer q) → IsAllowed (state_of s p) on.next
+head_from : (s : Settings) (p q : Parts) (answer : NextHead) → (IsHeld s p → IsNexted s p answer q) → q.output.marks ≡ p.output.marks → IsAllowed (state_of s p) on.next
     → GoesOn (state_of s p) on.next (SaysNext answer) (state_of s q)
-head_from s p q (next.Head item) nexted allowed = λ trace stands.
+head_from s p q (next.Head item) nexted marks allowed = λ trace stands.
     let n = nexted (unread_bounded (setting_of s) (kept_of p) trace stands) in
-    let goes = goes_from s p q on.next (on.head n.0) n.2 allowed trace stands in
-    (goes.0, (n.0, n.1, goes.1), goes.2, goes.3)
-head_from s p q (next.Fault fault) nexted allowed = λ trace stands.
-    goes_from s p q on.next (on.fault (fault_of fault)) (nexted (unread_bounded (setting_of s) (kept_of p) trace stands)) allowed trace stands
-head_from s p q next.Pending nexted allowed = λ trace stands.
-    goes_from s p q on.next on.pending (nexted (unread_bounded (setting_of s) (kept_of p) trace stands)) allowed trace stands
-head_from s p q (next.Closed end) nexted allowed = λ trace stands.
-    goes_from s p q on.next (on.closed (end_of end)) (nexted (unread_bounded (setting_of s) (kept_of p) trace stands)) allowed trace stands
+    let goes = goes_from s p q on.next (on.head n.0) n.2 marks allowed trace stands in
+    (goes.0, (n.0, n.1, goes.1), goes.2, goes.3, goes.4)
+head_from s p q (next.Fault fault) nexted marks allowed = λ trace stands.
+    goes_from s p q on.next (on.fault (fault_of fault)) (nexted (unread_bounded (setting_of s) (kept_of p) trace stands)) marks allowed trace stands
+head_from s p q next.Pending nexted marks allowed = λ trace stands.
+    goes_from s p q on.next on.pending (nexted (unread_bounded (setting_of s) (kept_of p) trace stands)) marks allowed trace stands
+head_from s p q (next.Closed end) nexted marks allowed = λ trace stands.
+    goes_from s p q on.next (on.closed (end_of end)) (nexted (unread_bounded (setting_of s) (kept_of p) trace stands)) marks allowed trace stands
 
 pub head_goes_on : (now : State) (s : Settings) (p q : Parts) (answer : NextHead) → state_of s p ≡ now → IsAllowed now on.next
-    → (IsHeld s p → IsNexted s p answer q) → GoesOn now on.next (SaysNext answer) (state_of s q)
-head_goes_on now s p q answer view allowed nexted =
-    subst (λ (m : State). IsAllowed m on.next → GoesOn m on.next (SaysNext answer) (state_of s q)) view (head_from s p q answer nexted) allowed
+    → (IsHeld s p → IsNexted s p answer q) → q.output.marks ≡ p.output.marks → GoesOn now on.next (SaysNext answer) (state_of s q)
+head_goes_on now s p q answer view allowed nexted marks =
+    subst (λ (m : State). IsAllowed m on.next → GoesOn m on.next (SaysNext answer) (state_of s q)) view (head_from s p q answer nexted marks) allowed
 
 -- ---- pulls
 
@@ -145,31 +157,31 @@ pulling_case k (Some x) c opened pulling = (pulling.0, pulling.1)
 
 pull_from : (s : Settings) (p q : Parts) (answer : Answer)
     → ((r : Pulled) → IsPullOf (kept_of p) r → SaysPulled answer r.outcome × Steps s p on.pull r.outcome q)
-    → IsAllowed (state_of s p) on.drop_body → GoesOn (state_of s p) on.pull (SaysPulled answer) (state_of s q)
-pull_from s p q answer pulled allowed = λ trace stands.
+    → q.output.marks ≡ p.output.marks → IsAllowed (state_of s p) on.drop_body → GoesOn (state_of s p) on.pull (SaysPulled answer) (state_of s q)
+pull_from s p q answer pulled marks allowed = λ trace stands.
     let set = setting_of s in
     let may = body_pulled (state_of s p) allowed in
     let there = a_step_is_there set (kept_of p) trace on.pull stands may in
     let r = pulling_case (kept_of p) (kept_of p).exchange there.2.change (body_open s p allowed) there.2.changes in
     let x = pulled r.0 r.1 in
-    let goes = goes_from s p q on.pull r.0.outcome x.1 may trace stands in
-    (goes.0, subst (λ (o : on.Outcome). SaysPulled answer o) (sym goes.1) x.0, goes.2, goes.3)
+    let goes = goes_from s p q on.pull r.0.outcome x.1 (marks ∙ quiet_pull answer r.0.outcome p.output.marks x.0) may trace stands in
+    (goes.0, subst (λ (o : on.Outcome). SaysPulled answer o) (sym goes.1) x.0, goes.2, goes.3, goes.4)
 
 pub pull_goes_on : (now : State) (s : Settings) (p q : Parts) (answer : Answer) → state_of s p ≡ now → IsAllowed now on.drop_body
     → ((r : Pulled) → IsPullOf (kept_of p) r → SaysPulled answer r.outcome × Steps s p on.pull r.outcome q)
-    → GoesOn now on.pull (SaysPulled answer) (state_of s q)
-pull_goes_on now s p q answer view allowed pulled =
+    → q.output.marks ≡ p.output.marks → GoesOn now on.pull (SaysPulled answer) (state_of s q)
+pull_goes_on now s p q answer view allowed pulled marks =
     subst (λ (m : State). IsAllowed m on.drop_body → GoesOn m on.pull (SaysPulled answer) (state_of s q)) view
-    (pull_from s p q answer pulled) allowed
+    (pull_from s p q answer pulled marks) allowed
 
 -- ---- frames, and messages
 
 -- a step with one of these outcomes
 pub some_goes_on : (now : State) (s : Settings) (p q : Parts) (event : on.Event) (Says : on.Outcome → Type 0) → state_of s p ≡ now → IsAllowed now event
-    → ((out : on.Outcome) × Says out × Steps s p event out q) → GoesOn now event Says (state_of s q)
-some_goes_on now s p q event Says view allowed steps = λ trace stands.
-    let goes = goes_on now s p q event steps.0 view allowed steps.2 trace stands in
-    (goes.0, subst Says (sym goes.1) steps.1, goes.2, goes.3)
+    → ((out : on.Outcome) → Says out → MarksGo p event out q) → ((out : on.Outcome) × Says out × Steps s p event out q) → GoesOn now event Says (state_of s q)
+some_goes_on now s p q event Says view allowed marks steps = λ trace stands.
+    let goes = goes_on now s p q event steps.0 view allowed steps.2 (marks steps.0 steps.1) trace stands in
+    (goes.0, subst Says (sym goes.1) steps.1, goes.2, goes.3, goes.4)
 
 -- a frame may be asked for on a WebSocket alone
 pub frame_pulled : (now : State) → IsFrameAllowed now → IsAllowed now on.pull
@@ -247,6 +259,11 @@ closing_traced now trace past stands is_past = closing_of_trace (setting_of now.
 pub buffered_traced : (now : State) (trace : List sums.Step) → Stands now trace → now.kept.buffered ≡ buffered (setting_of now.settings) trace
 buffered_traced now trace stands =
     ap (λ (k : Kept). k.buffered) stands.parts ∙ ap (λ (t : List sums.Step). buffered (setting_of now.settings) t) stands.of_trace.same
+
+-- the first segment of it
+pub front_traced : (now : State) (trace : List sums.Step) → Stands now trace → IsMarked now trace
+    → first_segment now.marks now.kept.buffered ≡ front_of (setting_of now.settings) trace
+front_traced now trace stands marked = λ i. first_segment (marked i) (buffered_traced now trace stands i)
 
 -- what is held
 pub held_traced : (now : State) (trace : List sums.Step) → Stands now trace → length now.kept.unread ≤ (setting_of now.settings).hold_size

@@ -235,3 +235,9 @@ pub whole_found : (front bytes : List ℕ) (i : Incoming) (search after : Search
     → incoming front bytes after ≡ incoming front bytes search → after ≡ Done scan → ((start end : ℕ) → ¬ (scan.piece ≡ Piece start end)) → ¬ (IsWhole i)
 whole_found front bytes i search after scan view same is none whole =
     no_piece i scan scan.piece (ap (λ (j : Incoming). j.piece) (sym view ∙ sym same) ∙ ap (piece_of (front ++ bytes)) is) refl none whole
+
+-- where no whole head is there
+pub no_head_in : (i : Incoming) (piece : Option HeadScan) → is_coming_in piece ≡ false → IsHeadIn i piece None
+no_head_in i None none = refl
+no_head_in i (Some Open) none = refl
+no_head_in i (Some (Piece start end)) none = absurd (cc none)

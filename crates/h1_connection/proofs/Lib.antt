@@ -5,6 +5,8 @@ pub mod TickLemmas
 pub mod AnswerLemmas
 pub mod PullLemmas
 pub mod HeadLemmas
+pub mod MarkLemmas
+pub mod OutputLemmas
 pub mod ResultLemmas
 pub mod GoesOnLemmas
 pub mod GivenLemmas

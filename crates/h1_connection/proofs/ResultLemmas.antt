@@ -10,6 +10,10 @@ pub ok_both : {A E : Type 0} (r : Result A E) (P : A → Type 0) (Q : Type 0) (R
 ok_both (Ok a) P Q R f x y = f a x y
 ok_both (Err e) P Q R f x y = tt
 
+pub ok_two : {A E : Type 0} (r : Result A E) (P Q R : A → Type 0) → ((a : A) → P a → Q a → R a) → IfOk r P → IfOk r Q → IfOk r R
+ok_two (Ok a) P Q R f x y = f a x y
+ok_two (Err e) P Q R f x y = tt
+
 pub on_map : {A E : Type 0} (r : Result A E) (P Q : Type 0) → (P → Q) → OnOk r P → OnOk r Q
 on_map (Ok a) P Q f x = f x
 on_map (Err e) P Q f x = tt
@@ -17,6 +21,10 @@ on_map (Err e) P Q f x = tt
 pub on_ok : {A E : Type 0} (r : Result A E) (P : A → Type 0) (Q : Type 0) → ((a : A) → P a → Q) → IfOk r P → OnOk r Q
 on_ok (Ok a) P Q f x = f a x
 on_ok (Err e) P Q f x = tt
+
+pub on_any : {A E : Type 0} (r : Result A E) (P : Type 0) → P → OnOk r P
+on_any (Ok a) P x = x
+on_any (Err e) P x = tt
 
 pub on_both : {A E : Type 0} (r : Result A E) (P Q R : Type 0) → (P → Q → R) → OnOk r P → OnOk r Q → OnOk r R
 on_both (Ok a) P Q R f x y = f x y

@@ -12,6 +12,7 @@ use Rattle.h1_machine.specs.Body.{passing}
 use Rattle.h1_machine.specs.Change.{IsChange, IsComing, noting_since}
 use Rattle.h1_decode.specs.declared.scan.HeadScan.{HeadScan}
 use Rattle.h1_decode.specs.declared.scan.HeadScan.TheVariants.{Open, Piece}
+use Rattle.http_segments.specs.Queued.{Queued}
 use Rattle.h1_connection.specs.Incoming.{Incoming, is_coming_in, IsFoundIn, IsFound}
 use Rattle.h1_connection.specs.Meaning.{setting_of}
 use Rattle.h1_connection.specs.Parts.{kept_of, passed_by, MayBeSearched, IsNoted, IsSound, IsSearchedFor, IsSettled, Steps}
@@ -188,23 +189,23 @@ pass_none p none =
 
 -- ---- a new connection
 
-fresh_sound : (s : Settings) (bytes : List ℕ) → IsFoundIn [] (Some Open)
+fresh_sound : (s : Settings) (queue : Queued) → IsFoundIn [] (Some Open)
     → IsSound s (record {
       input = record { unread = []; piece = Some Open };
       has_ended = false;
       is_draining = false;
       is_over = false;
       exchange = None;
-      output = bytes;
+      output = queue;
       is_sending = false;
       clock = record { first = None; last = None; completed = None };
       failed = None;
       closing_since = None;
     })
 unfolding closing_by
-fresh_sound s bytes none = record { moment = lit< tt; searched = refl; scanned = none; noted = λ is. absurd (cc is) }
+fresh_sound s queue none = record { moment = lit< tt; searched = refl; scanned = none; noted = λ is. absurd (cc is) }
 
-pub new_sound : (s : Settings) (i : Incoming) (bytes : List ℕ) (k : Clock) → i ≡ record { unread = []; piece = Some Open } → IsFound i
+pub new_sound : (s : Settings) (i : Incoming) (queue : Queued) (k : Clock) → i ≡ record { unread = []; piece = Some Open } → IsFound i
     → k ≡ record { first = None; last = None; completed = None }
     → IsSound s (record {
       input = i;
@@ -212,20 +213,20 @@ pub new_sound : (s : Settings) (i : Incoming) (bytes : List ℕ) (k : Clock) →
       is_draining = false;
       is_over = false;
       exchange = None;
-      output = bytes;
+      output = queue;
       is_sending = false;
       clock = k;
       failed = None;
       closing_since = None;
     })
-new_sound s i bytes k input found clock =
+new_sound s i queue k input found clock =
     let made : Incoming → Clock → Parts = λ j t. record {
       input = j;
       has_ended = false;
       is_draining = false;
       is_over = false;
       exchange = None;
-      output = bytes;
+      output = queue;
       is_sending = false;
       clock = t;
       failed = None;
@@ -233,4 +234,4 @@ new_sound s i bytes k input found clock =
     } in
     subst (λ (t : Clock). IsSound s (made i t)) (sym clock)
     (subst (λ (j : Incoming). IsSound s (made j (record { first = None; last = None; completed = None }))) (sym input)
-    (fresh_sound s bytes (subst (λ (j : Incoming). IsFound j) input found)))
+    (fresh_sound s queue (subst (λ (j : Incoming). IsFound j) input found)))

@@ -2,6 +2,7 @@ pub mod Meaning
 pub mod Scan
 pub mod Incoming
 pub mod Readings
+pub mod Sent
 pub mod Parts
 pub mod Frames
 pub mod Ticks

@@ -1,12 +1,14 @@
--- A connection as its contracts see it: its settings, and what the machine keeps.
+-- A connection as its contracts see it: its settings, what the machine keeps, and which of the bytes that wait are body bytes.
 use Rattle.std.specs.Prelude.{◌≡◌, ◌<◌, ℕ, List, [], ◌∷◌, length, take, true, IsTrue, ⊤}
 use Rattle.http_config.specs.Config.{Settings}
+use Rattle.h1_chunks.specs.Runs.{Run}
 use Rattle.h1_model.specs.Event as on
 use Rattle.h1_model.specs.Sums as sums
 use Rattle.h1_model.specs.Trace.{IsOutcome}
 use Rattle.h1_machine.specs.Kept.{Kept, fresh}
 use Rattle.h1_machine.specs.Local.{allowed_by}
 use Rattle.h1_machine.specs.StandsFor.{StandsFor}
+use Rattle.h1_segment_model.specs.Marks.{buffered_runs}
 use Rattle.h1_connection.specs.Meaning.{setting_of}
 use Rattle.h1_connection.specs.Heads.{NeedsNoMemory}
 use Rattle.h1_connection.specs.Given.{next_allowed, frame_allowed}
@@ -18,10 +20,11 @@ use Rattle.h1_connection.specs.Unsent.{SendsNoPiece, SendsNoEnd}
 pub record State : Type 0 where
   pub settings : Settings
   pub kept : Kept
+  pub marks : List Run
 
 -- a connection to which nothing came
 abbrev pub fresh_state : Settings → State
-fresh_state settings = record { settings = settings; kept = fresh }
+fresh_state settings = record { settings = settings; kept = fresh; marks = [] }
 
 -- the event is allowed
 abbrev pub IsAllowed : State → on.Event → Type 0
@@ -43,13 +46,18 @@ HasWriteRoom state = length state.kept.buffered < state.settings.h1_write_buffer
 abbrev pub Stands : State → List sums.Step → Type 0
 Stands state trace = StandsFor (setting_of state.settings) state.kept trace
 
+-- the body bytes among those that wait are the trace's, piece by piece
+abbrev pub IsMarked : State → List sums.Step → Type 0
+IsMarked state trace = state.marks ≡ buffered_runs (setting_of state.settings) trace
+
 -- Behind each trace that the connection stands for, the table's outcome is such a one, and the connection stands for
--- the longer trace.
+-- the longer trace, also with the places of the body bytes among those that wait.
 abbrev pub GoesOn : State → on.Event → (on.Outcome → Type 0) → State → Type 0
 GoesOn state event Says after =
     (trace : List sums.Step) → Stands state trace
     → (out : on.Outcome) × Says out × IsOutcome (setting_of state.settings) trace event out
     × Stands after (record { event = event; outcome = out } ∷ trace)
+    × (IsMarked state trace → IsMarked after (record { event = event; outcome = out } ∷ trace))
 
 -- The event takes no memory: the input's end, a drop, a drain, an answer's body that fails; a next one that closes, or
 -- finds no head and room for more bytes; a pull that tells the end or a fault, or gives nothing; a piece or an end of

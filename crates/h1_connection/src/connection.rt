@@ -12,6 +12,8 @@ ghost use Rattle.h1_model.specs.Text.{buffered};
 ghost use Rattle.h1_model.specs.Trace as traces;
 ghost use Rattle.h1_model.specs.Event as on;
 ghost use Rattle.h1_machine.specs.Local.{closing_by, allowed_by};
+ghost use Rattle.h1_segment_model.specs.Runs.{first_segment, IsFirstSegment};
+ghost use Rattle.h1_segment_model.specs.Marks.{front_of};
 ghost use Rattle.h1_payload.specs.Rests.{SaysPulled};
 ghost use Rattle.h1_connection.specs.Meaning.{setting_of, event_of, end_of};
 ghost use Rattle.h1_connection.specs.Heads.{SaysNext, NeedsNoMemory, with_head, KeepsItem, LosesAtMostHeaders};
@@ -21,7 +23,7 @@ ghost use Rattle.h1_connection.specs.Pulls.{IsLightPull};
 ghost use Rattle.h1_connection.specs.Unsent.{SendsNoPiece, SendsNoEnd};
 ghost use Rattle.h1_connection.specs.Ticks.{expiry_of, IsQuietTick};
 ghost use Rattle.h1_connection.specs.Given.{is_head, is_head_kind};
-ghost use Rattle.h1_connection.specs.State.{fresh_state, IsAllowed, IsNextAllowed, IsFrameAllowed, HasWriteRoom, Stands, GoesOn, ReadsIn, Is};
+ghost use Rattle.h1_connection.specs.State.{fresh_state, IsAllowed, IsNextAllowed, IsFrameAllowed, HasWriteRoom, Stands, IsMarked, GoesOn, ReadsIn, Is};
 
 use crate::connection::clock::Clock;
 pub use crate::connection::frames::{Accepted, PulledFrame, Sent};
@@ -31,7 +33,7 @@ use crate::connection::output::Output;
 use crate::connection::parts::Parts;
 pub use crate::connection::ticks::Expiry;
 use crate::{End, Event, ReadFromError};
-use bytes::Bytes;
+use bytes::{Bytes, BytesMut};
 use h1_decode::{HeadItem, HeadRoom};
 use h1_payload::Pulled;
 use http_framing::BodySize;
@@ -69,7 +71,7 @@ pub const READ_SIZE: usize = 8192;
 /// Each event has a call of its own, which may be made where `allowed` says so. What it answers is what the tables
 /// over all that happened say. After an error all is as before: memory ran out, or a source failed or found no room.
 ///
-/// A clause sees it as its settings and what the machine keeps.
+/// A clause sees it as its settings, what the machine keeps, and the places of body bytes among those that wait.
 #[derive(Drop)]
 pub struct Connection {
     alloc: Global,
@@ -83,7 +85,7 @@ impl Model for Connection {
 
     ghost Value = { State };
 
-    ghost view = { λ c. record { settings = c.config; kept = kept_of c.parts } };
+    ghost view = { λ c. record { settings = c.config; kept = kept_of c.parts; marks = c.parts.output.marks } };
 
     ghost invariant = { λ c. IsSound c.config c.parts };
 }
@@ -333,7 +335,8 @@ impl Connection {
         self.parts.chunk(&self.config, bytes)
     }
 
-    /// The next bytes of the answer's body, in memory that may be shared. They are still copied, as `chunk` copies them.
+    /// The next bytes of the answer's body, without a copy where there are as many as are worth it. Where none of them goes
+    /// out, it takes no memory.
     pub fn chunk_bytes(&mut self, bytes: Bytes) -> Result<(), NoMemory>
         requires can_chunk { IsAllowed self.old (on.chunk bytes) }
         ensures stands { OnOk result (GoesOn self.old (on.chunk bytes) (Is on.done) self.new) }
@@ -344,7 +347,7 @@ impl Connection {
         ensures no_memory_needed { SendsNoPiece self.old.kept bytes → IsOk result }
         ensures err { OnErr result (self.new ≡ self.old) }
     {
-        self.chunk(bytes.as_slice())
+        self.parts.chunk_bytes(&self.config, bytes)
     }
 
     /// The answer's body is whole. Where its end isn't written, it takes no memory.
@@ -374,15 +377,40 @@ impl Connection {
         ensures fits { length result.now ≤ length self.now.kept.buffered }
         ensures some { length result.now ≡ 0 → length self.now.kept.buffered ≡ 0 }
     {
-        self.front()
+        self.parts.output.stretch()
     }
 
-    /// All bytes that wait to be written to the peer, oldest first.
+    /// The first segment of the bytes that wait to be written: all that are left of one piece of a body, as it was handed
+    /// in, where such a byte stands first, and else what stands in front of the next piece. It is empty only where none
+    /// waits.
     pub fn front(&self) -> &[u8]
-        ensures value { result.now ≡ self.now.kept.buffered }
-        ensures traced { (trace : List sums.Step) → Stands self.now trace → result.now ≡ buffered (setting_of self.now.settings) trace }
+        ensures value { result.now ≡ first_segment self.now.marks self.now.kept.buffered }
+        ensures traced { (trace : List sums.Step) → Stands self.now trace → IsMarked self.now trace → result.now ≡ front_of (setting_of self.now.settings) trace }
+        ensures segment { IsFirstSegment self.now.marks self.now.kept.buffered result.now }
+        ensures first { (rest : List ℕ) × (result.now ++ rest ≡ self.now.kept.buffered) }
+        ensures fits { length result.now ≤ length self.now.kept.buffered }
+        ensures some { length result.now ≡ 0 → length self.now.kept.buffered ≡ 0 }
     {
-        self.parts.output.as_slice()
+        self.parts.output.front()
+    }
+
+    /// Copies the first bytes that wait to be written to the front of `room`, as many as fit, and says how many. They wait
+    /// on. The rest of `room` stays as it is. It takes no memory.
+    pub fn peek_into(&self, room: &mut [u8]) -> usize
+        ensures count { result ≡ min (length room.old) (length self.now.kept.buffered) }
+        ensures copied { take result room.new ≡ take (length room.old) self.now.kept.buffered }
+        ensures rest { drop result room.new ≡ drop result room.old }
+    {
+        self.parts.output.peek_into(room)
+    }
+
+    /// A copy of all bytes that wait to be written, oldest first. They wait on.
+    pub fn copy_buffered(&self) -> Result<Bytes, NoMemory>
+        ensures { IfOk result (λ bytes. bytes ≡ self.now.kept.buffered) }
+    {
+        let mut copy = BytesMut::zeroed(self.alloc, self.buffered())?;
+        self.peek_into(copy.as_mut_slice());
+        copy.freeze_to(self.buffered())
     }
 
     /// The first `count` bytes of `stretch` were written: the write of as many, whose bytes nobody asks for. It takes no

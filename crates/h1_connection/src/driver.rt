@@ -6,7 +6,6 @@ ghost use Rattle.h1_connection.specs.Run.{IsWhole, IsStop, AreAllowed, IsFirstRe
 ghost use Rattle.h1_connection.specs.Steps.{paired, Notes};
 
 use crate::{Connection, DriveError, Event, Noted, Outcome, Steps, Trace};
-use bytes::Bytes;
 use http_types::{NoMemory, ServiceConfig};
 use std::alloc::Global;
 
@@ -27,13 +26,13 @@ pub fn drive<'a>(
     let mut outcomes = Vec::with_capacity(alloc, events.len())?;
     for (index, event) in events.iter().enumerate() {
         if !connection.allowed(event) {
-            let trace = trace_of(alloc, &connection, events, outcomes)?;
+            let trace = trace_of(&connection, events, outcomes)?;
             return Err(DriveError::Misplaced(index, trace));
         }
         let outcome = connection.step(event)?;
         note(alloc, &mut outcomes, outcome)?;
     }
-    let trace = trace_of(alloc, &connection, events, outcomes)?;
+    let trace = trace_of(&connection, events, outcomes)?;
     Ok(trace)
 }
 
@@ -48,7 +47,6 @@ fn note(alloc: Global, outcomes: &mut Vec<Noted>, outcome: Outcome) -> Result<()
 
 // The trace of these outcomes behind their events, which left the connection as it is.
 fn trace_of<'a>(
-    alloc: Global,
     connection: &Connection,
     events: &'a [Event],
     outcomes: Vec<Noted>,
@@ -58,7 +56,7 @@ fn trace_of<'a>(
     ensures buffered { IfOk result (λ trace. trace.buffered ≡ connection.now.kept.buffered) }
     ensures closing { IfOk result (λ trace. option_map end_of trace.closing ≡ closing_by (setting_of connection.now.settings) connection.now.kept) }
 {
-    let buffered = Bytes::copy_from_slice(alloc, connection.front())?;
+    let buffered = connection.copy_buffered()?;
     Ok(Trace {
         steps: Steps::new(events, outcomes),
         buffered,

@@ -40,7 +40,7 @@ fn is_answered(
         return Ok(false);
     }
     connection.answer(head, BodySize::ZERO)?;
-    Ok(connection.front().starts_with(text))
+    Ok(connection.stretch().starts_with(text))
 }
 
 // Writes what waits into two slices: whether these are its first bytes and all others, after which the second one is
@@ -113,7 +113,7 @@ fn are_served(
 ) -> Result<bool, ReadFromError> {
     let mut source = SureSource::new(Bytes::from_static(TWO_REQUESTS));
     let first = is_served(alloc, connection, &mut source, item, b"/a")?;
-    let is_written = connection.front().ends_with(b"\r\n\r\nabc");
+    let is_written = connection.stretch().ends_with(b"\r\n\r\nabc");
     let second = is_served(alloc, connection, &mut source, item, b"/c")?;
     Ok(first && is_written && second)
 }

@@ -18,3 +18,4 @@ pub mod Lacks
 pub mod Causes
 pub mod Once
 pub mod NoHeads
+pub mod Stretches

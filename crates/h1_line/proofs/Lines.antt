@@ -63,8 +63,8 @@ noted_more (Some noted) now trace p s says grows step =
     subst (λ (n : Option (List Pair)). SaysNoted n (s ∷ trace)) (sym grows)
     (subst (λ (l : List sums.Step). SaySteps (noted ++ p ∷ []) l) (sym (reverse_onto trace s [])) (say_more noted (reverse trace) p s says step))
 
-in_settings : (a b : Settings) (k : Kept) (trace : List sums.Step) → b ≡ a → Stands (record { settings = b; kept = k }) trace → Stands (record { settings = a; kept = k }) trace
-in_settings a b k trace same stands = subst (λ (s : Settings). Stands (record { settings = s; kept = k }) trace) same stands
+in_settings : (a b : Settings) (k : Kept) (trace : List sums.Step) → b ≡ a → StandsFor (setting_of b) k trace → StandsFor (setting_of a) k trace
+in_settings a b k trace same stands = subst (λ (s : Settings). StandsFor (setting_of s) k trace) same stands
 
 stepped : (old new : State) (was now : Option (List Pair)) (trace : List sums.Step) (s : sums.Step) → new.settings ≡ old.settings
     → Stands old trace → Stands new (s ∷ trace) → SaysNoted now (s ∷ trace) → Notes was now
@@ -154,7 +154,7 @@ pub fails_after : (old new : State) (was now : Option (List Pair)) (event : on.E
     → LineFails (record { state = old; noted = was }) event (record { state = new; noted = now })
 fails_after old new was now event Says goes grows = record {
   noted = grows;
-  connection = inr (λ trace stands. let g = goes trace stands in (g.0, tt, g.2, g.3));
+  connection = inr (λ trace stands. let g = goes trace stands in (g.0, tt, g.2, g.3, g.4));
 }
 
 pub fails_unnoted : (old new : State) (was : Option (List Pair)) (event : on.Event) (Says : on.Outcome → Type 0) → GoesOn old event Says new

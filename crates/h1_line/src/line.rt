@@ -149,10 +149,10 @@ impl<L: Recorder> Line<L> {
         ensures listening { L.is_listening self.new.recorder ≡ L.is_listening self.old.recorder }
         ensures no_memory_needed { L.is_listening self.old.recorder ≡ false → NeedsNoMemory (setting_of self.old.connection.settings) self.old.connection.kept → IsOk result }
     {
-        let next = self.connection.next()?;
         if !self.recorder.listens() {
-            return Ok(next);
+            return self.connection.next();
         }
+        let next = self.connection.next()?;
         let outcome = outcome_of_next(&next)?;
         self.recorder.note(&Event::Next, &outcome)?;
         Ok(next)

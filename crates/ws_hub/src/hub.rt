@@ -103,7 +103,7 @@ impl Hub {
     {
         let mut buffered = Vec::with_capacity(self.alloc, self.seats.len())?;
         for seat in &self.seats {
-            let bytes = Bytes::copy_from_slice(self.alloc, seat.connection().front())?;
+            let bytes = seat.connection().copy_buffered()?;
             buffered.push(bytes)?;
         }
         Ok(buffered)

@@ -10,6 +10,7 @@ ghost use Rattle.h1_model.specs.Closing.{end_where};
 ghost use Rattle.h1_machine.specs.Local.{waits_for_answer};
 ghost use Rattle.h1_machine.specs.Body.{passing};
 ghost use Rattle.h1_machine.specs.Reply.{stated, short_end};
+ghost use Rattle.h1_segment_model.specs.After.{marks_after};
 ghost use Rattle.h1_connection.specs.Meaning.{setting_of, end_of, keep_alive_of};
 ghost use Rattle.h1_connection.specs.Unsent.{SendsNoPiece, SendsNoEnd};
 ghost use Rattle.h1_connection.specs.Parts.{kept_of, asked_in, sending_in, replied, completed, IsSettled, IsSound, Steps};
@@ -17,6 +18,7 @@ ghost use Rattle.h1_connection.specs.Parts.{kept_of, asked_in, sending_in, repli
 use crate::End;
 use crate::connection::exchange::{Reply, Sending};
 use crate::connection::parts::Parts;
+use bytes::Bytes;
 use h1_codec::{Asked, Shape, shape_of, type_of};
 use http_framing::BodySize;
 use http_types::{ConnectionType, KeepAlive, NoMemory, ResponseHead, ServiceConfig};
@@ -32,6 +34,7 @@ impl Parts {
         requires sound { IsSound config.now self.old }
         requires waits { waits_for_answer (kept_of self.old) ≡ true }
         ensures ok { OnOk result (Steps config.now self.old (on.answer (answer_of head.now) (size_of size)) on.done self.new) }
+        ensures marks { OnOk result (self.new.output.marks ≡ self.old.output.marks) }
         ensures sound { OnOk result (IsSound config.now self.new) }
         ensures err { OnErr result (self.new ≡ self.old) }
     {
@@ -64,6 +67,7 @@ impl Parts {
     pub fn chunk(&mut self, config: &ServiceConfig, bytes: &[u8]) -> Result<(), NoMemory>
         requires { IsSound config.now self.old }
         ensures ok { OnOk result (Steps config.now self.old (on.chunk bytes.now) on.done self.new) }
+        ensures marks { OnOk result (self.new.output.marks ≡ marks_after (kept_of self.old) (on.chunk bytes.now) on.done self.old.output.marks) }
         ensures sound { OnOk result (IsSound config.now self.new) }
         ensures no_memory_needed { SendsNoPiece (kept_of self.old) bytes.now → IsOk result }
         ensures err { OnErr result (self.new ≡ self.old) }
@@ -84,10 +88,37 @@ impl Parts {
         Ok(())
     }
 
+    /// Puts a piece of an answer's body behind the others, without a copy where it is large.
+    pub fn chunk_bytes(&mut self, config: &ServiceConfig, bytes: Bytes) -> Result<(), NoMemory>
+        requires { IsSound config.now self.old }
+        ensures ok { OnOk result (Steps config.now self.old (on.chunk bytes) on.done self.new) }
+        ensures marks { OnOk result (self.new.output.marks ≡ marks_after (kept_of self.old) (on.chunk bytes) on.done self.old.output.marks) }
+        ensures sound { OnOk result (IsSound config.now self.new) }
+        ensures no_memory_needed { SendsNoPiece (kept_of self.old) bytes → IsOk result }
+        ensures err { OnErr result (self.new ≡ self.old) }
+    {
+        let Some(asked) = self.asked() else {
+            return Ok(());
+        };
+        let Some(sending) = self.sending() else {
+            return Ok(());
+        };
+        let missing = sending.missing.saturating_sub(bytes.len() as u64);
+        self.output
+            .put_shared(asked, sending.shape, sending.missing, bytes)?;
+        self.set_reply(Reply::Sending(Sending {
+            shape: sending.shape,
+            connection: sending.connection,
+            missing,
+        }));
+        Ok(())
+    }
+
     /// The answer's body is whole.
     pub fn end_answer(&mut self, config: &ServiceConfig) -> Result<(), NoMemory>
         requires { IsSound config.now self.old }
         ensures ok { OnOk result (Steps config.now self.old on.body_end on.done self.new) }
+        ensures marks { OnOk result (self.new.output.marks ≡ self.old.output.marks) }
         ensures sound { OnOk result (IsSound config.now self.new) }
         ensures no_memory_needed { SendsNoEnd (kept_of self.old) → IsOk result }
         ensures err { OnErr result (self.new ≡ self.old) }
@@ -118,7 +149,8 @@ impl Parts {
     // The answer is complete: the rest of its request's body is passed.
     fn complete(&mut self, config: &ServiceConfig, connection: ConnectionType)
         requires { self.old.input.piece ≡ None }
-        ensures { IsSettled (setting_of config.now) (passing (kept_of (completed connection self.old))) self.new }
+        ensures settled { IsSettled (setting_of config.now) (passing (kept_of (completed connection self.old))) self.new }
+        ensures output { self.new.output ≡ self.old.output }
     {
         self.set_reply(Reply::Answered(connection));
         self.clock.completed = self.clock.last;

@@ -22,6 +22,7 @@ impl Parts {
         requires plain { is_upgraded (kept_of self.old) ≡ false }
         ensures ok { IfOk result (λ answer. (p : pulls.Pulled) → IsPullOf (kept_of self.old) p
             → SaysPulled answer p.outcome × Steps config.now self.old on.pull p.outcome self.new) }
+        ensures marks { OnOk result (self.new.output.marks ≡ self.old.output.marks) }
         ensures sound { OnOk result (IsSound config.now self.new) }
         ensures no_memory_needed { IsLightPull (kept_of self.old) → IsOk result }
         ensures err { OnErr result (self.new ≡ self.old) }

@@ -62,6 +62,7 @@ impl Parts {
         requires waits { waits_for_answer (kept_of self.old) ≡ true }
         requires raw { is_raw_request (kept_of self.old) ≡ true }
         ensures ok { IfOk result (λ accepted. Steps config.now self.old (on.accept limit) (accepted_of accepted) self.new) }
+        ensures marks { OnOk result (self.new.output.marks ≡ self.old.output.marks) }
         ensures sound { OnOk result (IsSound config.now self.new) }
         ensures refused { IfOk result (λ accepted. is_done accepted ≡ false → self.new ≡ self.old) }
         ensures no_memory_needed { is_refused (kept_of self.old) ≡ true → IsOk result }
@@ -105,6 +106,7 @@ impl Parts {
         requires sound { IsSound config.now self.old }
         requires upgraded { is_upgraded (kept_of self.old) ≡ true }
         ensures ok { IfOk result (λ answer. (out : on.Outcome) × SaysFrame answer out × Steps config.now self.old on.pull out self.new) }
+        ensures marks { OnOk result (self.new.output.marks ≡ self.old.output.marks) }
         ensures named { IfOk result IsPulledNamed }
         ensures sound { OnOk result (IsSound config.now self.new) }
         ensures no_memory_needed { IsLightPull (kept_of self.old) → IsOk result }
@@ -133,6 +135,7 @@ impl Parts {
     pub fn send(&mut self, config: &ServiceConfig, message: &Message) -> Result<Sent, NoMemory>
         requires { IsSound config.now self.old }
         ensures ok { IfOk result (λ sent. (out : on.Outcome) × SaysSent sent out × Steps config.now self.old (on.send (message_says message.now)) out self.new) }
+        ensures marks { OnOk result (self.new.output.marks ≡ self.old.output.marks) }
         ensures sound { OnOk result (IsSound config.now self.new) }
         ensures no_memory_needed { sends_nothing (kept_of self.old) (message_says message.now) ≡ true → IsOk result }
         ensures err { OnErr result (self.new ≡ self.old) }

@@ -67,17 +67,42 @@ impl Parts {
     pub fn next(&mut self, alloc: Global, config: &ServiceConfig) -> Result<NextHead, NoMemory>
         requires { IsSound config.now self.old }
         ensures ok { IfOk result (λ next. IsHeld config.now self.old → IsNexted config.now self.old next self.new) }
+        ensures marks { OnOk result (self.new.output.marks ≡ self.old.output.marks) }
         ensures opened { IfOk result (λ next. is_head next ≡ true → HasOpened (setting_of config.now) self.old.is_over (kept_of self.new)) }
         ensures sound { OnOk result (IsSound config.now self.new) }
         ensures no_memory_needed { NeedsNoMemory (setting_of config.now) (kept_of self.old) → IsOk result }
         ensures err { OnErr result (self.new ≡ self.old) }
     {
+        if self.input.has_none() {
+            return self.next_without(config);
+        }
         let mut item = HeadItem::new(alloc);
         match self.next_into(alloc, config, &mut item, &mut HeadRoom::new())? {
             NextKind::Head => Ok(NextHead::Head(item)),
             NextKind::Fault(fault) => Ok(NextHead::Fault(fault)),
             NextKind::Pending => Ok(NextHead::Pending),
             NextKind::Closed(end) => Ok(NextHead::Closed(end)),
+        }
+    }
+
+    // The same where no whole head is there.
+    fn next_without(&mut self, config: &ServiceConfig) -> Result<NextHead, NoMemory>
+        requires sound { IsSound config.now self.old }
+        requires none { IsHeadOf self.old.input None }
+        ensures ok { IfOk result (λ next. IsHeld config.now self.old → IsNexted config.now self.old next self.new) }
+        ensures marks { OnOk result (self.new.output.marks ≡ self.old.output.marks) }
+        ensures no_head { IfOk result (λ next. is_head next ≡ false) }
+        ensures sound { OnOk result (IsSound config.now self.new) }
+        ensures no_memory_needed { NeedsNoMemory (setting_of config.now) (kept_of self.old) → IsOk result }
+        ensures err { OnErr result (self.new ≡ self.old) }
+    {
+        if let Some(end) = self.noted_closing(config) {
+            self.is_over = true;
+            return Ok(NextHead::Closed(end));
+        }
+        match self.go_without(config)? {
+            NextKind::Fault(fault) => Ok(NextHead::Fault(fault)),
+            _ => Ok(NextHead::Pending),
         }
     }
 
@@ -91,6 +116,7 @@ impl Parts {
     ) -> Result<NextKind, NoMemory>
         requires { IsSound config.now self.old }
         ensures ok { IfOk result (λ kind. IsHeld config.now self.old → IsNexted config.now self.old (with_head item.new kind) self.new) }
+        ensures marks { OnOk result (self.new.output.marks ≡ self.old.output.marks) }
         ensures opened { IfOk result (λ kind. is_head_kind kind ≡ true → HasOpened (setting_of config.now) self.old.is_over (kept_of self.new)) }
         ensures sound { OnOk result (IsSound config.now self.new) }
         ensures item { IfOk result (λ kind. KeepsItem (kept_of self.old).is_coming kind item.old item.new) }
@@ -118,6 +144,7 @@ impl Parts {
         requires runs { closing_by (setting_of config.now) (kept_of self.old) ≡ None }
         requires none { IsHeadOf self.old.input None }
         ensures ok { IfOk result (λ kind. IsWaited config.now self.old kind self.new) }
+        ensures marks { OnOk result (self.new.output.marks ≡ self.old.output.marks) }
         ensures no_head { IfOk result (λ kind. is_head_kind kind ≡ false) }
         ensures sound { OnOk result (IsSound config.now self.new) }
         ensures no_memory_needed { (length self.old.input.unread == config.now.h1_hold_size) ≡ false → IsOk result }
@@ -139,6 +166,7 @@ impl Parts {
         requires { IsSound config.now self.old }
         ensures cause { IfOk result (λ fault. (error ≢ ParseError.NoMemory) × (fault_of fault ≡ decode.fault_of error)) }
         ensures ok { IfOk result (λ fault. IsSettled (setting_of config.now) (refused fault (kept_of self.old)) self.new) }
+        ensures marks { OnOk result (self.new.output.marks ≡ self.old.output.marks) }
         ensures err { OnErr result (self.new ≡ self.old) }
     {
         let fault = fault_by(error)?;
@@ -150,6 +178,7 @@ impl Parts {
     fn refuse(&mut self, config: &ServiceConfig, fault: HeadFault) -> Result<(), NoMemory>
         requires { IsSound config.now self.old }
         ensures ok { OnOk result (IsSettled (setting_of config.now) (refused fault (kept_of self.old)) self.new) }
+        ensures marks { OnOk result (self.new.output.marks ≡ self.old.output.marks) }
         ensures err { OnErr result (self.new ≡ self.old) }
     {
         self.output.put_fault(fault, self.clock.now())?;
@@ -165,6 +194,7 @@ impl Parts {
         requires whole { IsWhole self.old.input }
         ensures handed { (piece : List ℕ) (h : Head) (start end : ℕ) → IsReading piece (head_is h) → SaysHead item.now h → self.old.input.piece ≡ Some (Piece start end)
             → kept_of self.new ≡ noting_since (setting_of config.now) (after_head (kept_of self.old) end h) }
+        ensures marks { self.new.output.marks ≡ self.old.output.marks }
         ensures opened { HasOpened (setting_of config.now) self.old.is_over (kept_of self.new) }
         ensures sound { IsSound config.now self.new }
     {

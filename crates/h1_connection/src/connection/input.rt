@@ -111,6 +111,17 @@ impl Input {
         }
     }
 
+    /// Whether it is known, with no scan of bytes, that no whole head is there.
+    pub fn has_none(&self) -> bool
+        ensures { result ≡ true → IsHeadOf self.now None }
+    {
+        let is_scanned = match &self.search {
+            Search::Due => self.bytes.is_empty(),
+            _ => true,
+        };
+        is_scanned && !self.is_coming()
+    }
+
     /// Takes the bytes that there is room for up to the limit, and says how many.
     pub fn take(&mut self, bytes: &[u8], limit: usize) -> Result<usize, NoMemory>
         ensures count { IfOk result (λ count. count ≡ min (length bytes.now) (limit - length self.old.unread)) }
@@ -453,8 +464,8 @@ fn read_behind_blank_lines(
     read_head_into(alloc, item, room, &head)
 }
 
-// Whether the bytes have a whole head, where the search is due: no call asks, since a search is due only where none
-// depends on the answer.
+// Whether the bytes have a whole head, where the search is due. It is asked of no bytes alone, since a search is due only
+// where no other call depends on the answer.
 #[cold]
 fn has_head(bytes: &[u8]) -> bool
     ensures { result ≡ is_coming_in (Some (scan_of bytes.now)) }

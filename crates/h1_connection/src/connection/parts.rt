@@ -1,5 +1,5 @@
 // What a connection keeps between two events, part by part.
-ghost use Rattle.std.specs.Prelude.{◌≡◌, false};
+ghost use Rattle.std.specs.Prelude.{◌≡◌, false, []};
 ghost use Rattle.http_config.specs.Config.{Settings};
 ghost use Rattle.h1_machine.specs.Kept.{fresh, is_free, is_open, is_upgraded};
 ghost use Rattle.h1_machine.specs.Body.{passing};
@@ -43,6 +43,7 @@ impl Parts {
     /// Those of a connection to which nothing has come. They take no memory.
     pub fn new(alloc: Global) -> Parts
         ensures kept { kept_of result ≡ fresh }
+        ensures marks { result.output.marks ≡ [] }
         ensures sound { (settings : Settings) → IsSound settings result }
     {
         Parts {
@@ -93,6 +94,7 @@ impl Parts {
     pub fn pass_body(&mut self)
         requires { MayBeSearched self.old }
         ensures kept { kept_of self.new ≡ passing (kept_of self.old) }
+        ensures output { self.new.output ≡ self.old.output }
         ensures input { self.new.input.piece ≡ self.old.input.piece }
     {
         if let Some(exchange) = &mut self.exchange {
@@ -104,7 +106,8 @@ impl Parts {
     /// connection closes.
     pub fn settle(&mut self, config: &ServiceConfig)
         requires { MayBeSearched self.old }
-        ensures { IsSettled (setting_of config.now) (kept_of self.old) self.new }
+        ensures settled { IsSettled (setting_of config.now) (kept_of self.old) self.new }
+        ensures output { self.new.output ≡ self.old.output }
     {
         self.search();
         self.note(config);
@@ -114,7 +117,8 @@ impl Parts {
     // first one, whose time may run out, and one behind the end of the input, where the connection closes without it.
     fn search(&mut self)
         requires { MayBeSearched self.old }
-        ensures { IsSearchedFor self.old self.new }
+        ensures searched { IsSearchedFor self.old self.new }
+        ensures output { self.new.output ≡ self.old.output }
     {
         if !self.is_free() {
             return;
@@ -130,6 +134,7 @@ impl Parts {
     pub fn note(&mut self, config: &ServiceConfig)
         requires { MayBeSearched self.old }
         ensures kept { kept_of self.new ≡ noting_since (setting_of config.now) (kept_of self.old) }
+        ensures output { self.new.output ≡ self.old.output }
         ensures input { self.new.input ≡ self.old.input }
     {
         if self.closing_since.is_none() && self.closing(config).is_some() {

@@ -4,6 +4,7 @@ ghost use Rattle.std.specs.Io.KnownBytes.{Consumes, Keeps, IsAtEnd};
 ghost use Rattle.http_config.specs.Causes.{Rose, counted, IsAsked};
 ghost use Rattle.h1_model.specs.Event as on;
 ghost use Rattle.h1_machine.specs.Kept.{is_free};
+ghost use Rattle.h1_segment_model.specs.Runs.{runs_behind};
 ghost use Rattle.h1_connection.specs.Parts.{kept_of, ended_exchange, dropped, with_continue, IsSound, Steps, StepsIn};
 
 use crate::connection::READ_SIZE;
@@ -17,6 +18,7 @@ impl Parts {
     pub fn read(&mut self, config: &ServiceConfig, bytes: &[u8]) -> Result<usize, NoMemory>
         requires { IsSound config.now self.old }
         ensures ok { IfOk result (λ count. Steps config.now self.old (on.read bytes.now) (on.took count) self.new) }
+        ensures marks { OnOk result (self.new.output.marks ≡ self.old.output.marks) }
         ensures sound { OnOk result (IsSound config.now self.new) }
         ensures err { OnErr result (self.new ≡ self.old) }
     {
@@ -35,6 +37,7 @@ impl Parts {
         requires { IsSound config.now self.old }
         ensures ok { IfOk result (λ count. (bytes : List ℕ) × (length bytes ≡ count) × Consumes (S.left source.old) (S.left source.new) bytes
             × StepsIn config.now self.old bytes self.new) }
+        ensures marks { OnOk result (self.new.output.marks ≡ self.old.output.marks) }
         ensures bound { IfOk result (λ count. count ≤ READ_SIZE) }
         ensures end { IfOk result (λ count. count ≡ 0 → (self.new ≡ self.old) × IsAtEnd (S.left source.new)) }
         ensures sound { OnOk result (IsSound config.now self.new) }
@@ -62,6 +65,7 @@ impl Parts {
     pub fn eof(&mut self, config: &ServiceConfig)
         requires { IsSound config.now self.old }
         ensures ok { Steps config.now self.old on.eof on.done self.new }
+        ensures marks { self.new.output.marks ≡ self.old.output.marks }
         ensures sound { IsSound config.now self.new }
     {
         self.has_ended = true;
@@ -83,6 +87,7 @@ impl Parts {
     pub fn drain(&mut self, config: &ServiceConfig)
         requires { IsSound config.now self.old }
         ensures ok { Steps config.now self.old on.drain on.done self.new }
+        ensures marks { self.new.output.marks ≡ self.old.output.marks }
         ensures sound { IsSound config.now self.new }
     {
         self.is_draining = true;
@@ -93,6 +98,7 @@ impl Parts {
     pub fn fail_answer(&mut self, config: &ServiceConfig)
         requires { IsSound config.now self.old }
         ensures ok { Steps config.now self.old on.body_error on.done self.new }
+        ensures marks { self.new.output.marks ≡ self.old.output.marks }
         ensures sound { IsSound config.now self.new }
     {
         self.failed = Some(End::Body);
@@ -103,6 +109,7 @@ impl Parts {
     pub fn drop_body(&mut self, config: &ServiceConfig)
         requires { IsSound config.now self.old }
         ensures ok { Steps config.now self.old on.drop_body on.done self.new }
+        ensures marks { self.new.output.marks ≡ self.old.output.marks }
         ensures sound { IsSound config.now self.new }
     {
         self.set_dropped();
@@ -121,6 +128,7 @@ impl Parts {
     pub fn send_continue(&mut self, config: &ServiceConfig) -> Result<(), NoMemory>
         requires { IsSound config.now self.old }
         ensures ok { OnOk result (Steps config.now self.old on.send_continue on.done self.new) }
+        ensures marks { OnOk result (self.new.output.marks ≡ self.old.output.marks) }
         ensures sound { OnOk result (IsSound config.now self.new) }
         ensures err { OnErr result (self.new ≡ self.old) }
     {
@@ -144,6 +152,7 @@ impl Parts {
     pub fn give(&mut self, config: &ServiceConfig, limit: usize) -> Result<Bytes, NoMemory>
         requires { IsSound config.now self.old }
         ensures ok { IfOk result (λ bytes. Steps config.now self.old (on.write limit) (on.gave bytes) self.new) }
+        ensures marks { IfOk result (λ bytes. self.new.output.marks ≡ runs_behind (length bytes) self.old.output.marks) }
         ensures sound { OnOk result (IsSound config.now self.new) }
         ensures none { length (take limit (kept_of self.old).buffered) ≡ 0 → IsOk result }
         ensures err { OnErr result (self.new ≡ self.old) }
@@ -155,6 +164,7 @@ impl Parts {
     pub fn write_into(&mut self, config: &ServiceConfig, room: &mut [u8]) -> usize
         requires { IsSound config.now self.old }
         ensures ok { Steps config.now self.old (on.write (length room.old)) (on.gave (take (length room.old) (kept_of self.old).buffered)) self.new }
+        ensures marks { self.new.output.marks ≡ runs_behind (length (take (length room.old) (kept_of self.old).buffered)) self.old.output.marks }
         ensures count { result ≡ min (length room.old) (length (kept_of self.old).buffered) }
         ensures given { take result room.new ≡ take (length room.old) (kept_of self.old).buffered }
         ensures rest { drop result room.new ≡ drop result room.old }
@@ -168,6 +178,7 @@ impl Parts {
         requires sound { IsSound config.now self.old }
         requires fits { count ≤ length (kept_of self.old).buffered }
         ensures ok { Steps config.now self.old (on.write count) (on.gave (take count (kept_of self.old).buffered)) self.new }
+        ensures marks { self.new.output.marks ≡ runs_behind (length (take count (kept_of self.old).buffered)) self.old.output.marks }
         ensures sound { IsSound config.now self.new }
     {
         self.output.advance(count);

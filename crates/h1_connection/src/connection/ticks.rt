@@ -31,24 +31,25 @@ pub enum Expiry {
 
 impl Parts {
     /// A moment has come, in milliseconds after the start of 1970. The memory of an idle connection is given back: one
-    /// that is busy takes memory anew once a tick at most.
+    /// that is busy takes memory anew once a moment at most.
     pub fn tick(&mut self, config: &ServiceConfig, moment: u64) -> Result<Expiry, NoMemory>
         requires sound { IsSound config.now self.old }
         requires before { moment < MAX_MOMENT }
         ensures ok { IfOk result (λ expiry. Steps config.now self.old (on.tick moment) (expiry_of expiry) self.new) }
+        ensures marks { OnOk result (self.new.output.marks ≡ self.old.output.marks) }
         ensures sound { OnOk result (IsSound config.now self.new) }
         ensures no_memory_needed { IsQuietTick (setting_of config.now) (kept_of self.old) moment → IsOk result }
         ensures err { OnErr result (self.new ≡ self.old) }
     {
-        self.give_back();
+        self.give_back(moment);
         self.take_tick(config, moment)
     }
 
-    // Where no request is under way, the memory in which no byte is held is given back.
-    fn give_back(&mut self)
+    // At a new moment, where no request is under way, the memory in which no byte is held is given back.
+    fn give_back(&mut self, moment: u64)
         ensures { self.new ≡ self.old }
     {
-        if self.is_free() {
+        if self.clock.last != Some(moment) && self.is_free() {
             self.input.give_back();
             self.output.give_back();
         }
@@ -59,6 +60,7 @@ impl Parts {
         requires sound { IsSound config.now self.old }
         requires before { moment < MAX_MOMENT }
         ensures ok { IfOk result (λ expiry. Steps config.now self.old (on.tick moment) (expiry_of expiry) self.new) }
+        ensures marks { OnOk result (self.new.output.marks ≡ self.old.output.marks) }
         ensures sound { OnOk result (IsSound config.now self.new) }
         ensures no_memory_needed { IsQuietTick (setting_of config.now) (kept_of self.old) moment → IsOk result }
         ensures err { OnErr result (self.new ≡ self.old) }
@@ -81,6 +83,7 @@ impl Parts {
         requires before { moment < MAX_MOMENT }
         ensures ok { IfOk result (λ expiry. record { outcome = expiry_of expiry; kept = kept_of self.new }
             ≡ expiring (setting_of config.now) (kept_of self.old) (closing_by (setting_of config.now) (kept_of self.old)) first moment) }
+        ensures marks { OnOk result (self.new.output.marks ≡ self.old.output.marks) }
         ensures input { self.new.input ≡ self.old.input }
         ensures exchange { self.new.exchange ≡ self.old.exchange }
         ensures no_memory_needed { IsSome (closing_by (setting_of config.now) (kept_of self.old)) ⊎ (is_slow (setting_of config.now) (kept_of self.old) first moment ≡ false) → IsOk result }

@@ -55,7 +55,7 @@ where
         ensures registered { OnIdle result (IsArmed cx.new) }
         ensures kept { Keeps cx.old cx.new }
     {
-        match self.wire.poll_write(self.line.connection().front(), cx) {
+        match self.wire.poll_write(self.line.connection().stretch(), cx) {
             Poll::Pending => self.go_on(cx),
             Poll::Ready(Err(Failed)) => Turn::Over(Err(DispatchError::Io)),
             Poll::Ready(Ok(count)) => match self.line.advance(count) {

@@ -38,11 +38,12 @@ impl<L: Recorder> Line<L> {
         ensures listening { L.is_listening self.new.recorder ≡ L.is_listening self.old.recorder }
         ensures no_memory_needed { L.is_listening self.old.recorder ≡ false → SendsNoPiece self.old.connection.kept bytes → IsOk result }
     {
-        self.connection.chunk(bytes.as_slice())?;
         if !self.recorder.listens() {
-            return Ok(());
+            return self.connection.chunk_bytes(bytes);
         }
-        self.recorder.note(&Event::Chunk(bytes), &Outcome::Done)
+        let noted = bytes.clone()?;
+        self.connection.chunk_bytes(bytes)?;
+        self.recorder.note(&Event::Chunk(noted), &Outcome::Done)
     }
 
     /// The answer's body is whole.

@@ -1,5 +1,5 @@
 use Rattle.std.proofs.Common.{arith}
-use Rattle.h1_codec.proofs.SizeLine.{fewer, digit_more, digit_last}
+use Rattle.h1_codec.proofs.SizeLines.{fewer, digit_more, digit_last}
 use Rattle.h1_codec.proofs.chunk.put_digits.Goals as goal
 
 pub loop-left-preserved : goal.loop-left-preserved

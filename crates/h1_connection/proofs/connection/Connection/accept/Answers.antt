@@ -3,22 +3,23 @@ use Rattle.std.specs.Prelude.{IsOk}
 use Rattle.h1_connection.specs.Frames.{is_refused}
 use Rattle.h1_connection.specs.State.{State}
 use Rattle.h1_connection.specs.declared.connection.parts.Parts.{Parts}
-use Rattle.h1_connection.proofs.ResultLemmas.{ok_map}
+use Rattle.h1_connection.proofs.MarkLemmas.{quiet_accept}
+use Rattle.h1_connection.proofs.ResultLemmas.{ok_map, ok_both}
 use Rattle.h1_connection.proofs.GoesOnLemmas.{still_sound, same_state, state_of, goes_on, allowed_parts, accept_waits, accept_raw}
 use Rattle.h1_connection.proofs.connection.Connection.accept.Goals as goal
 
 pub accept-requires-clause-waits : goal.accept-requires-clause-waits
-accept-requires-clause-waits c = accept_waits c.self.inside.config _ _ (allowed_parts _ _ _ _ c.self.view_is c.requires.can_accept)
+accept-requires-clause-waits c = accept_waits c.self.inside.config c.self.inside.parts _ (allowed_parts _ _ c.self.inside.parts _ c.self.view_is c.requires.can_accept)
 
 pub accept-requires-clause-raw : goal.accept-requires-clause-raw
-accept-requires-clause-raw c = accept_raw c.self.inside.config _ _ (allowed_parts _ _ _ _ c.self.view_is c.requires.can_accept)
+accept-requires-clause-raw c = accept_raw c.self.inside.config c.self.inside.parts _ (allowed_parts _ _ c.self.inside.parts _ c.self.view_is c.requires.can_accept)
 
 pub invariant_of-self : goal.invariant_of-self
 invariant_of-self c = still_sound c.accept.result _ _ _ c.self.invariant c.accept.ensures.sound c.accept.ensures.err
 
 pub returns-clause-stands : goal.returns-clause-stands
 returns-clause-stands c =
-    ok_map c.accept.result _ _ (λ accepted steps. goes_on _ _ _ _ _ _ c.self.view_is c.requires.can_accept steps) c.accept.ensures.ok
+    ok_both c.accept.result _ _ _ (λ accepted steps marks. goes_on _ _ _ _ _ _ c.self.view_is c.requires.can_accept steps (marks ∙ quiet_accept accepted _)) c.accept.ensures.ok c.accept.ensures.marks
 
 pub returns-clause-refused : goal.returns-clause-refused
 returns-clause-refused c =

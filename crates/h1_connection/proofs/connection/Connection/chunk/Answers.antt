@@ -1,4 +1,4 @@
-use Rattle.h1_connection.proofs.ResultLemmas.{on_map}
+use Rattle.h1_connection.proofs.ResultLemmas.{on_map, on_both}
 use Rattle.h1_connection.proofs.GoesOnLemmas.{still_sound, same_state, goes_on}
 use Rattle.h1_connection.proofs.GivenLemmas.{chunk_sends, chunk_given, end_given, fail_given}
 use Rattle.h1_connection.proofs.connection.Connection.chunk.Goals as goal
@@ -8,19 +8,19 @@ invariant_of-self c = still_sound c.chunk.result _ _ _ c.self.invariant c.chunk.
 
 pub returns-clause-stands : goal.returns-clause-stands
 returns-clause-stands c =
-    on_map c.chunk.result _ _ (λ steps. goes_on _ _ _ _ _ _ c.self.view_is c.requires.can_chunk steps) c.chunk.ensures.ok
+    on_both c.chunk.result _ _ _ (λ steps marks. goes_on _ _ _ _ _ _ c.self.view_is c.requires.can_chunk steps marks) c.chunk.ensures.ok c.chunk.ensures.marks
 
 pub returns-clause-err : goal.returns-clause-err
 returns-clause-err c = same_state c.chunk.result _ _ _ _ c.self.view_is c.chunk.ensures.err
 
 pub returns-clause-can_chunk : goal.returns-clause-can_chunk
 returns-clause-can_chunk c =
-    on_map c.chunk.result _ _ (λ steps more room. chunk_given c.self.inside.config c.chunk.new.self more room (chunk_sends c.args.self.now c.self.inside.config _ _ _ c.self.view_is c.requires.can_chunk steps)) c.chunk.ensures.ok
+    on_map c.chunk.result _ _ (λ steps more room. chunk_given c.self.inside.config c.chunk.new.self more room (chunk_sends c.args.self.now c.self.inside.config c.self.inside.parts c.chunk.new.self _ c.self.view_is c.requires.can_chunk steps)) c.chunk.ensures.ok
 
 pub returns-clause-can_end_answer : goal.returns-clause-can_end_answer
 returns-clause-can_end_answer c =
-    on_map c.chunk.result _ _ (λ steps. end_given c.self.inside.config c.chunk.new.self (chunk_sends c.args.self.now c.self.inside.config _ _ _ c.self.view_is c.requires.can_chunk steps)) c.chunk.ensures.ok
+    on_map c.chunk.result _ _ (λ steps. end_given c.self.inside.config c.chunk.new.self (chunk_sends c.args.self.now c.self.inside.config c.self.inside.parts c.chunk.new.self _ c.self.view_is c.requires.can_chunk steps)) c.chunk.ensures.ok
 
 pub returns-clause-can_fail_answer : goal.returns-clause-can_fail_answer
 returns-clause-can_fail_answer c =
-    on_map c.chunk.result _ _ (λ steps. fail_given c.self.inside.config c.chunk.new.self (chunk_sends c.args.self.now c.self.inside.config _ _ _ c.self.view_is c.requires.can_chunk steps)) c.chunk.ensures.ok
+    on_map c.chunk.result _ _ (λ steps. fail_given c.self.inside.config c.chunk.new.self (chunk_sends c.args.self.now c.self.inside.config c.self.inside.parts c.chunk.new.self _ c.self.view_is c.requires.can_chunk steps)) c.chunk.ensures.ok

@@ -2,7 +2,7 @@ use Rattle.std.proofs.Common.{subst}
 use Rattle.std.specs.Prelude.{IfOk, OnErr}
 use Rattle.h1_connection.specs.State.{State}
 use Rattle.h1_connection.specs.Heads.{with_head, KeepsItem, LosesAtMostHeaders}
-use Rattle.h1_connection.proofs.ResultLemmas.{ok_map}
+use Rattle.h1_connection.proofs.ResultLemmas.{ok_map, ok_both}
 use Rattle.h1_connection.proofs.GoesOnLemmas.{still_sound, same_state, head_goes_on}
 use Rattle.h1_connection.proofs.GivenLemmas.{next_is_allowed, answer_given}
 use Rattle.h1_connection.proofs.connection.Connection.next_into.Goals as goal
@@ -12,7 +12,7 @@ invariant_of-self c = still_sound c.next_into.result _ _ _ c.self.invariant c.ne
 
 pub returns-clause-stands : goal.returns-clause-stands
 returns-clause-stands c =
-    ok_map c.next_into.result _ _ (λ kind nexted. head_goes_on _ _ _ _ (with_head c.next_into.new.item kind) c.self.view_is (next_is_allowed c.args.self.now c.requires.can_next) nexted) c.next_into.ensures.ok
+    ok_both c.next_into.result _ _ _ (λ kind nexted marks. head_goes_on _ _ _ _ (with_head c.next_into.new.item kind) c.self.view_is (next_is_allowed c.args.self.now c.requires.can_next) nexted marks) c.next_into.ensures.ok c.next_into.ensures.marks
 
 pub returns-clause-err : goal.returns-clause-err
 returns-clause-err c = same_state c.next_into.result _ _ _ _ c.self.view_is c.next_into.ensures.err
@@ -27,4 +27,4 @@ returns-clause-kept_item c =
 
 pub returns-clause-can_answer : goal.returns-clause-can_answer
 returns-clause-can_answer c =
-    ok_map c.next_into.result _ _ (λ kind opened head size is. answer_given _ _ _ _ c.self.view_is (next_is_allowed c.args.self.now c.requires.can_next) (opened is) head size) c.next_into.ensures.opened
+    ok_map c.next_into.result _ _ (λ kind opened head size is. answer_given _ _ _ c.next_into.new.self c.self.view_is (next_is_allowed c.args.self.now c.requires.can_next) (opened is) head size) c.next_into.ensures.opened

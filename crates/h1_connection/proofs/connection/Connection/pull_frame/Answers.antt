@@ -1,20 +1,22 @@
-use Rattle.std.proofs.Common.{subst}
+use Rattle.std.proofs.Common.{◌∙◌, subst}
 use Rattle.std.specs.Prelude.{IsOk}
 use Rattle.h1_connection.specs.Pulls.{IsLightPull}
 use Rattle.h1_connection.specs.State.{State}
-use Rattle.h1_connection.proofs.ResultLemmas.{ok_map}
+use Rattle.h1_connection.proofs.MarkLemmas.{quiet_frame}
+use Rattle.h1_connection.proofs.ResultLemmas.{ok_map, ok_both}
 use Rattle.h1_connection.proofs.GoesOnLemmas.{still_sound, same_state, some_goes_on, frame_pulled, frame_parts}
 use Rattle.h1_connection.proofs.connection.Connection.pull_frame.Goals as goal
 
 pub pull_frame-requires-clause-upgraded : goal.pull_frame-requires-clause-upgraded
-pull_frame-requires-clause-upgraded c = frame_parts c.args.self.now c.self.inside.config _ c.self.view_is c.requires.can_pull_frame
+pull_frame-requires-clause-upgraded c = frame_parts c.args.self.now c.self.inside.config c.self.inside.parts c.self.view_is c.requires.can_pull_frame
 
 pub invariant_of-self : goal.invariant_of-self
 invariant_of-self c = still_sound c.pull_frame.result _ _ _ c.self.invariant c.pull_frame.ensures.sound c.pull_frame.ensures.err
 
 pub returns-clause-stands : goal.returns-clause-stands
 returns-clause-stands c =
-    ok_map c.pull_frame.result _ _ (λ answer steps. some_goes_on _ _ _ _ _ _ c.self.view_is (frame_pulled c.args.self.now c.requires.can_pull_frame) steps) c.pull_frame.ensures.ok
+    ok_both c.pull_frame.result _ _ _ (λ answer steps marks. some_goes_on _ _ _ _ _ _ c.self.view_is (frame_pulled c.args.self.now c.requires.can_pull_frame) (λ out says. marks ∙ quiet_frame answer out _ says) steps)
+    c.pull_frame.ensures.ok c.pull_frame.ensures.marks
 
 pub returns-clause-no_memory_needed : goal.returns-clause-no_memory_needed
 returns-clause-no_memory_needed c =

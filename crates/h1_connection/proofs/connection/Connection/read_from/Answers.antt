@@ -3,7 +3,7 @@ use Rattle.std.specs.Prelude.{◌↔◌, IsErrOf}
 use Rattle.h1_connection.specs.State.{State}
 use Rattle.h1_connection.specs.declared.connection.parts.Parts.{Parts}
 use Rattle.h1_connection.specs.declared.error.ReadFromError.TheVariants as error
-use Rattle.h1_connection.proofs.ResultLemmas.{ok_map}
+use Rattle.h1_connection.proofs.ResultLemmas.{ok_map, ok_both}
 use Rattle.h1_connection.proofs.GoesOnLemmas.{still_sound, same_state, state_of, reads_in}
 use Rattle.h1_connection.proofs.connection.Connection.read_from.Goals as goal
 
@@ -12,7 +12,7 @@ invariant_of-self g c = still_sound c.read_from.result _ _ _ c.self.invariant c.
 
 pub returns-clause-stands : goal.returns-clause-stands
 returns-clause-stands g c =
-    ok_map c.read_from.result _ _ (λ count came. (came.0, came.1, came.2, reads_in _ _ _ _ came.0 c.self.view_is c.requires.can_read came.3)) c.read_from.ensures.ok
+    ok_both c.read_from.result _ _ _ (λ count came marks. (came.0, came.1, came.2, reads_in _ _ _ _ came.0 c.self.view_is c.requires.can_read came.3 marks)) c.read_from.ensures.ok c.read_from.ensures.marks
 
 pub returns-clause-end : goal.returns-clause-end
 returns-clause-end g c =

@@ -1,9 +1,10 @@
-use Rattle.std.proofs.Common.{◌≡◌, true, subst}
+use Rattle.std.proofs.Common.{◌∙◌, ◌≡◌, true, subst}
 use Rattle.std.specs.Prelude.{IsOk}
 use Rattle.ws_frames.specs.Sent.{message_says}
 use Rattle.h1_connection.specs.Frames.{sends_nothing}
 use Rattle.h1_connection.specs.State.{State}
-use Rattle.h1_connection.proofs.ResultLemmas.{ok_map}
+use Rattle.h1_connection.proofs.MarkLemmas.{quiet_send}
+use Rattle.h1_connection.proofs.ResultLemmas.{ok_map, ok_both}
 use Rattle.h1_connection.proofs.GoesOnLemmas.{still_sound, same_state, some_goes_on}
 use Rattle.h1_connection.proofs.connection.Connection.send.Goals as goal
 
@@ -12,7 +13,8 @@ invariant_of-self c = still_sound c.send.result _ _ _ c.self.invariant c.send.en
 
 pub returns-clause-stands : goal.returns-clause-stands
 returns-clause-stands c =
-    ok_map c.send.result _ _ (λ sent steps. some_goes_on _ _ _ _ _ _ c.self.view_is c.requires.can_send steps) c.send.ensures.ok
+    ok_both c.send.result _ _ _ (λ sent steps marks. some_goes_on _ _ _ _ _ _ c.self.view_is c.requires.can_send (λ out says. marks ∙ quiet_send sent out _ says) steps)
+    c.send.ensures.ok c.send.ensures.marks
 
 pub returns-clause-no_memory_needed : goal.returns-clause-no_memory_needed
 returns-clause-no_memory_needed c =

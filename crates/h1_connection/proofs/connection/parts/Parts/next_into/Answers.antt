@@ -14,8 +14,8 @@ returns-in-Ok-true-clause-ok c = λ held.
     let i = c.read_head.new.self in
     let same = c.read_head.ensures.same in
     let read = c.in-Ok-true.ensures.head c.in-Ok-true.field-0-test in
-    next_same c.args.config.now p i _ (next.Head c.read_head.new.item) same
-    (head_steps c.args.config.now (record p { input = i }) _ read.0 c.read_head.new.item read.2.0 (runs_same c.args.config.now p i same (sym c.in_default.ensures))
+    next_same c.args.config.now p i c.hand_out.new.self (next.Head c.read_head.new.item) same
+    (head_steps c.args.config.now (record p { input = i }) c.hand_out.new.self read.0 c.read_head.new.item read.2.0 (runs_same c.args.config.now p i same (sym c.in_default.ensures))
     (found_same p i read.0 same read.1) read.2.1 read.2.2 c.hand_out.ensures.handed) held
 
 pub returns-in_ok-refuse_by-in-Err-clause-ok : goal.returns-in_ok-refuse_by-in-Err-clause-ok
@@ -26,6 +26,6 @@ returns-in_ok-refuse_by-in-Err-clause-ok c = λ held.
     let fault = c.in_ok-refuse_by-in-Err.field-0 in
     let cause = c.in_ok-refuse_by-in-Err.ensures.cause in
     let read = c.in-Err.ensures.fault cause.0 in
-    next_same c.args.config.now p i _ (next.Fault fault) same
-    (found_steps c.args.config.now (record p { input = i }) _ read.0 fault (runs_same c.args.config.now p i same (sym c.in_default.ensures))
+    next_same c.args.config.now p i c.refuse_by.new.self (next.Fault fault) same
+    (found_steps c.args.config.now (record p { input = i }) c.refuse_by.new.self read.0 fault (runs_same c.args.config.now p i same (sym c.in_default.ensures))
     (found_same p i read.0 same read.1) (subst (λ (f : Fault). IsReading read.0 (faulty f)) (sym cause.1) read.2) c.in_ok-refuse_by-in-Err.ensures.ok) held

@@ -1,4 +1,5 @@
-use Rattle.h1_connection.proofs.ResultLemmas.{ok_three, on_both}
+use Rattle.std.proofs.Common.{refl}
+use Rattle.h1_connection.proofs.ResultLemmas.{on_any, ok_three, on_both}
 use Rattle.h1_connection.proofs.PullLemmas.{pull_of, pull_steps, pull_sound}
 use Rattle.h1_connection.proofs.connection.parts.Parts.pull.Goals as goal
 
@@ -15,3 +16,6 @@ returns-clause-sound c =
     on_both c.pull.result _ _ _
     (λ parts frames. pull_sound c.args.config.now c.args.self.now c.in-Some.exchange _ _ c.in-Some.is c.requires.open frames c.pull.ensures.piece parts c.requires.sound)
     c.pull.ensures.parts c.pull.ensures.no_frames
+
+pub returns-clause-marks : goal.returns-clause-marks
+returns-clause-marks c = on_any c.pull.result _ refl

@@ -1,6 +1,9 @@
+use Rattle.std.proofs.Common.{ap, ◌∙◌}
 use Rattle.std.proofs.lemmas.Bool.{false≢true}
 use Rattle.h1_connection.proofs.FrameLemmas.{light_frame, upgraded_frames, upgraded_unsearched, frame_may, frame_steps, frame_sound}
 use Rattle.h1_connection.proofs.NamedLemmas.{says_named}
+use Rattle.http_segments.specs.Queued.{Queued}
+use Rattle.h1_connection.specs.declared.connection.parts.Parts.{Parts}
 use Rattle.h1_connection.proofs.connection.parts.Parts.pull_frame.Goals as goal
 
 pub pull_frame-requires-clause-unsearched : goal.pull_frame-requires-clause-unsearched
@@ -14,12 +17,12 @@ note-requires c = frame_may c.args.self.now _ c.in-Some.exchange _ _ c.in_ok-pul
 
 pub returns-clause-ok : goal.returns-clause-ok
 returns-clause-ok c =
-    frame_steps c.args.config.now c.args.self.now _ _ c.in-Some.exchange _ _ c.in_ok-pulled.pulled c.in-Some.is c.requires.upgraded c.requires.sound
+    frame_steps c.args.config.now c.args.self.now c.fail_by.new.self c.note.new.self c.in-Some.exchange _ _ c.in_ok-pulled.pulled c.in-Some.is c.requires.upgraded c.requires.sound
     c.in_ok-pulled.ensures.pulled c.fail_by.ensures.failed c.fail_by.ensures.parts c.note.ensures.kept c.note.ensures.input
 
 pub returns-clause-sound : goal.returns-clause-sound
 returns-clause-sound c =
-    frame_sound c.args.config.now c.args.self.now _ _ c.in-Some.exchange _ _ c.in_ok-pulled.pulled c.requires.sound
+    frame_sound c.args.config.now c.args.self.now c.fail_by.new.self c.note.new.self c.in-Some.exchange _ _ c.in_ok-pulled.pulled c.requires.sound
     c.in_ok-pulled.ensures.pulled c.fail_by.ensures.parts c.note.ensures.kept c.note.ensures.input
 
 pub returns-in_err-pulled-clause-no_memory_needed : goal.returns-in_err-pulled-clause-no_memory_needed
@@ -28,3 +31,6 @@ returns-in_err-pulled-clause-no_memory_needed c = λ light.
 
 pub returns-clause-named : goal.returns-clause-named
 returns-clause-named c = says_named c.in_ok-pulled.pulled _ c.in_ok-pulled.ensures.pulled.pulled.says
+
+pub returns-clause-marks : goal.returns-clause-marks
+returns-clause-marks c = ap (λ (q : Queued). q.marks) (c.note.ensures.output ∙ ap (λ (p : Parts). p.output) c.fail_by.ensures.parts)

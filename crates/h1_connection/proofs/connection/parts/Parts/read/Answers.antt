@@ -6,12 +6,12 @@ use Rattle.h1_connection.proofs.connection.parts.Parts.read.Goals as goal
 
 pub settle-requires : goal.settle-requires
 settle-requires c =
-    passed_may _ _ c.pass_body.ensures.kept c.pass_body.ensures.input (read_may c.args.config.now c.args.self.now c.take.new.self c.requires c.in_ok-count.ensures.searched)
+    passed_may (record c.args.self.now { input = c.take.new.self }) c.pass_body.new.self c.pass_body.ensures.kept c.pass_body.ensures.input (read_may c.args.config.now c.args.self.now c.take.new.self c.requires c.in_ok-count.ensures.searched)
 
 pub returns-clause-ok : goal.returns-clause-ok
 returns-clause-ok c =
-    read_steps c.args.config.now c.args.self.now _ _ c.take.new.self c.args.bytes.now c.in_ok-count.count
-    (c.in_ok-count.ensures.count ∙ ap (λ (h : ℕ). min (length c.args.bytes.now) (h - length c.args.self.now.input.unread)) c.h1_hold_size.ensures.value) c.in_ok-count.ensures.ok c.pass_body.ensures.kept c.settle.ensures
+    read_steps c.args.config.now c.args.self.now c.pass_body.new.self c.settle.new.self c.take.new.self c.args.bytes.now c.in_ok-count.count
+    (c.in_ok-count.ensures.count ∙ ap (λ (h : ℕ). min (length c.args.bytes.now) (h - length c.args.self.now.input.unread)) c.h1_hold_size.ensures.value) c.in_ok-count.ensures.ok c.pass_body.ensures.kept c.settle.ensures.settled
 
 pub returns-clause-sound : goal.returns-clause-sound
-returns-clause-sound c = read_sound c.args.config.now c.args.self.now _ _ c.take.new.self c.requires c.pass_body.ensures.kept c.settle.ensures
+returns-clause-sound c = read_sound c.args.config.now c.args.self.now c.pass_body.new.self c.settle.new.self c.take.new.self c.requires c.pass_body.ensures.kept c.settle.ensures.settled

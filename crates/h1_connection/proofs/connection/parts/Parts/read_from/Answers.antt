@@ -5,7 +5,7 @@ use Rattle.h1_connection.proofs.connection.parts.Parts.read_from.Goals as goal
 
 pub settle-requires : goal.settle-requires
 settle-requires g c =
-    passed_may _ _ c.pass_body.ensures.kept c.pass_body.ensures.input (read_may c.args.config.now c.args.self.now c.read_from.new.self c.requires c.in_ok-came.ensures.searched)
+    passed_may (record c.args.self.now { input = c.read_from.new.self }) c.pass_body.new.self c.pass_body.ensures.kept c.pass_body.ensures.input (read_may c.args.config.now c.args.self.now c.read_from.new.self c.requires c.in_ok-came.ensures.searched)
 
 pub returns-clause-ok : goal.returns-clause-ok
 returns-clause-ok g c =
@@ -15,9 +15,9 @@ returns-clause-ok g c =
       came.0,
       came.1,
       came.3,
-      came_steps c.args.config.now c.args.self.now _ _ c.read_from.new.self came.0 c.in_ok-came.came c.if-came-eq0.false came.1 room came.2 c.pass_body.ensures.kept
-          c.settle.ensures,
+      came_steps c.args.config.now c.args.self.now c.pass_body.new.self c.settle.new.self c.read_from.new.self came.0 c.in_ok-came.came c.if-came-eq0.false came.1 room came.2 c.pass_body.ensures.kept
+          c.settle.ensures.settled,
     )
 
 pub returns-clause-sound : goal.returns-clause-sound
-returns-clause-sound g c = read_sound c.args.config.now c.args.self.now _ _ c.read_from.new.self c.requires c.pass_body.ensures.kept c.settle.ensures
+returns-clause-sound g c = read_sound c.args.config.now c.args.self.now c.pass_body.new.self c.settle.new.self c.read_from.new.self c.requires c.pass_body.ensures.kept c.settle.ensures.settled

@@ -1,5 +1,10 @@
+use Rattle.std.proofs.Common.{ap, ◌∙◌}
 use Rattle.h1_connection.proofs.StepLemmas.{sound_may}
+use Rattle.http_segments.specs.Queued.{Queued}
 use Rattle.h1_connection.proofs.connection.parts.Parts.refuse.Goals as goal
 
 pub note-requires : goal.note-requires
 note-requires c = sound_may c.args.config.now c.args.self.now c.requires
+
+pub returns-clause-marks : goal.returns-clause-marks
+returns-clause-marks c = ap (λ (q : Queued). q.marks) (c.note.ensures.output ∙ c.in_ok-put_fault.ensures.ok)

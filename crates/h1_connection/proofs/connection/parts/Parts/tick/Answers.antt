@@ -1,5 +1,5 @@
-use Rattle.std.proofs.Common.{sym, ◌∙◌, subst}
-use Rattle.std.specs.Prelude.{IfOk, IsOk}
+use Rattle.std.proofs.Common.{◌≡◌, sym, ◌∙◌, subst}
+use Rattle.std.specs.Prelude.{IfOk, IsOk, OnOk}
 use Rattle.h1_model.specs.Event as on
 use Rattle.h1_connection.specs.Meaning.{setting_of}
 use Rattle.h1_connection.specs.Parts.{kept_of, IsSound, Steps}
@@ -23,3 +23,7 @@ returns-clause-no_memory_needed c =
 
 pub returns-clause-err : goal.returns-clause-err
 returns-clause-err c = err_map c.take_tick.result _ _ (λ e. e ∙ c.give_back.ensures) c.take_tick.ensures.err
+
+pub returns-clause-marks : goal.returns-clause-marks
+returns-clause-marks c =
+    subst (λ (p : Parts). OnOk c.take_tick.result (c.take_tick.new.self.output.marks ≡ p.output.marks)) c.give_back.ensures c.take_tick.ensures.marks
