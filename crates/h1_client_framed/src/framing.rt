@@ -8,7 +8,7 @@ use http_framing::{BodySize, Decoder, Encoder};
 use http_types::RequestHeadType;
 
 impl Decoder for ClientCodec {
-    ghost use Rattle.std.specs.Prelude.{◌≡◌};
+    ghost use Rattle.std.specs.Prelude.{◌≡◌, ⊤};
     ghost use Rattle.http_types.specs.declared.error.ParseError.TheVariants as parse;
     ghost use Rattle.h1_decode.specs.declared.response.ResponseItem.{ResponseItem};
     ghost use Rattle.h1_framed.specs.Messages.{Messages, nothing};
@@ -36,6 +36,8 @@ impl Decoder for ClientCodec {
 
     ghost leaves = { λ _ old bytes new rest. (new ≡ old) × (rest ≡ bytes) };
 
+    ghost holds = { λ _. ⊤ };
+
     ghost Beside = { Asking };
 
     ghost beside = { λ c. client_asking (of_codec c) };
@@ -46,7 +48,7 @@ impl Decoder for ClientCodec {
 }
 
 impl Decoder for ClientPayloadCodec {
-    ghost use Rattle.std.specs.Prelude.{◌≡◌};
+    ghost use Rattle.std.specs.Prelude.{◌≡◌, ⊤};
     ghost use Rattle.http_types.specs.declared.error.ParseError.TheVariants as parse;
     ghost use Rattle.h1_decode.specs.declared.response.ResponseItem.{ResponseItem};
     ghost use Rattle.h1_framed.specs.Messages.{Messages, nothing};
@@ -73,6 +75,8 @@ impl Decoder for ClientPayloadCodec {
     ghost seen = { PayloadLooked };
 
     ghost leaves = { λ error old bytes new rest. ChunkLeft error (of_payload old) bytes (of_payload new) rest };
+
+    ghost holds = { λ _. ⊤ };
 
     ghost Beside = { Asking };
 

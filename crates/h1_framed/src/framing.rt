@@ -8,7 +8,7 @@ use http_framing::{BodySize, Decoder, Encoder};
 use http_types::{ParseError, Response};
 
 impl Decoder for Codec {
-    ghost use Rattle.std.specs.Prelude.{◌≡◌};
+    ghost use Rattle.std.specs.Prelude.{◌≡◌, ⊤};
     ghost use Rattle.http_types.specs.declared.error.ParseError.TheVariants as errors;
     ghost use Rattle.h1_decode.specs.declared.decoder.HeadItem.{HeadItem};
     ghost use Rattle.h1_framed.specs.Messages.{Messages, given, nothing, Breaks};
@@ -33,6 +33,8 @@ impl Decoder for Codec {
     ghost seen = { HasLookedAt };
 
     ghost leaves = { CodecLeft };
+
+    ghost holds = { λ _. ⊤ };
 
     ghost Beside = { Writing };
 

@@ -118,6 +118,7 @@ fn read_item<T: ReadHead>(alloc: Global, piece: &[u8]) -> Result<(T, PayloadType
 }
 
 impl<T: ReadHead> Decoder for MessageDecoder<T> {
+    ghost use Rattle.std.specs.Prelude.{⊤};
     ghost use Rattle.h1_messages.specs.Heads.{no_heads, Breaks, LeftAfter};
     ghost use Rattle.http_types.specs.declared.error.ParseError.TheVariants as errors;
 
@@ -140,6 +141,8 @@ impl<T: ReadHead> Decoder for MessageDecoder<T> {
     ghost seen = { HasSeen };
 
     ghost leaves = { LeftAfter };
+
+    ghost holds = { λ _. ⊤ };
 
     ghost Beside = { Unit };
 

@@ -175,8 +175,8 @@ fn item_of(answer: Pulled) -> Result<Option<PayloadItem>, DecodeError>
 }
 
 impl Decoder for PayloadDecoder {
-    ghost use Rattle.std.specs.Prelude.{◌≡◌, ⊤};
-    ghost use Rattle.h1_payload.specs.Decoding.{waiting_payload, Breaks, LeftAfter};
+    ghost use Rattle.std.specs.Prelude.{◌≡◌, ⊤, Some};
+    ghost use Rattle.h1_payload.specs.Decoding.{waiting_payload, Breaks, LeftAfter, HasSome};
     ghost use Rattle.h1_payload.specs.declared.item.DecodeError.TheVariants as errors;
 
     type Item = PayloadItem;
@@ -198,6 +198,8 @@ impl Decoder for PayloadDecoder {
     ghost seen = { λ _ _. ⊤ };
 
     ghost leaves = { LeftAfter };
+
+    ghost holds = { λ item. HasSome (Some item) };
 
     ghost Beside = { Unit };
 

@@ -1,5 +1,5 @@
 //! Items from bytes, and items into bytes.
-ghost use Rattle.std.specs.Prelude.{◌≡◌, ◌++◌, ℕ, List, Ok, None, IfOk, IfErr, OnOk, OnErr};
+ghost use Rattle.std.specs.Prelude.{◌≡◌, ◌++◌, ℕ, List, Ok, None, IfOk, IfErr, IfSome, OnOk, OnErr};
 ghost use Rattle.http_framing.specs.AnyPieces.{GoesOn, OnlySays, in_front, Fed, AreFed, LastReads, all_told, all_came};
 
 use bytes::BytesMut;
@@ -40,6 +40,9 @@ pub trait Decoder {
     /// After this error, decoder and bytes that were so are left so.
     ghost leaves: { Self.Error → Self → List ℕ → Self → List ℕ → Type 0 };
 
+    /// What holds of each item that is answered, as that a piece of a body isn't empty.
+    ghost holds: { Self.Item → Type 0 };
+
     /// What the value keeps beside its reading, as what it writes next where it is an encoder too.
     ghost Beside: { Type 0 };
 
@@ -56,6 +59,7 @@ pub trait Decoder {
         ensures lacking { IfErr result (λ e. lacks e → (self.new ≡ self.old) × (src.new.items ≡ src.old.items)) }
         ensures left { IfErr result (λ e. leaves e self.old src.old.items self.new src.new.items) }
         ensures beside { beside self.new ≡ beside self.old }
+        ensures holds { IfOk result (λ answer. IfSome answer holds) }
         ensures seen { OnOk result (seen self.old src.old.items → (more : List ℕ) → seen self.new (src.new.items ++ more)) };
 }
 

@@ -33,6 +33,8 @@ impl<R> Decoder for Codec<R> {
 
     ghost leaves = { LeftAfter };
 
+    ghost holds = { λ _. ⊤ };
+
     ghost Beside = { Codec R };
 
     ghost beside = { with_reading false };
