@@ -1,5 +1,5 @@
 -- What the program writes.
-use Rattle.std.specs.Prelude.{◌≡◌, ◌==◌, ℕ, Option, Some, None, List, [], ◌∷◌, ◌++◌, length, map, concat, codes, decimal, if◌then◌else◌, Bool}
+use Rattle.std.specs.Prelude.{◌≡◌, ◌==◌, ℕ, Bool, Option, Some, None, List, [], ◌∷◌, ◌++◌, length, codes, decimal, if◌then◌else◌}
 use Rattle.std.specs.BTreeMap.{is_at}
 use Rattle.std.specs.Cmp.Lexicographic.{slice_cmp}
 use Rattle.std.specs.List.{count_by}
@@ -26,13 +26,17 @@ number_line word number = word ++ decimal number ++ 10 ∷ []
 abbrev pub count_line : List ℕ × ℕ → List ℕ
 count_line row = row.0 ++ number_line (codes " ") row.1
 
+abbrev pub count_lines : List (List ℕ × ℕ) → List ℕ
+count_lines [] = []
+count_lines (row ∷ rows) = count_line row ++ count_lines rows
+
 -- A report of a journal: how many entries it has, and a line with its counter for each name that it speaks of, in the order of
 -- their bytes.
 pub record IsReportText (journal : List Entry) (text : List ℕ) : Type 0 where
   pub rows : List (List ℕ × ℕ)
   pub sorted : IsStrictlySortedBy (slice_cmp nat_cmp) (keys_of rows)
   pub each : (name : List ℕ) → lookup (is_at (slice_cmp nat_cmp name)) rows ≡ told_of name journal
-  pub text_is : text ≡ number_line (codes "calls ") (length journal) ++ concat (map count_line rows)
+  pub text_is : text ≡ number_line (codes "calls ") (length journal) ++ count_lines rows
 
 abbrev pub usage_text : List ℕ
 usage_text = codes "usage: h1_serve PORT N POLLS\n"

@@ -5,11 +5,12 @@ ghost use Rattle.std.specs.Cmp.Lexicographic.{slice_cmp};
 ghost use Rattle.std.specs.Ordering.{nat_cmp};
 ghost use Rattle.std.specs.Str.{bytes_eq};
 ghost use Rattle.h1_share.specs.Journal.{IsRight, name_of};
-ghost use Rattle.h1_served.specs.Texts.{IsReportText, told_of, count_line, number_line};
+ghost use Rattle.h1_served.specs.Texts.{IsReportText, told_of, count_line, count_lines, number_line};
 
 use h1_share::{Command, Entry, Name};
 use std::alloc::{AllocError, Global};
 use std::collections::BTreeMap;
+use std::collections::btree_map::Iter;
 
 /// The line `calls C`, with the number of the journal's entries, and a line `NAME COUNT` for each name that the journal
 /// speaks of, in the order of their bytes, with its counter.
@@ -19,9 +20,7 @@ pub(crate) fn report_text(alloc: Global, journal: &[Entry]) -> Result<Vec<u8>, A
 {
     let counts = counts_of(alloc, journal)?;
     let mut text = number_line(alloc, b"calls ", journal.len() as u64)?;
-    for (name, count) in &counts {
-        put_line(alloc, &mut text, name, *count)?;
-    }
+    put_lines(alloc, &mut text, counts.iter())?;
     Ok(text)
 }
 
@@ -49,6 +48,17 @@ fn note(counts: &mut BTreeMap<Name, u64>, entry: &Entry) -> Result<(), AllocErro
         Ok(_) => Ok(()),
         Err(_) => Err(AllocError),
     }
+}
+
+/// Adds the lines of names.
+fn put_lines(alloc: Global, text: &mut Vec<u8>, rows: Iter<'_, Name, u64>) -> Result<(), AllocError>
+    ensures { OnOk result (text.new.items ≡ text.old.items ++ count_lines rows) }
+{
+    let mut rows = rows;
+    while let Some((name, count)) = rows.next() {
+        put_line(alloc, text, name, *count)?;
+    }
+    Ok(())
 }
 
 /// Adds the line of a name.
