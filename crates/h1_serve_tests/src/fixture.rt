@@ -3,7 +3,7 @@ ghost use Rattle.std.specs.Prelude.{◌≡◌, nat_eq};
 
 use bytes::Bytes;
 use h1_line::NoRecord;
-use h1_served::{Gate, MemDoor, NoRecords, Ran, Report, ServeError, ServeFault, serve};
+use h1_served::{Gate, MemDoor, NoRecords, Ran, Report, ServeError, ServeFault, serve_by};
 use http_types::ServiceConfig;
 use http_wires::{Clock, MemWire};
 use std::alloc::{AllocError, AllocGlobal, Global};
@@ -61,10 +61,31 @@ pub struct Seen {
     pub ends: Vec<Result<(), ServeError>>,
 }
 
-/// Serves these wires, and fails these calls of the door.
+/// Serves these wires, each on a thread of its own, and fails these calls of the door.
 pub fn seen<M, R, G>(
     rt: &R,
     blank: Blank,
+    wires: Vec<MemWire>,
+    fail: Vec<usize>,
+    gate: &G,
+    most: usize,
+    polls: u64,
+) -> Result<Seen, AllocError>
+where
+    M: Ledger + Send + Sync,
+    R: Threads + Wait + RandomSource + AllocGlobal + Sync,
+    G: Gate + Sync,
+    requires is_its_ledger { (blank.name ≡ M.name) × (blank.parts ≡ M.parts) }
+    requires has_a_part_for_each_pass { M.parts ≡ 65536 }
+{
+    seen_by::<M, _, _>(rt, blank, usize::MAX, wires, fail, gate, most, polls)
+}
+
+/// Serves these wires, by so many threads at most, and fails these calls of the door.
+pub fn seen_by<M, R, G>(
+    rt: &R,
+    blank: Blank,
+    threads: usize,
     wires: Vec<MemWire>,
     fail: Vec<usize>,
     gate: &G,
@@ -82,8 +103,9 @@ where
     if most > 65_536 || polls == 0 {
         return Err(AllocError);
     }
-    let ran: Ran<MemDoor, NoRecords, M> = serve(
+    let ran: Ran<MemDoor, NoRecords, M> = serve_by(
         rt,
+        threads,
         ServiceConfig::default(),
         MemDoor::new(wires, fail),
         Stands,

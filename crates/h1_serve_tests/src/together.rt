@@ -1,6 +1,6 @@
 //! Two connections at once.
-use crate::fixture::{Ended, seen, wire};
-use h1_served::Gate;
+use crate::fixture::{Ended, seen, seen_by, wire};
+use h1_served::{Gate, OpenGate};
 use std::marker::Brand;
 use std::sync::atomic::AtomicBool;
 use std::sync::atomic::Ordering::SeqCst;
@@ -57,5 +57,34 @@ fn two_at_once(rt: HostRuntime) -> Result<(), Fail> {
     )?;
     assert!(rt; !gate.gave_up.load(SeqCst));
     assert!(rt; ran.ended == Ended::Whole && ran.entries == 2 && ran.ends.len() == 2);
+    Ok(())
+}
+
+/// How many connections there are where no thread is started.
+const MANY: usize = 3;
+
+#[test]
+fn without_a_thread_the_report_is_the_same(rt: HostRuntime) -> Result<(), Fail> {
+    let alloc = rt.alloc();
+    for threads in 0..MANY {
+        let mut wires = Vec::new(alloc);
+        for _ in 0..MANY {
+            wires.push(wire(alloc, &[b"POST /a HTTP/1.1\r\n\r\n"], None)?)?;
+        }
+        let ran = seen_by::<Brand, _, _>(
+            &rt,
+            Blank::new(65_536),
+            threads,
+            wires,
+            Vec::new(alloc),
+            &OpenGate,
+            4,
+            100,
+        )?;
+        assert!(rt; ran.ended == Ended::Whole && ran.entries == MANY && ran.ends.len() == MANY);
+        for end in &ran.ends {
+            assert!(rt; end.is_ok());
+        }
+    }
     Ok(())
 }

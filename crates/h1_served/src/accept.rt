@@ -121,7 +121,7 @@ where
     )
 }
 
-/// Serves on a thread of the scope, or here where no thread can be made.
+/// Serves on a thread of the scope, or here where it may not start one, or none can be made.
 fn start<
     's,
     'e,
@@ -141,6 +141,7 @@ fn start<
     gate: &'s G,
     conn: usize,
     recorder: L,
+    may_start: bool,
 ) -> Result<PromisedHandle<Served<W, L, M>, Serving<K>>, Served<W, L, M>>
     requires some { 0 < serving.polls }
     requires fresh { IsFresh (W.wiring wire) }
@@ -148,6 +149,9 @@ fn start<
     ensures promise { IfOk result (λ h. h.promise ≡ serving) }
     ensures here { IfErr result (λ s. WasServed serving.config serving.polls (K.may_give serving.clock) (W.wiring s.wire) (L.noted s.recorder) s.pass.pass s.end) }
 {
+    if !may_start {
+        return Err(serve_new(rt, serving, wire, shared, pass, gate, conn, recorder));
+    }
     let job = move || -> Served<W, L, M>
         requires { (0 < serving.polls) × IsFresh (W.wiring wire) × ((L.noted recorder ≡ None) ⊎ (L.noted recorder ≡ Some [])) }
         ensures { WasServed serving.config serving.polls (K.may_give serving.clock) (W.wiring result.wire) (L.noted result.recorder) result.pass.pass result.end }
@@ -179,8 +183,8 @@ fn join_all<T: Drop, P: Promise<T>, R: Threads>(
     served
 }
 
-/// Accepts until the door gives no more, fails, or no pass is left, and joins the threads. Without memory for their handles
-/// the door and the recorders come back.
+/// Accepts until the door gives no more, fails, or no pass is left, and joins the threads, of which there are so many at most.
+/// Without memory for their handles the door and the recorders come back.
 fn accept_all<
     's,
     'e,
@@ -195,6 +199,7 @@ fn accept_all<
 >(
     rt: &'s R,
     scope: &'s Scope<'s, &'e ()>,
+    threads: usize,
     serving: Serving<K>,
     shared: &'s Shared<M>,
     gate: &'s G,
@@ -223,7 +228,10 @@ fn accept_all<
         match door.accept() {
             Ok(Some(wire)) => {
                 let recorder = recorders.make();
-                match start(rt, scope, serving, wire, shared, pass, gate, conn, recorder) {
+                let may_start = handles.len() < threads;
+                match start(
+                    rt, scope, serving, wire, shared, pass, gate, conn, recorder, may_start,
+                ) {
                     Ok(handle) => handles.push_reserved(handle),
                     Err(done) => served.push_reserved(done),
                 }
@@ -249,7 +257,7 @@ fn accept_all<
     })
 }
 
-/// Serves each connection on a thread of its own, and waits for all.
+/// Serves each connection on a thread of its own, of which there are so many at most, or here, and waits for all.
 pub(crate) fn serve_all<
     D: Door<Conn = W>,
     W: Wire + Send,
@@ -261,6 +269,7 @@ pub(crate) fn serve_all<
     R: Threads + Wait + RandomSource + AllocGlobal + Sync,
 >(
     rt: &R,
+    threads: usize,
     serving: Serving<K>,
     shared: &Shared<M>,
     gate: &G,
@@ -283,6 +292,10 @@ pub(crate) fn serve_all<
             ensures taken { IfOk result (λ t. IsTaken (D.opening door) (D.opening t.door) (vec_len t.served) (vec_len t.spare) t.has_failed) }
             ensures count { IfOk result (λ t. vec_len t.served + vec_len t.spare ≡ vec_len passes) }
             ensures back { IfErr result (λ r. D.opening r.0 ≡ D.opening door) }
-        { accept_all(rt, scope, serving, shared, gate, passes, door, recorders) },
+        {
+            accept_all(
+                rt, scope, threads, serving, shared, gate, passes, door, recorders,
+            )
+        },
     )
 }

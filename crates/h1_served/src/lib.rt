@@ -37,5 +37,5 @@ pub use h1_serving::{Gate, NoRecords, OpenGate, Recorders, ServeError};
 pub use mem_door::MemDoor;
 pub use report::print_report;
 pub use run::{Run, serve_run};
-pub use server::serve;
+pub use server::{serve, serve_by};
 pub use visit::{Differing, Ran, Report, ServeFault, Visit};

@@ -52,6 +52,53 @@ where
     requires some { 0 < polls }
     ensures { SaysRan config polls (K.may_give clock) W.wiring L.noted most (D.opening door) (D.opening result.door) result.end }
 {
+    serve_by(
+        rt,
+        usize::MAX,
+        config,
+        door,
+        clock,
+        gate,
+        recorders,
+        most,
+        polls,
+        blank,
+    )
+}
+
+/// Serves as [`serve`] does, and starts so many threads at most. A connection that comes after those is served here, as where
+/// no thread can be made: no other is accepted meanwhile.
+///
+/// # Errors
+///
+/// In `end`: `Door` where the door failed; `Unlike` where the journal isn't that of the passes; `NoMemory`.
+pub fn serve_by<D, K, G, Q, M, R, W, L>(
+    rt: &R,
+    threads: usize,
+    config: ServiceConfig,
+    door: D,
+    clock: K,
+    gate: &G,
+    recorders: Q,
+    most: usize,
+    polls: u64,
+    blank: Blank,
+) -> Ran<D, Q, M>
+where
+    D: Door<Conn = W>,
+    W: Wire + Send,
+    K: Clock + Copy + Send,
+    G: Gate + Sync,
+    Q: Recorders<Rec = L>,
+    L: Recorder + Send,
+    M: Ledger + Send + Sync,
+    R: Threads + Wait + RandomSource + AllocGlobal + Sync,
+    requires is_its_ledger { (blank.name ≡ M.name) × (blank.parts ≡ M.parts) }
+    requires has_a_part_for_each_pass { M.parts ≡ 65536 }
+    requires passes { most ≤ 65536 }
+    requires some { 0 < polls }
+    ensures { SaysRan config polls (K.may_give clock) W.wiring L.noted most (D.opening door) (D.opening result.door) result.end }
+{
     let alloc = rt.alloc();
     let serving = Serving {
         config,
@@ -76,7 +123,7 @@ where
         };
     }
     let shared = Shared::from_board(board);
-    match serve_all(rt, serving, &shared, gate, passes, door, recorders) {
+    match serve_all(rt, threads, serving, &shared, gate, passes, door, recorders) {
         Ok(taken) => finish(rt, serving, shared, taken, visits, back),
         Err((door, recorders)) => {
             back.destroy_empty();
