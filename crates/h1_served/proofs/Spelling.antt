@@ -1,11 +1,6 @@
 -- What words spell.
 use Rattle.std.proofs.Common.{◌≡◌, ◌≤◌, ◌<◌, ℕ, List, [], ◌∷◌, length, map, get_or, sym, ap, subst, ◌∙◌, arith}
-use Rattle.std.proofs.lemmas.List.{length-map}
-use Rattle.h1_served.specs.Words.{Spells, AreNumbers, AreWords}
-
--- a word spells one number
-pub spells_one : (bits : ℕ) (word : List ℕ) (a b : ℕ) → Spells bits word a → Spells bits word b → a ≡ b
-spells_one bits word a b first then = sym first.value ∙ then.value
+use Rattle.h1_served.specs.Words.{AreNumbers, AreWords}
 
 -- a list of three is its elements
 items_of : {X : Type 0} (items : List X) (a b c : X) → 3 ≤ length items → length items < 4 → a ≡ get_or items 0 a → b ≡ get_or items 1 b → c ≡ get_or items 2 c → items ≡ a ∷ b ∷ c ∷ []
@@ -29,7 +24,3 @@ numbers_in words first second third port most polls are is =
     let three : is.third ≡ third = ap (λ (l : List (List ℕ)). get_or l 2 []) same in
     subst (λ (x : List ℕ). AreNumbers first second x port most polls) three
     (subst (λ (x : List ℕ). AreNumbers first x is.third port most polls) two (subst (λ (x : List ℕ). AreNumbers x is.second is.third port most polls) one is.numbers))
-
--- other lists of words spell none
-pub not_three : {X : Type 0} (spell : X → List ℕ) (items : List X) (port most polls : ℕ) → (length items ≡ 3 → ⊥) → ¬ AreWords (map spell items) port most polls
-not_three spell items port most polls other is = other (sym (length-map items spell) ∙ ap (λ (l : List (List ℕ)). length l) is.words_are)
