@@ -5,7 +5,7 @@ use crate::requests::{ask, chunk, end_body, fail_body};
 use h1_client::ClientConnection;
 use http_types::{NoMemory, ServiceConfig, ServiceConfigBuilder};
 use std::alloc::Global;
-use vectors::{CaseError, Cursor, put_decimal, put_quoted, put_text, read_joined};
+use vectors::{CaseError, Cursor, PiecePlayer, put_decimal, put_quoted, put_text, read_joined};
 
 /// A long read is brought in pieces of at least this part of it.
 const LONG_READ_PARTS: usize = 256;
@@ -13,18 +13,34 @@ const LONG_READ_PARTS: usize = 256;
 /// What is written where a call may not be made.
 pub const MISPLACED: &str = "misplaced";
 
-/// What the script's events get, a line each. What is read is brought in pieces of at most so many bytes.
-pub fn play(alloc: Global, script: &[&[u8]], size: usize) -> Result<Vec<u8>, CaseError> {
-    let mut client = Client {
-        connection: ClientConnection::new(alloc, ServiceConfig::default()),
-        body: Body::new(alloc),
-    };
-    let mut found = Vec::new(alloc);
-    for line in script {
-        client.take(alloc, line, size, &mut found)?;
-        put_text(&mut found, "\n")?;
+/// The longest pieces in which what is read is brought, besides whole.
+const LONGEST_PIECE: usize = 24;
+
+/// Plays exchanges.
+#[derive(Clone, Copy, Debug)]
+pub struct Exchanges;
+
+impl PiecePlayer for Exchanges {
+    fn kind(&self) -> &str {
+        "exchanges"
     }
-    Ok(found)
+
+    fn longest_piece(&self, _script: &[&[u8]]) -> usize {
+        LONGEST_PIECE
+    }
+
+    fn play(&self, alloc: Global, script: &[&[u8]], size: usize) -> Result<Vec<u8>, CaseError> {
+        let mut client = Client {
+            connection: ClientConnection::new(alloc, ServiceConfig::default()),
+            body: Body::new(alloc),
+        };
+        let mut found = Vec::new(alloc);
+        for line in script {
+            client.take(alloc, line, size, &mut found)?;
+            put_text(&mut found, "\n")?;
+        }
+        Ok(found)
+    }
 }
 
 #[derive(Drop)]

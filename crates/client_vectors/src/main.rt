@@ -6,16 +6,15 @@
 #![tactic(auto)]
 
 mod answers;
-mod block;
 mod bodies;
 mod client;
 mod requests;
 
-use crate::block::Exchanges;
+use crate::client::Exchanges;
 use std::io;
 use std::process::ExitCode;
-use vectors::play_blocks;
+use vectors::play_in_pieces;
 
 fn main(rt: HostRuntime) -> io::Result<ExitCode> {
-    play_blocks(&Exchanges, &rt)
+    play_in_pieces(&Exchanges, &rt)
 }

@@ -1,20 +1,40 @@
 //! A forwarder that does what a script says.
 use h1_proxy::{NoMemory, Proxy, ServiceConfig};
 use std::alloc::Global;
-use vectors::{CaseError, Cursor, put_quoted, put_text, read_joined};
+use vectors::{CaseError, Cursor, PiecePlayer, put_quoted, put_text, read_joined};
 
 /// What is written where a call may not be made.
 const MISPLACED: &str = "misplaced";
 
-/// What the script's lines get, a line each. What is read is brought in pieces of at most so many bytes.
-pub fn play(alloc: Global, script: &[&[u8]], size: usize) -> Result<Vec<u8>, CaseError> {
-    let mut proxy = Proxy::new(alloc, ServiceConfig::default());
-    let mut found = Vec::new(alloc);
-    for line in script {
-        take(alloc, &mut proxy, line, size, &mut found)?;
-        put_text(&mut found, "\n")?;
+/// The longest pieces in which what is read is brought, besides whole.
+const LONGEST_PIECE: usize = 8;
+
+/// Plays exchanges.
+#[derive(Clone, Copy, Debug)]
+pub struct Exchanges;
+
+impl PiecePlayer for Exchanges {
+    fn kind(&self) -> &str {
+        "exchanges"
     }
-    Ok(found)
+
+    /// A script with the line `whole` is played with all bytes of a line at once alone.
+    fn longest_piece(&self, script: &[&[u8]]) -> usize {
+        if script.iter().any(|line| *line == b"whole".as_slice()) {
+            return 0;
+        }
+        LONGEST_PIECE
+    }
+
+    fn play(&self, alloc: Global, script: &[&[u8]], size: usize) -> Result<Vec<u8>, CaseError> {
+        let mut proxy = Proxy::new(alloc, ServiceConfig::default());
+        let mut found = Vec::new(alloc);
+        for line in script {
+            take(alloc, &mut proxy, line, size, &mut found)?;
+            put_text(&mut found, "\n")?;
+        }
+        Ok(found)
+    }
 }
 
 // Does what the line says, and writes what that gets.

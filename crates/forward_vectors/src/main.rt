@@ -5,14 +5,13 @@
 //! `< ` one of what it gets; other lines are passed over. README.md says what the lines mean.
 #![tactic(auto)]
 
-mod block;
 mod forwarder;
 
-use crate::block::Exchanges;
+use crate::forwarder::Exchanges;
 use std::io;
 use std::process::ExitCode;
-use vectors::play_blocks;
+use vectors::play_in_pieces;
 
 fn main(rt: HostRuntime) -> io::Result<ExitCode> {
-    play_blocks(&Exchanges, &rt)
+    play_in_pieces(&Exchanges, &rt)
 }

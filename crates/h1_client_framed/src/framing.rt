@@ -48,12 +48,14 @@ impl Decoder for ClientCodec {
 }
 
 impl Decoder for ClientPayloadCodec {
-    ghost use Rattle.std.specs.Prelude.{◌≡◌, ⊤};
+    ghost use Rattle.std.specs.Prelude.{◌≡◌, Some};
     ghost use Rattle.http_types.specs.declared.error.ParseError.TheVariants as parse;
     ghost use Rattle.h1_decode.specs.declared.response.ResponseItem.{ResponseItem};
     ghost use Rattle.h1_framed.specs.Messages.{Messages, nothing};
+    ghost use Rattle.h1_framed.specs.Answers.{HasBytes};
     ghost use Rattle.h1_client_framed.specs.declared.error.ClientError.TheVariants as errors;
     ghost use Rattle.h1_client_framed.specs.Answers.{chunk_given, ChunkLeft};
+    ghost use Rattle.h1_client_framed.specs.Pieces.{as_chunk};
     ghost use Rattle.h1_client_framed.specs.State.{PayloadReads, PayloadLooked, ClientBreaks, Asking, client_asking, of_payload};
 
     type Item = Option<Bytes>;
@@ -76,7 +78,7 @@ impl Decoder for ClientPayloadCodec {
 
     ghost leaves = { λ error old bytes new rest. ChunkLeft error (of_payload old) bytes (of_payload new) rest };
 
-    ghost holds = { λ _. ⊤ };
+    ghost holds = { λ item. HasBytes (as_chunk (Some item)) };
 
     ghost Beside = { Asking };
 

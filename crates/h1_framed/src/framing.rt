@@ -8,11 +8,12 @@ use http_framing::{BodySize, Decoder, Encoder};
 use http_types::{ParseError, Response};
 
 impl Decoder for Codec {
-    ghost use Rattle.std.specs.Prelude.{◌≡◌, ⊤};
+    ghost use Rattle.std.specs.Prelude.{◌≡◌, Some};
     ghost use Rattle.http_types.specs.declared.error.ParseError.TheVariants as errors;
     ghost use Rattle.h1_decode.specs.declared.decoder.HeadItem.{HeadItem};
     ghost use Rattle.h1_framed.specs.Messages.{Messages, given, nothing, Breaks};
     ghost use Rattle.h1_framed.specs.State.{CodecReads, HasLookedAt, CodecLeft, Writing, codec_writing};
+    ghost use Rattle.h1_framed.specs.Answers.{HasBytes};
 
     type Item = Message<HeadItem>;
 
@@ -34,7 +35,7 @@ impl Decoder for Codec {
 
     ghost leaves = { CodecLeft };
 
-    ghost holds = { λ _. ⊤ };
+    ghost holds = { λ item. HasBytes (Some item) };
 
     ghost Beside = { Writing };
 

@@ -1,16 +1,16 @@
-//! An echo service by an event loop: `h1_looped PORT THREADS`. It listens on the port of this machine, and serves it by so
+//! A small site by an event loop: `h1_looped PORT THREADS`. It listens on the port of this machine, and serves it by so
 //! many threads, each with a loop of its own, until its standard input ends or has a line; where that can't be watched, as
 //! a file, it goes on.
 #![tactic(auto)]
 
-mod site;
+mod sites;
 
 use h1_jobs::Limits;
 use h1_loop::run_many;
 use h1_mio::MioWatch;
 use h1_net::{Linger, SystemClock};
 use http_types::ServiceConfig;
-use site::Sites;
+use sites::Sites;
 use std::alloc::AllocGlobal;
 use std::env;
 use std::net::{Net, TcpListener};

@@ -2,9 +2,7 @@
 //! machine, serves so many connections, one after another, and ends.
 #![tactic(auto)]
 
-mod lines;
 mod serve;
-mod site;
 
 use h1_net::{Linger, SystemClock, TcpDoor};
 use http_wires::Door;

@@ -1,8 +1,8 @@
 //! The loop.
-use crate::site::Site;
 use futures::task::{Doorbell, Poll, Solo};
 use h1_dispatch::Dispatcher;
 use h1_line::NoRecord;
+use h1_site::Site;
 use http_services::CountedService;
 use http_types::ServiceConfig;
 use http_wires::{Clock, Wire};

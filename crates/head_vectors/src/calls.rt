@@ -1,8 +1,11 @@
 //! The calls by their names.
 use crate::ends::{sink, source, sure_sink, sure_source};
+use crate::errors::{
+    cause, content_type_error, dispatch_error, error, http_error, parse_error, payload_error,
+};
 use crate::heads::{asks, chunked, connection, media_type, reason};
 use crate::maps::{drain, edit, find, pairs};
-use crate::printed::{error, map};
+use crate::printed::map;
 use crate::settings::{hold_size, keep_alive};
 use http_types::NoMemory;
 use std::alloc::Global;
@@ -20,6 +23,12 @@ impl Player for Heads {
             b"pairs" => pairs(alloc, case, found),
             b"map" => map(alloc, case, found),
             b"error" => error(alloc, case, found),
+            b"http-error" => http_error(alloc, case, found),
+            b"parse-error" => parse_error(alloc, case, found),
+            b"payload-error" => payload_error(alloc, case, found),
+            b"dispatch-error" => dispatch_error(alloc, case, found),
+            b"cause" => cause(alloc, case, found),
+            b"content-type-error" => content_type_error(alloc, case, found),
             b"connection" => connection(alloc, case, found),
             b"reason" => reason(alloc, case, found),
             b"media-type" => media_type(alloc, case, found),

@@ -4,6 +4,7 @@
 
 mod calls;
 mod ends;
+mod errors;
 mod heads;
 mod maps;
 mod printed;

@@ -1,8 +1,8 @@
 //! Items over a wire.
-ghost use Rattle.std.specs.Prelude.{◌≡◌, ◌≤◌, ◌↔◌, ◌++◌, ℕ, List, [], IsTrue, OnOk, OnErr, IfErr, length};
+ghost use Rattle.std.specs.Prelude.{◌≡◌, ◌≤◌, ◌↔◌, ◌++◌, ℕ, List, [], IsTrue, OnOk, OnErr, IfOk, IfErr, IfSome, length};
 ghost use Rattle.std.specs.Borrow.{sem};
 ghost use Rattle.futures.specs.Task.{IsArmed, Keeps};
-ghost use Rattle.futures.specs.Poll.{OnPending};
+ghost use Rattle.futures.specs.Poll.{IfReady, OnPending};
 ghost use Rattle.http_wires.specs.Items.{ItemSays};
 ghost use Rattle.http_wires.specs.Flushes.{Flushes};
 
@@ -119,7 +119,8 @@ impl<T: Wire, U> Framed<T, U> {
 
 impl<T: Wire, U: Decoder> Framed<T, U> {
     /// The next item, or nothing once the input has ended and holds no further item. What was read and not decoded
-    /// stays, at each answer, as does what the codec keeps beside its reading.
+    /// stays, at each answer, as does what the codec keeps beside its reading. An item is as the codec says that its
+    /// items are.
     ///
     /// It is pending where the bytes hold no item yet and the wire is pending, or where at least 64 bytes came: then
     /// the task is woken.
@@ -129,6 +130,7 @@ impl<T: Wire, U: Decoder> Framed<T, U> {
     ) -> Poll<Option<Result<U::Item, FramedError<U::Error>>>>
         ensures says { ItemSays U.reads U.given U.nothing U.breaks U.lacks U.seen U.leaves (T.wiring self.old.io) (T.wiring self.new.io) cx.new.is_woken
             self.old.codec self.old.unread self.new.codec self.new.unread result }
+        ensures holds { IfReady result (λ answer. IfSome answer (λ read. IfOk read U.holds)) }
         ensures beside { U.beside self.new.codec ≡ U.beside self.old.codec }
         ensures unsent { self.new.unsent ≡ self.old.unsent }
         ensures registered { OnPending result (IsArmed cx.new) }

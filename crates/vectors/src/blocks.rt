@@ -1,6 +1,11 @@
 //! Plays files of blocks, each of several lines.
 use crate::arguments::{FilePlayer, play_each};
+use crate::block::{Block, put_unreadable};
+use crate::case::CaseError;
+use crate::clear::Form;
 use crate::player::Tally;
+use http_types::NoMemory;
+use std::alloc::{AllocError, Global};
 use std::process::ExitCode;
 use std::random::RandomSource;
 use std::rt::{Env, Files};
@@ -11,9 +16,11 @@ pub trait BlockPlayer<R> {
     /// What its blocks are called, in the plural.
     fn kind(&self) -> &str;
 
-    /// Whether a block goes as its lines say. The first of them begins with `== ` and names the block. What differs is written
-    /// to `different`.
-    fn play_block(&self, rt: &R, lines: &[&[u8]], different: &mut Vec<u8>) -> io::Result<bool>;
+    /// How the bytes in double quotes are written of what has to come of a block.
+    fn form(&self) -> Form;
+
+    /// Whether a block goes as its lines say. What differs is written to `different`.
+    fn play_block(&self, rt: &R, block: &Block<'_>, different: &mut Vec<u8>) -> io::Result<bool>;
 }
 
 /// Plays the files that the program's arguments name, prints what differs and how many blocks of each go as they have to, and
@@ -70,7 +77,7 @@ fn play_text<P: BlockPlayer<R>, R: AllocGlobal>(
 }
 
 // Plays a block whose lines are all there, and counts it. No lines are no block.
-fn end_block<P: BlockPlayer<R>, R>(
+fn end_block<P: BlockPlayer<R>, R: AllocGlobal>(
     player: &P,
     rt: &R,
     lines: &[&[u8]],
@@ -80,8 +87,30 @@ fn end_block<P: BlockPlayer<R>, R>(
     if lines.is_empty() {
         return Ok(());
     }
-    let right = player.play_block(rt, lines, different)?;
+    let right = match read_block(rt.alloc(), lines, player.form(), different)? {
+        Some(block) => player.play_block(rt, &block, different)?,
+        None => false,
+    };
     tally.cases = tally.cases.saturating_add(1);
     tally.right = tally.right.saturating_add(u32::from(right));
     Ok(())
+}
+
+// The block of these lines. None where one can't be read, which is written to `different`.
+fn read_block<'a>(
+    alloc: Global,
+    lines: &[&'a [u8]],
+    form: Form,
+    different: &mut Vec<u8>,
+) -> Result<Option<Block<'a>>, NoMemory> {
+    match Block::read(alloc, lines, form) {
+        Ok(block) => Ok(Some(block)),
+        Err(CaseError::NoMemory) => Err(AllocError),
+        Err(CaseError::Unreadable) => {
+            if let Some(first) = lines.first() {
+                put_unreadable(first, different)?;
+            }
+            Ok(None)
+        }
+    }
 }

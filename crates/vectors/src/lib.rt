@@ -17,24 +17,29 @@
 //!
 //! A program implements [`Player`] for its calls, and gives itself to [`play_arguments`], which prints what differs and
 //! counts. Adding a vector is adding a line. A program whose cases have several lines each implements [`BlockPlayer`] and gives
-//! itself to [`play_blocks`].
+//! itself to [`play_blocks`]; where they are to be played in pieces of many sizes too, [`PiecePlayer`] and
+//! [`play_in_pieces`].
 #![tactic(auto)]
 
 mod arguments;
+mod block;
 mod blocks;
 mod case;
 mod clear;
 mod cursor;
 mod files;
+mod pieces;
 mod player;
 mod quoted;
 mod written;
 
+pub use block::{Block, put_unreadable};
 pub use blocks::{BlockPlayer, play_blocks};
 pub use case::{Case, CaseError, read_case, read_joined};
 pub use clear::{Form, put_clear};
 pub use cursor::Cursor;
 pub use files::play_arguments;
+pub use pieces::{PiecePlayer, play_in_pieces};
 pub use player::{Player, Tally, play_cases};
 pub use quoted::put_quoted;
 pub use written::{put_all, put_decimal, put_text};

@@ -1,5 +1,5 @@
 //! Character sets.
-ghost use Rattle.std.specs.Prelude.{◌≡◌, ℕ, List, Some, MatchOption, IfOk, IsErr, map, string_bytes};
+ghost use Rattle.std.specs.Prelude.{◌≡◌, ◌↔◌, ℕ, List, Some, MatchOption, IfOk, OnErr, IsOk, IsErrOf, map, string_bytes};
 ghost use Rattle.std.specs.Char.{to_ascii_uppercase};
 ghost use Rattle.http_values.specs.AnyText.{IsAnyText};
 ghost use Rattle.http_values.specs.declared.shared.charset.Charset.{Charset as Set};
@@ -99,9 +99,10 @@ impl Charset {
         }
     }
 
-    /// An equal set, as `clone` gives it too.
+    /// An equal set, as `clone` gives it too. That of a known set takes no memory.
     pub fn copy(&self) -> Result<Charset, AllocError>
-        ensures { IfOk result (λ copy. SameCharset self.now copy) }
+        ensures same { IfOk result (λ copy. SameCharset self.now copy) }
+        ensures no_memory_needed { IsKnown self.now → IsOk result }
     {
         Ok(match self {
             Charset::Us_Ascii => Charset::Us_Ascii,
@@ -221,8 +222,13 @@ impl FromText for Charset {
 
     ghost is_text = { IsAnyText };
 
-    /// Reads a label, in either case. One that is not known is kept in upper case.
-    fn from_text(alloc: Global, s: &str) -> Result<Charset, ReadError> {
+    /// Reads a label, in either case. One that is not known is kept in upper case; a known one takes no memory.
+    fn from_text(alloc: Global, s: &str) -> Result<Charset, ReadError>
+        ensures ok { IfOk result (λ set. IsCharsetText s.now set) }
+        ensures readable { IfOk result (λ _. IsAnyText s.now) }
+        ensures invalid { IsErrOf result ReadError.Invalid ↔ ¬ (IsAnyText s.now) }
+        ensures no_memory_needed { OnErr result (IsNoneOf s.now latin_labels × IsNoneOf s.now asian_labels × IsNoneOf s.now other_labels) }
+    {
         if let Some(set) = latin(s) {
             return Ok(set);
         }

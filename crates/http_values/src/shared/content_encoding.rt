@@ -1,6 +1,6 @@
 //! Content codings.
-ghost use Rattle.std.specs.Prelude.{◌≡◌, ◌↔◌, ℕ, List, Some, MatchOption, MatchResult, IfOk, IfErr, IsErrOf, codes};
-ghost use Rattle.http_header.specs.FieldValue.{plain_value};
+ghost use Rattle.std.specs.Prelude.{◌≡◌, ◌↔◌, ℕ, List, Some, MatchOption, MatchResult, IfOk, IfErr, IsOk, IsErrOf, codes};
+ghost use Rattle.http_header.specs.FieldValue.{plain_value, IsFieldValue};
 ghost use Rattle.http_values.specs.declared.shared.content_encoding.ContentEncoding.{ContentEncoding as Coding};
 ghost use Rattle.http_values.specs.declared.shared.content_encoding.ContentEncoding.TheVariants.{Identity};
 ghost use Rattle.http_values.specs.ContentEncoding.{IsCodingText, coding_text};
@@ -68,8 +68,12 @@ impl ContentEncoding {
 impl TryIntoHeaderValue for ContentEncoding {
     ghost field_value = { λ coding. plain_value (coding_text coding) };
 
-    /// The registered name, without a copy.
-    fn try_into_value(self, _alloc: Global) -> Result<HeaderValue, ValueError> {
+    /// The registered name, without a copy. It takes no memory.
+    fn try_into_value(self, _alloc: Global) -> Result<HeaderValue, ValueError>
+        ensures ok { IfOk result (λ v. v ≡ plain_value (coding_text self)) }
+        ensures invalid { IsErrOf result ValueError.Invalid ↔ ¬ (IsFieldValue (plain_value (coding_text self)).bytes) }
+        ensures no_memory_needed { IsOk result }
+    {
         let value = self.to_header_value();
         let _valid = value.as_bytes();
         Ok(value)

@@ -1,7 +1,7 @@
 //! Items are read.
-ghost use Rattle.std.specs.Prelude.{◌≡◌};
+ghost use Rattle.std.specs.Prelude.{◌≡◌, IfOk, IfSome};
 ghost use Rattle.futures.specs.Task.{IsArmed, Keeps};
-ghost use Rattle.futures.specs.Poll.{OnPending};
+ghost use Rattle.futures.specs.Poll.{IfReady, OnPending};
 ghost use Rattle.http_wires.specs.Items.{Reads, ItemSays};
 
 use crate::{FramedError, Wire};
@@ -22,6 +22,7 @@ pub(crate) fn next_item<T: Wire, U: Decoder>(
 ) -> Poll<Option<Result<U::Item, FramedError<U::Error>>>>
     ensures says { ItemSays U.reads U.given U.nothing U.breaks U.lacks U.seen U.leaves (T.wiring io.old) (T.wiring io.new) cx.new.is_woken
         codec.old unread.old.items codec.new unread.new.items result }
+    ensures holds { IfReady result (λ answer. IfSome answer (λ read. IfOk read U.holds)) }
     ensures beside { U.beside codec.new ≡ U.beside codec.old }
     ensures registered { OnPending result (IsArmed cx.new) }
     ensures kept { Keeps cx.old cx.new }

@@ -13,6 +13,7 @@ pub struct Lines {
 }
 
 impl Lines {
+    /// All lines.
     pub fn new() -> Lines {
         Lines { given: 0 }
     }

@@ -18,8 +18,9 @@ const MOST: usize = 65_536;
 /// The body of an answer: bytes, or lines that are asked for one after another.
 pub type Page = EitherBody<Bytes, BodyStream<Counted<Lines>>>;
 
-/// Answers `GET` and `HEAD` of `/`, with an empty body, and of `/lines`, with lines; and `POST` of `/echo`, with the bytes
-/// that came.
+/// Answers `GET` and `HEAD` of `/`, with a greeting, and of `/lines`, with three lines; and `POST` of `/echo`, with the
+/// bytes that came, at most 65,536. Another path gets 404, another method 405; a body that is too large 413, one that
+/// breaks a rule 400, and 503 where there is no memory for it.
 #[derive(Drop)]
 pub struct Site {
     alloc: Global,
@@ -58,13 +59,17 @@ enum Refusal {
 }
 
 impl Site {
+    /// A site whose answers take their memory of this allocator. It takes none itself.
     pub fn new(alloc: Global) -> Site {
         Site { alloc }
     }
 
+    fn with(&self, status: StatusCode, body: Bytes) -> Response<Page> {
+        Response::with_body(self.alloc, status, EitherBody::left(body))
+    }
+
     fn empty(&self, status: StatusCode) -> Response<Page> {
-        let body = EitherBody::left(Bytes::new());
-        Response::with_body(self.alloc, status, body)
+        self.with(status, Bytes::new())
     }
 
     fn lines(&self) -> Response<Page> {
@@ -84,7 +89,7 @@ impl Site {
         if request.path() != "/" {
             return self.empty(StatusCode::NOT_FOUND);
         }
-        self.empty(StatusCode::OK)
+        self.with(StatusCode::OK, Bytes::from_static(b"hello\n"))
     }
 
     // The answer to a request whose body isn't sent back.
@@ -99,7 +104,7 @@ impl Site {
     // The bytes that came, as an answer.
     fn echo(&self, came: &[u8]) -> Response<Page> {
         match Bytes::copy_from_slice(self.alloc, came) {
-            Ok(bytes) => Response::with_body(self.alloc, StatusCode::OK, EitherBody::left(bytes)),
+            Ok(bytes) => self.with(StatusCode::OK, bytes),
             Err(_) => self.empty(StatusCode::SERVICE_UNAVAILABLE),
         }
     }

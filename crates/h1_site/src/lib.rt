@@ -1,0 +1,15 @@
+//! A small site: a greeting, a body in pieces, and an echo. The example servers over dispatchers serve it.
+//!
+//! # Example
+//!
+//! ```ignore
+//! let service = CountedService::new(Site::new(rt.alloc()));
+//! let mut dispatcher = Dispatcher::new(rt.alloc(), wire, service, ServiceConfig::default(), NoRecord);
+//! ```
+#![tactic(auto)]
+
+mod lines;
+mod site;
+
+pub use lines::Lines;
+pub use site::{Page, Site, Visit};

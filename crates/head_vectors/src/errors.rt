@@ -1,0 +1,157 @@
+//! What errors print.
+use http_map::{InvalidHeaderPart, ValueError};
+use http_types::{
+    BadReason, BuildError, Cause, ContentTypeError, DispatchError, Error, HttpError, Kind,
+    NoMemory, ParseError, PayloadError,
+};
+use std::alloc::Global;
+use std::fmt::Display;
+use vectors::{Case, put_text};
+
+/// `error NAME`: the text that this error prints.
+pub fn error(alloc: Global, case: &Case<'_>, found: &mut Vec<u8>) -> Result<bool, NoMemory> {
+    if let Some(kind) = kind_of(case.argument(0)) {
+        return put_printed(alloc, &Error { kind, cause: None }, found);
+    }
+    match case.argument(0) {
+        b"caused-by-name" => put_printed(alloc, &Error::from(HttpError::Name), found),
+        b"caused-by-too-large" => put_printed(alloc, &Error::from(ParseError::TooLarge), found),
+        b"caused-by-overflow" => put_printed(alloc, &Error::from(PayloadError::Overflow), found),
+        b"bad-reason" => put_printed(alloc, &BadReason, found),
+        b"value-invalid" => put_printed(alloc, &ValueError::Invalid, found),
+        b"value-no-memory" => put_printed(alloc, &ValueError::NoMemory, found),
+        b"part-name" => put_printed(alloc, &InvalidHeaderPart::Name, found),
+        b"part-value" => put_printed(alloc, &InvalidHeaderPart::Value, found),
+        b"part-no-memory" => put_printed(alloc, &InvalidHeaderPart::NoMemory, found),
+        b"reused" => put_printed(alloc, &BuildError::Reused, found),
+        b"build-reason" => put_printed(alloc, &BuildError::Http(HttpError::Reason), found),
+        b"build-no-memory" => put_printed(alloc, &BuildError::NoMemory, found),
+        _ => Ok(false),
+    }
+}
+
+/// `http-error NAME`: the text of the part of a head that is refused.
+pub fn http_error(alloc: Global, case: &Case<'_>, found: &mut Vec<u8>) -> Result<bool, NoMemory> {
+    match case.argument(0) {
+        b"name" => put_printed(alloc, &HttpError::Name, found),
+        b"value" => put_printed(alloc, &HttpError::Value, found),
+        b"reason" => put_printed(alloc, &HttpError::Reason, found),
+        _ => Ok(false),
+    }
+}
+
+/// `parse-error NAME`: the text of why a message could not be read.
+pub fn parse_error(alloc: Global, case: &Case<'_>, found: &mut Vec<u8>) -> Result<bool, NoMemory> {
+    let error = match case.argument(0) {
+        b"method" => ParseError::Method,
+        b"uri" => ParseError::Uri,
+        b"version" => ParseError::Version,
+        b"header" => ParseError::Header,
+        b"too-large" => ParseError::TooLarge,
+        b"incomplete" => ParseError::Incomplete,
+        b"status" => ParseError::Status,
+        b"timeout" => ParseError::Timeout,
+        b"io" => ParseError::Io,
+        b"utf8" => ParseError::Utf8,
+        b"chunk" => ParseError::Chunk,
+        b"no-memory" => ParseError::NoMemory,
+        _ => return Ok(false),
+    };
+    put_printed(alloc, &error, found)
+}
+
+/// `payload-error NAME`: the text of why a payload could not be read.
+pub fn payload_error(
+    alloc: Global,
+    case: &Case<'_>,
+    found: &mut Vec<u8>,
+) -> Result<bool, NoMemory> {
+    let error = match case.argument(0) {
+        b"incomplete" => PayloadError::Incomplete,
+        b"corrupted" => PayloadError::EncodingCorrupted,
+        b"overflow" => PayloadError::Overflow,
+        b"unknown-length" => PayloadError::UnknownLength,
+        b"io" => PayloadError::Io,
+        b"no-memory" => PayloadError::NoMemory,
+        _ => return Ok(false),
+    };
+    put_printed(alloc, &error, found)
+}
+
+/// `dispatch-error NAME`: the text of why requests are served no longer.
+pub fn dispatch_error(
+    alloc: Global,
+    case: &Case<'_>,
+    found: &mut Vec<u8>,
+) -> Result<bool, NoMemory> {
+    let error = match case.argument(0) {
+        b"service" => DispatchError::Service,
+        b"body" => DispatchError::Body,
+        b"upgrade" => DispatchError::Upgrade,
+        b"io" => DispatchError::Io,
+        b"parse-chunk" => DispatchError::from(ParseError::Chunk),
+        b"h2" => DispatchError::H2,
+        b"slow-request" => DispatchError::SlowRequestTimeout,
+        b"disconnect" => DispatchError::DisconnectTimeout,
+        b"dropped-payload" => DispatchError::HandlerDroppedPayload,
+        b"internal" => DispatchError::InternalError,
+        b"no-memory" => DispatchError::NoMemory,
+        _ => return Ok(false),
+    };
+    put_printed(alloc, &error, found)
+}
+
+/// `cause NAME`: the text of why something went wrong.
+pub fn cause(alloc: Global, case: &Case<'_>, found: &mut Vec<u8>) -> Result<bool, NoMemory> {
+    let cause = match case.argument(0) {
+        b"http-value" => Cause::Http(HttpError::Value),
+        b"parse-method" => Cause::Parse(ParseError::Method),
+        b"payload-incomplete" => Cause::Payload(PayloadError::Incomplete),
+        b"handshake" => Cause::Handshake,
+        b"protocol" => Cause::Protocol,
+        b"body-7" => Cause::Body(7),
+        b"short-12" => Cause::Short(12),
+        b"fault" => Cause::Fault,
+        b"no-memory" => Cause::NoMemory,
+        _ => return Ok(false),
+    };
+    put_printed(alloc, &cause, found)
+}
+
+/// `content-type-error NAME`: the text of why a media type could not be told.
+pub fn content_type_error(
+    alloc: Global,
+    case: &Case<'_>,
+    found: &mut Vec<u8>,
+) -> Result<bool, NoMemory> {
+    match case.argument(0) {
+        b"parse" => put_printed(alloc, &ContentTypeError::ParseError, found),
+        b"unknown" => put_printed(alloc, &ContentTypeError::UnknownEncoding, found),
+        b"no-memory" => put_printed(alloc, &ContentTypeError::NoMemory, found),
+        _ => Ok(false),
+    }
+}
+
+fn kind_of(name: &[u8]) -> Option<Kind> {
+    match name {
+        b"http" => Some(Kind::Http),
+        b"parse" => Some(Kind::Parse),
+        b"payload" => Some(Kind::Payload),
+        b"body" => Some(Kind::Body),
+        b"send-response" => Some(Kind::SendResponse),
+        b"ws" => Some(Kind::Ws),
+        b"io" => Some(Kind::Io),
+        b"encoder" => Some(Kind::Encoder),
+        _ => None,
+    }
+}
+
+fn put_printed<T: Display>(
+    alloc: Global,
+    value: &T,
+    found: &mut Vec<u8>,
+) -> Result<bool, NoMemory> {
+    let text = value.to_string(alloc)?;
+    put_text(found, text.as_str())?;
+    Ok(true)
+}
