@@ -92,8 +92,8 @@ impl<'a, R: Wait, G: Gate, M: Ledger, B: Lending> Service<Request<(), ()>>
     fn poll_ready(&mut self, _cx: &mut Context<'_>) -> Poll<Result<(), Response<()>>>
         ensures says { ReadySays (serving_of self.old.work) (serving_of self.new.work) result }
         ensures work { self.new.work ≡ self.old.work }
-        ensures registered { OnPending result (IsArmed cx.new) }
-        ensures kept { Keeps cx.old cx.new }
+        ensures registered { OnPending result (IsArmed _cx.new) }
+        ensures kept { Keeps _cx.old _cx.new }
     {
         Poll::Ready(Ok(()))
     }
@@ -113,7 +113,7 @@ impl<'a, R: Wait, G: Gate, M: Ledger, B: Lending> Service<Request<(), ()>>
         cx: &mut Context<'_>,
     ) -> Poll<Result<Response<()>, Response<()>>>
         ensures says { AnswerSays (serving_of self.old.work) (serving_of self.new.work) result }
-        ensures polls { PollSays {Q = Asking} None unknown_call unknown_call (B.lent lent.old) (B.lent lent.new) result }
+        ensures polls { PollSays {Q = Asking} None unknown_call unknown_call (B.lent _lent.old) (B.lent _lent.new) result }
         ensures number { self.new.work.pass.number ≡ self.old.work.pass.number }
         ensures registered { OnPending result (IsArmed cx.new) }
         ensures kept { Keeps cx.old cx.new }
