@@ -12,7 +12,7 @@ use Rattle.std.proofs.lemmas.Map.Text.{is_eq-slice_cmp}
 use Rattle.std.proofs.lemmas.Option.{slice_get-get_or}
 use Rattle.std.proofs.lemmas.Slice.Eq.{bytes_eq-Decides}
 use Rattle.h1_share.specs.declared.command.Entry.{Entry}
-use Rattle.h1_share.specs.Journal.{IsRight, counter, name_of, is_add, adds_to, reply_after}
+use Rattle.h1_share.specs.Journal.{IsRight, counter, name_of, is_add, reply_after}
 use Rattle.h1_share.proofs.Entries.{reply_is, counter_push}
 use Rattle.h1_served.specs.Texts.{speaks_of, told_of}
 
