@@ -1,6 +1,11 @@
 //! The board as a service.
-ghost use Rattle.std.specs.Prelude.{◌≡◌, [], nat_lt};
-ghost use Rattle.h1_board_service.specs.Work.{begun_work, IsKept};
+ghost use Rattle.std.specs.Prelude.{◌≡◌, [], None, nat_lt};
+ghost use Rattle.futures.specs.Poll.{OnPending};
+ghost use Rattle.futures.specs.Task.{IsArmed, Keeps};
+ghost use Rattle.http_services.specs.Serving.{ReadySays, CallSays, BeginSays, AnswerSays, PollSays, unknown_call};
+ghost use Rattle.http_types.specs.Response.{FullResponse};
+ghost use Rattle.h1_board_service.specs.Answers.{Asking};
+ghost use Rattle.h1_board_service.specs.Work.{begun_work, serving_of, IsKept};
 
 use crate::answer::Desk;
 use crate::gate::Gate;
@@ -59,7 +64,7 @@ impl<'a, R: Wait, G: Gate, M: Ledger, B> BoardService<'a, R, G, M, B> {
         self.work.is_stuck()
     }
 
-    /// The pass, with what was asked and answered by it.
+    /// The pass, with what was asked and answered by it. It has the number of the one that was given: no call changes that.
     pub fn into_pass(self) -> Carried<M>
         ensures pass { result.pass ≡ self.entry.work.pass }
         ensures kept { IsKept self.entry.work }
@@ -70,10 +75,6 @@ impl<'a, R: Wait, G: Gate, M: Ledger, B> BoardService<'a, R, G, M, B> {
 
 impl<'a, R: Wait, G: Gate, M: Ledger, B: Lending> Service<Request<(), ()>>
     for BoardService<'a, R, G, M, B> {
-    ghost use Rattle.std.specs.Prelude.{None};
-    ghost use Rattle.http_services.specs.Serving.{unknown_call};
-    ghost use Rattle.h1_board_service.specs.Work.{serving_of};
-
     type Response = Response<()>;
 
     type Error = Response<()>;
@@ -88,11 +89,20 @@ impl<'a, R: Wait, G: Gate, M: Ledger, B: Lending> Service<Request<(), ()>>
 
     ghost calling = { λ _. unknown_call };
 
-    fn poll_ready(&mut self, _cx: &mut Context<'_>) -> Poll<Result<(), Response<()>>> {
+    fn poll_ready(&mut self, _cx: &mut Context<'_>) -> Poll<Result<(), Response<()>>>
+        ensures says { ReadySays (serving_of self.old.work) (serving_of self.new.work) result }
+        ensures work { self.new.work ≡ self.old.work }
+        ensures registered { OnPending result (IsArmed _cx.new) }
+        ensures kept { Keeps _cx.old _cx.new }
+    {
         Poll::Ready(Ok(()))
     }
 
-    fn call(&mut self, request: Request<(), ()>) {
+    fn call(&mut self, request: Request<(), ()>)
+        ensures says { CallSays (serving_of self.old.work) (serving_of self.new.work) request }
+        ensures begins { BeginSays {A = FullResponse Unit} None request unknown_call }
+        ensures number { self.new.work.pass.number ≡ self.old.work.pass.number }
+    {
         self.work.begin(request);
     }
 
@@ -101,7 +111,13 @@ impl<'a, R: Wait, G: Gate, M: Ledger, B: Lending> Service<Request<(), ()>>
         _call: &mut (),
         _lent: &mut B,
         cx: &mut Context<'_>,
-    ) -> Poll<Result<Response<()>, Response<()>>> {
+    ) -> Poll<Result<Response<()>, Response<()>>>
+        ensures says { AnswerSays (serving_of self.old.work) (serving_of self.new.work) result }
+        ensures polls { PollSays {Q = Asking} None unknown_call unknown_call (B.lent _lent.old) (B.lent _lent.new) result }
+        ensures number { self.new.work.pass.number ≡ self.old.work.pass.number }
+        ensures registered { OnPending result (IsArmed cx.new) }
+        ensures kept { Keeps cx.old cx.new }
+    {
         match self.work.respond(&self.desk) {
             Some(response) => Poll::Ready(Ok(response)),
             None => cx.yield_now(),

@@ -79,6 +79,7 @@ impl<M: Ledger> Work<M> {
         ensures calls { self.new.calls ≡ self.old.calls ++ request ∷ [] }
         ensures answers { self.new.answers ≡ self.old.answers }
         ensures waits { self.new.waits ≡ self.old.waits }
+        ensures number { self.new.pass.number ≡ self.old.pass.number }
     {
         self.calls = self.calls.and(&request, &());
         if self.is_lost {
@@ -99,6 +100,7 @@ impl<M: Ledger> Work<M> {
         ensures calls { self.new.calls ≡ self.old.calls }
         ensures answers { answered_of self.new.answers ≡ answered_of self.old.answers ++ option_to_list (option_map Ok result) }
         ensures waits { WaitsBy self.old.waits self.new.waits result }
+        ensures number { self.new.pass.number ≡ self.old.pass.number }
     {
         if self.is_lost {
             return self.wait();
@@ -120,6 +122,7 @@ impl<M: Ledger> Work<M> {
         ensures calls { self.new.calls ≡ self.old.calls }
         ensures answers { answered_of self.new.answers ≡ answered_of self.old.answers ++ option_to_list (option_map Ok result) }
         ensures waits { WaitsBy self.old.waits self.new.waits result }
+        ensures number { self.new.pass.number ≡ self.old.pass.number }
     {
         let Some(request) = self.waiting.take() else {
             unreachable!()

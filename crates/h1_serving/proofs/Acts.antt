@@ -14,7 +14,7 @@ use Rattle.h1_serving.specs.declared.error.ServeError.{ServeError}
 use Rattle.h1_serving.specs.declared.error.ServeError.TheVariants.{Dispatch, NoMemory}
 use Rattle.h1_serving.specs.Serves.{IsWait, AreWaits, PollsAt, EndsAt, Ends, end_of}
 
-says_more : (acts : List Act) (act : Act) (v u w : View) → ActsSay v acts u → ActSays u act w → ActsSay v (acts ++ act ∷ []) w
+pub says_more : (acts : List Act) (act : Act) (v u w : View) → ActsSay v acts u → ActSays u act w → ActsSay v (acts ++ act ∷ []) w
 says_more [] act v u w say last = (w, subst (λ x. ActSays x act w) say last, refl)
 says_more (a ∷ acts) act v u w say last = (say.0, say.1, says_more acts act say.0 u w say.2 last)
 

@@ -5,4 +5,5 @@ pub mod Ran
 pub mod Shows
 pub mod Lacks
 pub mod Requests
+pub mod Handed
 pub mod Told

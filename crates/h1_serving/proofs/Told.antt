@@ -14,7 +14,7 @@ use Rattle.h1_model.specs.Trace.{IsTrace}
 use Rattle.h1_connection.specs.Meaning.{setting_of}
 use Rattle.h1_connection.specs.Steps as noted
 use Rattle.h1_line.specs.Line.{SaysNoted, LineStands}
-use Rattle.h1_dispatch.specs.View.{View, Answer, told_result, told_service}
+use Rattle.h1_dispatch.specs.View.{View, Answer, told_result, told_service, is_replying}
 use Rattle.h1_dispatch.specs.Steps.{Step}
 use Rattle.h1_dispatch.specs.Order.{waits_in, reply_in, calls_in, requests, calls, left, answers, replies, KeepsOrder}
 use Rattle.h1_dispatch.specs.Traces.{requests_in, answers_in, hands, came, Follows}
@@ -32,6 +32,7 @@ use Rattle.h1_serving.proofs.Ran.{Ran, ends_ran}
 use Rattle.h1_serving.proofs.Steps.{results, value_of, asked_in, AllKept, run_kept}
 use Rattle.h1_serving.proofs.Bodiless.{IsBodiless, hand_of, run_hands_on}
 use Rattle.h1_serving.proofs.Requests.{are_heads, told_of, values_are, all_bodiless, events_are, last_of, last_is, not_lost, waits_count, OneWaits, one_waits}
+use Rattle.h1_serving.proofs.Handed.{none_last, ends_hand}
 use Rattle.h1_serving.proofs.Lacks.{After, after_end}
 use Rattle.h1_serving.proofs.Shows.{shows_end}
 
@@ -138,6 +139,7 @@ told was now number settings recorded later polls may_give pass end stands serve
           (are_heads (came ran.steps) (requests_in f.more) f.requests));
       last = last_of u.stage;
       answers = answers_so begun u ran.steps work (answers_in a.trace) refl (a.answers_so ∙ f.answers) handed w.given_so order;
+      handed = λ enough. none_last u.stage (subst (λ (x : View). is_replying x.stage ≡ false) (ran.whole enough) (ends_hand polls may_give begun served.last end enough served.ends stands refl));
       entries = served.kept.entries;
       calls = subst (λ (p : Held). AllAnswered p.number work.answers [] served.kept.entries) served.pass_is served.kept.answered;
       broke = work.is_broken;

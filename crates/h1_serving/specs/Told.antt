@@ -1,6 +1,6 @@
 -- What came of one connection, by the trace of its events: the requests that it handed out, their answers, and the calls of
 -- the board that they stand for.
-use Rattle.std.specs.Prelude.{◌≡◌, ◌⊎◌, ℕ, Bool, true, Option, List, [], ◌∷◌, ◌++◌, map, option_to_list, IsTrue, ⊤, Result, Ok, Err}
+use Rattle.std.specs.Prelude.{◌≡◌, ◌⊎◌, ℕ, Bool, true, Option, None, List, [], ◌∷◌, ◌++◌, map, option_to_list, IsTrue, ⊤, Result, Ok, Err}
 use Rattle.http_config.specs.Causes.{Rose}
 use Rattle.http_config.specs.Config.{Settings}
 use Rattle.http_types.specs.Response.{FullResponse}
@@ -70,7 +70,7 @@ Shows was now (Err NoMemory) = ⊤
 -- A connection with these settings was served, with a pass that is now this, from that wire on to this. What was noted is a
 -- trace of it, the newest step first. Its reads took what the wire gave, all of it and in order, and what the wire took is
 -- what it wrote, where memory didn't run out. The requests of its heads are those that were answered, each with its answer,
--- and at most one more. Its answers are theirs, in order, and at most the last one isn't among them. The pass has one entry
+-- and at most one more. Its answers are theirs, in order; where memory ran out the last one may not be among them. The pass has one entry
 -- for each answer of a call, in order, with the command of its request and the reply of its answer, and no other; but where
 -- memory ran out with the request that waits it may have the entry of that one.
 pub record IsTold (settings : Settings) (was now : Wiring) (noted : Option (List noted.Pair)) (pass : Held) (end : Result Unit ServeError) : Type 0 where
@@ -84,6 +84,7 @@ pub record IsTold (settings : Settings) (was now : Wiring) (noted : Option (List
   pub requests : AreHeads (map (λ p. p.0) answered ++ option_to_list waiting) (heads_in (requests_in trace))
   pub last : Option on.Event
   pub answers : answers_in trace ++ option_to_list last ≡ map (λ p. event_of p.1) answered
+  pub handed : HadMemory end → last ≡ None
   pub entries : List Entry
   pub calls : AllAnswered pass.number answered [] entries
   pub broke : Bool

@@ -1,0 +1,5 @@
+pub mod Crossing
+pub mod Matched
+pub mod Spelling
+pub mod Tally
+pub mod Writing
