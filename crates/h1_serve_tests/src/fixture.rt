@@ -3,7 +3,7 @@ ghost use Rattle.std.specs.Prelude.{◌≡◌, nat_eq};
 
 use bytes::Bytes;
 use h1_line::NoRecord;
-use h1_served::{Gate, MemDoor, NoRecords, Ran, Report, ServeError, ServeFault, serve_by};
+use h1_served::{Gate, MemDoor, MemPeer, NoRecords, Ran, Report, ServeError, ServeFault, serve_by};
 use http_types::ServiceConfig;
 use http_wires::{Clock, MemWire};
 use std::alloc::{AllocError, AllocGlobal, Global};
@@ -26,12 +26,12 @@ impl Clock for Stands {
     }
 }
 
-/// A wire that gives these pieces, an empty one as a wait, and fails this call, if one is named.
+/// A peer that sends these pieces, an empty one as a wait, and of whose wire this call fails, if one is named.
 pub fn wire(
     alloc: Global,
     pieces: &[&'static [u8]],
     fail: Option<usize>,
-) -> Result<MemWire, AllocError> {
+) -> Result<MemPeer, AllocError> {
     let mut given = Vec::new(alloc);
     for piece in pieces {
         given.push(Bytes::from_static(piece))?;
@@ -40,7 +40,11 @@ pub fn wire(
     if let Some(call) = fail {
         failing.push(call)?;
     }
-    Ok(MemWire::new(alloc, given, Vec::new(alloc), failing))
+    Ok(MemPeer {
+        pieces: given,
+        room: Vec::new(alloc),
+        fail: failing,
+    })
 }
 
 /// How a run ended: with a report, with one after the door failed, or without.
@@ -61,11 +65,11 @@ pub struct Seen {
     pub ends: Vec<Result<(), ServeError>>,
 }
 
-/// Serves these wires, each on a thread of its own, and fails these calls of the door.
+/// Serves these peers, each on a thread of its own, and fails these calls of the door.
 pub fn seen<M, R, G>(
     rt: &R,
     blank: Blank,
-    wires: Vec<MemWire>,
+    peers: Vec<MemPeer>,
     fail: Vec<usize>,
     gate: &G,
     most: usize,
@@ -78,15 +82,15 @@ where
     requires is_its_ledger { (blank.name ≡ M.name) × (blank.parts ≡ M.parts) }
     requires has_a_part_for_each_pass { M.parts ≡ 65536 }
 {
-    seen_by::<M, _, _>(rt, blank, usize::MAX, wires, fail, gate, most, polls)
+    seen_by::<M, _, _>(rt, blank, usize::MAX, peers, fail, gate, most, polls)
 }
 
-/// Serves these wires, by so many threads at most, and fails these calls of the door.
+/// Serves these peers, by so many threads at most, and fails these calls of the door.
 pub fn seen_by<M, R, G>(
     rt: &R,
     blank: Blank,
     threads: usize,
-    wires: Vec<MemWire>,
+    peers: Vec<MemPeer>,
     fail: Vec<usize>,
     gate: &G,
     most: usize,
@@ -107,7 +111,7 @@ where
         rt,
         threads,
         ServiceConfig::default(),
-        MemDoor::new(wires, fail),
+        MemDoor::new(alloc, peers, fail),
         Stands,
         gate,
         NoRecords,

@@ -1,6 +1,5 @@
 -- What is known of a door in memory.
-use Rattle.std.specs.Prelude.{ℕ, Bool, true, false}
-use Rattle.http_config.specs.Causes.{counted}
+use Rattle.std.specs.Prelude.{false}
 use Rattle.http_wires.specs.Opening.{Opening}
 use Rattle.h1_served.specs.declared.mem_door.MemDoor.{MemDoor}
 
@@ -10,8 +9,3 @@ door_opening d = record { faults = d.faults; given = d.given; ended = d.ended }
 -- it has given no connection, and counted no failure
 abbrev pub unused : Opening
 unused = record { faults = 0; given = 0; ended = false }
-
--- the count of faults after a call that failed, or didn't
-abbrev pub faults_by : ℕ → Bool → ℕ
-faults_by faults true = counted faults
-faults_by faults false = faults

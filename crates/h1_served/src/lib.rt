@@ -34,7 +34,7 @@ mod write;
 
 pub use gated_door::GatedDoor;
 pub use h1_serving::{Gate, NoRecords, OpenGate, Recorders, ServeError};
-pub use mem_door::MemDoor;
+pub use mem_door::{MemDoor, MemPeer};
 pub use report::print_report;
 pub use run::{Run, serve_run};
 pub use server::{serve, serve_by};

@@ -40,19 +40,26 @@ fn counts_of(alloc: Global, journal: &[Entry]) -> Result<BTreeMap<Name, u64>, Al
 fn note(counts: &mut BTreeMap<Name, u64>, entry: &Entry) -> Result<(), AllocError>
     ensures { OnOk result ((name : List ℕ) → tree.get (slice_cmp nat_cmp) counts.new name ≡ cond (bytes_eq (name_of entry.now.command) name) (Some entry.now.reply.0) (tree.get (slice_cmp nat_cmp) counts.old name)) }
 {
-    let name = match &entry.command {
-        Command::Get(name) => *name,
-        Command::Add(name) => *name,
-    };
+    let name = name_in(&entry.command);
     match counts.insert(name, entry.reply.0) {
         Ok(_) => Ok(()),
         Err(_) => Err(AllocError),
     }
 }
 
+/// The name that a command speaks of.
+fn name_in(command: &Command) -> Name
+    ensures { result ≡ name_of command.now }
+{
+    match command {
+        Command::Get(name) => *name,
+        Command::Add(name) => *name,
+    }
+}
+
 /// Adds the lines of names.
 fn put_lines(alloc: Global, text: &mut Vec<u8>, rows: Iter<'_, Name, u64>) -> Result<(), AllocError>
-    ensures { OnOk result (text.new.items ≡ text.old.items ++ count_lines rows) }
+    ensures { OnOk result (text.new.items ≡ text.old.items ++ count_lines rows.entry) }
 {
     let mut rows = rows;
     while let Some((name, count)) = rows.next() {

@@ -1,10 +1,9 @@
 -- Where memory didn't run out, no answer is at hand that wasn't handed on.
-use Rattle.std.proofs.Common.{◌≡◌, ℕ, Bool, true, false, Option, None, List, [], ◌∷◌, ◌++◌, Result, Ok, Err, refl, subst}
+use Rattle.std.proofs.Common.{◌≡◌, ℕ, Bool, false, None, List, [], ◌∷◌, ◌++◌, Result, Ok, Err, refl, subst}
 use Rattle.futures.specs.declared.task.Poll.{Poll}
 use Rattle.futures.specs.declared.task.Poll.TheVariants.{Ready}
 use Rattle.http_types.specs.declared.error.DispatchError.{DispatchError}
 use Rattle.http_types.specs.declared.error.DispatchError.TheVariants as error
-use Rattle.h1_model.specs.Event as on
 use Rattle.h1_line.specs.Line.{LineStands}
 use Rattle.h1_dispatch.specs.View.{View, Stage, free, waiting, calling, replying, sending, is_replying}
 use Rattle.h1_dispatch.specs.Acts.{Act, polled, ActsSay, HasMemory, AllHaveMemory}
@@ -15,7 +14,7 @@ use Rattle.h1_serving.specs.declared.error.ServeError.TheVariants.{Dispatch, Bud
 use Rattle.h1_serving.specs.Serves.{EndsAt, Ends}
 use Rattle.h1_serving.specs.Told.{HadMemory}
 use Rattle.h1_serving.proofs.Acts.{says_more}
-use Rattle.h1_serving.proofs.Ran.{waits_have}
+use Rattle.h1_serving.proofs.Ran.{waits_have, same_error}
 use Rattle.h1_serving.proofs.Requests.{last_of}
 
 -- then none is the last one
@@ -40,12 +39,9 @@ at_hand polls may_give v w answer enough ends stands none =
     acts_hand v w (ends.waits.acts ++ act ∷ []) (says_more ends.waits.acts act v ends.between w ends.waits.say ends.last.says)
     (have_more ends.waits.acts act (waits_have may_give ends.waits.acts ends.waits.each) enough) stands none
 
-same_error : (e : DispatchError) → Ready {A = Result Unit DispatchError} (Err e) ≡ Ready (Err error.NoMemory) → e ≡ error.NoMemory
-same_error e is = cc is
-
 pub ends_hand : (polls : ℕ) (may_give : ℕ → Bool) (v w : View) (end : Result Unit ServeError) → HadMemory end → Ends polls may_give v w end → LineStands v.line [] → HasNoReply v → HasNoReply w
 ends_hand polls may_give v w (Ok x) enough ends stands none = at_hand polls may_give v w (Ready (Ok tt)) (λ is. absurd (cc is)) ends.0 stands none
 ends_hand polls may_give v w (Err (Dispatch e)) enough ends stands none =
-    at_hand polls may_give v w (Ready (Err e)) (λ is. subst (λ (x : DispatchError). HadMemory (Err (Dispatch x))) (same_error e is) enough) ends.0 stands none
+    at_hand polls may_give v w (Ready (Err e)) (λ is. subst (λ (x : DispatchError). HadMemory (Err (Dispatch x))) (same_error e (Ready (Err e)) refl is) enough) ends.0 stands none
 ends_hand polls may_give v w (Err Budget) enough ends stands none = acts_hand v w ends.0.acts ends.0.say (waits_have may_give ends.0.acts ends.0.each) stands none
 ends_hand polls may_give v w (Err NoMemory) enough ends stands none = absurd enough

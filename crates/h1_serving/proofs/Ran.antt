@@ -189,7 +189,7 @@ at_ran P polls may_give v w answer lost ends =
     front_ran P v ends.between w r.steps r.run (r.noted (waits_have may_give ends.waits.acts ends.waits.each))
     (poll_ran P ends.between w ends.last.cx ends.last.moment answer lost ends.last.says)
 
-same_error : (e : DispatchError) (r : Poll (Result Unit DispatchError)) → r ≡ Ready (Err e) → r ≡ Ready (Err error.NoMemory) → e ≡ error.NoMemory
+pub same_error : (e : DispatchError) (r : Poll (Result Unit DispatchError)) → r ≡ Ready (Err e) → r ≡ Ready (Err error.NoMemory) → e ≡ error.NoMemory
 same_error e r a b = cc (a, b)
 
 pub ends_ran : (polls : ℕ) (may_give : ℕ → Bool) (v w : View) (end : Result Unit ServeError) → Ends polls may_give v w end → Ran (HadMemory end) v w
