@@ -17,7 +17,7 @@ use h1_connection::{BodySize, Connection, End, HeadItem, RequestHead, ServiceCon
 use h1_forward_heads::{forwarded_head, forwarded_size};
 use std::alloc::Global;
 
-/// Where so many bytes wait towards either side, nothing more is taken and nothing more is done: 32768.
+/// Where so many bytes wait towards a side, nothing more is taken from the other side, and nothing more goes to it: 32768.
 pub(crate) const MAX_WAITING: usize = 32768;
 
 /// A client's connection beside one to a server, which reads nothing and writes nothing itself.
@@ -226,10 +226,5 @@ impl Proxy {
             Some(server) if server.can_read() => server.read_room(),
             _ => 0,
         }
-    }
-
-    /// As many bytes as are kept wait towards one of the sides.
-    pub(crate) fn is_full(&self) -> bool {
-        self.client.buffered() >= MAX_WAITING || self.server_front().len() >= MAX_WAITING
     }
 }

@@ -6,7 +6,7 @@ ghost use Rattle.h1_model.specs.Event as on;
 ghost use Rattle.h1_forward_sides.specs.Sides.{ServerStays, SendsBody};
 ghost use Rattle.h1_proxy.specs.Kept.{Goes, GoesWith, GoesUnsent, GoesFrom, IsIdle, Runs};
 
-use crate::proxy::{Proxy, Sent, Unsent};
+use crate::proxy::{MAX_WAITING, Proxy, Sent, Unsent};
 use h1_client::{ClientConnection, NextAnswer, ResponseItem};
 use h1_connection::{BodySize, HeadItem, NextHead, NoMemory, Pulled};
 use h1_forward_heads::{
@@ -50,9 +50,13 @@ impl Proxy {
         }
     }
 
-    // No turn is possible: enough waits towards a side, or the client's connection is to end.
+    // No turn is possible: enough waits towards the client, or towards the server where no request is under way whose
+    // answer may come; or the client's connection is to end.
     fn is_still(&self) -> bool {
-        if self.is_full() {
+        if self.client.buffered() >= MAX_WAITING {
+            return true;
+        }
+        if self.sent.is_none() && self.server_front().len() >= MAX_WAITING {
             return true;
         }
         self.is_closing()
@@ -456,6 +460,9 @@ fn may_send(sent: Sent, server: &ClientConnection) -> bool
         return false;
     }
     if sent.is_broken {
+        return false;
+    }
+    if server.front().len() >= MAX_WAITING {
         return false;
     }
     sends_body(server)
