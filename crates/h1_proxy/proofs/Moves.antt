@@ -30,6 +30,7 @@ use Rattle.h1_forward_traces.proofs.Events.{SaysNoBytes, LeavesServers, AddsNoTe
 use Rattle.h1_proxy.specs.declared.proxy.Proxy.{Proxy}
 use Rattle.h1_proxy.specs.declared.proxy.Unsent.{Unsent}
 use Rattle.h1_proxy.specs.declared.proxy.Sent.{Sent}
+use Rattle.h1_proxy.specs.declared.notes.Notes.{Notes}
 use Rattle.h1_forward_sides.specs.Sides.{ClientBrings, ClientBringsHead, ServerStays, ServerDid}
 use Rattle.h1_proxy.specs.Kept.{under_way_of, kept_of, HasSettings, Forwards, Goes, GoesBy, GoesWith, GoesUnsent, GoesFrom, IsIdle, Runs, IsUnsent}
 
@@ -47,6 +48,10 @@ by_then event outcome a b c first second =
 
 pub then_by : (event : ProxyEvent) (outcome : ProxyOutcome) (a b c : Proxy) → Goes a b → GoesBy event outcome b c → GoesBy event outcome a c
 then_by event outcome a b c first second = λ history all x. let y = first history all x in second history y.0 y.1
+
+-- what is noted is no part of what happened
+pub noted : (p : Proxy) (n : Notes) → Goes p (record p { notes = n })
+noted p n = λ history all f. (all, record { client = f.client; server = f.server; carries = f.carries })
 
 -- where a part was taken out
 pub of_server : (p q : Proxy) (s : servers.State) → p.server ≡ Some s → Goes (record p { server = Some s }) q → Goes p q

@@ -8,7 +8,7 @@ ghost use Rattle.h1_proxy.specs.Kept.{Goes, GoesWith, GoesUnsent, GoesFrom, IsId
 
 use crate::proxy::{MAX_WAITING, Proxy, Sent, Unsent};
 use h1_client::{ClientConnection, NextAnswer, ResponseItem};
-use h1_connection::{BodySize, HeadItem, NextHead, NoMemory, Pulled};
+use h1_connection::{BodySize, HeadItem, NextHead, NoMemory, Pulled, StatusCode};
 use h1_forward_heads::{
     AnswerUse, Refusal, answer_use, is_forwardable, reply_head, reply_size, says_close,
 };
@@ -80,6 +80,7 @@ impl Proxy {
             self.server = Some(server);
             self.sent = Some(unsent.sent);
             self.unsent = None;
+            self.note_unsent(Some(unsent));
             return Ok(true);
         }
         self.unsent = Some(unsent);
@@ -141,7 +142,10 @@ impl Proxy {
                 self.open(item)?;
                 Ok(true)
             }
-            NextHead::Fault(_) => Ok(true),
+            NextHead::Fault(fault) => {
+                self.note_fault(fault)?;
+                Ok(true)
+            }
             NextHead::Pending => Ok(false),
             NextHead::Closed(_) => Ok(false),
         }
@@ -154,6 +158,7 @@ impl Proxy {
     {
         if !is_forwardable(&item) {
             self.server = None;
+            self.note_request(item.head);
             self.reply(Refusal::NotForwardable)?;
             return Ok(());
         }
@@ -238,10 +243,26 @@ impl Proxy {
                 Ok(())
             }
             AnswerUse::PassOn => {
-                self.pass_head(sent, server, item)?;
+                self.pass_noted(sent, server, item)?;
                 Ok(())
             }
         }
+    }
+
+    // It is passed on, and that is noted.
+    fn pass_noted(
+        &mut self,
+        sent: Sent,
+        server: ClientConnection,
+        item: ResponseItem,
+    ) -> Result<(), NoMemory>
+        requires runs { Runs sent self.old }
+        ensures { OnOk result (GoesWith server self.old self.new) }
+    {
+        let status = status_of(&item);
+        self.pass_head(sent, server, item)?;
+        self.note_reply(status)?;
+        Ok(())
     }
 
     fn pass_head(
@@ -404,8 +425,13 @@ impl Proxy {
         leave_body(&mut self.client);
         let head = refusal.head(self.alloc);
         put_head(&mut self.client, &head, BodySize::Sized(0))?;
+        self.note_reply(refusal.status())?;
         Ok(())
     }
+}
+
+fn status_of(item: &ResponseItem) -> StatusCode {
+    item.head.status
 }
 
 // The head of its answer was passed on.
