@@ -13,7 +13,7 @@ pub returns : goal.returns
 returns c =
     let p = c.args.self.now in
     let mid : Proxy = record p { unsent = None; sent = None } in
-    let noted = subst (λ (o : Option Unsent). Goes (record p { unsent = o; sent = None }) c.note_unsent.new.self) c.take.ensures.after c.note_unsent.ensures in
+    let noted = subst (λ (o : Option Unsent). Goes (record p { unsent = o; sent = None }) c.note_unsent.new.self) c.take-unsent.ensures.after c.note_unsent.ensures in
     record {
       goes = by_then event.refused done p c.reply.new.self c.settle.new.self
           (by_then event.refused done p c.note_unsent.new.self c.reply.new.self

@@ -13,7 +13,7 @@ returns-in_ok-open-in-Head c =
 pub returns-in_ok-note_fault-in-Fault : goal.returns-in_ok-note_fault-in-Fault
 returns-in_ok-note_fault-in-Fault c =
     let brings = by_next _ _ c.args.self.now.client c.next_head.new.client c.in-Fault.is c.in_ok-item.ensures.brings in
-    goes_then _ _ _ (client_done c.args.self.now c.next_head.new.client brings) c.in_ok-note_fault.ensures
+    goes_then _ _ _ (client_done c.args.self.now c.next_head.new.client brings) c.in_ok-note_fault-in-Fault.ensures
 
 pub returns-in-Pending : goal.returns-in-Pending
 returns-in-Pending c =
