@@ -58,7 +58,7 @@ pub enum Ended {
 
 /// What a test looks at: how it ended, how many entries the journal has, and each connection's bytes and end, in order.
 #[derive(Drop)]
-pub struct Seen {
+pub struct Looked {
     pub ended: Ended,
     pub entries: usize,
     pub sent: Vec<Vec<u8>>,
@@ -74,7 +74,7 @@ pub fn seen<M, R, G>(
     gate: &G,
     most: usize,
     polls: u64,
-) -> Result<Seen, AllocError>
+) -> Result<Looked, AllocError>
 where
     M: Ledger + Send + Sync,
     R: Threads + Wait + RandomSource + AllocGlobal + Sync,
@@ -95,7 +95,7 @@ pub fn seen_by<M, R, G>(
     gate: &G,
     most: usize,
     polls: u64,
-) -> Result<Seen, AllocError>
+) -> Result<Looked, AllocError>
 where
     M: Ledger + Send + Sync,
     R: Threads + Wait + RandomSource + AllocGlobal + Sync,
@@ -127,8 +127,8 @@ where
     }
 }
 
-fn nothing(alloc: Global, ended: Ended) -> Result<Seen, AllocError> {
-    Ok(Seen {
+fn nothing(alloc: Global, ended: Ended) -> Result<Looked, AllocError> {
+    Ok(Looked {
         ended,
         entries: 0,
         sent: Vec::new(alloc),
@@ -140,14 +140,14 @@ fn look<M: Ledger>(
     alloc: Global,
     ended: Ended,
     report: &Report<MemWire, NoRecord, M>,
-) -> Result<Seen, AllocError> {
+) -> Result<Looked, AllocError> {
     let mut sent = Vec::new(alloc);
     let mut ends = Vec::new(alloc);
     for visit in &report.visits {
         sent.push(visit.wire.sent().to_vec(alloc)?)?;
         ends.push(visit.end)?;
     }
-    Ok(Seen {
+    Ok(Looked {
         ended,
         entries: report.board.journal().len(),
         sent,

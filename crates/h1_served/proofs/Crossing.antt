@@ -9,4 +9,4 @@ use Rattle.h1_served.specs.contracts.accept.Fresh as Fresh
 
 module _ (T : RattleType) (g : Ghosts T.Denot) where
   pub fresh_send : IsSend (Fresh.the_row T g)
-  fresh_send = let a : IsSend (Carried.the_field T g).row = carried_send T g in search (crosses, sendable) depth 20
+  fresh_send = let a : IsSend (Carried.the_row T g) = carried_send T g in search (crosses, sendable) depth 20

@@ -27,10 +27,14 @@ module _ {W L : Type 0} (settings : Settings) (polls : ℕ) (may_give : ℕ → 
   calls_are [] [] are = refl
   calls_are [] (p ∷ passes) are = absurd are
   calls_are (v ∷ visits) [] are = absurd are
-  calls_are (v ∷ visits) (p ∷ passes) are = ap (λ n. n + entries_held passes) (sym are.0.calls) ∙ ap (λ n. v.calls + n) (calls_are visits passes are.1)
+  calls_are (v ∷ visits) (p ∷ passes) are =
+      sum_by-append (λ (x : Held). length x.entries) (p ∷ []) passes ∙ ap (λ (n : ℕ). (0 + n) + entries_held passes) (sym are.0.calls)
+      ∙ ap (λ (n : ℕ). (0 + v.calls) + n) (calls_are visits passes are.1) ∙ sym (sum_by-append (λ (x : Visit W L). x.calls) (v ∷ []) visits)
 
   own_is : (p : Held) (number : ℕ) (journal : List Entry) → number ≡ p.number → of_pass p.number journal ≡ p.entries → p ≡ own_pass number journal
-  own_is p number journal number_is entries_are = cc (number_is, entries_are)
+  own_is p number journal number_is entries_are =
+      let own : of_pass number journal ≡ p.entries = ap (λ (n : ℕ). of_pass n journal) number_is ∙ entries_are in
+      λ i. record { number = sym number_is i; entries = sym own i }
 
   visit_of : (journal : List Entry) (v : Visit W L) (p : Held) → of_pass p.number journal ≡ p.entries → Matches settings polls may_give wiring noted v p → IsVisit settings polls may_give wiring noted journal v
   visit_of journal v p entries_are is = record {
