@@ -238,14 +238,15 @@ pub fn take(
 /// All that waits is written.
 pub fn give(connection: &mut Connection, checksum: &mut Checksum) -> Result<(), BenchError> {
     for _ in 0..connection.buffered() {
-        if connection.stretch().is_empty() {
+        if connection.buffered() == 0 {
             break;
         }
         if !connection.can_write() {
             return Err(BenchError::Misplaced);
         }
-        let written = connection.stretch().len();
-        checksum.add_bytes(connection.stretch());
+        let next = connection.stretch();
+        let written = next.len();
+        checksum.add_bytes(next);
         connection.advance(written);
     }
     Ok(())

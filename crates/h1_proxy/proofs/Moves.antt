@@ -1,6 +1,6 @@
 -- How a forwarder goes on.
-use Rattle.std.proofs.Common.{◌≡◌, ℕ, Bool, true, false, not, List, [], ◌∷◌, Option, Some, None, refl, sym, ap, ap₂, ◌∙◌, subst}
-use Rattle.std.specs.Prelude.{IsTrue, is_some, is_none, option_map, ◌&&◌}
+use Rattle.std.proofs.Common.{◌≡◌, ℕ, true, List, ◌∷◌, Option, Some, None, refl, sym, ap, ap₂, ◌∙◌, subst}
+use Rattle.std.specs.Prelude.{IsTrue, option_map}
 use Rattle.http_config.specs.Config.{Settings}
 use Rattle.h1_model.specs.Setting.{Setting}
 use Rattle.h1_model.specs.Request.{Head}
@@ -17,12 +17,12 @@ use Rattle.h1_client.specs.Meaning as asking
 use Rattle.h1_client.specs.Meaning.{request_of}
 use Rattle.h1_client.specs.State as servers
 use Rattle.h1_connection.specs.Meaning.{setting_of}
-use Rattle.h1_connection.specs.State.{State, GoesOn, Is}
+use Rattle.h1_connection.specs.State.{State}
 use Rattle.h1_forward_model.specs.Forward.{is_forwardable}
 use Rattle.h1_forward_model.specs.Past.{ProxyStep, ProxyEvent, ProxyOutcome, client_bytes, client_written, tick_of, connected, done}
 use Rattle.h1_forward_traces.specs.Happenings.{Happenings}
-use Rattle.h1_forward_traces.specs.Carried.{UnderWay, nothing, waits, is_sent, ForwarderKept, Carries, IsNewest, Keeps, KeepsBy}
-use Rattle.h1_forward_traces.specs.Moves.{HasBrought, Brings, Does, DoesAsked, Stays}
+use Rattle.h1_forward_traces.specs.Carried.{UnderWay, nothing, waits, is_sent, Carries}
+use Rattle.h1_forward_traces.specs.Moves.{Brings, Does, DoesAsked, Stays}
 use Rattle.h1_forward_traces.proofs.Quiet.{BringsNothing, done_brings_nothing}
 use Rattle.h1_forward_traces.proofs.Turns.{keeps_client, keeps_closed, keeps_server, keeps_head, keeps_waiting, keeps_refused, keeps_left, keeps_whole}
 use Rattle.h1_forward_traces.proofs.Sends.{keeps_asked, keeps_piece, keeps_end, keeps_broken}
@@ -30,8 +30,9 @@ use Rattle.h1_forward_traces.proofs.Events.{SaysNoBytes, LeavesServers, AddsNoTe
 use Rattle.h1_proxy.specs.declared.proxy.Proxy.{Proxy}
 use Rattle.h1_proxy.specs.declared.proxy.Unsent.{Unsent}
 use Rattle.h1_proxy.specs.declared.proxy.Sent.{Sent}
+use Rattle.h1_proxy.specs.declared.notes.Notes.{Notes}
 use Rattle.h1_forward_sides.specs.Sides.{ClientBrings, ClientBringsHead, ServerStays, ServerDid}
-use Rattle.h1_proxy.specs.Kept.{under_way_of, kept_of, HasSettings, Forwards, Goes, GoesBy, GoesWith, GoesUnsent, GoesFrom, IsIdle, Runs, IsUnsent}
+use Rattle.h1_proxy.specs.Kept.{under_way_of, kept_of, Goes, GoesBy, GoesFrom, IsIdle, Runs, IsUnsent}
 
 -- ---- one after another
 
@@ -47,6 +48,10 @@ by_then event outcome a b c first second =
 
 pub then_by : (event : ProxyEvent) (outcome : ProxyOutcome) (a b c : Proxy) → Goes a b → GoesBy event outcome b c → GoesBy event outcome a c
 then_by event outcome a b c first second = λ history all x. let y = first history all x in second history y.0 y.1
+
+-- what is noted is no part of what happened
+pub noted : (p : Proxy) (n : Notes) → Goes p (record p { notes = n })
+noted p n = λ history all f. (all, record { client = f.client; server = f.server; carries = f.carries })
 
 -- where a part was taken out
 pub of_server : (p q : Proxy) (s : servers.State) → p.server ≡ Some s → Goes (record p { server = Some s }) q → Goes p q

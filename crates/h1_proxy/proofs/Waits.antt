@@ -12,7 +12,7 @@ use Rattle.h1_model.specs.Request.{Head, ConnectionType, keep_alive}
 use Rattle.h1_model.specs.Answer.{BodySize}
 use Rattle.h1_codec.specs.Meaning.{model_type}
 use Rattle.h1_request.specs.Meaning.{asked_head}
-use Rattle.h1_client.specs.Meaning.{request_of, marked_type}
+use Rattle.h1_client.specs.Meaning.{request_of}
 use Rattle.h1_client_model.specs.RequestText.{RequestGiven, request_text, asked_shape, given_request_text}
 use Rattle.h1_forward_model.specs.Forward.{forwarded_size}
 

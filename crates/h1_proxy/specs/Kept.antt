@@ -1,9 +1,7 @@
 -- A forwarder as its contracts see it, and how it goes on.
 use Rattle.std.specs.Prelude.{◌≡◌, ℕ, Bool, false, not, ◌&&◌, List, [], ◌∷◌, Option, Some, None, is_some, is_none, option_map, ⊤}
 use Rattle.http_config.specs.Config.{Settings}
-use Rattle.http_framing.specs.Kinds.{kind_of}
 use Rattle.h1_model.specs.Request.{Head, has_body}
-use Rattle.h1_model.specs.Setting.{Setting}
 use Rattle.h1_model.specs.Event as on
 use Rattle.h1_machine.specs.Local.{closing_by, allowed_by}
 use Rattle.h1_codec.specs.Meaning.{size_of}
@@ -17,7 +15,7 @@ use Rattle.h1_client.specs.Meaning.{request_of}
 use Rattle.h1_client.specs.State as servers
 use Rattle.h1_connection.specs.Meaning.{setting_of}
 use Rattle.h1_connection.specs.State.{State}
-use Rattle.h1_forward_model.specs.Forward.{is_forwardable, forwarded, forwarded_size}
+use Rattle.h1_forward_model.specs.Forward.{forwarded, forwarded_size}
 use Rattle.h1_forward_model.specs.Past.{ProxyStep, ProxyEvent, ProxyOutcome}
 use Rattle.h1_forward_model.specs.Exchange.{unpulled}
 use Rattle.h1_forward_traces.specs.Happenings.{Happenings, sent_of}

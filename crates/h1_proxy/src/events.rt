@@ -116,8 +116,9 @@ impl Proxy {
         requires wants_server { IsTrue (wants_server self.old) }
         ensures goes { OnOk result (GoesBy event.refused done self.old self.new) }
     {
-        self.unsent = None;
+        let unsent = self.unsent.take();
         self.sent = None;
+        self.note_unsent(unsent);
         self.reply(Refusal::NoAnswer)?;
         self.settle()?;
         Ok(())

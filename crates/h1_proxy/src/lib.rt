@@ -20,8 +20,10 @@
 #![tactic(auto)]
 
 mod events;
+mod notes;
 mod proxy;
 mod turns;
 
-pub use h1_connection::{Bytes, End, Expiry, NoMemory, ServiceConfig};
+pub use h1_connection::{Bytes, End, Expiry, NoMemory, RequestHead, ServiceConfig, StatusCode};
+pub use notes::Reply;
 pub use proxy::Proxy;

@@ -12,12 +12,13 @@ ghost use Rattle.h1_machine.specs.Local.{closing_by};
 ghost use Rattle.h1_forward_traces.specs.Happenings.{nothing_happened};
 ghost use Rattle.h1_proxy.specs.Kept.{client_of, server_of, Forwards, IsUnsent, is_closing, wants_server, server_text, server_allows, client_takes};
 
+use crate::notes::Notes;
 use h1_client::ClientConnection;
 use h1_connection::{BodySize, Connection, End, HeadItem, RequestHead, ServiceConfig};
 use h1_forward_heads::{forwarded_head, forwarded_size};
 use std::alloc::Global;
 
-/// Where so many bytes wait towards either side, nothing more is taken and nothing more is done: 32768.
+/// Where so many bytes wait towards a side, nothing more is taken from the other side, and nothing more goes to it: 32768.
 pub(crate) const MAX_WAITING: usize = 32768;
 
 /// A client's connection beside one to a server, which reads nothing and writes nothing itself.
@@ -42,6 +43,9 @@ pub struct Proxy {
 
     /// The last moment that was told.
     pub(crate) moment: Option<u64>,
+
+    /// What was replied, where it is noted.
+    pub(crate) notes: Notes,
 }
 
 /// A request that is to be sent on.
@@ -106,6 +110,7 @@ impl Proxy {
             unsent: None,
             sent: None,
             moment: None,
+            notes: Notes::new(alloc),
         }
     }
 
@@ -134,6 +139,14 @@ impl Proxy {
     pub fn is_reusable(&self) -> bool {
         match &self.server {
             Some(server) => self.sent.is_none() && server.is_reusable(),
+            None => false,
+        }
+    }
+
+    /// Whether a reply that isn't the forwarder's own was begun, and isn't complete: the head of an answer was passed on.
+    pub fn is_answering(&self) -> bool {
+        match self.sent {
+            Some(sent) => sent.is_answered,
             None => false,
         }
     }
@@ -226,10 +239,5 @@ impl Proxy {
             Some(server) if server.can_read() => server.read_room(),
             _ => 0,
         }
-    }
-
-    /// As many bytes as are kept wait towards one of the sides.
-    pub(crate) fn is_full(&self) -> bool {
-        self.client.buffered() >= MAX_WAITING || self.server_front().len() >= MAX_WAITING
     }
 }

@@ -6,9 +6,9 @@ ghost use Rattle.h1_model.specs.Event as on;
 ghost use Rattle.h1_forward_sides.specs.Sides.{ServerStays, SendsBody};
 ghost use Rattle.h1_proxy.specs.Kept.{Goes, GoesWith, GoesUnsent, GoesFrom, IsIdle, Runs};
 
-use crate::proxy::{Proxy, Sent, Unsent};
+use crate::proxy::{MAX_WAITING, Proxy, Sent, Unsent};
 use h1_client::{ClientConnection, NextAnswer, ResponseItem};
-use h1_connection::{BodySize, HeadItem, NextHead, NoMemory, Pulled};
+use h1_connection::{BodySize, HeadItem, NextHead, NoMemory, Pulled, StatusCode};
 use h1_forward_heads::{
     AnswerUse, Refusal, answer_use, is_forwardable, reply_head, reply_size, says_close,
 };
@@ -50,9 +50,13 @@ impl Proxy {
         }
     }
 
-    // No turn is possible: enough waits towards a side, or the client's connection is to end.
+    // No turn is possible: enough waits towards the client, or towards the server where no request is under way whose
+    // answer may come; or the client's connection is to end.
     fn is_still(&self) -> bool {
-        if self.is_full() {
+        if self.client.buffered() >= MAX_WAITING {
+            return true;
+        }
+        if self.sent.is_none() && self.server_front().len() >= MAX_WAITING {
             return true;
         }
         self.is_closing()
@@ -76,6 +80,7 @@ impl Proxy {
             self.server = Some(server);
             self.sent = Some(unsent.sent);
             self.unsent = None;
+            self.note_unsent(Some(unsent));
             return Ok(true);
         }
         self.unsent = Some(unsent);
@@ -137,7 +142,10 @@ impl Proxy {
                 self.open(item)?;
                 Ok(true)
             }
-            NextHead::Fault(_) => Ok(true),
+            NextHead::Fault(fault) => {
+                self.note_fault(fault)?;
+                Ok(true)
+            }
             NextHead::Pending => Ok(false),
             NextHead::Closed(_) => Ok(false),
         }
@@ -150,6 +158,7 @@ impl Proxy {
     {
         if !is_forwardable(&item) {
             self.server = None;
+            self.note_request(item.head);
             self.reply(Refusal::NotForwardable)?;
             return Ok(());
         }
@@ -234,10 +243,26 @@ impl Proxy {
                 Ok(())
             }
             AnswerUse::PassOn => {
-                self.pass_head(sent, server, item)?;
+                self.pass_noted(sent, server, item)?;
                 Ok(())
             }
         }
+    }
+
+    // It is passed on, and that is noted.
+    fn pass_noted(
+        &mut self,
+        sent: Sent,
+        server: ClientConnection,
+        item: ResponseItem,
+    ) -> Result<(), NoMemory>
+        requires runs { Runs sent self.old }
+        ensures { OnOk result (GoesWith server self.old self.new) }
+    {
+        let status = status_of(&item);
+        self.pass_head(sent, server, item)?;
+        self.note_reply(status)?;
+        Ok(())
     }
 
     fn pass_head(
@@ -400,8 +425,13 @@ impl Proxy {
         leave_body(&mut self.client);
         let head = refusal.head(self.alloc);
         put_head(&mut self.client, &head, BodySize::Sized(0))?;
+        self.note_reply(refusal.status())?;
         Ok(())
     }
+}
+
+fn status_of(item: &ResponseItem) -> StatusCode {
+    item.head.status
 }
 
 // The head of its answer was passed on.
@@ -456,6 +486,9 @@ fn may_send(sent: Sent, server: &ClientConnection) -> bool
         return false;
     }
     if sent.is_broken {
+        return false;
+    }
+    if server.front().len() >= MAX_WAITING {
         return false;
     }
     sends_body(server)

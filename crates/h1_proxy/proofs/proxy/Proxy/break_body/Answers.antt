@@ -1,4 +1,4 @@
-use Rattle.std.proofs.Common.{Some, None}
+use Rattle.std.proofs.Common.{Some}
 use Rattle.h1_proxy.proofs.Moves.{goes_then, fails, resent}
 use Rattle.h1_proxy.proofs.proxy.Proxy.break_body.Goals as goal
 

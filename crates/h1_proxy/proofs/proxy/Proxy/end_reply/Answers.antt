@@ -1,4 +1,4 @@
-use Rattle.std.proofs.Common.{Some, None, refl}
+use Rattle.std.proofs.Common.{Some}
 use Rattle.h1_proxy.proofs.Moves.{goes_then, client_done}
 use Rattle.h1_proxy.proofs.proxy.Proxy.end_reply.Goals as goal
 

@@ -1,6 +1,6 @@
 use Rattle.std.proofs.Common.{sym}
 use Rattle.h1_client_machine.specs.ClientEvent as asked
-use Rattle.h1_proxy.proofs.EventMoves.{allows_of, none_allows, server_ends}
+use Rattle.h1_proxy.proofs.EventMoves.{allows_of, server_ends}
 use Rattle.h1_proxy.proofs.proxy.Proxy.end_server.Goals as goal
 
 pub eof-requires : goal.eof-requires

@@ -13,5 +13,6 @@ returns-clause-forwards c =
       unsent = None;
       sent = None;
       moment = None;
+      notes = c.new-2.result;
     } in
     new_forwards p c.new.result c.new.ensures

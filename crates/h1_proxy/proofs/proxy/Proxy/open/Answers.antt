@@ -3,7 +3,7 @@ use Rattle.h1_proxy.proofs.Moves.{goes_then, closes, client_done, from_any, from
 use Rattle.h1_proxy.proofs.proxy.Proxy.open.Goals as goal
 
 pub returns-then-not-is_forwardable : goal.returns-then-not-is_forwardable
-returns-then-not-is_forwardable c = from_any c.args.item _ _ (goes_then _ _ _ (closes c.args.self.now) c.in_ok-reply.ensures)
+returns-then-not-is_forwardable c = from_any c.args.item _ _ (goes_then _ _ _ (closes c.args.self.now) (goes_then _ _ _ c.note_request.ensures c.in_ok-reply.ensures))
 
 pub returns : goal.returns
 returns c =

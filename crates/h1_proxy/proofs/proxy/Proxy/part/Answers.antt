@@ -1,4 +1,4 @@
-use Rattle.std.proofs.Common.{Some, None, refl}
+use Rattle.std.proofs.Common.{Some}
 use Rattle.h1_proxy.proofs.Moves.{fails, is_over}
 use Rattle.h1_proxy.proofs.proxy.Proxy.part.Goals as goal
 

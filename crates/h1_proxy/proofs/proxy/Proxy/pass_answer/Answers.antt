@@ -1,4 +1,4 @@
-use Rattle.std.proofs.Common.{Some, None, refl}
+use Rattle.std.proofs.Common.{Some}
 use Rattle.h1_proxy.proofs.Moves.{goes_then, closes, server_moves}
 use Rattle.h1_proxy.proofs.proxy.Proxy.pass_answer.Goals as goal
 

@@ -1,4 +1,4 @@
-use Rattle.std.proofs.Common.{Some, None, refl}
+use Rattle.std.proofs.Common.{Some, refl}
 use Rattle.h1_proxy.proofs.Moves.{goes_then, client_done, resent}
 use Rattle.h1_proxy.proofs.proxy.Proxy.pass_head.Goals as goal
 

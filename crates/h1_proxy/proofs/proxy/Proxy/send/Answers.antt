@@ -18,7 +18,9 @@ returns-then-branch c =
     let t = c.tell_time.new.server in
     of_server p _ s (sym c.in-Some.ensures.value)
     (goes_then _ _ _ (server_moves p s t c.tell_time.ensures)
-    (asks p c.args.unsent t c.ask.new.server (did_ask _ (request_of c.args.unsent.head) (size_of c.args.unsent.size) t c.ask.new.server c.if-branch.true c.in_ok-ask.ensures)))
+    (goes_then _ _ _
+    (asks p c.args.unsent t c.ask.new.server (did_ask _ (request_of c.args.unsent.head) (size_of c.args.unsent.size) t c.ask.new.server c.if-branch.true c.in_ok-ask.ensures))
+    c.note_unsent.ensures))
 
 pub returns : goal.returns
 returns c = closes_as (record c.args.self.now { unsent = Some c.args.unsent }) c.take.new.self c.take.ensures.after

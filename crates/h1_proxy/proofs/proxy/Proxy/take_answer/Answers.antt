@@ -1,4 +1,4 @@
-use Rattle.std.proofs.Common.{Some, None, refl}
+use Rattle.std.proofs.Common.{Some}
 use Rattle.h1_proxy.proofs.Moves.{goes_same, goes_then, closes}
 use Rattle.h1_proxy.proofs.proxy.Proxy.take_answer.Goals as goal
 

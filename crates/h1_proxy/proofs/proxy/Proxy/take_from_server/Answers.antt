@@ -1,7 +1,6 @@
 use Rattle.std.proofs.Common.{sym, ◌∙◌}
 use Rattle.h1_client_machine.specs.ClientEvent as asked
-use Rattle.h1_forward_model.specs.Past.{server, took}
-use Rattle.h1_proxy.proofs.EventMoves.{server_nothing, server_reads, allows_of, of_none_by}
+use Rattle.h1_proxy.proofs.EventMoves.{server_nothing, server_reads, allows_of}
 use Rattle.h1_proxy.proofs.proxy.Proxy.take_from_server.Goals as goal
 
 pub returns-then-server_room-eq0 : goal.returns-then-server_room-eq0

@@ -1,6 +1,6 @@
 use Rattle.std.proofs.Common.{sym}
 use Rattle.h1_client_machine.specs.ClientEvent as asked
-use Rattle.h1_proxy.proofs.EventMoves.{allows_of, none_allows, text_of, server_writes}
+use Rattle.h1_proxy.proofs.EventMoves.{allows_of, text_of, server_writes}
 use Rattle.h1_proxy.proofs.proxy.Proxy.write_server.Goals as goal
 
 pub advance-requires : goal.advance-requires

@@ -1,0 +1,25 @@
+-- A forwarder has a history after each call.
+use Rattle.std.proofs.Common.{◌≡◌, [], ◌∷◌, subst}
+use Rattle.h1_forward_model.specs.Past.{ProxyEvent, ProxyOutcome}
+use Rattle.h1_forward_traces.specs.Happenings.{nothing_happened}
+use Rattle.h1_proxy.specs.declared.proxy.Proxy.{Proxy}
+use Rattle.h1_proxy.specs.Kept.{Forwards, Goes, GoesBy}
+use Rattle.h1_forward_loop.specs.History.{HasHistory}
+
+pub begins : (p : Proxy) → Forwards p [] nothing_happened → HasHistory p
+begins p stands = record { history = []; all = nothing_happened; stands = stands }
+
+pub goes_on : (old new : Proxy) → HasHistory old → Goes old new → HasHistory new
+goes_on old new x goes = let y = goes x.history x.all x.stands in record { history = x.history; all = y.0; stands = y.1 }
+
+pub goes_by : (event : ProxyEvent) (outcome : ProxyOutcome) (old new : Proxy) → HasHistory old → GoesBy event outcome old new → HasHistory new
+goes_by event outcome old new x goes =
+    let y = goes x.history x.all x.stands in
+    record { history = record { event = event; outcome = outcome } ∷ x.history; all = y.0; stands = y.1 }
+
+-- the same of the forwarder as it is seen
+pub seen : (p q new : Proxy) → p ≡ q → Goes p new → Goes q new
+seen p q new is goes = subst (λ (p : Proxy). Goes p new) is goes
+
+pub seen_by : (event : ProxyEvent) (outcome : ProxyOutcome) (p q new : Proxy) → p ≡ q → GoesBy event outcome p new → GoesBy event outcome q new
+seen_by event outcome p q new is goes = subst (λ (p : Proxy). GoesBy event outcome p new) is goes

@@ -1,0 +1,30 @@
+-- Bytes between sockets and a forwarder.
+use Rattle.std.specs.Prelude.{◌≡◌, ℕ, List, [], length, take, Option, Some, None}
+use Rattle.std.specs.Io.KnownBytes.{Consumes, Keeps, IsAtEnd, Appends}
+use Rattle.h1_forward_model.specs.Past.{ProxyEvent, took, gave}
+use Rattle.h1_proxy.specs.declared.proxy.Proxy.{Proxy}
+use Rattle.h1_proxy.specs.Kept.{GoesBy}
+use Rattle.h1_forward_loop.specs.declared.flow.TakenIn.{TakenIn}
+use Rattle.h1_forward_loop.specs.declared.flow.TakenIn.TheVariants as came
+
+-- nothing came, and the forwarder was told of nothing
+abbrev pub Stays : Proxy → Option (List ℕ) → Option (List ℕ) → Proxy → Type 0
+Stays old left rest new = (new ≡ old) × Consumes left rest []
+
+-- What a read brought: the bytes that left the source are those that the forwarder was told by the event, and it took so many.
+abbrev pub Told : (List ℕ → ProxyEvent) → ℕ → Proxy → Option (List ℕ) → Option (List ℕ) → Proxy → List ℕ → Type 0
+Told event count old left rest new bytes = Consumes left rest bytes × GoesBy (event bytes) (took count) old new
+
+-- At the end, and where nothing came, it was told of nothing.
+abbrev pub TakesIn : (List ℕ → ProxyEvent) → Proxy → Option (List ℕ) → Option (List ℕ) → TakenIn → Proxy → Type 0
+TakesIn event old left rest (came.Bytes n) new = (bytes : List ℕ) × (length bytes ≡ n) × Told event n old left rest new bytes
+TakesIn event old left rest came.End new = Stays old left rest new × IsAtEnd rest
+TakesIn event old left rest came.Failed new = Stays old left rest new
+TakesIn event old left rest came.Full new = Stays old left rest new
+TakesIn event old left rest (came.Cut n) new = (bytes : List ℕ) × Told event n old left rest new bytes
+
+-- Of the bytes that waited the first so many were written, and no others, and the forwarder gave them. Where nothing was written
+-- it was told of nothing.
+abbrev pub Writes : (ℕ → ProxyEvent) → List ℕ → Proxy → Option (List ℕ) → Option (List ℕ) → Option ℕ → Proxy → Type 0
+Writes event waited old given after (Some n) new = Appends given after (take n waited) × GoesBy (event n) (gave (take n waited)) old new
+Writes event waited old given after None new = Keeps given after × (new ≡ old)

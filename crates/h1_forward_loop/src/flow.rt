@@ -1,0 +1,138 @@
+//! Bytes between sockets and a forwarder.
+ghost use Rattle.std.specs.Prelude.{◌<◌, IfOk, length};
+ghost use Rattle.h1_forward_model.specs.Past as event;
+ghost use Rattle.h1_proxy.specs.Kept.{client_of, server_of, server_text};
+ghost use Rattle.h1_forward_loop.specs.Flow.{TakesIn, Writes};
+
+use crate::forwarder::Forwarder;
+use h1_proxy::NoMemory;
+use http_types::{Sink, Source};
+
+/// What a read brought.
+#[derive(Clone, Copy, Debug, PartialEq, Eq)]
+pub enum TakenIn {
+    /// So many bytes came, and the forwarder took them.
+    Bytes(usize),
+
+    /// The peer sends no more bytes. The forwarder wasn't told.
+    End,
+
+    /// The source gave nothing.
+    Failed,
+
+    /// The forwarder takes no bytes now, and none were read.
+    Full,
+
+    /// The forwarder took only so many of the bytes that came, so the peer has to be let go.
+    Cut(usize),
+}
+
+/// Reads from the client once, at most what there is room for, and tells the forwarder what came.
+pub fn take_in_client<S: Source>(
+    forwarder: &mut Forwarder,
+    source: &mut S,
+    room: &mut [u8],
+) -> Result<TakenIn, NoMemory>
+    ensures { IfOk result (λ came. TakesIn event.client forwarder.old (S.left source.old) (S.left source.new) came forwarder.new) }
+{
+    let limit = forwarder.proxy().client_room().min(room.len());
+    if limit == 0 {
+        return Ok(TakenIn::Full);
+    }
+    read_client(forwarder, source, &mut room[..limit])
+}
+
+// The same into a piece that isn't empty.
+fn read_client<S: Source>(
+    forwarder: &mut Forwarder,
+    source: &mut S,
+    piece: &mut [u8],
+) -> Result<TakenIn, NoMemory>
+    requires room { 0 < length piece.old }
+    ensures { IfOk result (λ came. TakesIn event.client forwarder.old (S.left source.old) (S.left source.new) came forwarder.new) }
+{
+    let Ok(count) = source.read(piece) else {
+        return Ok(TakenIn::Failed);
+    };
+    if count == 0 {
+        return Ok(TakenIn::End);
+    }
+    let taken = forwarder.read_client(&piece[..count])?;
+    if taken == count {
+        return Ok(TakenIn::Bytes(count));
+    }
+    Ok(TakenIn::Cut(taken))
+}
+
+/// Reads from the server once, at most what there is room for, and tells the forwarder what came.
+pub fn take_in_server<S: Source>(
+    forwarder: &mut Forwarder,
+    source: &mut S,
+    room: &mut [u8],
+) -> Result<TakenIn, NoMemory>
+    ensures { IfOk result (λ came. TakesIn event.server forwarder.old (S.left source.old) (S.left source.new) came forwarder.new) }
+{
+    let limit = forwarder.proxy().server_room().min(room.len());
+    if limit == 0 {
+        return Ok(TakenIn::Full);
+    }
+    read_server(forwarder, source, &mut room[..limit])
+}
+
+// The same into a piece that isn't empty.
+fn read_server<S: Source>(
+    forwarder: &mut Forwarder,
+    source: &mut S,
+    piece: &mut [u8],
+) -> Result<TakenIn, NoMemory>
+    requires room { 0 < length piece.old }
+    ensures { IfOk result (λ came. TakesIn event.server forwarder.old (S.left source.old) (S.left source.new) came forwarder.new) }
+{
+    let Ok(count) = source.read(piece) else {
+        return Ok(TakenIn::Failed);
+    };
+    if count == 0 {
+        return Ok(TakenIn::End);
+    }
+    let taken = forwarder.read_server(&piece[..count])?;
+    if taken == count {
+        return Ok(TakenIn::Bytes(count));
+    }
+    Ok(TakenIn::Cut(taken))
+}
+
+/// Writes what waits towards the client once, as far as the sink takes it: how many bytes that were, and nothing where the
+/// sink failed or nothing may be written.
+pub fn write_client<K: Sink>(
+    forwarder: &mut Forwarder,
+    sink: &mut K,
+) -> Result<Option<usize>, NoMemory>
+    ensures { IfOk result (λ count. Writes event.to_client (client_of forwarder.old).kept.buffered forwarder.old (K.given sink.old) (K.given sink.new) count forwarder.new) }
+{
+    if !forwarder.proxy().can_write_client() {
+        return Ok(None);
+    }
+    let Ok(count) = sink.write(forwarder.proxy().client_front()) else {
+        return Ok(None);
+    };
+    forwarder.advance_client(count)?;
+    Ok(Some(count))
+}
+
+/// Writes what waits towards the server once, as far as the sink takes it: how many bytes that were, and nothing where the
+/// sink failed or nothing may be written.
+pub fn write_server<K: Sink>(
+    forwarder: &mut Forwarder,
+    sink: &mut K,
+) -> Result<Option<usize>, NoMemory>
+    ensures { IfOk result (λ count. Writes event.to_server (server_text (server_of forwarder.old)) forwarder.old (K.given sink.old) (K.given sink.new) count forwarder.new) }
+{
+    if !forwarder.proxy().can_write_server() {
+        return Ok(None);
+    }
+    let Ok(count) = sink.write(forwarder.proxy().server_front()) else {
+        return Ok(None);
+    };
+    forwarder.advance_server(count)?;
+    Ok(Some(count))
+}
