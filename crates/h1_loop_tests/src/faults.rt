@@ -37,6 +37,7 @@ fn a_wire_that_fails_ends_its_connection_alone(rt: HostRuntime) -> Result<(), Fa
             },
         )?;
         assert!(rt; !ran.is_lost && ran.entered == 3 && ran.ended == 3 && ran.given_up == 0);
+        assert!(rt; ran.sent.len() == 3 && ran.shut.len() == 3);
         assert!(rt; ran.sent[0] == ANSWERS && ran.shut[0] && ran.sent[2] == ANSWERS && ran.shut[2]);
         assert!(rt; ran.sent[1] <= ANSWERS && !ran.shut[1]);
     }

@@ -215,7 +215,7 @@ pub struct Plan<'a> {
 /// What a test looks at: how the loop ended, what it counted, and of each connection how many bytes were sent, and whether
 /// it was shut down.
 #[derive(Drop)]
-pub struct Seen {
+pub struct Looked {
     pub is_lost: bool,
     pub entered: u64,
     pub ended: u64,
@@ -226,7 +226,7 @@ pub struct Seen {
 }
 
 /// Runs a loop.
-pub fn seen<R: RandomSource + AllocGlobal>(rt: &R, plan: Plan<'_>) -> Result<Seen, AllocError> {
+pub fn seen<R: RandomSource + AllocGlobal>(rt: &R, plan: Plan<'_>) -> Result<Looked, AllocError> {
     let alloc = rt.alloc();
     let mut marks = Vec::new(alloc);
     let mut wires = VecDeque::new(alloc);
@@ -297,14 +297,14 @@ fn shown(
     })
 }
 
-fn look(alloc: Global, marks: &Vec<Marks>) -> Result<Seen, AllocError> {
+fn look(alloc: Global, marks: &Vec<Marks>) -> Result<Looked, AllocError> {
     let mut sent = Vec::new(alloc);
     let mut shut = Vec::new(alloc);
     for mark in marks {
         sent.push(mark.sent.load(SeqCst))?;
         shut.push(mark.shut.load(SeqCst) == 1)?;
     }
-    Ok(Seen {
+    Ok(Looked {
         is_lost: false,
         entered: 0,
         ended: 0,

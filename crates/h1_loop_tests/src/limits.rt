@@ -15,6 +15,7 @@ const PLAN: Plan<'static> = Plan {
 fn one_job_at_once_serves_all_in_turn(rt: HostRuntime) -> Result<(), Fail> {
     let ran = seen(&rt, PLAN)?;
     assert!(rt; !ran.is_lost && ran.entered == 3 && ran.ended == 3 && ran.refused == 0);
+    assert!(rt; ran.sent.len() == 3);
     assert!(rt; ran.sent[0] > 60 && ran.sent[1] == ran.sent[0] && ran.sent[2] == ran.sent[0]);
     Ok(())
 }
