@@ -3,17 +3,19 @@ ghost use Rattle.http_services.specs.Serving.{unknown_call};
 ghost use Rattle.h1_dispatch.specs.View.{MayBePolled};
 
 use crate::body::Page;
-use crate::report::{Polled, put_asked, put_deadline, put_polled, put_sent, put_taken};
-use crate::service::{Coming, Scripted};
+use crate::report::{
+    Polled, put_asked, put_deadline, put_polled, put_refused, put_sent, put_taken, put_upgraded,
+};
+use crate::service::{Coming, Scripted, refusal};
 use crate::setup::{Cut, Setup};
 use crate::step::Step;
 use crate::wire::Lingering;
 use futures::task::{Doorbell, Poll, Solo};
-use h1_dispatch::Dispatcher;
+use h1_dispatch::{Accepting, Dispatcher, Upgraded};
 use h1_line::Recorder;
 use http_services::CountedService;
-use http_types::{DispatchError, NoMemory};
-use std::alloc::{AllocError, AllocGlobal};
+use http_types::{DispatchError, NoMemory, StatusCode};
+use std::alloc::{AllocError, AllocGlobal, Global};
 use std::io;
 use std::random::RandomSource;
 
@@ -44,12 +46,52 @@ pub fn play<R: RandomSource + AllocGlobal, L: Recorder>(
     let wire = setup.wire(rt.alloc(), cut)?;
     let service = setup.service(rt.alloc())?;
     let mut served = Dispatcher::new(rt.alloc(), wire, service, setup.config(), recorder);
-    let taken = take_all(rt, &mut served, steps, report);
-    let (wire, service, _recorder) = served.into_parts();
-    match taken {
-        Ok(()) => Ok(put_end(&wire, service.inner(), report)?),
+    match take_all(rt, &mut served, steps, report) {
+        Ok(()) => finish(served, steps, report),
         Err(error) => Err(error),
     }
+}
+
+// Accepts the request that is held back, where that is the last step, and puts what is left.
+fn finish<L: Recorder>(served: Served<L>, steps: &[Step], report: &mut Vec<u8>) -> io::Result<()>
+    requires open { MayBePolled (λ _. unknown_call) served }
+{
+    match steps.last() {
+        Some(Step::Accept(limit)) => accept(served, *limit, report),
+        _ => put_left(served, report),
+    }
+}
+
+fn accept<L: Recorder>(served: Served<L>, limit: usize, report: &mut Vec<u8>) -> io::Result<()>
+    requires open { MayBePolled (λ _. unknown_call) served }
+{
+    if !served.can_accept(limit) {
+        return put_left(served, report);
+    }
+    match served.accept(limit) {
+        Ok(Accepting::Done(upgraded)) => put_handed(upgraded, report),
+        Ok(Accepting::Refused(served, error)) => {
+            put_refused(report, error)?;
+            put_left(served, report)
+        }
+        Err(error) => Err(error.into()),
+    }
+}
+
+// Puts what was handed over: the request, what waits to be written, and how many bytes are held behind the request.
+fn put_handed<L: Recorder>(
+    upgraded: Upgraded<Lingering, CountedService<Scripted>, L>,
+    report: &mut Vec<u8>,
+) -> io::Result<()> {
+    let (request, line, wire, service) = upgraded.into_parts();
+    let connection = line.connection();
+    put_upgraded(report, &request, connection.front(), connection.held())?;
+    Ok(put_end(&wire, service.inner(), report)?)
+}
+
+fn put_left<L: Recorder>(served: Served<L>, report: &mut Vec<u8>) -> io::Result<()> {
+    let (wire, service, _recorder) = served.into_parts();
+    Ok(put_end(&wire, service.inner(), report)?)
 }
 
 // Puts what the wire took, unless the service had no memory to note a request.
@@ -68,6 +110,7 @@ fn take_all<R: RandomSource + AllocGlobal, L: Recorder>(
     report: &mut Vec<u8>,
 ) -> io::Result<()>
     requires open { MayBePolled (λ _. unknown_call) served.old }
+    ensures open { MayBePolled (λ _. unknown_call) served.new }
 {
     let mut shown = Shown::default();
     for step in steps {
@@ -93,6 +136,27 @@ fn take<R: RandomSource + AllocGlobal, L: Recorder>(
             Ok(())
         }
         Step::Deadline => Ok(put_deadline(report, served.deadline())?),
+        Step::Hold => {
+            served.hold_upgrades(true);
+            Ok(())
+        }
+        Step::Decline => {
+            served.decline();
+            Ok(())
+        }
+        Step::HoldExpects => {
+            served.hold_expects(true);
+            Ok(())
+        }
+        Step::LetOn => {
+            served.let_on();
+            Ok(())
+        }
+        Step::TurnAway(status) => {
+            turn_away(rt.alloc(), served, status);
+            Ok(())
+        }
+        Step::Accept(_) => Ok(()),
         Step::Poll(moment) => {
             let polled = poll(rt, served, moment)?;
             Ok(put_poll(served, polled, shown, report)?)
@@ -101,6 +165,16 @@ fn take<R: RandomSource + AllocGlobal, L: Recorder>(
             let polled = poll_until_ready(rt, served, moment)?;
             Ok(put_poll(served, polled, shown, report)?)
         }
+    }
+}
+
+// Turns the request away whose client is held back, where one is.
+fn turn_away<L: Recorder>(alloc: Global, served: &mut Served<L>, status: StatusCode)
+    requires open { MayBePolled (λ _. unknown_call) served.old }
+    ensures open { MayBePolled (λ _. unknown_call) served.new }
+{
+    if served.can_refuse() {
+        served.refuse(refusal(alloc, status));
     }
 }
 

@@ -6,10 +6,10 @@ use Rattle.futures.specs.declared.task.context.Context.{Context}
 use Rattle.http_types.specs.declared.error.DispatchError.{DispatchError}
 use Rattle.http_types.specs.declared.error.DispatchError.TheVariants as error
 use Rattle.h1_model.specs.Event as on
-use Rattle.h1_dispatch.specs.View.{View, Stage, free, waiting, calling, replying, sending, is_sending, is_replying, closes, has_write_room, asks_next, allows_answer, allows_chunk}
-use Rattle.h1_dispatch.specs.Steps.{Step, IsStep, IsRun, ticked, drained, shut, failed, asked_to_drain}
+use Rattle.h1_dispatch.specs.View.{View, Asking, Stage, free, waiting, calling, replying, sending, is_sending, is_replying, closes, has_write_room, asks_next, allows_answer, is_held, allows_chunk}
+use Rattle.h1_dispatch.specs.Steps.{Step, IsStep, IsRun, ticked, drained, written, read, shut, next, closed, continued, ready, called, answered, pulled, paused, dropped, replied, sent, failed, failed_write, failed_read, failed_fed, failed_sent, asked_to_drain, asked_to_hold, declined, let_on, turned_away, refused}
 use Rattle.h1_dispatch.specs.Traces.{IsNoted, AllNoted}
-use Rattle.h1_dispatch.specs.Polls.{EndsWith, IsShut, IsIo, IsStuck, IsHeld, IsIdle, Reads, Feeds, Writes, Serves, Sends, Awaits, Looks, Ended, GoesOn, Ticks, Drains, IsBegun, BeginFails, TurnsSay, PollRuns, PollSays}
+use Rattle.h1_dispatch.specs.Polls.{Continues, AllContinue, EndsWith, IsShut, IsIo, IsStuck, IsHeld, IsIdle, Reads, Feeds, Writes, Serves, Sends, Asks, Awaits, Looks, Ended, GoesOn, Ticks, Drains, IsBegun, BeginFails, TurnsSay, PollRuns, PollSays}
 use Rattle.h1_dispatch.specs.Acts.{Act, polled, asked, ActSays, ActsSay, HasMemory, AreOneRun}
 use Rattle.h1_dispatch.specs.Replies.{HasNoReply, HandsOn}
 use Rattle.h1_dispatch.proofs.Traces.{run_follows}
@@ -57,16 +57,20 @@ awaits_quiet v true allows served body = by_room (allows_chunk v) body
     by_room : (may : Bool) → Sends may served → AllQuiet served
     by_room true is = subst (λ l. AllQuiet l) (sym is) (tt, tt)
     by_room false is = subst (λ l. AllQuiet l) (sym is) tt
-awaits_quiet v false true served waits = by_stage v.stage (has_write_room v) waits
+awaits_quiet v false true served waits = by_stage v.stage (is_held v) (has_write_room v) waits
   where
-    by_stage : (s : Stage) (room : Bool) → Awaits s room served → AllQuiet served
-    by_stage free room is = subst (λ l. AllQuiet l) (sym is) tt
-    by_stage (waiting request) true (inl is) = subst (λ l. AllQuiet l) (sym is) (tt, tt)
-    by_stage (waiting request) true (inr is) = subst (λ l. AllQuiet l) (sym is) (tt, (tt, tt))
-    by_stage (waiting request) false is = subst (λ l. AllQuiet l) (sym is) tt
-    by_stage (calling took) room is = subst (λ l. AllQuiet l) (sym is) (tt, tt)
-    by_stage (replying answer) room is = absurd is
-    by_stage (sending body) room is = absurd is
+    by_asks : (request : Asking) (held room : Bool) → Asks held room request served → AllQuiet served
+    by_asks request true room is = subst (λ l. AllQuiet l) (sym is) tt
+    by_asks request false true (inl is) = subst (λ l. AllQuiet l) (sym is) (tt, tt)
+    by_asks request false true (inr is) = subst (λ l. AllQuiet l) (sym is) (tt, (tt, tt))
+    by_asks request false false is = subst (λ l. AllQuiet l) (sym is) tt
+
+    by_stage : (s : Stage) (held room : Bool) → Awaits s held room served → AllQuiet served
+    by_stage free held room is = subst (λ l. AllQuiet l) (sym is) tt
+    by_stage (waiting request) held room is = by_asks request held room is
+    by_stage (calling took) held room is = subst (λ l. AllQuiet l) (sym is) (tt, tt)
+    by_stage (replying answer) held room is = absurd is
+    by_stage (sending body) held room is = absurd is
 awaits_quiet v false false served looks = by_looks (asks_next v) v.stage looks
   where
     by_looks : (may : Bool) (s : Stage) → Looks v may s served → AllQuiet served

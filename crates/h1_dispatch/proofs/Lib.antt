@@ -1,10 +1,12 @@
 pub mod Replies
 pub mod Drops
+pub mod Held
 pub mod Runs
 pub mod Turns
 pub mod Moves
 pub mod Begins
 pub mod Traces
+pub mod Results
 pub mod Orders
 pub mod Acts
 pub mod Open

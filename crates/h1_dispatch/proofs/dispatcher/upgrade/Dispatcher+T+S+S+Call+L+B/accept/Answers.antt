@@ -1,0 +1,24 @@
+use Rattle.std.proofs.Common.{Some, None, refl, sym, ap, ◌∙◌}
+use Rattle.h1_line.specs.Line.{line_of}
+use Rattle.h1_dispatch.specs.View.{View, view_of, is_waiting, told_service}
+use Rattle.h1_dispatch.proofs.Held.{accepts_waits}
+use Rattle.h1_dispatch.proofs.dispatcher.upgrade.Dispatcher+T+S+S+Call+L+B.accept.Goals as goal
+
+pub hand_over-requires : goal.hand_over-requires
+hand_over-requires g c =
+    let v = view_of g.T.Wire.wiring g.S.Service.served g.S.Service.calling g.B.MessageBody.gives g.L.Recorder.noted c.args.self in
+    let says = c.in-Ok-None.ensures.says in
+    record { waits = ap (λ (x : View). is_waiting x.stage) says.1 ∙ accepts_waits v c.args.limit c.requires.can_accept }
+
+pub returns-in-Ok-None-clause-says : goal.returns-in-Ok-None-clause-says
+returns-in-Ok-None-clause-says g c =
+    let says = c.in-Ok-None.ensures.says in
+    record {
+      request = sym (ap (λ (x : View). x.stage) says.1) ∙ c.hand_over.ensures.request;
+      line = rw c.hand_over.ensures.line says.0;
+      wire = ap g.T.Wire.wiring c.hand_over.ensures.wire ∙ ap (λ (x : View). x.wire) says.1;
+      service = ap (λ s. told_service g.B.MessageBody.gives (g.S.Service.served s)) c.hand_over.ensures.service ∙ ap (λ (x : View). x.service) says.1;
+    }
+
+pub returns-in-Ok-Some-clause-says : goal.returns-in-Ok-Some-clause-says
+returns-in-Ok-Some-clause-says g c = (c.in-Ok-Some.ensures.says, c.step_accept.ensures.open)
