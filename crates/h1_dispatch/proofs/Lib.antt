@@ -1,6 +1,7 @@
 pub mod Replies
 pub mod Drops
 pub mod Held
+pub mod Unheld
 pub mod Runs
 pub mod Turns
 pub mod Moves

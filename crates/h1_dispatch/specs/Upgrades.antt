@@ -1,5 +1,5 @@
 -- Requests that are held back for who polls: they ask for an upgrade, or their clients wait to be told to go on.
-use Rattle.std.specs.Prelude.{◌≡◌, ℕ, Option, Some, None, List, if◌then◌else◌}
+use Rattle.std.specs.Prelude.{◌≡◌, ℕ, false, Option, Some, None, List, if◌then◌else◌, ⊤}
 use Rattle.http_types.specs.Response.{FullResponse}
 use Rattle.http_bodies.specs.Giving.{Giving}
 use Rattle.http_services.specs.Serving.{Serving, Calling}
@@ -15,8 +15,8 @@ use Rattle.h1_line.specs.Line.{line_of}
 use Rattle.h1_dispatch.specs.declared.dispatcher.upgrade.Accepting.{Accepting}
 use Rattle.h1_dispatch.specs.declared.dispatcher.upgrade.Accepting.TheVariants.{Done, Refused}
 use Rattle.h1_dispatch.specs.declared.dispatcher.upgrade.Upgraded.{Upgraded}
-use Rattle.h1_dispatch.specs.View.{View, Asking, Stage, waiting, view_of, told_service, may_refuse, is_offered, MayBePolled}
-use Rattle.h1_dispatch.specs.Steps.{Goes, IsStep, refused}
+use Rattle.h1_dispatch.specs.View.{View, Asking, Stage, waiting, view_of, told_service, is_held, may_refuse, is_offered, MayBePolled}
+use Rattle.h1_dispatch.specs.Steps.{Step, Goes, IsStep, asked_to_hold, refused}
 
 -- why an upgrade was refused, if it was
 abbrev pub refused_in : on.Outcome → Option HandshakeError
@@ -59,3 +59,22 @@ abbrev pub AcceptSays : {T S C L B : Type 0} → (T → Wiring) → (S → Servi
 AcceptSays wiring served calls gives noted v limit (Done handed) = HandsOver wiring served gives noted v limit handed
 AcceptSays wiring served calls gives noted v limit (Refused d error) =
     IsStep v (refused limit (failing_of error)) (view_of wiring served calls gives noted d) × MayBePolled calls d
+
+-- ---- where nobody asks that requests are held back
+
+-- none is, nor is any to be
+pub record HoldsNone (v : View) : Type 0 where
+  pub upgrades : v.upgrades ≡ false
+  pub expects : v.expects ≡ false
+  pub holding : v.holding ≡ false
+  pub checking : v.checking ≡ false
+
+-- this step doesn't ask for it
+abbrev pub AsksNoHold : Step → Type 0
+AsksNoHold (asked_to_hold upgrades expects) = ⊥
+AsksNoHold step = ⊤
+
+-- so the request that waits isn't held back
+pub record StaysUnheld (w : View) : Type 0 where
+  pub none : HoldsNone w
+  pub unheld : is_held w ≡ false
