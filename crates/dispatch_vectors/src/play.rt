@@ -85,7 +85,7 @@ fn put_handed<L: Recorder>(
 ) -> io::Result<()> {
     let (request, line, wire, service) = upgraded.into_parts();
     let connection = line.connection();
-    put_upgraded(report, &request, connection.front(), connection.held())?;
+    put_upgraded(report, &request, connection.stretch(), connection.held())?;
     Ok(put_end(&wire, service.inner(), report)?)
 }
 
