@@ -1,6 +1,6 @@
 -- A step of the parts goes on behind each trace that the connection stands for.
 use Rattle.std.proofs.Common.{◌≡◌, ℕ, ◌+◌, ◌<◌, ◌≤◌, Bool, true, false, not, ◌&&◌, ◌||◌, List, [], ◌∷◌, length, Option, Some, None, Result, Ok, Err, refl, sym, ap, ◌∙◌, subst, length-drop}
-use Rattle.std.specs.Prelude.{IsTrue, OnOk, OnErr, option_map, is_some, nat_lt, nat_le, ◌↔◌, if◌then◌else◌}
+use Rattle.std.specs.Prelude.{IsTrue, OnOk, OnErr, is_some, nat_lt, nat_le, ◌↔◌, if◌then◌else◌}
 use Rattle.http_config.specs.Config.{Settings}
 use Rattle.h1_model.specs.Setting.{Setting}
 use Rattle.h1_model.specs.Event as on
@@ -59,8 +59,7 @@ same_state r s p q now view same = err_map r (q ≡ p) (state_of s q ≡ now) (�
 goes_from : (s : Settings) (p q : Parts) (event : on.Event) (out : on.Outcome) → Steps s p event out q → MarksGo p event out q
     → IsAllowed (state_of s p) event → GoesOn (state_of s p) event (Is out) (state_of s q)
 goes_from s p q event out steps marks allowed = λ trace stands.
-    let set = setting_of s in
-    (
+    let set = setting_of s in (
       out,
       refl,
       step_outcome set (kept_of p) (kept_of q) trace event out stands allowed steps,

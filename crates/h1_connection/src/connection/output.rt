@@ -28,8 +28,8 @@ use std::marker::Model;
 use ws_frames::Message;
 
 /// A queue of bytes, which a clause sees as the list of them and the places of the bytes of each piece of a body. It grows
-/// at its end by texts and pieces, and is given away from its front. What is put is put behind the others whole, or
-/// nothing is changed.
+/// at its end by texts and pieces, and is given away from its front. What is put goes after the others whole, or nothing
+/// is changed.
 #[derive(Drop)]
 pub struct Output {
     queue: Segments,
@@ -144,8 +144,7 @@ impl Output {
         ensures err { OnErr result (self.new ≡ self.old) }
     {
         let date = &mut self.date;
-        self.queue
-            .put_with(|out| put_answer_head(out, asked, head, size, connection, date, moment))
+        self.queue.put_with(|out| put_answer_head(out, asked, head, size, connection, date, moment))
     }
 
     /// What of a piece of an answer's body goes out, copied. Where nothing does, it takes no memory.
@@ -181,8 +180,7 @@ impl Output {
             return Ok(());
         }
         let line = SizeLine::of(bytes.len() as u64);
-        self.queue
-            .put_framed_copy(line.as_slice(), bytes, b"\r\n")
+        self.queue.put_framed_copy(line.as_slice(), bytes, b"\r\n")
     }
 
     /// What of a piece of an answer's body goes out, without a copy where it is large. Where nothing does, it takes no
