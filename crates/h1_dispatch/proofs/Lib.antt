@@ -1,7 +1,7 @@
 pub mod Replies
 pub mod Drops
 pub mod Held
-pub mod Unheld
+pub mod Undecided
 pub mod Runs
 pub mod Turns
 pub mod Moves
@@ -10,6 +10,7 @@ pub mod Traces
 pub mod Results
 pub mod Orders
 pub mod Acts
+pub mod Unheld
 pub mod Open
 pub mod Told
 pub mod Bodies

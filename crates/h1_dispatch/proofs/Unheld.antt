@@ -7,7 +7,9 @@ use Rattle.h1_connection.specs.declared.connection.heads.NextHead.{NextHead}
 use Rattle.h1_connection.specs.declared.connection.heads.NextHead.TheVariants as next_head
 use Rattle.h1_dispatch.specs.View.{View, is_waiting, is_held, allows}
 use Rattle.h1_dispatch.specs.Steps.{Step, IsStep, IsRun, holding_at, checking_at, ticked, drained, written, read, shut, next, closed, continued, ready, called, answered, pulled, paused, dropped, replied, sent, failed, failed_write, failed_read, failed_fed, failed_sent, asked_to_drain, asked_to_hold, declined, let_on, turned_away, refused}
-use Rattle.h1_dispatch.specs.Upgrades.{HoldsNone, AsksNoHold, StaysUnheld}
+use Rattle.h1_dispatch.specs.Acts.{Act, ActsSay}
+use Rattle.h1_dispatch.specs.Upgrades.{HoldsNone, AsksNoHold, DecidesNone, StaysUnheld}
+use Rattle.h1_dispatch.proofs.Acts.{acts_run}
 
 -- these four stay
 alike : (v w : View) → w.upgrades ≡ v.upgrades → w.expects ≡ v.expects → w.holding ≡ v.holding → w.checking ≡ v.checking → HoldsNone v → HoldsNone w
@@ -83,3 +85,43 @@ run_unheld v w steps asks is none =
       none = then;
       unheld = none_held (is_waiting w.stage) w.checking (allows w on.send_continue) w.holding (allows w (on.accept 0)) then.checking then.holding;
     }
+
+-- ---- polls
+
+undecided_asks : (d : Step) → DecidesNone d → AsksNoHold d
+undecided_asks (ticked moment expiry) none = tt
+undecided_asks drained none = tt
+undecided_asks (written answer) none = tt
+undecided_asks (read came answer) none = tt
+undecided_asks (shut answer) none = tt
+undecided_asks (next head) none = tt
+undecided_asks (closed end) none = tt
+undecided_asks continued none = tt
+undecided_asks (ready request answer) none = tt
+undecided_asks (called request) none = tt
+undecided_asks (answered answer) none = tt
+undecided_asks (pulled piece) none = tt
+undecided_asks paused none = tt
+undecided_asks dropped none = tt
+undecided_asks (replied answer) none = tt
+undecided_asks (sent piece) none = tt
+undecided_asks (failed event) none = tt
+undecided_asks (failed_write count) none = tt
+undecided_asks (failed_read came event) none = tt
+undecided_asks (failed_fed bytes) none = tt
+undecided_asks (failed_sent piece) none = tt
+undecided_asks asked_to_drain none = tt
+undecided_asks declined none = tt
+undecided_asks let_on none = tt
+undecided_asks (turned_away request answer) none = tt
+undecided_asks (refused limit error) none = tt
+undecided_asks (asked_to_hold upgrades expects) none = absurd none
+
+all_ask_none : (steps : List Step) → AllByRecursion DecidesNone steps → AllByRecursion AsksNoHold steps
+all_ask_none [] all = tt
+all_ask_none (d ∷ steps) all = (undecided_asks d all.0, all_ask_none steps all.1)
+
+pub polls_unheld : (v w : View) (acts : List Act) → ActsSay v acts w → HoldsNone v → StaysUnheld w
+polls_unheld v w acts says none =
+    let r = acts_run v w acts says in
+    run_unheld v w r.steps (all_ask_none r.steps r.undecided) r.run none

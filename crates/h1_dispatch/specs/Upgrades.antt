@@ -16,7 +16,7 @@ use Rattle.h1_dispatch.specs.declared.dispatcher.upgrade.Accepting.{Accepting}
 use Rattle.h1_dispatch.specs.declared.dispatcher.upgrade.Accepting.TheVariants.{Done, Refused}
 use Rattle.h1_dispatch.specs.declared.dispatcher.upgrade.Upgraded.{Upgraded}
 use Rattle.h1_dispatch.specs.View.{View, Asking, Stage, waiting, view_of, told_service, is_held, may_refuse, is_offered, MayBePolled}
-use Rattle.h1_dispatch.specs.Steps.{Step, Goes, IsStep, asked_to_hold, refused}
+use Rattle.h1_dispatch.specs.Steps.{Step, Goes, IsStep, asked_to_hold, declined, let_on, turned_away, refused}
 
 -- why an upgrade was refused, if it was
 abbrev pub refused_in : on.Outcome → Option HandshakeError
@@ -73,6 +73,15 @@ pub record HoldsNone (v : View) : Type 0 where
 abbrev pub AsksNoHold : Step → Type 0
 AsksNoHold (asked_to_hold upgrades expects) = ⊥
 AsksNoHold step = ⊤
+
+-- nor does it decide about a request that is held back
+abbrev pub DecidesNone : Step → Type 0
+DecidesNone (asked_to_hold upgrades expects) = ⊥
+DecidesNone declined = ⊥
+DecidesNone let_on = ⊥
+DecidesNone (turned_away request answer) = ⊥
+DecidesNone (refused limit error) = ⊥
+DecidesNone step = ⊤
 
 -- so the request that waits isn't held back
 pub record StaysUnheld (w : View) : Type 0 where

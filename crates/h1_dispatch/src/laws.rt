@@ -122,8 +122,9 @@ pub fn runs_bound_output()
 {}
 
 /// Over every run in which nobody asks that requests be held back, none is: so all that is said of requests that aren't held
-/// back holds of each. A new dispatcher holds none back.
+/// back holds of each. So it is over polls and drains alone. A new dispatcher holds none back.
 pub fn runs_hold_none_unasked()
     ensures new { (wire : Wiring) (service : Serving Asking Answer Answer) (settings : Settings) (noted : Option (List Pair)) → HoldsNone (view_begun wire service settings noted) }
     ensures runs { (v w : View) (steps : List Step) → AllByRecursion AsksNoHold steps → IsRun v steps w → HoldsNone v → StaysUnheld w }
+    ensures polls { (v w : View) (acts : List Act) → ActsSay v acts w → HoldsNone v → StaysUnheld w }
 {}

@@ -8,8 +8,8 @@ ghost use Rattle.h1_dispatch.specs.View.{view_of, stage_of, waiting, is_waiting,
 ghost use Rattle.h1_dispatch.specs.Upgrades.{refusal_of, held_in, Accepts, AcceptSays};
 ghost use Rattle.h1_dispatch.specs.Polls.{OnIdle, ServeSays};
 
-use crate::dispatcher::{Dispatcher, Turn, Work};
 use crate::dispatcher::read::wake;
+use crate::dispatcher::{Dispatcher, Turn, Work};
 use futures::task::Context;
 use h1_connection::{Event, HandshakeError, NoMemory, Outcome};
 use h1_line::{Line, Recorder};
