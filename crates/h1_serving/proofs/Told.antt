@@ -115,7 +115,7 @@ told was now number settings recorded later polls may_give pass end stands serve
     let work : Worked = served.work in
     let ran : Ran (HadMemory end) begun served.last = ends_ran polls may_give begun served.last end served.ends in
     let u : View = ran.between in
-    let kept : AllKept begun ran.steps u = run_kept begun u ran.steps ran.noted ran.run refl in
+    let kept : AllKept begun ran.steps u = run_kept begun u ran.steps ran.noted ran.undecided ran.run refl in
     let order : KeepsOrder begun ran.steps u = run_keeps begun u ran.steps ran.run in
     let f : Follows begun u [] (hands ran.steps) (came ran.steps) = run_follows begun u ran.steps ran.noted ran.run [] stands in
     let a : After u served.last f.more = after_end u served.last f.more ran.end (subst (λ (l : List sums.Step). LineStands u.line l) (append-nil f.more) f.stands) in
