@@ -7,18 +7,20 @@ use Rattle.h1_dispatch.proofs.dispatcher.upgrade.Dispatcher+T+S+S+Call+L+B.accep
 pub hand_over-requires : goal.hand_over-requires
 hand_over-requires g c =
     let v = view_of g.T.Wire.wiring g.S.Service.served g.S.Service.calling g.B.MessageBody.gives g.L.Recorder.noted c.args.self in
-    let says = c.in-Ok-None.ensures.says in
+    let says = rw c.in-Ok-None.field-0-is at c.in-Ok-None.ensures.says in
     record { waits = ap (λ (x : View). is_waiting x.stage) says.1 ∙ accepts_waits v c.args.limit c.requires.can_accept }
 
-pub returns-in-Ok-None-clause-says : goal.returns-in-Ok-None-clause-says
-returns-in-Ok-None-clause-says g c =
-    let says = c.in-Ok-None.ensures.says in
+pub returns-in-Ok-None : goal.returns-in-Ok-None
+returns-in-Ok-None g c =
+    let says = rw c.in-Ok-None.field-0-is at c.in-Ok-None.ensures.says in
     record {
-      request = sym (ap (λ (x : View). x.stage) says.1) ∙ c.hand_over.ensures.request;
-      line = rw c.hand_over.ensures.line says.0;
-      wire = ap g.T.Wire.wiring c.hand_over.ensures.wire ∙ ap (λ (x : View). x.wire) says.1;
-      service = ap (λ s. told_service g.B.MessageBody.gives (g.S.Service.served s)) c.hand_over.ensures.service ∙ ap (λ (x : View). x.service) says.1;
+      says = record {
+        request = sym (ap (λ (x : View). x.stage) says.1) ∙ c.hand_over.ensures.request;
+        line = rw c.hand_over.ensures.line says.0;
+        wire = ap g.T.Wire.wiring c.hand_over.ensures.wire ∙ ap (λ (x : View). x.wire) says.1;
+        service = ap (λ s. told_service g.B.MessageBody.gives (g.S.Service.served s)) c.hand_over.ensures.service ∙ ap (λ (x : View). x.service) says.1;
+      };
     }
 
-pub returns-in-Ok-Some-clause-says : goal.returns-in-Ok-Some-clause-says
-returns-in-Ok-Some-clause-says g c = (c.in-Ok-Some.ensures.says, c.step_accept.ensures.open)
+pub returns-in-Ok-Some : goal.returns-in-Ok-Some
+returns-in-Ok-Some g c = record { says = (rw c.in-Ok-Some.field-0-is at c.in-Ok-Some.ensures.says, c.step_accept.ensures.open) }

@@ -11,4 +11,6 @@ returns-then-waits-clause-says g c =
     only_end v w c.tell_on.result (more_end v w c.tell_on.result c.tell_on.ensures.says)
 
 pub tell_on-requires-clause-unchecked : goal.tell_on-requires-clause-unchecked
-tell_on-requires-clause-unchecked g c = unasked_unchecked _ (search rules)
+tell_on-requires-clause-unchecked g c =
+    let v = view_of g.T.Wire.wiring g.S.Service.served g.S.Service.calling g.B.MessageBody.gives g.L.Recorder.noted c.args.self.now in
+    unasked_unchecked v (search rules)
