@@ -1,4 +1,4 @@
-use Rattle.std.proofs.Common.{refl}
+use Rattle.std.proofs.Common.{false, refl}
 use Rattle.h1_line.specs.Line.{LineView}
 use Rattle.h1_connection.specs.Meaning.{failing_of}
 use Rattle.h1_dispatch.specs.View.{view_of}
