@@ -24,8 +24,8 @@ where
     /// From the next head on, holds requests back whose clients wait to be told to go on (`Expect: 100-continue`, RFC 7231,
     /// section 5.1.1), or holds none back. At first none is: each is told so.
     ///
-    /// The client of a request that is held back is told nothing, the request doesn't go to the service, and polls are
-    /// pending, and wake the task, until who polls lets it go on or turns it away.
+    /// The client of a request that is held back is told nothing, and the request doesn't go to the service. Polls are
+    /// pending, and read as far as the input may be held, until who polls lets it go on or turns it away, and polls again.
     pub fn hold_expects(&mut self, on: bool)
         ensures view { view_of T.wiring S.served S.calling B.gives L.noted self.new ≡ with_holds (view_of T.wiring S.served S.calling B.gives L.noted self.old).upgrades on (view_of T.wiring S.served S.calling B.gives L.noted self.old) }
         ensures open { MayBePolled S.calling self.old → MayBePolled S.calling self.new }

@@ -8,7 +8,6 @@ ghost use Rattle.h1_dispatch.specs.View.{view_of, stage_of, waiting, is_waiting,
 ghost use Rattle.h1_dispatch.specs.Upgrades.{refusal_of, held_in, Accepts, AcceptSays};
 ghost use Rattle.h1_dispatch.specs.Polls.{OnIdle, ServeSays};
 
-use crate::dispatcher::read::wake;
 use crate::dispatcher::{Dispatcher, Turn, Work};
 use futures::task::Context;
 use h1_connection::{Event, HandshakeError, NoMemory, Outcome};
@@ -64,9 +63,10 @@ where
 {
     /// From the next head on, holds requests back that ask for an upgrade, or holds none back. At first none is.
     ///
-    /// A request that is held back doesn't go to the service, and nothing of what follows it is handed out: polls are
-    /// pending, and the task is woken, until who polls accepts or declines it. It asks for an upgrade by its body, which is
-    /// raw: an `Upgrade` field, or the method CONNECT (RFC 7230, section 6.7; RFC 7231, section 4.3.6).
+    /// A request that is held back doesn't go to the service, and nothing of what follows it is handed out. Polls are
+    /// pending, and read as far as the input may be held, until who polls accepts or declines it, and polls again. It asks for
+    /// an upgrade by its body, which is raw: an `Upgrade` field, or the method CONNECT (RFC 7230, section 6.7; RFC 7231,
+    /// section 4.3.6).
     pub fn hold_upgrades(&mut self, on: bool)
         ensures view { view_of T.wiring S.served S.calling B.gives L.noted self.new ≡ with_holds on (view_of T.wiring S.served S.calling B.gives L.noted self.old).expects (view_of T.wiring S.served S.calling B.gives L.noted self.old) }
         ensures open { MayBePolled S.calling self.old → MayBePolled S.calling self.new }
@@ -238,7 +238,7 @@ where
         self.wait_held(cx)
     }
 
-    /// Reads, and asks for another poll.
+    /// Reads, or asks for another poll where nothing may be read.
     fn wait_held(&mut self, cx: &mut Context<'_>) -> Turn
         requires open { MayBePolled S.calling self.old }
         requires running { self.old.ending ≡ None }
@@ -250,8 +250,7 @@ where
         ensures registered { OnIdle result (IsArmed cx.new) }
         ensures kept { Keeps cx.old cx.new }
     {
-        let _: Turn = wake(cx);
-        self.read_on(cx)
+        self.read_alone(cx)
     }
 }
 
