@@ -1,5 +1,5 @@
 // The body of a request.
-ghost use Rattle.std.specs.Prelude.{◌≡◌, ◌<◌, ◌+◌, ◌⊎◌, None, true};
+ghost use Rattle.std.specs.Prelude.{◌≡◌, ◌<◌, ◌+◌, ◌⊎◌, None, true, false};
 ghost use Rattle.futures.specs.Task.{IsArmed, Keeps};
 ghost use Rattle.http_services.specs.Queue.{waiting};
 ghost use Rattle.http_services.specs.Status.{status_of, Asked};
