@@ -59,8 +59,7 @@ same_state r s p q now view same = err_map r (q ≡ p) (state_of s q ≡ now) (�
 goes_from : (s : Settings) (p q : Parts) (event : on.Event) (out : on.Outcome) → Steps s p event out q → MarksGo p event out q
     → IsAllowed (state_of s p) event → GoesOn (state_of s p) event (Is out) (state_of s q)
 goes_from s p q event out steps marks allowed = λ trace stands.
-    let set = setting_of s in
-    (
+    let set = setting_of s in (
       out,
       refl,
       step_outcome set (kept_of p) (kept_of q) trace event out stands allowed steps,

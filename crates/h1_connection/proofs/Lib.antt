@@ -17,6 +17,8 @@ pub mod LawLemmas
 pub mod DeadlineLemmas
 pub mod ScanLemmas
 pub mod InputLemmas
+pub mod AheadLemmas
+pub mod StockLemmas
 pub mod ClosingLemmas
 pub mod CutLemmas
 pub mod FrameLemmas

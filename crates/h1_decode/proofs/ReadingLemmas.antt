@@ -1,6 +1,6 @@
 -- What a piece is read as, by the parts that the spans cover.
-use Rattle.std.proofs.Common.{◌≡◌, ℕ, List, [], ◌∷◌, map, take, All, Some, Result, Ok, Err, inl, inr, refl, sym, ap, ◌∙◌, subst}
-use Rattle.std.specs.Prelude.{IfOk, IfErr, OnOk}
+use Rattle.std.proofs.Common.{◌≡◌, ℕ, Bool, List, [], ◌∷◌, map, take, All, Some, Result, Ok, Err, inl, inr, refl, sym, ap, ◌∙◌, subst}
+use Rattle.std.specs.Prelude.{IfOk, IfErr, IsTrue}
 use Rattle.std.specs.List.{AllByRecursion}
 use Rattle.std.proofs.lemmas.List.Elements.{All-nil, All-cons, All-head, All-tail}
 use Rattle.httparse.specs.Grammar.{is_value_byte, Field, IsField, RequestHead}
@@ -176,17 +176,18 @@ says_whole piece text all spans (Ok item) same whole parts says = (
 says_whole piece text all spans (Err e) same whole parts says = tt
 
 -- the same of a head that was read over another
-pub says_over : {T : Type 0} (piece text : List ℕ) (all : List HeaderSpan) (spans : RequestSpans) (item : HeadItem) (r : Result T ParseError)
+pub says_read : (piece text : List ℕ) (all : List HeaderSpan) (spans : RequestSpans) (item : HeadItem) (r : Result Bool ParseError)
     → text ≡ piece → IsWholeHeadAt text all spans
-    → OnOk r (AreParts (parts_at piece spans (take spans.headers all)) (kind_of item.body))
-    → OnOk r (SaysHead item (head_of (parts_at piece spans (take spans.headers all)) (kind_of item.body)))
-    → OnOk r ((h : Head) × IsReading piece (head_is h) × SaysHead item h)
-says_over piece text all spans item (Ok done) same whole parts says = (
-  head_of (parts_at piece spans (take spans.headers all)) (kind_of item.body),
-  reads_whole piece all spans (subst (λ (t : List ℕ). IsWholeHeadAt t all spans) same whole) (kind_of item.body) parts,
-  says,
-)
-says_over piece text all spans item (Err e) same whole parts says = tt
+    → IfOk r (λ read. IsTrue read → AreParts (parts_at piece spans (take spans.headers all)) (kind_of item.body))
+    → IfOk r (λ read. IsTrue read → SaysHead item (head_of (parts_at piece spans (take spans.headers all)) (kind_of item.body)))
+    → IfOk r (λ read. IsTrue read → (h : Head) × IsReading piece (head_is h) × SaysHead item h)
+says_read piece text all spans item (Ok read) same whole parts says =
+    λ is. (
+      head_of (parts_at piece spans (take spans.headers all)) (kind_of item.body),
+      reads_whole piece all spans (subst (λ (t : List ℕ). IsWholeHeadAt t all spans) same whole) (kind_of item.body) (parts is),
+      says is,
+    )
+says_read piece text all spans item (Err e) same whole parts says = tt
 
 pub causes_whole : {T : Type 0} (piece text : List ℕ) (all : List HeaderSpan) (spans : RequestSpans) (r : Result T ParseError)
     → text ≡ piece → IsWholeHeadAt text all spans

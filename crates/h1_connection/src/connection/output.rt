@@ -144,8 +144,7 @@ impl Output {
         ensures err { OnErr result (self.new ≡ self.old) }
     {
         let date = &mut self.date;
-        self.queue
-            .put_with(|out| put_answer_head(out, asked, head, size, connection, date, moment))
+        self.queue.put_with(|out| put_answer_head(out, asked, head, size, connection, date, moment))
     }
 
     /// What of a piece of an answer's body goes out, copied. Where nothing does, it takes no memory.
@@ -181,8 +180,7 @@ impl Output {
             return Ok(());
         }
         let line = SizeLine::of(bytes.len() as u64);
-        self.queue
-            .put_framed_copy(line.as_slice(), bytes, b"\r\n")
+        self.queue.put_framed_copy(line.as_slice(), bytes, b"\r\n")
     }
 
     /// What of a piece of an answer's body goes out, without a copy where it is large. Where nothing does, it takes no

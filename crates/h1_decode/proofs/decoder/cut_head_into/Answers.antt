@@ -1,6 +1,6 @@
 use Rattle.std.proofs.Common.{◌≡◌, take, sym, ap, ◌∙◌}
 use Rattle.h1_decode.proofs.FrontLemmas.{cut_piece}
-use Rattle.h1_decode.proofs.ReadingLemmas.{values_whole, says_over, causes_whole, faults}
+use Rattle.h1_decode.proofs.ReadingLemmas.{values_whole, says_read, causes_whole, faults}
 use Rattle.h1_decode.proofs.decoder.cut_head_into.Goals as goal
 
 pub read_parts_over-requires-clause-values : goal.read_parts_over-requires-clause-values
@@ -15,7 +15,7 @@ returns-in-Ok-read_parts_over-clause-head c =
     let cut : take n c.as_slice.result.now ≡ c.in-Ok.head = ap (take n) c.as_slice.ensures ∙ sym c.in-Ok.ensures.front in
     λ found. (
       cut_piece c.args.buffer.now.items c.as_slice.result.now c.in-Ok.head n c.as_slice.ensures cut c.in-Some.ensures.piece,
-      rw c.in-Ok-read_parts_over.is at (says_over c.in-Ok.head (take n c.as_slice.result.now) c.parse_front.new.fields c.in-Some.spans
+      rw c.in-Ok-read_parts_over.is at (says_read c.in-Ok.head (take n c.as_slice.result.now) c.parse_front.new.fields c.in-Some.spans
           c.read_parts_over.new.item c.read_parts_over.result cut c.in-Some.ensures.found c.read_parts_over.ensures.parts c.read_parts_over.ensures.says),
     )
 
