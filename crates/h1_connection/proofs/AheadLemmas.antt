@@ -42,8 +42,7 @@ reads_with hold s what rest read fits =
     let here = read.here in
     let same = slice_range-append s.piece rest read.start n here.ordered here.in_range in
     let long = length-slice_range s.piece read.start n here.ordered here.in_range in
-    let less : length (slice_range s.piece read.start n) ≤ hold = omega (arith, long, fits, length-append s.piece rest) in
-    (
+    let less : length (slice_range s.piece read.start n) ≤ hold = omega (arith, long, fits, length-append s.piece rest) in (
       head_piece_append s.piece rest read.start n here,
       inl (
         subst (λ (l : List ℕ). length l ≤ hold) (sym same) less,
@@ -85,8 +84,7 @@ are_ahead hold (suc limit) true (s ∷ more) rest are first few fits end =
     let less : length (joined more ++ rest) ≤ hold = omega (arith, whole, length-append s.piece (joined more ++ rest)) in
     let bare : has_no_body s ≡ is_bodiless what = bare_read s what read in
     let goes = are_ahead hold limit (is_bodiless what) more rest are.1 are.0.2 (omega (arith, few)) less (subst (λ (b : Bool). IsEnd limit b more rest) bare end) in
-    subst (λ (l : List ℕ). AreAhead hold (suc limit) true l (what ∷ readings_of more are.1)) (sym split)
-    (
+    subst (λ (l : List ℕ). AreAhead hold (suc limit) true l (what ∷ readings_of more are.1)) (sym split) (
       read.start,
       length s.piece,
       here.0,

@@ -10,7 +10,7 @@ use Rattle.h1_ahead_model.specs.Ahead.{is_bodiless}
 use Rattle.h1_decode.specs.HeadItem.{SaysHead}
 use Rattle.h1_decode.specs.Refusal.{fault_of}
 use Rattle.h1_decode.specs.declared.decoder.HeadItem.{HeadItem}
-use Rattle.h1_connection.specs.Incoming.{Incoming, IsTakenHead}
+use Rattle.h1_connection.specs.Incoming.{Incoming, IsFound, IsTakenHead}
 use Rattle.h1_connection.specs.declared.connection.ahead.Slot.{Slot}
 use Rattle.h1_connection.specs.declared.connection.intake.Turn.{Turn}
 use Rattle.h1_connection.specs.declared.connection.intake.Turn.TheVariants.{Unasked, Later}
@@ -73,16 +73,24 @@ pub record AreKept (slots : List Slot) (passed count held : ℕ) : Type 0 where
 
 -- ---- what is done
 
--- the next head of the input was read, and its bytes were taken from the others
-abbrev pub IsReadNext : List Slot → Incoming → List Slot → Incoming → Type 0
-IsReadNext was i now j = (s : Slot) × (now ≡ was ++ s ∷ []) × IsTakenHead i s.piece j
+-- the first of them is a head
+abbrev pub FirstIsHead : List Slot → Type 0
+FirstIsHead [] = ⊤
+FirstIsHead (s ∷ more) = s.refused ≡ None
 
--- They were read as far as may be: there is one, those that were there are the first, and no further one may be read or
--- is whole. None is searched for.
-pub record IsFilled (was now : List Slot) (j : Incoming) : Type 0 where
+-- the next head of the input was read, and its bytes were taken from the others
+pub record IsReadNext (was : List Slot) (i : Incoming) (now : List Slot) (j : Incoming) : Type 0 where
+  pub next : Slot
+  pub behind : now ≡ was ++ next ∷ []
+  pub found : IsFound i
+  pub taken : IsTakenHead i next.piece j
+  pub first : FirstIsHead was → FirstIsHead now
+
+-- They were read as far as may be: those that were there are the first, and no further one may be read or is whole.
+-- None is searched for.
+pub record IsFilled (was : List Slot) (i : Incoming) (now : List Slot) (j : Incoming) : Type 0 where
   pub some : 0 < length now
-  pub more : List Slot
-  pub behind : now ≡ was ++ more
+  pub found : was ≡ [] → IsFound i
   pub piece : j.piece ≡ None
   pub all : (may_go_on now ≡ false) ⊎ HasNoHeadPiece j.unread
 

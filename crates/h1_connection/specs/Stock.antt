@@ -9,7 +9,7 @@ use Rattle.h1_decode.specs.HeadItem.{SaysHead}
 use Rattle.h1_decode.specs.declared.decoder.HeadItem.{HeadItem}
 use Rattle.h1_decode.specs.declared.scan.HeadScan.{HeadScan}
 use Rattle.h1_decode.specs.declared.scan.HeadScan.TheVariants.{Open, Piece}
-use Rattle.h1_connection.specs.Ahead.{joined}
+use Rattle.h1_connection.specs.Ahead.{joined, may_go_on, FirstIsHead}
 use Rattle.h1_connection.specs.Incoming.{Incoming, is_coming_in, IsFoundIn, IsHeadIn}
 use Rattle.h1_connection.specs.Scan.{scan_of}
 use Rattle.h1_connection.specs.declared.connection.ahead.Slot.{Slot}
@@ -86,13 +86,14 @@ ahead_by Next heads = length heads
 abbrev pub stock_of : List Slot → Turn → Incoming → Stock
 stock_of heads turn i = record { unread = joined heads ++ i.unread; piece = piece_by turn heads i; ahead = ahead_by turn heads }
 
--- Where heads wait for their turn, at most 16 do, and none is searched for behind them.
+-- Where memory ran out while heads were read, more may be read behind them. Where they wait for their turn, at most 16 do,
+-- and none is searched for behind them.
 abbrev pub WaitFor : List Slot → Incoming → Type 0
 WaitFor heads i = (0 < length heads) × (length heads ≤ 16) × (i.piece ≡ None)
 
 abbrev pub IsTurn : Turn → List Slot → Incoming → Type 0
 IsTurn Unasked [] i = ⊤
-IsTurn Unasked (s ∷ more) i = is_some i.piece ≡ true
+IsTurn Unasked (s ∷ more) i = (is_some i.piece ≡ true) × (may_go_on (s ∷ more) ≡ true) × FirstIsHead (s ∷ more)
 IsTurn Later heads i = WaitFor heads i
 IsTurn Next heads i = WaitFor heads i
 

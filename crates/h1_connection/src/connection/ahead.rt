@@ -1,9 +1,9 @@
 // Heads that were read before they are asked for.
-ghost use Rattle.std.specs.Prelude.{◌≡◌, ◌<◌, ◌≤◌, ◌+◌, ◌^◌, ◌++◌, ◌==◌, [], ◌∷◌, None, Some, true, false, length, IfOk, IfErr, IfSome, IfNone, OnOk, OnErr};
-ghost use Rattle.h1_decode.specs.HeadItem.{without_headers};
-ghost use Rattle.h1_decode.specs.Refusal.{UnlessNoMemory};
-ghost use Rattle.h1_connection.specs.Ahead.{joined, may_go_on, IsReadNext};
-ghost use Rattle.h1_connection.specs.Incoming.{IsHeadOf};
+ghost use Rattle.std.specs.Prelude.{◌≡◌, ◌<◌, ◌+◌, ◌^◌, ◌==◌, ℕ, List, [], ◌∷◌, None, true, false, length, IfOk, IfErr, OnErr};
+ghost use Rattle.h1_decode.specs.Refusal.{UnlessNoMemory, fault_of};
+ghost use Rattle.h1_model.specs.HeadPiece.{IsHeadPiece};
+ghost use Rattle.h1_connection.specs.Ahead.{joined, may_go_on, AreRead, IsReadNext};
+ghost use Rattle.h1_connection.specs.Incoming.{IsHeadOf, IsNextFault, IsWhole};
 
 use crate::connection::input::{Found, Input};
 use bytes::Bytes;
@@ -130,7 +130,8 @@ impl Ahead {
         requires fits { length (joined self.old) + length input.old.unread < 2 ^ 64 }
         ensures read { IfOk result (λ is_there. is_there ≡ true → IsReadNext self.old input.old self.new input.new) }
         ensures none { IfOk result (λ is_there. is_there ≡ false → IsHeadOf input.old None × (self.new ≡ self.old) × (input.new ≡ input.old)) }
-        ensures fault { IfErr result (λ e. UnlessNoMemory e (self.old ≡ [])) }
+        ensures fault { IfErr result (λ e. UnlessNoMemory e ((self.old ≡ []) × IsNextFault input.old (fault_of e))) }
+        ensures whole { OnErr result (self.old ≡ [] → IsWhole input.old) }
         ensures err { OnErr result ((self.new ≡ self.old) × (input.new ≡ input.old)) }
     {
         if input.has_none() {
@@ -161,7 +162,8 @@ impl Ahead {
     /// Why the first of them is no head, where it was refused.
     pub fn refused(&self) -> Option<ParseError>
         requires { 0 < length self.now }
-        ensures { (first : Slot) (more : List Slot) → self.now ≡ first ∷ more → result ≡ first.refused }
+        ensures first { (first : Slot) × (more : List Slot) × (self.now ≡ first ∷ more) × (result ≡ first.refused) }
+        ensures read { AreRead self.now }
     {
         self.slots[self.passed].refused
     }
@@ -170,7 +172,8 @@ impl Ahead {
     /// shared.
     pub fn hand_out(&mut self, item: &mut HeadItem)
         requires { 0 < length self.old }
-        ensures { (first : Slot) × (self.old ≡ first ∷ self.new) × (item.new ≡ first.item) }
+        ensures first { (first : Slot) × (self.old ≡ first ∷ self.new) × (item.new ≡ first.item) }
+        ensures read { AreRead self.old }
     {
         let slot = &mut self.slots[self.passed];
         mem::swap(&mut slot.item, item);
@@ -181,5 +184,20 @@ impl Ahead {
         slot.piece = Bytes::new();
         self.count -= 1;
         self.passed = if self.count == 0 { 0 } else { self.passed + 1 };
+    }
+
+    /// Takes the bytes of the only one of them back.
+    pub fn take_back(&mut self) -> Bytes
+        requires { length self.old ≡ 1 }
+        ensures bytes { result ≡ joined self.old }
+        ensures none { self.new ≡ [] }
+        ensures whole { (start : ℕ) × IsHeadPiece result start (length result) }
+    {
+        let slot = &mut self.slots[self.passed];
+        slot.refused = None;
+        self.passed = 0;
+        self.count = 0;
+        self.held = 0;
+        mem::replace(&mut slot.piece, Bytes::new())
     }
 }

@@ -1,5 +1,5 @@
 // What the next head does to the parts.
-ghost use Rattle.std.specs.Prelude.{◌≡◌, ◌≢◌, ◌<◌, ◌==◌, ℕ, List, true, false, None, Some, length, option_map, IfOk, IsOk, OnOk, OnErr};
+ghost use Rattle.std.specs.Prelude.{◌≡◌, ◌≢◌, ◌≤◌, ◌==◌, ℕ, List, true, false, None, Some, length, option_map, IfOk, IsOk, OnOk, OnErr};
 ghost use Rattle.http_framing.specs.Kinds.{kind_of};
 ghost use Rattle.h1_decode.specs.HeadItem.{SaysHead, without_headers};
 ghost use Rattle.h1_model.specs.Request.{Head, head_is};
@@ -167,6 +167,7 @@ impl Parts {
     ) -> Result<HeadFault, NoMemory>
         requires sound { IsSound config.now self.old }
         requires whole { IsWholeOf self.old.input }
+        requires last { error ≢ ParseError.NoMemory → self.old.input.ahead ≤ 1 }
         ensures cause { IfOk result (λ fault. (error ≢ ParseError.NoMemory) × (fault_of fault ≡ decode.fault_of error)) }
         ensures ok { IfOk result (λ fault. IsSettled (setting_of config.now) (refused fault (kept_of self.old)) self.new) }
         ensures marks { OnOk result (self.new.output.marks ≡ self.old.output.marks) }

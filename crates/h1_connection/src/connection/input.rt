@@ -6,6 +6,7 @@ ghost use Rattle.http_framing.specs.Kinds.{kind_of};
 ghost use Rattle.h1_decode.specs.HeadItem.{SaysHead, without_headers};
 ghost use Rattle.h1_decode.specs.Refusal.{UnlessNoMemory, fault_of};
 ghost use Rattle.h1_decode.specs.HeadPosition.{HasScanned};
+ghost use Rattle.h1_model.specs.HeadPiece.{IsHeadPiece};
 ghost use Rattle.h1_model.specs.FrameText.{front_frame};
 ghost use Rattle.h1_model.specs.Parse.{connection_reader};
 ghost use Rattle.h1_model.specs.Request.{Head, head_is, faulty, no_body};
@@ -193,6 +194,7 @@ impl Input {
 
     /// Lets the next head be searched for when it is asked for.
     pub fn await_head(&mut self)
+        ensures same { is_some self.old.piece ≡ true → self.new ≡ self.old }
         ensures unread { self.new.unread ≡ self.old.unread }
         ensures scanned { IsFound self.new }
         ensures searched { is_some self.new.piece ≡ true }
@@ -242,6 +244,7 @@ impl Input {
         leaves: bool,
     ) -> Result<Found, ParseError>
         ensures same { self.new ≡ self.old }
+        ensures found { IsFound self.old }
         ensures head { IfOk result (λ found. found ≡ Found.Head → IsNextHead self.old item.new) }
         ensures alone { IfOk result (λ found. found ≡ Found.Head → leaves ≡ true → IsAlone self.old item.new) }
         ensures left { IfOk result (λ found. found ≡ Found.Followed → (leaves ≡ true) × IsWhole self.old × (item.new ≡ without_headers item.old)) }
@@ -292,6 +295,19 @@ impl Input {
             self.bytes.clear();
         }
         Ok(head)
+    }
+
+    /// Puts the bytes of a head in front of the others again. It is the next one.
+    pub fn put_back(&mut self, head: Bytes)
+        requires unsearched { self.old.piece ≡ None }
+        requires whole { (start : ℕ) × IsHeadPiece head start (length head) }
+        ensures { self.new ≡ record { unread = head ++ self.old.unread; piece = Some (scan_of (head ++ self.old.unread)) } }
+    {
+        self.search = Search::Done(Scan {
+            scanner: HeadScanner::new(),
+            piece: scan_head(head.as_slice()),
+        });
+        self.head_bytes = head;
     }
 
     /// Where no whole head is there, none is searched for any more.

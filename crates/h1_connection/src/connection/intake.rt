@@ -15,13 +15,13 @@ ghost use Rattle.h1_payload.specs.Rests.{IsPulled, IsLight};
 ghost use Rattle.ws_frames.specs.Codec.{IsTakenNamed};
 ghost use Rattle.ws_frames.specs.Fronts.{FrontTaken};
 ghost use Rattle.h1_decode.specs.declared.scan.HeadScan.TheVariants.{Open};
-ghost use Rattle.h1_connection.specs.Ahead.{joined, turn_behind, IsFilled};
-ghost use Rattle.h1_connection.specs.Incoming.{is_coming_in, IsHeadOf, IsNextFault};
+ghost use Rattle.h1_connection.specs.Ahead.{joined, may_go_on, turn_behind, AreRead, FirstIsHead, IsFilled};
+ghost use Rattle.h1_connection.specs.Incoming.{is_coming_in, IsHeadOf, IsNextFault, IsWhole};
 ghost use Rattle.h1_connection.specs.Stock.{IsFoundOf, IsHeadAhead, IsFaultAhead, IsWholeOf, HandsOut};
 
 use crate::ReadFromError;
 use crate::connection::READ_SIZE;
-use crate::connection::ahead::{Ahead, MAX_READ};
+use crate::connection::ahead::{Ahead, Slot};
 use crate::connection::input::{Found, Input};
 use crate::connection::reading::Frames;
 use h1_decode::{HeadItem, HeadRoom};
@@ -213,7 +213,11 @@ impl Intake {
         match self.turn {
             Turn::Later => return Ok(false),
             Turn::Next => {
-                self.turn = hand_out(&mut self.ahead, item)?;
+                if let Some(error) = self.ahead.refused() {
+                    item.head.headers.clear();
+                    return Err(error);
+                }
+                self.turn = hand_out(&mut self.ahead, item);
                 return Ok(true);
             }
             Turn::Unasked => {}
@@ -227,22 +231,17 @@ impl Intake {
                 }
                 Found::Followed => {}
             }
+        } else if !self.input.is_searched() {
+            return Ok(false);
         }
         match fill(&mut self.ahead, &mut self.input, alloc, room) {
-            Ok(true) => {}
-            Ok(false) => return Ok(false),
-            Err(error) => {
-                item.head.headers.clear();
-                return Err(error);
-            }
-        }
-        match hand_out(&mut self.ahead, item) {
-            Ok(turn) => {
-                self.turn = turn;
+            Ok(true) => {
+                self.turn = hand_out(&mut self.ahead, item);
                 Ok(true)
             }
+            Ok(false) => Ok(false),
             Err(error) => {
-                self.input.await_head();
+                item.head.headers.clear();
                 Err(error)
             }
         }
@@ -250,11 +249,13 @@ impl Intake {
 
     /// The next head was refused, and is counted no more. Its bytes stay.
     pub fn forget(&mut self)
-        requires { IsWholeOf self.old }
+        requires whole { IsWholeOf self.old }
+        requires last { self.old.ahead ≤ 1 }
         ensures { self.new ≡ record self.old { ahead = 0 } }
     {
         if self.turn == Turn::Next {
-            self.input.await_head();
+            let piece = self.ahead.take_back();
+            self.input.put_back(piece);
             self.turn = Turn::Unasked;
         }
     }
@@ -326,46 +327,43 @@ fn fill(
     alloc: Global,
     room: &mut HeadRoom,
 ) -> Result<bool, ParseError>
-    requires searched { 0 < length ahead.old → is_some input.old.piece ≡ true }
+    requires goes_on { may_go_on ahead.old ≡ true }
+    requires first { FirstIsHead ahead.old }
+    requires searched { is_some input.old.piece ≡ true }
     requires fits { length (joined ahead.old ++ input.old.unread) < 2 ^ 64 }
     ensures bytes { joined ahead.new ++ input.new.unread ≡ joined ahead.old ++ input.old.unread }
-    ensures filled { IfOk result (λ is_there. is_there ≡ true → IsFilled ahead.old ahead.new input.new) }
-    ensures none { IfOk result (λ is_there. is_there ≡ false → (ahead.old ≡ []) × IsHeadOf input.old None × (ahead.new ≡ []) × (input.new ≡ input.old)) }
+    ensures first { FirstIsHead ahead.new }
+    ensures filled { IfOk result (λ is_there. is_there ≡ true → IsFilled ahead.old input.old ahead.new input.new) }
+    ensures none { IfOk result (λ is_there. is_there ≡ false → (ahead.old ≡ []) × (ahead.new ≡ []) × IsHeadOf input.old None × (input.new ≡ input.old)) }
     ensures fault { IfErr result (λ e. UnlessNoMemory e ((ahead.old ≡ []) × IsNextFault input.old (fault_of e))) }
-    ensures err { OnErr result (is_some input.new.piece ≡ true) }
+    ensures whole { OnErr result (ahead.old ≡ [] → IsWhole input.old) }
+    ensures err { OnErr result ((is_some input.new.piece ≡ true) × (may_go_on ahead.new ≡ true)) }
 {
-    for _ in 0..MAX_READ {
-        if !ahead.may_go_on() {
-            break;
-        }
+    while ahead.may_go_on() {
         input.await_head();
-        if !ahead.read_next(alloc, room, input)? {
-            break;
+        if ahead.read_next(alloc, room, input)? {
+            continue;
         }
+        if ahead.is_empty() {
+            return Ok(false);
+        }
+        input.stop();
+        return Ok(true);
     }
-    if ahead.is_empty() {
-        return Ok(false);
-    }
-    input.stop();
     Ok(true)
 }
 
-// Hands out the first of those that were read, unless it was refused, and says when the next of them is handed out.
-fn hand_out(ahead: &mut Ahead, item: &mut HeadItem) -> Result<Turn, ParseError>
+// Hands out the first of those that were read, and says when the next of them is handed out.
+fn hand_out(ahead: &mut Ahead, item: &mut HeadItem) -> Turn
     requires { 0 < length ahead.old }
-    ensures head { IfOk result (λ turn. (first : Slot) × (ahead.old ≡ first ∷ ahead.new) × (first.refused ≡ None) × (item.new ≡ first.item)
-        × (turn ≡ turn_behind ahead.new)) }
-    ensures fault { IfErr result (λ e. (first : Slot) × (more : List Slot) × (ahead.old ≡ first ∷ more) × (first.refused ≡ Some e)) }
-    ensures err { OnErr result ((ahead.new ≡ ahead.old) × (item.new ≡ without_headers item.old)) }
+    ensures head { (first : Slot) × (ahead.old ≡ first ∷ ahead.new) × (item.new ≡ first.item) }
+    ensures read { AreRead ahead.old }
+    ensures turn { result ≡ turn_behind ahead.new }
 {
-    if let Some(error) = ahead.refused() {
-        item.head.headers.clear();
-        return Err(error);
-    }
     ahead.hand_out(item);
     if ahead.is_empty() {
-        Ok(Turn::Unasked)
+        Turn::Unasked
     } else {
-        Ok(Turn::Later)
+        Turn::Later
     }
 }
