@@ -17,7 +17,7 @@ const BODY: usize = 1000;
 const PIECE: usize = 250;
 
 /// A request without a body.
-const GET: &[u8] = b"GET / HTTP/1.1\r\nhost: a\r\n\r\n";
+pub const GET: &[u8] = b"GET / HTTP/1.1\r\nhost: a\r\n\r\n";
 
 /// The heads of requests with a body.
 const POST_OF_A_LENGTH: &[u8] = b"POST / HTTP/1.1\r\nhost: a\r\ncontent-length: 1000\r\n\r\n";
@@ -283,7 +283,8 @@ fn send_back(connection: &mut Connection) -> Result<(), BenchError> {
     Ok(())
 }
 
-fn send(connection: &mut Connection, bytes: &[u8]) -> Result<(), BenchError> {
+/// Hands in the next bytes of the answer's body.
+pub fn send(connection: &mut Connection, bytes: &[u8]) -> Result<(), BenchError> {
     if !connection.can_chunk() {
         return Err(BenchError::Misplaced);
     }

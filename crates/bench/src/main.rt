@@ -4,7 +4,8 @@
 //! is done with a header map, the number of its names or the head that they are of, and how many times, as in
 //! `bench map find 32 1000`; or `body`, which exchange with bodies, how many at once, and how many, as in
 //! `bench body echo-length 16 1600`; or `frames`, how many bytes a frame's payload has, and how many frames are echoed, as in
-//! `bench frames 1024 1000`; or `upgraded`, the same through a connection that was upgraded; or `part`, which part
+//! `bench frames 1024 1000`; or `upgraded`, the same through a connection that was upgraded; or `copied` or `shared`, how
+//! many bytes a piece of an answer's body has, and how many are sent, as in `bench shared 65536 1000`; or `part`, which part
 //! beside a connection (`stream` or `queue`), and how many times, as in `bench part queue 1000`; or `idle`, what came
 //! to connections before (`fresh` or `served`), and how many are kept at once, as in `bench idle served 100`. It prints
 //! a checksum of all that came, so that none of the work can be left out. Without words it does a little of each.
@@ -16,6 +17,7 @@ mod frames;
 mod idle;
 mod map;
 mod parts;
+mod pieces;
 mod upgraded;
 mod work;
 
@@ -27,6 +29,7 @@ use frames::echo_frames;
 use idle::{IDLES, Idle};
 use map::{Lines, MAP_WORKS, MapWork};
 use parts::{PARTS, Part};
+use pieces::{HANDINGS, Handing};
 use std::alloc::{AllocGlobal, Global};
 use std::env;
 use std::random::RandomSource;
@@ -39,7 +42,7 @@ const FEW: u64 = 32;
 /// How many names a map has where there are no words: more than stand in a list.
 const NAMES: usize = 40;
 
-/// How many bytes the payloads of frames have where there are no words.
+/// How many bytes the payloads of frames and the pieces of bodies have where there are no words.
 const SIZES: [usize; 3] = [16, 1024, 65536];
 
 fn main(rt: HostRuntime) -> Result<()> {
@@ -81,6 +84,7 @@ fn ask_three<R: Print + RandomSource + AllocGlobal>(
     match first {
         "frames" => ask_frames(rt, alloc, second, third),
         "upgraded" => ask_upgraded(rt, alloc, second, third),
+        "copied" | "shared" => ask_pieces(rt, alloc, first, second, third),
         "part" => ask_part(rt, second, third),
         "idle" => ask_idle(rt, alloc, second, third),
         _ => ask_requests(rt, alloc, first, second, third),
@@ -97,6 +101,19 @@ fn ask_upgraded(rt: &impl Print, alloc: Global, size: &str, frames: &str) -> Res
     let size = size.parse::<usize>().context("reading how many bytes")?;
     let frames = frames.parse::<u64>().context("reading how many frames")?;
     measure_upgraded(rt, alloc, size, frames)
+}
+
+fn ask_pieces(
+    rt: &impl Print,
+    alloc: Global,
+    handing: &str,
+    size: &str,
+    pieces: &str,
+) -> Result<()> {
+    let handing = Handing::named(handing).ok_or(BenchError::Usage)?;
+    let size = size.parse::<usize>().context("reading how many bytes")?;
+    let pieces = pieces.parse::<u64>().context("reading how many pieces")?;
+    measure_pieces(rt, alloc, handing, size, pieces)
 }
 
 fn ask_part<R: Print + RandomSource + AllocGlobal>(rt: &R, part: &str, times: &str) -> Result<()> {
@@ -162,6 +179,9 @@ fn a_little_of_each<R: Print + RandomSource + AllocGlobal>(rt: &R, alloc: Global
     for size in SIZES {
         measure_frames(rt, alloc, size, FEW)?;
         measure_upgraded(rt, alloc, size, FEW)?;
+        for handing in &HANDINGS {
+            measure_pieces(rt, alloc, *handing, size, FEW)?;
+        }
     }
     for part in &PARTS {
         measure_part(rt, *part, FEW)?;
@@ -228,6 +248,18 @@ fn measure_frames(rt: &impl Print, alloc: Global, size: usize, frames: u64) -> R
 fn measure_upgraded(rt: &impl Print, alloc: Global, size: usize, frames: u64) -> Result<()> {
     let checksum = echo_upgraded(alloc, size, frames)?;
     println!(rt; "upgraded {size} {checksum:016x}")?;
+    Ok(())
+}
+
+fn measure_pieces(
+    rt: &impl Print,
+    alloc: Global,
+    handing: Handing,
+    size: usize,
+    pieces: u64,
+) -> Result<()> {
+    let checksum = handing.run(alloc, size, pieces)?;
+    println!(rt; "{} {size} {checksum:016x}", handing.name())?;
     Ok(())
 }
 

@@ -1,38 +1,32 @@
 -- The machine's steps of an upgrade to WebSocket, of its frames and of its messages.
-use Rattle.std.proofs.Common.{◌≡◌, ℕ, ◌<◌, Bool, true, false, not, ◌&&◌, ◌||◌, List, ◌++◌, Option, Some, None, refl, sym, ap, ◌∙◌, subst}
+use Rattle.std.proofs.Common.{◌≡◌, ℕ, Bool, true, false, ◌&&◌, ◌||◌, List, ◌++◌, Option, Some, None, refl, sym, ap, ◌∙◌, subst}
 use Rattle.std.specs.Prelude.{option_map, is_some}
 use Rattle.std.specs.Option.{option_or}
 use Rattle.http_config.specs.Config.{Settings}
-use Rattle.h1_model.specs.Answer.{Asked, size_stream}
+use Rattle.h1_model.specs.Answer.{size_stream}
 use Rattle.h1_model.specs.End as ends
 use Rattle.h1_model.specs.Event as on
 use Rattle.h1_model.specs.Frame.{Message, frame, nop, ProtocolError as Rule}
-use Rattle.h1_model.specs.FrameText.{Front, partial, whole, breaks, front_frame, is_under_way, send_error}
-use Rattle.h1_model.specs.Handshake as checks
+use Rattle.h1_model.specs.FrameText.{send_error}
 use Rattle.h1_model.specs.Handshake.{accepting_head}
-use Rattle.h1_model.specs.Limits.{MAX_MOMENT}
-use Rattle.h1_model.specs.Parse.{connection_reader}
 use Rattle.h1_model.specs.Setting.{Setting}
 use Rattle.h1_model.specs.Sums.{under_way_behind}
 use Rattle.h1_model.specs.Text.{answer_head_text, message_text}
-use Rattle.h1_machine.specs.Change.{IsChange, accepting, accepting_with, sending_message, noting_since}
-use Rattle.h1_machine.specs.Kept as machine
-use Rattle.h1_machine.specs.Kept.{Kept, Change, Rest, no_rest, raw_rest, fixed_rest, chunks_rest, frames_rest, is_frames, is_nothing, is_free, is_answered, is_upgraded, now}
+use Rattle.h1_machine.specs.Change.{IsChange, accepting, sending_message, noting_since}
+use Rattle.h1_machine.specs.Kept.{Kept, Rest, no_rest, raw_rest, fixed_rest, chunks_rest, frames_rest, is_frames, is_nothing, is_free, is_answered, is_upgraded, now}
 use Rattle.h1_machine.specs.Local.{closing_by, waits_for_answer}
-use Rattle.h1_machine.specs.Pull as pulls
 use Rattle.h1_decode.specs.declared.scan.HeadScan.{HeadScan}
 use Rattle.http_segments.specs.Queued.{Queued}
 use Rattle.ws_frames.specs.Refusal.{refusal}
 use Rattle.ws_frames.specs.Sent.{sending_after}
 use Rattle.ws_frames.specs.declared.error.ProtocolError.{ProtocolError}
 use Rattle.ws_session.specs.declared.verify.HandshakeError.{HandshakeError}
-use Rattle.h1_connection.specs.Frames.{with_frames, is_raw_request, SaysFrame, frame_end, IsFramePulled, IsFrameFrom, IsLightFrame, sends_nothing}
+use Rattle.h1_connection.specs.Frames.{with_frames, is_raw_request, SaysFrame, frame_end, IsFrameFrom, IsLightFrame, sends_nothing}
 use Rattle.h1_connection.specs.Incoming.{Incoming, is_coming_in, IsFoundIn, IsFound}
 use Rattle.h1_connection.specs.Meaning.{setting_of, end_of, failing_of, SaysRule}
-use Rattle.h1_connection.specs.Parts.{key_or_zeros, key_bytes, exchange_of, kept_of, reply_of, request_in, MayBeSearched, IsNoted, IsSound, Steps}
+use Rattle.h1_connection.specs.Parts.{key_or_zeros, key_bytes, exchange_of, kept_of, reply_of, request_in, MayBeSearched, IsSound, Steps}
 use Rattle.h1_connection.specs.Pulls.{IsLightPull}
 use Rattle.h1_connection.specs.declared.connection.exchange.Exchange.{Exchange}
-use Rattle.h1_connection.specs.declared.connection.exchange.Reply.{Reply}
 use Rattle.h1_connection.specs.declared.connection.frames.PulledFrame.{PulledFrame}
 use Rattle.h1_connection.specs.declared.connection.parts.Parts.{Parts}
 use Rattle.h1_connection.specs.declared.connection.request.Request.{Request}

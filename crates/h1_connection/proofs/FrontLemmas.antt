@@ -1,17 +1,14 @@
 -- What is taken of the frames in front of the bytes that are held.
-use Rattle.std.proofs.Common.{◌≡◌, ℕ, Bool, true, false, List, [], ◌++◌, drop, Option, Some, None, Result, Ok, Err, refl, sym, ap, ◌∙◌, subst}
-use Rattle.std.specs.Prelude.{IsOk}
+use Rattle.std.proofs.Common.{◌≡◌, ℕ, Bool, true, List, [], ◌++◌, drop, Some, None, Ok, Err, refl, sym, ap, ◌∙◌, subst}
 use Rattle.h1_model.specs.Frame as frames
 use Rattle.h1_model.specs.Frame.{ProtocolError as Rule}
 use Rattle.h1_model.specs.FrameText.{Front, partial, whole, breaks, front_frame}
-use Rattle.h1_model.specs.Event as on
 use Rattle.h1_model.specs.Parse.{connection_reader}
 use Rattle.h1_machine.specs.Kept.{frames_rest}
 use Rattle.h1_machine.specs.Local as local
 use Rattle.h1_machine.specs.Pull as pulls
 use Rattle.h1_machine.specs.Pull.{pull_front}
 use Rattle.h1_payload.specs.Rests.{IsLight}
-use Rattle.h1_decode.specs.declared.scan.HeadScan.{HeadScan}
 use Rattle.ws_frames.specs.Codec.{frame_says, IsNamed}
 use Rattle.ws_frames.specs.Fronts as fronts
 use Rattle.ws_frames.specs.Fronts.{IsFrontError, FrontTaken}

@@ -1,5 +1,5 @@
 -- What a call gives of the next one's condition.
-use Rattle.std.proofs.Common.{◌≡◌, ℕ, ◌-◌, ◌<◌, Bool, true, false, not, ◌&&◌, ◌||◌, List, ◌++◌, length, Option, Some, None, refl, sym, ap, ◌∙◌, subst}
+use Rattle.std.proofs.Common.{◌≡◌, ℕ, ◌-◌, Bool, true, false, not, ◌&&◌, ◌||◌, List, ◌++◌, length, Option, Some, None, refl, sym, ap, ◌∙◌, subst}
 use Rattle.std.proofs.lemmas.Bool.{lt-ltb, eqb-true}
 use Rattle.std.specs.Prelude.{IsTrue, is_some, ◌==◌, if◌then◌else◌}
 use Rattle.http_config.specs.Config.{Settings}
@@ -16,7 +16,7 @@ use Rattle.h1_machine.specs.Reply.{stated, answering, completing, piece_sent, se
 use Rattle.h1_machine.specs.Change.{IsStep, IsChange, noting_since, doing_with}
 use Rattle.h1_connection.specs.Meaning.{setting_of}
 use Rattle.h1_connection.specs.Parts.{kept_of, Steps}
-use Rattle.h1_connection.specs.Given.{next_allowed, frame_allowed, HasOpened, IsSendingBody}
+use Rattle.h1_connection.specs.Given.{frame_allowed, HasOpened, IsSendingBody}
 use Rattle.h1_connection.specs.State.{State, IsAllowed, IsNextAllowed, HasWriteRoom}
 use Rattle.h1_connection.specs.declared.connection.parts.Parts.{Parts}
 use Rattle.h1_connection.proofs.GoesOnLemmas.{state_of, allowed_parts}

@@ -1,6 +1,6 @@
 -- A step of the parts goes on behind each trace that the connection stands for.
 use Rattle.std.proofs.Common.{◌≡◌, ℕ, ◌+◌, ◌<◌, ◌≤◌, Bool, true, false, not, ◌&&◌, ◌||◌, List, [], ◌∷◌, length, Option, Some, None, Result, Ok, Err, refl, sym, ap, ◌∙◌, subst, length-drop}
-use Rattle.std.specs.Prelude.{IsTrue, OnOk, OnErr, option_map, is_some, nat_lt, nat_le, ◌↔◌, if◌then◌else◌}
+use Rattle.std.specs.Prelude.{IsTrue, OnOk, OnErr, is_some, nat_lt, nat_le, ◌↔◌, if◌then◌else◌}
 use Rattle.http_config.specs.Config.{Settings}
 use Rattle.h1_model.specs.Setting.{Setting}
 use Rattle.h1_model.specs.Event as on

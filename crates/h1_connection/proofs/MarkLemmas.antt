@@ -1,12 +1,11 @@
 -- The places of body bytes among those that wait, behind each event.
 use Rattle.std.proofs.Common.{◌≡◌, ℕ, ◌<◌, ◌≤◌, List, [], ◌∷◌, ◌++◌, length, take, drop, Option, Some, None, refl, sym, ap, ◌∙◌, append-nil, take-append-drop, arith}
-use Rattle.std.specs.Prelude.{min, option_map}
+use Rattle.std.specs.Prelude.{min}
 use Rattle.std.proofs.lemmas.List.{length-take, length-take-le, take_min, drop_min}
 use Rattle.h1_chunks.specs.Runs.{Run}
 use Rattle.h1_model.specs.Answer.{Asked}
 use Rattle.h1_model.specs.Event as on
 use Rattle.h1_codec.specs.Meaning.{model_shape}
-use Rattle.h1_machine.specs.Kept.{Kept}
 use Rattle.h1_segment_model.specs.Runs.{runs_behind}
 use Rattle.h1_segment_model.specs.After.{added, after_outcome, marks_after, run_sent}
 use Rattle.http_segments.specs.Queued.{Queued, behind, IsStretch}

@@ -1,11 +1,10 @@
 -- Texts and pieces that are put behind what waits.
-use Rattle.std.proofs.Common.{◌≡◌, ℕ, ◌+◌, ◌<◌, Bool, true, false, List, [], ◌∷◌, ◌++◌, length, take, nat_lt, Result, Ok, Err, refl, sym, ap, ◌∙◌, subst, append_assoc, append-nil, length-append, arith}
+use Rattle.std.proofs.Common.{◌≡◌, ℕ, ◌+◌, ◌<◌, true, false, List, [], ◌∷◌, ◌++◌, length, take, nat_lt, Result, Ok, Err, refl, sym, ap, ◌∙◌, append_assoc, append-nil, length-append, arith}
 use Rattle.std.specs.Prelude.{OnOk, OnErr}
 use Rattle.std.specs.Fmt.{digits}
 use Rattle.std.proofs.lemmas.List.{append_cancel_left}
 use Rattle.std.proofs.lemmas.Bool.Decides.{nat_tests}
 use Rattle.httparse.specs.Ascii.{crlf_bytes}
-use Rattle.h1_chunks.specs.Runs.{Run}
 use Rattle.h1_model.specs.Answer.{Asked, Shape, shape_none, shape_length, shape_chunked, shape_raw}
 use Rattle.h1_model.specs.AnswerText.{chunk_text}
 use Rattle.h1_model.specs.Parse.{run_between}

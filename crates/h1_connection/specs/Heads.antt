@@ -1,5 +1,5 @@
 -- What comes where the next head is asked for.
-use Rattle.std.specs.Prelude.{◌≡◌, ℕ, ◌≤◌, ◌==◌, ◌⊎◌, Bool, true, false, if◌then◌else◌, List, length, drop, Some, None, IsSome, option_map, ⊤}
+use Rattle.std.specs.Prelude.{◌≡◌, ℕ, ◌≤◌, ◌==◌, ◌⊎◌, Bool, true, false, if◌then◌else◌, List, length, drop, Some, IsSome, option_map, ⊤}
 use Rattle.http_config.specs.Config.{Settings}
 use Rattle.http_framing.specs.Kinds.{kind_of}
 use Rattle.h1_model.specs.Request.{Head, head_is, has_body, faulty}
@@ -12,8 +12,8 @@ use Rattle.h1_machine.specs.Local.{closing_by}
 use Rattle.h1_machine.specs.Change.{behind_head}
 use Rattle.h1_decode.specs.HeadItem.{SaysHead, without_headers}
 use Rattle.h1_decode.specs.declared.decoder.HeadItem.{HeadItem}
-use Rattle.h1_connection.specs.Meaning.{setting_of, end_of, fault_of, failing_of}
-use Rattle.h1_connection.specs.Parts.{key_bytes, kept_of, Steps}
+use Rattle.h1_connection.specs.Meaning.{end_of, fault_of, failing_of}
+use Rattle.h1_connection.specs.Parts.{key_bytes, Steps}
 use Rattle.h1_connection.specs.Stock.{CountsOn}
 use Rattle.h1_connection.specs.declared.connection.exchange.Exchange.{Exchange}
 use Rattle.h1_connection.specs.declared.connection.exchange.Reply.TheVariants.{Unanswered}

@@ -15,7 +15,6 @@ use Rattle.h1_machine.specs.Change.{noting_since, IsStep}
 use Rattle.h1_connection.specs.Incoming.{is_coming_in}
 use Rattle.h1_connection.specs.Stock.{IsFoundOf}
 use Rattle.h1_connection.specs.Meaning.{setting_of, end_of, failing_of}
-use Rattle.h1_connection.specs.declared.event.End.{End}
 use Rattle.h1_connection.specs.declared.connection.clock.Clock.{Clock}
 use Rattle.h1_connection.specs.declared.connection.exchange.Exchange.{Exchange}
 use Rattle.h1_connection.specs.declared.connection.exchange.Reply.{Reply}

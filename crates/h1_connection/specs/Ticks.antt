@@ -1,5 +1,5 @@
 -- What a tick answers.
-use Rattle.std.specs.Prelude.{◌≡◌, ℕ, ◌^◌, ◌⊎◌, Bool, false, nat_lt, if◌then◌else◌, Option, Some, None, IsSome, unwrap_or}
+use Rattle.std.specs.Prelude.{◌≡◌, ℕ, ◌^◌, ◌⊎◌, false, nat_lt, if◌then◌else◌, Option, Some, None, IsSome, unwrap_or}
 use Rattle.h1_model.specs.Setting.{Setting}
 use Rattle.h1_model.specs.Event as on
 use Rattle.h1_machine.specs.Kept.{Kept}

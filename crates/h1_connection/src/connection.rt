@@ -348,8 +348,8 @@ impl Connection {
         self.parts.chunk(&self.config, bytes)
     }
 
-    /// The next bytes of the answer's body, without a copy where there are as many as are worth it. Where none of them goes
-    /// out, it takes no memory.
+    /// The next bytes of the answer's body, which are kept until they are written: a piece of 16,384 bytes or more isn't
+    /// copied. Where none of them goes out, it takes no memory.
     pub fn chunk_bytes(&mut self, bytes: Bytes) -> Result<(), NoMemory>
         requires can_chunk { IsAllowed self.old (on.chunk bytes) }
         ensures stands { OnOk result (GoesOn self.old (on.chunk bytes) (Is on.done) self.new) }
@@ -393,9 +393,8 @@ impl Connection {
         self.parts.output.stretch()
     }
 
-    /// The first segment of the bytes that wait to be written: all that are left of one piece of a body, as it was handed
-    /// in, where such a byte stands first, and else what stands in front of the next piece. It is empty only where none
-    /// waits.
+    /// The first segment of the bytes that wait to be written: all that is left of one piece of a body, as it was handed
+    /// in, where such a byte stands first, and else what stands up to the next piece. It is empty only where none waits.
     pub fn front(&self) -> &[u8]
         ensures value { result.now ≡ first_segment self.now.marks self.now.kept.buffered }
         ensures traced { (trace : List sums.Step) → Stands self.now trace → IsMarked self.now trace → result.now ≡ front_of (setting_of self.now.settings) trace }

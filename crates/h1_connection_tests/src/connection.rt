@@ -86,6 +86,27 @@ fn answer_in_pieces(connection: &mut Connection, head: &ResponseHead) -> Result<
     Ok(())
 }
 
+// Lets the first segment go: whether it was so long, and the next one is these bytes.
+fn is_followed_by(connection: &mut Connection, len: usize, next: &[u8]) -> bool {
+    let is_long = connection.front().len() == len;
+    if !is_long || !connection.can_write() {
+        return false;
+    }
+    connection.advance(len);
+    connection.front() == next
+}
+
+#[test]
+fn a_head_and_each_piece_are_segments(rt: HostRuntime) -> Result<(), Fail> {
+    let mut connection = Connection::new(rt.alloc(), ServiceConfigBuilder::new().build());
+    assert!(rt; is_taken(&mut connection)?);
+    answer_in_pieces(&mut connection, &ResponseHead::new(rt.alloc(), StatusCode::OK))?;
+    assert!(rt; is_followed_by(&mut connection, 75, b"ab"));
+    assert!(rt; is_followed_by(&mut connection, 2, b"c"));
+    assert!(rt; is_followed_by(&mut connection, 1, b""));
+    Ok(())
+}
+
 // Reads what a source has, and writes the next head over the last one: whether it is of this target. It is answered.
 fn is_served(
     alloc: Global,

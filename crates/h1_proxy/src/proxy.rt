@@ -1,5 +1,5 @@
 //! A forwarder: what it keeps, and what it says of itself.
-ghost use Rattle.std.specs.Prelude.{◌≡◌, ℕ, List, [], true, None, is_some, option_map};
+ghost use Rattle.std.specs.Prelude.{◌≡◌, ◌≤◌, ◌++◌, ℕ, List, [], length, true, None, is_some, option_map};
 ghost use Rattle.h1_model.specs.Event as on;
 ghost use Rattle.h1_model.specs.Request.{Head};
 ghost use Rattle.h1_decode.specs.HeadItem.{SaysHead};
@@ -152,11 +152,13 @@ impl Proxy {
         self.client.deadline()
     }
 
-    /// What is to be written towards the client, oldest first.
+    /// What is to be written towards the client next, oldest first: nothing only where nothing waits.
     pub fn client_front(&self) -> &[u8]
-        ensures { result.now ≡ (client_of self.now).kept.buffered }
+        ensures first { (rest : List ℕ) × (result.now ++ rest ≡ (client_of self.now).kept.buffered) }
+        ensures fits { length result.now ≤ length (client_of self.now).kept.buffered }
+        ensures some { length result.now ≡ 0 → length (client_of self.now).kept.buffered ≡ 0 }
     {
-        self.client.front()
+        self.client.stretch()
     }
 
     /// What is to be written towards the server, oldest first: nothing where there is no connection to one.

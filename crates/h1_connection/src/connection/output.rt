@@ -28,8 +28,8 @@ use std::marker::Model;
 use ws_frames::Message;
 
 /// A queue of bytes, which a clause sees as the list of them and the places of the bytes of each piece of a body. It grows
-/// at its end by texts and pieces, and is given away from its front. What is put is put behind the others whole, or
-/// nothing is changed.
+/// at its end by texts and pieces, and is given away from its front. What is put goes after the others whole, or nothing
+/// is changed.
 #[derive(Drop)]
 pub struct Output {
     queue: Segments,

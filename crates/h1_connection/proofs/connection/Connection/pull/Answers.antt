@@ -1,4 +1,4 @@
-use Rattle.h1_connection.proofs.ResultLemmas.{ok_map, ok_both}
+use Rattle.h1_connection.proofs.ResultLemmas.{ok_both}
 use Rattle.h1_connection.proofs.GoesOnLemmas.{still_sound, same_state, allowed_parts, body_open, body_plain, pull_goes_on}
 use Rattle.h1_connection.proofs.connection.Connection.pull.Goals as goal
 

@@ -3,7 +3,7 @@ use Rattle.std.specs.Prelude.{IsOk}
 use Rattle.h1_connection.specs.Pulls.{IsLightPull}
 use Rattle.h1_connection.specs.State.{State}
 use Rattle.h1_connection.proofs.MarkLemmas.{quiet_frame}
-use Rattle.h1_connection.proofs.ResultLemmas.{ok_map, ok_both}
+use Rattle.h1_connection.proofs.ResultLemmas.{ok_both}
 use Rattle.h1_connection.proofs.GoesOnLemmas.{still_sound, same_state, some_goes_on, frame_pulled, frame_parts}
 use Rattle.h1_connection.proofs.connection.Connection.pull_frame.Goals as goal
 

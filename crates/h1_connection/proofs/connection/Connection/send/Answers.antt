@@ -4,7 +4,7 @@ use Rattle.ws_frames.specs.Sent.{message_says}
 use Rattle.h1_connection.specs.Frames.{sends_nothing}
 use Rattle.h1_connection.specs.State.{State}
 use Rattle.h1_connection.proofs.MarkLemmas.{quiet_send}
-use Rattle.h1_connection.proofs.ResultLemmas.{ok_map, ok_both}
+use Rattle.h1_connection.proofs.ResultLemmas.{ok_both}
 use Rattle.h1_connection.proofs.GoesOnLemmas.{still_sound, same_state, some_goes_on}
 use Rattle.h1_connection.proofs.connection.Connection.send.Goals as goal
 

@@ -1,6 +1,6 @@
 use Rattle.std.proofs.Common.{◌∙◌}
 use Rattle.h1_connection.proofs.MarkLemmas.{quiet_tick}
-use Rattle.h1_connection.proofs.ResultLemmas.{ok_map, ok_both}
+use Rattle.h1_connection.proofs.ResultLemmas.{ok_both}
 use Rattle.h1_connection.proofs.GoesOnLemmas.{still_sound, same_state, goes_on, allowed_parts, tick_before}
 use Rattle.h1_connection.proofs.connection.Connection.tick.Goals as goal
 

@@ -1,6 +1,4 @@
-use Rattle.std.proofs.Common.{sym, ◌∙◌, ap}
-use Rattle.std.specs.Prelude.{option_map}
-use Rattle.h1_connection.specs.Meaning.{failing_of}
+use Rattle.std.proofs.Common.{sym, ◌∙◌}
 use Rattle.h1_connection.proofs.HeadLemmas.{fails_with, says_upgrade, no_refusal, raw_refusal}
 use Rattle.h1_connection.proofs.connection.heads.refusal_of.Goals as goal
 

@@ -1,4 +1,4 @@
-use Rattle.std.proofs.Common.{rules, ◌≡◌, ◌<◌, [], length, sym, ap, ◌∙◌}
+use Rattle.std.proofs.Common.{rules, ◌≡◌, ◌<◌, length, ◌∙◌}
 use Rattle.httparse.specs.Ascii.{crlf_bytes}
 use Rattle.http_segments.specs.Queued.{with_text, with_piece}
 use Rattle.h1_connection.proofs.OutputLemmas.{no_bytes, empty_chunk, framed_chunk}

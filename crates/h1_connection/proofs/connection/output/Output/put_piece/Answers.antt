@@ -1,4 +1,4 @@
-use Rattle.std.proofs.Common.{◌≡◌, false, [], length, take, sym, ap, ◌∙◌, subst}
+use Rattle.std.proofs.Common.{◌≡◌, [], length, sym, ap, ◌∙◌, subst}
 use Rattle.h1_codec.specs.Meaning.{model_shape}
 use Rattle.h1_codec.specs.declared.shape.Shape.{Shape}
 use Rattle.h1_machine.specs.Reply.{piece_sent}

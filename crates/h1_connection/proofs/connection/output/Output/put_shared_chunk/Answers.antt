@@ -1,4 +1,4 @@
-use Rattle.std.proofs.Common.{ℕ, true, ◌++◌, rules, ◌≡◌, ◌<◌, [], length, sym, ap, ◌∙◌}
+use Rattle.std.proofs.Common.{ℕ, true, ◌++◌, rules, ◌≡◌, ◌<◌, [], length, ap, ◌∙◌}
 use Rattle.std.specs.Fmt.{digits}
 use Rattle.httparse.specs.Ascii.{crlf_bytes}
 use Rattle.http_segments.specs.Queued.{with_text, with_piece}

@@ -1,4 +1,4 @@
-use Rattle.std.proofs.Common.{sym, ◌∙◌, ◌++◌, ap, false}
+use Rattle.std.proofs.Common.{sym, ◌∙◌, ◌++◌, ap}
 use Rattle.h1_model.specs.Answer.{size_stream}
 use Rattle.h1_model.specs.Handshake.{accepting_head}
 use Rattle.h1_model.specs.Text.{answer_head_text}

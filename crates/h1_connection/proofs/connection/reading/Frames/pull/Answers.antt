@@ -1,4 +1,4 @@
-use Rattle.h1_connection.proofs.FrontLemmas.{held_same, taken_frame, taken_none, taken_rule, light_taken}
+use Rattle.h1_connection.proofs.FrontLemmas.{taken_frame, taken_none, taken_rule}
 use Rattle.h1_connection.proofs.connection.reading.Frames.pull.Goals as goal
 
 pub returns-in-Ok-Some-clause-pulled : goal.returns-in-Ok-Some-clause-pulled
