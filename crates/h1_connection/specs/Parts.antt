@@ -1,5 +1,5 @@
 -- What a connection's fields mean: what the machine keeps.
-use Rattle.std.specs.Prelude.{◌≡◌, ℕ, ◌<◌, Bool, true, false, not, ◌&&◌, List, [], ◌∷◌, length, replicate, Option, Some, None, option_map, is_some, if◌then◌else◌}
+use Rattle.std.specs.Prelude.{◌≡◌, ℕ, ◌<◌, Bool, true, false, not, ◌&&◌, ◌||◌, List, [], ◌∷◌, length, replicate, Option, Some, None, option_map, is_some, if◌then◌else◌}
 use Rattle.http_types.specs.declared.message.ConnectionType.{ConnectionType}
 use Rattle.http_config.specs.Config.{Settings}
 use Rattle.h1_model.specs.Limits.{MAX_MOMENT}
@@ -8,7 +8,7 @@ use Rattle.h1_model.specs.Event as on
 use Rattle.h1_model.specs.Answer.{Asked}
 use Rattle.h1_codec.specs.Meaning.{model_type, model_shape}
 use Rattle.h1_machine.specs.Kept as machine
-use Rattle.h1_machine.specs.Kept.{Kept, is_free, is_nothing, is_answered, now, rest_in, unanswered, sending, answered}
+use Rattle.h1_machine.specs.Kept.{Kept, is_free, is_nothing, is_answered, of_exchange, now, rest_in, unanswered, sending, answered}
 use Rattle.h1_machine.specs.Local.{closing_by}
 use Rattle.h1_machine.specs.Body.{Passed, pass_rest}
 use Rattle.h1_machine.specs.Change.{noting_since, IsStep}
@@ -127,15 +127,18 @@ completed connection p = record p { exchange = replied (Answered connection) p.e
 
 -- ---- what holds of them
 
--- something is left of the last request's body
-abbrev pub leaves_body : Option Exchange → Bool
-leaves_body None = false
-leaves_body (Some x) = not (is_nothing x.rest)
+-- something is left of the last request's body, or it may be upgraded
+abbrev pub leaves_body : Kept → Bool
+leaves_body k = of_exchange (λ x. x.asked.is_raw || not (is_nothing x.rest)) k
+
+-- no head is read ahead behind it
+abbrev pub HasNoneBehind : Kept → ℕ → Type 0
+HasNoneBehind k ahead = leaves_body k ≡ true → ahead ≡ 0
 
 -- a body isn't searched for a head, and none is read ahead behind it
 pub record MayBeSearched (p : Parts) : Type 0 where
   pub searched : is_free (kept_of p) ≡ false → p.input.piece ≡ None
-  pub behind : leaves_body p.exchange ≡ true → p.input.ahead ≡ 0
+  pub behind : HasNoneBehind (kept_of p) p.input.ahead
 
 -- since when it closes is noted, where it closes
 abbrev pub IsNoted : Setting → Kept → Type 0
@@ -148,7 +151,7 @@ pub record IsSound (settings : Settings) (p : Parts) : Type 0 where
   pub moment : now (kept_of p) < MAX_MOMENT
   pub searched : is_some p.input.piece ≡ is_free (kept_of p)
   pub scanned : IsFoundOf p.input
-  pub behind : leaves_body p.exchange ≡ true → p.input.ahead ≡ 0
+  pub behind : HasNoneBehind (kept_of p) p.input.ahead
   pub noted : IsNoted (setting_of settings) (kept_of p)
 
 -- ---- what is brought up to date behind an event
@@ -167,6 +170,7 @@ pub record IsSettled (setting : Setting) (k : Kept) (q : Parts) : Type 0 where
   pub kept : kept_of q ≡ noting_since setting (record k { is_coming = is_coming_in q.input.piece })
   pub searched : is_some q.input.piece ≡ is_free k
   pub scanned : IsFoundOf q.input
+  pub behind : HasNoneBehind k q.input.ahead
 
 -- ---- a step
 

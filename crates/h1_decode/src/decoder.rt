@@ -8,7 +8,7 @@ ghost use Rattle.http_types.specs.RequestHead.{request_flags};
 ghost use Rattle.http_uri.specs.Uri.{HasParts, Spells, SpellsNone};
 ghost use Rattle.httparse.specs.Spans.{IsHeaderWithin, IsRequestWithin, IsWithin, header_bytes, span_bytes};
 ghost use Rattle.h1_model.specs.HeadPiece.{IsHeadPiece, header_lines};
-ghost use Rattle.h1_model.specs.Request.{Head, head_is, faulty, no_body};
+ghost use Rattle.h1_model.specs.Request.{Head, head_is, faulty, has_body};
 ghost use Rattle.h1_model.specs.RequestHead.{IsReading, IsTarget};
 ghost use Rattle.h1_decode.specs.HeadItem.{SaysHead, version_of, without_headers};
 ghost use Rattle.h1_decode.specs.Lines.{HasValue};
@@ -177,7 +177,7 @@ pub fn read_lone_head_into(
     is_followed: bool,
 ) -> Result<bool, ParseError>
     ensures head { IfOk result (λ read. IsTrue read → (h : Head) × IsReading piece.now (head_is h) × SaysHead item.new h) }
-    ensures alone { IfOk result (λ read. IsTrue read → is_followed ≡ true → kind_of item.new.body ≢ no_body) }
+    ensures alone { IfOk result (λ read. IsTrue read → is_followed ≡ true → has_body (kind_of item.new.body) ≡ true) }
     ensures left { IfOk result (λ read. read ≡ false → (is_followed ≡ true) × (item.new ≡ without_headers item.old)) }
     ensures fault { IfErr result (λ e. UnlessNoMemory e (IsReading piece.now (faulty (fault_of e)))) }
     ensures cause { IfErr result (λ e. UnlessNoMemory e (Refuses e piece.now)) }
@@ -206,7 +206,7 @@ fn read_over(
 ) -> Result<bool, ParseError>
     requires { item.old.head.headers ≡ [] }
     ensures head { IfOk result (λ read. IsTrue read → (h : Head) × IsReading piece.now (head_is h) × SaysHead item.new h) }
-    ensures alone { IfOk result (λ read. IsTrue read → is_followed ≡ true → kind_of item.new.body ≢ no_body) }
+    ensures alone { IfOk result (λ read. IsTrue read → is_followed ≡ true → has_body (kind_of item.new.body) ≡ true) }
     ensures left { IfOk result (λ read. read ≡ false → (is_followed ≡ true) × (without_headers item.new ≡ without_headers item.old)) }
     ensures fault { IfErr result (λ e. UnlessNoMemory e (IsReading piece.now (faulty (fault_of e)))) }
     ensures cause { IfErr result (λ e. UnlessNoMemory e (Refuses e piece.now)) }
@@ -244,7 +244,7 @@ pub fn cut_head_into(
     ensures cut { (front.new ≡ []) ⊎ IsHeadPiece buffer.old.items 0 (length front.new) }
     ensures piece { IfOk result (λ found. found ≢ FrontHead.Missing → IsHeadPiece buffer.old.items 0 (length front.new)) }
     ensures head { IfOk result (λ found. found ≡ FrontHead.Read → (h : Head) × IsReading front.new (head_is h) × SaysHead item.new h) }
-    ensures alone { IfOk result (λ found. found ≡ FrontHead.Read → leaves ≡ true → (kind_of item.new.body ≢ no_body) ⊎ (buffer.new.items ≡ [])) }
+    ensures alone { IfOk result (λ found. found ≡ FrontHead.Read → leaves ≡ true → (has_body (kind_of item.new.body) ≡ true) ⊎ (buffer.new.items ≡ [])) }
     ensures left { IfOk result (λ found. found ≡ FrontHead.Left → (leaves ≡ true) × (item.new ≡ without_headers item.old)) }
     ensures none { IfOk result (λ found. found ≡ FrontHead.Missing → (front.new ≡ []) × (item.new ≡ item.old)) }
     ensures missing { IfOk result (λ found. found ≡ FrontHead.Missing → BeginsWithNoHead buffer.old.items) }
@@ -382,7 +382,7 @@ fn read_parts_over(
     requires empty { item.old.head.headers ≡ [] }
     ensures parts { IfOk result (λ read. IsTrue read → AreParts (parts_at piece.now spans fields.now) (kind_of item.new.body)) }
     ensures says { IfOk result (λ read. IsTrue read → SaysHead item.new (head_of (parts_at piece.now spans fields.now) (kind_of item.new.body))) }
-    ensures alone { IfOk result (λ read. IsTrue read → is_followed ≡ true → kind_of item.new.body ≢ no_body) }
+    ensures alone { IfOk result (λ read. IsTrue read → is_followed ≡ true → has_body (kind_of item.new.body) ≡ true) }
     ensures left { IfOk result (λ read. read ≡ false → (is_followed ≡ true) × (without_headers item.new ≡ without_headers item.old)) }
     ensures refused { IfErr result (λ e. UnlessNoMemory e (RefusesParts e (parts_at piece.now spans fields.now))) }
     ensures err { OnErr result (without_headers item.new ≡ without_headers item.old) }

@@ -13,7 +13,7 @@ ghost use Rattle.h1_machine.specs.Reply.{stated, short_end};
 ghost use Rattle.h1_segment_model.specs.After.{marks_after};
 ghost use Rattle.h1_connection.specs.Meaning.{setting_of, end_of, keep_alive_of};
 ghost use Rattle.h1_connection.specs.Unsent.{SendsNoPiece, SendsNoEnd};
-ghost use Rattle.h1_connection.specs.Parts.{kept_of, leaves_body, asked_in, sending_in, replied, completed, IsSettled, IsSound, Steps};
+ghost use Rattle.h1_connection.specs.Parts.{kept_of, HasNoneBehind, asked_in, sending_in, replied, completed, IsSettled, IsSound, Steps};
 
 use crate::End;
 use crate::connection::exchange::{Reply, Sending};
@@ -153,7 +153,7 @@ impl Parts {
     // The answer is complete: the rest of its request's body is passed.
     fn complete(&mut self, config: &ServiceConfig, connection: ConnectionType)
         requires unsearched { self.old.input.piece ≡ None }
-        requires behind { leaves_body self.old.exchange ≡ true → self.old.input.ahead ≡ 0 }
+        requires behind { HasNoneBehind (kept_of self.old) self.old.input.ahead }
         ensures settled { IsSettled (setting_of config.now) (passing (kept_of (completed connection self.old))) self.new }
         ensures output { self.new.output ≡ self.old.output }
         ensures ahead { self.new.input.ahead ≡ self.old.input.ahead }

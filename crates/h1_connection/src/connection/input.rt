@@ -9,7 +9,7 @@ ghost use Rattle.h1_decode.specs.HeadPosition.{HasScanned};
 ghost use Rattle.h1_model.specs.HeadPiece.{IsHeadPiece};
 ghost use Rattle.h1_model.specs.FrameText.{front_frame};
 ghost use Rattle.h1_model.specs.Parse.{connection_reader};
-ghost use Rattle.h1_model.specs.Request.{Head, head_is, faulty, no_body};
+ghost use Rattle.h1_model.specs.Request.{Head, head_is, faulty, has_body};
 ghost use Rattle.h1_model.specs.RequestHead.{IsReading};
 ghost use Rattle.h1_machine.specs.Kept.{rest_in};
 ghost use Rattle.h1_machine.specs.Local.{is_partial};
@@ -525,7 +525,7 @@ fn read_piece(
 ) -> Result<bool, ParseError>
     requires { start ≤ length bytes.now }
     ensures head { IfOk result (λ read. IsTrue read → (h : Head) × IsReading (slice_range bytes.now start (length bytes.now)) (head_is h) × SaysHead item.new h) }
-    ensures alone { IfOk result (λ read. IsTrue read → is_followed ≡ true → kind_of item.new.body ≢ no_body) }
+    ensures alone { IfOk result (λ read. IsTrue read → is_followed ≡ true → has_body (kind_of item.new.body) ≡ true) }
     ensures left { IfOk result (λ read. read ≡ false → (is_followed ≡ true) × (item.new ≡ without_headers item.old)) }
     ensures fault { IfErr result (λ e. UnlessNoMemory e (IsReading (slice_range bytes.now start (length bytes.now)) (faulty (fault_of e)))) }
     ensures err { OnErr result (item.new ≡ without_headers item.old) }
@@ -548,7 +548,7 @@ fn read_behind_blank_lines(
 ) -> Result<bool, ParseError>
     requires { start ≤ length bytes.now }
     ensures head { IfOk result (λ read. IsTrue read → (h : Head) × IsReading (slice_range bytes.now start (length bytes.now)) (head_is h) × SaysHead item.new h) }
-    ensures alone { IfOk result (λ read. IsTrue read → is_followed ≡ true → kind_of item.new.body ≢ no_body) }
+    ensures alone { IfOk result (λ read. IsTrue read → is_followed ≡ true → has_body (kind_of item.new.body) ≡ true) }
     ensures left { IfOk result (λ read. read ≡ false → (is_followed ≡ true) × (item.new ≡ without_headers item.old)) }
     ensures fault { IfErr result (λ e. UnlessNoMemory e (IsReading (slice_range bytes.now start (length bytes.now)) (faulty (fault_of e)))) }
     ensures err { OnErr result (item.new ≡ without_headers item.old) }

@@ -9,7 +9,7 @@ use Rattle.h1_connection.proofs.connection.parts.Parts.accept.Goals as goal
 
 pub note-requires : goal.note-requires
 note-requires c =
-    framed_may c.args.config.now c.args.self.now _ c.in-Some.request c.args.limit _ c.set_frames.ensures (sym c.request.ensures ∙ c.in-Some.is) c.requires.waits c.requires.sound
+    framed_may c.args.config.now c.args.self.now _ c.in-Some.request c.args.limit _ c.set_frames.ensures (sym c.request.ensures ∙ c.in-Some.is) c.requires.waits c.requires.raw c.requires.sound
 
 pub returns-in_default-clause-ok : goal.returns-in_default-clause-ok
 returns-in_default-clause-ok c = no_accept c.args.config.now c.args.self.now c.args.limit (sym c.request.ensures ∙ c.in_default.is) c.requires.sound
@@ -27,7 +27,7 @@ returns-clause-ok c =
 
 pub returns-clause-sound : goal.returns-clause-sound
 returns-clause-sound c =
-    framed_sound c.args.config.now c.args.self.now c.set_frames.new.self c.note.new.self c.in-Some.request c.args.limit c.put_accept.new.self c.requires.sound c.requires.waits (sym c.request.ensures ∙ c.in-Some.is) c.set_frames.ensures
+    framed_sound c.args.config.now c.args.self.now c.set_frames.new.self c.note.new.self c.in-Some.request c.args.limit c.put_accept.new.self c.requires.sound c.requires.waits c.requires.raw (sym c.request.ensures ∙ c.in-Some.is) c.set_frames.ensures
     c.note.ensures.kept c.note.ensures.input
 
 pub returns-clause-marks : goal.returns-clause-marks

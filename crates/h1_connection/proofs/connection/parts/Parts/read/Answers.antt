@@ -6,7 +6,8 @@ use Rattle.h1_connection.proofs.connection.parts.Parts.read.Goals as goal
 
 pub settle-requires : goal.settle-requires
 settle-requires c =
-    passed_may (record c.args.self.now { input = c.take.new.self }) c.pass_body.new.self c.pass_body.ensures.kept c.pass_body.ensures.input (read_may c.args.config.now c.args.self.now c.take.new.self c.requires c.in_ok-count.ensures.searched)
+    passed_may (record c.args.self.now { input = c.take.new.self }) c.pass_body.new.self c.pass_body.ensures.kept c.pass_body.ensures.input c.pass_body.ensures.ahead
+    (read_may c.args.config.now c.args.self.now c.take.new.self c.requires c.in_ok-count.ensures.searched c.take.ensures.ahead)
 
 pub returns-clause-ok : goal.returns-clause-ok
 returns-clause-ok c =

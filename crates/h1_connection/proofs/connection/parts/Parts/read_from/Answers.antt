@@ -5,7 +5,8 @@ use Rattle.h1_connection.proofs.connection.parts.Parts.read_from.Goals as goal
 
 pub settle-requires : goal.settle-requires
 settle-requires g c =
-    passed_may (record c.args.self.now { input = c.read_from.new.self }) c.pass_body.new.self c.pass_body.ensures.kept c.pass_body.ensures.input (read_may c.args.config.now c.args.self.now c.read_from.new.self c.requires c.in_ok-came.ensures.searched)
+    passed_may (record c.args.self.now { input = c.read_from.new.self }) c.pass_body.new.self c.pass_body.ensures.kept c.pass_body.ensures.input c.pass_body.ensures.ahead
+    (read_may c.args.config.now c.args.self.now c.read_from.new.self c.requires c.in_ok-came.ensures.searched c.read_from.ensures.ahead)
 
 pub returns-clause-ok : goal.returns-clause-ok
 returns-clause-ok g c =
