@@ -6,6 +6,7 @@ pub mod AnswerLemmas
 pub mod PullLemmas
 pub mod HeadLemmas
 pub mod MarkLemmas
+pub mod CountLemmas
 pub mod OutputLemmas
 pub mod ResultLemmas
 pub mod GoesOnLemmas

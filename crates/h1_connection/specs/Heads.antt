@@ -1,5 +1,5 @@
 -- What comes where the next head is asked for.
-use Rattle.std.specs.Prelude.{◌≡◌, ℕ, ◌≤◌, ◌==◌, ◌⊎◌, Bool, true, false, if◌then◌else◌, List, length, drop, Some, IsSome, option_map, ⊤}
+use Rattle.std.specs.Prelude.{◌≡◌, ℕ, ◌≤◌, ◌==◌, ◌⊎◌, Bool, true, false, not, ◌||◌, is_some, if◌then◌else◌, List, length, drop, Some, IsSome, option_map, ⊤}
 use Rattle.http_config.specs.Config.{Settings}
 use Rattle.http_framing.specs.Kinds.{kind_of}
 use Rattle.h1_model.specs.Request.{Head, head_is, has_body, faulty}
@@ -7,7 +7,7 @@ use Rattle.h1_model.specs.RequestHead.{IsReading}
 use Rattle.h1_model.specs.Setting.{Setting}
 use Rattle.h1_model.specs.Answer.{asked_of}
 use Rattle.h1_model.specs.Event as on
-use Rattle.h1_machine.specs.Kept.{Kept, new_exchange, rest_in, whole_rest, refusal_of, key_answer_of}
+use Rattle.h1_machine.specs.Kept.{Kept, is_open, new_exchange, rest_in, whole_rest, refusal_of, key_answer_of}
 use Rattle.h1_machine.specs.Local.{closing_by}
 use Rattle.h1_machine.specs.Change.{behind_head}
 use Rattle.h1_decode.specs.HeadItem.{SaysHead, without_headers}
@@ -62,6 +62,10 @@ IsNexted settings p (next.Head item) q = (h : Head) × SaysHead item h × Steps 
 IsNexted settings p (next.Fault fault) q = Steps settings p on.next (on.fault (fault_of fault)) q
 IsNexted settings p next.Pending q = Steps settings p on.next on.pending q
 IsNexted settings p (next.Closed end) q = Steps settings p on.next (on.closed (end_of end)) q
+
+-- the next head may be asked for: the connection closes, or no request is open
+abbrev pub MayAsk : Setting → Kept → Type 0
+MayAsk setting k = (is_some (closing_by setting k) || not (is_open k)) ≡ true
 
 -- What becomes of the number of heads that were read ahead: behind a head there is one fewer, or where there was none, as
 -- many as may be; behind a fault, which is the last of them, there is none; and else it stays.

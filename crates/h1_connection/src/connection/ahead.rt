@@ -193,11 +193,11 @@ impl Ahead {
         ensures none { self.new ≡ [] }
         ensures whole { (start : ℕ) × IsHeadPiece result start (length result) }
     {
-        let slot = &mut self.slots[self.passed];
-        slot.refused = None;
+        let only = &mut self.slots[self.passed];
+        only.refused = None;
         self.passed = 0;
         self.count = 0;
         self.held = 0;
-        mem::replace(&mut slot.piece, Bytes::new())
+        mem::replace(&mut only.piece, Bytes::new())
     }
 }

@@ -6,7 +6,7 @@ ghost use Rattle.h1_model.specs.Request.{Head, head_is};
 ghost use Rattle.h1_model.specs.Answer.{asked_of};
 ghost use Rattle.h1_model.specs.RequestHead.{IsReading};
 ghost use Rattle.h1_model.specs.Event as on;
-ghost use Rattle.h1_machine.specs.Kept.{is_free, rest_in, whole_rest, refusal_of, key_answer_of};
+ghost use Rattle.h1_machine.specs.Kept.{rest_in, whole_rest, refusal_of, key_answer_of};
 ghost use Rattle.h1_machine.specs.Local.{closing_by};
 ghost use Rattle.h1_model.specs.Closing.{fault_end};
 ghost use Rattle.h1_decode.specs.Refusal as decode;
@@ -14,7 +14,7 @@ ghost use Rattle.h1_connection.specs.Stock.{IsHeadAhead, IsWholeOf};
 ghost use Rattle.h1_connection.specs.Meaning.{setting_of, end_of, fault_of, failing_of};
 ghost use Rattle.h1_connection.specs.Parts.{key_bytes, kept_of, IsSettled, IsSound, Steps};
 ghost use Rattle.h1_connection.specs.Given.{is_head, is_head_kind, HasOpened};
-ghost use Rattle.h1_connection.specs.Heads.{refused, with_head, IsAsked, IsFresh, IsHeld, IsNexted, IsWaited, NumberGoes, KeepsItem, LosesAtMostHeaders, NeedsNoMemory};
+ghost use Rattle.h1_connection.specs.Heads.{refused, with_head, IsAsked, IsFresh, IsHeld, IsNexted, IsWaited, MayAsk, NumberGoes, KeepsItem, LosesAtMostHeaders, NeedsNoMemory};
 
 use crate::connection::exchange::{Exchange, Reply};
 use crate::connection::parts::Parts;
@@ -66,7 +66,7 @@ impl Parts {
         requires { IsSound config.now self.old }
         ensures ok { IfOk result (λ next. IsHeld config.now self.old → IsNexted config.now self.old next self.new) }
         ensures marks { OnOk result (self.new.output.marks ≡ self.old.output.marks) }
-        ensures ahead { IfOk result (λ next. is_free (kept_of self.old) ≡ true → IsHeld config.now self.old → NumberGoes config.now self.old next self.new) }
+        ensures ahead { IfOk result (λ next. MayAsk (setting_of config.now) (kept_of self.old) → IsHeld config.now self.old → NumberGoes config.now self.old next self.new) }
         ensures opened { IfOk result (λ next. is_head next ≡ true → HasOpened (setting_of config.now) self.old.is_over (kept_of self.new)) }
         ensures sound { OnOk result (IsSound config.now self.new) }
         ensures no_memory_needed { NeedsNoMemory (setting_of config.now) (kept_of self.old) → IsOk result }
@@ -88,9 +88,10 @@ impl Parts {
     fn next_without(&mut self, config: &ServiceConfig) -> Result<NextHead, NoMemory>
         requires sound { IsSound config.now self.old }
         requires none { IsHeadAhead self.old.input None }
+        requires none_ahead { self.old.input.ahead ≡ 0 }
         ensures ok { IfOk result (λ next. IsHeld config.now self.old → IsNexted config.now self.old next self.new) }
         ensures marks { OnOk result (self.new.output.marks ≡ self.old.output.marks) }
-        ensures ahead { IfOk result (λ next. is_free (kept_of self.old) ≡ true → NumberGoes config.now self.old next self.new) }
+        ensures ahead { IfOk result (λ next. MayAsk (setting_of config.now) (kept_of self.old) → NumberGoes config.now self.old next self.new) }
         ensures no_head { IfOk result (λ next. is_head next ≡ false) }
         ensures sound { OnOk result (IsSound config.now self.new) }
         ensures no_memory_needed { NeedsNoMemory (setting_of config.now) (kept_of self.old) → IsOk result }
@@ -117,7 +118,7 @@ impl Parts {
         requires { IsSound config.now self.old }
         ensures ok { IfOk result (λ kind. IsHeld config.now self.old → IsNexted config.now self.old (with_head item.new kind) self.new) }
         ensures marks { OnOk result (self.new.output.marks ≡ self.old.output.marks) }
-        ensures ahead { IfOk result (λ kind. is_free (kept_of self.old) ≡ true → IsHeld config.now self.old → NumberGoes config.now self.old (with_head item.new kind) self.new) }
+        ensures ahead { IfOk result (λ kind. MayAsk (setting_of config.now) (kept_of self.old) → IsHeld config.now self.old → NumberGoes config.now self.old (with_head item.new kind) self.new) }
         ensures opened { IfOk result (λ kind. is_head_kind kind ≡ true → HasOpened (setting_of config.now) self.old.is_over (kept_of self.new)) }
         ensures sound { OnOk result (IsSound config.now self.new) }
         ensures item { IfOk result (λ kind. KeepsItem (kept_of self.old).is_coming kind item.old item.new) }

@@ -110,7 +110,8 @@ impl Intake {
 
     /// Whether it is known, with no scan of bytes, that no whole head is there.
     pub fn has_none(&self) -> bool
-        ensures { result ≡ true → IsHeadAhead self.now None }
+        ensures none { result ≡ true → IsHeadAhead self.now None }
+        ensures ahead { result ≡ true → self.now.ahead ≡ 0 }
     {
         self.ahead.is_empty() && self.input.has_none()
     }
@@ -205,6 +206,7 @@ impl Intake {
     ) -> Result<bool, ParseError>
         ensures head { IfOk result (λ is_there. is_there ≡ true → HandsOut self.old item.new self.new) }
         ensures none { IfOk result (λ is_there. is_there ≡ false → IsHeadAhead self.old None × (item.new ≡ item.old) × (self.new ≡ self.old)) }
+        ensures none_ahead { IfOk result (λ is_there. is_there ≡ false → is_some self.old.piece ≡ true → self.old.ahead ≡ 0) }
         ensures fault { IfErr result (λ e. UnlessNoMemory e (IsFaultAhead self.old (fault_of e))) }
         ensures last { IfErr result (λ e. UnlessNoMemory e (self.old.ahead ≤ 1)) }
         ensures whole { OnErr result (IsWholeOf self.old) }
