@@ -5,6 +5,7 @@ use Rattle.h1_model.specs.Text.{answer_head_text}
 use Rattle.h1_connection.proofs.FrameLemmas.{framed_may, framed_steps, framed_sound, refused_steps, no_accept}
 use Rattle.http_segments.specs.Queued.{Queued}
 use Rattle.h1_connection.specs.declared.connection.parts.Parts.{Parts}
+use Rattle.h1_connection.specs.Stock.{Stock}
 use Rattle.h1_connection.proofs.connection.parts.Parts.accept.Goals as goal
 
 pub note-requires : goal.note-requires
@@ -33,3 +34,6 @@ returns-clause-sound c =
 pub returns-clause-marks : goal.returns-clause-marks
 returns-clause-marks c =
     ap (λ (q : Queued). q.marks) (c.note.ensures.output ∙ ap (λ (p : Parts). p.output) c.set_frames.ensures ∙ c.in_ok-put_accept.ensures.ok)
+
+pub returns-clause-ahead : goal.returns-clause-ahead
+returns-clause-ahead c = ap (λ (i : Stock). i.ahead) c.note.ensures.input ∙ ap (λ (p : Parts). p.input.ahead) c.set_frames.ensures

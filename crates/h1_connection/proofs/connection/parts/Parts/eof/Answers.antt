@@ -20,3 +20,6 @@ returns-clause-sound c = eof_sound_by c.args.config.now c.args.self.now c.end_re
 
 pub returns-clause-marks : goal.returns-clause-marks
 returns-clause-marks c = ap (λ (q : Queued). q.marks) (c.settle.ensures.output ∙ c.pass_body.ensures.output ∙ ap (λ (p : Parts). p.output) c.end_request_body.ensures)
+
+pub returns-clause-ahead : goal.returns-clause-ahead
+returns-clause-ahead c = c.settle.ensures.ahead ∙ c.pass_body.ensures.ahead ∙ ap (λ (p : Parts). p.input.ahead) c.end_request_body.ensures

@@ -16,3 +16,6 @@ returns-clause-ok c =
 
 pub returns-clause-sound : goal.returns-clause-sound
 returns-clause-sound c = read_sound c.args.config.now c.args.self.now c.pass_body.new.self c.settle.new.self c.take.new.self c.requires c.pass_body.ensures.kept c.settle.ensures.settled
+
+pub returns-clause-ahead : goal.returns-clause-ahead
+returns-clause-ahead c = c.settle.ensures.ahead ∙ c.pass_body.ensures.ahead ∙ c.take.ensures.ahead

@@ -1,4 +1,4 @@
-use Rattle.std.proofs.Common.{ℕ, ◌-◌, ◌≤◌, length, subst}
+use Rattle.std.proofs.Common.{ℕ, ◌-◌, ◌≤◌, length, subst, ◌∙◌}
 use Rattle.h1_connection.proofs.EventLemmas.{read_may, read_sound, came_steps}
 use Rattle.h1_connection.proofs.StepLemmas.{passed_may}
 use Rattle.h1_connection.proofs.connection.parts.Parts.read_from.Goals as goal
@@ -22,3 +22,6 @@ returns-clause-ok g c =
 
 pub returns-clause-sound : goal.returns-clause-sound
 returns-clause-sound g c = read_sound c.args.config.now c.args.self.now c.pass_body.new.self c.settle.new.self c.read_from.new.self c.requires c.pass_body.ensures.kept c.settle.ensures.settled
+
+pub returns-clause-ahead : goal.returns-clause-ahead
+returns-clause-ahead g c = c.settle.ensures.ahead ∙ c.pass_body.ensures.ahead ∙ c.read_from.ensures.ahead
