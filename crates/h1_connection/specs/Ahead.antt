@@ -94,6 +94,15 @@ pub record IsFilled (was : List Slot) (i : Incoming) (now : List Slot) (j : Inco
   pub piece : j.piece ≡ None
   pub all : (may_go_on now ≡ false) ⊎ HasNoHeadPiece j.unread
 
+-- while they are read: the bytes are the same, and where one was read behind the others, none is searched for
+pub record IsFilling (was : List Slot) (i : Incoming) (now : List Slot) (j : Incoming) : Type 0 where
+  pub bytes : joined now ++ j.unread ≡ joined was ++ i.unread
+  pub first : FirstIsHead now
+  pub found : was ≡ [] → 0 < length now → IsFound i
+  pub none : now ≡ was → j ≡ i
+  pub off : length was < length now → j.piece ≡ None
+  pub more : length was ≤ length now
+
 -- when the first of them is handed out, behind the one before it
 abbrev pub turn_behind : List Slot → Turn
 turn_behind [] = Unasked

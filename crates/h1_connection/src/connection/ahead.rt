@@ -2,7 +2,7 @@
 ghost use Rattle.std.specs.Prelude.{◌≡◌, ◌<◌, ◌+◌, ◌^◌, ◌==◌, ℕ, List, [], ◌∷◌, None, true, false, length, IfOk, IfErr, OnErr};
 ghost use Rattle.h1_decode.specs.Refusal.{UnlessNoMemory, fault_of};
 ghost use Rattle.h1_model.specs.HeadPiece.{IsHeadPiece};
-ghost use Rattle.h1_connection.specs.Ahead.{joined, may_go_on, AreRead, IsReadNext};
+ghost use Rattle.h1_connection.specs.Ahead.{joined, has_no_body, may_go_on, AreRead, IsReadNext};
 ghost use Rattle.h1_connection.specs.Incoming.{IsHeadOf, IsNextFault, IsWhole};
 
 use crate::connection::input::{Found, Input};
@@ -38,7 +38,9 @@ impl Slot {
     }
 
     /// Whether another head may follow straight behind it.
-    fn has_no_body(&self) -> bool {
+    fn has_no_body(&self) -> bool
+        ensures { result ≡ has_no_body self.now }
+    {
         self.refused.is_none() && !self.item.has_body()
     }
 }
