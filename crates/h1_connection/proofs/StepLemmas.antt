@@ -146,6 +146,16 @@ searched_may p m may searched =
     may_of m (λ found. ap (λ (r : Parts). is_free (kept_of r)) searched.parts ∙ sym searched.searched ∙ found)
     (λ left. searched.ahead ∙ may.behind (sym (ap (λ (r : Parts). leaves_body (kept_of r)) searched.parts) ∙ left))
 
+-- no head is read ahead behind a body of which something is left
+left_leaves : (raw nothing : Bool) → nothing ≡ false → (raw || not nothing) ≡ true
+left_leaves true nothing is = refl
+left_leaves false true is = absurd (cc is)
+left_leaves false false is = refl
+
+pub rest_behind : (p : Parts) (x : Exchange) → p.exchange ≡ Some x → HasNoneBehind (kept_of p) p.input.ahead → is_nothing x.rest ≡ false → p.input.ahead ≡ 0
+rest_behind p x there behind left =
+    behind (subst (λ (e : Option Exchange). leaves_body (kept_of (record p { exchange = e })) ≡ true) (sym there) (left_leaves x.request.asked.is_raw (is_nothing x.rest) left))
+
 -- ---- passing
 
 -- an exchange by its reply

@@ -1,5 +1,6 @@
 use Rattle.std.proofs.Common.{refl}
 use Rattle.h1_connection.proofs.ResultLemmas.{on_any, ok_three, on_both}
+use Rattle.h1_connection.proofs.StepLemmas.{rest_behind}
 use Rattle.h1_connection.proofs.PullLemmas.{pull_of, pull_steps, pull_sound}
 use Rattle.h1_connection.proofs.connection.parts.Parts.pull.Goals as goal
 
@@ -19,3 +20,6 @@ returns-clause-sound c =
 
 pub returns-clause-marks : goal.returns-clause-marks
 returns-clause-marks c = on_any c.pull.result _ refl
+
+pub pull-requires-clause-behind : goal.pull-requires-clause-behind
+pull-requires-clause-behind c = rest_behind c.args.self.now c.in-Some.exchange c.in-Some.is c.requires.sound.behind
