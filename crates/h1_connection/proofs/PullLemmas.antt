@@ -138,10 +138,18 @@ open_reply true answered plain is = absurd (cc plain)
 open_reply false true plain is = absurd (cc is)
 open_reply false false plain is = refl
 
-pulled_sound : (s : Settings) (r : Parts) (x y : Exchange) (after : Stock) (rest : Rest) (done : Bool) → is_answered (reply_of x.reply) ≡ false
+-- what was nothing is nothing behind a pull
+still_leaves : (raw was now : Bool) → (was ≡ true → now ≡ true) → (raw || not now) ≡ true → (raw || not was) ≡ true
+still_leaves true was now stays left = refl
+still_leaves false true true stays left = absurd (cc left)
+still_leaves false true false stays left = stays refl
+still_leaves false false now stays left = refl
+
+pulled_sound : (s : Settings) (r : Parts) (x y : Exchange) (after : Stock) (rest : Rest) (done : Bool) → after.ahead ≡ r.input.ahead
+    → (is_nothing x.rest ≡ true → is_nothing rest ≡ true) → is_answered (reply_of x.reply) ≡ false
     → is_frames x.rest ≡ false → is_frames rest ≡ false → r.exchange ≡ Some x → r.input.piece ≡ None → after.piece ≡ None
     → y ≡ record x { rest = rest; was_pulled = true; body_is_done = done } → IsSound s r → IsSound s (pulled_parts r y after)
-pulled_sound s r x y after rest done opened was plain there none still is sound =
+pulled_sound s r x y after rest done ahead stays opened was plain there none still is sound =
     let z : Exchange = record x { rest = rest; was_pulled = true; body_is_done = done } in
     let at_x : IsSound s (record r { exchange = Some x }) = subst (λ (e : Option Exchange). IsSound s (record r { exchange = e })) there sound in
     let same_after : record after { piece = r.input.piece } ≡ after = λ i. record after { piece = (none ∙ sym still) i } in
@@ -152,6 +160,7 @@ pulled_sound s r x y after rest done opened was plain there none still is sound 
       moment = sound.moment;
       searched = ap is_some still ∙ sym (not_free (is_answered (reply_of x.reply)) _ opened);
       scanned = subst (λ (o : Option HeadScan). IsFoundIn after.unread o) (sym still) tt;
+      behind = λ left. ahead ∙ at_x.behind (still_leaves x.request.asked.is_raw (is_nothing x.rest) (is_nothing rest) stays left);
       noted = λ c. at_x.noted (sym (ap is_some closes) ∙ c);
     })
 
@@ -181,26 +190,28 @@ open_unsearched s r x there opened sound =
     nothing None is = refl
     nothing (Some x) is = absurd (cc is)
 
-pub pull_sound : (s : Settings) (r : Parts) (x y : Exchange) (after : Stock) → r.exchange ≡ Some x → is_open (kept_of r) ≡ true
+pub pull_sound : (s : Settings) (r : Parts) (x y : Exchange) (after : Stock) → after.ahead ≡ r.input.ahead → (is_nothing x.rest ≡ true → is_nothing y.rest ≡ true)
+    → r.exchange ≡ Some x → is_open (kept_of r) ≡ true
     → (is_frames x.rest ≡ false) × (is_frames y.rest ≡ false) → after.piece ≡ None
     → y ≡ record x { rest = y.rest; was_pulled = true; body_is_done = y.body_is_done } → IsSound s r → IsSound s (pulled_parts r y after)
-pull_sound s r x y after there opened plain still is sound =
-    pulled_sound s r x y after y.rest y.body_is_done (exchange_open r x there opened plain.0) plain.0 plain.1 there
+pull_sound s r x y after ahead stays there opened plain still is sound =
+    pulled_sound s r x y after y.rest y.body_is_done ahead stays (exchange_open r x there opened plain.0) plain.0 plain.1 there
     (open_unsearched s r x there opened sound) still is sound
 
-pub pull_steps : (s : Settings) (r : Parts) (x y : Exchange) (p : Pulled) (answer : Answer) (after : Stock) → r.exchange ≡ Some x → is_open (kept_of r) ≡ true
+pub pull_steps : (s : Settings) (r : Parts) (x y : Exchange) (p : Pulled) (answer : Answer) (after : Stock) → after.ahead ≡ r.input.ahead
+    → (is_nothing x.rest ≡ true → is_nothing y.rest ≡ true) → r.exchange ≡ Some x → is_open (kept_of r) ≡ true
     → (is_frames x.rest ≡ false) × (is_frames y.rest ≡ false) → after.piece ≡ None
     → y ≡ record x { rest = y.rest; was_pulled = true; body_is_done = y.body_is_done } → IsSound s r
     → IsPull r.has_ended x.rest r.input.unread p → IsPulledFrom x p answer y after
     → SaysPulled answer p.outcome × Steps s r on.pull p.outcome (pulled_parts r y after)
-pull_steps s r x y p answer after there opened plain still is sound pull from =
+pull_steps s r x y p answer after ahead stays there opened plain still is sound pull from =
     let none = open_unsearched s r x there opened sound in
-    let changes = pull_change (setting_of s) r x y p answer after plain.0 pull from none still in (
+    let changes = pull_change (setting_of s) r x y p answer after plain.0 pull from none still ahead in (
       from.outcome,
       quiet_step s r (pulled_parts r y after) on.pull p.outcome
           (subst (λ (e : Option Exchange). IsChange (setting_of s) (kept_of (record r { exchange = e })) on.pull
           (record { outcome = p.outcome; kept = kept_of (pulled_parts r y after) })) (sym there) changes)
-          (pull_sound s r x y after there opened plain still is sound),
+          (pull_sound s r x y after ahead stays there opened plain still is sound),
     )
 
 -- a pull of the parts is one of the exchange that is there

@@ -47,6 +47,7 @@ impl Exchange {
         ensures no_frames { OnOk result ((is_frames self.old.rest ≡ false) × (is_frames self.new.rest ≡ false)) }
         ensures piece { input.new.piece ≡ None }
         ensures ahead { input.new.ahead ≡ input.old.ahead }
+        ensures nothing { is_nothing self.old.rest ≡ true → is_nothing self.new.rest ≡ true }
         ensures no_memory_needed { (p : pulls.Pulled) → IsPull has_ended self.old.rest input.old.unread p → IsLight self.old.rest p.outcome p.rest → IsOk result }
         ensures err { OnErr result ((self.new ≡ self.old) × (input.new ≡ input.old)) }
     {

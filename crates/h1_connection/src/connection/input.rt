@@ -11,7 +11,7 @@ ghost use Rattle.h1_model.specs.FrameText.{front_frame};
 ghost use Rattle.h1_model.specs.Parse.{connection_reader};
 ghost use Rattle.h1_model.specs.Request.{Head, head_is, faulty, has_body};
 ghost use Rattle.h1_model.specs.RequestHead.{IsReading};
-ghost use Rattle.h1_machine.specs.Kept.{rest_in};
+ghost use Rattle.h1_machine.specs.Kept.{rest_in, is_nothing};
 ghost use Rattle.h1_machine.specs.Local.{is_partial};
 ghost use Rattle.ws_frames.specs.Codec.{IsTakenNamed};
 ghost use Rattle.ws_frames.specs.Fronts.{FrontTaken};
@@ -339,6 +339,7 @@ impl Input {
         ensures pulled { IfOk result (λ answer. (p : pulls.Pulled) → IsPull has_ended rest.old self.old.unread p
             → IsPulled p answer rest.new self.new.unread) }
         ensures piece { self.new.piece ≡ None }
+        ensures nothing { is_nothing rest.old ≡ true → is_nothing rest.new ≡ true }
         ensures no_memory_needed { (p : pulls.Pulled) → IsPull has_ended rest.old self.old.unread p → IsLight rest.old p.outcome p.rest → IsOk result }
         ensures err { OnErr result ((self.new ≡ self.old) × (rest.new ≡ rest.old)) }
     {

@@ -270,6 +270,7 @@ impl Intake {
             → IsPulled p answer rest.new self.new.unread) }
         ensures piece { self.new.piece ≡ None }
         ensures ahead { self.new.ahead ≡ self.old.ahead }
+        ensures nothing { is_nothing rest.old ≡ true → is_nothing rest.new ≡ true }
         ensures no_memory_needed { (p : pulls.Pulled) → IsPull has_ended rest.old self.old.unread p → IsLight rest.old p.outcome p.rest → IsOk result }
         ensures err { OnErr result ((self.new ≡ self.old) × (rest.new ≡ rest.old)) }
     {

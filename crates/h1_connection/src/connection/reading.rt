@@ -131,6 +131,7 @@ impl Reading {
         ensures plain { is_frames self.new ≡ false }
         ensures piece { input.new.piece ≡ None }
         ensures ahead { input.new.ahead ≡ input.old.ahead }
+        ensures nothing { is_nothing self.old ≡ true → is_nothing self.new ≡ true }
         ensures no_memory_needed { (p : pulls.Pulled) → IsPull has_ended self.old input.old.unread p → IsLight self.old p.outcome p.rest → IsOk result }
         ensures err { OnErr result ((self.new ≡ self.old) × (input.new ≡ input.old)) }
     {
