@@ -53,7 +53,7 @@ reads_with hold s what rest read fits =
 -- ---- all of them
 
 -- what they are read as
-pub readings_of : (heads : List Slot) → AreRead heads → List Reading
+abbrev pub readings_of : (heads : List Slot) → AreRead heads → List Reading
 readings_of [] are = []
 readings_of (s ∷ more) are = are.0.0 ∷ readings_of more are.1
 
@@ -62,7 +62,7 @@ readings_count [] are = refl
 readings_count (s ∷ more) are = ap suc (readings_count more are.1)
 
 -- no further one may be read behind them, of at most so many behind one that has no body or has one
-IsEnd : ℕ → Bool → List Slot → List ℕ → Type 0
+abbrev pub IsEnd : ℕ → Bool → List Slot → List ℕ → Type 0
 IsEnd zero bare heads rest = ⊤
 IsEnd (suc limit) bare [] rest = (bare ≡ false) ⊎ HasNoHeadPiece rest
 IsEnd (suc limit) bare (s ∷ more) rest = IsEnd limit (has_no_body s) more rest

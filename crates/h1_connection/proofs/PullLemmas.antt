@@ -10,9 +10,9 @@ use Rattle.h1_model.specs.Event as on
 use Rattle.h1_model.specs.End.{End}
 use Rattle.h1_machine.specs.Kept.{Rest, no_rest, raw_rest, fixed_rest, chunks_rest, frames_rest, Kept, is_frames, is_nothing, is_free, is_open, is_answered}
 use Rattle.h1_machine.specs.Local.{closing_by}
-use Rattle.h1_machine.specs.Pull.{Pulled, lacking, pull_fixed, pull_raw, EndsWith, IsPullOfChunks, IsPull}
+use Rattle.h1_machine.specs.Pull.{Pulled, finishes, lacking, pull_fixed, pull_raw, EndsWith, IsPullOfChunks, IsPull}
 use Rattle.h1_machine.specs.Change.{IsChange}
-use Rattle.h1_payload.specs.Rests.{SaysPulled}
+use Rattle.h1_payload.specs.Rests.{SaysPulled, IsPulled}
 use Rattle.h1_payload.specs.declared.pulled.Pulled.{Pulled as Answer}
 use Rattle.h1_payload.specs.declared.pulled.Pulled.TheVariants as answers
 use Rattle.h1_decode.specs.declared.scan.HeadScan.{HeadScan}
@@ -220,3 +220,12 @@ pull_of r x p there pull = subst (λ (e : Option Exchange). IsPullOf (kept_of (r
 
 pub no_pull : (r : Parts) (p : Pulled) → r.exchange ≡ None → IsPullOf (kept_of r) p → ⊥
 no_pull r p none pull = subst (λ (e : Option Exchange). IsPullOf (kept_of (record r { exchange = e })) p) none pull
+
+-- nothing is left behind a pull of nothing
+pub nothing_pulled : (ended : Bool) (rest : Rest) (bytes : List ℕ) (answer : Answer) (later : Rest) (behind : List ℕ)
+    → ((p : Pulled) → IsPull ended rest bytes p → IsPulled p answer later behind) → is_nothing rest ≡ true → is_nothing later ≡ true
+nothing_pulled ended no_rest bytes answer later behind pulled is = ap is_nothing (pulled (finishes on.body_ended no_rest bytes) refl).rest_is
+nothing_pulled ended raw_rest bytes answer later behind pulled is = absurd (cc is)
+nothing_pulled ended (fixed_rest n) bytes answer later behind pulled is = absurd (cc is)
+nothing_pulled ended (chunks_rest place section) bytes answer later behind pulled is = absurd (cc is)
+nothing_pulled ended (frames_rest under_way limit) bytes answer later behind pulled is = absurd (cc is)

@@ -117,7 +117,7 @@ module _ (t : Stock) (s : Slot) (more : List Slot) (i : Incoming) (are : AreRead
   stands = subst (λ (l : List ℕ). IsHeadPiece l are.0.1.start (length s.piece)) (sym unread) (first_stands s more i.unread are)
 
   -- its bytes, from the first line on
-  head_bytes : List ℕ
+  abbrev pub head_bytes : List ℕ
   head_bytes = slice_range t.unread are.0.1.start (length s.piece)
 
   pub is_head : IsHeadAhead t (Some head_bytes)

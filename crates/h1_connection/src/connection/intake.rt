@@ -274,7 +274,8 @@ impl Intake {
         ensures no_memory_needed { (p : pulls.Pulled) → IsPull has_ended rest.old self.old.unread p → IsLight rest.old p.outcome p.rest → IsOk result }
         ensures err { OnErr result ((self.new ≡ self.old) × (rest.new ≡ rest.old)) }
     {
-        let _ = (&self.ahead, &self.turn);
+        let _ = &self.ahead;
+        let _ = &self.turn;
         self.input.pull(rest, has_ended)
     }
 
@@ -285,7 +286,8 @@ impl Intake {
         ensures rest { rest.new ≡ (pass_rest has_ended rest.old self.old.unread).rest }
         ensures unread { self.new ≡ record self.old { unread = (pass_rest has_ended rest.old self.old.unread).unread } }
     {
-        let _ = (&self.ahead, &self.turn);
+        let _ = &self.ahead;
+        let _ = &self.turn;
         self.input.pass(rest, has_ended);
     }
 
@@ -295,7 +297,8 @@ impl Intake {
         requires behind { self.now.ahead ≡ 0 }
         ensures { (under_way : Bool) → result ≡ is_partial (front_frame (connection_reader limit) under_way self.now.unread) }
     {
-        let _ = (&self.ahead, &self.turn);
+        let _ = &self.ahead;
+        let _ = &self.turn;
         self.input.waits_for_frame(limit)
     }
 
@@ -308,7 +311,8 @@ impl Intake {
         ensures piece { self.new.piece ≡ None }
         ensures ahead { self.new.ahead ≡ 0 }
     {
-        let _ = (&self.ahead, &self.turn);
+        let _ = &self.ahead;
+        let _ = &self.turn;
         self.input.take_frame(frames)
     }
 
