@@ -151,8 +151,8 @@ module _ (t : Stock) (s : Slot) (more : List Slot) (i : Incoming) (are : AreRead
         head = head_bytes;
         is_head = is_head;
         h = says.0;
-        reads = subst (λ (l : List ℕ). IsReading l (head_is says.0)) same_bytes says.2.1;
-        says = subst (λ (j : HeadItem). SaysHead j says.0) (sym item_is) says.2.2;
+        reads = subst (λ (l : List ℕ). IsReading l (head_is says.0)) same_bytes says.2;
+        says = subst (λ (j : HeadItem). SaysHead j says.0) (sym item_is) says.3;
         passed = subst (λ (o : Option HeadScan). IsPassedTo t o (stock_of more (turn_behind more) i)) (sym piece_is) (rest_is, off_behind more i off);
         counts = counts;
         behind = bare_first s more item are taken item_is;
