@@ -1,6 +1,6 @@
 -- What a piece is read as, by the parts that the spans cover.
-use Rattle.std.proofs.Common.{◌≡◌, ℕ, Bool, List, [], ◌∷◌, map, take, All, Some, Result, Ok, Err, inl, inr, refl, sym, ap, ◌∙◌, subst}
-use Rattle.std.specs.Prelude.{IfOk, IfErr, IsTrue}
+use Rattle.std.proofs.Common.{◌≡◌, ℕ, Bool, true, false, ◌&&◌, length, List, [], ◌∷◌, map, take, All, Some, Result, Ok, Err, inl, inr, refl, sym, ap, ◌∙◌, subst}
+use Rattle.std.specs.Prelude.{IfOk, IfErr, IsTrue, ◌⊎◌, nat_lt}
 use Rattle.std.specs.List.{AllByRecursion}
 use Rattle.std.proofs.lemmas.List.Elements.{All-nil, All-cons, All-head, All-tail}
 use Rattle.httparse.specs.Grammar.{is_value_byte, Field, IsField, RequestHead}
@@ -202,3 +202,17 @@ pub faults : {T : Type 0} (piece : List ℕ) (r : Result T ParseError)
     → IfErr r (λ e. UnlessNoMemory e (Refuses e piece)) → IfErr r (λ e. UnlessNoMemory e (IsReading piece (faulty (fault_of e))))
 faults piece (Ok item) cause = tt
 faults piece (Err e) cause = λ ne. reads_fault piece e (cause ne)
+
+-- ---- a head that may be left
+
+-- it is left only where that is asked for
+pub was_read : {P : Type 0} (read : Bool) → (read ≡ false → (false ≡ true) × P) → IsTrue read
+was_read true left = refl
+was_read false left = absurd (cc (left refl).0)
+
+-- it has a body, or no byte stands behind it
+pub alone_of : (counts : Bool) (rest : List ℕ) (followed body : Bool) → followed ≡ (counts && nat_lt 0 (length rest)) → (followed ≡ true → body ≡ true) → counts ≡ true
+    → (body ≡ true) ⊎ (rest ≡ [])
+alone_of true [] followed body is alone wanted = inr refl
+alone_of true (b ∷ rest) followed body is alone wanted = inl (alone is)
+alone_of false rest followed body is alone wanted = absurd (cc wanted)

@@ -1,5 +1,5 @@
 //! What the head of a request says (RFC 7230, section 3).
-ghost use Rattle.std.specs.Prelude.{◌≡◌, ◌≢◌, ◌↔◌, ◌<◌, ◌≤◌, ◌⊎◌, ◌++◌, [], None, IsTrue, true, false, length, map, take, codes, IfSome, IfNone, nat_lt, if◌then◌else◌, OnOk, OnErr, IfOk, IfErr, All};
+ghost use Rattle.std.specs.Prelude.{◌≡◌, ◌≢◌, ◌↔◌, ◌<◌, ◌≤◌, ◌⊎◌, ◌++◌, ◌&&◌, [], None, IsTrue, true, false, length, map, take, codes, IfSome, IfNone, nat_lt, if◌then◌else◌, OnOk, OnErr, IfOk, IfErr, All};
 ghost use Rattle.http_header.specs.Token.{IsToken};
 ghost use Rattle.http_framing.specs.Kinds.{kind_of};
 ghost use Rattle.http.specs.declared.version.TheConstants.Version.{HTTP_11};
@@ -262,9 +262,9 @@ pub fn cut_head_into(
         Ok(head) => *front = head,
         Err(_) => return Err(ParseError::NoMemory),
     }
-    let is_followed = leaves && !buffer.is_empty();
+    let followed = is_followed(buffer, leaves);
     let fields = &room.fields[..spans.headers];
-    match read_parts_over(alloc, item, front, spans, fields, is_followed) {
+    match read_parts_over(alloc, item, front, spans, fields, followed) {
         Ok(true) => Ok(FrontHead::Read),
         Ok(false) => {
             item.head.headers.clear();
@@ -275,6 +275,14 @@ pub fn cut_head_into(
             Err(error)
         }
     }
+}
+
+/// Whether more bytes stand behind a head that was cut off, where that counts.
+#[inline(always)]
+fn is_followed(rest: &BytesMut, counts: bool) -> bool
+    ensures { result ≡ (counts && nat_lt 0 (length rest.now.items)) }
+{
+    counts && rest.len() > 0
 }
 
 /// Where the parts of the head are with which the bytes begin, if it stands there whole, with no empty line before it.
