@@ -1,7 +1,8 @@
 -- What a piece is read as, by the parts that the spans cover.
-use Rattle.std.proofs.Common.{◌≡◌, ℕ, Bool, true, false, ◌&&◌, length, List, [], ◌∷◌, map, take, All, Some, Result, Ok, Err, inl, inr, refl, sym, ap, ◌∙◌, subst}
+use Rattle.std.proofs.Common.{◌≡◌, ℕ, Bool, true, false, ◌&&◌, length, List, [], ◌∷◌, map, take, All, Some, Result, Ok, Err, inl, inr, refl, sym, ap, ◌∙◌, subst, arith}
 use Rattle.std.specs.Prelude.{IfOk, IfErr, IsTrue, ◌⊎◌, nat_lt}
 use Rattle.std.specs.List.{AllByRecursion}
+use Rattle.std.proofs.lemmas.Bool.{ltb-false}
 use Rattle.std.proofs.lemmas.List.Elements.{All-nil, All-cons, All-head, All-tail}
 use Rattle.httparse.specs.Grammar.{is_value_byte, Field, IsField, RequestHead}
 use Rattle.httparse.proofs.TrimLemmas.{AllPass-trim_ows}
@@ -214,5 +215,9 @@ was_read false left = absurd (cc (left refl).0)
 pub alone_of : (counts : Bool) (rest : List ℕ) (followed body : Bool) → followed ≡ (counts && nat_lt 0 (length rest)) → (followed ≡ true → body ≡ true) → counts ≡ true
     → (body ≡ true) ⊎ (rest ≡ [])
 alone_of true [] followed body is alone wanted = inr refl
-alone_of true (b ∷ rest) followed body is alone wanted = inl (alone is)
+alone_of true (b ∷ rest) followed body is alone wanted = by_test (nat_lt 0 (length (b ∷ rest))) refl
+  where
+    by_test : (test : Bool) → nat_lt 0 (length (b ∷ rest)) ≡ test → (body ≡ true) ⊎ (b ∷ rest ≡ [])
+    by_test true some = inl (alone (is ∙ some))
+    by_test false none = absurd (omega (arith, ltb-false 0 (length (b ∷ rest)) none))
 alone_of false rest followed body is alone wanted = absurd (cc wanted)
