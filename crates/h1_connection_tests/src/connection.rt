@@ -100,7 +100,10 @@ fn is_followed_by(connection: &mut Connection, len: usize, next: &[u8]) -> bool 
 fn a_head_and_each_piece_are_segments(rt: HostRuntime) -> Result<(), Fail> {
     let mut connection = Connection::new(rt.alloc(), ServiceConfigBuilder::new().build());
     assert!(rt; is_taken(&mut connection)?);
-    answer_in_pieces(&mut connection, &ResponseHead::new(rt.alloc(), StatusCode::OK))?;
+    answer_in_pieces(
+        &mut connection,
+        &ResponseHead::new(rt.alloc(), StatusCode::OK),
+    )?;
     assert!(rt; is_followed_by(&mut connection, 75, b"ab"));
     assert!(rt; is_followed_by(&mut connection, 2, b"c"));
     assert!(rt; is_followed_by(&mut connection, 1, b""));
