@@ -1,5 +1,6 @@
-"""Clients of h1_looped, an event loop over dispatchers."""
-import http.client, socket, subprocess, tempfile, threading
+"""Clients of the servers over a dispatcher: h1_serve, a thread for each connection over one board of counters, and h1_looped,
+an event loop."""
+import http.client, os, re, secrets, socket, subprocess, tempfile, threading
 
 from checks import check, connect, differs, free_port, has, read_all, run, statuses_of, wait_for
 
@@ -22,6 +23,8 @@ def behind_nginx(name, server, make):
         return
     port = free_port()
     with tempfile.TemporaryDirectory() as place:
+        # A process of nginx's that isn't root keeps large bodies there.
+        os.chmod(place, 0o755)
         with open(f"{place}/nginx.conf", "w") as text:
             text.write(NGINX % {"place": place, "server": "%s:%d" % server, "port": port})
         nginx = subprocess.Popen(["nginx", "-c", f"{place}/nginx.conf"], stderr=subprocess.DEVNULL)
@@ -77,6 +80,77 @@ def deaf(address, name, path):
 
 
 # ---- a thread for each connection
+
+def counting_clients(address, program):
+    """The counters of h1_serve. Each check has a counter of its own, which no one has added to."""
+    new = "/" + secrets.token_hex(8)
+    if has("curl"):
+        url = "http://%s:%d%s" % (*address, new)
+
+        def counted():
+            done = run("curl", "-sS", "-m", "20", "-D", "-", "-X", "POST", f"{url}/curl", "-X", "POST", f"{url}/curl")
+            return done.stderr.decode() or differs(re.findall(rb"x-count: (\d+)", done.stdout), [b"1", b"2"])
+        check("counters, curl POST twice over one connection", counted)
+    check("counters, GET of one that was never added to", lambda: differs(asked(address, "GET", f"{new}/none")[:2], (200, "0")))
+    check("counters, another method", lambda: differs(asked(address, "PUT", "/a", b"abc"), (404, None, b"")))
+    check("counters, a name of 65 bytes", lambda: differs(asked(address, "GET", "/" + "a" * 64)[0], 404))
+    by_byte(address, "counters")
+    malformed(address, "counters")
+    deaf(address, "counters", f"{new}/deaf")
+
+    def pipelined():
+        with connect(address) as sock:
+            threading.Thread(target=sock.sendall, args=(b"POST %s/many HTTP/1.1\r\nhost: a\r\n\r\n" % new.encode() * 1999 + LAST,)).start()
+            counts = re.findall(rb"x-count: (\d+)", read_all(sock))
+            return differs([int(count) for count in counts[:1999]], list(range(1, 2000)))
+    check("counters, 2,000 requests at once", pipelined)
+
+    def together():
+        def add():
+            # On a slow machine a kept connection may end between two requests: then the second one is sent again.
+            client = http.client.HTTPConnection(*address, timeout=20)
+            added = 0
+            while added < 20:
+                try:
+                    client.request("POST", f"{new}/together")
+                    client.getresponse().read()
+                    added += 1
+                except (ConnectionError, http.client.HTTPException):
+                    client.close()
+            client.close()
+        threads = [threading.Thread(target=add) for _ in range(50)]
+        for thread in threads:
+            thread.start()
+        for thread in threads:
+            thread.join()
+        return differs(asked(address, "GET", f"{new}/together")[1], "1000")
+    check("counters, 50 connections at once that add 20 each", together)
+    behind_nginx("counters, nginx in front", address,
+                 lambda nginx: differs([asked(nginx, "POST", f"{new}/nginx")[1] for _ in range(20)], [str(n) for n in range(1, 21)]))
+    check("counters, the report of three connections", lambda: report_of_three(program))
+
+
+def report_of_three(program):
+    """Three connections of a server that takes no more: then it ends with its report."""
+    port = free_port()
+    server = subprocess.Popen([program, str(port), "3", "100000"], stdout=subprocess.PIPE)
+    try:
+        seen = []
+        for method, path in (("POST", "/b"), ("POST", "/a"), ("GET", "/c")):
+            for attempt in range(200):
+                try:
+                    seen.append(asked(("127.0.0.1", port), method, path)[1])
+                    break
+                except ConnectionRefusedError:
+                    threading.Event().wait(0.05)
+        said = server.communicate(timeout=20)[0]
+        return differs((seen, said, server.returncode), (["1", "1", "0"], b"calls 3\n/a 1\n/b 1\n/c 0\n", 0))
+    finally:
+        server.kill()
+        server.wait()
+
+
+# ---- an event loop
 
 def looped_clients(address):
     """The greeting and the echo of h1_looped."""

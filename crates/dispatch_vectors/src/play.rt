@@ -3,17 +3,19 @@ ghost use Rattle.http_services.specs.Serving.{unknown_call};
 ghost use Rattle.h1_dispatch.specs.View.{MayBePolled};
 
 use crate::body::Page;
-use crate::report::{Polled, put_asked, put_deadline, put_polled, put_sent, put_taken};
-use crate::service::{Coming, Scripted};
+use crate::report::{
+    Polled, put_asked, put_deadline, put_polled, put_refused, put_sent, put_taken, put_upgraded,
+};
+use crate::service::{Coming, Scripted, refusal};
 use crate::setup::{Cut, Setup};
 use crate::step::Step;
 use crate::wire::Lingering;
 use futures::task::{Doorbell, Poll, Solo};
-use h1_dispatch::Dispatcher;
+use h1_dispatch::{Accepting, Dispatcher, Upgraded};
 use h1_line::Recorder;
 use http_services::CountedService;
-use http_types::{DispatchError, NoMemory};
-use std::alloc::{AllocError, AllocGlobal};
+use http_types::{DispatchError, NoMemory, StatusCode};
+use std::alloc::{AllocError, AllocGlobal, Global};
 use std::io;
 use std::random::RandomSource;
 
@@ -44,12 +46,80 @@ pub fn play<R: RandomSource + AllocGlobal, L: Recorder>(
     let wire = setup.wire(rt.alloc(), cut)?;
     let service = setup.service(rt.alloc())?;
     let mut served = Dispatcher::new(rt.alloc(), wire, service, setup.config(), recorder);
-    let taken = take_all(rt, &mut served, steps, report);
-    let (wire, service, _recorder) = served.into_parts();
-    match taken {
-        Ok(()) => Ok(put_end(&wire, service.inner(), report)?),
-        Err(error) => Err(error),
+    let mut shown = Shown::default();
+    let count = count_before_accept(steps);
+    let before = steps.get(..count).unwrap_or(&[]);
+    take_all(rt, &mut served, before, &mut shown, report)?;
+    match steps.get(count..) {
+        Some([Step::Accept(limit), after @ ..]) => accept(rt, served, *limit, after, shown, report),
+        _ => put_left(served, report),
     }
+}
+
+// How many steps come before the first that accepts a request.
+fn count_before_accept(steps: &[Step]) -> usize {
+    for (number, step) in steps.iter().enumerate() {
+        if let Step::Accept(_) = step {
+            return number;
+        }
+    }
+    steps.len()
+}
+
+// Accepts the request that is held back, where it may be accepted, and goes on with these steps unless it was.
+fn accept<R: RandomSource + AllocGlobal, L: Recorder>(
+    rt: &R,
+    served: Served<L>,
+    limit: usize,
+    after: &[Step],
+    shown: Shown,
+    report: &mut Vec<u8>,
+) -> io::Result<()>
+    requires open { MayBePolled (λ _. unknown_call) served }
+{
+    if !served.can_accept(limit) {
+        return go_on(rt, served, after, shown, report);
+    }
+    match served.accept(limit) {
+        Ok(Accepting::Done(upgraded)) => put_handed(upgraded, report),
+        Ok(Accepting::Refused(served, error)) => {
+            put_refused(report, error)?;
+            go_on(rt, served, after, shown, report)
+        }
+        Err(error) => Err(error.into()),
+    }
+}
+
+// Takes these steps, and puts what is left.
+fn go_on<R: RandomSource + AllocGlobal, L: Recorder>(
+    rt: &R,
+    served: Served<L>,
+    steps: &[Step],
+    shown: Shown,
+    report: &mut Vec<u8>,
+) -> io::Result<()>
+    requires open { MayBePolled (λ _. unknown_call) served }
+{
+    let mut served = served;
+    let mut shown = shown;
+    take_all(rt, &mut served, steps, &mut shown, report)?;
+    put_left(served, report)
+}
+
+// Puts what was handed over: the request, what waits to be written, and how many bytes are held behind the request.
+fn put_handed<L: Recorder>(
+    upgraded: Upgraded<Lingering, CountedService<Scripted>, L>,
+    report: &mut Vec<u8>,
+) -> io::Result<()> {
+    let (request, line, wire, service) = upgraded.into_parts();
+    let connection = line.connection();
+    put_upgraded(report, &request, connection.stretch(), connection.held())?;
+    Ok(put_end(&wire, service.inner(), report)?)
+}
+
+fn put_left<L: Recorder>(served: Served<L>, report: &mut Vec<u8>) -> io::Result<()> {
+    let (wire, service, _recorder) = served.into_parts();
+    Ok(put_end(&wire, service.inner(), report)?)
 }
 
 // Puts what the wire took, unless the service had no memory to note a request.
@@ -65,13 +135,14 @@ fn take_all<R: RandomSource + AllocGlobal, L: Recorder>(
     rt: &R,
     served: &mut Served<L>,
     steps: &[Step],
+    shown: &mut Shown,
     report: &mut Vec<u8>,
 ) -> io::Result<()>
     requires open { MayBePolled (λ _. unknown_call) served.old }
+    ensures open { MayBePolled (λ _. unknown_call) served.new }
 {
-    let mut shown = Shown::default();
     for step in steps {
-        take(rt, served, *step, &mut shown, report)?;
+        take(rt, served, *step, shown, report)?;
     }
     Ok(())
 }
@@ -93,6 +164,27 @@ fn take<R: RandomSource + AllocGlobal, L: Recorder>(
             Ok(())
         }
         Step::Deadline => Ok(put_deadline(report, served.deadline())?),
+        Step::Hold => {
+            served.hold_upgrades(true);
+            Ok(())
+        }
+        Step::Decline => {
+            served.decline();
+            Ok(())
+        }
+        Step::HoldExpects => {
+            served.hold_expects(true);
+            Ok(())
+        }
+        Step::LetOn => {
+            served.let_on();
+            Ok(())
+        }
+        Step::TurnAway(status) => {
+            turn_away(rt.alloc(), served, status);
+            Ok(())
+        }
+        Step::Accept(_) => Ok(()),
         Step::Poll(moment) => {
             let polled = poll(rt, served, moment)?;
             Ok(put_poll(served, polled, shown, report)?)
@@ -101,6 +193,16 @@ fn take<R: RandomSource + AllocGlobal, L: Recorder>(
             let polled = poll_until_ready(rt, served, moment)?;
             Ok(put_poll(served, polled, shown, report)?)
         }
+    }
+}
+
+// Turns the request away that is held back, where one is.
+fn turn_away<L: Recorder>(alloc: Global, served: &mut Served<L>, status: StatusCode)
+    requires open { MayBePolled (λ _. unknown_call) served.old }
+    ensures open { MayBePolled (λ _. unknown_call) served.new }
+{
+    if served.can_refuse() {
+        served.refuse(refusal(alloc, status));
     }
 }
 

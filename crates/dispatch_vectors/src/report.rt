@@ -1,5 +1,6 @@
 //! The lines of a report.
-use http_types::{DispatchError, NoMemory, ParseError};
+use h1_connection::HandshakeError;
+use http_types::{DispatchError, NoMemory, ParseError, Request};
 use vectors::{put_all, put_decimal, put_quoted, put_text};
 
 /// How a poll ended.
@@ -70,6 +71,37 @@ pub fn put_deadline(report: &mut Vec<u8>, deadline: Option<u64>) -> Result<(), N
         None => put_text(report, "-")?,
     }
     put_text(report, "\n")
+}
+
+/// Puts the request that was accepted, what waits to be written, and how many bytes are held behind it.
+pub fn put_upgraded(
+    report: &mut Vec<u8>,
+    request: &Request<(), ()>,
+    waiting: &[u8],
+    held: usize,
+) -> Result<(), NoMemory> {
+    put_text(report, "upgraded ")?;
+    put_all(report, request.path().as_bytes())?;
+    put_text(report, " ")?;
+    put_quoted(report, waiting)?;
+    put_text(report, " ")?;
+    put_decimal(report, held as u64)?;
+    put_text(report, "\n")
+}
+
+/// Puts why an upgrade was refused.
+pub fn put_refused(report: &mut Vec<u8>, error: HandshakeError) -> Result<(), NoMemory> {
+    put_text(
+        report,
+        match error {
+            HandshakeError::GetMethodRequired => "refused method\n",
+            HandshakeError::NoWebsocketUpgrade => "refused upgrade\n",
+            HandshakeError::NoConnectionUpgrade => "refused connection\n",
+            HandshakeError::NoVersionHeader => "refused no-version\n",
+            HandshakeError::UnsupportedVersion => "refused version\n",
+            HandshakeError::BadWebsocketKey => "refused key\n",
+        },
+    )
 }
 
 /// Puts all that was sent, and whether the wire was shut down.

@@ -9,7 +9,7 @@ use crate::silence::Silence;
 use futures::task::{Context, Poll};
 use http_services::PlainService;
 use http_services::h1::Payload;
-use http_types::{ConnectionType, NoMemory, PayloadError, Request, Response};
+use http_types::{ConnectionType, NoMemory, PayloadError, Request, Response, StatusCode};
 use std::alloc::Global;
 use std::mem;
 use vectors::{put_all, put_decimal, put_text};
@@ -220,6 +220,15 @@ fn response_of(alloc: Global, reply: Reply, script: Script) -> Response<Page> {
             .set_connection_type(ConnectionType::Close);
     }
     response
+}
+
+/// An answer with this status and without a byte.
+pub fn refusal(alloc: Global, status: StatusCode) -> Response<Page> {
+    Response::with_body(
+        alloc,
+        status,
+        page(Some(0), Script::new(Vec::new(alloc), false)),
+    )
 }
 
 // Puts the request's method and target after the text.

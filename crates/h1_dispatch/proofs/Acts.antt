@@ -6,15 +6,18 @@ use Rattle.futures.specs.declared.task.context.Context.{Context}
 use Rattle.http_types.specs.declared.error.DispatchError.{DispatchError}
 use Rattle.http_types.specs.declared.error.DispatchError.TheVariants as error
 use Rattle.h1_model.specs.Event as on
-use Rattle.h1_dispatch.specs.View.{View, Stage, free, waiting, calling, replying, sending, is_sending, is_replying, closes, has_write_room, asks_next, allows_answer, allows_chunk}
+use Rattle.h1_dispatch.specs.View.{View, Asking, Stage, free, waiting, calling, replying, sending, is_sending, is_replying, closes, has_write_room, asks_next, allows_answer, is_held, allows_chunk}
 use Rattle.h1_dispatch.specs.Steps.{Step, IsStep, IsRun, ticked, drained, shut, failed, asked_to_drain}
 use Rattle.h1_dispatch.specs.Traces.{IsNoted, AllNoted}
-use Rattle.h1_dispatch.specs.Polls.{EndsWith, IsShut, IsIo, IsStuck, IsHeld, IsIdle, Reads, Feeds, Writes, Serves, Sends, Awaits, Looks, Ended, GoesOn, Ticks, Drains, IsBegun, BeginFails, TurnsSay, PollRuns, PollSays}
+use Rattle.h1_dispatch.specs.Polls.{EndsWith, IsShut, IsIo, IsStuck, IsHeld, IsIdle, Reads, Feeds, Writes, Serves, Sends, Asks, Awaits, Looks, Ended, GoesOn, Ticks, Drains, IsBegun, BeginFails, TurnsSay, PollRuns, PollSays}
 use Rattle.h1_dispatch.specs.Acts.{Act, polled, asked, ActSays, ActsSay, HasMemory, AreOneRun}
 use Rattle.h1_dispatch.specs.Replies.{HasNoReply, HandsOn}
 use Rattle.h1_dispatch.proofs.Traces.{run_follows}
 use Rattle.h1_dispatch.proofs.Replies.{BringsNone, AllQuiet, quiet_goes, step_hands, run_hands}
 use Rattle.h1_dispatch.proofs.Runs.{one, run_on, goes_noted, all_noted}
+use Rattle.h1_dispatch.proofs.Undecided.{goes_undecided, all_undecided, undecided_on, ended_undecided}
+use Rattle.h1_dispatch.specs.Upgrades.{DecidesNone}
+use Rattle.std.specs.List.{AllByRecursion}
 
 -- ---- steps that were noted
 
@@ -51,22 +54,30 @@ quiet_noted : (steps : List Step) → AllQuiet steps → AllNoted steps
 quiet_noted [] all = tt
 quiet_noted (d ∷ steps) all = (goes_noted d (quiet_goes d all.0), quiet_noted steps all.1)
 
+quiet_undecided : (steps : List Step) → AllQuiet steps → AllByRecursion DecidesNone steps
+quiet_undecided [] all = tt
+quiet_undecided (d ∷ steps) all = (goes_undecided d (quiet_goes d all.0), quiet_undecided steps all.1)
+
 awaits_quiet : (v : View) (sends allows : Bool) (served : List Step) → Serves v sends allows served → AllQuiet served
 awaits_quiet v true allows served body = by_room (allows_chunk v) body
   where
     by_room : (may : Bool) → Sends may served → AllQuiet served
     by_room true is = subst (λ l. AllQuiet l) (sym is) (tt, tt)
     by_room false is = subst (λ l. AllQuiet l) (sym is) tt
-awaits_quiet v false true served waits = by_stage v.stage (has_write_room v) waits
+awaits_quiet v false true served waits = by_stage v.stage (is_held v) (has_write_room v) waits
   where
-    by_stage : (s : Stage) (room : Bool) → Awaits s room served → AllQuiet served
-    by_stage free room is = subst (λ l. AllQuiet l) (sym is) tt
-    by_stage (waiting request) true (inl is) = subst (λ l. AllQuiet l) (sym is) (tt, tt)
-    by_stage (waiting request) true (inr is) = subst (λ l. AllQuiet l) (sym is) (tt, (tt, tt))
-    by_stage (waiting request) false is = subst (λ l. AllQuiet l) (sym is) tt
-    by_stage (calling took) room is = subst (λ l. AllQuiet l) (sym is) (tt, tt)
-    by_stage (replying answer) room is = absurd is
-    by_stage (sending body) room is = absurd is
+    by_asks : (request : Asking) (held room : Bool) → Asks held room request served → AllQuiet served
+    by_asks request true room is = subst (λ l. AllQuiet l) (sym is) tt
+    by_asks request false true (inl is) = subst (λ l. AllQuiet l) (sym is) (tt, tt)
+    by_asks request false true (inr is) = subst (λ l. AllQuiet l) (sym is) (tt, (tt, tt))
+    by_asks request false false is = subst (λ l. AllQuiet l) (sym is) tt
+
+    by_stage : (s : Stage) (held room : Bool) → Awaits s held room served → AllQuiet served
+    by_stage free held room is = subst (λ l. AllQuiet l) (sym is) tt
+    by_stage (waiting request) held room is = by_asks request held room is
+    by_stage (calling took) held room is = subst (λ l. AllQuiet l) (sym is) (tt, tt)
+    by_stage (replying answer) held room is = absurd is
+    by_stage (sending body) held room is = absurd is
 awaits_quiet v false false served looks = by_looks (asks_next v) v.stage looks
   where
     by_looks : (may : Bool) (s : Stage) → Looks v may s served → AllQuiet served
@@ -98,13 +109,14 @@ record Runs (P : Type 0) (v w : View) : Type 0 where
   run : IsRun v steps w
   noted : P → AllNoted steps
   handed : P → HandsOn v w
+  undecided : AllByRecursion DecidesNone steps
 
 stays : {P : Type 0} (v w : View) → w ≡ v → Runs P v w
-stays v w is = record { steps = []; run = is; noted = λ p. tt; handed = λ p trace stands none. ap (λ (x : View). is_replying x.stage) is ∙ none }
+stays v w is = record { steps = []; run = is; noted = λ p. tt; handed = λ p trace stands none. ap (λ (x : View). is_replying x.stage) is ∙ none; undecided = tt }
 
-by_one : {P : Type 0} (v w : View) (d : Step) → IsStep v d w → (P → IsNoted d) → BringsNone d → Runs P v w
-by_one v w d is noted brings =
-    record { steps = d ∷ []; run = one v w d is; noted = λ p. (noted p, tt); handed = λ p trace stands none. step_hands v w d brings is none }
+by_one : {P : Type 0} (v w : View) (d : Step) → IsStep v d w → (P → IsNoted d) → BringsNone d → DecidesNone d → Runs P v w
+by_one v w d is noted brings decides =
+    record { steps = d ∷ []; run = one v w d is; noted = λ p. (noted p, tt); handed = λ p trace stands none. step_hands v w d brings is none; undecided = (decides, tt) }
 
 then_on : {P : Type 0} (v u w : View) → Runs P v u → Runs P u w → Runs P v w
 then_on v u w a b = record {
@@ -112,14 +124,15 @@ then_on v u w a b = record {
   run = run_on v u w a.steps b.steps a.run b.run;
   noted = λ p. noted_on a.steps b.steps (a.noted p) (b.noted p);
   handed = λ p trace stands none. b.handed p _ (run_follows v u a.steps (a.noted p) a.run trace stands).stands (a.handed p trace stands none);
+  undecided = undecided_on a.steps b.steps a.undecided b.undecided;
 }
 
 -- by steps that bring no answer
 by_quiet : {P : Type 0} (v w : View) (steps : List Step) → AllQuiet steps → IsRun v steps w → Runs P v w
-by_quiet v w steps all run = record { steps = steps; run = run; noted = λ p. quiet_noted steps all; handed = λ p trace stands none. run_hands v w steps all run none }
+by_quiet v w steps all run = record { steps = steps; run = run; noted = λ p. quiet_noted steps all; handed = λ p trace stands none. run_hands v w steps all run none; undecided = quiet_undecided steps all }
 
 goes_run : {P : Type 0} (v w : View) (n most : ℕ) → GoesOn v w n most → Runs P v w
-goes_run v w n most goes = record { steps = goes.steps; run = goes.run; noted = λ p. all_noted goes.steps goes.go_on; handed = λ p. goes.handed }
+goes_run v w n most goes = record { steps = goes.steps; run = goes.run; noted = λ p. all_noted goes.steps goes.go_on; handed = λ p. goes.handed; undecided = all_undecided goes.steps goes.go_on }
 
 idle_run : {P : Type 0} (v w : View) → IsIdle v w → Runs P v w
 idle_run v w idle =
@@ -139,15 +152,15 @@ stuck_run v w (inr shutting) = by_quiet v w (shut Pending ∷ []) (tt, tt) shutt
 
 ticks_run : {P : Type 0} (v w : View) (moment : ℕ) → Ticks v moment w → Runs P v w
 ticks_run v w moment (inl is) = stays v w is.1
-ticks_run v w moment (inr is) = by_one v w (ticked moment is.1.0) is.1.1 (λ p. tt) tt
+ticks_run v w moment (inr is) = by_one v w (ticked moment is.1.0) is.1.1 (λ p. tt) tt tt
 
 drains_run : {P : Type 0} (v w : View) → Drains v w → Runs P v w
 drains_run v w (inl is) = stays v w is.1
-drains_run v w (inr is) = by_one v w drained is.2 (λ p. tt) tt
+drains_run v w (inr is) = by_one v w drained is.2 (λ p. tt) tt tt
 
 fails_run : {P : Type 0} (v w : View) (moment : ℕ) → (P → ⊥) → BeginFails v moment w → Runs P v w
-fails_run v w moment never (inl is) = by_one v w (failed (on.tick moment)) is (λ p. absurd (never p)) tt
-fails_run v w moment never (inr is) = then_on v is.0 w (ticks_run v is.0 moment is.1) (by_one is.0 w (failed on.drain) is.2 (λ p. absurd (never p)) tt)
+fails_run v w moment never (inl is) = by_one v w (failed (on.tick moment)) is (λ p. absurd (never p)) tt tt
+fails_run v w moment never (inr is) = then_on v is.0 w (ticks_run v is.0 moment is.1) (by_one is.0 w (failed on.drain) is.2 (λ p. absurd (never p)) tt tt)
 
 begun_run : {P : Type 0} (v w : View) (moment : ℕ) → IsBegun v moment w → Runs P v w
 begun_run v w moment begun = then_on v begun.between w (ticks_run v begun.between moment begun.ticks) (drains_run begun.between w begun.drains)
@@ -166,6 +179,7 @@ turns_run v w cx (Ready result) ends = record {
   run = ends.run;
   noted = λ enough. ended_noted w ends.steps result (λ is. enough (ap Ready is)) ends.ended;
   handed = λ enough trace stands none. handed_by w result enough (ends.handed trace stands none);
+  undecided = ended_undecided w ends.steps result ends.ended;
 }
 turns_run v w cx Pending (inl waits) = then_on v waits.last w (goes_run v waits.last _ _ waits.goes) (stuck_run waits.last w waits.stuck)
 turns_run v w cx Pending (inr spent) = goes_run v w _ _ spent.goes
@@ -180,10 +194,10 @@ poll_run v w cx moment result (inr runs) = begins_run v w cx moment result runs.
 
 act_run : (v w : View) (act : Act) → ActSays v act w → Runs (HasMemory act) v w
 act_run v w (polled moment cx result) says = poll_run v w cx moment result says
-act_run v w asked says = by_one v w asked_to_drain says (λ p. tt) tt
+act_run v w asked says = by_one v w asked_to_drain says (λ p. tt) tt tt
 
 pub acts_run : (v w : View) (acts : List Act) → ActsSay v acts w → AreOneRun v acts w
-acts_run v w [] is = record { steps = []; run = is; noted = λ p. tt; handed = λ p trace stands none. ap (λ (x : View). is_replying x.stage) is ∙ none }
+acts_run v w [] is = record { steps = []; run = is; noted = λ p. tt; handed = λ p trace stands none. ap (λ (x : View). is_replying x.stage) is ∙ none; undecided = tt }
 acts_run v w (act ∷ acts) is =
     let a = act_run v is.0 act is.1 in
     let b = acts_run is.0 w acts is.2 in
@@ -192,4 +206,5 @@ acts_run v w (act ∷ acts) is =
       run = run_on v is.0 w a.steps b.steps a.run b.run;
       noted = λ all. noted_on a.steps b.steps (a.noted all.0) (b.noted all.1);
       handed = λ all trace stands none. b.handed all.1 _ (run_follows v is.0 a.steps (a.noted all.0) a.run trace stands).stands (a.handed all.0 trace stands none);
+      undecided = undecided_on a.steps b.steps a.undecided b.undecided;
     }

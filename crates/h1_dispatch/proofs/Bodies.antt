@@ -8,8 +8,9 @@ use Rattle.http_bodies.specs.Told.{Tells, led_by}
 use Rattle.http_services.specs.Lent.{Took}
 use Rattle.http_bodies.proofs.Histories.{led_by-more, led_by-none}
 use Rattle.h1_dispatch.specs.View.{View, Asking, Answer, Stage, free, waiting, calling, replying, sending, is_waiting, is_replying, is_sending}
-use Rattle.h1_dispatch.specs.Steps.{Step, IsStep, IsRun, request_at, stage_at, stage_asked, stage_answered, stage_replied, stage_sent, ticked, drained, written, read, shut, next, closed, continued, ready, called, answered, pulled, paused, dropped, replied, sent, failed, failed_write, failed_read, failed_fed, failed_sent, asked_to_drain}
+use Rattle.h1_dispatch.specs.Steps.{Step, IsStep, IsRun, request_at, stage_at, stage_asked, stage_answered, stage_replied, stage_sent, ticked, drained, written, read, shut, next, closed, continued, ready, called, answered, pulled, paused, dropped, replied, sent, failed, failed_write, failed_read, failed_fed, failed_sent, asked_to_drain, asked_to_hold, declined, let_on, turned_away, refused}
 use Rattle.h1_dispatch.specs.Bodies.{step_pieces, ends_body, is_reply, pieces, has_end, has_reply, GoesOut, SendsBody}
+use Rattle.h1_dispatch.proofs.Held.{accepts_waits}
 
 clash : {A : Type 0} → true ≡ false → A
 clash is = absurd (cc is)
@@ -65,6 +66,11 @@ no_body v w (failed_read came event) other off is = apart v w (failed_read came 
 no_body v w (failed_fed bytes) other off is = apart v w (failed_fed bytes) refl refl off (ap (λ (x : View). x.stage) is.2)
 no_body v w (failed_sent piece) other off is = clash (sym (ap is_sending is.1.goes_out) ∙ off)
 no_body v w asked_to_drain other off is = apart v w asked_to_drain refl refl off (ap (λ (x : View). x.stage) is)
+no_body v w (asked_to_hold upgrades expects) other off is = apart v w (asked_to_hold upgrades expects) refl refl off (ap (λ (x : View). x.stage) is)
+no_body v w declined other off is = apart v w declined refl refl off (ap (λ (x : View). x.stage) is)
+no_body v w let_on other off is = apart v w let_on refl refl off (ap (λ (x : View). x.stage) is)
+no_body v w (turned_away request answer) other off is = to w (turned_away request answer) (replying answer) refl refl refl (ap (λ (x : View). x.stage) is.2)
+no_body v w (refused limit error) other off is = apart v w (refused limit error) refl refl off (ap (λ (x : View). x.stage) is.2)
 
 -- ---- a step of a body that goes out
 
@@ -116,6 +122,11 @@ a_body v w (failed_sent piece) body other was is =
     let says = subst (λ b. PieceSays b is.0 piece) (same_body is.1.body body (sym is.1.goes_out ∙ was)) is.1.says in
     inl (is.0, ap (λ (x : View). x.stage) is.3, says.gives, refl)
 a_body v w asked_to_drain body other was is = stays v w asked_to_drain body refl refl was (ap (λ (x : View). x.stage) is)
+a_body v w (asked_to_hold upgrades expects) body other was is = stays v w (asked_to_hold upgrades expects) body refl refl was (ap (λ (x : View). x.stage) is)
+a_body v w declined body other was is = stays v w declined body refl refl was (ap (λ (x : View). x.stage) is)
+a_body v w let_on body other was is = stays v w let_on body refl refl was (ap (λ (x : View). x.stage) is)
+a_body v w (turned_away request answer) body other was is = clash (ap is_sending (sym was ∙ is.1))
+a_body v w (refused limit error) body other was is = clash (sym (sym (ap is_waiting was) ∙ accepts_waits v limit is.0))
 
 -- ---- runs
 

@@ -15,6 +15,7 @@ use Rattle.http_wires.specs.Wiring.{Wiring}
 use Rattle.h1_model.specs.End as ends
 use Rattle.h1_model.specs.End.{End}
 use Rattle.h1_model.specs.Event as on
+use Rattle.h1_model.specs.Handshake.{HandshakeError}
 use Rattle.h1_model.specs.Setting.{Setting}
 use Rattle.h1_machine.specs.Kept.{Reply, unanswered, sending, answered as complete, Exchange, Kept, Change}
 use Rattle.h1_machine.specs.Local.{closing_by, waits_for_answer}
@@ -32,13 +33,14 @@ use Rattle.h1_connection.specs.declared.connection.ticks.Expiry.{Expiry}
 use Rattle.h1_connection.specs.declared.connection.ticks.Expiry.TheVariants as expiries
 use Rattle.h1_line.specs.Line.{LineView}
 use Rattle.h1_dispatch.specs.View.{View, Asking, Answer, Stage, free, waiting, calling, replying, sending as goes_out, is_unanswered as is_unanswered_at, is_asked, is_waiting, allows_next, has_write_room, buffered, view_begun}
-use Rattle.h1_dispatch.specs.Steps.{Step, Goes, Wrote, Took, IsStep, IsRun, request_at, stage_at, stage_replied, stage_sent, ticked, drained, written, read, shut, next, closed, continued, ready, called, answered, pulled, paused, dropped, replied, sent, failed, failed_write, failed_read, failed_fed, failed_sent, asked_to_drain}
+use Rattle.h1_dispatch.specs.Steps.{Step, Goes, Wrote, Took, IsStep, IsRun, request_at, stage_at, stage_replied, stage_sent, ticked, drained, written, read, shut, next, closed, continued, ready, called, answered, pulled, paused, dropped, replied, sent, failed, failed_write, failed_read, failed_fed, failed_sent, asked_to_drain, asked_to_hold, declined, let_on, turned_away, refused}
 use Rattle.h1_dispatch.specs.Traces.{IsNoted, AllNoted}
 use Rattle.h1_dispatch.specs.Open.{IsTied}
 use Rattle.h1_dispatch.specs.Bounds.{HasRoomForAnswer, HasExpired, GrowsInRoom}
 use Rattle.h1_dispatch.proofs.Faults.{closes_so}
 use Rattle.h1_dispatch.proofs.Moves.{leaves_room}
 use Rattle.h1_dispatch.proofs.Open.{step_ties, begun_tied, begun_tied_noted}
+use Rattle.h1_dispatch.proofs.Held.{refused_keeps, refuses_in_room}
 
 clash : {A : Type 0} → true ≡ false → A
 clash is = absurd (cc is)
@@ -246,6 +248,13 @@ none_asked : (request : Option Asking) → is_asked (stage_at request) ≡ false
 none_asked None = refl
 none_asked (Some request) = refl
 
+-- an upgrade that is refused writes nothing
+refused_less : (v w : View) (limit : ℕ) (error : HandshakeError) → Goes v.line (on.accept limit) (Is (on.refused error)) w.line → IsTied v → Less v w
+refused_less v w limit error goes t =
+    went v w (on.accept limit) (Is (on.refused error)) goes
+    (λ out says m. no_more m.change.kept.buffered v.line.state.kept.buffered
+    (ap (λ (k : Kept). k.buffered) (refused_keeps (setting_of v.line.state.settings) v.line.state.kept w.line.state.kept limit error out says m))) t
+
 step_holds : (v w : View) (d : Step) → IsNoted d → IsStep v d w → HasRoomForAnswer v → Holds v d w
 step_holds v w (ticked moment expiry) noted is h = ticked_holds v w moment expiry is.0 (ap (λ (x : View). x.stage) is.1) h
 step_holds v w drained noted is h =
@@ -283,6 +292,11 @@ step_holds v w (failed_read came event) noted is h = absurd noted
 step_holds v w (failed_fed bytes) noted is h = absurd noted
 step_holds v w (failed_sent piece) noted is h = absurd noted
 step_holds v w asked_to_drain noted is h = as_far v w asked_to_drain (line_less v w (ap (λ (x : View). x.line) is)) (ap (λ (x : View). x.stage) is) h
+step_holds v w (asked_to_hold upgrades expects) noted is h = as_far v w (asked_to_hold upgrades expects) (line_less v w (ap (λ (x : View). x.line) is)) (ap (λ (x : View). x.stage) is) h
+step_holds v w declined noted is h = as_far v w declined (line_less v w (ap (λ (x : View). x.line) is)) (ap (λ (x : View). x.stage) is) h
+step_holds v w let_on noted is h = as_far v w let_on (line_less v w (ap (λ (x : View). x.line) is)) (ap (λ (x : View). x.stage) is) h
+step_holds v w (turned_away request answer) noted is h = in_room v w (turned_away request answer) (line_less v w (ap (λ (x : View). x.line) is.2)) (refuses_in_room v is.0)
+step_holds v w (refused limit error) noted is h = as_far v w (refused limit error) (refused_less v w limit error is.1 h.tied) (ap (λ (x : View). x.stage) is.2) h
 
 -- ---- runs
 

@@ -13,7 +13,7 @@ use Rattle.h1_connection.specs.declared.event.End.TheVariants as ends
 use Rattle.h1_dispatch.specs.declared.dispatcher.Ending.{Ending}
 use Rattle.h1_dispatch.specs.declared.dispatcher.Ending.TheVariants.{Closed, Abandoned, Broken}
 use Rattle.h1_dispatch.specs.View.{View, is_broken}
-use Rattle.h1_dispatch.specs.Steps.{Step, IsStep, IsRun, ticked, drained, written, read, shut, next, closed, continued, ready, called, answered, pulled, paused, dropped, replied, sent, failed, failed_write, failed_read, failed_fed, failed_sent, asked_to_drain}
+use Rattle.h1_dispatch.specs.Steps.{Step, IsStep, IsRun, ticked, drained, written, read, shut, next, closed, continued, ready, called, answered, pulled, paused, dropped, replied, sent, failed, failed_write, failed_read, failed_fed, failed_sent, asked_to_drain, asked_to_hold, declined, let_on, turned_away, refused}
 use Rattle.h1_dispatch.specs.Polls.{EndsWith, IsShut, IsIo, Ended, result_of, Ticks, Drains, IsBegun, BeginFails, PollRuns, PollSays}
 use Rattle.h1_dispatch.specs.Causes.{HasClosed, HasCause}
 
@@ -56,6 +56,11 @@ step_counts v w (failed_read came event) is = is.2.5.faults
 step_counts v w (failed_fed bytes) is = stays v w (ap (λ (x : View). x.wire.faults) is.2)
 step_counts v w (failed_sent piece) is = stays v w (ap (λ (x : View). x.wire.faults) is.3)
 step_counts v w asked_to_drain is = stays v w (ap (λ (x : View). x.wire.faults) is)
+step_counts v w (asked_to_hold upgrades expects) is = stays v w (ap (λ (x : View). x.wire.faults) is)
+step_counts v w declined is = stays v w (ap (λ (x : View). x.wire.faults) is)
+step_counts v w let_on is = stays v w (ap (λ (x : View). x.wire.faults) is)
+step_counts v w (turned_away request answer) is = stays v w (ap (λ (x : View). x.wire.faults) is.2)
+step_counts v w (refused limit error) is = stays v w (ap (λ (x : View). x.wire.faults) is.2)
 
 more_counts : (v u w : View) → Counts v u → Counts u w → Counts v w
 more_counts v u w first then = omega (arith, first, then)

@@ -22,9 +22,10 @@ use Rattle.h1_connection.specs.State.{Is}
 use Rattle.h1_connection.specs.Ticks.{expiry_of}
 use Rattle.h1_line.specs.Line.{LineView, LineStands}
 use Rattle.h1_dispatch.specs.View.{View, sending, is_sending, is_waiting, is_awaiting, is_replying, closes, allows, allows_answer, awaits_body}
-use Rattle.h1_dispatch.specs.Steps.{Step, Goes, Wrote, IsStep, IsRun, ticked, drained, written, read, shut, next, closed, continued, ready, called, answered, pulled, paused, dropped, replied, sent, failed, failed_write, failed_read, failed_fed, failed_sent, asked_to_drain}
+use Rattle.h1_dispatch.specs.Steps.{Step, Goes, Wrote, IsStep, IsRun, ticked, drained, written, read, shut, next, closed, continued, ready, called, answered, pulled, paused, dropped, replied, sent, failed, failed_write, failed_read, failed_fed, failed_sent, asked_to_drain, asked_to_hold, declined, let_on, turned_away, refused}
 use Rattle.h1_dispatch.specs.Traces.{IsNoted, AllNoted}
 use Rattle.h1_dispatch.specs.Bodies.{IsOfEnd, OnlyEnds}
+use Rattle.h1_dispatch.proofs.Held.{accepts_waits}
 
 clash : {A : Type 0} → true ≡ false → A
 clash is = absurd (cc is)
@@ -152,6 +153,11 @@ step_ends v w (failed_read came event) noted is f = absurd noted
 step_ends v w (failed_fed bytes) noted is f = absurd noted
 step_ends v w (failed_sent piece) noted is f = absurd noted
 step_ends v w asked_to_drain noted is f = (tt, still v w (ap (λ (x : View). x.line) is) (ap (λ (x : View). x.stage) is) f)
+step_ends v w (asked_to_hold upgrades expects) noted is f = (tt, still v w (ap (λ (x : View). x.line) is) (ap (λ (x : View). x.stage) is) f)
+step_ends v w declined noted is f = (tt, still v w (ap (λ (x : View). x.line) is) (ap (λ (x : View). x.stage) is) f)
+step_ends v w let_on noted is f = (tt, still v w (ap (λ (x : View). x.line) is) (ap (λ (x : View). x.stage) is) f)
+step_ends v w (turned_away request answer) noted is f = clash (ap is_sending (sym f.stage ∙ is.1))
+step_ends v w (refused limit error) noted is f = clash (sym (sym (ap is_waiting f.stage) ∙ accepts_waits v limit is.0))
 
 ends_on : (v u w : View) (d : Step) (steps : List Step) → IsOfEnd d × HasFailed u → (HasFailed u → OnlyEnds steps w) → OnlyEnds (d ∷ steps) w
 ends_on v u w d steps first rest = let x = rest first.1 in record { closing = x.closing; each = (first.0, x.each) }

@@ -30,7 +30,7 @@ use Rattle.h1_connection.specs.declared.connection.heads.NextHead.{NextHead}
 use Rattle.h1_connection.specs.declared.connection.heads.NextHead.TheVariants as next_head
 use Rattle.h1_line.specs.Line.{LineView, LineStands}
 use Rattle.h1_dispatch.specs.View.{View, Asking, Answer, Stage, free, waiting, calling, replying, sending}
-use Rattle.h1_dispatch.specs.Steps.{Step, Goes, Wrote, Took, Sent, IsStep, IsRun, error_of, fed_with, queue_at, request_at, stage_at, stage_asked, stage_answered, stage_replied, stage_sent, ticked, drained, written, read, shut, next, closed, continued, ready, called, answered, pulled, paused, dropped, replied, sent, failed, failed_write, failed_read, failed_fed, failed_sent, asked_to_drain}
+use Rattle.h1_dispatch.specs.Steps.{Step, Goes, Wrote, Took, Sent, IsStep, IsRun, error_of, fed_with, queue_at, request_at, stage_at, stage_asked, stage_answered, stage_replied, stage_sent, ticked, drained, written, read, shut, next, closed, continued, ready, called, answered, pulled, paused, dropped, replied, sent, failed, failed_write, failed_read, failed_fed, failed_sent, asked_to_drain, asked_to_hold, declined, let_on, turned_away, refused}
 use Rattle.h1_dispatch.specs.Traces.{IsNoted, AllNoted}
 use Rattle.h1_dispatch.specs.Feeds.{CameBody, new_body, with_piece, body_at, step_body, body_after, IsOnly, IsFed, nothing_taken, HasBody, HasQueueBound}
 use Rattle.h1_dispatch.proofs.Pulls.{given_bytes, pull_fits}
@@ -199,6 +199,12 @@ step_has v w (failed_read came event) body is has = stays v w body (ap (λ (x : 
 step_has v w (failed_fed bytes) body is has = stays v w body (ap (λ (x : View). x.stage) is.2) (ap (λ (x : View). x.queue) is.2) has
 step_has v w (failed_sent piece) body is has = subst (λ s. HasBody body s w.queue) (sym (ap (λ (x : View). x.stage) is.3)) tt
 step_has v w asked_to_drain body is has = stays v w body (ap (λ (x : View). x.stage) is) (ap (λ (x : View). x.queue) is) has
+step_has v w (asked_to_hold upgrades expects) body is has = stays v w body (ap (λ (x : View). x.stage) is) (ap (λ (x : View). x.queue) is) has
+step_has v w declined body is has = stays v w body (ap (λ (x : View). x.stage) is) (ap (λ (x : View). x.queue) is) has
+step_has v w let_on body is has = stays v w body (ap (λ (x : View). x.stage) is) (ap (λ (x : View). x.queue) is) has
+step_has v w (turned_away request answer) body is has =
+    keeps body (replying answer) w.stage v.queue w.queue (ap (λ (x : View). x.stage) is.2) (ap (λ (x : View). x.queue) is.2) tt
+step_has v w (refused limit error) body is has = stays v w body (ap (λ (x : View). x.stage) is.2) (ap (λ (x : View). x.queue) is.2) has
 
 pub run_feeds : (v w : View) (steps : List Step) (body : CameBody) → IsRun v steps w → HasBody body v.stage v.queue → HasBody (body_after body steps) w.stage w.queue
 run_feeds v w [] body is has = stays v w body (ap (λ (x : View). x.stage) is) (ap (λ (x : View). x.queue) is) has
@@ -311,6 +317,11 @@ step_bound v w (failed_read came event) trace stands noted is b = absurd noted
 step_bound v w (failed_fed bytes) trace stands noted is b = absurd noted
 step_bound v w (failed_sent piece) trace stands noted is b = absurd noted
 step_bound v w asked_to_drain trace stands noted is b = to_queue v w v.queue (ap (λ (x : View). x.line.state.settings) is) (ap (λ (x : View). x.queue) is) b
+step_bound v w (asked_to_hold upgrades expects) trace stands noted is b = to_queue v w v.queue (ap (λ (x : View). x.line.state.settings) is) (ap (λ (x : View). x.queue) is) b
+step_bound v w declined trace stands noted is b = to_queue v w v.queue (ap (λ (x : View). x.line.state.settings) is) (ap (λ (x : View). x.queue) is) b
+step_bound v w let_on trace stands noted is b = to_queue v w v.queue (ap (λ (x : View). x.line.state.settings) is) (ap (λ (x : View). x.queue) is) b
+step_bound v w (turned_away request answer) trace stands noted is b = to_queue v w v.queue (ap (λ (x : View). x.line.state.settings) is.2) (ap (λ (x : View). x.queue) is.2) b
+step_bound v w (refused limit error) trace stands noted is b = to_queue v w v.queue is.1.settings (ap (λ (x : View). x.queue) is.2) b
 
 pub run_bound : (v w : View) (steps : List Step) (trace : List sums.Step) → LineStands v.line trace → AllNoted steps → IsRun v steps w → HasQueueBound v → HasQueueBound w
 run_bound v w [] trace stands noted is b = to_queue v w v.queue (ap (λ (x : View). x.line.state.settings) is) (ap (λ (x : View). x.queue) is) b

@@ -13,7 +13,7 @@ use Rattle.h1_connection.specs.Meaning.{setting_of}
 use Rattle.h1_connection.specs.Steps.{Pair}
 use Rattle.h1_line.specs.Line.{LineView, SaysNoted, LineStands}
 use Rattle.h1_dispatch.specs.View.{View}
-use Rattle.h1_dispatch.specs.Steps.{Step, Lacked, IsStep, IsRun, ticked, drained, written, read, shut, next, closed, continued, ready, called, answered, pulled, paused, dropped, replied, sent, failed, failed_write, failed_read, failed_fed, failed_sent, asked_to_drain}
+use Rattle.h1_dispatch.specs.Steps.{Step, Lacked, IsStep, IsRun, ticked, drained, written, read, shut, next, closed, continued, ready, called, answered, pulled, paused, dropped, replied, sent, failed, failed_write, failed_read, failed_fed, failed_sent, asked_to_drain, asked_to_hold, declined, let_on, turned_away, refused}
 use Rattle.h1_dispatch.specs.Traces.{IsNoted, AllNoted, NotesTrace}
 use Rattle.h1_dispatch.proofs.Traces.{run_follows}
 
@@ -65,6 +65,11 @@ lack_notes v w dropped trace lacks is stands = absurd (lacks tt)
 lack_notes v w (replied answer) trace lacks is stands = absurd (lacks tt)
 lack_notes v w (sent piece) trace lacks is stands = absurd (lacks tt)
 lack_notes v w asked_to_drain trace lacks is stands = absurd (lacks tt)
+lack_notes v w (asked_to_hold upgrades expects) trace lacks is stands = absurd (lacks tt)
+lack_notes v w declined trace lacks is stands = absurd (lacks tt)
+lack_notes v w let_on trace lacks is stands = absurd (lacks tt)
+lack_notes v w (turned_away request answer) trace lacks is stands = absurd (lacks tt)
+lack_notes v w (refused limit error) trace lacks is stands = absurd (lacks tt)
 
 pub run_notes : (v u w : View) (steps : List Step) (step : Step) (trace : List sums.Step) → LineStands v.line trace → AllNoted steps → IsRun v steps u → ¬ IsNoted step → IsStep u step w
     → NotesTrace (setting_of u.line.state.settings) w.line.noted trace

@@ -1,12 +1,16 @@
 pub mod Replies
 pub mod Drops
+pub mod Held
+pub mod Undecided
 pub mod Runs
 pub mod Turns
 pub mod Moves
 pub mod Begins
 pub mod Traces
+pub mod Results
 pub mod Orders
 pub mod Acts
+pub mod Unheld
 pub mod Open
 pub mod Told
 pub mod Bodies

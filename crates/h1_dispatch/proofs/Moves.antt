@@ -34,7 +34,7 @@ use Rattle.h1_dispatch.specs.declared.dispatcher.Ending.TheVariants.{Broken}
 use Rattle.h1_dispatch.specs.declared.dispatcher.Work.{Work}
 use Rattle.h1_dispatch.specs.declared.dispatcher.Work.TheVariants.{Replying}
 use Rattle.h1_dispatch.specs.View.{View, Answer, free, calling, replying, sending, is_busy, allows_chunk, allows, allows_next, has_write_room, allows_answer, any_answer, awaits_body, room}
-use Rattle.h1_dispatch.specs.Steps.{IsStep, Took, Wants, fed_with, pulled, paused, failed_fed, IsOfRead, Polls, replied, Sent, Lacked, queue_at, request_at, stage_at, ending_told, stage_answered, stage_replied, stage_sent, sent, failed_sent, read, next, answered, failed_read}
+use Rattle.h1_dispatch.specs.Steps.{IsStep, Took, Wants, fed_with, pulled, paused, failed_fed, IsOfRead, Polls, replied, Sent, Lacked, queue_at, holding_at, checking_at, request_at, stage_at, ending_told, stage_answered, stage_replied, stage_sent, sent, failed_sent, read, next, answered, failed_read}
 use Rattle.h1_dispatch.proofs.Turns.{now_free, both_true}
 
 -- whether an answer is allowed doesn't depend on it
@@ -59,16 +59,18 @@ polled v w took more answer running allowed calls says takes bound same =
     record { running = running; allowed = allowed; took = took; calls = calls; says = says; more = more; takes = takes; bound = bound; same = same }
 
 pub asked_next : (v w : View) (head : NextHead) → v.ending ≡ None → is_busy v.stage ≡ false → allows_next v ≡ true → has_write_room v ≡ true → LineSteps v.line on.next (SaysNext head) w.line
-    → w.line.state.settings ≡ v.line.state.settings → w ≡ record v { line = w.line; queue = w.queue; stage = w.stage; ending = w.ending }
-    → w.queue ≡ queue_at head v.queue → w.stage ≡ stage_at (request_at head) → w.ending ≡ ending_told head → IsStep v (next head) w
-asked_next v w head running idle allowed some steps settings same fresh stage ends = (
+    → w.line.state.settings ≡ v.line.state.settings → w ≡ record v { line = w.line; queue = w.queue; stage = w.stage; ending = w.ending; holding = w.holding; checking = w.checking }
+    → w.queue ≡ queue_at head v.queue → w.stage ≡ stage_at (request_at head) → w.ending ≡ ending_told head → w.holding ≡ holding_at head v → w.checking ≡ checking_at head v → IsStep v (next head) w
+asked_next v w head running idle allowed some steps settings same fresh stage ends holds checks = (
   running,
   now_free v.stage idle,
   both_true (allows_next v) (has_write_room v) allowed some,
   record { steps = steps; settings = settings },
-  same ∙ ap (λ x. record v { line = w.line; queue = x; stage = w.stage; ending = w.ending }) fresh
-      ∙ ap (λ x. record v { line = w.line; queue = queue_at head v.queue; stage = x; ending = w.ending }) stage
-      ∙ ap (λ x. record v { line = w.line; queue = queue_at head v.queue; stage = stage_at (request_at head); ending = x }) ends,
+  same ∙ ap (λ x. record v { line = w.line; queue = x; stage = w.stage; ending = w.ending; holding = w.holding; checking = w.checking }) fresh
+      ∙ ap (λ x. record v { line = w.line; queue = queue_at head v.queue; stage = x; ending = w.ending; holding = w.holding; checking = w.checking }) stage
+      ∙ ap (λ x. record v { line = w.line; queue = queue_at head v.queue; stage = stage_at (request_at head); ending = x; holding = w.holding; checking = w.checking }) ends
+      ∙ ap (λ x. record v { line = w.line; queue = queue_at head v.queue; stage = stage_at (request_at head); ending = ending_told head; holding = x; checking = w.checking }) holds
+      ∙ ap (λ x. record v { line = w.line; queue = queue_at head v.queue; stage = stage_at (request_at head); ending = ending_told head; holding = holding_at head v; checking = x }) checks,
 )
 
 -- whether a piece is allowed doesn't depend on it, and where one is, the body may end or fail

@@ -39,9 +39,10 @@ use Rattle.h1_connection.specs.declared.connection.heads.NextHead.{NextHead}
 use Rattle.h1_connection.specs.declared.connection.heads.NextHead.TheVariants as next_head
 use Rattle.h1_line.specs.Line.{LineView, LineStands}
 use Rattle.h1_dispatch.specs.View.{View, is_awaiting, allows, allows_answer, awaits_body}
-use Rattle.h1_dispatch.specs.Steps.{Step, Goes, Wrote, Took, Sent, IsStep, IsRun, error_of, ticked, drained, written, read, shut, next, closed, continued, ready, called, answered, pulled, paused, dropped, replied, sent, failed, failed_write, failed_read, failed_fed, failed_sent, asked_to_drain}
+use Rattle.h1_dispatch.specs.Steps.{Step, Goes, Wrote, Took, Sent, IsStep, IsRun, error_of, ticked, drained, written, read, shut, next, closed, continued, ready, called, answered, pulled, paused, dropped, replied, sent, failed, failed_write, failed_read, failed_fed, failed_sent, asked_to_drain, asked_to_hold, declined, let_on, turned_away, refused}
 use Rattle.h1_dispatch.specs.Traces.{IsNoted, AllNoted}
 use Rattle.h1_dispatch.specs.Feeds.{CameBody, with_piece, body_at, step_body, body_after}
+use Rattle.h1_dispatch.proofs.Held.{refused_keeps}
 
 -- ---- whether a pull has told the end or the fault of the last request's body
 
@@ -396,6 +397,15 @@ step_once v w (failed_read came event) body noted is o = absurd noted
 step_once v w (failed_fed bytes) body noted is o = absurd noted
 step_once v w (failed_sent piece) body noted is o = absurd noted
 step_once v w asked_to_drain body noted is o = still v w body.faults (ap (λ (x : View). x.line) is) o
+step_once v w (asked_to_hold upgrades expects) body noted is o = still v w body.faults (ap (λ (x : View). x.line) is) o
+step_once v w declined body noted is o = still v w body.faults (ap (λ (x : View). x.line) is) o
+step_once v w let_on body noted is o = still v w body.faults (ap (λ (x : View). x.line) is) o
+step_once v w (turned_away request answer) body noted is o = still v w body.faults (ap (λ (x : View). x.line) is.2) o
+step_once v w (refused limit error) body noted is o =
+    let set = setting_of v.line.state.settings in
+    let k = v.line.state.kept in
+    went v w body.faults body.faults (on.accept limit) (Is (on.refused error)) is.1
+    (λ out says m. done_on body.faults k.exchange m.change.kept.exchange (ap (λ (x : Kept). is_done x.exchange) (refused_keeps set k w.line.state.kept limit error out says m)) o.once) o
 
 run_once : (v w : View) (steps : List Step) (body : CameBody) → AllNoted steps → IsRun v steps w → Once body.faults v → Once (body_after body steps).faults w
 run_once v w [] body noted is o = still v w body.faults (ap (λ (x : View). x.line) is) o

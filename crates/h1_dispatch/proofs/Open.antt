@@ -40,10 +40,11 @@ use Rattle.h1_connection.specs.declared.connection.heads.NextHead.TheVariants as
 use Rattle.h1_line.specs.Line.{LineView, LineStands}
 use Rattle.h1_line.proofs.Lines.{fresh_line, says_none, says_empty}
 use Rattle.h1_dispatch.specs.View.{View, Asking, Answer, Stage, waiting, calling, replying, sending as goes_out, is_unanswered as is_unanswered_at, is_sending, any_answer, view_begun}
-use Rattle.h1_dispatch.specs.Steps.{Step, Goes, Wrote, Took, IsStep, IsRun, request_at, stage_at, stage_asked, stage_answered, stage_replied, stage_sent, Sent, ticked, drained, written, read, shut, next, closed, continued, ready, called, answered, pulled, paused, dropped, replied, sent, failed, failed_write, failed_read, failed_fed, failed_sent, asked_to_drain}
+use Rattle.h1_dispatch.specs.Steps.{Step, Goes, Wrote, Took, IsStep, IsRun, request_at, stage_at, stage_asked, stage_answered, stage_replied, stage_sent, Sent, ticked, drained, written, read, shut, next, closed, continued, ready, called, answered, pulled, paused, dropped, replied, sent, failed, failed_write, failed_read, failed_fed, failed_sent, asked_to_drain, asked_to_hold, declined, let_on, turned_away, refused}
 use Rattle.h1_dispatch.specs.Traces.{IsNoted, AllNoted}
 use Rattle.h1_dispatch.specs.Open.{IsTied, StaysTied}
 use Rattle.h1_dispatch.proofs.Pulls.{pull_frames}
+use Rattle.h1_dispatch.proofs.Held.{refused_keeps}
 
 -- ---- whether the last request is open and has no answer, and whether the body of its answer goes out
 
@@ -361,6 +362,15 @@ step_ties v w (failed_read came event) noted is t = absurd noted
 step_ties v w (failed_fed bytes) noted is t = absurd noted
 step_ties v w (failed_sent piece) noted is t = absurd noted
 step_ties v w asked_to_drain noted is t = still v w (ap (λ (x : View). x.line) is) (ap (λ (x : View). asks_at x.stage) is) t
+step_ties v w (asked_to_hold upgrades expects) noted is t = still v w (ap (λ (x : View). x.line) is) (ap (λ (x : View). asks_at x.stage) is) t
+step_ties v w declined noted is t = still v w (ap (λ (x : View). x.line) is) (ap (λ (x : View). asks_at x.stage) is) t
+step_ties v w let_on noted is t = still v w (ap (λ (x : View). x.line) is) (ap (λ (x : View). asks_at x.stage) is) t
+step_ties v w (turned_away request answer) noted is t =
+    still v w (ap (λ (x : View). x.line) is.2) (both_busy v w (waiting request) (replying answer) is.1 (ap (λ (x : View). x.stage) is.2) refl refl) t
+step_ties v w (refused limit error) noted is t =
+    went v w (on.accept limit) (Is (on.refused error)) is.1
+    (λ out says m was. ap (λ (x : Kept). asks x.exchange) (refused_keeps (setting_of v.line.state.settings) v.line.state.kept w.line.state.kept limit error out says m)
+    ∙ was ∙ ap (λ (x : View). asks_at x.stage) (sym is.2)) t
 
 run_ties : (v w : View) (steps : List Step) → AllNoted steps → IsRun v steps w → IsTied v → IsTied w
 run_ties v w [] noted is t = subst IsTied (sym is) t

@@ -12,8 +12,9 @@ use Rattle.http_services.specs.Lent.{Took}
 use Rattle.http_services.specs.Serving.{Serving}
 use Rattle.h1_connection.specs.declared.connection.heads.NextHead.{NextHead}
 use Rattle.h1_dispatch.specs.View.{View, Asking, Answer, Stage, free, waiting, calling, replying, sending}
-use Rattle.h1_dispatch.specs.Steps.{Step, IsStep, IsRun, request_at, stage_at, stage_asked, stage_answered, stage_replied, stage_sent, ticked, drained, written, read, shut, next, closed, continued, ready, called, answered, pulled, paused, dropped, replied, sent, failed, failed_write, failed_read, failed_fed, failed_sent, asked_to_drain}
-use Rattle.h1_dispatch.specs.Order.{waits_in, reply_in, calls_in, step_requests, step_calls, step_left, step_answers, step_replies, requests, calls, left, answers, replies, KeepsOrder}
+use Rattle.h1_dispatch.specs.Steps.{Step, IsStep, IsRun, request_at, stage_at, stage_asked, stage_answered, stage_replied, stage_sent, ticked, drained, written, read, shut, next, closed, continued, ready, called, answered, pulled, paused, dropped, replied, sent, failed, failed_write, failed_read, failed_fed, failed_sent, asked_to_drain, asked_to_hold, declined, let_on, turned_away, refused}
+use Rattle.h1_dispatch.specs.Order.{waits_in, reply_in, calls_in, step_requests, step_calls, step_left, step_answers, step_results, step_replies, requests, calls, left, answers, results, replies, KeepsOrder}
+use Rattle.h1_dispatch.proofs.Results.{same_results, step_results_grow}
 
 -- what one step keeps
 record Keeps (v : View) (d : Step) (w : View) : Type 0 where
@@ -120,6 +121,11 @@ step_keeps v w (failed_fed bytes) is = apart v w _ refl refl refl refl refl (ap 
 step_keeps v w (failed_sent piece) is =
     by_stage v w (failed_sent piece) (sending is.1.body) (sending is.0) is.1.goes_out (ap (λ (x : View). x.stage) is.3) refl refl refl (same_calls v w (ap (λ (x : View). x.service) is.3))
 step_keeps v w asked_to_drain is = apart v w _ refl refl refl refl refl (ap (λ (x : View). x.stage) is) (ap (λ (x : View). x.service) is)
+step_keeps v w (asked_to_hold upgrades expects) is = apart v w _ refl refl refl refl refl (ap (λ (x : View). x.stage) is) (ap (λ (x : View). x.service) is)
+step_keeps v w declined is = apart v w _ refl refl refl refl refl (ap (λ (x : View). x.stage) is) (ap (λ (x : View). x.service) is)
+step_keeps v w let_on is = apart v w _ refl refl refl refl refl (ap (λ (x : View). x.stage) is) (ap (λ (x : View). x.service) is)
+step_keeps v w (turned_away request answer) is = by_stage v w (turned_away request answer) (waiting request) (replying answer) is.1 (ap (λ (x : View). x.stage) is.2) refl refl refl (same_calls v w (ap (λ (x : View). x.service) is.2))
+step_keeps v w (refused limit error) is = apart v w _ refl refl refl refl refl (ap (λ (x : View). x.stage) is.2) (ap (λ (x : View). x.service) is.2)
 
 -- what came in front goes out in front
 queued : {A : Type 0} (a b c in_first in_rest out_first out_rest : List A) → a ++ in_first ≡ out_first ++ b → b ++ in_rest ≡ out_rest ++ c
@@ -134,12 +140,14 @@ counted : {A B : Type 0} (a b c : ℕ) (in_first in_rest : List A) (out_first ou
 counted a b c in_first in_rest out_first out_rest first then =
     omega (arith, length-append in_first in_rest, length-append out_first out_rest, first, then)
 
-keeps_on : (v u w : View) (d : Step) (steps : List Step) → Keeps v d u → KeepsOrder u steps w → KeepsOrder v (d ∷ steps) w
-keeps_on v u w d steps first then = record {
+keeps_on : (v u w : View) (d : Step) (steps : List Step) → Keeps v d u → Grows v.service.answered u.service.answered (step_results d) → KeepsOrder u steps w
+    → KeepsOrder v (d ∷ steps) w
+keeps_on v u w d steps first given then = record {
   waits = queued (waits_in v.stage) (waits_in u.stage) (waits_in w.stage) (step_requests d) (requests steps) (step_left d) (left steps) first.waits then.waits;
   each = counted (calls_in v.stage) (calls_in u.stage) (calls_in w.stage) (step_left d) (left steps) (step_answers d) (answers steps) first.each then.each;
   replied = queued (reply_in v.stage) (reply_in u.stage) (reply_in w.stage) (step_answers d) (answers steps) (step_replies d) (replies steps) first.replied_so then.replied;
   called = grown (step_calls d) (calls steps) _ _ _ first.called_so then.called;
+  answered = grown (step_results d) (results steps) _ _ _ given then.answered;
 }
 
 none_left : (v w : View) → w ≡ v → KeepsOrder v [] w
@@ -148,8 +156,9 @@ none_left v w is = record {
   each = no_more (calls_in v.stage) 0 refl ∙ ap (λ (x : View). 0 + calls_in x.stage) (sym is);
   replied = append-nil (reply_in v.stage) ∙ ap (λ (x : View). reply_in x.stage) (sym is);
   called = same_calls v w (ap (λ (x : View). x.service) is);
+  answered = same_results v w (ap (λ (x : View). x.service) is);
 }
 
 pub run_keeps : (v w : View) (steps : List Step) → IsRun v steps w → KeepsOrder v steps w
 run_keeps v w [] is = none_left v w is
-run_keeps v w (d ∷ steps) is = keeps_on v is.0 w d steps (step_keeps v is.0 d is.1) (run_keeps is.0 w steps is.2)
+run_keeps v w (d ∷ steps) is = keeps_on v is.0 w d steps (step_keeps v is.0 d is.1) (step_results_grow v is.0 d is.1) (run_keeps is.0 w steps is.2)

@@ -9,7 +9,7 @@ use Rattle.http_framing.specs.declared.body.size.BodySize.TheVariants.{None as N
 use Rattle.http_bodies.specs.Giving.{Giving, Piece}
 use Rattle.http_services.specs.Lent.{Took}
 use Rattle.h1_dispatch.specs.View.{View, Asking, Answer, Stage, is_replying}
-use Rattle.h1_dispatch.specs.Steps.{Step, IsStep, IsRun, stage_at, stage_asked, stage_answered, stage_replied, stage_sent, request_at, ticked, drained, written, read, shut, next, closed, continued, ready, called, answered, pulled, paused, dropped, replied, sent, failed, failed_write, failed_read, failed_fed, failed_sent, asked_to_drain}
+use Rattle.h1_dispatch.specs.Steps.{Step, IsStep, IsRun, stage_at, stage_asked, stage_answered, stage_replied, stage_sent, request_at, ticked, drained, written, read, shut, next, closed, continued, ready, called, answered, pulled, paused, dropped, replied, sent, failed, failed_write, failed_read, failed_fed, failed_sent, asked_to_drain, asked_to_hold, declined, let_on, turned_away, refused}
 use Rattle.h1_dispatch.specs.Replies.{HasNoReply}
 use Rattle.h1_dispatch.specs.Polls.{IsPending, Continues}
 
@@ -17,6 +17,7 @@ use Rattle.h1_dispatch.specs.Polls.{IsPending, Continues}
 abbrev pub BringsNone : Step → Type 0
 BringsNone (ready request answer) = IsPending answer
 BringsNone (answered answer) = IsPending answer
+BringsNone (turned_away request answer) = ⊥
 BringsNone d = ⊤
 
 -- and a turn goes on after it
@@ -51,6 +52,11 @@ quiet_goes (failed_read came event) is = is
 quiet_goes (failed_fed bytes) is = is
 quiet_goes (failed_sent piece) is = is
 quiet_goes asked_to_drain is = is
+quiet_goes (asked_to_hold upgrades expects) is = is
+quiet_goes declined is = is
+quiet_goes let_on is = is
+quiet_goes (turned_away request answer) is = is
+quiet_goes (refused limit error) is = is
 
 pub quiet_brings : (d : Step) → Quiet d → BringsNone d
 quiet_brings (ticked moment expiry) is = tt
@@ -75,6 +81,11 @@ quiet_brings (failed_read came event) is = tt
 quiet_brings (failed_fed bytes) is = tt
 quiet_brings (failed_sent piece) is = tt
 quiet_brings asked_to_drain is = tt
+quiet_brings (asked_to_hold upgrades expects) is = tt
+quiet_brings declined is = tt
+quiet_brings let_on is = tt
+quiet_brings (turned_away request answer) is = absurd is
+quiet_brings (refused limit error) is = tt
 
 -- ---- the stages that a step leaves
 
@@ -128,6 +139,11 @@ step_hands v w (failed_read came event) brings is none = now v w v.stage (ap (λ
 step_hands v w (failed_fed bytes) brings is none = now v w v.stage (ap (λ (x : View). x.stage) is.2) none
 step_hands v w (failed_sent piece) brings is none = now v w _ (ap (λ (x : View). x.stage) is.3) refl
 step_hands v w asked_to_drain brings is none = now v w v.stage (ap (λ (x : View). x.stage) is) none
+step_hands v w (asked_to_hold upgrades expects) brings is none = now v w v.stage (ap (λ (x : View). x.stage) is) none
+step_hands v w declined brings is none = now v w v.stage (ap (λ (x : View). x.stage) is) none
+step_hands v w let_on brings is none = now v w v.stage (ap (λ (x : View). x.stage) is) none
+step_hands v w (turned_away request answer) brings is none = absurd brings
+step_hands v w (refused limit error) brings is none = now v w v.stage (ap (λ (x : View). x.stage) is.2) none
 
 pub run_hands : (v w : View) (steps : List Step) → AllQuiet steps → IsRun v steps w → HasNoReply v → HasNoReply w
 run_hands v w [] all is none = ap (λ (x : View). is_replying x.stage) is ∙ none

@@ -5,7 +5,7 @@ use Rattle.http_types.specs.declared.error.DispatchError.{DispatchError}
 use Rattle.http_types.specs.declared.error.DispatchError.TheVariants as error
 use Rattle.h1_dispatch.specs.declared.dispatcher.Ending.TheVariants.{Broken}
 use Rattle.h1_dispatch.specs.View.{View}
-use Rattle.h1_dispatch.specs.Steps.{Step, IsStep, IsRun, ticked, drained, written, read, shut, next, closed, continued, ready, called, answered, pulled, paused, dropped, replied, sent, failed, failed_write, failed_read, failed_fed, failed_sent, asked_to_drain}
+use Rattle.h1_dispatch.specs.Steps.{Step, IsStep, IsRun, ticked, drained, written, read, shut, next, closed, continued, ready, called, answered, pulled, paused, dropped, replied, sent, failed, failed_write, failed_read, failed_fed, failed_sent, asked_to_drain, asked_to_hold, declined, let_on, turned_away, refused}
 use Rattle.h1_dispatch.specs.Replies.{HandsOn}
 use Rattle.h1_dispatch.specs.Traces.{IsNoted, AllNoted}
 use Rattle.h1_dispatch.specs.Polls.{Continues, AllContinue, EndsWith, IsShut, IsIo, IsOutOfMemory, Ended, counts, progress, GoesOn, Ends}
@@ -96,6 +96,11 @@ goes_noted (failed_read came event) goes = absurd goes
 goes_noted (failed_fed bytes) goes = absurd goes
 goes_noted (failed_sent piece) goes = absurd goes
 goes_noted asked_to_drain goes = tt
+goes_noted (asked_to_hold upgrades expects) goes = tt
+goes_noted declined goes = tt
+goes_noted let_on goes = tt
+goes_noted (turned_away request answer) goes = tt
+goes_noted (refused limit error) goes = tt
 
 pub all_noted : (steps : List Step) → AllContinue steps → AllNoted steps
 all_noted [] all = tt

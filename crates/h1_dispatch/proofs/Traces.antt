@@ -32,7 +32,7 @@ use Rattle.h1_connection.specs.declared.connection.ticks.Expiry.{Expiry}
 use Rattle.h1_connection.specs.declared.connection.ticks.Expiry.TheVariants as expiries
 use Rattle.h1_line.specs.Line.{LineView, LineStands}
 use Rattle.h1_dispatch.specs.View.{View, buffered, room}
-use Rattle.h1_dispatch.specs.Steps.{Step, Goes, Wrote, Took, Sent, IsStep, IsRun, request_at, ticked, drained, written as wrote, read, shut, next, closed, continued, ready, called, answered, pulled, paused, dropped, replied, sent, failed, failed_write, failed_read, failed_fed, failed_sent, asked_to_drain}
+use Rattle.h1_dispatch.specs.Steps.{Step, Goes, Wrote, Took, Sent, IsStep, IsRun, request_at, ticked, drained, written as wrote, read, shut, next, closed, continued, ready, called, answered, pulled, paused, dropped, replied, sent, failed, failed_write, failed_read, failed_fed, failed_sent, asked_to_drain, asked_to_hold, declined, let_on, turned_away, refused}
 use Rattle.h1_dispatch.specs.Traces.{IsNoted, AllNoted, of_answer, answers_in, piece_hands, step_hands, hands, of_request, requests_in, Came, heads_of, pieces_of, step_came, came, AreCame, Follows, AreTraces}
 
 -- ---- sums
@@ -281,6 +281,13 @@ step_follows v w (failed_read came event) noted is = absurd noted
 step_follows v w (failed_fed bytes) noted is = absurd noted
 step_follows v w (failed_sent piece) noted is = absurd noted
 step_follows v w asked_to_drain noted is = wire_same v w (ap (λ (x : View). x.line) is) (ap (λ (x : View). x.wire) is)
+step_follows v w (asked_to_hold upgrades expects) noted is = wire_same v w (ap (λ (x : View). x.line) is) (ap (λ (x : View). x.wire) is)
+step_follows v w declined noted is = wire_same v w (ap (λ (x : View). x.line) is) (ap (λ (x : View). x.wire) is)
+step_follows v w let_on noted is = wire_same v w (ap (λ (x : View). x.line) is) (ap (λ (x : View). x.wire) is)
+step_follows v w (turned_away request answer) noted is = wire_same v w (ap (λ (x : View). x.line) is.2) (ap (λ (x : View). x.wire) is.2)
+step_follows v w (refused limit error) noted is =
+    went v w (on.accept limit) [] (Is (on.refused error)) is.1
+    (λ out says machine. quiet v w (on.accept limit) out (ap (λ (x : View). x.wire) is.2) (ap (λ o. step_taken (on.accept limit) o) says) (ap step_written says) (ap of_request says))
 
 follows_on : (v u w : View) (first then : List on.Event) (asks later : List Came) → By v first asks u → By u then later w → By v (first ++ then) (asks ++ later) w
 follows_on v u w first then asks later a b = λ trace stands.

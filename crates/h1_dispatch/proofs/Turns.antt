@@ -24,9 +24,9 @@ use Rattle.http_types.specs.declared.error.DispatchError.{DispatchError}
 use Rattle.h1_dispatch.specs.declared.dispatcher.Ending.TheVariants.{Closed}
 use Rattle.h1_dispatch.specs.declared.dispatcher.Turn.{Turn}
 use Rattle.h1_dispatch.specs.declared.dispatcher.Turn.TheVariants.{Counted, Idle, Over}
-use Rattle.h1_dispatch.specs.View.{View, Asking, Stage, free, waiting, calling, replying, sending, is_busy, is_waiting, is_calling, is_awaiting, is_sending, allows_chunk, closes, allows, allows_next, has_write_room, asks_next, allows_answer, awaits_body, buffered, HasNoByte, HasNoOutput, HasNoInput}
+use Rattle.h1_dispatch.specs.View.{View, Asking, Stage, free, waiting, calling, replying, sending, is_busy, is_waiting, is_calling, is_awaiting, is_sending, allows_chunk, closes, allows, allows_next, has_write_room, asks_next, allows_answer, is_held, awaits_body, buffered, HasNoByte, HasNoOutput, HasNoInput}
 use Rattle.h1_dispatch.specs.Steps.{Step, IsStep, written, shut, next, ready, called, answered, sent}
-use Rattle.h1_dispatch.specs.Polls.{Continues, IsShut, Ended, result_of, counts, Awaits, Looks, Sends, Serves, Feeds, IsHeld, GoesOn, Ends, WritesFirst, TurnSays, ServeSays, AfterSays, EndSays, StepSays, Handed, ReadingSays, FeedingSays, TurnsSay}
+use Rattle.h1_dispatch.specs.Polls.{Continues, IsShut, Ended, result_of, counts, Asks, Awaits, Looks, Sends, Serves, Feeds, IsHeld, GoesOn, Ends, WritesFirst, TurnSays, ServeSays, AfterSays, EndSays, StepSays, Handed, ReadingSays, FeedingSays, TurnsSay}
 use Rattle.h1_dispatch.proofs.Replies.{Quiet, step_hands}
 use Rattle.h1_dispatch.proofs.Runs.{one, run_on, all_on, progress_on, ended_on, hands_on, goes_by, ends_by, goes_after, ends_after, more_goes, more_ends}
 
@@ -192,7 +192,7 @@ fed_then v w Idle waits says =
 fed_then v w (Over result) waits says = more_ends v w result 2 4 (omega arith) says
 
 -- none comes, or nobody wants it
-pub unfed_then : (v w : View) (turn : Turn) → (awaits_body v ≡ false) ⊎ (status_of v.queue ≡ status.Dropped) → ReadingSays v w turn → FeedingSays v w turn
+pub unfed_then : (v w : View) (turn : Turn) → (awaits_body v ≡ false) ⊎ ((status_of v.queue ≡ status.Dropped) ⊎ (is_held v ≡ true)) → ReadingSays v w turn → FeedingSays v w turn
 unfed_then v w Counted none says = more_goes v w 1 1 2 (omega arith) says
 unfed_then v w Idle none says =
     record { feeding = []; fed = v; feeds = refl; reading = says.reading; reads = says.reads; no_body = inr (inr (refl, none)); no_input = says.no_input }
@@ -204,6 +204,10 @@ waited_then v u w d Counted is goes waits says = goes_after v u w 0 1 1 (omega a
 waited_then v u w d Idle is goes waits says =
     record { feeding = d ∷ []; fed = u; feeds = one v u d is; reading = says.reading; reads = says.reads; no_body = waits; no_input = says.no_input }
 waited_then v u w d (Over result) is goes waits says = ends_after v u w 0 result 1 1 2 (omega arith) (goes_by 1 (omega arith) v u d 0 is goes (omega arith)) says
+
+-- nothing of a request that is held back is asked for
+pub held_then : (v w : View) (turn : Turn) → is_held v ≡ true → Serves v (is_sending v.stage) (allows_answer v) [] → ReadingSays v w turn → ServeSays 4 v w turn
+held_then v w turn held waits says = fed_then v w turn waits (unfed_then v w turn (inr (inr held)) says)
 
 -- ---- how far the last request is
 
@@ -251,7 +255,7 @@ now_calling (sending body) is = absurd (cc is)
 
 -- ---- what was pending
 
-serves_by : (v : View) (sends allows : Bool) (served : List Step) → sends ≡ false → allows ≡ true → Awaits v.stage (has_write_room v) served → Serves v sends allows served
+serves_by : (v : View) (sends allows : Bool) (served : List Step) → sends ≡ false → allows ≡ true → Awaits v.stage (is_held v) (has_write_room v) served → Serves v sends allows served
 serves_by v false true served unsent is waits = waits
 serves_by v false false served unsent is waits = absurd (cc is)
 serves_by v true allows served unsent is waits = absurd (cc unsent)
@@ -272,21 +276,29 @@ pub waits_room : (v : View) → is_sending v.stage ≡ true → allows_chunk v �
 waits_room v goes_out full = sends_by v (is_sending v.stage) (allows_answer v) _ goes_out (subst (λ b. Sends b []) (sym full) refl)
 
 pub waits_call : (v : View) (took : Option Took) → allows_answer v ≡ true → v.stage ≡ calling took → Serves v (is_sending v.stage) (allows_answer v) (answered Pending ∷ [])
-waits_call v took allowed is = serves_by v (is_sending v.stage) (allows_answer v) _ (ap is_sending is) allowed (subst (λ s. Awaits s (has_write_room v) (answered Pending ∷ [])) (sym is) refl)
+waits_call v took allowed is = serves_by v (is_sending v.stage) (allows_answer v) _ (ap is_sending is) allowed (subst (λ s. Awaits s (is_held v) (has_write_room v) (answered Pending ∷ [])) (sym is) refl)
 
-pub waits_ready : (v : View) (request : Asking) → allows_answer v ≡ true → has_write_room v ≡ true → v.stage ≡ waiting request → Serves v (is_sending v.stage) (allows_answer v) (ready request Pending ∷ [])
-waits_ready v request allowed some is =
+pub waits_ready : (v : View) (request : Asking) → allows_answer v ≡ true → has_write_room v ≡ true → is_held v ≡ false → v.stage ≡ waiting request → Serves v (is_sending v.stage) (allows_answer v) (ready request Pending ∷ [])
+waits_ready v request allowed some unheld is =
     serves_by v (is_sending v.stage) (allows_answer v) _ (ap is_sending is) allowed
-    (subst (λ s. Awaits s (has_write_room v) (ready request Pending ∷ [])) (sym is) (subst (λ b. Awaits (waiting request) b (ready request Pending ∷ [])) (sym some) (inl refl)))
+    (subst (λ s. Awaits s (is_held v) (has_write_room v) (ready request Pending ∷ [])) (sym is)
+    (subst (λ h. Asks h (has_write_room v) request (ready request Pending ∷ [])) (sym unheld) (subst (λ b. Asks false b request (ready request Pending ∷ [])) (sym some) (inl refl))))
 
 -- and where there is no room for its answer
-pub waits_crowded : (v : View) (request : Asking) → allows_answer v ≡ true → has_write_room v ≡ false → v.stage ≡ waiting request → Serves v (is_sending v.stage) (allows_answer v) []
-waits_crowded v request allowed full is =
+pub waits_crowded : (v : View) (request : Asking) → allows_answer v ≡ true → has_write_room v ≡ false → is_held v ≡ false → v.stage ≡ waiting request → Serves v (is_sending v.stage) (allows_answer v) []
+waits_crowded v request allowed full unheld is =
     serves_by v (is_sending v.stage) (allows_answer v) _ (ap is_sending is) allowed
-    (subst (λ s. Awaits s (has_write_room v) []) (sym is) (subst (λ b. Awaits (waiting request) b []) (sym full) refl))
+    (subst (λ s. Awaits s (is_held v) (has_write_room v) []) (sym is)
+    (subst (λ h. Asks h (has_write_room v) request []) (sym unheld) (subst (λ b. Asks false b request []) (sym full) refl)))
+
+-- and where it is held back
+pub waits_held : (v : View) (request : Asking) → allows_answer v ≡ true → is_held v ≡ true → v.stage ≡ waiting request → Serves v (is_sending v.stage) (allows_answer v) []
+waits_held v request allowed held is =
+    serves_by v (is_sending v.stage) (allows_answer v) _ (ap is_sending is) allowed
+    (subst (λ s. Awaits s (is_held v) (has_write_room v) []) (sym is) (subst (λ h. Asks h (has_write_room v) request []) (sym held) refl))
 
 pub waits_none : (v : View) → allows_answer v ≡ true → v.stage ≡ free → Serves v (is_sending v.stage) (allows_answer v) []
-waits_none v allowed is = serves_by v (is_sending v.stage) (allows_answer v) _ (ap is_sending is) allowed (subst (λ s. Awaits s (has_write_room v) []) (sym is) refl)
+waits_none v allowed is = serves_by v (is_sending v.stage) (allows_answer v) _ (ap is_sending is) allowed (subst (λ s. Awaits s (is_held v) (has_write_room v) []) (sym is) refl)
 
 pub both_true : (a b : Bool) → a ≡ true → b ≡ true → (a && b) ≡ true
 both_true a b is so = ap (λ x. x && b) is ∙ so
@@ -347,18 +359,20 @@ waits_busy v unsent off busy = looks_by v (is_sending v.stage) (allows_answer v)
 -- a call was begun, and polled at once
 called_awaits : (u : View) (sends allows : Bool) (served : List Step) (took : Option Took) → sends ≡ false → allows ≡ true → u.stage ≡ calling took → Serves u sends allows served
     → served ≡ answered Pending ∷ []
-called_awaits u false true served took unsent is now waits = subst (λ s. Awaits s (has_write_room u) served) now waits
+called_awaits u false true served took unsent is now waits = subst (λ s. Awaits s (is_held u) (has_write_room u) served) now waits
 called_awaits u false false served took unsent is now waits = absurd (cc is)
 called_awaits u true allows served took unsent is now waits = absurd (cc unsent)
 
-awaits_called : (s : Stage) (room : Bool) (request : Asking) (served : List Step) → s ≡ waiting request → room ≡ true → served ≡ answered Pending ∷ [] → Awaits s room (called request ∷ served)
-awaits_called s room request served is some so =
-    subst (λ x. Awaits x room (called request ∷ served)) (sym is) (subst (λ b. Awaits (waiting request) b (called request ∷ served)) (sym some) (inr (ap (λ l. called request ∷ l) so)))
+awaits_called : (s : Stage) (held room : Bool) (request : Asking) (served : List Step) → s ≡ waiting request → held ≡ false → room ≡ true → served ≡ answered Pending ∷ []
+    → Awaits s held room (called request ∷ served)
+awaits_called s held room request served is unheld some so =
+    subst (λ x. Awaits x held room (called request ∷ served)) (sym is)
+    (subst (λ h. Asks h room request (called request ∷ served)) (sym unheld) (subst (λ b. Asks false b request (called request ∷ served)) (sym some) (inr (ap (λ l. called request ∷ l) so))))
 
-pub called_then : (v u w : View) (request : Asking) (took : Option Took) (turn : Turn) → IsStep v (called request) u → allows_answer v ≡ true → has_write_room v ≡ true → allows_answer u ≡ true
+pub called_then : (v u w : View) (request : Asking) (took : Option Took) (turn : Turn) → IsStep v (called request) u → allows_answer v ≡ true → has_write_room v ≡ true → is_held v ≡ false → allows_answer u ≡ true
     → v.stage ≡ waiting request → u.stage ≡ calling took → ServeSays 3 u w turn → ServeSays 4 v w turn
-called_then v u w request took Counted is may some allowed waits now says = goes_after v u w 0 1 1 (omega arith) 1 3 4 (omega arith) (goes_by 1 (omega arith) v u (called request) 0 is tt (omega arith)) says
-called_then v u w request took Idle is may some allowed waits now says =
+called_then v u w request took Counted is may some unheld allowed waits now says = goes_after v u w 0 1 1 (omega arith) 1 3 4 (omega arith) (goes_by 1 (omega arith) v u (called request) 0 is tt (omega arith)) says
+called_then v u w request took Idle is may some unheld allowed waits now says =
     record {
       served = called request ∷ says.served;
       between = says.between;
@@ -369,11 +383,11 @@ called_then v u w request took Idle is may some allowed waits now says =
       reading = says.reading;
       reads = says.reads;
       waits = serves_by v (is_sending v.stage) (allows_answer v) (called request ∷ says.served) (ap is_sending waits) may
-          (awaits_called v.stage (has_write_room v) request says.served waits some (called_awaits u (is_sending u.stage) (allows_answer u) says.served took (ap is_sending now) allowed now says.waits));
+          (awaits_called v.stage (is_held v) (has_write_room v) request says.served waits unheld some (called_awaits u (is_sending u.stage) (allows_answer u) says.served took (ap is_sending now) allowed now says.waits));
       no_body = says.no_body;
       no_input = says.no_input;
     }
-called_then v u w request took (Over result) is may some allowed waits now says = ends_after v u w 0 result 1 3 4 (omega arith) (goes_by 1 (omega arith) v u (called request) 0 is tt (omega arith)) says
+called_then v u w request took (Over result) is may some unheld allowed waits now says = ends_after v u w 0 result 1 3 4 (omega arith) (goes_by 1 (omega arith) v u (called request) 0 is tt (omega arith)) says
 
 -- ---- after the writing
 

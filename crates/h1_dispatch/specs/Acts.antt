@@ -10,6 +10,7 @@ use Rattle.h1_dispatch.specs.View.{View, with_drain}
 use Rattle.h1_dispatch.specs.Steps.{Step, IsRun}
 use Rattle.h1_dispatch.specs.Replies.{HandsOn}
 use Rattle.h1_dispatch.specs.Polls.{PollSays}
+use Rattle.h1_dispatch.specs.Upgrades.{DecidesNone}
 use Rattle.h1_dispatch.specs.Traces.{AllNoted}
 
 -- a poll at this moment, which left the task so and answered this; or it was asked to drain
@@ -36,9 +37,11 @@ abbrev pub AllHaveMemory : List Act → Type 0
 AllHaveMemory acts = AllByRecursion HasMemory acts
 
 -- All of them are one run of steps. Memory runs out in none of these, unless a poll answered so. Nor is an answer of the
--- service left at hand that wasn't handed on, unless a poll answered so, or one was at hand before.
+-- service left at hand that wasn't handed on, unless a poll answered so, or one was at hand before. In none of these steps
+-- requests are asked to be held back, or is anything decided about one that is.
 pub record AreOneRun (v : View) (acts : List Act) (w : View) : Type 0 where
   pub steps : List Step
   pub run : IsRun v steps w
   pub noted : AllHaveMemory acts → AllNoted steps
   pub handed : AllHaveMemory acts → HandsOn v w
+  pub undecided : AllByRecursion DecidesNone steps

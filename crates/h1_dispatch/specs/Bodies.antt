@@ -5,7 +5,7 @@ use Rattle.futures.specs.declared.task.Poll.TheVariants.{Ready, Pending}
 use Rattle.http_bodies.specs.Giving.{Given, Giving, Piece, gave}
 use Rattle.http_bodies.specs.Told.{Tells, led_by}
 use Rattle.h1_dispatch.specs.View.{View, Stage, free, waiting, calling, replying, sending, closes}
-use Rattle.h1_dispatch.specs.Steps.{Step, ticked, drained, written, shut, closed, replied, sent, failed_sent, asked_to_drain}
+use Rattle.h1_dispatch.specs.Steps.{Step, ticked, drained, written, shut, closed, replied, sent, failed_sent, asked_to_drain, asked_to_hold, declined, let_on}
 
 -- what a body gave in this step
 abbrev pub step_pieces : Step → List Given
@@ -59,7 +59,7 @@ SendsBody (replying answer) steps w = pieces steps ≡ []
 SendsBody (sending body) steps w = GoesOut body.coming steps w
 
 -- what is left to a connection that closes: a moment comes, or the drain; what waits is written, its end is told, and the
--- wire is shut down
+-- wire is shut down; requests may be held back from then on, or none
 abbrev pub IsOfEnd : Step → Type 0
 IsOfEnd (ticked moment expiry) = ⊤
 IsOfEnd drained = ⊤
@@ -67,6 +67,9 @@ IsOfEnd (written answer) = ⊤
 IsOfEnd (shut answer) = ⊤
 IsOfEnd (closed end) = ⊤
 IsOfEnd asked_to_drain = ⊤
+IsOfEnd (asked_to_hold upgrades expects) = ⊤
+IsOfEnd declined = ⊤
+IsOfEnd let_on = ⊤
 IsOfEnd step = ⊥
 
 -- The connection closes, and each of the steps is one of its end: no byte is read, no request is begun or answered, and no

@@ -5,6 +5,7 @@ pub mod Polls
 pub mod Traces
 pub mod Order
 pub mod Acts
+pub mod Upgrades
 pub mod Open
 pub mod Bodies
 pub mod Feeds

@@ -24,8 +24,8 @@ use Rattle.h1_connection.specs.declared.event.End.TheVariants as ends
 use Rattle.h1_dispatch.specs.declared.dispatcher.Ending.TheVariants.{Closed, Abandoned, Broken}
 use Rattle.h1_dispatch.specs.declared.dispatcher.Turn.{Turn}
 use Rattle.h1_dispatch.specs.declared.dispatcher.Turn.TheVariants.{Counted, Idle, Over}
-use Rattle.h1_dispatch.specs.View.{View, Stage, free, waiting, calling, replying, sending, is_sending, is_broken, closes, allows, allows_next, has_write_room, asks_next, allows_answer, awaits_body, allows_chunk, HasNoByte, HasNoOutput, HasNoInput}
-use Rattle.h1_dispatch.specs.Steps.{Step, IsStep, IsRun, ticked, drained, written, read, shut, next, closed, continued, ready, called, answered, pulled, paused, dropped, replied, sent, failed, failed_write, failed_read, failed_fed, failed_sent, asked_to_drain}
+use Rattle.h1_dispatch.specs.View.{View, Asking, Stage, free, waiting, calling, replying, sending, is_sending, is_broken, closes, allows, allows_next, has_write_room, asks_next, allows_answer, is_held, awaits_body, allows_chunk, HasNoByte, HasNoOutput, HasNoInput}
+use Rattle.h1_dispatch.specs.Steps.{Step, IsStep, IsRun, ticked, drained, written, read, shut, next, closed, continued, ready, called, answered, pulled, paused, dropped, replied, sent, failed, failed_write, failed_read, failed_fed, failed_sent, asked_to_drain, asked_to_hold, declined, let_on, turned_away, refused}
 use Rattle.h1_dispatch.specs.Replies.{HasNoReply, HandsOn}
 
 -- ---- steps
@@ -65,6 +65,11 @@ Continues (failed_read came event) = ⊥
 Continues (failed_fed bytes) = ⊥
 Continues (failed_sent piece) = ⊥
 Continues asked_to_drain = ⊥
+Continues (asked_to_hold upgrades expects) = ⊥
+Continues declined = ⊥
+Continues let_on = ⊥
+Continues (turned_away request answer) = ⊥
+Continues (refused limit error) = ⊥
 
 -- it goes on after each of these steps
 abbrev pub AllContinue : List Step → Type 0
@@ -172,15 +177,20 @@ Ended w steps (Err error.InternalError) = ⊥
 
 -- ---- waiting
 
--- the open request may be answered: its call was pending, or the service was, or there is no room for its answer until more
--- is written
-abbrev pub Awaits : Stage → Bool → List Step → Type 0
-Awaits free room served = served ≡ []
-Awaits (waiting request) true served = (served ≡ ready request Pending ∷ []) ⊎ (served ≡ called request ∷ answered Pending ∷ [])
-Awaits (waiting request) false served = served ≡ []
-Awaits (calling took) room served = served ≡ answered Pending ∷ []
-Awaits (replying answer) room served = ⊥
-Awaits (sending body) room served = ⊥
+-- a request waits for the service: that was pending, or the call of it, or there is no room for its answer until more is
+-- written, or the request is held back
+abbrev pub Asks : Bool → Bool → Asking → List Step → Type 0
+Asks true room request served = served ≡ []
+Asks false true request served = (served ≡ ready request Pending ∷ []) ⊎ (served ≡ called request ∷ answered Pending ∷ [])
+Asks false false request served = served ≡ []
+
+-- the open request may be answered: it waits, or its call was pending
+abbrev pub Awaits : Stage → Bool → Bool → List Step → Type 0
+Awaits free held room served = served ≡ []
+Awaits (waiting request) held room served = Asks held room request served
+Awaits (calling took) held room served = served ≡ answered Pending ∷ []
+Awaits (replying answer) held room served = ⊥
+Awaits (sending body) held room served = ⊥
 
 -- no request may be answered: no head was there, or no byte of one is, or none may be asked for, or there is no room for its
 -- answer until more is written
@@ -200,15 +210,15 @@ Sends false served = served ≡ []
 -- the body, or else the service and the connection wait, from this view on
 abbrev pub Serves : View → Bool → Bool → List Step → Type 0
 Serves v true allows served = Sends (allows_chunk v) served
-Serves v false true served = Awaits v.stage (has_write_room v) served
+Serves v false true served = Awaits v.stage (is_held v) (has_write_room v) served
 Serves v false false served = Looks v (asks_next v) v.stage served
 
 -- then more of the open request's body: nothing more was there, or its queue wants no more for now and is waited for; or its
--- body is done with, or the service has dropped it
+-- body is done with, or the service has dropped it, or the request is held back
 abbrev pub Feeds : View → List Step → Type 0
 Feeds u feeding =
     (feeding ≡ pulled pieces.Pending ∷ [])
-    ⊎ ((feeding ≡ paused ∷ []) ⊎ ((feeding ≡ []) × ((awaits_body u ≡ false) ⊎ (status_of u.queue ≡ status.Dropped))))
+    ⊎ ((feeding ≡ paused ∷ []) ⊎ ((feeding ≡ []) × ((awaits_body u ≡ false) ⊎ ((status_of u.queue ≡ status.Dropped) ⊎ (is_held u ≡ true)))))
 
 -- the wire had no bytes, or none may be read
 abbrev pub Reads : View → List Step → Type 0

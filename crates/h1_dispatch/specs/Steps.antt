@@ -26,6 +26,7 @@ use Rattle.h1_payload.specs.declared.pulled.Pulled.TheVariants as pieces
 use Rattle.http_wires.specs.Wiring.{ReadSays, WriteSays, ShutSays, moved}
 use Rattle.h1_codec.specs.Meaning.{answer_of, size_of}
 use Rattle.h1_model.specs.Event as on
+use Rattle.h1_model.specs.Handshake.{HandshakeError}
 use Rattle.h1_machine.specs.Local.{closing_by}
 use Rattle.h1_connection.specs.Heads.{SaysNext}
 use Rattle.h1_connection.specs.Meaning.{setting_of, end_of}
@@ -39,7 +40,7 @@ use Rattle.h1_connection.specs.declared.event.End.{End}
 use Rattle.h1_line.specs.Line.{LineView, LineSteps, LineFails}
 use Rattle.h1_dispatch.specs.declared.dispatcher.Ending.{Ending}
 use Rattle.h1_dispatch.specs.declared.dispatcher.Ending.TheVariants.{Closed, Abandoned, Broken}
-use Rattle.h1_dispatch.specs.View.{View, Asking, Answer, Stage, free, waiting, calling, replying, sending, is_waiting, is_replying, awaits_body, with_drain, closes, allows, allows_next, has_write_room, asks_next, allows_answer, allows_chunk, buffered, room}
+use Rattle.h1_dispatch.specs.View.{View, Asking, Answer, Stage, free, waiting, calling, replying, sending, is_waiting, is_replying, awaits_body, with_drain, with_holds, with_release, with_leave, closes, allows, allows_next, has_write_room, asks_next, allows_answer, is_held, is_checked, may_refuse, may_accept, allows_chunk, buffered, room}
 
 -- A step. A moment came; the drain came; the wire was given what waits to be written; it was asked for bytes, and these
 -- came; it was shut down; the next head was asked for; the connection closes, and told its end; the client of the request
@@ -47,7 +48,10 @@ use Rattle.h1_dispatch.specs.View.{View, Asking, Answer, Stage, free, waiting, c
 -- and the call was begun; a call was polled; more of a request's body was asked for, and what came was fed to its queue; the
 -- queue wants no more for now; the rest of a body was dropped; the answer was handed on; its body was polled, and what came
 -- was handed on. Or memory ran out: for an event, for that of bytes which the wire had moved, for bytes that came of a
--- request's body, or for what came of an answer's. Or it was asked to drain, which no poll does.
+-- request's body, or for what came of an answer's. Or what no poll does: it was asked to drain; to hold requests back which
+-- ask for an upgrade, or whose clients wait to be told to go on, or none of these; the upgrade of the request that is held back
+-- was declined; its client may go on; or the request was turned away, with this answer; or its upgrade was to be accepted, with
+-- this limit, and failed this check, so that it is held back still.
 pub data Step : Type 0 where
   ticked : (moment : ℕ) → (expiry : Expiry) → Step
   drained : Step
@@ -71,6 +75,11 @@ pub data Step : Type 0 where
   failed_fed : (bytes : List ℕ) → Step
   failed_sent : (piece : Piece) → Step
   asked_to_drain : Step
+  asked_to_hold : (upgrades expects : Bool) → Step
+  declined : Step
+  let_on : Step
+  turned_away : (request : Asking) → (answer : Answer) → Step
+  refused : (limit : ℕ) → (error : HandshakeError) → Step
 
 -- the event came to the connection, was noted, and had such an outcome; its settings stay
 pub record Goes (old : LineView) (event : on.Event) (Says : on.Outcome → Type 0) (new : LineView) : Type 0 where
@@ -144,6 +153,20 @@ pub record IsAnswered (v : View) (answer : Poll (Result Answer Answer)) (w : Vie
   pub bound : LentBound (lent_of v.queue) (lent_of w.queue)
   pub same : w ≡ record v { service = w.service; queue = w.queue; stage = stage_answered more answer }
 
+-- whether the request is held back that came with the next head, if it asks for an upgrade, or if its client waits to be told
+-- to go on
+abbrev pub holding_at : NextHead → View → Bool
+holding_at (next_head.Head item) v = v.upgrades
+holding_at (next_head.Fault fault) v = v.holding
+holding_at next_head.Pending v = v.holding
+holding_at (next_head.Closed end) v = v.holding
+
+abbrev pub checking_at : NextHead → View → Bool
+checking_at (next_head.Head item) v = v.expects
+checking_at (next_head.Fault fault) v = v.checking
+checking_at next_head.Pending v = v.checking
+checking_at (next_head.Closed end) v = v.checking
+
 -- the queue of a request's body is made anew with its head, and its end is fed where there is no body
 abbrev pub is_bodyless : BodyKind → Bool
 is_bodyless Bodyless = true
@@ -171,10 +194,11 @@ fed_with (pieces.Broken fault) q = fed_error (error_of fault) q
 fed_with pieces.Pending q = q
 
 -- More of the open request's body is asked for only where its queue wants it: fewer than 32768 bytes wait there beyond those
--- that were put back, and the service hasn't dropped it.
+-- that were put back, and the service hasn't dropped it. Nothing is asked for of a request that is held back.
 pub record Wants (v : View) : Type 0 where
   pub running : v.ending ≡ None
   pub awaits : awaits_body v ≡ true
+  pub unheld : is_held v ≡ false
   pub wanted : status_of v.queue ≡ status.Read
   pub low : queues.waiting v.queue.chunks < 32768 + v.queue.put_back
 
@@ -221,16 +245,17 @@ pub record Begins (old new : Serving Asking Answer Answer) (request : Asking) : 
   pub is_ready : ReadySays old between (Ready (Ok tt))
   pub begun : CallSays between new request
 
--- the client of the request that waits is told to go on, where there is room for the answer
+-- the client of the request that waits is told to go on, where there is room for the answer, and where it isn't held back
 abbrev pub TellsOn : View → Type 0
-TellsOn v = (v.ending ≡ None) × (is_waiting v.stage ≡ true) × (has_write_room v ≡ true)
+TellsOn v = (v.ending ≡ None) × (is_waiting v.stage ≡ true) × (has_write_room v ≡ true) × (is_checked v ≡ false)
 
 -- the service is asked, with the request that waits, where the open request may be answered, which it may not while the
--- connection closes, where there is room for the answer, and where its client doesn't wait to be told to go on
+-- connection closes, where there is room for the answer, where its client doesn't wait to be told to go on, and where it
+-- isn't held back
 abbrev pub IsAsked : View → Asking → Type 0
 IsAsked v request =
     (v.ending ≡ None) × (v.stage ≡ waiting request) × (allows_answer v ≡ true) × (has_write_room v ≡ true)
-    × (allows v on.send_continue ≡ false)
+    × (allows v on.send_continue ≡ false) × (is_held v ≡ false)
 
 -- an answer is handed on once what is left of its request's body was dropped, wherever it may be dropped
 abbrev pub MayReply : View → Type 0
@@ -272,7 +297,7 @@ IsStep v (shut answer) w =
     ((end : End) × (v.ending ≡ Some (Closed end))) × ShutSays v.wire w.wire answer × (w ≡ record v { wire = w.wire })
 IsStep v (next head) w =
     (v.ending ≡ None) × (v.stage ≡ free) × (asks_next v ≡ true) × Goes v.line on.next (SaysNext head) w.line
-    × (w ≡ record v { line = w.line; queue = queue_at head v.queue; stage = stage_at (request_at head); ending = ending_told head })
+    × (w ≡ record v { line = w.line; queue = queue_at head v.queue; stage = stage_at (request_at head); ending = ending_told head; holding = holding_at head v; checking = checking_at head v })
 IsStep v (closed end) w =
     (v.ending ≡ None) × (closing_by (setting_of v.line.state.settings) v.line.state.kept ≡ Some (end_of end))
     × (allows_next v ≡ true) × ((head : NextHead) × Goes v.line on.next (SaysNext head) w.line)
@@ -316,6 +341,14 @@ IsStep v (failed_sent piece) w =
     (left : Giving) × Polls v left piece × Lacked v.line w.line piece
     × (w ≡ record v { line = w.line; stage = sending left; ending = Some Broken })
 IsStep v asked_to_drain w = w ≡ with_drain v
+IsStep v (asked_to_hold upgrades expects) w = w ≡ with_holds upgrades expects v
+IsStep v declined w = w ≡ with_release v
+IsStep v let_on w = w ≡ with_leave v
+IsStep v (turned_away request answer) w =
+    (may_refuse v ≡ true) × (v.stage ≡ waiting request) × (w ≡ record v { stage = replying answer })
+IsStep v (refused limit error) w =
+    (may_accept v limit ≡ true) × Goes v.line (on.accept limit) (Is (on.refused error)) w.line
+    × (w ≡ record v { line = w.line })
 
 -- one step after another
 abbrev pub IsRun : View → List Step → View → Type 0

@@ -1,5 +1,5 @@
 -- What a dispatcher keeps, and what is known of what it stands on.
-use Rattle.std.specs.Prelude.{◌≡◌, ◌<◌, ◌-◌, ◌⊎◌, ◌&&◌, ℕ, Bool, true, false, Option, Some, None, is_some, option_map, List, [], map, length, ⊤, Result, Ok, Err}
+use Rattle.std.specs.Prelude.{◌≡◌, ◌<◌, ◌-◌, ◌⊎◌, ◌&&◌, ◌||◌, not, ℕ, Bool, true, false, Option, Some, None, is_some, option_map, List, [], map, length, ⊤, Result, Ok, Err}
 use Rattle.http_config.specs.Config.{Settings}
 use Rattle.http_types.specs.Request.{RequestParts}
 use Rattle.http_types.specs.Response.{FullResponse}
@@ -113,7 +113,9 @@ stage_of calls gives (Replying response) = replying (told_response gives respons
 stage_of calls gives (Sending body) = sending (gives body)
 
 -- The connection with the steps that were noted; the wire; the service; the queue of the last request's body; how far that
--- request is; how the connection has ended; and that it is to be drained.
+-- request is; how the connection has ended; that it is to be drained; that requests which ask for an upgrade are to be held
+-- back, and those whose clients wait to be told to go on; and that the last request is, if it asks for the one or waits for the
+-- other.
 pub record View : Type 0 where
   pub line : LineView
   pub wire : Wiring
@@ -122,6 +124,10 @@ pub record View : Type 0 where
   pub stage : Stage
   pub ending : Option Ending
   pub draining : Bool
+  pub upgrades : Bool
+  pub expects : Bool
+  pub holding : Bool
+  pub checking : Bool
 
 abbrev pub view_of : {T S C L B : Type 0} → (T → Wiring) → (S → Serving Asking (FullResponse B) (FullResponse B)) → (C → Calling Asking) → (B → Giving) → (L → Option (List Pair)) → Dispatcher T S C L B → View
 view_of wiring served calls gives noted d =
@@ -133,6 +139,10 @@ view_of wiring served calls gives noted d =
       stage = stage_of calls gives d.work;
       ending = d.ending;
       draining = d.is_draining;
+      upgrades = d.upgrades;
+      expects = d.expects;
+      holding = d.is_holding;
+      checking = d.is_checking;
     }
 
 -- a new dispatcher over this wire and this service
@@ -146,11 +156,28 @@ view_begun wire service settings noted =
       stage = free;
       ending = None;
       draining = false;
+      upgrades = false;
+      expects = false;
+      holding = false;
+      checking = false;
     }
 
 -- the same, to be drained
 abbrev pub with_drain : View → View
 with_drain v = record v { draining = true }
+
+-- the same, and the next requests that ask for an upgrade are to be held back, or aren't; and those whose clients wait to be
+-- told to go on
+abbrev pub with_holds : Bool → Bool → View → View
+with_holds upgrades expects v = record v { upgrades = upgrades; expects = expects }
+
+-- the same, and the last request isn't held back for its upgrade
+abbrev pub with_release : View → View
+with_release v = record v { holding = false }
+
+-- nor for its client, which may go on
+abbrev pub with_leave : View → View
+with_leave v = record v { checking = false }
 
 -- the wire, the service and the recorder
 abbrev pub parts_of : {T S C L B : Type 0} → Dispatcher T S C L B → T × S × L
@@ -205,6 +232,30 @@ any_answer =
 
 abbrev pub allows_answer : View → Bool
 allows_answer v = allows v any_answer
+
+-- the client of the request that waits is held back: it waits to be told to go on, and who polls says whether it is
+abbrev pub is_checked : View → Bool
+is_checked v = is_waiting v.stage && (v.checking && allows v on.send_continue)
+
+-- the request that waits is held back, for its client or since it asks for an upgrade: the service isn't asked with it
+abbrev pub is_held : View → Bool
+is_held v = is_waiting v.stage && ((v.checking && allows v on.send_continue) || (v.holding && allows v (on.accept 0)))
+
+-- the request that is held back may be turned away with an answer: the connection hasn't ended, and there is room for one
+abbrev pub may_refuse : View → Bool
+may_refuse v = not (is_some v.ending) && (is_held v && (allows v any_answer && has_room (setting_of v.line.state.settings) v.line.state.kept))
+
+-- and so is its client, which may go on
+abbrev pub is_expecting : View → Bool
+is_expecting v = is_checked v && may_refuse v
+
+-- the request may be accepted, or declined: the connection hasn't ended, and its client doesn't wait to be told to go on
+abbrev pub is_offered : View → Bool
+is_offered v = not (is_some v.ending) && ((is_waiting v.stage && (v.holding && allows v (on.accept 0))) && not (allows v on.send_continue))
+
+-- it may be accepted with this limit
+abbrev pub may_accept : View → ℕ → Bool
+may_accept v limit = is_offered v && allows v (on.accept limit)
 
 -- more of the open request's body may come: the request waits for its answer, and its body isn't done with
 abbrev pub awaits_body : View → Bool

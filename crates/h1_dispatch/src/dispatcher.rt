@@ -4,7 +4,7 @@ ghost use Rattle.h1_machine.specs.Deadline.{deadline_by};
 ghost use Rattle.h1_connection.specs.Meaning.{setting_of};
 ghost use Rattle.h1_line.specs.Line.{LineStands};
 ghost use Rattle.http_services.specs.Serving.{Calling};
-ghost use Rattle.h1_dispatch.specs.View.{Asking, view_of, view_begun, with_drain, parts_of, told_service, stage_of, is_busy, is_sending, MayBePolled};
+ghost use Rattle.h1_dispatch.specs.View.{Asking, view_of, view_begun, with_drain, parts_of, told_service, stage_of, is_busy, is_waiting, is_sending, MayBePolled};
 
 use h1_connection::End;
 use h1_line::{Line, Recorder};
@@ -17,13 +17,17 @@ use std::alloc::Global;
 
 mod answer;
 mod begin;
+mod check;
 mod feed;
 mod poll;
 mod read;
 mod send;
 mod serve;
 mod turns;
+mod upgrade;
 mod write;
+
+pub use upgrade::{Accepting, Upgraded};
 
 /// How a connection has ended: nothing more is asked of it.
 #[derive(Clone, Copy, Debug, PartialEq, Eq)]
@@ -71,6 +75,19 @@ impl<C, B: MessageBody> Work<C, B> {
         }
     }
 
+    /// Whether the request waits for the service.
+    fn is_waiting(&self) -> bool
+        ensures { (calls : C → Calling Asking) → result ≡ is_waiting (stage_of calls B.gives self.now) }
+    {
+        match self {
+            Work::Free => false,
+            Work::Waiting(_) => true,
+            Work::Calling(_) => false,
+            Work::Replying(_) => false,
+            Work::Sending(_) => false,
+        }
+    }
+
     /// Whether the answer's body goes out.
     fn is_sending(&self) -> bool
         ensures { (calls : C → Calling Asking) → result ≡ is_sending (stage_of calls B.gives self.now) }
@@ -101,6 +118,10 @@ pub struct Dispatcher<T, S, C, L, B = ()> {
     work: Work<C, B>,
     ending: Option<Ending>,
     is_draining: bool,
+    upgrades: bool,
+    expects: bool,
+    is_holding: bool,
+    is_checking: bool,
     has_filled_read: bool,
 }
 
@@ -132,6 +153,10 @@ where
             work: Work::Free,
             ending: None,
             is_draining: false,
+            upgrades: false,
+            expects: false,
+            is_holding: false,
+            is_checking: false,
             has_filled_read: false,
         }
     }

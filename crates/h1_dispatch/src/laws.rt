@@ -1,5 +1,6 @@
 //! What the steps of every run are together.
 ghost use Rattle.std.specs.Prelude.{◌≡◌, ◌≤◌, ℕ, true, false, List, Option, Some, None, [], ◌∷◌, length, Result, Err};
+ghost use Rattle.std.specs.List.{AllByRecursion};
 ghost use Rattle.futures.specs.declared.task.Poll.TheVariants.{Ready};
 ghost use Rattle.futures.specs.declared.task.context.Context.{Context};
 ghost use Rattle.http_config.specs.Config.{Settings};
@@ -26,6 +27,7 @@ ghost use Rattle.h1_dispatch.specs.Open.{IsTied, StaysTied};
 ghost use Rattle.h1_dispatch.specs.Traces.{IsNoted, AllNoted, AreTraces, NotesTrace};
 ghost use Rattle.h1_dispatch.specs.Acts.{Act, ActsSay, AreOneRun};
 ghost use Rattle.h1_dispatch.specs.Causes.{HasCause};
+ghost use Rattle.h1_dispatch.specs.Upgrades.{HoldsNone, AsksNoHold, StaysUnheld};
 ghost use Rattle.h1_dispatch.specs.Polls.{PollSays};
 
 /// Polls one after another, with drains asked for between them, are one run of steps: the moment, the drain and the turns
@@ -117,4 +119,12 @@ pub fn runs_bound_output()
     ensures asked { (v w : View) (head : NextHead) → IsStep v (next head) w → has_write_room v ≡ true }
     ensures new { (wire : Wiring) (service : Serving Asking Answer Answer) (settings : Settings) → HasRoomForAnswer (view_begun wire service settings None) × HasRoomForAnswer (view_begun wire service settings (Some [])) }
     ensures runs { (v u w : View) (steps : List Step) (step : Step) → AllNoted steps → IsNoted step → HasRoomForAnswer v → IsRun v steps u → IsStep u step w → GrowsInRoom u step w }
+{}
+
+/// Over every run in which nobody asks that requests be held back, none is: so all that is said of requests that aren't held
+/// back holds of each. So it is over polls and drains alone. A new dispatcher holds none back.
+pub fn runs_hold_none_unasked()
+    ensures new { (wire : Wiring) (service : Serving Asking Answer Answer) (settings : Settings) (noted : Option (List Pair)) → HoldsNone (view_begun wire service settings noted) }
+    ensures runs { (v w : View) (steps : List Step) → AllByRecursion AsksNoHold steps → IsRun v steps w → HoldsNone v → StaysUnheld w }
+    ensures polls { (v w : View) (acts : List Act) → ActsSay v acts w → HoldsNone v → StaysUnheld w }
 {}

@@ -20,15 +20,19 @@
 //! Polls one after another are one run of steps ([`polls_are_one_run`]). Over every run in which memory doesn't run out, the
 //! steps that were noted are a trace of the connection, and an open request is at hand; over every run requests and answers
 //! keep their order, a body gives its pieces once and in order, and what came of a request's body goes to its call once and in
-//! order. What waits to be written, or in a queue, grows only where there is room.
+//! order. What waits to be written, or in a queue, grows only where there is room. Behind polls of which none ran out of memory
+//! no answer of the service is at hand that wasn't handed on.
+//!
+//! Requests that ask for an upgrade go to the service as all others do, or are held back for who polls
+//! ([`Dispatcher::hold_upgrades`]), who accepts one and takes over its connection and wire, or declines it.
 #![tactic(auto)]
 
 mod dispatcher;
 mod laws;
 
-pub use dispatcher::{Dispatcher, Ending};
+pub use dispatcher::{Accepting, Dispatcher, Ending, Upgraded};
 pub use laws::{
     no_head_comes_of_no_byte, polls_are_one_run, polls_end_by_their_cause, runs_are_traces,
-    runs_bound_output, runs_feed_bodies, runs_keep_order, runs_lose_no_request, runs_note_traces,
-    runs_send_bodies,
+    runs_bound_output, runs_feed_bodies, runs_hold_none_unasked, runs_keep_order,
+    runs_lose_no_request, runs_note_traces, runs_send_bodies,
 };

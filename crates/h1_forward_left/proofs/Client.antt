@@ -42,7 +42,7 @@ piece_some bytes start end x =
     omega (arith, long, made)
 
 -- one that stands for a trace makes the machine's step
-machine_step : (setting : Setting) (k next : Kept) (trace : List Step) (s : Step) → StandsFor setting k trace → StandsFor setting next (s ∷ trace)
+pub machine_step : (setting : Setting) (k next : Kept) (trace : List Step) (s : Step) → StandsFor setting k trace → StandsFor setting next (s ∷ trace)
     → IsStep setting k s.event s.outcome next
 machine_step setting k next trace s x y =
     subst₂ (λ (a b : Kept). IsStep setting a s.event s.outcome b) (sym x.parts) (sym y.parts)
@@ -164,7 +164,7 @@ third false true c d is = absurd (false≢true is)
 third true b c d is = absurd (false≢true is)
 
 module _ (setting : Setting) where
-  droppable : (k : Kept) → allowed_by setting k on.drop_body ≡ true → (is_upgraded k ≡ false) × (has_body_left k ≡ true)
+  pub droppable : (k : Kept) → allowed_by setting k on.drop_body ≡ true → (is_upgraded k ≡ false) × (has_body_left k ≡ true)
   unfolding allowed_by
   droppable k is = third k.is_over (is_some (closing_by setting k)) (is_upgraded k) (has_body_left k) is
 

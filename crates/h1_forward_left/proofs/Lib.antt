@@ -1,3 +1,5 @@
 pub mod Pulls
 pub mod Client
 pub mod Server
+pub mod Wants
+pub mod Waited

@@ -1,15 +1,17 @@
 //! What each call of a forwarder's two connections leaves to do.
-ghost use Rattle.std.specs.Prelude.{◌≡◌, ◌≤◌, ◌∷◌, true, IsTrue, List, length};
+ghost use Rattle.std.specs.Prelude.{◌≡◌, ◌≤◌, ◌∷◌, true, false, None, IsTrue, List, length};
 ghost use Rattle.h1_model.specs.Setting.{Setting};
 ghost use Rattle.h1_model.specs.Event as on;
 ghost use Rattle.h1_model.specs.Sums.{Step};
 ghost use Rattle.h1_machine.specs.Kept.{Kept};
-ghost use Rattle.h1_machine.specs.Local.{allowed_by};
+ghost use Rattle.h1_model.specs.Answer.{AnswerHead, BodySize, is_at_once};
+ghost use Rattle.h1_machine.specs.Local.{allowed_by, waits_for_answer, is_answering};
 ghost use Rattle.h1_machine.specs.StandsFor.{StandsFor};
 ghost use Rattle.h1_client_machine.specs.ClientEvent as asked;
-ghost use Rattle.h1_client_machine.specs.ClientKept.{ClientKept, client_allows};
+ghost use Rattle.h1_client_machine.specs.ClientKept.{ClientKept, client_allows, client_closing};
 ghost use Rattle.h1_client_machine.specs.ClientStep.{IsClientStep};
 ghost use Rattle.h1_client_machine.specs.ClientTrace.{Happened, IsClientTrace};
+ghost use Rattle.h1_forward_left.specs.Wants.{is_running, WantsNoMore, AnswersNothing, WantsAfterNext};
 ghost use Rattle.h1_forward_left.specs.Left.{client_left, AsksNothing, LeavesAfterNext, LeavesAfterPull, server_left, LeavesAll, LeavesAfterAnswer, LeavesAfterPiece};
 
 /// Of the client's connection: a head that is handed out leaves less, by more than a request has parts to do, and after a fault the
@@ -38,4 +40,32 @@ pub fn a_server_leaves_less()
 pub fn no_more_is_held()
     ensures client { (setting : Setting) (k : Kept) (trace : List Step) → StandsFor setting k trace → length k.unread ≤ setting.hold_size }
     ensures server { (setting : Setting) (k : ClientKept) (trace : List Happened) → IsClientTrace setting trace k → length k.unread ≤ setting.hold_size }
+{}
+
+/// Which answers the client's connection wants, while it goes on: no call but for the next head wants more; after the head of an answer
+/// no request waits for one, and where it ends at once, nothing is under way; after the end of an answer, or one that is cut, none is.
+pub fn no_more_answers_are_wanted()
+    ensures next { (setting : Setting) (k next : Kept) (trace : List Step) (o : on.Outcome) → allowed_by setting k on.next ≡ true → StandsFor setting k trace
+        → StandsFor setting next (record { event = on.next; outcome = o } ∷ trace) → WantsAfterNext setting o k next }
+    ensures pull { (setting : Setting) (k next : Kept) (trace : List Step) (o : on.Outcome) → allowed_by setting k on.drop_body ≡ true
+        → StandsFor setting k trace → StandsFor setting next (record { event = on.pull; outcome = o } ∷ trace) → WantsNoMore setting k next }
+    ensures answer { (setting : Setting) (k next : Kept) (trace : List Step) (head : AnswerHead) (size : BodySize) (o : on.Outcome) → StandsFor setting k trace
+        → StandsFor setting next (record { event = on.answer head size; outcome = o } ∷ trace)
+        → (waits_for_answer next ≡ false) × (is_at_once size ≡ true → is_answering next ≡ false) }
+    ensures end { (setting : Setting) (k next : Kept) (trace : List Step) (o : on.Outcome) → allowed_by setting k on.body_end ≡ true → StandsFor setting k trace
+        → StandsFor setting next (record { event = on.body_end; outcome = o } ∷ trace) → WantsNoMore setting k next × (is_answering next ≡ false) }
+    ensures cut { (setting : Setting) (k next : Kept) (trace : List Step) (o : on.Outcome) → StandsFor setting k trace
+        → StandsFor setting next (record { event = on.body_error; outcome = o } ∷ trace) → is_running setting next ≡ true → ⊥ }
+    ensures others { (setting : Setting) (k next : Kept) (trace : List Step) (event : on.Event) (o : on.Outcome) → AnswersNothing event
+        → allowed_by setting k event ≡ true → StandsFor setting k trace
+        → StandsFor setting next (record { event = event; outcome = o } ∷ trace) → WantsNoMore setting k next }
+{}
+
+/// Where a server's next answer isn't there yet, its connection isn't to end, and that is as it was; where no byte of an answer's body is,
+/// the server's input hasn't ended.
+pub fn a_server_is_waited_for()
+    ensures next { (setting : Setting) (k next : ClientKept) (trace : List Happened) → IsClientTrace setting trace k
+        → IsClientStep setting k asked.next asked.pending next → (next ≡ record k { is_coming = k.is_coming }) × (client_closing k ≡ None) }
+    ensures pull { (setting : Setting) (k next : ClientKept) (trace : List Happened) → IsClientTrace setting trace k
+        → IsTrue (client_allows setting k asked.pull) → IsClientStep setting k asked.pull asked.pending next → next.has_ended ≡ false }
 {}

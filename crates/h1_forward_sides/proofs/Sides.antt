@@ -18,7 +18,8 @@ use Rattle.h1_connection.specs.declared.connection.heads.NextHead.{NextHead}
 use Rattle.h1_connection.specs.declared.connection.heads.NextHead.TheVariants as next
 use Rattle.h1_client_machine.specs.ClientEvent as asked
 use Rattle.h1_client_machine.specs.ClientTrace.{Happened, IsClientTrace, now_of, sending_of, sending_after, text_of_event, given, taken_by, asked_by}
-use Rattle.h1_client_machine.specs.ClientKept.{SendingBody}
+use Rattle.h1_client_machine.specs.ClientKept.{ClientKept, SendingBody, client_allows, client_closing}
+use Rattle.h1_client_machine.specs.ClientStep.{IsClientStep}
 use Rattle.h1_client.specs.Answers as answers
 use Rattle.h1_client.specs.Bodies as bodies
 use Rattle.h1_client.specs.Meaning as asking
@@ -31,12 +32,13 @@ use Rattle.h1_connection.specs.Given.{next_allowed}
 use Rattle.h1_forward_left.specs.Left.{client_left, AsksNothing, LeavesAfterNext, LeavesAfterPull, server_left, LeavesAfterAnswer, LeavesAfterPiece}
 use Rattle.h1_forward_left.proofs.Client.{next_leaves, pull_of_client, no_more}
 use Rattle.h1_forward_left.proofs.Server.{answer_leaves, piece_leaves, all_left}
+use Rattle.h1_forward_left.proofs.Waited.{pending_stays, piece_not_ended}
 use Rattle.h1_forward_traces.specs.Happenings.{is_eof}
 use Rattle.h1_forward_traces.specs.Moves.{HasBrought, Does, DoesAsked}
 use Rattle.h1_forward_model.specs.Exchange.{pulled as all_pulled}
 use Rattle.h1_forward_traces.proofs.Quiet.{brought, quiet, stays_same, BringsNothing, nothing_more, done_brings_nothing, pending_brings_nothing}
 use Rattle.h1_forward_sides.specs.Sides.{LeavesNoMore, ClientBrings, BringsNext, BringsPulled, ServerStays}
-use Rattle.h1_forward_sides.specs.Leaves.{LeavesNext, LeavesPulled, LeavesAnswer, LeavesPiece}
+use Rattle.h1_forward_sides.specs.Leaves.{LeavesNext, LeavesPulled, IsAwaited, LacksBytes, LeavesAnswer, LeavesPiece}
 
 -- ---- the client's side
 
@@ -52,7 +54,7 @@ client_same a = record {
 }
 
 -- the connection's step, by its own settings
-stepped : (a b : State) (event : on.Event) (o out : on.Outcome) (trace : List Step) → b.settings ≡ a.settings → out ≡ o
+pub stepped : (a b : State) (event : on.Event) (o out : on.Outcome) (trace : List Step) → b.settings ≡ a.settings → out ≡ o
     → Stands b (record { event = event; outcome = out } ∷ trace) → StandsFor (setting_of a.settings) b.kept (record { event = event; outcome = o } ∷ trace)
 stepped a b event o out trace settings is stands =
     subst (λ (o : on.Outcome). StandsFor (setting_of a.settings) b.kept (record { event = event; outcome = o } ∷ trace)) is
@@ -270,11 +272,23 @@ answer_outcome a b Says o one is trace stands =
     subst (λ (o : asked.ClientOutcome). LeavesAfterAnswer o a.kept b.kept) is
     (answer_leaves (asking.setting_of a.settings) a.kept b.kept trace one.outcome stands one.step)
 
-pub answer_less : (n : NextAnswer) (a b : servers.State) → servers.GoesOn a asked.next (answers.SaysNext n) b → LeavesAnswer n a b
-answer_less (answered.Answer item) a b one = answer_outcome a b _ (asked.answer one.says.0) one one.says.2
-answer_less (answered.Fault fault) a b one = tt
-answer_less answered.Pending a b one = λ trace stands allowed. (answer_outcome a b _ asked.pending one one.says trace stands).0
-answer_less (answered.Closed end) a b one = tt
+-- where none is there yet, all is as it was
+awaited : (a b : servers.State) → servers.IsAllowed a asked.next → (one : servers.GoesOn a asked.next (servers.Is asked.pending) b)
+    → (trace : List Happened) → servers.Stands a trace → IsAwaited b
+awaited a b may one trace stands =
+    let step = subst (λ (o : asked.ClientOutcome). IsClientStep (asking.setting_of a.settings) a.kept asked.next o b.kept) one.says one.step in
+    let x = pending_stays (asking.setting_of a.settings) a.kept b.kept trace stands step in
+    record {
+      allowed = subst (λ (k : ClientKept). IsTrue (client_allows (asking.setting_of b.settings) k asked.next)) (sym x.0) may;
+      coming = (answer_outcome a b _ asked.pending one one.says trace stands).0;
+      going = ap client_closing x.0 ∙ x.1;
+    }
+
+pub answer_less : (n : NextAnswer) (a b : servers.State) → servers.IsAllowed a asked.next → servers.GoesOn a asked.next (answers.SaysNext n) b → LeavesAnswer n a b
+answer_less (answered.Answer item) a b may one = answer_outcome a b _ (asked.answer one.says.0) one one.says.2
+answer_less (answered.Fault fault) a b may one = tt
+answer_less answered.Pending a b may one = awaited a b may one
+answer_less (answered.Closed end) a b may one = tt
 
 answer_left : (n : NextAnswer) (a b : servers.State) → servers.GoesOn a asked.next (answers.SaysNext n) b → (trace : List Happened) → servers.Stands a trace
     → server_left b.kept ≤ server_left a.kept
@@ -299,7 +313,12 @@ piece_less (pulled.Bytes bytes) a b may one = piece_outcome a b _ (asked.bytes b
 piece_less (pulled.Trailers entries) a b may one = piece_outcome a b _ (asked.trailers one.says.0) may one one.says.1
 piece_less pulled.End a b may one = tt
 piece_less (pulled.Broken fault) a b may one = tt
-piece_less pulled.Pending a b may one = λ trace stands. (piece_outcome a b _ asked.pending may one one.says trace stands).0
+piece_less pulled.Pending a b may one = λ trace stands.
+    let step = subst (λ (o : asked.ClientOutcome). IsClientStep (asking.setting_of a.settings) a.kept asked.pull o b.kept) one.says one.step in
+    record {
+      unread = (piece_outcome a b _ asked.pending may one one.says trace stands).0;
+      going = piece_not_ended (asking.setting_of a.settings) a.kept b.kept trace stands may step;
+    }
 
 piece_left : (n : Pulled) (a b : servers.State) → servers.IsAllowed a asked.pull → servers.GoesOn a asked.pull (bodies.SaysPulled n) b → (trace : List Happened)
     → servers.Stands a trace → server_left b.kept ≤ server_left a.kept

@@ -1,5 +1,5 @@
 -- What the calls of the two connections leave to do, where more is asked for.
-use Rattle.std.specs.Prelude.{◌≡◌, ℕ, ◌+◌, ◌<◌, ◌≤◌, true, false, List, [], is_some, ⊤}
+use Rattle.std.specs.Prelude.{◌≡◌, ℕ, ◌+◌, ◌<◌, ◌≤◌, true, false, List, [], None, is_some, ⊤}
 use Rattle.h1_model.specs.Event as on
 use Rattle.h1_model.specs.Sums as sums
 use Rattle.h1_machine.specs.Local.{closing_by}
@@ -13,6 +13,7 @@ use Rattle.h1_client.specs.State as servers
 use Rattle.h1_client.specs.declared.event.NextAnswer.{NextAnswer}
 use Rattle.h1_client.specs.declared.event.NextAnswer.TheVariants as answered
 use Rattle.h1_client_machine.specs.ClientEvent as asked
+use Rattle.h1_client_machine.specs.ClientKept.{client_closing}
 use Rattle.h1_client_machine.specs.ClientTrace.{Happened}
 use Rattle.h1_forward_left.specs.Left.{client_left, server_left}
 
@@ -37,13 +38,24 @@ LeavesPulled pulled old new = ⊤
 
 -- ---- a server's side
 
+-- The next answer may be asked for, and isn't there; and the connection isn't to end: its input may bring it yet.
+pub record IsAwaited (s : servers.State) : Type 0 where
+  pub allowed : servers.IsAllowed s asked.next
+  pub coming : s.kept.is_coming ≡ false
+  pub going : client_closing s.kept ≡ None
+
+-- no byte of the body is there, and the input hasn't ended
+pub record LacksBytes (s : servers.State) : Type 0 where
+  pub unread : s.kept.unread ≡ []
+  pub going : s.kept.has_ended ≡ false
+
 abbrev pub LeavesAnswer : NextAnswer → servers.State → servers.State → Type 0
 LeavesAnswer (answered.Answer item) old new = (trace : List Happened) → servers.Stands old trace → server_left new.kept + 15 ≤ server_left old.kept
-LeavesAnswer answered.Pending old new = (trace : List Happened) → servers.Stands old trace → servers.IsAllowed new asked.next → new.kept.is_coming ≡ false
+LeavesAnswer answered.Pending old new = (trace : List Happened) → servers.Stands old trace → IsAwaited new
 LeavesAnswer answer old new = ⊤
 
 abbrev pub LeavesPiece : Pulled → servers.State → servers.State → Type 0
 LeavesPiece (pulled.Bytes bytes) old new = (trace : List Happened) → servers.Stands old trace → server_left new.kept + 15 ≤ server_left old.kept
 LeavesPiece (pulled.Trailers entries) old new = (trace : List Happened) → servers.Stands old trace → server_left new.kept < server_left old.kept
-LeavesPiece pulled.Pending old new = (trace : List Happened) → servers.Stands old trace → new.kept.unread ≡ []
+LeavesPiece pulled.Pending old new = (trace : List Happened) → servers.Stands old trace → LacksBytes new
 LeavesPiece pulled old new = ⊤

@@ -4,7 +4,9 @@
 ghost use Rattle.std.specs.Prelude.{IfOk, OnOk};
 ghost use Rattle.h1_model.specs.Event as on;
 ghost use Rattle.h1_forward_sides.specs.Sides.{ClientBrings, BringsNext, BringsPulled};
+ghost use Rattle.h1_codec.specs.Meaning.{size_of};
 ghost use Rattle.h1_forward_sides.specs.Leaves.{LeavesNext, LeavesPulled};
+ghost use Rattle.h1_forward_sides.specs.Wants.{Wants, WantsNoMore, WantsNext, HasHead, HasEnd};
 
 use h1_connection::{BodySize, Bytes, Connection, NextHead, NoMemory, Pulled, ResponseHead};
 
@@ -12,6 +14,7 @@ use h1_connection::{BodySize, Bytes, Connection, NextHead, NoMemory, Pulled, Res
 pub fn next_head(client: &mut Connection) -> Result<NextHead, NoMemory>
     ensures brings { IfOk result (λ next. BringsNext next client.old client.new) }
     ensures leaves { IfOk result (λ next. LeavesNext next client.old client.new) }
+    ensures wants { IfOk result (λ next. Wants (WantsNext next) client.old client.new) }
 {
     if !client.can_next() {
         return Ok(NextHead::Pending);
@@ -24,6 +27,7 @@ pub fn next_head(client: &mut Connection) -> Result<NextHead, NoMemory>
 pub fn next_bytes(client: &mut Connection) -> Result<Pulled, NoMemory>
     ensures brings { IfOk result (λ pulled. BringsPulled pulled client.old client.new) }
     ensures leaves { IfOk result (λ pulled. LeavesPulled pulled client.old client.new) }
+    ensures wants { OnOk result (Wants WantsNoMore client.old client.new) }
 {
     if !client.can_pull() {
         return Ok(Pulled::Pending);
@@ -34,7 +38,8 @@ pub fn next_bytes(client: &mut Connection) -> Result<Pulled, NoMemory>
 
 /// The rest of the request's body isn't wanted.
 pub fn leave_body(client: &mut Connection)
-    ensures { ClientBrings on.done client.old client.new }
+    ensures brings { ClientBrings on.done client.old client.new }
+    ensures wants { Wants WantsNoMore client.old client.new }
 {
     if !client.can_pull() {
         return;
@@ -44,7 +49,8 @@ pub fn leave_body(client: &mut Connection)
 
 /// Tells the client to go on, where it waits for that.
 pub fn tell_to_go_on(client: &mut Connection) -> Result<(), NoMemory>
-    ensures { OnOk result (ClientBrings on.done client.old client.new) }
+    ensures brings { OnOk result (ClientBrings on.done client.old client.new) }
+    ensures wants { OnOk result (Wants WantsNoMore client.old client.new) }
 {
     if !client.can_continue() {
         return Ok(());
@@ -59,7 +65,8 @@ pub fn put_head(
     head: &ResponseHead,
     size: BodySize,
 ) -> Result<(), NoMemory>
-    ensures { OnOk result (ClientBrings on.done client.old client.new) }
+    ensures brings { OnOk result (ClientBrings on.done client.old client.new) }
+    ensures wants { OnOk result (Wants (HasHead (size_of size)) client.old client.new) }
 {
     if !client.can_answer() {
         return Ok(());
@@ -70,7 +77,8 @@ pub fn put_head(
 
 /// A piece of its body.
 pub fn put_piece(client: &mut Connection, bytes: Bytes) -> Result<(), NoMemory>
-    ensures { OnOk result (ClientBrings on.done client.old client.new) }
+    ensures brings { OnOk result (ClientBrings on.done client.old client.new) }
+    ensures wants { OnOk result (Wants WantsNoMore client.old client.new) }
 {
     if !client.can_chunk() {
         return Ok(());
@@ -81,7 +89,8 @@ pub fn put_piece(client: &mut Connection, bytes: Bytes) -> Result<(), NoMemory>
 
 /// The end of its body.
 pub fn put_end(client: &mut Connection) -> Result<(), NoMemory>
-    ensures { OnOk result (ClientBrings on.done client.old client.new) }
+    ensures brings { OnOk result (ClientBrings on.done client.old client.new) }
+    ensures wants { OnOk result (Wants HasEnd client.old client.new) }
 {
     if !client.can_end_answer() {
         return Ok(());
@@ -92,7 +101,8 @@ pub fn put_end(client: &mut Connection) -> Result<(), NoMemory>
 
 /// Its body is cut.
 pub fn cut_reply(client: &mut Connection)
-    ensures { ClientBrings on.done client.old client.new }
+    ensures brings { ClientBrings on.done client.old client.new }
+    ensures wants { Wants HasEnd client.old client.new }
 {
     if !client.can_end_answer() {
         return;

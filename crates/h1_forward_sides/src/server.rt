@@ -7,7 +7,7 @@ ghost use Rattle.h1_client.specs.Meaning.{request_of};
 ghost use Rattle.h1_forward_sides.specs.Sides.{ServerStays, MayAsk, SendsBody};
 ghost use Rattle.h1_forward_sides.specs.Leaves.{LeavesAnswer, LeavesPiece};
 
-use h1_client::{ClientConnection, NextAnswer, Pulled};
+use h1_client::{ClientConnection, ClientEnd, NextAnswer, Pulled};
 use http_framing::BodySize;
 use http_types::{NoMemory, RequestHead};
 
@@ -47,13 +47,13 @@ pub fn sends_body(server: &ClientConnection) -> bool
     server.can_end_body()
 }
 
-/// The next answer's head.
+/// The next answer's head. One that can't be asked for, since an earlier one isn't read to its end, is none that will come.
 pub fn next_answer(server: &mut ClientConnection) -> Result<NextAnswer, NoMemory>
     ensures stays { OnOk result (ServerStays server.old server.new) }
     ensures leaves { IfOk result (λ next. LeavesAnswer next server.old server.new) }
 {
     if !server.can_next() {
-        return Ok(NextAnswer::Pending);
+        return Ok(NextAnswer::Closed(ClientEnd::BrokenAnswer));
     }
     let next = server.next()?;
     Ok(next)

@@ -146,12 +146,12 @@ new_forwards p c is =
 
 -- ---- a server connection that is wanted
 
-three_parts : (a b c : Bool) → IsTrue (a && b && c) → (a ≡ true) × (b ≡ true)
+pub three_parts : (a b c : Bool) → IsTrue (a && b && c) → (a ≡ true) × (b ≡ true)
 three_parts true true c x = (refl, refl)
 three_parts true false c x = absurd (false≢true x)
 three_parts false b c x = absurd (false≢true x)
 
-some_unsent : (u : Option Unsent) → is_some u ≡ true → (x : Unsent) × (u ≡ Some x)
+pub some_unsent : (u : Option Unsent) → is_some u ≡ true → (x : Unsent) × (u ≡ Some x)
 some_unsent (Some x) is = (x, refl)
 some_unsent None is = absurd (false≢true is)
 

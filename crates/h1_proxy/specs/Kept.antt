@@ -1,5 +1,5 @@
 -- A forwarder as its contracts see it, and how it goes on.
-use Rattle.std.specs.Prelude.{◌≡◌, ℕ, Bool, false, not, ◌&&◌, List, [], ◌∷◌, Option, Some, None, is_some, is_none, option_map, ⊤}
+use Rattle.std.specs.Prelude.{◌≡◌, ℕ, ◌-◌, Bool, false, not, ◌&&◌, ◌||◌, List, [], ◌∷◌, length, min, nat_le, if◌then◌else◌, Option, Some, None, is_some, is_none, option_map, ⊤}
 use Rattle.http_config.specs.Config.{Settings}
 use Rattle.h1_model.specs.Request.{Head, has_body}
 use Rattle.h1_model.specs.Event as on
@@ -9,7 +9,7 @@ use Rattle.h1_decode.specs.HeadItem.{SaysHead}
 use Rattle.h1_decode.specs.declared.decoder.HeadItem.{HeadItem}
 use Rattle.h1_client_model.specs.RequestText.{request_text, asked_shape, given_request_text}
 use Rattle.h1_client_machine.specs.ClientEvent as asked
-use Rattle.h1_client_machine.specs.ClientKept.{client_allows}
+use Rattle.h1_client_machine.specs.ClientKept.{client_allows, is_reusable as takes_another}
 use Rattle.h1_client.specs.Meaning as asking
 use Rattle.h1_client.specs.Meaning.{request_of}
 use Rattle.h1_client.specs.State as servers
@@ -18,6 +18,7 @@ use Rattle.h1_connection.specs.State.{State}
 use Rattle.h1_forward_model.specs.Forward.{forwarded, forwarded_size}
 use Rattle.h1_forward_model.specs.Past.{ProxyStep, ProxyEvent, ProxyOutcome}
 use Rattle.h1_forward_model.specs.Exchange.{unpulled}
+use Rattle.h1_forward_model.specs.Rests.{MAX_WAITING}
 use Rattle.h1_forward_traces.specs.Happenings.{Happenings, sent_of}
 use Rattle.h1_forward_traces.specs.Carried.{UnderWay, nothing, waits, is_sent, ForwarderKept, Carries, IsNewest}
 use Rattle.h1_proxy.specs.declared.proxy.Proxy.{Proxy}
@@ -122,3 +123,38 @@ server_allows (Some s) event = client_allows (asking.setting_of s.settings) s.ke
 -- the event is allowed on the client's connection
 abbrev pub client_takes : Proxy → on.Event → Bool
 client_takes proxy event = allowed_by (setting_of (client_of proxy).settings) (client_of proxy).kept event
+
+-- how many bytes may be taken from the client now: none while its connection is to end or its input has ended, or 32768 wait towards the
+-- server
+abbrev pub client_room : Proxy → ℕ
+client_room p =
+    if is_closing p || not (client_takes p on.eof) || nat_le MAX_WAITING (length (server_text (server_of p))) then 0
+    else p.client.settings.h1_hold_size - length p.client.kept.unread
+
+-- and from the server: none without a connection, or once its input has ended, or while 32768 wait towards the client
+abbrev pub room_of : Option servers.State → ℕ
+room_of None = 0
+room_of (Some s) = if client_allows (asking.setting_of s.settings) s.kept asked.eof then s.settings.h1_hold_size - length s.kept.unread else 0
+
+abbrev pub server_room : Proxy → ℕ
+server_room p = if nat_le MAX_WAITING (length p.client.kept.buffered) then 0 else room_of p.server
+
+-- so many of the bytes were taken as there was room for, whatever happened before
+abbrev pub TakesAll : ℕ → List ℕ → ℕ → Proxy → Type 0
+TakesAll count bytes room old = (history : List ProxyStep) (all : Happenings) → Forwards old history all → count ≡ min (length bytes) room
+
+-- the connection to a server may serve a further request, of another client too: none is under way
+abbrev pub may_serve : Option Sent → Option servers.State → Bool
+may_serve sent None = false
+may_serve sent (Some s) = is_none sent && takes_another s.kept
+
+abbrev pub is_reusable : Proxy → Bool
+is_reusable p = may_serve p.sent p.server
+
+-- the head of an answer was passed on, and its reply isn't complete
+abbrev pub was_answered : Option Sent → Bool
+was_answered None = false
+was_answered (Some s) = s.is_answered
+
+abbrev pub is_answering : Proxy → Bool
+is_answering p = was_answered p.sent

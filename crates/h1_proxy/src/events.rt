@@ -6,7 +6,9 @@ ghost use Rattle.h1_model.specs.Event as on;
 ghost use Rattle.h1_client_machine.specs.ClientEvent as asked;
 ghost use Rattle.h1_forward_model.specs.Past.{took, gave, done};
 ghost use Rattle.h1_forward_model.specs.Past as event;
-ghost use Rattle.h1_proxy.specs.Kept.{client_of, server_of, wants_server, server_text, server_allows, client_takes, Goes, GoesBy};
+ghost use Rattle.h1_proxy.specs.Rests.{Settles};
+ghost use Rattle.h1_proxy.specs.Served.{Serves, GoesOnServing};
+ghost use Rattle.h1_proxy.specs.Kept.{client_of, server_of, wants_server, server_text, server_allows, client_takes, client_room, server_room, TakesAll, Goes, GoesBy};
 
 use crate::proxy::Proxy;
 use h1_client::ClientConnection;
@@ -17,6 +19,9 @@ impl Proxy {
     /// Takes bytes that were read from the client, from the first on, and says how many: `client_room` at most.
     pub fn read_client(&mut self, bytes: &[u8]) -> Result<usize, NoMemory>
         ensures goes { IfOk result (λ count. GoesBy (event.client bytes.now) (took count) self.old self.new) }
+        ensures took { IfOk result (λ count. TakesAll count bytes.now (client_room self.old) self.old) }
+        ensures rests { OnOk result (Settles self.old self.new) }
+        ensures serves { OnOk result (Serves self.old self.new) }
     {
         let taken = self.take_from_client(bytes)?;
         self.settle()?;
@@ -25,6 +30,8 @@ impl Proxy {
 
     fn take_from_client(&mut self, bytes: &[u8]) -> Result<usize, NoMemory>
         ensures goes { IfOk result (λ count. GoesBy (event.client bytes.now) (took count) self.old self.new) }
+        ensures took { IfOk result (λ count. TakesAll count bytes.now (client_room self.old) self.old) }
+        ensures serves { OnOk result (GoesOnServing self.old self.new) }
     {
         if self.client_room() == 0 {
             return Ok(0);
@@ -39,6 +46,9 @@ impl Proxy {
     /// Takes bytes that were read from the server, from the first on, and says how many: `server_room` at most.
     pub fn read_server(&mut self, bytes: &[u8]) -> Result<usize, NoMemory>
         ensures goes { IfOk result (λ count. GoesBy (event.server bytes.now) (took count) self.old self.new) }
+        ensures took { IfOk result (λ count. TakesAll count bytes.now (server_room self.old) self.old) }
+        ensures rests { OnOk result (Settles self.old self.new) }
+        ensures serves { OnOk result (Serves self.old self.new) }
     {
         let taken = self.take_from_server(bytes)?;
         self.settle()?;
@@ -47,6 +57,8 @@ impl Proxy {
 
     fn take_from_server(&mut self, bytes: &[u8]) -> Result<usize, NoMemory>
         ensures goes { IfOk result (λ count. GoesBy (event.server bytes.now) (took count) self.old self.new) }
+        ensures took { IfOk result (λ count. TakesAll count bytes.now (server_room self.old) self.old) }
+        ensures serves { OnOk result (GoesOnServing self.old self.new) }
     {
         if self.server_room() == 0 {
             return Ok(0);
@@ -65,6 +77,8 @@ impl Proxy {
     /// The client sends no more bytes.
     pub fn client_eof(&mut self) -> Result<(), NoMemory>
         ensures goes { OnOk result (GoesBy event.client_eof done self.old self.new) }
+        ensures rests { OnOk result (Settles self.old self.new) }
+        ensures serves { OnOk result (Serves self.old self.new) }
     {
         self.end_client();
         self.settle()?;
@@ -73,6 +87,7 @@ impl Proxy {
 
     fn end_client(&mut self)
         ensures goes { GoesBy event.client_eof done self.old self.new }
+        ensures serves { GoesOnServing self.old self.new }
     {
         if !self.client.can_read() {
             return;
@@ -84,6 +99,8 @@ impl Proxy {
     pub fn server_eof(&mut self) -> Result<(), NoMemory>
         requires can_read_server { IsTrue (server_allows (server_of self.old) asked.eof) }
         ensures goes { OnOk result (GoesBy event.server_eof done self.old self.new) }
+        ensures rests { OnOk result (Settles self.old self.new) }
+        ensures serves { OnOk result (Serves self.old self.new) }
     {
         self.end_server();
         self.settle()?;
@@ -93,6 +110,7 @@ impl Proxy {
     fn end_server(&mut self)
         requires can_read_server { IsTrue (server_allows (server_of self.old) asked.eof) }
         ensures goes { GoesBy event.server_eof done self.old self.new }
+        ensures serves { GoesOnServing self.old self.new }
     {
         let Some(mut server) = self.server.take() else {
             return;
@@ -105,6 +123,8 @@ impl Proxy {
     pub fn connected(&mut self) -> Result<(), NoMemory>
         requires wants_server { IsTrue (wants_server self.old) }
         ensures goes { OnOk result (GoesBy event.connected done self.old self.new) }
+        ensures rests { OnOk result (Settles self.old self.new) }
+        ensures serves { OnOk result (Serves self.old self.new) }
     {
         self.server = Some(ClientConnection::new(self.alloc, self.config));
         self.settle()?;
@@ -115,6 +135,8 @@ impl Proxy {
     pub fn refused(&mut self) -> Result<(), NoMemory>
         requires wants_server { IsTrue (wants_server self.old) }
         ensures goes { OnOk result (GoesBy event.refused done self.old self.new) }
+        ensures rests { OnOk result (Settles self.old self.new) }
+        ensures serves { OnOk result (Serves self.old self.new) }
     {
         let unsent = self.unsent.take();
         self.sent = None;
@@ -129,6 +151,8 @@ impl Proxy {
         requires can_write_client { IsTrue (client_takes self.old (on.write count)) }
         requires fits { count ≤ length (client_of self.old).kept.buffered }
         ensures goes { OnOk result (GoesBy (event.to_client count) (gave (take count (client_of self.old).kept.buffered)) self.old self.new) }
+        ensures rests { OnOk result (Settles self.old self.new) }
+        ensures serves { OnOk result (Serves self.old self.new) }
     {
         self.client.advance(count);
         self.settle()?;
@@ -140,6 +164,8 @@ impl Proxy {
         requires can_write_server { IsTrue (server_allows (server_of self.old) (asked.write count)) }
         requires fits { count ≤ length (server_text (server_of self.old)) }
         ensures goes { OnOk result (GoesBy (event.to_server count) (gave (take count (server_text (server_of self.old)))) self.old self.new) }
+        ensures rests { OnOk result (Settles self.old self.new) }
+        ensures serves { OnOk result (Serves self.old self.new) }
     {
         self.write_server(count);
         self.settle()?;
@@ -150,6 +176,7 @@ impl Proxy {
         requires can_write_server { IsTrue (server_allows (server_of self.old) (asked.write count)) }
         requires fits { count ≤ length (server_text (server_of self.old)) }
         ensures goes { GoesBy (event.to_server count) (gave (take count (server_text (server_of self.old)))) self.old self.new }
+        ensures serves { GoesOnServing self.old self.new }
     {
         let Some(mut server) = self.server.take() else {
             return;
@@ -163,6 +190,8 @@ impl Proxy {
     pub fn tick(&mut self, moment: u64) -> Result<Expiry, NoMemory>
         requires can_tick { IsTrue (client_takes self.old (on.tick moment)) }
         ensures goes { OnOk result (GoesBy (event.tick moment) done self.old self.new) }
+        ensures rests { OnOk result (Settles self.old self.new) }
+        ensures serves { OnOk result (Serves self.old self.new) }
     {
         let expiry = self.client.tick(moment)?;
         self.moment = Some(moment);

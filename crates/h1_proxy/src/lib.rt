@@ -20,6 +20,7 @@
 #![tactic(auto)]
 
 mod events;
+pub mod laws;
 mod notes;
 mod proxy;
 mod turns;

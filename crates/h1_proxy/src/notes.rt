@@ -3,6 +3,7 @@
 
 ghost use Rattle.std.specs.Prelude.{OnOk};
 ghost use Rattle.h1_proxy.specs.Kept.{Goes};
+ghost use Rattle.h1_proxy.specs.Rests.{IsNoted};
 
 use crate::proxy::{Proxy, Unsent};
 use h1_connection::{HeadFault, NoMemory, RequestHead, StatusCode};
@@ -65,28 +66,32 @@ impl Notes {
 impl Proxy {
     /// From now on replies are noted. Who asks for that takes them after each event: an event begins some 700 at most.
     pub fn note_replies(&mut self)
-        ensures { Goes self.old self.new }
+        ensures goes { Goes self.old self.new }
+        ensures noted { IsNoted self.old self.new }
     {
         self.notes.is_on = true;
     }
 
     /// The replies that were begun since they were last taken, in order.
     pub fn take_replies(&mut self) -> Vec<Reply>
-        ensures { Goes self.old self.new }
+        ensures goes { Goes self.old self.new }
+        ensures noted { IsNoted self.old self.new }
     {
         self.notes.take()
     }
 
     // A reply to this request is to come.
     pub(crate) fn note_request(&mut self, request: RequestHead)
-        ensures { Goes self.old self.new }
+        ensures goes { Goes self.old self.new }
+        ensures noted { IsNoted self.old self.new }
     {
         self.notes.keep(request);
     }
 
     // The same of a request that was to be sent on.
     pub(crate) fn note_unsent(&mut self, unsent: Option<Unsent>)
-        ensures { Goes self.old self.new }
+        ensures goes { Goes self.old self.new }
+        ensures noted { IsNoted self.old self.new }
     {
         if let Some(unsent) = unsent {
             let Unsent { head, .. } = unsent;
@@ -96,7 +101,8 @@ impl Proxy {
 
     // A reply of this status has begun.
     pub(crate) fn note_reply(&mut self, status: StatusCode) -> Result<(), NoMemory>
-        ensures { OnOk result (Goes self.old self.new) }
+        ensures goes { OnOk result (Goes self.old self.new) }
+        ensures noted { OnOk result (IsNoted self.old self.new) }
     {
         self.notes.begin(status)?;
         Ok(())
@@ -104,7 +110,8 @@ impl Proxy {
 
     // The client's connection has refused a head.
     pub(crate) fn note_fault(&mut self, fault: HeadFault) -> Result<(), NoMemory>
-        ensures { OnOk result (Goes self.old self.new) }
+        ensures goes { OnOk result (Goes self.old self.new) }
+        ensures noted { OnOk result (IsNoted self.old self.new) }
     {
         self.note_reply(status_of(fault))?;
         Ok(())

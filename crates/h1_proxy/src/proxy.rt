@@ -1,5 +1,5 @@
 //! A forwarder: what it keeps, and what it says of itself.
-ghost use Rattle.std.specs.Prelude.{◌≡◌, ◌≤◌, ◌++◌, ℕ, List, [], length, true, None, is_some, option_map};
+ghost use Rattle.std.specs.Prelude.{◌≡◌, ◌≤◌, ◌++◌, ℕ, List, [], length, true, false, None, is_some, option_map};
 ghost use Rattle.h1_model.specs.Event as on;
 ghost use Rattle.h1_model.specs.Request.{Head};
 ghost use Rattle.h1_decode.specs.HeadItem.{SaysHead};
@@ -10,7 +10,8 @@ ghost use Rattle.h1_connection.specs.State.{fresh_state};
 ghost use Rattle.h1_machine.specs.Deadline.{deadline_by};
 ghost use Rattle.h1_machine.specs.Local.{closing_by};
 ghost use Rattle.h1_forward_traces.specs.Happenings.{nothing_happened};
-ghost use Rattle.h1_proxy.specs.Kept.{client_of, server_of, Forwards, IsUnsent, is_closing, wants_server, server_text, server_allows, client_takes};
+ghost use Rattle.h1_proxy.specs.Served.{IsServed};
+ghost use Rattle.h1_proxy.specs.Kept.{client_of, server_of, Forwards, IsUnsent, is_closing, wants_server, server_text, server_allows, client_takes, client_room, server_room, is_reusable, is_answering};
 
 use crate::notes::Notes;
 use h1_client::ClientConnection;
@@ -77,7 +78,8 @@ pub(crate) struct Sent {
 
 impl Unsent {
     pub(crate) fn new(item: HeadItem) -> Unsent
-        ensures { (h : Head) → SaysHead item h → is_forwardable h ≡ true → IsUnsent result h }
+        ensures unsent { (h : Head) → SaysHead item h → is_forwardable h ≡ true → IsUnsent result h }
+        ensures unanswered { result.sent.is_answered ≡ false }
     {
         let sent = Sent {
             is_head: item.is_head(),
@@ -101,6 +103,7 @@ impl Proxy {
         ensures client { client_of result ≡ fresh_state config }
         ensures server { server_of result ≡ None }
         ensures forwards { Forwards result [] nothing_happened }
+        ensures serves { IsServed result }
     {
         Proxy {
             alloc,
@@ -136,7 +139,9 @@ impl Proxy {
     }
 
     /// Whether the server connection may serve another request, of another client too: nothing of it is under way.
-    pub fn is_reusable(&self) -> bool {
+    pub fn is_reusable(&self) -> bool
+        ensures { result ≡ is_reusable self.now }
+    {
         match &self.server {
             Some(server) => self.sent.is_none() && server.is_reusable(),
             None => false,
@@ -144,7 +149,9 @@ impl Proxy {
     }
 
     /// Whether a reply that isn't the forwarder's own was begun, and isn't complete: the head of an answer was passed on.
-    pub fn is_answering(&self) -> bool {
+    pub fn is_answering(&self) -> bool
+        ensures { result ≡ is_answering self.now }
+    {
         match self.sent {
             Some(sent) => sent.is_answered,
             None => false,
@@ -220,7 +227,9 @@ impl Proxy {
     }
 
     /// The most bytes that a read from the client takes now: none while 32768 wait towards the server.
-    pub fn client_room(&self) -> usize {
+    pub fn client_room(&self) -> usize
+        ensures { result ≡ client_room self.now }
+    {
         if self.is_closing()
             || !self.client.can_read()
             || self.server_front().len() >= MAX_WAITING
@@ -231,7 +240,9 @@ impl Proxy {
     }
 
     /// The most bytes that a read from the server takes now: none while 32768 wait towards the client.
-    pub fn server_room(&self) -> usize {
+    pub fn server_room(&self) -> usize
+        ensures { result ≡ server_room self.now }
+    {
         if self.client.buffered() >= MAX_WAITING {
             return 0;
         }

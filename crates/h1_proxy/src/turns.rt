@@ -1,10 +1,13 @@
 //! What a forwarder does of its own between two events, turn by turn.
 #![tactic(auto)]
 
-ghost use Rattle.std.specs.Prelude.{◌≡◌, IsTrue, None, Some, true, OnOk};
+ghost use Rattle.std.specs.Prelude.{◌≡◌, ◌<◌, ◌+◌, ◌*◌, IsTrue, None, Some, true, false, not, is_some, length, OnOk, IfOk};
 ghost use Rattle.h1_model.specs.Event as on;
 ghost use Rattle.h1_forward_sides.specs.Sides.{ServerStays, SendsBody};
+ghost use Rattle.h1_forward_model.specs.Rests.{MAX_WAITING};
 ghost use Rattle.h1_proxy.specs.Kept.{Goes, GoesWith, GoesUnsent, GoesFrom, IsIdle, Runs};
+ghost use Rattle.h1_proxy.specs.Served.{Serving, GoesOnServing, HasNoReply};
+ghost use Rattle.h1_proxy.specs.Rests.{may_turn, Settles, LeavesLess, LeavesMore, Works, WorksBody, Turns};
 
 use crate::proxy::{MAX_WAITING, Proxy, Sent, Unsent};
 use h1_client::{ClientConnection, NextAnswer, ResponseItem};
@@ -20,9 +23,11 @@ use h1_forward_sides::server::{ask, next_answer, next_piece, sends_body, tick_se
 impl Proxy {
     /// Makes turns until none is possible.
     pub(crate) fn settle(&mut self) -> Result<(), NoMemory>
-        ensures { OnOk result (Goes self.old self.new) }
+        ensures goes { OnOk result (Goes self.old self.new) }
+        ensures rests { OnOk result (Settles self.old self.new) }
+        ensures serves { OnOk result (GoesOnServing self.old self.new) }
     {
-        for _ in 0..u64::MAX {
+        for turn in 0..self.most_turns() {
             let more = self.turn()?;
             if !more {
                 return Ok(());
@@ -31,9 +36,18 @@ impl Proxy {
         Ok(())
     }
 
+    // No more turns are possible one after another: 32 for each byte that may be held of a side, and 8.
+    fn most_turns(&self) -> usize
+        ensures { result ≡ 32 * self.now.config.h1_hold_size + 8 }
+    {
+        32 * self.config.h1_hold_size() + 8
+    }
+
     // The first turn that is possible; whether there was one.
     fn turn(&mut self) -> Result<bool, NoMemory>
-        ensures { OnOk result (Goes self.old self.new) }
+        ensures goes { OnOk result (Goes self.old self.new) }
+        ensures works { IfOk result (λ more. Turns more self.old self.new) }
+        ensures serves { OnOk result (GoesOnServing self.old self.new) }
     {
         if self.is_still() {
             return Ok(false);
@@ -52,7 +66,9 @@ impl Proxy {
 
     // No turn is possible: enough waits towards the client, or towards the server where no request is under way whose
     // answer may come; or the client's connection is to end.
-    fn is_still(&self) -> bool {
+    fn is_still(&self) -> bool
+        ensures { result ≡ not (may_turn self.now) }
+    {
         if self.client.buffered() >= MAX_WAITING {
             return true;
         }
@@ -64,7 +80,9 @@ impl Proxy {
 
     // Sends a request on, where there is a server connection.
     fn send(&mut self, unsent: Unsent) -> Result<bool, NoMemory>
-        ensures { OnOk result (GoesUnsent unsent self.old self.new) }
+        ensures goes { OnOk result (GoesUnsent unsent self.old self.new) }
+        ensures works { IfOk result (λ more. Works more (record self.old { unsent = Some unsent }) self.new) }
+        ensures serves { OnOk result (GoesOnServing (record self.old { unsent = Some unsent }) self.new) }
     {
         if self.is_server_over() {
             self.server = None;
@@ -88,7 +106,9 @@ impl Proxy {
     }
 
     // The server connection closes: it has ended, or bytes came that no request asked for.
-    fn is_server_over(&self) -> bool {
+    fn is_server_over(&self) -> bool
+        ensures { IsTrue result → is_some self.now.server ≡ true }
+    {
         match &self.server {
             Some(server) => server.closing().is_some(),
             None => false,
@@ -106,7 +126,9 @@ impl Proxy {
     // No request waits.
     fn go_on(&mut self) -> Result<bool, NoMemory>
         requires unsent { self.old.unsent ≡ None }
-        ensures { OnOk result (Goes self.old self.new) }
+        ensures goes { OnOk result (Goes self.old self.new) }
+        ensures works { IfOk result (λ more. Works more self.old self.new) }
+        ensures serves { OnOk result (GoesOnServing self.old self.new) }
     {
         match self.sent {
             Some(sent) => {
@@ -123,7 +145,9 @@ impl Proxy {
     // No request is under way: the server connection is idle.
     fn begin(&mut self) -> Result<bool, NoMemory>
         requires idle { IsIdle self.old }
-        ensures { OnOk result (Goes self.old self.new) }
+        ensures goes { OnOk result (Goes self.old self.new) }
+        ensures works { IfOk result (λ more. Works more self.old self.new) }
+        ensures serves { OnOk result (GoesOnServing self.old self.new) }
     {
         if self.is_server_over() {
             self.server = None;
@@ -135,7 +159,9 @@ impl Proxy {
 
     fn take_head(&mut self) -> Result<bool, NoMemory>
         requires idle { IsIdle self.old }
-        ensures { OnOk result (Goes self.old self.new) }
+        ensures goes { OnOk result (Goes self.old self.new) }
+        ensures works { IfOk result (λ more. Works more self.old self.new) }
+        ensures serves { OnOk result (GoesOnServing self.old self.new) }
     {
         match next_head(&mut self.client)? {
             NextHead::Head(item) => {
@@ -154,7 +180,9 @@ impl Proxy {
     // A request is open. One that can't be sent on gets 501, and the server connection is closed.
     fn open(&mut self, item: HeadItem) -> Result<(), NoMemory>
         requires idle { IsIdle self.old }
-        ensures { OnOk result (GoesFrom item self.old self.new) }
+        ensures goes { OnOk result (GoesFrom item self.old self.new) }
+        ensures works { OnOk result (LeavesMore 3 self.old self.new) }
+        ensures serves { OnOk result (HasNoReply self.old → Serving self.new) }
     {
         if !is_forwardable(&item) {
             self.server = None;
@@ -170,7 +198,9 @@ impl Proxy {
     // A request is under way.
     fn pass_on(&mut self, sent: Sent) -> Result<bool, NoMemory>
         requires runs { Runs sent self.old }
-        ensures { OnOk result (Goes self.old self.new) }
+        ensures goes { OnOk result (Goes self.old self.new) }
+        ensures works { IfOk result (λ more. Works more self.old self.new) }
+        ensures serves { OnOk result (GoesOnServing self.old self.new) }
     {
         match self.server.take() {
             Some(server) => {
@@ -187,11 +217,13 @@ impl Proxy {
     // What is there of its answer is passed on; else more of its body.
     fn pass(&mut self, sent: Sent, server: ClientConnection) -> Result<bool, NoMemory>
         requires runs { Runs sent self.old }
-        ensures { OnOk result (GoesWith server self.old self.new) }
+        ensures goes { OnOk result (GoesWith server self.old self.new) }
+        ensures works { IfOk result (λ more. Works more (record self.old { server = Some server }) self.new) }
+        ensures serves { OnOk result (GoesOnServing self.old self.new) }
     {
         if sent.is_answered {
-            let more = self.pass_piece(sent, server)?;
-            return Ok(more);
+            let moved = self.pass_piece(sent, server)?;
+            return Ok(moved);
         }
         let more = self.pass_answer(sent, server)?;
         Ok(more)
@@ -200,7 +232,9 @@ impl Proxy {
     // The head of its answer is passed on, where it is there; else more of its body.
     fn pass_answer(&mut self, sent: Sent, server: ClientConnection) -> Result<bool, NoMemory>
         requires runs { Runs sent self.old }
-        ensures { OnOk result (GoesWith server self.old self.new) }
+        ensures goes { OnOk result (GoesWith server self.old self.new) }
+        ensures works { IfOk result (λ more. sent.is_answered ≡ false → Works more (record self.old { server = Some server }) self.new) }
+        ensures serves { OnOk result (sent.is_answered ≡ false → GoesOnServing self.old self.new) }
     {
         let mut server = server;
         match next_answer(&mut server)? {
@@ -231,7 +265,9 @@ impl Proxy {
         item: ResponseItem,
     ) -> Result<(), NoMemory>
         requires runs { Runs sent self.old }
-        ensures { OnOk result (GoesWith server self.old self.new) }
+        ensures goes { OnOk result (GoesWith server self.old self.new) }
+        ensures works { OnOk result (LeavesLess 0 (record self.old { server = Some server }) self.new) }
+        ensures serves { OnOk result (sent.is_answered ≡ false → GoesOnServing self.old self.new) }
     {
         match answer_use(&item) {
             AnswerUse::Refuse => {
@@ -257,7 +293,9 @@ impl Proxy {
         item: ResponseItem,
     ) -> Result<(), NoMemory>
         requires runs { Runs sent self.old }
-        ensures { OnOk result (GoesWith server self.old self.new) }
+        ensures goes { OnOk result (GoesWith server self.old self.new) }
+        ensures works { OnOk result (LeavesLess 0 (record self.old { server = Some server }) self.new) }
+        ensures serves { OnOk result (HasNoReply self.old → Serving self.new) }
     {
         let status = status_of(&item);
         self.pass_head(sent, server, item)?;
@@ -272,7 +310,9 @@ impl Proxy {
         item: ResponseItem,
     ) -> Result<(), NoMemory>
         requires runs { Runs sent self.old }
-        ensures { OnOk result (GoesWith server self.old self.new) }
+        ensures goes { OnOk result (GoesWith server self.old self.new) }
+        ensures works { OnOk result (LeavesLess 0 (record self.old { server = Some server }) self.new) }
+        ensures serves { OnOk result (HasNoReply self.old → Serving self.new) }
     {
         let size = reply_size(sent.is_head, &item);
         let sent = answered(sent, says_close(&item));
@@ -292,11 +332,13 @@ impl Proxy {
     // More of the answer's body is passed on, where there is room for it; else more of the request's.
     fn pass_piece(&mut self, sent: Sent, server: ClientConnection) -> Result<bool, NoMemory>
         requires runs { Runs sent self.old }
-        ensures { OnOk result (GoesWith server self.old self.new) }
+        ensures goes { OnOk result (GoesWith server self.old self.new) }
+        ensures works { IfOk result (λ more. sent.is_answered ≡ true → Works more (record self.old { server = Some server }) self.new) }
+        ensures serves { OnOk result (sent.is_answered ≡ true → GoesOnServing self.old self.new) }
     {
         if !self.client.can_chunk() {
-            let more = self.pass_body(sent, server)?;
-            return Ok(more);
+            let moved = self.pass_body(sent, server)?;
+            return Ok(moved);
         }
         let mut server = server;
         match next_piece(&mut server)? {
@@ -327,7 +369,9 @@ impl Proxy {
     // All of the answer was passed on.
     fn end_reply(&mut self, sent: Sent, server: ClientConnection) -> Result<(), NoMemory>
         requires runs { Runs sent self.old }
-        ensures { OnOk result (GoesWith server self.old self.new) }
+        ensures goes { OnOk result (GoesWith server self.old self.new) }
+        ensures works { OnOk result (LeavesLess 0 (record self.old { server = Some server; sent = None }) self.new) }
+        ensures serves { OnOk result (sent.is_answered ≡ true → GoesOnServing self.old self.new) }
     {
         leave_body(&mut self.client);
         put_end(&mut self.client)?;
@@ -338,7 +382,9 @@ impl Proxy {
     // The reply is complete. The server connection is kept where both sides are whole and it goes on.
     fn part(&mut self, sent: Sent, server: ClientConnection)
         requires runs { Runs sent self.old }
-        ensures { GoesWith server self.old self.new }
+        ensures goes { GoesWith server self.old self.new }
+        ensures works { LeavesLess 0 (record self.old { server = Some server; sent = None }) self.new }
+        ensures serves { GoesOnServing (record self.old { sent = None }) self.new }
     {
         self.sent = None;
         if may_keep(sent, &server) {
@@ -351,7 +397,9 @@ impl Proxy {
     // More of the request's body goes towards the server.
     fn pass_body(&mut self, sent: Sent, server: ClientConnection) -> Result<bool, NoMemory>
         requires runs { Runs sent self.old }
-        ensures { OnOk result (GoesWith server self.old self.new) }
+        ensures goes { OnOk result (GoesWith server self.old self.new) }
+        ensures works { IfOk result (λ more. WorksBody sent server more self.old self.new) }
+        ensures serves { OnOk result (GoesOnServing self.old self.new) }
     {
         if !may_send(sent, &server) {
             self.server = Some(server);
@@ -389,7 +437,9 @@ impl Proxy {
     // connection is closed.
     fn break_body(&mut self, sent: Sent, server: ClientConnection) -> Result<(), NoMemory>
         requires runs { Runs sent self.old }
-        ensures { OnOk result (GoesWith server self.old self.new) }
+        ensures goes { OnOk result (GoesWith server self.old self.new) }
+        ensures works { OnOk result (sent.is_whole ≡ false → sent.is_broken ≡ false → LeavesLess 1 (record self.old { server = Some server }) self.new) }
+        ensures serves { OnOk result (GoesOnServing self.old self.new) }
     {
         if sent.is_answered {
             self.server = Some(server);
@@ -406,7 +456,9 @@ impl Proxy {
     // that is cut.
     fn fail(&mut self, sent: Sent) -> Result<(), NoMemory>
         requires unsent { self.old.unsent ≡ None }
-        ensures { OnOk result (Goes (record self.old { server = None }) self.new) }
+        ensures goes { OnOk result (Goes (record self.old { server = None }) self.new) }
+        ensures works { OnOk result (LeavesLess 0 (record self.old { server = None; sent = None }) self.new) }
+        ensures serves { OnOk result (GoesOnServing (record self.old { sent = Some sent }) self.new) }
     {
         self.server = None;
         self.sent = None;
@@ -420,7 +472,9 @@ impl Proxy {
 
     // A reply of the forwarder's own.
     pub(crate) fn reply(&mut self, refusal: Refusal) -> Result<(), NoMemory>
-        ensures { OnOk result (Goes self.old self.new) }
+        ensures goes { OnOk result (Goes self.old self.new) }
+        ensures works { OnOk result (LeavesLess 0 self.old self.new) }
+        ensures serves { OnOk result (IsIdle self.old → HasNoReply self.old → Serving self.new) }
     {
         leave_body(&mut self.client);
         let head = refusal.head(self.alloc);
@@ -436,7 +490,9 @@ fn status_of(item: &ResponseItem) -> StatusCode {
 
 // The head of its answer was passed on.
 fn answered(sent: Sent, closes: bool) -> Sent
-    ensures { result.is_whole ≡ sent.is_whole }
+    ensures whole { result.is_whole ≡ sent.is_whole }
+    ensures broken { result.is_broken ≡ sent.is_broken }
+    ensures answered { result.is_answered ≡ true }
 {
     Sent {
         is_answered: true,
@@ -447,7 +503,8 @@ fn answered(sent: Sent, closes: bool) -> Sent
 
 // The end of its body was sent on.
 fn whole(sent: Sent) -> Sent
-    ensures { result.is_whole ≡ true }
+    ensures whole { result.is_whole ≡ true }
+    ensures answered { result.is_answered ≡ sent.is_answered }
 {
     Sent {
         is_whole: true,
@@ -457,7 +514,9 @@ fn whole(sent: Sent) -> Sent
 
 // Its body broke.
 fn broken(sent: Sent) -> Sent
-    ensures { result.is_whole ≡ sent.is_whole }
+    ensures whole { result.is_whole ≡ sent.is_whole }
+    ensures broken { result.is_broken ≡ true }
+    ensures answered { result.is_answered ≡ sent.is_answered }
 {
     Sent {
         is_broken: true,
@@ -480,7 +539,9 @@ fn may_keep(sent: Sent, server: &ClientConnection) -> bool
 
 // Whether more of the request's body may be sent on.
 fn may_send(sent: Sent, server: &ClientConnection) -> bool
-    ensures { IsTrue result → SendsBody server.now }
+    ensures sends { IsTrue result → SendsBody server.now }
+    ensures more { IsTrue result → (sent.is_whole ≡ false) × (sent.is_broken ≡ false) }
+    ensures none { result ≡ false → sent.is_whole ≡ false → sent.is_broken ≡ false → length server.now.kept.buffered < MAX_WAITING → SendsBody server.now → ⊥ }
 {
     if sent.is_whole {
         return false;

@@ -1,15 +1,13 @@
 -- One poll more.
-use Rattle.std.proofs.Common.{◌≡◌, ◌<◌, ◌+◌, ℕ, Bool, true, false, List, [], ◌∷◌, ◌++◌, length, Result, Ok, Err, inr, refl, sym, ap, ◌∙◌, subst, arith}
+use Rattle.std.proofs.Common.{◌≡◌, ◌<◌, ◌+◌, ℕ, Bool, true, false, List, [], ◌∷◌, ◌++◌, Result, Ok, Err, inr, refl, sym, ap, ◌∙◌, subst, arith}
 use Rattle.std.specs.Prelude.{nat_lt}
 use Rattle.std.specs.List.{AllByRecursion}
 use Rattle.std.proofs.lemmas.List.{length-append}
 use Rattle.futures.specs.declared.task.Poll.{Poll}
 use Rattle.futures.specs.declared.task.Poll.TheVariants.{Ready, Pending}
-use Rattle.futures.specs.declared.task.context.Context.{Context}
 use Rattle.http_types.specs.declared.error.DispatchError.{DispatchError}
 use Rattle.h1_dispatch.specs.View.{View}
-use Rattle.h1_dispatch.specs.Acts.{Act, polled, asked, ActSays, ActsSay}
-use Rattle.h1_dispatch.specs.Polls.{PollSays}
+use Rattle.h1_dispatch.specs.Acts.{Act, polled, ActSays, ActsSay}
 use Rattle.h1_serving.specs.declared.error.ServeError.{ServeError}
 use Rattle.h1_serving.specs.declared.error.ServeError.TheVariants.{Dispatch, NoMemory}
 use Rattle.h1_serving.specs.Serves.{IsWait, AreWaits, PollsAt, EndsAt, Ends, end_of}

@@ -1,5 +1,5 @@
 -- A service whose answers have no body: what a run hands on of answers is their heads.
-use Rattle.std.proofs.Common.{◌≡◌, ℕ, zero, suc, Option, Some, None, List, [], ◌∷◌, ◌++◌, map, Result, Ok, Err, refl, sym, ap, ◌∙◌, subst}
+use Rattle.std.proofs.Common.{◌≡◌, Option, Some, None, List, [], ◌∷◌, ◌++◌, map, Result, Ok, Err, refl, sym, ap, ◌∙◌, subst}
 use Rattle.std.specs.Prelude.{⊤}
 use Rattle.std.specs.List.{AllByRecursion}
 use Rattle.std.proofs.lemmas.List.{map-append}
@@ -12,7 +12,7 @@ use Rattle.http_services.specs.Lent.{Took}
 use Rattle.h1_codec.specs.Meaning.{answer_of, size_of}
 use Rattle.h1_model.specs.Event as on
 use Rattle.h1_dispatch.specs.View.{View, Asking, Answer, Stage, free, waiting, calling, replying, sending}
-use Rattle.h1_dispatch.specs.Steps.{Step, TakesNone, IsStep, IsRun, request_at, stage_at, stage_asked, stage_answered, stage_replied, ticked, drained, written, read, shut, next, closed, continued, ready, called, answered, pulled, paused, dropped, replied, sent, failed, failed_write, failed_read, failed_fed, failed_sent, asked_to_drain}
+use Rattle.h1_dispatch.specs.Steps.{Step, IsStep, IsRun, request_at, stage_at, stage_asked, stage_answered, stage_replied, ticked, drained, written, read, shut, next, closed, continued, ready, called, answered, pulled, paused, dropped, replied, sent, failed, failed_write, failed_read, failed_fed, failed_sent, asked_to_drain, asked_to_hold, declined, let_on, turned_away, refused as upgrade_refused}
 use Rattle.h1_dispatch.specs.Order.{refusals, given, step_answers, step_replies, answers, replies}
 use Rattle.h1_dispatch.specs.Traces.{step_hands, hands}
 
@@ -93,6 +93,12 @@ step_hands_on v w (failed_read came event) is b all = same v w _ refl refl (ap (
 step_hands_on v w (failed_fed bytes) is b all = same v w _ refl refl (ap (λ (x : View). x.stage) is.2) b
 step_hands_on v w (failed_sent piece) is b all = absurd (subst (λ (x : Stage). StageIsBodiless x) is.1.goes_out b)
 step_hands_on v w asked_to_drain is b all = same v w _ refl refl (ap (λ (x : View). x.stage) is) b
+step_hands_on v w (asked_to_hold upgrades expects) is b all = same v w _ refl refl (ap (λ (x : View). x.stage) is) b
+step_hands_on v w declined is b all = same v w _ refl refl (ap (λ (x : View). x.stage) is) b
+step_hands_on v w let_on is b all = same v w _ refl refl (ap (λ (x : View). x.stage) is) b
+step_hands_on v w (turned_away request answer) is b all =
+    record { only = refl; bodiless = from_stage (replying answer) w.stage (ap (λ (x : View). x.stage) is.2) all.0 }
+step_hands_on v w (upgrade_refused limit error) is b all = same v w _ refl refl (ap (λ (x : View). x.stage) is.2) b
 
 all_front : (xs ys : List Answer) → AllByRecursion IsBodiless (xs ++ ys) → AllByRecursion IsBodiless xs
 all_front [] ys all = tt

@@ -6,7 +6,6 @@ use Rattle.http_bodies.specs.Giving.{Piece}
 use Rattle.http_bodies.specs.Told.{Grows}
 use Rattle.http_bodies.specs.declared.body.fault.BodyFault.TheVariants.{Body, NoMemory}
 use Rattle.http_bodies.proofs.Histories.{grown-none}
-use Rattle.http_services.specs.Serving.{Serving}
 use Rattle.h1_model.specs.Event as on
 use Rattle.h1_model.specs.Sums as sums
 use Rattle.h1_model.specs.Sums.{step_taken, step_written, taken, written}
@@ -14,8 +13,8 @@ use Rattle.h1_model.specs.Trace.{IsTrace}
 use Rattle.h1_connection.specs.Meaning.{setting_of}
 use Rattle.h1_connection.specs.Steps.{Pair}
 use Rattle.h1_line.specs.Line.{LineView, SaysNoted, LineStands}
-use Rattle.h1_dispatch.specs.View.{View, Asking, Answer}
-use Rattle.h1_dispatch.specs.Steps.{Step, Lacked, IsStep, ticked, drained, written as wrote, read, shut, next, closed, continued, ready, called, answered, pulled, paused, dropped, replied, sent, failed, failed_write, failed_read, failed_fed, failed_sent, asked_to_drain}
+use Rattle.h1_dispatch.specs.View.{View}
+use Rattle.h1_dispatch.specs.Steps.{Step, Lacked, IsStep, ticked, drained, written as wrote, read, shut, next, closed, continued, ready, called, answered, pulled, paused, dropped, replied, sent, failed, failed_write, failed_read, failed_fed, failed_sent, asked_to_drain, asked_to_hold, declined, let_on, turned_away, refused as upgrade_refused}
 use Rattle.h1_dispatch.specs.Traces.{IsNoted, of_request, requests_in, answers_in}
 use Rattle.h1_serving.specs.Told.{head_in, heads_in}
 
@@ -106,6 +105,11 @@ lack_notes v w dropped trace lacks is stands = absurd (lacks tt)
 lack_notes v w (replied answer) trace lacks is stands = absurd (lacks tt)
 lack_notes v w (sent piece) trace lacks is stands = absurd (lacks tt)
 lack_notes v w asked_to_drain trace lacks is stands = absurd (lacks tt)
+lack_notes v w (asked_to_hold upgrades expects) trace lacks is stands = absurd (lacks tt)
+lack_notes v w declined trace lacks is stands = absurd (lacks tt)
+lack_notes v w let_on trace lacks is stands = absurd (lacks tt)
+lack_notes v w (turned_away request answer) trace lacks is stands = absurd (lacks tt)
+lack_notes v w (upgrade_refused limit error) trace lacks is stands = absurd (lacks tt)
 
 pub after_end : (v w : View) (trace : List sums.Step) → (w ≡ v) ⊎ ((d : Step) × (¬ IsNoted d) × IsStep v d w) → LineStands v.line trace → After v w trace
 after_end v w trace (inl is) stands = line_notes v w trace (ap (λ (y : View). y.line) is) (ap (λ (y : View). y.service) is) stands

@@ -1,5 +1,5 @@
 -- The polls of a connection as one run of steps, which ends early only where memory runs out.
-use Rattle.std.proofs.Common.{◌≡◌, ◌⊎◌, ℕ, Bool, true, List, [], ◌∷◌, ◌++◌, Result, Ok, Err, inl, inr, refl, sym, ap, subst}
+use Rattle.std.proofs.Common.{◌≡◌, ◌⊎◌, ℕ, Bool, List, [], ◌∷◌, ◌++◌, Result, Ok, Err, inl, inr, refl, sym, subst}
 use Rattle.std.specs.List.{AllByRecursion}
 use Rattle.futures.specs.declared.task.Poll.{Poll}
 use Rattle.futures.specs.declared.task.Poll.TheVariants.{Ready, Pending}
@@ -8,15 +8,17 @@ use Rattle.http_types.specs.declared.error.DispatchError.{DispatchError}
 use Rattle.http_types.specs.declared.error.DispatchError.TheVariants as error
 use Rattle.h1_model.specs.Event as on
 use Rattle.h1_dispatch.specs.View.{View}
-use Rattle.h1_dispatch.specs.Steps.{Step, IsStep, IsRun, ticked, drained, written, read, shut, next, closed, continued, ready, called, answered, pulled, paused, dropped, replied, sent, failed, failed_write, failed_read, failed_fed, failed_sent, asked_to_drain}
+use Rattle.h1_dispatch.specs.Steps.{Step, IsStep, IsRun, ticked, drained, written, read, shut, next, closed, continued, ready, called, answered, pulled, paused, dropped, replied, sent, failed, failed_write, failed_read, failed_fed, failed_sent, asked_to_drain, asked_to_hold, declined, let_on, turned_away, refused as upgrade_refused}
 use Rattle.h1_dispatch.specs.Traces.{IsNoted, AllNoted}
-use Rattle.h1_dispatch.specs.Polls.{Continues, AllContinue, EndsWith, IsOutOfMemory, Ended, Ticks, Drains, IsBegun, BeginFails, PollRuns, PollSays}
+use Rattle.h1_dispatch.specs.Polls.{Continues, AllContinue, EndsWith, IsOutOfMemory, Ticks, Drains, IsBegun, BeginFails, PollRuns, PollSays}
 use Rattle.h1_dispatch.specs.Acts.{Act, polled, asked, AllHaveMemory}
+use Rattle.h1_dispatch.specs.Upgrades.{DecidesNone}
+use Rattle.h1_dispatch.proofs.Undecided.{all_undecided, undecided_on}
 use Rattle.h1_dispatch.proofs.Runs.{one, run_on}
 use Rattle.h1_dispatch.proofs.Acts.{acts_run}
 use Rattle.h1_serving.specs.declared.error.ServeError.{ServeError}
 use Rattle.h1_serving.specs.declared.error.ServeError.TheVariants.{Dispatch, Budget, NoMemory}
-use Rattle.h1_serving.specs.Serves.{IsWait, AreWaits, PollsAt, EndsAt, Ends}
+use Rattle.h1_serving.specs.Serves.{IsWait, AreWaits, EndsAt, Ends}
 use Rattle.h1_serving.specs.Told.{HadMemory}
 
 -- ---- steps that were noted
@@ -44,6 +46,11 @@ goes_noted (failed_read came event) goes = absurd goes
 goes_noted (failed_fed bytes) goes = absurd goes
 goes_noted (failed_sent piece) goes = absurd goes
 goes_noted asked_to_drain goes = tt
+goes_noted (asked_to_hold upgrades expects) goes = absurd goes
+goes_noted declined goes = absurd goes
+goes_noted let_on goes = absurd goes
+goes_noted (turned_away request answer) goes = absurd goes
+goes_noted (upgrade_refused limit error) goes = absurd goes
 
 all_noted : (steps : List Step) → AllContinue steps → AllNoted steps
 all_noted [] all = tt
@@ -60,26 +67,28 @@ pub record Ran (P : Type 0) (v w : View) : Type 0 where
   pub between : View
   pub run : IsRun v steps between
   pub noted : AllNoted steps
+  pub undecided : AllByRecursion DecidesNone steps
   pub end : (w ≡ between) ⊎ ((d : Step) × (¬ IsNoted d) × IsStep between d w)
   pub whole : P → w ≡ between
 
 -- nothing was done
 stays : (P : Type 0) (v w : View) → w ≡ v → Ran P v w
-stays P v w is = record { steps = []; between = v; run = refl; noted = tt; end = inl is; whole = λ p. is }
+stays P v w is = record { steps = []; between = v; run = refl; noted = tt; undecided = tt; end = inl is; whole = λ p. is }
 
-whole_ran : (P : Type 0) (v w : View) (steps : List Step) → IsRun v steps w → AllNoted steps → Ran P v w
-whole_ran P v w steps run noted = record { steps = steps; between = w; run = run; noted = noted; end = inl refl; whole = λ p. refl }
+whole_ran : (P : Type 0) (v w : View) (steps : List Step) → IsRun v steps w → AllNoted steps → AllByRecursion DecidesNone steps → Ran P v w
+whole_ran P v w steps run noted none = record { steps = steps; between = w; run = run; noted = noted; undecided = none; end = inl refl; whole = λ p. refl }
 
-lacks_ran : (P : Type 0) (v u w : View) (steps : List Step) (d : Step) → (P → ⊥) → IsRun v steps u → AllNoted steps → ¬ IsNoted d → IsStep u d w → Ran P v w
-lacks_ran P v u w steps d never run noted lacks is =
-    record { steps = steps; between = u; run = run; noted = noted; end = inr (d, lacks, is); whole = λ p. absurd (never p) }
+lacks_ran : (P : Type 0) (v u w : View) (steps : List Step) (d : Step) → (P → ⊥) → IsRun v steps u → AllNoted steps → AllByRecursion DecidesNone steps → ¬ IsNoted d → IsStep u d w → Ran P v w
+lacks_ran P v u w steps d never run noted none lacks is =
+    record { steps = steps; between = u; run = run; noted = noted; undecided = none; end = inr (d, lacks, is); whole = λ p. absurd (never p) }
 
-front_ran : (P : Type 0) (v u w : View) (steps : List Step) → IsRun v steps u → AllNoted steps → Ran P u w → Ran P v w
-front_ran P v u w steps run noted then = record {
+front_ran : (P : Type 0) (v u w : View) (steps : List Step) → IsRun v steps u → AllNoted steps → AllByRecursion DecidesNone steps → Ran P u w → Ran P v w
+front_ran P v u w steps run noted none then = record {
   steps = steps ++ then.steps;
   between = then.between;
   run = run_on v u then.between steps then.steps run then.run;
   noted = noted_on steps then.steps noted then.noted;
+  undecided = undecided_on steps then.steps none then.undecided;
   end = then.end;
   whole = then.whole;
 }
@@ -90,14 +99,15 @@ record Fore (v w : View) : Type 0 where
   steps : List Step
   run : IsRun v steps w
   noted : AllNoted steps
+  undecided : AllByRecursion DecidesNone steps
 
 ticks_fore : (v w : View) (moment : ℕ) → Ticks v moment w → Fore v w
-ticks_fore v w moment (inl is) = record { steps = []; run = is.1; noted = tt }
-ticks_fore v w moment (inr is) = record { steps = ticked moment is.1.0 ∷ []; run = one v w (ticked moment is.1.0) is.1.1; noted = (tt, tt) }
+ticks_fore v w moment (inl is) = record { steps = []; run = is.1; noted = tt; undecided = tt }
+ticks_fore v w moment (inr is) = record { steps = ticked moment is.1.0 ∷ []; run = one v w (ticked moment is.1.0) is.1.1; noted = (tt, tt); undecided = (tt, tt) }
 
 drains_fore : (v w : View) → Drains v w → Fore v w
-drains_fore v w (inl is) = record { steps = []; run = is.1; noted = tt }
-drains_fore v w (inr is) = record { steps = drained ∷ []; run = one v w drained is.2; noted = (tt, tt) }
+drains_fore v w (inl is) = record { steps = []; run = is.1; noted = tt; undecided = tt }
+drains_fore v w (inr is) = record { steps = drained ∷ []; run = one v w drained is.2; noted = (tt, tt); undecided = (tt, tt) }
 
 begun_fore : (v w : View) (moment : ℕ) → IsBegun v moment w → Fore v w
 begun_fore v w moment begun =
@@ -107,6 +117,7 @@ begun_fore v w moment begun =
       steps = a.steps ++ b.steps;
       run = run_on v begun.between w a.steps b.steps a.run b.run;
       noted = noted_on a.steps b.steps a.noted b.noted;
+      undecided = undecided_on a.steps b.steps a.undecided b.undecided;
     }
 
 -- ---- a poll in which memory ran out
@@ -118,7 +129,7 @@ cut v w (c ∷ front) d is = let r = cut is.0 w front d is.2 in (r.0, (is.0, is.
 ends_lack : (P : Type 0) (v w : View) (steps : List Step) (d : Step) → (P → ⊥) → ¬ IsNoted d → IsRun v steps w → EndsWith steps d → Ran P v w
 ends_lack P v w steps d never lacks run ends =
     let r = cut v w ends.0 d (subst (λ l. IsRun v l w) ends.1 run) in
-    lacks_ran P v r.0 w ends.0 d never r.1 (all_noted ends.0 ends.2) lacks r.2
+    lacks_ran P v r.0 w ends.0 d never r.1 (all_noted ends.0 ends.2) (all_undecided ends.0 ends.2) lacks r.2
 
 out_ran : (P : Type 0) (v w : View) (steps : List Step) → (P → ⊥) → IsRun v steps w → IsOutOfMemory steps → Ran P v w
 out_ran P v w steps never run (inl is) = ends_lack P v w steps (failed is.0) never (λ n. n) run is.2
@@ -129,19 +140,19 @@ out_ran P v w steps never run (inr (inr (inr (inr is)))) = ends_lack P v w steps
 
 ended_ran : (P : Type 0) (v w : View) (steps : List Step) → (P → ⊥) → IsRun v steps w → IsOutOfMemory steps ⊎ AllContinue steps → Ran P v w
 ended_ran P v w steps never run (inl out) = out_ran P v w steps never run out
-ended_ran P v w steps never run (inr all) = whole_ran P v w steps run (all_noted steps all)
+ended_ran P v w steps never run (inr all) = whole_ran P v w steps run (all_noted steps all) (all_undecided steps all)
 
 fails_ran : (P : Type 0) (v w : View) (moment : ℕ) → (P → ⊥) → BeginFails v moment w → Ran P v w
-fails_ran P v w moment never (inl is) = lacks_ran P v v w [] (failed (on.tick moment)) never refl tt (λ n. n) is
+fails_ran P v w moment never (inl is) = lacks_ran P v v w [] (failed (on.tick moment)) never refl tt tt (λ n. n) is
 fails_ran P v w moment never (inr is) =
     let a = ticks_fore v is.0 moment is.1 in
-    lacks_ran P v is.0 w a.steps (failed on.drain) never a.run a.noted (λ n. n) is.2
+    lacks_ran P v is.0 w a.steps (failed on.drain) never a.run a.noted a.undecided (λ n. n) is.2
 
 lost_runs : (P : Type 0) (v w : View) (cx : Context) (moment : ℕ) → (P → ⊥) → PollRuns v w cx moment (Ready (Err error.NoMemory)) → Ran P v w
 lost_runs P v w cx moment never (inl fails) = fails_ran P v w moment never fails.1
 lost_runs P v w cx moment never (inr turns) =
     let a = begun_fore v turns.0 moment turns.1 in
-    front_ran P v turns.0 w a.steps a.run a.noted (ended_ran P turns.0 w turns.2.steps never turns.2.run turns.2.ended.1)
+    front_ran P v turns.0 w a.steps a.run a.noted a.undecided (ended_ran P turns.0 w turns.2.steps never turns.2.run turns.2.ended.1)
 
 lost_ran : (P : Type 0) (v w : View) (cx : Context) (moment : ℕ) → (P → ⊥) → PollSays v w cx moment (Ready (Err error.NoMemory)) → Ran P v w
 lost_ran P v w cx moment never (inl broken) = stays P v w broken.1
@@ -152,7 +163,7 @@ lost_ran P v w cx moment never (inr runs) = lost_runs P v w cx moment never runs
 kept_ran : (P : Type 0) (v w : View) (cx : Context) (moment : ℕ) (answer : Poll (Result Unit DispatchError)) → ¬ (answer ≡ Ready (Err error.NoMemory)) → PollSays v w cx moment answer → Ran P v w
 kept_ran P v w cx moment answer enough says =
     let r = acts_run v w (polled moment cx answer ∷ []) (w, says, refl) in
-    whole_ran P v w r.steps r.run (r.noted (enough, tt))
+    whole_ran P v w r.steps r.run (r.noted (enough, tt)) r.undecided
 
 poll_ran : (P : Type 0) (v w : View) (cx : Context) (moment : ℕ) (answer : Poll (Result Unit DispatchError)) → (answer ≡ Ready (Err error.NoMemory) → P → ⊥) → PollSays v w cx moment answer → Ran P v w
 poll_ran P v w cx moment Pending lost says = kept_ran P v w cx moment Pending (λ is. absurd (cc is)) says
@@ -180,13 +191,13 @@ waits_have may_give (asked ∷ acts) all = absurd all.0
 waits_ran : (P : Type 0) (may_give : ℕ → Bool) (v w : View) (count : ℕ) → AreWaits may_give v count w → Ran P v w
 waits_ran P may_give v w count waits =
     let r = acts_run v w waits.acts waits.say in
-    whole_ran P v w r.steps r.run (r.noted (waits_have may_give waits.acts waits.each))
+    whole_ran P v w r.steps r.run (r.noted (waits_have may_give waits.acts waits.each)) r.undecided
 
 at_ran : (P : Type 0) (polls : ℕ) (may_give : ℕ → Bool) (v w : View) (answer : Poll (Result Unit DispatchError)) → (answer ≡ Ready (Err error.NoMemory) → P → ⊥)
     → EndsAt may_give polls v w answer → Ran P v w
 at_ran P polls may_give v w answer lost ends =
     let r = acts_run v ends.between ends.waits.acts ends.waits.say in
-    front_ran P v ends.between w r.steps r.run (r.noted (waits_have may_give ends.waits.acts ends.waits.each))
+    front_ran P v ends.between w r.steps r.run (r.noted (waits_have may_give ends.waits.acts ends.waits.each)) r.undecided
     (poll_ran P ends.between w ends.last.cx ends.last.moment answer lost ends.last.says)
 
 pub same_error : (e : DispatchError) (r : Poll (Result Unit DispatchError)) → r ≡ Ready (Err e) → r ≡ Ready (Err error.NoMemory) → e ≡ error.NoMemory

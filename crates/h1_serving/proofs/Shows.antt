@@ -1,5 +1,5 @@
 -- What the wire shows of how a connection ended.
-use Rattle.std.proofs.Common.{◌≡◌, ◌≤◌, ◌<◌, ℕ, Bool, true, Some, [], Result, Ok, Err, inl, inr, refl, arith}
+use Rattle.std.proofs.Common.{◌≡◌, ◌≤◌, ℕ, Bool, true, Result, Ok, Err, inl, inr}
 use Rattle.std.specs.Prelude.{is_some}
 use Rattle.futures.specs.declared.task.Poll.TheVariants.{Ready}
 use Rattle.futures.specs.declared.task.Poll.{Poll}
@@ -27,7 +27,7 @@ at_last : (polls : ℕ) (may_give : ℕ → Bool) (v w : View) (answer : Poll (R
     → v.wire.faults ≤ ends.between.wire.faults
 at_last polls may_give v w answer ends known =
     let r = acts_run v ends.between ends.waits.acts ends.waits.say in
-    let k = run_kept v ends.between r.steps (r.noted (waits_have may_give ends.waits.acts ends.waits.each)) r.run known in
+    let k = run_kept v ends.between r.steps (r.noted (waits_have may_give ends.waits.acts ends.waits.each)) r.undecided r.run known in
     k.counts
 
 by_cause : (v u w : View) (e : DispatchError) → v.wire.faults ≤ u.wire.faults → HasCause u w (Err e) → Shows v.wire w.wire (Err (Dispatch e))

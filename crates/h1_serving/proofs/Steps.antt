@@ -1,10 +1,9 @@
 -- What each step of a dispatcher keeps, and a run: the settings, the wire's count, what the service tells, and the requests.
-use Rattle.std.proofs.Common.{◌≡◌, ◌≤◌, ℕ, Bool, true, false, Option, Some, None, List, [], ◌∷◌, ◌++◌, map, option_to_list, Result, Ok, Err, inl, inr, refl, sym, ap, ◌∙◌, subst, arith}
+use Rattle.std.proofs.Common.{◌≡◌, ◌≤◌, ℕ, true, Option, Some, None, List, [], ◌∷◌, ◌++◌, map, option_to_list, Result, Ok, Err, inl, inr, refl, sym, ap, ◌∙◌, subst, arith}
 use Rattle.std.specs.Prelude.{is_some}
 use Rattle.std.proofs.lemmas.List.{map-append}
 use Rattle.futures.specs.declared.task.Poll.{Poll}
 use Rattle.futures.specs.declared.task.Poll.TheVariants.{Ready, Pending}
-use Rattle.http_config.specs.Config.{Settings}
 use Rattle.http_config.specs.declared.Failed.{Failed}
 use Rattle.http_bodies.specs.Giving.{Piece}
 use Rattle.http_bodies.specs.Told.{Grows, Caused}
@@ -14,10 +13,11 @@ use Rattle.http_services.specs.Serving.{Serving, NeverFails, given}
 use Rattle.h1_payload.specs.declared.pulled.Pulled.{Pulled}
 use Rattle.h1_payload.specs.declared.pulled.Pulled.TheVariants as pieces
 use Rattle.h1_line.specs.Line.{LineView}
-use Rattle.h1_connection.specs.declared.connection.heads.NextHead.{NextHead}
 use Rattle.h1_dispatch.specs.View.{View, Asking, Answer}
-use Rattle.h1_dispatch.specs.Steps.{Step, Wrote, Took, Sent, TakesNone, IsStep, IsRun, request_at, ticked, drained, written, read, shut, next, closed, continued, ready, called, answered, pulled, paused, dropped, replied, sent, failed, failed_write, failed_read, failed_fed, failed_sent, asked_to_drain}
+use Rattle.h1_dispatch.specs.Steps.{Step, Wrote, Took, Sent, TakesNone, IsStep, IsRun, request_at, ticked, drained, written, read, shut, next, closed, continued, ready, called, answered, pulled, paused, dropped, replied, sent, failed, failed_write, failed_read, failed_fed, failed_sent, asked_to_drain, asked_to_hold, declined, let_on, turned_away, refused as upgrade_refused}
 use Rattle.h1_dispatch.specs.Order.{refused, refusals, step_requests, step_calls, step_left, step_answers, requests, calls, left, answers}
+use Rattle.std.specs.List.{AllByRecursion}
+use Rattle.h1_dispatch.specs.Upgrades.{DecidesNone}
 use Rattle.h1_dispatch.specs.Traces.{IsNoted, AllNoted, Came, came_request, came_piece, heads_of, pieces_of, step_came, came}
 
 -- ---- what is counted of a run
@@ -132,16 +132,16 @@ still_some : (old new : Option (List Asking)) (more : List Asking) → Grows old
 still_some None new more is some = absurd (cc some)
 still_some (Some l) new more is some = ap is_some is
 
-step_keeps : (v w : View) (d : Step) → IsNoted d → IsStep v d w → is_some v.service.called ≡ true → Keeps v d w
-step_keeps v w (ticked moment expiry) noted is known = quiet v w _ refl refl refl refl refl is.0.settings (ap (λ (x : View). x.wire) is.1) (ap (λ (x : View). x.service) is.1) known
-step_keeps v w drained noted is known = quiet v w _ refl refl refl refl refl is.0.settings (ap (λ (x : View). x.wire) is.1) (ap (λ (x : View). x.service) is.1) known
-step_keeps v w (written answer) noted is known = apart v w _ refl refl refl refl refl (wrote_settings v w answer is.3) (caused v.wire.faults w.wire.faults answer is.2.faults) (ap (λ (x : View). x.service) is.4) known
-step_keeps v w (read came_so answer) noted is known = apart v w _ refl refl refl refl refl (took_settings v w came_so answer is.3) (caused v.wire.faults w.wire.faults answer is.2.4.faults) (ap (λ (x : View). x.service) is.4) known
-step_keeps v w (shut answer) noted is known = apart v w _ refl refl refl refl refl (ap (λ (x : View). x.line.state.settings) is.2) (caused v.wire.faults w.wire.faults answer is.1.faults) (ap (λ (x : View). x.service) is.2) known
-step_keeps v w (next head) noted is known = quiet v w (next head) refl refl refl refl (asked_once (request_at head)) is.3.settings (ap (λ (x : View). x.wire) is.4) (ap (λ (x : View). x.service) is.4) known
-step_keeps v w (closed end) noted is known = quiet v w _ refl refl refl refl refl is.3.1.settings (ap (λ (x : View). x.wire) is.4) (ap (λ (x : View). x.service) is.4) known
-step_keeps v w continued noted is known = quiet v w _ refl refl refl refl refl is.2.settings (ap (λ (x : View). x.wire) is.3) (ap (λ (x : View). x.service) is.3) known
-step_keeps v w (ready request answer) noted is known =
+step_keeps : (v w : View) (d : Step) → IsNoted d → DecidesNone d → IsStep v d w → is_some v.service.called ≡ true → Keeps v d w
+step_keeps v w (ticked moment expiry) noted none is known = quiet v w _ refl refl refl refl refl is.0.settings (ap (λ (x : View). x.wire) is.1) (ap (λ (x : View). x.service) is.1) known
+step_keeps v w drained noted none is known = quiet v w _ refl refl refl refl refl is.0.settings (ap (λ (x : View). x.wire) is.1) (ap (λ (x : View). x.service) is.1) known
+step_keeps v w (written answer) noted none is known = apart v w _ refl refl refl refl refl (wrote_settings v w answer is.3) (caused v.wire.faults w.wire.faults answer is.2.faults) (ap (λ (x : View). x.service) is.4) known
+step_keeps v w (read came_so answer) noted none is known = apart v w _ refl refl refl refl refl (took_settings v w came_so answer is.3) (caused v.wire.faults w.wire.faults answer is.2.4.faults) (ap (λ (x : View). x.service) is.4) known
+step_keeps v w (shut answer) noted none is known = apart v w _ refl refl refl refl refl (ap (λ (x : View). x.line.state.settings) is.2) (caused v.wire.faults w.wire.faults answer is.1.faults) (ap (λ (x : View). x.service) is.2) known
+step_keeps v w (next head) noted none is known = quiet v w (next head) refl refl refl refl (asked_once (request_at head)) is.3.settings (ap (λ (x : View). x.wire) is.4) (ap (λ (x : View). x.service) is.4) known
+step_keeps v w (closed end) noted none is known = quiet v w _ refl refl refl refl refl is.3.1.settings (ap (λ (x : View). x.wire) is.4) (ap (λ (x : View). x.service) is.4) known
+step_keeps v w continued noted none is known = quiet v w _ refl refl refl refl refl is.2.settings (ap (λ (x : View). x.wire) is.3) (ap (λ (x : View). x.service) is.3) known
+step_keeps v w (ready request answer) noted apart_of_all is known =
     let none = none_refused v.service.called request answer known is.2.sure is.1 in
     record {
       settings = ap (λ (x : View). x.line.state.settings) is.3;
@@ -152,7 +152,7 @@ step_keeps v w (ready request answer) noted is known =
       tells = ap is_some is.2.called ∙ known;
       asked_so = refl;
     }
-step_keeps v w (called request) noted is known = record {
+step_keeps v w (called request) noted none is known = record {
   settings = ap (λ (x : View). x.line.state.settings) is.2.2;
   counts = same_count v.wire.faults w.wire.faults (ap (λ (x : View). x.wire.faults) is.2.2);
   answered_so = is.1.begun.answered ∙ is.1.is_ready.answered ∙ grown-none v.service.answered;
@@ -161,7 +161,7 @@ step_keeps v w (called request) noted is known = record {
   tells = still_some is.1.between.called w.service.called (request ∷ []) is.1.begun.called (ap is_some is.1.is_ready.called ∙ known);
   asked_so = refl;
 }
-step_keeps v w (answered answer) noted is known = record {
+step_keeps v w (answered answer) noted none is known = record {
   settings = ap (λ (x : View). x.line.state.settings) is.same;
   counts = same_count v.wire.faults w.wire.faults (ap (λ (x : View). x.wire.faults) is.same);
   answered_so = is.says.answered;
@@ -170,17 +170,22 @@ step_keeps v w (answered answer) noted is known = record {
   tells = ap is_some is.says.called ∙ known;
   asked_so = refl;
 }
-step_keeps v w (pulled piece) noted is known = quiet v w (pulled piece) refl refl refl refl (none_asked piece) is.1.settings (ap (λ (x : View). x.wire) is.2) (ap (λ (x : View). x.service) is.2) known
-step_keeps v w paused noted is known = quiet v w _ refl refl refl refl refl (ap (λ (x : View). x.line.state.settings) is.4) (ap (λ (x : View). x.wire) is.4) (ap (λ (x : View). x.service) is.4) known
-step_keeps v w dropped noted is known = quiet v w _ refl refl refl refl refl is.2.settings (ap (λ (x : View). x.wire) is.3) (ap (λ (x : View). x.service) is.3) known
-step_keeps v w (replied answer) noted is known = quiet v w _ refl refl refl refl refl is.2.settings (ap (λ (x : View). x.wire) is.3) (ap (λ (x : View). x.service) is.3) known
-step_keeps v w (sent piece) noted is known = quiet v w _ refl refl refl refl refl (sent_settings v w piece is.2) (ap (λ (x : View). x.wire) is.3) (ap (λ (x : View). x.service) is.3) known
-step_keeps v w (failed event) noted is known = absurd noted
-step_keeps v w (failed_write count) noted is known = absurd noted
-step_keeps v w (failed_read came_so event) noted is known = absurd noted
-step_keeps v w (failed_fed bytes) noted is known = absurd noted
-step_keeps v w (failed_sent piece) noted is known = absurd noted
-step_keeps v w asked_to_drain noted is known = quiet v w _ refl refl refl refl refl (ap (λ (x : View). x.line.state.settings) is) (ap (λ (x : View). x.wire) is) (ap (λ (x : View). x.service) is) known
+step_keeps v w (pulled piece) noted none is known = quiet v w (pulled piece) refl refl refl refl (none_asked piece) is.1.settings (ap (λ (x : View). x.wire) is.2) (ap (λ (x : View). x.service) is.2) known
+step_keeps v w paused noted none is known = quiet v w _ refl refl refl refl refl (ap (λ (x : View). x.line.state.settings) is.4) (ap (λ (x : View). x.wire) is.4) (ap (λ (x : View). x.service) is.4) known
+step_keeps v w dropped noted none is known = quiet v w _ refl refl refl refl refl is.2.settings (ap (λ (x : View). x.wire) is.3) (ap (λ (x : View). x.service) is.3) known
+step_keeps v w (replied answer) noted none is known = quiet v w _ refl refl refl refl refl is.2.settings (ap (λ (x : View). x.wire) is.3) (ap (λ (x : View). x.service) is.3) known
+step_keeps v w (sent piece) noted none is known = quiet v w _ refl refl refl refl refl (sent_settings v w piece is.2) (ap (λ (x : View). x.wire) is.3) (ap (λ (x : View). x.service) is.3) known
+step_keeps v w (failed event) noted none is known = absurd noted
+step_keeps v w (failed_write count) noted none is known = absurd noted
+step_keeps v w (failed_read came_so event) noted none is known = absurd noted
+step_keeps v w (failed_fed bytes) noted none is known = absurd noted
+step_keeps v w (failed_sent piece) noted none is known = absurd noted
+step_keeps v w asked_to_drain noted none is known = quiet v w _ refl refl refl refl refl (ap (λ (x : View). x.line.state.settings) is) (ap (λ (x : View). x.wire) is) (ap (λ (x : View). x.service) is) known
+step_keeps v w (asked_to_hold upgrades expects) noted none is known = absurd none
+step_keeps v w declined noted none is known = absurd none
+step_keeps v w let_on noted none is known = absurd none
+step_keeps v w (turned_away request answer) noted none is known = absurd none
+step_keeps v w (upgrade_refused limit error) noted none is known = absurd none
 
 -- ---- a run
 
@@ -225,8 +230,8 @@ none_kept v w is = record {
   asked_so = refl;
 }
 
-pub run_kept : (v w : View) (steps : List Step) → AllNoted steps → IsRun v steps w → is_some v.service.called ≡ true → AllKept v steps w
-run_kept v w [] noted is known = none_kept v w is
-run_kept v w (d ∷ steps) noted is known =
-    let first = step_keeps v is.0 d noted.0 is.1 known in
-    keeps_on v is.0 w d steps first (run_kept is.0 w steps noted.1 is.2 first.tells)
+pub run_kept : (v w : View) (steps : List Step) → AllNoted steps → AllByRecursion DecidesNone steps → IsRun v steps w → is_some v.service.called ≡ true → AllKept v steps w
+run_kept v w [] noted none is known = none_kept v w is
+run_kept v w (d ∷ steps) noted none is known =
+    let first = step_keeps v is.0 d noted.0 none.0 is.1 known in
+    keeps_on v is.0 w d steps first (run_kept is.0 w steps noted.1 none.1 is.2 first.tells)

@@ -1,5 +1,5 @@
 -- What came of one connection, from its polls.
-use Rattle.std.proofs.Common.{◌≡◌, ◌<◌, ◌+◌, ℕ, Bool, true, false, Option, Some, None, List, [], ◌∷◌, ◌++◌, length, map, option_to_list, Result, Ok, Err, inl, inr, refl, sym, ap, ◌∙◌, subst, append_assoc, append-nil, arith}
+use Rattle.std.proofs.Common.{◌≡◌, ◌<◌, ◌+◌, ℕ, Bool, false, Option, Some, List, [], ◌++◌, length, map, option_to_list, Result, Ok, Err, refl, sym, ap, ◌∙◌, subst, append_assoc, append-nil, arith}
 use Rattle.std.specs.List.{AllByRecursion}
 use Rattle.std.proofs.lemmas.List.{map-append, length-map}
 use Rattle.http_config.specs.Config.{Settings}
@@ -20,10 +20,9 @@ use Rattle.h1_dispatch.specs.Order.{waits_in, reply_in, calls_in, requests, call
 use Rattle.h1_dispatch.specs.Traces.{requests_in, answers_in, hands, came, Follows}
 use Rattle.h1_dispatch.proofs.Orders.{run_keeps}
 use Rattle.h1_dispatch.proofs.Traces.{run_follows}
-use Rattle.h1_share.specs.declared.command.Entry.{Entry}
 use Rattle.h1_share.specs.Views.{Held}
 use Rattle.h1_board_service.specs.Answers.{Asking, Pair, AllAnswered}
-use Rattle.h1_board_service.specs.Work.{Worked, Went, InOrder, IsKept, serving_of, answered_of}
+use Rattle.h1_board_service.specs.Work.{Worked, Went, InOrder, serving_of, answered_of}
 use Rattle.h1_serving.specs.declared.error.ServeError.{ServeError}
 use Rattle.h1_serving.specs.declared.error.ServeError.TheVariants.{Dispatch, Budget, NoMemory}
 use Rattle.h1_serving.specs.Serves.{begun_view, Ends, HasServed}
@@ -116,7 +115,7 @@ told was now number settings recorded later polls may_give pass end stands serve
     let work : Worked = served.work in
     let ran : Ran (HadMemory end) begun served.last = ends_ran polls may_give begun served.last end served.ends in
     let u : View = ran.between in
-    let kept : AllKept begun ran.steps u = run_kept begun u ran.steps ran.noted ran.run refl in
+    let kept : AllKept begun ran.steps u = run_kept begun u ran.steps ran.noted ran.undecided ran.run refl in
     let order : KeepsOrder begun ran.steps u = run_keeps begun u ran.steps ran.run in
     let f : Follows begun u [] (hands ran.steps) (came ran.steps) = run_follows begun u ran.steps ran.noted ran.run [] stands in
     let a : After u served.last f.more = after_end u served.last f.more ran.end (subst (λ (l : List sums.Step). LineStands u.line l) (append-nil f.more) f.stands) in

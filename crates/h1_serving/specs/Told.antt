@@ -1,10 +1,9 @@
 -- What came of one connection, by the trace of its events: the requests that it handed out, their answers, and the calls of
 -- the board that they stand for.
-use Rattle.std.specs.Prelude.{◌≡◌, ◌⊎◌, ℕ, Bool, true, Option, None, List, [], ◌∷◌, ◌++◌, map, option_to_list, IsTrue, ⊤, Result, Ok, Err}
+use Rattle.std.specs.Prelude.{◌≡◌, Bool, true, Option, None, List, [], ◌∷◌, ◌++◌, map, option_to_list, IsTrue, ⊤, Result, Ok, Err}
 use Rattle.http_config.specs.Causes.{Rose}
 use Rattle.http_config.specs.Config.{Settings}
 use Rattle.http_types.specs.Response.{FullResponse}
-use Rattle.http_types.specs.declared.error.DispatchError.{DispatchError}
 use Rattle.http_types.specs.declared.error.DispatchError.TheVariants as error
 use Rattle.http_bodies.specs.Told.{Grows}
 use Rattle.http_wires.specs.Wiring.{Wiring}

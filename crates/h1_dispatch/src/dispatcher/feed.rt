@@ -1,9 +1,9 @@
 // The body of a request.
-ghost use Rattle.std.specs.Prelude.{◌≡◌, ◌<◌, ◌+◌, ◌⊎◌, None, true};
+ghost use Rattle.std.specs.Prelude.{◌≡◌, ◌<◌, ◌+◌, ◌⊎◌, None, true, false};
 ghost use Rattle.futures.specs.Task.{IsArmed, Keeps};
 ghost use Rattle.http_services.specs.Queue.{waiting};
 ghost use Rattle.http_services.specs.Status.{status_of, Asked};
-ghost use Rattle.h1_dispatch.specs.View.{view_of, stage_of, is_awaiting, MayBePolled, HasNoOutput, allows_answer};
+ghost use Rattle.h1_dispatch.specs.View.{view_of, stage_of, is_awaiting, MayBePolled, HasNoOutput, allows_answer, is_held};
 ghost use Rattle.h1_dispatch.specs.Steps.{Wants, error_of};
 ghost use Rattle.h1_dispatch.specs.Polls.{OnIdle, FeedingSays};
 
@@ -31,6 +31,7 @@ where
         requires running { self.old.ending ≡ None }
         requires allowed { allows_answer (view_of T.wiring S.served S.calling B.gives L.noted self.old) ≡ true }
         requires awaits { is_awaiting (stage_of S.calling B.gives self.old.work) ≡ true }
+        requires unheld { is_held (view_of T.wiring S.served S.calling B.gives L.noted self.old) ≡ false }
         requires armed { IsArmed cx.old }
         ensures says { FeedingSays (view_of T.wiring S.served S.calling B.gives L.noted self.old) (view_of T.wiring S.served S.calling B.gives L.noted self.new) result }
         ensures open { MayBePolled S.calling self.new }
@@ -54,6 +55,7 @@ where
         requires running { self.old.ending ≡ None }
         requires allowed { allows_answer (view_of T.wiring S.served S.calling B.gives L.noted self.old) ≡ true }
         requires awaits { is_awaiting (stage_of S.calling B.gives self.old.work) ≡ true }
+        requires unheld { is_held (view_of T.wiring S.served S.calling B.gives L.noted self.old) ≡ false }
         requires armed { HasNoOutput (view_of T.wiring S.served S.calling B.gives L.noted self.old) ⊎ IsArmed cx.old }
         ensures says { FeedingSays (view_of T.wiring S.served S.calling B.gives L.noted self.old) (view_of T.wiring S.served S.calling B.gives L.noted self.new) result }
         ensures open { MayBePolled S.calling self.new }
@@ -75,6 +77,7 @@ where
         requires running { self.old.ending ≡ None }
         requires allowed { allows_answer (view_of T.wiring S.served S.calling B.gives L.noted self.old) ≡ true }
         requires awaits { is_awaiting (stage_of S.calling B.gives self.old.work) ≡ true }
+        requires unheld { is_held (view_of T.wiring S.served S.calling B.gives L.noted self.old) ≡ false }
         ensures says { FeedingSays (view_of T.wiring S.served S.calling B.gives L.noted self.old) (view_of T.wiring S.served S.calling B.gives L.noted self.new) result }
         ensures open { MayBePolled S.calling self.new }
         ensures registered { OnIdle result (IsArmed cx.new) }

@@ -32,7 +32,12 @@ where
     /// head is asked for, where there is room for its answer; the input is read. While it closes nothing is read, no body is
     /// polled or fed, and no request is begun or answered.
     ///
+    /// A request that is held back goes to no service, and its body isn't fed: then the input is read, and where none may be
+    /// read the task is woken.
+    ///
     /// It is pending where all that is needed is pending, or where its turns are spent: then the task is woken.
+    ///
+    /// Where memory didn't run out, no answer of the service is left at hand: each was handed on to the connection.
     ///
     /// # Errors
     ///

@@ -2,7 +2,7 @@
 ghost use Rattle.std.specs.Prelude.{◌≡◌, ◌⊎◌, None, true, false};
 ghost use Rattle.futures.specs.Task.{IsArmed, Keeps};
 ghost use Rattle.h1_model.specs.Event as on;
-ghost use Rattle.h1_dispatch.specs.View.{view_of, stage_of, is_busy, is_waiting, is_sending, MayBePolled, HasNoOutput, allows, allows_next, has_write_room, allows_answer};
+ghost use Rattle.h1_dispatch.specs.View.{view_of, stage_of, is_busy, is_waiting, is_sending, MayBePolled, HasNoOutput, allows, allows_next, has_write_room, allows_answer, is_checked, is_held};
 ghost use Rattle.h1_dispatch.specs.Steps.{is_bodyless};
 ghost use Rattle.h1_dispatch.specs.Polls.{OnIdle, ServeSays, EndSays};
 
@@ -60,7 +60,7 @@ where
     }
 
     /// Whether fewer bytes wait to be written than the settings' write buffer size.
-    fn has_room(&self) -> bool
+    pub(super) fn has_room(&self) -> bool
         ensures { result ≡ has_write_room (view_of T.wiring S.served S.calling B.gives L.noted self.now) }
     {
         0 < self.line.connection().write_room()
@@ -87,8 +87,8 @@ where
         }
     }
 
-    /// Has the request that waits go to the service, where there is room for its answer, and once its client was told to go
-    /// on, if it waits for that.
+    /// Has the request that waits go to the service, unless it is held back, where there is room for its answer, and once its
+    /// client was told to go on, if it waits for that.
     fn admit(&mut self, cx: &mut Context<'_>) -> Turn
         requires open { MayBePolled S.calling self.old }
         requires running { self.old.ending ≡ None }
@@ -100,6 +100,9 @@ where
         ensures registered { OnIdle result (IsArmed cx.new) }
         ensures kept { Keeps cx.old cx.new }
     {
+        if self.is_held() {
+            return self.hold(cx);
+        }
         let has_room = self.has_room();
         if !has_room {
             return self.feed_beside(cx);
@@ -112,12 +115,13 @@ where
     }
 
     /// Tells the client of the request that waits to go on.
-    fn tell_on(&mut self) -> Turn
+    pub(super) fn tell_on(&mut self) -> Turn
         requires open { MayBePolled S.calling self.old }
         requires running { self.old.ending ≡ None }
         requires waits { is_waiting (stage_of S.calling B.gives self.old.work) ≡ true }
         requires room { has_write_room (view_of T.wiring S.served S.calling B.gives L.noted self.old) ≡ true }
         requires told { allows (view_of T.wiring S.served S.calling B.gives L.noted self.old) on.send_continue ≡ true }
+        requires unchecked { is_checked (view_of T.wiring S.served S.calling B.gives L.noted self.old) ≡ false }
         ensures says { EndSays 1 (view_of T.wiring S.served S.calling B.gives L.noted self.old) (view_of T.wiring S.served S.calling B.gives L.noted self.new) result }
         ensures open { MayBePolled S.calling self.new }
     {
@@ -148,6 +152,8 @@ where
                 let has_ended = is_bodyless(item.body);
                 self.queue = Payload::create(self.alloc, has_ended);
                 self.work = Work::Waiting(Request::new(item.head, ()));
+                self.is_holding = self.upgrades;
+                self.is_checking = self.expects;
                 Turn::Counted
             }
             Ok(NextHead::Fault(_)) => Turn::Counted,
@@ -171,6 +177,7 @@ where
         requires waits { is_waiting (stage_of S.calling B.gives self.old.work) ≡ true }
         requires room { has_write_room (view_of T.wiring S.served S.calling B.gives L.noted self.old) ≡ true }
         requires told { allows (view_of T.wiring S.served S.calling B.gives L.noted self.old) on.send_continue ≡ false }
+        requires unheld { is_held (view_of T.wiring S.served S.calling B.gives L.noted self.old) ≡ false }
         ensures says { ServeSays 4 (view_of T.wiring S.served S.calling B.gives L.noted self.old) (view_of T.wiring S.served S.calling B.gives L.noted self.new) result }
         ensures open { MayBePolled S.calling self.new }
         ensures registered { OnIdle result (IsArmed cx.new) }

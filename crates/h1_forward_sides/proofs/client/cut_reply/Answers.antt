@@ -1,7 +1,15 @@
-use Rattle.std.proofs.Common.{refl}
+use Rattle.std.proofs.Common.{refl, sym, ◌∙◌}
 use Rattle.h1_model.specs.Event as on
 use Rattle.h1_forward_sides.proofs.Sides.{client_plain}
+use Rattle.h1_forward_sides.proofs.Wants.{was_cut, end_not_wanted}
 use Rattle.h1_forward_sides.proofs.client.cut_reply.Goals as goal
 
-pub returns : goal.returns
-returns c = client_plain c.args.client.now (on.body_error) on.done c.fail_answer.new.self c.fail_answer.ensures.settings c.fail_answer.ensures.stands refl refl refl tt
+pub returns-then-not-can_end_answer-clause-wants : goal.returns-then-not-can_end_answer-clause-wants
+returns-then-not-can_end_answer-clause-wants c = λ trace stands.
+    end_not_wanted c.args.client.now (sym c.can_end_answer.ensures.ends ∙ c.if-not-can_end_answer.true)
+
+pub returns-clause-brings : goal.returns-clause-brings
+returns-clause-brings c = client_plain c.args.client.now on.body_error on.done c.fail_answer.new.self c.fail_answer.ensures.settings c.fail_answer.ensures.stands refl refl refl tt
+
+pub returns-clause-wants : goal.returns-clause-wants
+returns-clause-wants c = was_cut c.args.client.now c.fail_answer.new.self c.fail_answer.ensures.settings c.fail_answer.ensures.stands

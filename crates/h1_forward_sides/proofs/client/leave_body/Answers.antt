@@ -1,7 +1,16 @@
-use Rattle.std.proofs.Common.{refl}
+use Rattle.std.proofs.Common.{refl, sym, ◌∙◌}
 use Rattle.h1_model.specs.Event as on
-use Rattle.h1_forward_sides.proofs.Sides.{client_plain}
+use Rattle.h1_forward_sides.proofs.Sides.{client_same, client_plain}
+use Rattle.h1_forward_sides.proofs.Wants.{wants_same, client_wants}
 use Rattle.h1_forward_sides.proofs.client.leave_body.Goals as goal
 
-pub returns : goal.returns
-returns c = client_plain c.args.client.now (on.drop_body) on.done c.drop_body.new.self c.drop_body.ensures.settings c.drop_body.ensures.stands refl refl refl tt
+pub returns-then-not-can_pull-clause-wants : goal.returns-then-not-can_pull-clause-wants
+returns-then-not-can_pull-clause-wants c = λ trace stands. wants_same c.args.client.now
+
+pub returns-clause-brings : goal.returns-clause-brings
+returns-clause-brings c = client_plain c.args.client.now on.drop_body on.done c.drop_body.new.self c.drop_body.ensures.settings c.drop_body.ensures.stands refl refl refl tt
+
+pub returns-clause-wants : goal.returns-clause-wants
+returns-clause-wants c =
+    client_wants c.args.client.now on.drop_body on.done c.drop_body.new.self c.drop_body.ensures.settings c.drop_body.ensures.stands tt
+    (sym c.can_pull.ensures.value ∙ c.if-not-can_pull.false)

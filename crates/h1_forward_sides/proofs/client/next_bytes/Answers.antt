@@ -1,6 +1,7 @@
 use Rattle.std.proofs.Common.{sym, ◌∙◌}
 use Rattle.std.proofs.lemmas.Bool.{false≢true}
 use Rattle.h1_forward_sides.proofs.Sides.{pull_brings, pull_less}
+use Rattle.h1_forward_sides.proofs.Wants.{wants_same, pulled_wants}
 use Rattle.h1_forward_sides.proofs.client.next_bytes.Goals as goal
 
 pub returns-clause-brings : goal.returns-clause-brings
@@ -13,3 +14,11 @@ returns-clause-leaves c =
 
 pub returns-then-not-can_pull-clause-leaves : goal.returns-then-not-can_pull-clause-leaves
 returns-then-not-can_pull-clause-leaves c = λ trace stands. (λ allowed. absurd (false≢true (sym c.if-not-can_pull.true ∙ c.can_pull.ensures.value ∙ allowed)), λ bytes is. is)
+
+pub returns-clause-wants : goal.returns-clause-wants
+returns-clause-wants c =
+    pulled_wants c.in_ok-pulled.pulled c.args.client.now c.pull.new.self c.pull.ensures.settings c.in_ok-pulled.ensures.stands
+    (sym c.can_pull.ensures.value ∙ c.if-not-can_pull.false)
+
+pub returns-then-not-can_pull-clause-wants : goal.returns-then-not-can_pull-clause-wants
+returns-then-not-can_pull-clause-wants c = λ trace stands. wants_same c.args.client.now

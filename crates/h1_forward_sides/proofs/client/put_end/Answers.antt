@@ -1,7 +1,17 @@
-use Rattle.std.proofs.Common.{refl}
+use Rattle.std.proofs.Common.{refl, sym, ◌∙◌}
 use Rattle.h1_model.specs.Event as on
 use Rattle.h1_forward_sides.proofs.Sides.{client_plain}
+use Rattle.h1_forward_sides.proofs.Wants.{has_end, end_not_wanted}
 use Rattle.h1_forward_sides.proofs.client.put_end.Goals as goal
 
-pub returns : goal.returns
-returns c = client_plain c.args.client.now (on.body_end) on.done c.end_answer.new.self c.end_answer.ensures.settings c.in_ok-end_answer.ensures.stands refl refl refl tt
+pub returns-then-not-can_end_answer-clause-wants : goal.returns-then-not-can_end_answer-clause-wants
+returns-then-not-can_end_answer-clause-wants c = λ trace stands.
+    end_not_wanted c.args.client.now (sym c.can_end_answer.ensures.ends ∙ c.if-not-can_end_answer.true)
+
+pub returns-clause-brings : goal.returns-clause-brings
+returns-clause-brings c = client_plain c.args.client.now on.body_end on.done c.end_answer.new.self c.end_answer.ensures.settings c.in_ok-end_answer.ensures.stands refl refl refl tt
+
+pub returns-clause-wants : goal.returns-clause-wants
+returns-clause-wants c =
+    has_end c.args.client.now c.end_answer.new.self c.end_answer.ensures.settings c.in_ok-end_answer.ensures.stands
+    (sym c.can_end_answer.ensures.ends ∙ c.if-not-can_end_answer.false)

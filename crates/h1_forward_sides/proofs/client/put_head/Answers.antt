@@ -1,8 +1,18 @@
-use Rattle.std.proofs.Common.{refl}
+use Rattle.std.proofs.Common.{refl, sym, ◌∙◌}
 use Rattle.h1_model.specs.Event as on
 use Rattle.h1_codec.specs.Meaning.{answer_of, size_of}
 use Rattle.h1_forward_sides.proofs.Sides.{client_plain}
+use Rattle.h1_forward_sides.proofs.Wants.{has_head, head_not_wanted}
 use Rattle.h1_forward_sides.proofs.client.put_head.Goals as goal
 
-pub returns : goal.returns
-returns c = client_plain c.args.client.now (on.answer (answer_of c.args.head.now) (size_of c.args.size)) on.done c.answer.new.self c.answer.ensures.settings c.in_ok-answer.ensures.stands refl refl refl tt
+pub returns-then-not-can_answer-clause-wants : goal.returns-then-not-can_answer-clause-wants
+returns-then-not-can_answer-clause-wants c = λ trace stands.
+    head_not_wanted (answer_of c.args.head.now) (size_of c.args.size) c.args.client.now
+    (sym (c.can_answer.ensures (answer_of c.args.head.now) (size_of c.args.size)) ∙ c.if-not-can_answer.true)
+
+pub returns-clause-brings : goal.returns-clause-brings
+returns-clause-brings c = client_plain c.args.client.now (on.answer (answer_of c.args.head.now) (size_of c.args.size)) on.done c.answer.new.self c.answer.ensures.settings c.in_ok-answer.ensures.stands refl refl refl tt
+
+pub returns-clause-wants : goal.returns-clause-wants
+returns-clause-wants c =
+    has_head (answer_of c.args.head.now) (size_of c.args.size) c.args.client.now c.answer.new.self c.answer.ensures.settings c.in_ok-answer.ensures.stands

@@ -1,5 +1,4 @@
 use Rattle.std.proofs.Common.{sym, ◌∙◌}
-use Rattle.std.proofs.lemmas.Bool.{false≢true}
 use Rattle.h1_forward_sides.proofs.Sides.{next_stays, answer_less}
 use Rattle.h1_forward_sides.proofs.server.next_answer.Goals as goal
 
@@ -7,7 +6,4 @@ pub returns-clause-stays : goal.returns-clause-stays
 returns-clause-stays c = next_stays c.in_ok-next.next c.args.server.now c.next.new.self c.next.ensures.settings c.in_ok-next.ensures.stands
 
 pub returns-clause-leaves : goal.returns-clause-leaves
-returns-clause-leaves c = answer_less c.in_ok-next.next c.args.server.now c.next.new.self c.in_ok-next.ensures.stands
-
-pub returns-then-not-can_next-clause-leaves : goal.returns-then-not-can_next-clause-leaves
-returns-then-not-can_next-clause-leaves c = λ trace stands allowed. absurd (false≢true (sym c.if-not-can_next.true ∙ c.can_next.ensures ∙ allowed))
+returns-clause-leaves c = answer_less c.in_ok-next.next c.args.server.now c.next.new.self (sym c.can_next.ensures ∙ c.if-not-can_next.false) c.in_ok-next.ensures.stands

@@ -1,4 +1,4 @@
-use Rattle.std.proofs.Common.{◌≡◌, [], refl, sym, ap, ◌∙◌, subst}
+use Rattle.std.proofs.Common.{[], refl, sym, ap, ◌∙◌, subst}
 use Rattle.http_bodies.specs.Values.{holds}
 use Rattle.http_services.specs.Serving.{unknown_call}
 use Rattle.h1_line.specs.Line.{LineStands}

@@ -1,16 +1,34 @@
+use Rattle.h1_model.specs.Event as on
 use Rattle.std.specs.Prelude.{take}
 use Rattle.h1_forward_model.specs.Past.{to_client, gave}
 use Rattle.h1_proxy.proofs.Moves.{by_then}
+use Rattle.h1_proxy.proofs.Work.{rests_by}
 use Rattle.h1_proxy.proofs.EventMoves.{client_writes}
 use Rattle.h1_proxy.specs.declared.proxy.Proxy.{Proxy}
+use Rattle.h1_proxy.proofs.Served.{serves_by, event_serves}
 use Rattle.h1_proxy.proofs.proxy.Proxy.advance_client.Goals as goal
 
-pub returns : goal.returns
-returns c =
+pub returns-clause-goes : goal.returns-clause-goes
+returns-clause-goes c =
     let p = c.args.self.now in
     let bytes = take c.args.count p.client.kept.buffered in
     let mid : Proxy = record p { client = c.advance.new.self } in
-    record {
-      goes = by_then (to_client c.args.count) (gave bytes) p mid c.settle.new.self
-          (client_writes c.args.count p c.advance.new.self c.advance.ensures.settings c.advance.ensures.stands) c.in_ok-settle.ensures;
-    }
+    by_then (to_client c.args.count) (gave bytes) p mid c.settle.new.self
+    (client_writes c.args.count p c.advance.new.self c.advance.ensures.settings c.advance.ensures.stands) c.in_ok-settle.ensures.goes
+
+pub returns-clause-rests : goal.returns-clause-rests
+returns-clause-rests c =
+    let p = c.args.self.now in
+    let bytes = take c.args.count p.client.kept.buffered in
+    let mid : Proxy = record p { client = c.advance.new.self } in
+    rests_by (to_client c.args.count) (gave bytes) p mid c.settle.new.self
+    (client_writes c.args.count p c.advance.new.self c.advance.ensures.settings c.advance.ensures.stands) c.in_ok-settle.ensures.rests
+
+pub returns-clause-serves : goal.returns-clause-serves
+returns-clause-serves c =
+    let p = c.args.self.now in
+    let bytes = take c.args.count p.client.kept.buffered in
+    let mid : Proxy = record p { client = c.advance.new.self } in
+    serves_by p mid c.settle.new.self
+    (event_serves (on.write c.args.count) (on.gave bytes) p c.advance.new.self c.advance.ensures.settings c.advance.ensures.stands tt c.requires.can_write_client)
+    c.in_ok-settle.ensures.serves

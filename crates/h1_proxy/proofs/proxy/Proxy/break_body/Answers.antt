@@ -1,12 +1,36 @@
-use Rattle.std.proofs.Common.{Some}
+use Rattle.std.proofs.Common.{refl}
+use Rattle.std.proofs.Common.{Some, None}
 use Rattle.h1_proxy.proofs.Moves.{goes_then, fails, resent}
+use Rattle.h1_proxy.proofs.Work.{less_then, weaker, closed_less, drop_sent, remarked, broken_mark}
+use Rattle.h1_proxy.proofs.Served.{with_server, resent_serves, no_reply_of}
 use Rattle.h1_proxy.proofs.proxy.Proxy.break_body.Goals as goal
 
-pub returns-then-sent : goal.returns-then-sent
-returns-then-sent c =
+pub returns-then-sent-clause-goes : goal.returns-then-sent-clause-goes
+returns-then-sent-clause-goes c =
     resent (record c.args.self.now { server = Some c.args.server }) c.args.sent c.broken.result
-    (record { unsent = c.requires.runs.unsent; sent = c.requires.runs.sent }) c.broken.ensures
+    (record { unsent = c.requires.runs.unsent; sent = c.requires.runs.sent }) c.broken.ensures.whole
 
-pub returns : goal.returns
-returns c =
-    goes_then _ _ _ (fails (record c.args.self.now { server = Some c.args.server }) c.requires.runs.unsent) c.in_ok-reply.ensures
+pub returns-clause-goes : goal.returns-clause-goes
+returns-clause-goes c =
+    goes_then _ _ _ (fails (record c.args.self.now { server = Some c.args.server }) c.requires.runs.unsent) c.in_ok-reply.ensures.goes
+
+pub returns-then-sent-clause-works : goal.returns-then-sent-clause-works
+returns-then-sent-clause-works c = λ unended unbroken.
+    remarked 1 (record c.args.self.now { server = Some c.args.server }) c.args.sent c.broken.result
+    (record { unsent = c.requires.runs.unsent; sent = c.requires.runs.sent }) (broken_mark c.args.sent c.broken.result unended unbroken c.broken.ensures.broken)
+
+pub returns-clause-works : goal.returns-clause-works
+returns-clause-works c = λ unended unbroken.
+    let p = record c.args.self.now { server = None } in
+    less_then 1 (record c.args.self.now { server = Some c.args.server }) p _ (closed_less c.args.self.now c.args.server)
+    (less_then 0 p (record p { sent = None }) _ (drop_sent p) c.in_ok-reply.ensures.works)
+
+pub returns-then-sent-clause-serves : goal.returns-then-sent-clause-serves
+returns-then-sent-clause-serves c = λ s.
+    with_server (record c.args.self.now { sent = Some c.broken.result }) (Some c.args.server)
+    (resent_serves c.args.self.now c.args.sent c.broken.result c.requires.runs c.broken.ensures.answered s)
+
+pub returns-clause-serves : goal.returns-clause-serves
+returns-clause-serves c = λ s.
+    let x = no_reply_of c.args.self.now c.args.sent c.requires.runs c.if-sent.false s in
+    c.in_ok-reply.ensures.serves (record { unsent = c.requires.runs.unsent; sent = refl }) (record { told = x.told; complete = x.complete })

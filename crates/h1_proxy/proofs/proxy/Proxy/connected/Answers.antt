@@ -2,12 +2,26 @@ use Rattle.std.specs.Prelude.{Some}
 use Rattle.h1_forward_model.specs.Past as event
 use Rattle.h1_forward_model.specs.Past.{done}
 use Rattle.h1_proxy.proofs.Moves.{by_then}
+use Rattle.h1_proxy.proofs.Work.{rests_by}
 use Rattle.h1_proxy.proofs.EventMoves.{connects}
 use Rattle.h1_proxy.specs.declared.proxy.Proxy.{Proxy}
+use Rattle.h1_proxy.proofs.Served.{serves_by, with_server}
 use Rattle.h1_proxy.proofs.proxy.Proxy.connected.Goals as goal
 
-pub returns : goal.returns
-returns c =
+pub returns-clause-goes : goal.returns-clause-goes
+returns-clause-goes c =
     let p = c.args.self.now in
     let mid : Proxy = record p { server = Some c.new.result } in
-    record { goes = by_then event.connected done p mid c.settle.new.self (connects p c.new.result c.requires.wants_server c.new.ensures.value) c.in_ok-settle.ensures }
+    by_then event.connected done p mid c.settle.new.self (connects p c.new.result c.requires.wants_server c.new.ensures.value) c.in_ok-settle.ensures.goes
+
+pub returns-clause-rests : goal.returns-clause-rests
+returns-clause-rests c =
+    let p = c.args.self.now in
+    let mid : Proxy = record p { server = Some c.new.result } in
+    rests_by event.connected done p mid c.settle.new.self (connects p c.new.result c.requires.wants_server c.new.ensures.value) c.in_ok-settle.ensures.rests
+
+pub returns-clause-serves : goal.returns-clause-serves
+returns-clause-serves c =
+    let p = c.args.self.now in
+    let mid : Proxy = record p { server = Some c.new.result } in
+    serves_by p mid c.settle.new.self (with_server p (Some c.new.result)) c.in_ok-settle.ensures.serves

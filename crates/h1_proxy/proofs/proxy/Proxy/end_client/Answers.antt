@@ -1,8 +1,18 @@
+use Rattle.std.proofs.Common.{sym, ◌∙◌}
+use Rattle.h1_model.specs.Event as on
 use Rattle.h1_proxy.proofs.EventMoves.{client_end_nothing, client_ends}
+use Rattle.h1_proxy.proofs.Served.{event_serves}
 use Rattle.h1_proxy.proofs.proxy.Proxy.end_client.Goals as goal
 
-pub returns-then-not-can_read : goal.returns-then-not-can_read
-returns-then-not-can_read c = record { goes = client_end_nothing c.args.self.now }
+pub returns-then-not-can_read-clause-goes : goal.returns-then-not-can_read-clause-goes
+returns-then-not-can_read-clause-goes c = client_end_nothing c.args.self.now
 
-pub returns : goal.returns
-returns c = record { goes = client_ends c.args.self.now c.eof.new.self c.eof.ensures.settings c.eof.ensures.stands }
+pub returns-then-not-can_read-clause-serves : goal.returns-then-not-can_read-clause-serves
+returns-then-not-can_read-clause-serves c = λ s. s
+
+pub returns-clause-goes : goal.returns-clause-goes
+returns-clause-goes c = client_ends c.args.self.now c.eof.new.self c.eof.ensures.settings c.eof.ensures.stands
+
+pub returns-clause-serves : goal.returns-clause-serves
+returns-clause-serves c =
+    event_serves on.eof on.done c.args.self.now c.eof.new.self c.eof.ensures.settings c.eof.ensures.stands tt (sym c.can_read.ensures.eof ∙ c.if-not-can_read.false)

@@ -1,10 +1,15 @@
-use Rattle.std.proofs.Common.{sym}
+use Rattle.std.proofs.Common.{Some, sym}
 use Rattle.h1_client_machine.specs.ClientEvent as asked
 use Rattle.h1_proxy.proofs.EventMoves.{allows_of, server_ends}
+use Rattle.h1_proxy.proofs.Served.{with_server}
 use Rattle.h1_proxy.proofs.proxy.Proxy.end_server.Goals as goal
 
 pub eof-requires : goal.eof-requires
 eof-requires c = record { can_read = allows_of asked.eof _ c.in-Some.server (sym c.in-Some.ensures.value) c.requires.can_read_server }
 
-pub returns : goal.returns
-returns c = record { goes = server_ends c.args.self.now c.in-Some.server c.eof.new.self (sym c.in-Some.ensures.value) c.eof.ensures.settings c.eof.ensures.stands }
+pub returns-clause-goes : goal.returns-clause-goes
+returns-clause-goes c =
+    server_ends c.args.self.now c.in-Some.server c.eof.new.self (sym c.in-Some.ensures.value) c.eof.ensures.settings c.eof.ensures.stands
+
+pub returns-clause-serves : goal.returns-clause-serves
+returns-clause-serves c = with_server c.args.self.now (Some c.eof.new.self)

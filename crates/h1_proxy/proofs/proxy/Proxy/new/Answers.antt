@@ -1,6 +1,7 @@
 use Rattle.std.specs.Prelude.{None}
 use Rattle.h1_proxy.proofs.EventMoves.{new_forwards}
 use Rattle.h1_proxy.specs.declared.proxy.Proxy.{Proxy}
+use Rattle.h1_proxy.proofs.Served.{fresh_serves}
 use Rattle.h1_proxy.proofs.proxy.Proxy.new.Goals as goal
 
 pub returns-clause-forwards : goal.returns-clause-forwards
@@ -16,3 +17,17 @@ returns-clause-forwards c =
       notes = c.new-2.result;
     } in
     new_forwards p c.new.result c.new.ensures
+
+pub returns-clause-serves : goal.returns-clause-serves
+returns-clause-serves c =
+    let p : Proxy = record {
+      alloc = c.args.alloc;
+      config = c.args.config;
+      client = c.new.result;
+      server = None;
+      unsent = None;
+      sent = None;
+      moment = None;
+      notes = c.new-2.result;
+    } in
+    fresh_serves p c.new.result c.new.ensures

@@ -1,5 +1,13 @@
-use Rattle.std.proofs.Common.{Some}
+use Rattle.std.proofs.Common.{Some, None, refl}
 use Rattle.h1_proxy.proofs.Moves.{goes_then, closes, server_moves}
+use Rattle.std.proofs.Common.{Some, None}
+use Rattle.std.proofs.Common.{arith, true, sym, ◌∙◌}
+use Rattle.std.proofs.lemmas.Bool.{false≢true}
+use Rattle.h1_proxy.proofs.Work.{works, less_then, server_less, server_much_less, closed_less, drop_sent, then_told, sent_rests}
+use Rattle.std.proofs.Common.{subst}
+use Rattle.h1_client.specs.declared.event.NextAnswer.{NextAnswer}
+use Rattle.h1_forward_sides.specs.Leaves.{LeavesAnswer}
+use Rattle.h1_proxy.proofs.Served.{serves_of_sent}
 use Rattle.h1_proxy.proofs.proxy.Proxy.pass_answer.Goals as goal
 
 pub take_answer-requires : goal.take_answer-requires
@@ -14,16 +22,56 @@ fail-requires-in-Closed c = record { unsent = c.requires.runs.unsent }
 pub pass_body-requires : goal.pass_body-requires
 pass_body-requires c = c.requires
 
-pub returns-in_ok-take_answer-in-Answer : goal.returns-in_ok-take_answer-in-Answer
-returns-in_ok-take_answer-in-Answer c =
-    goes_then _ _ _ (server_moves c.args.self.now c.args.server c.next_answer.new.server c.in_ok-item.ensures.stays) c.in_ok-take_answer-in-Answer.ensures
+pub returns-in_ok-take_answer-in-Answer-clause-goes : goal.returns-in_ok-take_answer-in-Answer-clause-goes
+returns-in_ok-take_answer-in-Answer-clause-goes c =
+    goes_then _ _ _ (server_moves c.args.self.now c.args.server c.next_answer.new.server c.in_ok-item.ensures.stays) c.in_ok-take_answer-in-Answer.ensures.goes
 
-pub returns-in_ok-fail-in-Fault : goal.returns-in_ok-fail-in-Fault
-returns-in_ok-fail-in-Fault c = goes_then _ _ _ (closes (record c.args.self.now { server = Some c.args.server })) c.in_ok-fail-in-Fault.ensures
+pub returns-in_ok-fail-in-Fault-clause-goes : goal.returns-in_ok-fail-in-Fault-clause-goes
+returns-in_ok-fail-in-Fault-clause-goes c = goes_then _ _ _ (closes (record c.args.self.now { server = Some c.args.server })) c.in_ok-fail-in-Fault.ensures.goes
 
-pub returns-in_ok-fail-in-Closed : goal.returns-in_ok-fail-in-Closed
-returns-in_ok-fail-in-Closed c = goes_then _ _ _ (closes (record c.args.self.now { server = Some c.args.server })) c.in_ok-fail-in-Closed.ensures
+pub returns-in_ok-fail-in-Closed-clause-goes : goal.returns-in_ok-fail-in-Closed-clause-goes
+returns-in_ok-fail-in-Closed-clause-goes c = goes_then _ _ _ (closes (record c.args.self.now { server = Some c.args.server })) c.in_ok-fail-in-Closed.ensures.goes
 
-pub returns-in_ok-more-in-Pending : goal.returns-in_ok-more-in-Pending
-returns-in_ok-more-in-Pending c =
-    goes_then _ _ _ (server_moves c.args.self.now c.args.server c.next_answer.new.server c.in_ok-item.ensures.stays) c.in_ok-more-in-Pending.ensures
+pub returns-in_ok-more-in-Pending-clause-goes : goal.returns-in_ok-more-in-Pending-clause-goes
+returns-in_ok-more-in-Pending-clause-goes c =
+    goes_then _ _ _ (server_moves c.args.self.now c.args.server c.next_answer.new.server c.in_ok-item.ensures.stays) c.in_ok-more-in-Pending.ensures.goes
+
+pub returns-in_ok-take_answer-in-Answer-clause-works : goal.returns-in_ok-take_answer-in-Answer-clause-works
+returns-in_ok-take_answer-in-Answer-clause-works c = λ unanswered.
+    works 15 _ _ (omega arith)
+    (less_then 15 (record c.args.self.now { server = Some c.args.server }) (record c.args.self.now { server = Some c.next_answer.new.server }) _
+    (server_much_less 15 c.args.self.now c.args.server c.next_answer.new.server c.in_ok-item.ensures.stays (subst (λ (n : NextAnswer). LeavesAnswer n c.args.server c.next_answer.new.server) c.in-Answer.is c.in_ok-item.ensures.leaves))
+    c.in_ok-take_answer-in-Answer.ensures.works)
+
+pub returns-in_ok-fail-in-Fault-clause-works : goal.returns-in_ok-fail-in-Fault-clause-works
+returns-in_ok-fail-in-Fault-clause-works c = λ unanswered.
+    let p = record c.args.self.now { server = None } in
+    works 1 _ _ (omega arith)
+    (less_then 1 (record c.args.self.now { server = Some c.args.server }) p _ (closed_less c.args.self.now c.args.server)
+    (less_then 0 p (record p { sent = None }) _ (drop_sent p) c.in_ok-fail-in-Fault.ensures.works))
+
+pub returns-in_ok-fail-in-Closed-clause-works : goal.returns-in_ok-fail-in-Closed-clause-works
+returns-in_ok-fail-in-Closed-clause-works c = λ unanswered.
+    let p = record c.args.self.now { server = None } in
+    works 1 _ _ (omega arith)
+    (less_then 1 (record c.args.self.now { server = Some c.args.server }) p _ (closed_less c.args.self.now c.args.server)
+    (less_then 0 p (record p { sent = None }) _ (drop_sent p) c.in_ok-fail-in-Closed.ensures.works))
+
+pub returns-in_ok-more-in-Pending-clause-works : goal.returns-in_ok-more-in-Pending-clause-works
+returns-in_ok-more-in-Pending-clause-works c = λ unanswered.
+    then_told c.args.sent c.next_answer.new.server c.in_ok-more-in-Pending.more c.args.server c.args.self.now c.pass_body.new.self
+    (server_less c.args.self.now c.args.server c.next_answer.new.server c.in_ok-item.ensures.stays) c.in_ok-more-in-Pending.ensures.works
+    (λ told rests. sent_rests c.args.sent c.next_answer.new.server c.args.self.now c.pass_body.new.self rests
+    (λ _. subst (λ (n : NextAnswer). LeavesAnswer n c.args.server c.next_answer.new.server) c.in-Pending.is c.in_ok-item.ensures.leaves told.server.0 told.server.1) (λ is. absurd (false≢true (sym unanswered ∙ is))))
+
+pub returns-in_ok-take_answer-in-Answer-clause-serves : goal.returns-in_ok-take_answer-in-Answer-clause-serves
+returns-in_ok-take_answer-in-Answer-clause-serves c = c.in_ok-take_answer-in-Answer.ensures.serves
+
+pub returns-in_ok-fail-in-Fault-clause-serves : goal.returns-in_ok-fail-in-Fault-clause-serves
+returns-in_ok-fail-in-Fault-clause-serves c = λ _. serves_of_sent c.args.self.now _ c.args.sent c.requires.runs.sent c.in_ok-fail-in-Fault.ensures.serves
+
+pub returns-in_ok-fail-in-Closed-clause-serves : goal.returns-in_ok-fail-in-Closed-clause-serves
+returns-in_ok-fail-in-Closed-clause-serves c = λ _. serves_of_sent c.args.self.now _ c.args.sent c.requires.runs.sent c.in_ok-fail-in-Closed.ensures.serves
+
+pub returns-in_ok-more-in-Pending-clause-serves : goal.returns-in_ok-more-in-Pending-clause-serves
+returns-in_ok-more-in-Pending-clause-serves c = λ _. c.in_ok-more-in-Pending.ensures.serves

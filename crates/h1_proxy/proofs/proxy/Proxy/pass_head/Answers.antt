@@ -1,20 +1,53 @@
-use Rattle.std.proofs.Common.{Some, refl}
+use Rattle.std.proofs.Common.{Some, None, refl}
 use Rattle.h1_proxy.proofs.Moves.{goes_then, client_done, resent}
+use Rattle.h1_model.specs.Event as on
+use Rattle.h1_proxy.proofs.Work.{less_then, client_less, drop_sent, remarked, same_mark}
+use Rattle.h1_proxy.proofs.Served.{told_by, passed_serves, idle_serves, head_put, at_once_of}
 use Rattle.h1_proxy.proofs.proxy.Proxy.pass_head.Goals as goal
 
-pub returns-then-not-is_eof : goal.returns-then-not-is_eof
-returns-then-not-is_eof c =
+pub returns-then-not-is_eof-clause-goes : goal.returns-then-not-is_eof-clause-goes
+returns-then-not-is_eof-clause-goes c =
     let p = record c.args.self.now { server = Some c.args.server } in
-    goes_then _ _ _ (resent p c.args.sent c.answered-sent.result (record { unsent = c.requires.runs.unsent; sent = c.requires.runs.sent }) c.answered-sent.ensures)
-    (client_done (record p { sent = Some c.answered-sent.result }) c.put_head.new.client c.in_ok-put_head.ensures)
+    goes_then _ _ _ (resent p c.args.sent c.answered-sent.result (record { unsent = c.requires.runs.unsent; sent = c.requires.runs.sent }) c.answered-sent.ensures.whole)
+    (client_done (record p { sent = Some c.answered-sent.result }) c.put_head.new.client c.in_ok-put_head.ensures.brings)
 
 pub part-requires : goal.part-requires
 part-requires c = record { runs = record { unsent = c.requires.runs.unsent; sent = refl } }
 
-pub returns : goal.returns
-returns c =
+pub returns-clause-goes : goal.returns-clause-goes
+returns-clause-goes c =
     let p = record c.args.self.now { server = Some c.args.server } in
     let q = record p { sent = Some c.answered-sent.result } in
-    goes_then _ _ _ (resent p c.args.sent c.answered-sent.result (record { unsent = c.requires.runs.unsent; sent = c.requires.runs.sent }) c.answered-sent.ensures)
-    (goes_then _ _ _ (client_done q c.leave_body.new.client c.leave_body.ensures)
-    (goes_then _ _ _ (client_done (record q { client = c.leave_body.new.client }) c.put_head-2.new.client c.in_ok-put_head-2.ensures) c.part.ensures))
+    goes_then _ _ _ (resent p c.args.sent c.answered-sent.result (record { unsent = c.requires.runs.unsent; sent = c.requires.runs.sent }) c.answered-sent.ensures.whole)
+    (goes_then _ _ _ (client_done q c.leave_body.new.client c.leave_body.ensures.brings)
+    (goes_then _ _ _ (client_done (record q { client = c.leave_body.new.client }) c.put_head-2.new.client c.in_ok-put_head-2.ensures.brings) c.part.ensures.goes))
+
+pub returns-then-not-is_eof-clause-works : goal.returns-then-not-is_eof-clause-works
+returns-then-not-is_eof-clause-works c =
+    let p = record c.args.self.now { server = Some c.args.server } in
+    let q = record p { sent = Some c.answered-sent.result } in
+    less_then 0 p q _ (remarked 0 p c.args.sent c.answered-sent.result (record { unsent = c.requires.runs.unsent; sent = c.requires.runs.sent }) (same_mark c.args.sent c.answered-sent.result c.answered-sent.ensures.whole c.answered-sent.ensures.broken))
+    (client_less on.done q c.put_head.new.client c.in_ok-put_head.ensures.brings)
+
+pub returns-clause-works : goal.returns-clause-works
+returns-clause-works c =
+    let p = record c.args.self.now { server = Some c.args.server } in
+    let q = record p { sent = None } in
+    let r = record q { client = c.leave_body.new.client } in
+    less_then 0 p q _ (drop_sent p)
+    (less_then 0 q r _ (client_less on.done q c.leave_body.new.client c.leave_body.ensures.brings)
+    (less_then 0 r (record r { client = c.put_head-2.new.client }) _ (client_less on.done r c.put_head-2.new.client c.in_ok-put_head-2.ensures.brings) c.part.ensures.works))
+
+pub returns-then-not-is_eof-clause-serves : goal.returns-then-not-is_eof-clause-serves
+returns-then-not-is_eof-clause-serves c = λ x.
+    let p = record c.args.self.now { client = c.put_head.new.client; server = Some c.args.server } in
+    passed_serves p c.answered-sent.result c.requires.runs.unsent c.answered-sent.ensures.answered
+    (told_by on.done c.args.self.now.client c.put_head.new.client c.in_ok-put_head.ensures.brings x.told) (c.in_ok-put_head.ensures.wants x.told.0 x.told.1).answered
+
+pub returns-clause-serves : goal.returns-clause-serves
+returns-clause-serves c = λ x.
+    let y = head_put _ c.args.self.now c.leave_body.new.client c.put_head-2.new.client c.leave_body.ensures.brings c.leave_body.ensures.wants
+    c.in_ok-put_head-2.ensures.brings c.in_ok-put_head-2.ensures.wants (at_once_of c.reply_size-size.result (c.is_eof.ensures.0 c.if-not-is_eof.false)) x in
+    c.part.ensures.serves
+    (idle_serves (record c.args.self.now { client = c.put_head-2.new.client; sent = None }) (record { unsent = c.requires.runs.unsent; sent = refl })
+    (record { told = y.told; answered = y.answered; complete = y.complete }))

@@ -1,5 +1,13 @@
 use Rattle.h1_proxy.proofs.Moves.{goes_then}
+use Rattle.h1_proxy.proofs.Work.{less_then, noted_less}
+use Rattle.h1_proxy.proofs.Served.{noted_serves}
 use Rattle.h1_proxy.proofs.proxy.Proxy.pass_noted.Goals as goal
 
-pub returns : goal.returns
-returns c = goes_then _ _ _ c.in_ok-pass_head.ensures c.in_ok-note_reply.ensures
+pub returns-clause-goes : goal.returns-clause-goes
+returns-clause-goes c = goes_then _ _ _ c.in_ok-pass_head.ensures.goes c.in_ok-note_reply.ensures.goes
+
+pub returns-clause-works : goal.returns-clause-works
+returns-clause-works c = less_then 0 _ c.pass_head.new.self _ c.in_ok-pass_head.ensures.works (noted_less _ _ c.in_ok-note_reply.ensures.noted)
+
+pub returns-clause-serves : goal.returns-clause-serves
+returns-clause-serves c = λ x. noted_serves c.pass_head.new.self _ c.in_ok-note_reply.ensures.noted (c.in_ok-pass_head.ensures.serves x)

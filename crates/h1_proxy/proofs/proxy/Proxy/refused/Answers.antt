@@ -1,22 +1,45 @@
+use Rattle.std.proofs.Common.{refl}
 use Rattle.std.specs.Prelude.{Option, None}
 use Rattle.std.proofs.Common.{subst}
 use Rattle.h1_forward_model.specs.Past as event
 use Rattle.h1_forward_model.specs.Past.{done}
 use Rattle.h1_proxy.proofs.Moves.{by_then}
+use Rattle.h1_proxy.proofs.Work.{rests_by}
 use Rattle.h1_proxy.proofs.EventMoves.{refuses}
 use Rattle.h1_proxy.specs.Kept.{Goes}
 use Rattle.h1_proxy.specs.declared.proxy.Proxy.{Proxy}
 use Rattle.h1_proxy.specs.declared.proxy.Unsent.{Unsent}
+use Rattle.h1_proxy.proofs.Served.{serves_by, noted_idle, noted_no_reply, refused_no_reply}
 use Rattle.h1_proxy.proofs.proxy.Proxy.refused.Goals as goal
 
-pub returns : goal.returns
-returns c =
+pub returns-clause-goes : goal.returns-clause-goes
+returns-clause-goes c =
     let p = c.args.self.now in
     let mid : Proxy = record p { unsent = None; sent = None } in
-    let noted = subst (λ (o : Option Unsent). Goes (record p { unsent = o; sent = None }) c.note_unsent.new.self) c.take-unsent.ensures.after c.note_unsent.ensures in
-    record {
-      goes = by_then event.refused done p c.reply.new.self c.settle.new.self
-          (by_then event.refused done p c.note_unsent.new.self c.reply.new.self
-          (by_then event.refused done p mid c.note_unsent.new.self (refuses p c.requires.wants_server) noted) c.in_ok-reply.ensures)
-          c.in_ok-settle.ensures;
-    }
+    let noted = subst (λ (o : Option Unsent). Goes (record p { unsent = o; sent = None }) c.note_unsent.new.self) c.take-unsent.ensures.after c.note_unsent.ensures.goes in
+    by_then event.refused done p c.reply.new.self c.settle.new.self
+    (by_then event.refused done p c.note_unsent.new.self c.reply.new.self
+    (by_then event.refused done p mid c.note_unsent.new.self (refuses p c.requires.wants_server) noted) c.in_ok-reply.ensures.goes)
+    c.in_ok-settle.ensures.goes
+
+pub returns-clause-rests : goal.returns-clause-rests
+returns-clause-rests c =
+    let p = c.args.self.now in
+    let mid : Proxy = record p { unsent = None; sent = None } in
+    let noted = subst (λ (o : Option Unsent). Goes (record p { unsent = o; sent = None }) c.note_unsent.new.self) c.take-unsent.ensures.after c.note_unsent.ensures.goes in
+    rests_by event.refused done p c.reply.new.self c.settle.new.self
+    (by_then event.refused done p c.note_unsent.new.self c.reply.new.self
+    (by_then event.refused done p mid c.note_unsent.new.self (refuses p c.requires.wants_server) noted) c.in_ok-reply.ensures.goes)
+    c.in_ok-settle.ensures.rests
+
+pub returns-clause-serves : goal.returns-clause-serves
+returns-clause-serves c =
+    let p = c.args.self.now in
+    let q = record p { unsent = c.take-unsent.new.self; sent = None } in
+    serves_by p c.reply.new.self c.settle.new.self
+    (λ s.
+    let x = refused_no_reply p c.requires.wants_server s in
+    c.in_ok-reply.ensures.serves
+    (noted_idle q _ c.note_unsent.ensures.noted (record { unsent = c.take-unsent.ensures.after; sent = refl }))
+    (noted_no_reply q _ c.note_unsent.ensures.noted (record { told = x.told; complete = x.complete })))
+    c.in_ok-settle.ensures.serves

@@ -1,8 +1,27 @@
+use Rattle.std.proofs.Common.{refl}
 use Rattle.h1_proxy.proofs.Moves.{goes_then, client_done}
+use Rattle.h1_model.specs.Event as on
+use Rattle.h1_proxy.proofs.Work.{less_then, client_less, noted_less}
+use Rattle.h1_proxy.proofs.Served.{noted_serves, idle_serves, head_put}
 use Rattle.h1_proxy.proofs.proxy.Proxy.reply.Goals as goal
 
-pub returns : goal.returns
-returns c =
-    goes_then _ _ _ (client_done c.args.self.now c.leave_body.new.client c.leave_body.ensures)
-    (goes_then _ _ _ (client_done (record c.args.self.now { client = c.leave_body.new.client }) c.put_head.new.client c.in_ok-put_head.ensures)
-    c.in_ok-note_reply.ensures)
+pub returns-clause-goes : goal.returns-clause-goes
+returns-clause-goes c =
+    goes_then _ _ _ (client_done c.args.self.now c.leave_body.new.client c.leave_body.ensures.brings)
+    (goes_then _ _ _ (client_done (record c.args.self.now { client = c.leave_body.new.client }) c.put_head.new.client c.in_ok-put_head.ensures.brings)
+    c.in_ok-note_reply.ensures.goes)
+
+pub returns-clause-works : goal.returns-clause-works
+returns-clause-works c =
+    let q = record c.args.self.now { client = c.leave_body.new.client } in
+    less_then 0 c.args.self.now q _ (client_less on.done c.args.self.now c.leave_body.new.client c.leave_body.ensures.brings)
+    (less_then 0 q (record q { client = c.put_head.new.client }) _ (client_less on.done q c.put_head.new.client c.in_ok-put_head.ensures.brings)
+    (noted_less _ _ c.in_ok-note_reply.ensures.noted))
+
+pub returns-clause-serves : goal.returns-clause-serves
+returns-clause-serves c = λ idle x.
+    let q = record c.args.self.now { client = c.put_head.new.client } in
+    noted_serves q _ c.in_ok-note_reply.ensures.noted
+    (idle_serves q (record { unsent = idle.unsent; sent = idle.sent })
+    (head_put _ c.args.self.now c.leave_body.new.client c.put_head.new.client c.leave_body.ensures.brings c.leave_body.ensures.wants c.in_ok-put_head.ensures.brings
+    c.in_ok-put_head.ensures.wants refl x))

@@ -1,18 +1,21 @@
-use Rattle.std.proofs.Common.{sym, Some}
-use Rattle.h1_client.specs.Meaning.{request_of}
-use Rattle.h1_codec.specs.Meaning.{size_of}
+use Rattle.std.proofs.Common.{None}
 use Rattle.h1_proxy.proofs.Moves.{goes_then, of_server, closes, closes_as, server_moves, asks}
 use Rattle.h1_proxy.proofs.Done.{did_ask}
+use Rattle.std.proofs.Common.{sym, Some, true, arith}
+use Rattle.h1_proxy.proofs.Work.{over_less, waits_rests, works, works_of_server, then_less, less_then, server_less, server_asks, sent_less, over_as, noted_less}
+use Rattle.h1_codec.specs.Meaning.{size_of}
+use Rattle.h1_client.specs.Meaning.{request_of}
+use Rattle.h1_proxy.proofs.Served.{with_server, noted_serves, sent_serves}
 use Rattle.h1_proxy.proofs.proxy.Proxy.send.Goals as goal
 
-pub returns-then-is_server_over : goal.returns-then-is_server_over
-returns-then-is_server_over c = closes (record c.args.self.now { unsent = Some c.args.unsent })
+pub returns-then-is_server_over-clause-goes : goal.returns-then-is_server_over-clause-goes
+returns-then-is_server_over-clause-goes c = closes (record c.args.self.now { unsent = Some c.args.unsent })
 
-pub returns-in_default : goal.returns-in_default
-returns-in_default c = closes_as (record c.args.self.now { unsent = Some c.args.unsent }) c.take.new.self c.take.ensures.after
+pub returns-in_default-clause-goes : goal.returns-in_default-clause-goes
+returns-in_default-clause-goes c = closes_as (record c.args.self.now { unsent = Some c.args.unsent }) c.take.new.self c.take.ensures.after
 
-pub returns-then-branch : goal.returns-then-branch
-returns-then-branch c =
+pub returns-then-branch-clause-goes : goal.returns-then-branch-clause-goes
+returns-then-branch-clause-goes c =
     let p = record c.args.self.now { unsent = Some c.args.unsent } in
     let s = c.in-Some.server in
     let t = c.tell_time.new.server in
@@ -20,7 +23,44 @@ returns-then-branch c =
     (goes_then _ _ _ (server_moves p s t c.tell_time.ensures)
     (goes_then _ _ _
     (asks p c.args.unsent t c.ask.new.server (did_ask _ (request_of c.args.unsent.head) (size_of c.args.unsent.size) t c.ask.new.server c.if-branch.true c.in_ok-ask.ensures))
-    c.note_unsent.ensures))
+    c.note_unsent.ensures.goes))
 
-pub returns : goal.returns
-returns c = closes_as (record c.args.self.now { unsent = Some c.args.unsent }) c.take.new.self c.take.ensures.after
+pub returns-clause-goes : goal.returns-clause-goes
+returns-clause-goes c = closes_as (record c.args.self.now { unsent = Some c.args.unsent }) c.take.new.self c.take.ensures.after
+
+pub returns-then-is_server_over-clause-works : goal.returns-then-is_server_over-clause-works
+returns-then-is_server_over-clause-works c =
+    works 1 _ _ (omega arith) (over_less (record c.args.self.now { unsent = Some c.args.unsent }) (c.is_server_over.ensures c.if-is_server_over.true))
+
+pub returns-in_default-clause-works : goal.returns-in_default-clause-works
+returns-in_default-clause-works c = waits_rests c.args.self.now c.args.unsent c.take.new.self (sym c.in_default.ensures.value) c.take.ensures.after
+
+pub returns-then-branch-clause-works : goal.returns-then-branch-clause-works
+returns-then-branch-clause-works c =
+    let p = record c.args.self.now { unsent = Some c.args.unsent } in
+    let s = c.in-Some.server in
+    let t = c.tell_time.new.server in
+    let u = c.ask.new.server in
+    works_of_server true p _ (Some s) (sym c.in-Some.ensures.value)
+    (works 1 (record p { server = Some s }) _ (omega arith)
+    (then_less 1 (record p { server = Some s }) (record p { server = Some t }) _ (server_less p s t c.tell_time.ensures)
+    (then_less 1 (record p { server = Some t }) (record p { server = Some u }) _ (server_asks p c.args.unsent t u (did_ask _ (request_of c.args.unsent.head) (size_of c.args.unsent.size) t c.ask.new.server c.if-branch.true c.in_ok-ask.ensures))
+    (less_then 1 (record p { server = Some u }) _ _ (sent_less (record p { server = Some u }) c.args.unsent) (noted_less _ _ c.note_unsent.ensures.noted)))))
+
+pub returns-clause-works : goal.returns-clause-works
+returns-clause-works c =
+    works 1 _ _ (omega arith) (over_as (record c.args.self.now { unsent = Some c.args.unsent }) c.in-Some.server c.take.new.self (sym c.in-Some.ensures.value) c.take.ensures.after)
+
+pub returns-then-is_server_over-clause-serves : goal.returns-then-is_server_over-clause-serves
+returns-then-is_server_over-clause-serves c = with_server (record c.args.self.now { unsent = Some c.args.unsent }) None
+
+pub returns-in_default-clause-serves : goal.returns-in_default-clause-serves
+returns-in_default-clause-serves c = with_server (record c.args.self.now { unsent = Some c.args.unsent }) c.take.new.self
+
+pub returns-then-branch-clause-serves : goal.returns-then-branch-clause-serves
+returns-then-branch-clause-serves c = λ s.
+    noted_serves (record c.args.self.now { unsent = None; sent = Some c.args.unsent.sent; server = Some c.ask.new.server }) _ c.note_unsent.ensures.noted
+    (sent_serves c.args.self.now c.args.unsent (Some c.ask.new.server) s)
+
+pub returns-clause-serves : goal.returns-clause-serves
+returns-clause-serves c = with_server (record c.args.self.now { unsent = Some c.args.unsent }) c.take.new.self

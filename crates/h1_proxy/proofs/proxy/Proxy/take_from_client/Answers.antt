@@ -1,11 +1,33 @@
+use Rattle.std.proofs.Common.{ℕ, length, min, sym, ap, ◌∙◌}
+use Rattle.h1_model.specs.Event as on
 use Rattle.h1_proxy.proofs.EventMoves.{client_nothing, client_reads}
+use Rattle.h1_proxy.proofs.Rooms.{client_count, client_has}
+use Rattle.h1_proxy.proofs.Served.{event_serves}
 use Rattle.h1_proxy.proofs.proxy.Proxy.take_from_client.Goals as goal
 
-pub returns-then-client_room-eq0 : goal.returns-then-client_room-eq0
-returns-then-client_room-eq0 c = record { goes = client_nothing c.args.bytes.now c.args.self.now }
+pub returns-then-client_room-eq0-clause-goes : goal.returns-then-client_room-eq0-clause-goes
+returns-then-client_room-eq0-clause-goes c = client_nothing c.args.bytes.now c.args.self.now
 
-pub returns-then-not-can_read : goal.returns-then-not-can_read
-returns-then-not-can_read c = record { goes = client_nothing c.args.bytes.now c.args.self.now }
+pub returns-then-client_room-eq0-clause-serves : goal.returns-then-client_room-eq0-clause-serves
+returns-then-client_room-eq0-clause-serves c = λ s. s
 
-pub returns : goal.returns
-returns c = record { goes = client_reads c.args.bytes.now c.in_ok-count.count c.args.self.now c.read.new.self c.read.ensures.settings c.in_ok-count.ensures.stands }
+pub returns-then-not-can_read-clause-goes : goal.returns-then-not-can_read-clause-goes
+returns-then-not-can_read-clause-goes c = client_nothing c.args.bytes.now c.args.self.now
+
+pub returns-then-not-can_read-clause-serves : goal.returns-then-not-can_read-clause-serves
+returns-then-not-can_read-clause-serves c = λ s. s
+
+pub returns-clause-goes : goal.returns-clause-goes
+returns-clause-goes c =
+    client_reads c.args.bytes.now c.in_ok-count.count c.args.self.now c.read.new.self c.read.ensures.settings c.in_ok-count.ensures.stands
+
+pub returns-clause-serves : goal.returns-clause-serves
+returns-clause-serves c =
+    event_serves (on.read c.args.bytes.now) (on.took c.in_ok-count.count) c.args.self.now c.read.new.self c.read.ensures.settings c.in_ok-count.ensures.stands tt
+    (sym (c.can_read.ensures.read c.args.bytes.now) ∙ c.if-not-can_read.false)
+
+pub returns-clause-took : goal.returns-clause-took
+returns-clause-took c = λ history all f.
+    client_count c.args.bytes.now c.in_ok-count.count c.args.self.now c.read.new.self c.read.ensures.settings c.in_ok-count.ensures.stands history all f
+    ∙ ap (λ (n : ℕ). min (length c.args.bytes.now) n)
+    (sym (client_has c.args.self.now (λ none. c.if-client_room-eq0.false (c.client_room.ensures ∙ none))))

@@ -1,13 +1,20 @@
-use Rattle.std.proofs.Common.{sym, ◌∙◌}
+use Rattle.std.proofs.Common.{Some, sym, ◌∙◌}
 use Rattle.h1_client_machine.specs.ClientEvent as asked
 use Rattle.h1_proxy.proofs.EventMoves.{server_nothing, server_reads, allows_of}
+use Rattle.h1_proxy.proofs.Served.{with_server}
 use Rattle.h1_proxy.proofs.proxy.Proxy.take_from_server.Goals as goal
 
-pub returns-then-server_room-eq0 : goal.returns-then-server_room-eq0
-returns-then-server_room-eq0 c = record { goes = server_nothing c.args.bytes.now c.args.self.now }
+pub returns-then-server_room-eq0-clause-goes : goal.returns-then-server_room-eq0-clause-goes
+returns-then-server_room-eq0-clause-goes c = server_nothing c.args.bytes.now c.args.self.now
 
-pub returns-then-not-can_read_server : goal.returns-then-not-can_read_server
-returns-then-not-can_read_server c = record { goes = server_nothing c.args.bytes.now c.args.self.now }
+pub returns-then-server_room-eq0-clause-serves : goal.returns-then-server_room-eq0-clause-serves
+returns-then-server_room-eq0-clause-serves c = λ s. s
+
+pub returns-then-not-can_read_server-clause-goes : goal.returns-then-not-can_read_server-clause-goes
+returns-then-not-can_read_server-clause-goes c = server_nothing c.args.bytes.now c.args.self.now
+
+pub returns-then-not-can_read_server-clause-serves : goal.returns-then-not-can_read_server-clause-serves
+returns-then-not-can_read_server-clause-serves c = λ s. s
 
 pub read-requires : goal.read-requires
 read-requires c = record {
@@ -15,8 +22,10 @@ read-requires c = record {
       (sym (c.can_read_server.ensures.read c.args.bytes.now) ∙ c.if-not-can_read_server.false);
 }
 
-pub returns : goal.returns
-returns c = record {
-  goes = server_reads c.args.bytes.now c.in_ok-count.count c.args.self.now c.in-Some.server c.read.new.self (sym c.in-Some.ensures.value)
-      c.read.ensures.settings c.in_ok-count.ensures.stands;
-}
+pub returns-clause-goes : goal.returns-clause-goes
+returns-clause-goes c =
+    server_reads c.args.bytes.now c.in_ok-count.count c.args.self.now c.in-Some.server c.read.new.self (sym c.in-Some.ensures.value)
+    c.read.ensures.settings c.in_ok-count.ensures.stands
+
+pub returns-clause-serves : goal.returns-clause-serves
+returns-clause-serves c = with_server c.args.self.now (Some c.read.new.self)

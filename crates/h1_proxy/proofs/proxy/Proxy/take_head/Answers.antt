@@ -1,26 +1,55 @@
-use Rattle.h1_proxy.proofs.Done.{by_next}
+use Rattle.h1_forward_sides.specs.Wants.{Wants, WantsNext}
 use Rattle.h1_proxy.proofs.Moves.{goes_then, client_done, from_head}
+use Rattle.h1_model.specs.Event as on
+use Rattle.h1_proxy.proofs.Work.{works_more, works_noted, head_less, fault_works, idle_rests}
+use Rattle.std.proofs.Common.{subst}
+use Rattle.h1_connection.specs.declared.connection.heads.NextHead.{NextHead}
+use Rattle.h1_forward_sides.specs.Sides.{BringsNext}
+use Rattle.h1_forward_sides.specs.Leaves.{LeavesNext}
+use Rattle.h1_proxy.proofs.Served.{client_serves, head_opens, noted_serves}
 use Rattle.h1_proxy.proofs.proxy.Proxy.take_head.Goals as goal
 
 pub open-requires : goal.open-requires
 open-requires c = record { idle = record { unsent = c.requires.idle.unsent; sent = c.requires.idle.sent } }
 
-pub returns-in_ok-open-in-Head : goal.returns-in_ok-open-in-Head
-returns-in_ok-open-in-Head c =
-    let brings = by_next _ _ c.args.self.now.client c.next_head.new.client c.in-Head.is c.in_ok-item.ensures.brings in
-    from_head c.in-Head.item c.args.self.now _ c.next_head.new.client c.requires.idle brings c.in_ok-open-in-Head.ensures
+pub returns-in_ok-open-in-Head-clause-goes : goal.returns-in_ok-open-in-Head-clause-goes
+returns-in_ok-open-in-Head-clause-goes c = from_head c.in-Head.item c.args.self.now _ c.next_head.new.client c.requires.idle (subst (λ (n : NextHead). BringsNext n c.args.self.now.client c.next_head.new.client) c.in-Head.is c.in_ok-item.ensures.brings) c.in_ok-open-in-Head.ensures.goes
 
-pub returns-in_ok-note_fault-in-Fault : goal.returns-in_ok-note_fault-in-Fault
-returns-in_ok-note_fault-in-Fault c =
-    let brings = by_next _ _ c.args.self.now.client c.next_head.new.client c.in-Fault.is c.in_ok-item.ensures.brings in
-    goes_then _ _ _ (client_done c.args.self.now c.next_head.new.client brings) c.in_ok-note_fault-in-Fault.ensures
+pub returns-in_ok-note_fault-in-Fault-clause-goes : goal.returns-in_ok-note_fault-in-Fault-clause-goes
+returns-in_ok-note_fault-in-Fault-clause-goes c = goes_then _ _ _ (client_done c.args.self.now c.next_head.new.client (subst (λ (n : NextHead). BringsNext n c.args.self.now.client c.next_head.new.client) c.in-Fault.is c.in_ok-item.ensures.brings)) c.in_ok-note_fault-in-Fault.ensures.goes
 
-pub returns-in-Pending : goal.returns-in-Pending
-returns-in-Pending c =
-    let brings = by_next _ _ c.args.self.now.client c.next_head.new.client c.in-Pending.is c.in_ok-item.ensures.brings in
-    client_done c.args.self.now c.next_head.new.client brings
+pub returns-in-Pending-clause-goes : goal.returns-in-Pending-clause-goes
+returns-in-Pending-clause-goes c = client_done c.args.self.now c.next_head.new.client (subst (λ (n : NextHead). BringsNext n c.args.self.now.client c.next_head.new.client) c.in-Pending.is c.in_ok-item.ensures.brings)
 
-pub returns-in-Closed : goal.returns-in-Closed
-returns-in-Closed c =
-    let brings = by_next _ _ c.args.self.now.client c.next_head.new.client c.in-Closed.is c.in_ok-item.ensures.brings in
-    client_done c.args.self.now c.next_head.new.client brings
+pub returns-in-Closed-clause-goes : goal.returns-in-Closed-clause-goes
+returns-in-Closed-clause-goes c = client_done c.args.self.now c.next_head.new.client (subst (λ (n : NextHead). BringsNext n c.args.self.now.client c.next_head.new.client) c.in-Closed.is c.in_ok-item.ensures.brings)
+
+pub returns-in_ok-open-in-Head-clause-works : goal.returns-in_ok-open-in-Head-clause-works
+returns-in_ok-open-in-Head-clause-works c =
+    works_more c.args.self.now (record c.args.self.now { client = c.next_head.new.client }) _
+    (head_less c.in-Head.item c.args.self.now c.next_head.new.client (subst (λ (n : NextHead). BringsNext n c.args.self.now.client c.next_head.new.client) c.in-Head.is c.in_ok-item.ensures.brings) (subst (λ (n : NextHead). LeavesNext n c.args.self.now.client c.next_head.new.client) c.in-Head.is c.in_ok-item.ensures.leaves)) c.in_ok-open-in-Head.ensures.works
+
+pub returns-in_ok-note_fault-in-Fault-clause-works : goal.returns-in_ok-note_fault-in-Fault-clause-works
+returns-in_ok-note_fault-in-Fault-clause-works c = works_noted _ _ _ (fault_works on.done c.args.self.now c.next_head.new.client (subst (λ (n : NextHead). BringsNext n c.args.self.now.client c.next_head.new.client) c.in-Fault.is c.in_ok-item.ensures.brings) (subst (λ (n : NextHead). LeavesNext n c.args.self.now.client c.next_head.new.client) c.in-Fault.is c.in_ok-item.ensures.leaves)) c.in_ok-note_fault-in-Fault.ensures.noted
+
+pub returns-in-Pending-clause-works : goal.returns-in-Pending-clause-works
+returns-in-Pending-clause-works c = idle_rests on.done c.args.self.now c.next_head.new.client c.requires.idle (subst (λ (n : NextHead). BringsNext n c.args.self.now.client c.next_head.new.client) c.in-Pending.is c.in_ok-item.ensures.brings) (subst (λ (n : NextHead). LeavesNext n c.args.self.now.client c.next_head.new.client) c.in-Pending.is c.in_ok-item.ensures.leaves)
+
+pub returns-in-Closed-clause-works : goal.returns-in-Closed-clause-works
+returns-in-Closed-clause-works c = idle_rests on.done c.args.self.now c.next_head.new.client c.requires.idle (subst (λ (n : NextHead). BringsNext n c.args.self.now.client c.next_head.new.client) c.in-Closed.is c.in_ok-item.ensures.brings) (subst (λ (n : NextHead). LeavesNext n c.args.self.now.client c.next_head.new.client) c.in-Closed.is c.in_ok-item.ensures.leaves)
+
+pub returns-in_ok-open-in-Head-clause-serves : goal.returns-in_ok-open-in-Head-clause-serves
+returns-in_ok-open-in-Head-clause-serves c = λ s.
+    c.in_ok-open-in-Head.ensures.serves
+    (head_opens c.in-Head.item c.args.self.now c.next_head.new.client (subst (λ (n : NextHead). BringsNext n c.args.self.now.client c.next_head.new.client) c.in-Head.is c.in_ok-item.ensures.brings) (subst (λ (n : NextHead). Wants (WantsNext n) c.args.self.now.client c.next_head.new.client) c.in-Head.is c.in_ok-item.ensures.wants) s)
+
+pub returns-in_ok-note_fault-in-Fault-clause-serves : goal.returns-in_ok-note_fault-in-Fault-clause-serves
+returns-in_ok-note_fault-in-Fault-clause-serves c = λ s.
+    noted_serves (record c.args.self.now { client = c.next_head.new.client }) _ c.in_ok-note_fault-in-Fault.ensures.noted
+    (client_serves on.done c.args.self.now c.next_head.new.client (subst (λ (n : NextHead). BringsNext n c.args.self.now.client c.next_head.new.client) c.in-Fault.is c.in_ok-item.ensures.brings) (subst (λ (n : NextHead). Wants (WantsNext n) c.args.self.now.client c.next_head.new.client) c.in-Fault.is c.in_ok-item.ensures.wants) s)
+
+pub returns-in-Pending-clause-serves : goal.returns-in-Pending-clause-serves
+returns-in-Pending-clause-serves c = client_serves on.done c.args.self.now c.next_head.new.client (subst (λ (n : NextHead). BringsNext n c.args.self.now.client c.next_head.new.client) c.in-Pending.is c.in_ok-item.ensures.brings) (subst (λ (n : NextHead). Wants (WantsNext n) c.args.self.now.client c.next_head.new.client) c.in-Pending.is c.in_ok-item.ensures.wants)
+
+pub returns-in-Closed-clause-serves : goal.returns-in-Closed-clause-serves
+returns-in-Closed-clause-serves c = client_serves on.done c.args.self.now c.next_head.new.client (subst (λ (n : NextHead). BringsNext n c.args.self.now.client c.next_head.new.client) c.in-Closed.is c.in_ok-item.ensures.brings) (subst (λ (n : NextHead). Wants (WantsNext n) c.args.self.now.client c.next_head.new.client) c.in-Closed.is c.in_ok-item.ensures.wants)

@@ -1,15 +1,34 @@
+use Rattle.h1_connection.specs.Ticks.{expiry_of}
+use Rattle.h1_model.specs.Event as on
 use Rattle.std.specs.Prelude.{Some}
 use Rattle.h1_forward_model.specs.Past.{tick, done}
 use Rattle.h1_proxy.proofs.Moves.{by_then}
+use Rattle.h1_proxy.proofs.Work.{rests_by}
 use Rattle.h1_proxy.proofs.EventMoves.{ticks}
 use Rattle.h1_proxy.specs.declared.proxy.Proxy.{Proxy}
+use Rattle.h1_proxy.proofs.Served.{serves_by, with_moment, event_serves}
 use Rattle.h1_proxy.proofs.proxy.Proxy.tick.Goals as goal
 
-pub returns : goal.returns
-returns c =
+pub returns-clause-goes : goal.returns-clause-goes
+returns-clause-goes c =
     let p = c.args.self.now in
     let mid : Proxy = record p { client = c.tick.new.self; moment = Some c.args.moment } in
-    record {
-      goes = by_then (tick c.args.moment) done p mid c.settle.new.self
-          (ticks c.args.moment c.in_ok-expiry.expiry p c.tick.new.self (Some c.args.moment) c.tick.ensures.settings c.in_ok-expiry.ensures.stands) c.in_ok-settle.ensures;
-    }
+    by_then (tick c.args.moment) done p mid c.settle.new.self
+    (ticks c.args.moment c.in_ok-expiry.expiry p c.tick.new.self (Some c.args.moment) c.tick.ensures.settings c.in_ok-expiry.ensures.stands) c.in_ok-settle.ensures.goes
+
+pub returns-clause-rests : goal.returns-clause-rests
+returns-clause-rests c =
+    let p = c.args.self.now in
+    let mid : Proxy = record p { client = c.tick.new.self; moment = Some c.args.moment } in
+    rests_by (tick c.args.moment) done p mid c.settle.new.self
+    (ticks c.args.moment c.in_ok-expiry.expiry p c.tick.new.self (Some c.args.moment) c.tick.ensures.settings c.in_ok-expiry.ensures.stands) c.in_ok-settle.ensures.rests
+
+pub returns-clause-serves : goal.returns-clause-serves
+returns-clause-serves c =
+    let p = c.args.self.now in
+    let q : Proxy = record p { client = c.tick.new.self } in
+    let mid : Proxy = record p { client = c.tick.new.self; moment = Some c.args.moment } in
+    serves_by p mid c.settle.new.self
+    (λ s. with_moment q (Some c.args.moment)
+    (event_serves (on.tick c.args.moment) (expiry_of c.in_ok-expiry.expiry) p c.tick.new.self c.tick.ensures.settings c.in_ok-expiry.ensures.stands tt c.requires.can_tick s))
+    c.in_ok-settle.ensures.serves

@@ -1,15 +1,40 @@
 use Rattle.std.proofs.Common.{sym, ◌∙◌}
 use Rattle.h1_proxy.proofs.Moves.{goes_same, of_unsent, of_no_unsent}
+use Rattle.h1_proxy.proofs.Work.{turns, still_rests, works_of_unsent, not_still, runs_on}
+use Rattle.h1_proxy.proofs.Served.{serves_of_unsent}
 use Rattle.h1_proxy.proofs.proxy.Proxy.turn.Goals as goal
 
-pub returns-then-is_still : goal.returns-then-is_still
-returns-then-is_still c = goes_same _
+pub returns-then-is_still-clause-goes : goal.returns-then-is_still-clause-goes
+returns-then-is_still-clause-goes c = goes_same _
 
-pub returns-in_ok-more-in-Some : goal.returns-in_ok-more-in-Some
-returns-in_ok-more-in-Some c = of_unsent c.args.self.now _ c.in-Some.unsent (sym c.in-Some.ensures.value) c.in_ok-more-in-Some.ensures
+pub returns-in_ok-more-in-Some-clause-goes : goal.returns-in_ok-more-in-Some-clause-goes
+returns-in_ok-more-in-Some-clause-goes c = of_unsent c.args.self.now _ c.in-Some.unsent (sym c.in-Some.ensures.value) c.in_ok-more-in-Some.ensures.goes
 
 pub go_on-requires : goal.go_on-requires
 go_on-requires c = record { unsent = c.take.ensures.after }
 
-pub returns-in_ok-more-in-None : goal.returns-in_ok-more-in-None
-returns-in_ok-more-in-None c = of_no_unsent c.args.self.now _ _ (sym c.in-None.ensures.value ∙ sym c.take.ensures.after) c.in_ok-more-in-None.ensures
+pub returns-in_ok-more-in-None-clause-goes : goal.returns-in_ok-more-in-None-clause-goes
+returns-in_ok-more-in-None-clause-goes c = of_no_unsent c.args.self.now _ _ (sym c.in-None.ensures.value ∙ sym c.take.ensures.after) c.in_ok-more-in-None.ensures.goes
+
+pub returns-then-is_still-clause-works : goal.returns-then-is_still-clause-works
+returns-then-is_still-clause-works c = still_rests c.args.self.now (not_still _ _ c.is_still.ensures c.if-is_still.true)
+
+pub returns-in_ok-more-in-Some-clause-works : goal.returns-in_ok-more-in-Some-clause-works
+returns-in_ok-more-in-Some-clause-works c =
+    turns c.in_ok-more-in-Some.more c.args.self.now c.send.new.self (runs_on c.is_still.result c.args.self.now c.is_still.ensures c.if-is_still.false)
+    (works_of_unsent c.in_ok-more-in-Some.more c.args.self.now c.send.new.self _ (sym c.in-Some.ensures.value) c.in_ok-more-in-Some.ensures.works)
+
+pub returns-in_ok-more-in-None-clause-works : goal.returns-in_ok-more-in-None-clause-works
+returns-in_ok-more-in-None-clause-works c =
+    turns c.in_ok-more-in-None.more c.args.self.now c.go_on.new.self (runs_on c.is_still.result c.args.self.now c.is_still.ensures c.if-is_still.false)
+    (works_of_unsent c.in_ok-more-in-None.more c.args.self.now c.go_on.new.self _ (sym c.in-None.ensures.value ∙ sym c.take.ensures.after) c.in_ok-more-in-None.ensures.works)
+
+pub returns-then-is_still-clause-serves : goal.returns-then-is_still-clause-serves
+returns-then-is_still-clause-serves c = λ s. s
+
+pub returns-in_ok-more-in-Some-clause-serves : goal.returns-in_ok-more-in-Some-clause-serves
+returns-in_ok-more-in-Some-clause-serves c = serves_of_unsent c.args.self.now c.send.new.self _ (sym c.in-Some.ensures.value) c.in_ok-more-in-Some.ensures.serves
+
+pub returns-in_ok-more-in-None-clause-serves : goal.returns-in_ok-more-in-None-clause-serves
+returns-in_ok-more-in-None-clause-serves c =
+    serves_of_unsent c.args.self.now c.go_on.new.self _ (sym c.in-None.ensures.value ∙ sym c.take.ensures.after) c.in_ok-more-in-None.ensures.serves

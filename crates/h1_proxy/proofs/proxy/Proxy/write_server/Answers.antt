@@ -1,6 +1,7 @@
-use Rattle.std.proofs.Common.{sym}
+use Rattle.std.proofs.Common.{Some, sym}
 use Rattle.h1_client_machine.specs.ClientEvent as asked
 use Rattle.h1_proxy.proofs.EventMoves.{allows_of, text_of, server_writes}
+use Rattle.h1_proxy.proofs.Served.{with_server}
 use Rattle.h1_proxy.proofs.proxy.Proxy.write_server.Goals as goal
 
 pub advance-requires : goal.advance-requires
@@ -9,7 +10,9 @@ advance-requires c = record {
   fits = text_of c.args.count _ c.in-Some.server (sym c.in-Some.ensures.value) c.requires.fits;
 }
 
-pub returns : goal.returns
-returns c = record {
-  goes = server_writes c.args.count c.args.self.now c.in-Some.server c.advance.new.self (sym c.in-Some.ensures.value) c.advance.ensures.settings c.advance.ensures.stands;
-}
+pub returns-clause-goes : goal.returns-clause-goes
+returns-clause-goes c =
+    server_writes c.args.count c.args.self.now c.in-Some.server c.advance.new.self (sym c.in-Some.ensures.value) c.advance.ensures.settings c.advance.ensures.stands
+
+pub returns-clause-serves : goal.returns-clause-serves
+returns-clause-serves c = with_server c.args.self.now (Some c.advance.new.self)

@@ -9,8 +9,8 @@ use Rattle.h1_forward_traces.specs.Happenings.{sent_of}
 use Rattle.h1_proxy.proofs.Waits.{plain_keeps, waiting_text}
 use Rattle.h1_proxy.proofs.proxy.Unsent.new.Goals as goal
 
-pub returns : goal.returns
-returns c = λ h says can.
+pub returns-clause-unsent : goal.returns-clause-unsent
+returns-clause-unsent c = λ h says can.
     let sized = c.forwarded_size-size.ensures ∙ ap (λ (k : BodyKind). forwarded_size k) says.body in record {
       method = ap (λ (r : AskedHead). r.method) (c.forwarded_head.ensures.says h says can);
       whole = ap not (c.has_body.ensures h says);

@@ -29,5 +29,5 @@ returns-in-Dropped-clause-says g c =
     let w = view_of g.T.Wire.wiring g.S.Service.served g.S.Service.calling g.B.MessageBody.gives g.L.Recorder.noted c.read_on-in-Dropped.new.self in
     let other : ¬ (c.wish.result ≡ status.Pause) = λ is. let never : status.Dropped ≡ status.Pause = sym c.in-Dropped.is ∙ is in cc never in
     let same = same_queue v u c.wish.result other c.wish.ensures.asked (ap (λ x. view_of g.T.Wire.wiring g.S.Service.served g.S.Service.calling g.B.MessageBody.gives g.L.Recorder.noted x) c.wish.ensures.same) in
-    unfed_then v w c.read_on-in-Dropped.result (inr (sym c.wish.ensures.status ∙ c.in-Dropped.is))
+    unfed_then v w c.read_on-in-Dropped.result (inr (inl (sym c.wish.ensures.status ∙ c.in-Dropped.is)))
     (subst (λ (x : View). ReadingSays x w c.read_on-in-Dropped.result) same c.read_on-in-Dropped.ensures.says)

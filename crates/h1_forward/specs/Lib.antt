@@ -1,0 +1,4 @@
+pub mod Line
+pub mod Flow
+pub mod Patience
+pub mod Links

@@ -1,0 +1,39 @@
+-- Which answers a client's connection still wants, and where a server's is at its end.
+use Rattle.std.specs.Prelude.{◌≡◌, Bool, true, false, not, ◌&&◌, is_none, None, ⊤}
+use Rattle.h1_model.specs.Setting.{Setting}
+use Rattle.h1_model.specs.Event as on
+use Rattle.h1_machine.specs.Kept.{Kept}
+use Rattle.h1_machine.specs.Local.{closing_by, waits_for_answer, is_answering}
+
+-- the connection neither is over nor is to end
+abbrev pub is_running : Setting → Kept → Bool
+is_running setting k = not k.is_over && is_none (closing_by setting k)
+
+-- while it goes on, no request waits for its answer
+abbrev pub IsAnswered : Setting → Kept → Type 0
+IsAnswered setting k = is_running setting k ≡ true → waits_for_answer k ≡ false
+
+-- while it goes on, no answer lacks more of its body, or its end
+abbrev pub IsComplete : Setting → Kept → Type 0
+IsComplete setting k = is_running setting k ≡ true → is_answering k ≡ false
+
+-- nothing is wanted that wasn't before
+pub record WantsNoMore (setting : Setting) (old new : Kept) : Type 0 where
+  pub answered : IsAnswered setting old → IsAnswered setting new
+  pub complete : IsComplete setting old → IsComplete setting new
+
+-- an event that hands out no request, and hands in no head of an answer and no end of one
+abbrev pub AnswersNothing : on.Event → Type 0
+AnswersNothing (on.read bytes) = ⊤
+AnswersNothing on.eof = ⊤
+AnswersNothing on.drop_body = ⊤
+AnswersNothing on.send_continue = ⊤
+AnswersNothing (on.chunk bytes) = ⊤
+AnswersNothing (on.write n) = ⊤
+AnswersNothing (on.tick ms) = ⊤
+AnswersNothing event = ⊥
+
+-- after a head no answer is under way; else nothing more is wanted
+abbrev pub WantsAfterNext : Setting → on.Outcome → Kept → Kept → Type 0
+WantsAfterNext setting (on.head h) old new = IsComplete setting new
+WantsAfterNext setting o old new = WantsNoMore setting old new

@@ -1,0 +1,54 @@
+-- That no client waits in vain: each request that waits for an answer, and each answer that isn't complete, is under way.
+use Rattle.std.specs.Prelude.{◌≡◌, Bool, true, false, List, Option, Some, None}
+use Rattle.h1_model.specs.Sums.{Step}
+use Rattle.h1_connection.specs.State.{State, Stands}
+use Rattle.h1_forward_model.specs.Past.{ProxyStep}
+use Rattle.h1_forward_traces.specs.Happenings.{Happenings}
+use Rattle.h1_forward_sides.specs.Wants.{IsAnswered, IsComplete}
+use Rattle.h1_proxy.specs.declared.proxy.Proxy.{Proxy}
+use Rattle.h1_proxy.specs.declared.proxy.Unsent.{Unsent}
+use Rattle.h1_proxy.specs.declared.proxy.Sent.{Sent}
+use Rattle.h1_proxy.specs.Kept.{Forwards}
+
+-- by whether the head of its answer was passed on: no request waits for one, or no answer is under way
+abbrev pub FitsAnswer : Bool → State → Type 0
+FitsAnswer true client = IsAnswered client
+FitsAnswer false client = IsComplete client
+
+-- What the client's connection wants is what the request that is under way is to get: one that waits for a server connection, or was sent
+-- on and has no answer yet, gets the head of one; then what is missing of that. Where none is under way, nothing is wanted.
+abbrev pub Fits : Option Unsent → Option Sent → State → Type 0
+Fits (Some u) sent client = IsComplete client × (u.sent.is_answered ≡ false)
+Fits None (Some s) client = FitsAnswer s.is_answered client
+Fits None None client = IsAnswered client × IsComplete client
+
+abbrev pub IsServed : Proxy → Type 0
+IsServed p = Fits p.unsent p.sent p.client
+
+-- it stays so, whatever happened before
+abbrev pub Serves : Proxy → Proxy → Type 0
+Serves old new = (history : List ProxyStep) (all : Happenings) → Forwards old history all → IsServed old → IsServed new
+
+-- ---- step by step
+
+-- something happened on the client's connection, by which it is as it is
+abbrev pub HasTrace : State → Type 0
+HasTrace client = (trace : List Step) × Stands client trace
+
+pub record Serving (p : Proxy) : Type 0 where
+  pub told : HasTrace p.client
+  pub served : IsServed p
+
+abbrev pub GoesOnServing : Proxy → Proxy → Type 0
+GoesOnServing old new = Serving old → Serving new
+
+-- no answer is under way
+pub record HasNoReply (p : Proxy) : Type 0 where
+  pub told : HasTrace p.client
+  pub complete : IsComplete p.client
+
+-- and no request waits for one
+pub record WantsNothing (p : Proxy) : Type 0 where
+  pub told : HasTrace p.client
+  pub answered : IsAnswered p.client
+  pub complete : IsComplete p.client

@@ -1,0 +1,34 @@
+//! What a forwarder's contracts come to.
+ghost use Rattle.std.specs.Prelude.{◌≡◌, ◌⊎◌, ◌≤◌, ℕ, List, length, Some, true, false};
+ghost use Rattle.h1_model.specs.Event as on;
+ghost use Rattle.h1_machine.specs.Local.{waits_for_answer, is_answering};
+ghost use Rattle.h1_connection.specs.State.{IsAllowed};
+ghost use Rattle.h1_client.specs.State as servers;
+ghost use Rattle.h1_forward_model.specs.Past.{ProxyStep};
+ghost use Rattle.h1_forward_traces.specs.Happenings.{Happenings};
+ghost use Rattle.h1_forward_sides.specs.Leaves.{IsAwaited, LacksBytes};
+ghost use Rattle.h1_proxy.specs.declared.proxy.Proxy.{Proxy};
+ghost use Rattle.h1_proxy.specs.Kept.{client_of, server_of, wants_server, Forwards};
+ghost use Rattle.h1_proxy.specs.Rests.{may_turn, RestsWhereItMay};
+ghost use Rattle.h1_proxy.specs.Served.{IsServed};
+
+/// Of what came from either side, and wasn't passed on yet, no more is held than may be: the hold size of the config. So nobody makes a
+/// forwarder keep more by what it sends.
+pub fn no_more_is_held()
+    ensures client { (p : Proxy) (history : List ProxyStep) (all : Happenings) → Forwards p history all
+        → length (client_of p).kept.unread ≤ (client_of p).settings.h1_hold_size }
+    ensures server { (p : Proxy) (history : List ProxyStep) (all : Happenings) (s : servers.State) → Forwards p history all → server_of p ≡ Some s
+        → length s.kept.unread ≤ (client_of p).settings.h1_hold_size }
+{}
+
+/// No client waits in vain. After an event, while turns may be made and the client's connection isn't given up: a request that waits for
+/// its answer waits for a server connection that is wanted, or for the answer of one that is there, which isn't to end and whose next
+/// answer hasn't come; and an answer that isn't complete has a server connection that lacks bytes of it where there is room for them, and
+/// whose input hasn't ended.
+pub fn no_client_waits_in_vain()
+    ensures answer { (p : Proxy) → IsServed p → RestsWhereItMay p → may_turn p ≡ true → (client_of p).kept.is_over ≡ false
+        → waits_for_answer (client_of p).kept ≡ true → (wants_server p ≡ true) ⊎ ((s : servers.State) × (server_of p ≡ Some s) × IsAwaited s) }
+    ensures body { (p : Proxy) → IsServed p → RestsWhereItMay p → may_turn p ≡ true → (client_of p).kept.is_over ≡ false
+        → is_answering (client_of p).kept ≡ true
+        → (s : servers.State) × (server_of p ≡ Some s) × (((bytes : List ℕ) → IsAllowed (client_of p) (on.chunk bytes)) → LacksBytes s) }
+{}

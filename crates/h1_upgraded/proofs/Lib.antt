@@ -1,0 +1,9 @@
+pub mod Runs
+pub mod Turns
+pub mod Moves
+pub mod Begins
+pub mod Orders
+pub mod Traces
+pub mod Lacks
+pub mod Causes
+pub mod Closes
