@@ -10,7 +10,7 @@ use Rattle.h1_connection.specs.declared.event.End.{End}
 use Rattle.h1_decode.specs.declared.decoder.HeadItem.{HeadItem}
 use Rattle.h1_judge.specs.Judgement.{status_of}
 use Rattle.h1_blocking.specs.Judged.{doubt_if}
-use Rattle.h1_blocking.specs.Served.{Line, Base, IsServedBehind, Follows, Adds, HandsOutOne, SayHeads, Notes, is_admitted, admitted, IsHandled, Handles, IsWritten, EndsFor, HandlesToEnd}
+use Rattle.h1_blocking.specs.Served.{Line, Base, IsServedBehind, Follows, Adds, HandsOutOne, SayHeads, Notes, is_admitted, admitted, IsHandled, Handles, IsWritten, HandlesToEnd}
 use Rattle.h1_blocking.proofs.Followed.{behind_then}
 
 -- ---- lists that grow
@@ -146,6 +146,14 @@ handles_both a b c was mid now first second = record {
 
 pub adds_follow : (e : Event) (o : Outcome) (a b : Line) → Adds e o a b → Follows a b
 adds_follow e o a b adds = record { goes = λ base served. (adds.goes base served).0 }
+
+-- The connection ended for this reason: that is the last that happened, no request is handed out, and the bytes written are
+-- the text of all answers.
+pub record EndsFor (end : End) (old new : Line) : Type 0 where
+  pub goes : (base : Base) (served : IsServed base old)
+      → (behind : IsServedBehind base served.trace new) × (last : List Step)
+      × (behind.served.trace ≡ record { event = on.next; outcome = on.closed (end_of end) } ∷ last)
+      × (written behind.served.trace ≡ text (setting_of new.state.settings) behind.served.trace)
 
 -- the connection has ended, and all was written
 pub ends_here : (a b : Line) (end : End) → Adds on.next (on.closed (end_of end)) a b → IsWritten b.state → EndsFor end a b

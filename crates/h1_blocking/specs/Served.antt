@@ -140,14 +140,6 @@ pub record Handles (old : Line) (was : Option (List HeadItem)) (new : Line) (now
 pub record IsWritten (state : State) : Type 0 where
   pub all : (trace : List Step) → Stands state trace → written trace ≡ text (setting_of state.settings) trace
 
--- The connection ended for this reason: that is the last that happened, no request is handed out, and the bytes written are
--- the text of all answers.
-pub record EndsFor (end : End) (old new : Line) : Type 0 where
-  pub goes : (base : Base) (served : IsServed base old)
-      → (behind : IsServedBehind base served.trace new) × (last : List Step)
-      × (behind.served.trace ≡ record { event = on.next; outcome = on.closed (end_of end) } ∷ last)
-      × (written behind.served.trace ≡ text (setting_of new.state.settings) behind.served.trace)
-
 -- the requests went to the handler; the last that happened is that the connection ended, for this reason; and the bytes
 -- written are the text of all answers
 pub record IsHandledToEnd (base : Base) (before : List Step) (was now : Option (List HeadItem)) (end : End) (line : Line) : Type 0 where

@@ -23,10 +23,11 @@ use Rattle.h1_messages.specs.OneReading.{one_answer}
 use Rattle.h1_framed.specs.Messages.{Part, nothing, Standing}
 use Rattle.h1_framed.specs.declared.message.Message.TheVariants.{Item, Chunk}
 use Rattle.h1_codec_ends.specs.Acts.{Act, comes, asked, bytes_came, told, IsRun}
-use Rattle.h1_codec_ends.specs.Given.{kind_to, Sent, texts, IsHeadSent, IsBodyFramed, part_of, AreWhole}
+use Rattle.h1_codec_ends.specs.Given.{kind_to, Sent, texts, part_of, AreWhole}
 use Rattle.h1_codec_ends.specs.Requests.{IsFresh}
 use Rattle.h1_codec_ends.specs.Answers.{is_head, Turn, heads_given, AreTurns, all_came, AreToTurns, answer_of, IsRead, AreRead, AreAllWhole}
-use Rattle.h1_codec_ends.proofs.Runs.{between, Stands, AreGood, Gives, run_gives}
+use Rattle.h1_codec_ends.proofs.Heads.{IsHeadSent}
+use Rattle.h1_codec_ends.proofs.Runs.{IsBodyFramed, between, Stands, AreGood, Gives, run_gives}
 use Rattle.h1_codec_ends.proofs.Runs as runs
 use Rattle.h1_codec_ends.proofs.Ends.{given_all}
 

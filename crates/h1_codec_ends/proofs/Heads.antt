@@ -1,9 +1,9 @@
 -- What is answered while no body is open, where the next head is known.
-use Rattle.std.proofs.Common.{◌≡◌, ℕ, ◌<◌, List, [], ◌++◌, length, drop, slice_range, sym, ap, ◌∙◌, subst, arith, inl, inr, append-nil}
+use Rattle.std.proofs.Common.{◌≡◌, ℕ, ◌<◌, ◌≤◌, List, [], ◌++◌, length, drop, slice_range, sym, ap, ◌∙◌, subst, arith, inl, inr, append-nil}
 use Rattle.std.proofs.Math.Seq.{take-append_seam}
 use Rattle.std.proofs.lemmas.List.{drop_at, drop-append-le}
 use Rattle.std.proofs.lemmas.Slice.{between_is}
-use Rattle.h1_model.specs.HeadPiece.{HasNoHeadPiece}
+use Rattle.h1_model.specs.HeadPiece.{IsHeadPiece, HasNoHeadPiece}
 use Rattle.h1_model.specs.Request.{Fault}
 use Rattle.h1_model.proofs.HeadPieceLemmas.{head_piece_unique, slice_range-append}
 use Rattle.h1_model.proofs.ExampleLemmas.{nothing_behind}
@@ -12,7 +12,13 @@ use Rattle.h1_messages.specs.Heads.{IsNext, IsNextItem, payload_of, refused, Sto
 use Rattle.h1_messages.specs.declared.payload_type.PayloadType.{PayloadType}
 use Rattle.h1_messages.proofs.GoingOn.{next_append}
 use Rattle.h1_messages.proofs.Refusals.{none_too_long, stops_append}
-use Rattle.h1_codec_ends.specs.Given.{Sent, IsHeadSent}
+use Rattle.h1_codec_ends.specs.Given.{Sent}
+
+-- the head stands in front of whatever follows, within the limit, and is read back
+pub record IsHeadSent {I : Type 0} (k : Kind I) (limit : ℕ) (s : Sent k) : Type 0 where
+  pub piece : (more : List ℕ) → IsHeadPiece (s.head ++ more) 0 (length s.head)
+  pub fits : length s.head ≤ limit
+  pub reads : k.reads s.head (says_head s.says)
 
 -- no head stands in no bytes
 pub no_head_in_none : (bytes : List ℕ) → bytes ≡ [] → HasNoHeadPiece bytes

@@ -13,8 +13,9 @@ use Rattle.h1_messages.specs.Kinds.{requests}
 use Rattle.h1_messages.specs.OneReading.{one_request}
 use Rattle.h1_framed.specs.Messages.{Standing}
 use Rattle.h1_codec_ends.specs.Acts.{Act, bytes_came, IsRun}
-use Rattle.h1_codec_ends.specs.Given.{texts, IsHeadSent, AreGiven}
+use Rattle.h1_codec_ends.specs.Given.{texts, AreGiven}
 use Rattle.h1_codec_ends.specs.Requests.{IsFresh, sent_of}
+use Rattle.h1_codec_ends.proofs.Heads.{IsHeadSent}
 use Rattle.h1_codec_ends.proofs.Runs.{between, AreGood, heads_given, run_gives}
 use Rattle.h1_codec_ends.proofs.Ends.{given_all}
 

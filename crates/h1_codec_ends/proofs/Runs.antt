@@ -20,9 +20,13 @@ use Rattle.h1_framed.specs.declared.message.Message.{Message}
 use Rattle.h1_framed.specs.declared.message.Message.TheVariants.{Item, Chunk}
 use Rattle.h1_two_ends.proofs.Rests.{RestSays, body_says}
 use Rattle.h1_codec_ends.specs.Acts.{Act, comes, asked, bytes_came, told, HaveNoFault, EndsWaiting, HasAnswered, IsRun}
-use Rattle.h1_codec_ends.specs.Given.{kind_to, Sent, texts, IsHeadSent, IsBodyFramed, whole_part, has_part, IsPartGiven, IsBodyGiven, AreBegun, part_if, part_of, AreWhole}
+use Rattle.h1_codec_ends.specs.Given.{kind_to, Sent, texts, whole_part, has_part, IsPartGiven, IsBodyGiven, AreBegun, part_if, part_of, AreWhole}
 use Rattle.h1_codec_ends.proofs.Bodies.{BodyGives, gave, waited, has_ended, lacked, body_gives}
-use Rattle.h1_codec_ends.proofs.Heads.{no_head_in_none, none_refused, head_fine, IsTaken, head_taken, head_there}
+use Rattle.h1_codec_ends.proofs.Heads.{IsHeadSent, no_head_in_none, none_refused, head_fine, IsTaken, head_taken, head_there}
+
+-- the head frames the whole body that was written
+abbrev pub IsBodyFramed : {I : Type 0} → (k : Kind I) → Bool → Sent k → Type 0
+IsBodyFramed k is_bare s = IsBodySent true (kind_to is_bare (k.body s.says)) s.body s.bytes
 
 -- ---- small facts
 

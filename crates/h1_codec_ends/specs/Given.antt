@@ -1,10 +1,8 @@
 -- Messages that were sent one after another, and what is given of them.
-use Rattle.std.specs.Prelude.{◌≡◌, ◌⊎◌, ⊤, ℕ, ◌≤◌, Bool, true, false, List, [], ◌∷◌, ◌++◌, length}
-use Rattle.h1_model.specs.HeadPiece.{IsHeadPiece}
+use Rattle.std.specs.Prelude.{◌≡◌, ◌⊎◌, ⊤, ℕ, Bool, true, false, List, [], ◌∷◌, ◌++◌}
 use Rattle.h1_model.specs.Request.{BodyKind, no_body, has_body}
 use Rattle.h1_model.specs.Handed.{Begins}
-use Rattle.h1_agreement.specs.SentAnswer.{IsBodySent}
-use Rattle.h1_messages.specs.Kind.{Kind, says_head}
+use Rattle.h1_messages.specs.Kind.{Kind}
 use Rattle.h1_messages.specs.Heads.{waits}
 use Rattle.h1_framed.specs.Messages.{no_end, an_end, Part, no_part}
 use Rattle.h1_codec_ends.specs.Acts.{Act, all_told, HaveNoFault, EndsWaiting}
@@ -25,16 +23,6 @@ pub record Sent {I : Type 0} (k : Kind I) : Type 0 where
 abbrev pub texts : {I : Type 0} → (k : Kind I) → List (Sent k) → List ℕ
 texts k [] = []
 texts k (s ∷ ss) = s.head ++ (s.body ++ texts k ss)
-
--- the head stands in front of whatever follows, within the limit, and is read back
-pub record IsHeadSent {I : Type 0} (k : Kind I) (limit : ℕ) (s : Sent k) : Type 0 where
-  pub piece : (more : List ℕ) → IsHeadPiece (s.head ++ more) 0 (length s.head)
-  pub fits : length s.head ≤ limit
-  pub reads : k.reads s.head (says_head s.says)
-
--- the head frames the whole body that was written
-abbrev pub IsBodyFramed : {I : Type 0} → (k : Kind I) → Bool → Sent k → Type 0
-IsBodyFramed k is_bare s = IsBodySent true (kind_to is_bare (k.body s.says)) s.body s.bytes
 
 -- ---- what is given
 

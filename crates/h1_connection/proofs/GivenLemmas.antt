@@ -11,12 +11,12 @@ use Rattle.h1_model.specs.Text.{answer_head_text}
 use Rattle.h1_model.specs.Event as on
 use Rattle.h1_model.specs.End.{End}
 use Rattle.h1_machine.specs.Kept.{Rest, no_rest, raw_rest, fixed_rest, chunks_rest, frames_rest, Reply, unanswered, sending, answered, Exchange, Kept, Change, is_frames, is_unanswered, is_sending_body, is_upgraded, now}
-use Rattle.h1_machine.specs.Local.{closing_by, allowed_by, has_body_left, is_allowed_running, is_allowed_closing}
+use Rattle.h1_machine.specs.Local.{closing_by, allowed_by, has_body_left, is_answering, is_allowed_running, is_allowed_closing}
 use Rattle.h1_machine.specs.Reply.{stated, answering, completing, piece_sent, sending_piece}
 use Rattle.h1_machine.specs.Change.{IsStep, IsChange, noting_since, doing_with}
 use Rattle.h1_connection.specs.Meaning.{setting_of}
 use Rattle.h1_connection.specs.Parts.{kept_of, Steps}
-use Rattle.h1_connection.specs.Given.{frame_allowed, HasOpened, IsSendingBody}
+use Rattle.h1_connection.specs.Given.{frame_allowed, HasOpened}
 use Rattle.h1_connection.specs.State.{State, IsAllowed, IsNextAllowed, HasWriteRoom}
 use Rattle.h1_connection.specs.declared.connection.parts.Parts.{Parts}
 use Rattle.h1_connection.proofs.GoesOnLemmas.{state_of, allowed_parts}
@@ -165,6 +165,12 @@ continue_opens now s p q view allowed steps =
     continued_case (setting_of s) (kept_of p) (kept_of p).exchange on.done (kept_of q) (allowed_parts now s p on.send_continue view allowed) steps
 
 -- ---- an answer with a body
+
+-- an answer's body goes out in a connection that neither is over nor closes
+pub record IsSendingBody (setting : Setting) (k : Kept) : Type 0 where
+  pub over : k.is_over ≡ false
+  pub runs : closing_by setting k ≡ None
+  pub answering : is_answering k ≡ true
 
 choose_else : (a b : Kept) (test : Bool) → test ≡ false → (if test then a else b) ≡ b
 choose_else a b true is = absurd (cc is)

@@ -3,7 +3,7 @@ use Rattle.std.specs.Prelude.{◌≡◌, Bool, true, false, not, ◌&&◌, ◌||
 use Rattle.h1_model.specs.Setting.{Setting}
 use Rattle.h1_model.specs.Event as on
 use Rattle.h1_machine.specs.Kept.{Kept, is_upgraded}
-use Rattle.h1_machine.specs.Local.{closing_by, allowed_by, waits_for_answer, is_answering}
+use Rattle.h1_machine.specs.Local.{closing_by, allowed_by, waits_for_answer}
 use Rattle.h1_connection.specs.declared.connection.heads.NextHead.{NextHead}
 use Rattle.h1_connection.specs.declared.connection.heads.NextHead.TheVariants as next
 use Rattle.h1_connection.specs.declared.connection.heads.NextKind.{NextKind}
@@ -36,9 +36,3 @@ pub record HasOpened (setting : Setting) (was_over : Bool) (k : Kept) : Type 0 w
   pub over : k.is_over ≡ was_over
   pub runs : closing_by setting k ≡ None
   pub waits : waits_for_answer k ≡ true
-
--- an answer's body goes out in a connection that neither is over nor closes
-pub record IsSendingBody (setting : Setting) (k : Kept) : Type 0 where
-  pub over : k.is_over ≡ false
-  pub runs : closing_by setting k ≡ None
-  pub answering : is_answering k ≡ true
