@@ -10,7 +10,6 @@ mod page;
 mod round;
 mod serve;
 mod server;
-mod socket;
 mod text;
 mod visit;
 

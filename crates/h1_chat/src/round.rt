@@ -8,9 +8,9 @@ ghost use Rattle.h1_chat.specs.Flow.{Passes, sides};
 use crate::flow::{TakenIn, take_in, write};
 use crate::house::House;
 use crate::member::{Stage, Standing};
-use crate::socket::Polled;
 use bytes::Bytes;
 use h1_connection::{Connection, Message};
+use h1_mio::Polled;
 use http_types::{Sink, Source};
 use ws_hub::{Event, NoMemory, Outcome, Turn};
 

@@ -2,7 +2,7 @@
 use crate::house::House;
 use crate::member::{Member, Stage};
 use crate::round::{Round, go_round};
-use crate::socket::{Incoming, Outgoing};
+use h1_mio::{Incoming, Outgoing};
 use std::io::Read;
 use std::net::Shutdown;
 use ws_hub::NoMemory;

@@ -1,9 +1,9 @@
 //! A connection of the page.
 use crate::page::Page;
-use crate::socket::{Incoming, Outgoing, Polled};
 use h1_connection::{
     BodySize, Connection, Expiry, NextHead, NoMemory, ReadFromError, ServiceConfig,
 };
+use h1_mio::{Incoming, Outgoing, Polled};
 use http_types::{RequestHead, Sink};
 use mio::net::TcpStream;
 use std::alloc::Global;

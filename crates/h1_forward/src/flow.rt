@@ -4,11 +4,11 @@ ghost use Rattle.h1_forward_model.specs.Past as event;
 ghost use Rattle.h1_proxy.specs.Kept.{client_of, server_of, server_text};
 ghost use Rattle.h1_forward.specs.Flow.{FollowsClient, FollowsServer, HearsClient, HearsServer, MayEnd, Tells};
 
-use crate::socket::Polled;
 use crate::standing::{Stage, Standing};
 use h1_forward_loop::{
     Forwarder, NoMemory, TakenIn, take_in_client, take_in_server, write_client, write_server,
 };
+use h1_mio::Polled;
 use http_types::{Sink, Source};
 
 /// Reads from the client once, and says whether something moved. The moment is of uptime, in milliseconds.

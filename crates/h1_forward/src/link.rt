@@ -5,10 +5,10 @@ ghost use Rattle.h1_forward.specs.Links.{GivesUp, Finishes};
 
 use crate::flow::{hear_server, tell_server};
 use crate::slot::Shared;
-use crate::socket::{Incoming, Outgoing};
 use crate::standing::{Ready, Standing};
 use crate::upstream::Begun;
 use h1_forward_loop::{Forwarder, NoMemory, Proxy};
+use h1_mio::{Incoming, Outgoing};
 use mio::net::TcpStream;
 use std::mem;
 

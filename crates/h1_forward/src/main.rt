@@ -10,7 +10,6 @@ mod places;
 mod pool;
 mod server;
 mod slot;
-mod socket;
 mod standing;
 mod token;
 mod upstream;

@@ -2,7 +2,7 @@
 ghost use Rattle.std.specs.Prelude.{◌≡◌, ◌<◌, ◌++◌, ◌∷◌, [], true, false, IsTrue, IfSome, OnOk, length};
 ghost use Rattle.std.specs.Io.KnownBytes.{Keeps};
 
-use crate::socket::{Incoming, Polled};
+use h1_mio::{Incoming, Polled};
 use http_types::{NoMemory, Source};
 use mio::net::TcpStream;
 use std::alloc::Global;

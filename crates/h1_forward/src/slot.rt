@@ -1,10 +1,10 @@
 //! One client: its socket, the one to the server, and the forwarder between them.
 use crate::flow::{hear_client, tell_client};
 use crate::link::Link;
-use crate::socket::{Incoming, Outgoing, Polled};
 use crate::standing::{Ready, Stage, Standing};
 use crate::upstream::Upstream;
 use h1_forward_loop::{Expiry, Forwarder, NoMemory, Reply};
+use h1_mio::{Incoming, Outgoing, Polled};
 use http_types::Source;
 use mio::Poll;
 use mio::net::TcpStream;

@@ -1,4 +1,4 @@
-//! Both directions of a socket that doesn't wait.
+//! Both directions of a socket that doesn't wait, as a source and as a sink.
 ghost use Rattle.std.specs.Prelude.{None};
 
 use h1_net::Stall;
@@ -6,7 +6,7 @@ use http_types::{Failed, Sink, Source};
 use mio::net::TcpStream;
 use std::io::{ErrorKind, Read, Write};
 
-/// What may have nothing to give or to take just now.
+/// A source or a sink that may have nothing to give or to take just now.
 pub trait Polled {
     /// Whether the last call failed only because it would have had to wait.
     fn is_not_now(&self) -> bool;
@@ -21,8 +21,10 @@ pub struct Incoming<'a> {
 }
 
 impl<'a> Incoming<'a> {
-    /// A source of what the socket gives.
-    pub fn new(stream: &'a TcpStream) -> Incoming<'a> {
+    /// A source of what the socket gives. No call of it has failed.
+    pub fn new(stream: &'a TcpStream) -> Incoming<'a>
+    ensures fresh: { result.faults ≡ 0 }
+    {
         Incoming {
             stream,
             faults: 0,
@@ -67,8 +69,10 @@ pub struct Outgoing<'a> {
 }
 
 impl<'a> Outgoing<'a> {
-    /// A sink into the socket.
-    pub fn new(stream: &'a TcpStream) -> Outgoing<'a> {
+    /// A sink into the socket. No call of it has failed.
+    pub fn new(stream: &'a TcpStream) -> Outgoing<'a>
+    ensures fresh: { result.faults ≡ 0 }
+    {
         Outgoing {
             stream,
             faults: 0,
