@@ -1,5 +1,5 @@
 //! Both directions of a socket that doesn't wait, as a source and as a sink.
-ghost use Rattle.std.specs.Prelude.{None};
+ghost use Rattle.std.specs.Prelude.{◌≡◌, None};
 
 use h1_net::Stall;
 use http_types::{Failed, Sink, Source};
@@ -23,7 +23,7 @@ pub struct Incoming<'a> {
 impl<'a> Incoming<'a> {
     /// A source of what the socket gives. No call of it has failed.
     pub fn new(stream: &'a TcpStream) -> Incoming<'a>
-    ensures fresh: { result.faults ≡ 0 }
+        ensures fresh { result.faults ≡ 0 }
     {
         Incoming {
             stream,
@@ -71,7 +71,7 @@ pub struct Outgoing<'a> {
 impl<'a> Outgoing<'a> {
     /// A sink into the socket. No call of it has failed.
     pub fn new(stream: &'a TcpStream) -> Outgoing<'a>
-    ensures fresh: { result.faults ≡ 0 }
+        ensures fresh { result.faults ≡ 0 }
     {
         Outgoing {
             stream,
