@@ -10,19 +10,51 @@ use vectors::{Case, put_text};
 
 /// `error NAME`: the text that this error prints.
 pub fn error(alloc: Global, case: &Case<'_>, found: &mut Vec<u8>) -> Result<bool, NoMemory> {
-    if let Some(kind) = kind_of(case.argument(0)) {
+    let name = case.argument(0);
+    if let Some(kind) = kind_of(name) {
         return put_printed(alloc, &Error { kind, cause: None }, found);
     }
-    match case.argument(0) {
-        b"caused-by-name" => put_printed(alloc, &Error::from(HttpError::Name), found),
-        b"caused-by-too-large" => put_printed(alloc, &Error::from(ParseError::TooLarge), found),
-        b"caused-by-overflow" => put_printed(alloc, &Error::from(PayloadError::Overflow), found),
+    if let Some(error) = caused_by(name) {
+        return put_printed(alloc, &error, found);
+    }
+    if let Some(error) = value_error(name) {
+        return put_printed(alloc, &error, found);
+    }
+    if let Some(error) = part_error(name) {
+        return put_printed(alloc, &error, found);
+    }
+    build_error(alloc, name, found)
+}
+
+fn caused_by(name: &[u8]) -> Option<Error> {
+    match name {
+        b"caused-by-name" => Some(Error::from(HttpError::Name)),
+        b"caused-by-too-large" => Some(Error::from(ParseError::TooLarge)),
+        b"caused-by-overflow" => Some(Error::from(PayloadError::Overflow)),
+        _ => None,
+    }
+}
+
+fn value_error(name: &[u8]) -> Option<ValueError> {
+    match name {
+        b"value-invalid" => Some(ValueError::Invalid),
+        b"value-no-memory" => Some(ValueError::NoMemory),
+        _ => None,
+    }
+}
+
+fn part_error(name: &[u8]) -> Option<InvalidHeaderPart> {
+    match name {
+        b"part-name" => Some(InvalidHeaderPart::Name),
+        b"part-value" => Some(InvalidHeaderPart::Value),
+        b"part-no-memory" => Some(InvalidHeaderPart::NoMemory),
+        _ => None,
+    }
+}
+
+fn build_error(alloc: Global, name: &[u8], found: &mut Vec<u8>) -> Result<bool, NoMemory> {
+    match name {
         b"bad-reason" => put_printed(alloc, &BadReason, found),
-        b"value-invalid" => put_printed(alloc, &ValueError::Invalid, found),
-        b"value-no-memory" => put_printed(alloc, &ValueError::NoMemory, found),
-        b"part-name" => put_printed(alloc, &InvalidHeaderPart::Name, found),
-        b"part-value" => put_printed(alloc, &InvalidHeaderPart::Value, found),
-        b"part-no-memory" => put_printed(alloc, &InvalidHeaderPart::NoMemory, found),
         b"reused" => put_printed(alloc, &BuildError::Reused, found),
         b"build-reason" => put_printed(alloc, &BuildError::Http(HttpError::Reason), found),
         b"build-no-memory" => put_printed(alloc, &BuildError::NoMemory, found),
@@ -84,21 +116,27 @@ pub fn dispatch_error(
     case: &Case<'_>,
     found: &mut Vec<u8>,
 ) -> Result<bool, NoMemory> {
-    let error = match case.argument(0) {
-        b"service" => DispatchError::Service,
-        b"body" => DispatchError::Body,
-        b"upgrade" => DispatchError::Upgrade,
-        b"io" => DispatchError::Io,
-        b"parse-chunk" => DispatchError::from(ParseError::Chunk),
-        b"h2" => DispatchError::H2,
-        b"slow-request" => DispatchError::SlowRequestTimeout,
-        b"disconnect" => DispatchError::DisconnectTimeout,
-        b"dropped-payload" => DispatchError::HandlerDroppedPayload,
-        b"internal" => DispatchError::InternalError,
-        b"no-memory" => DispatchError::NoMemory,
-        _ => return Ok(false),
-    };
-    put_printed(alloc, &error, found)
+    match served_error(case.argument(0)) {
+        Some(error) => put_printed(alloc, &error, found),
+        None => Ok(false),
+    }
+}
+
+fn served_error(name: &[u8]) -> Option<DispatchError> {
+    match name {
+        b"service" => Some(DispatchError::Service),
+        b"body" => Some(DispatchError::Body),
+        b"upgrade" => Some(DispatchError::Upgrade),
+        b"io" => Some(DispatchError::Io),
+        b"parse-chunk" => Some(DispatchError::from(ParseError::Chunk)),
+        b"h2" => Some(DispatchError::H2),
+        b"slow-request" => Some(DispatchError::SlowRequestTimeout),
+        b"disconnect" => Some(DispatchError::DisconnectTimeout),
+        b"dropped-payload" => Some(DispatchError::HandlerDroppedPayload),
+        b"internal" => Some(DispatchError::InternalError),
+        b"no-memory" => Some(DispatchError::NoMemory),
+        _ => None,
+    }
 }
 
 /// `cause NAME`: the text of why something went wrong.

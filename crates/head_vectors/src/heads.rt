@@ -1,5 +1,6 @@
 //! Heads, and what a message tells of its body and its connection.
-use http_map::{CONNECTION, CONTENT_TYPE, HeaderName, TRANSFER_ENCODING, value_of_bytes};
+use crate::maps::value_of;
+use http_map::{CONNECTION, CONTENT_TYPE, HeaderName, TRANSFER_ENCODING};
 use http_types::{
     ConnectionType, HttpMessage, Method, NoMemory, ParseError, Request, RequestHead, ResponseHead,
     StatusCode, Version,
@@ -66,12 +67,14 @@ fn with_header(
     name: HeaderName,
     value: &[u8],
 ) -> Result<Option<Request<u8, ()>>, NoMemory> {
+    let Some(value) = value_of(alloc, value) else {
+        return Ok(None);
+    };
     let mut head = RequestHead::new(alloc);
-    match value_of_bytes(alloc, value) {
-        Ok(value) => head.headers.append(name, value)?,
-        Err(_) => return Ok(None),
+    match head.headers.append(name, value) {
+        Ok(()) => Ok(Some(Request::new(head, ()))),
+        Err(error) => Err(error),
     }
-    Ok(Some(Request::new(head, ())))
 }
 
 /// `media-type VALUE`: the media type of a message with this Content-Type.
@@ -96,10 +99,14 @@ pub fn chunked(alloc: Global, case: &Case<'_>, found: &mut Vec<u8>) -> Result<bo
         b"content-type" => CONTENT_TYPE,
         _ => return Ok(false),
     };
-    let Some(request) = with_header(alloc, name, case.argument(1))? else {
-        return Ok(false);
-    };
-    match request.chunked() {
+    match with_header(alloc, name, case.argument(1))? {
+        Some(request) => put_chunked(&request, found),
+        None => Ok(false),
+    }
+}
+
+fn put_chunked<M: HttpMessage>(message: &M, found: &mut Vec<u8>) -> Result<bool, NoMemory> {
+    match message.chunked() {
         Ok(is_chunked) => put_truth(is_chunked, found)?,
         Err(ParseError::NoMemory) => return Err(AllocError),
         Err(ParseError::Header) => put_text(found, "header")?,

@@ -6,9 +6,26 @@ use vectors::{Case, put_decimal, put_quoted, put_text};
 
 // The name and the value that these bytes are; none where they are no such.
 fn pair_of(alloc: Global, name: &[u8], value: &[u8]) -> Option<(HeaderName, HeaderValue)> {
-    let name = HeaderName::from_bytes(alloc, name).ok()?;
-    let value = value_of_bytes(alloc, value).ok()?;
-    Some((name, value))
+    let value = value_of(alloc, value)?;
+    match name_of(alloc, name) {
+        Some(name) => Some((name, value)),
+        None => None,
+    }
+}
+
+fn name_of(alloc: Global, name: &[u8]) -> Option<HeaderName> {
+    match HeaderName::from_bytes(alloc, name) {
+        Ok(name) => Some(name),
+        Err(_) => None,
+    }
+}
+
+/// The value that these bytes are; none where they are none.
+pub fn value_of(alloc: Global, value: &[u8]) -> Option<HeaderValue> {
+    match value_of_bytes(alloc, value) {
+        Ok(value) => Some(value),
+        Err(_) => None,
+    }
 }
 
 /// The map to which the lines were appended that the case names from this argument on: names and values by turns. None
