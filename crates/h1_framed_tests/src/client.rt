@@ -1,6 +1,6 @@
 //! The codecs of a client: answers that come byte by byte, and codecs that change into each other.
 use bytes::BytesMut;
-use h1_client_framed::{ClientCodec, ClientPayloadCodec, Message, MessageType};
+use h1_client_framed::{ClientCodec, ClientPayloadCodec, MessageType};
 use http_types::ServiceConfig;
 use std::alloc::{AllocError, Global};
 use std::test::Fail;
