@@ -1,4 +1,4 @@
-//! What answers mean to their requests.
+//! What answers mean to a request by HEAD.
 use h1_client_heads::{BodyKind, body_to, closes_after, fault_by, is_interim, read_answer};
 use http_types::NoMemory;
 use std::alloc::Global;
@@ -25,20 +25,6 @@ fn meaning_of(alloc: Global, head: &[u8], is_head: bool) -> Result<Meaning, NoMe
             Ok(Meaning::Fault)
         }
     }
-}
-
-#[test]
-fn answers_to_get(rt: HostRuntime) -> Result<(), Fail> {
-    let alloc = rt.alloc();
-    let length = b"HTTP/1.1 200 OK\r\ncontent-length: 2\r\n\r\n";
-    assert!(rt; meaning_of(alloc, length, false)? == Meaning::Stays(BodyKind::Length(2)));
-    let open = b"HTTP/1.1 200 OK\r\n\r\n";
-    assert!(rt; meaning_of(alloc, open, false)? == Meaning::Closes(BodyKind::Raw));
-    let unchanged = b"HTTP/1.1 304 Not Modified\r\ncontent-length: 2\r\n\r\n";
-    assert!(rt; meaning_of(alloc, unchanged, false)? == Meaning::Stays(BodyKind::None));
-    let interim = b"HTTP/1.1 103 Early Hints\r\n\r\n";
-    assert!(rt; meaning_of(alloc, interim, false)? == Meaning::Interim);
-    Ok(())
 }
 
 #[test]

@@ -1,4 +1,4 @@
-//! Texts of requests.
+//! The text of a request.
 use bytes::BytesMut;
 use h1_request::{has_text, put_request_head};
 use http_framing::BodySize;
@@ -25,31 +25,6 @@ fn text(
         put_request_head(&mut out, &head, size, connection, 0)?;
     }
     Ok(out)
-}
-
-#[test]
-fn a_request_without_a_body(rt: HostRuntime) -> Result<(), Fail> {
-    let text = text(rt.alloc(), BodySize::None, ConnectionType::KeepAlive, false)?;
-    assert!(rt;
-        text.as_slice()
-            == b"GET / HTTP/1.1\r\nhost: example.org\r\ncontent-type: text/plain\r\ndate: Thu, 01 Jan 1970 00:00:00 GMT\r\n\r\n".as_slice()
-    );
-    Ok(())
-}
-
-#[test]
-fn a_request_with_a_length(rt: HostRuntime) -> Result<(), Fail> {
-    let text = text(
-        rt.alloc(),
-        BodySize::Sized(12),
-        ConnectionType::Close,
-        false,
-    )?;
-    assert!(rt;
-        text.as_slice()
-            == b"GET / HTTP/1.1\r\ncontent-length: 12\r\nconnection: close\r\nhost: example.org\r\ncontent-type: text/plain\r\ndate: Thu, 01 Jan 1970 00:00:00 GMT\r\n\r\n".as_slice()
-    );
-    Ok(())
 }
 
 #[test]

@@ -1,4 +1,4 @@
-//! Requests, as a server gets them.
+//! A request, as a server gets it.
 use bytes::{Bytes, BytesMut};
 use h1_decode::request_head;
 use h1_forward_heads::{forwarded_head, forwarded_size, is_forwardable};
@@ -35,35 +35,5 @@ fn lines_for_one_connection_stay_behind(rt: HostRuntime) -> Result<(), Fail> {
         b"GET /a?b HTTP/1.1\r\nx-two: 2\r\nx-two: 3\r\nhost: a\r\ndate: Thu, 01 Jan 1970 00:00:00 GMT\r\n\r\n",
     )?;
     assert!(rt; is_same);
-    Ok(())
-}
-
-#[test]
-fn a_body_is_framed_anew(rt: HostRuntime) -> Result<(), Fail> {
-    let is_length = is_sent_as(
-        rt.alloc(),
-        b"POST /a HTTP/1.1\r\ncontent-length: 007\r\nconnection: content-length\r\n\r\n",
-        b"POST /a HTTP/1.1\r\ncontent-length: 7\r\ndate: Thu, 01 Jan 1970 00:00:00 GMT\r\n\r\n",
-    )?;
-    assert!(rt; is_length);
-    let is_chunked = is_sent_as(
-        rt.alloc(),
-        b"POST /a HTTP/1.1\r\nTransfer-Encoding: CHUNKED\r\ndate: now\r\n\r\n",
-        b"POST /a HTTP/1.1\r\ntransfer-encoding: chunked\r\ndate: now\r\n\r\n",
-    )?;
-    assert!(rt; is_chunked);
-    Ok(())
-}
-
-#[test]
-fn what_is_no_path_stays(rt: HostRuntime) -> Result<(), Fail> {
-    let star = sent_on(rt.alloc(), b"OPTIONS * HTTP/1.1\r\nhost: a\r\n\r\n")?;
-    assert!(rt; star.is_empty());
-    let scheme = sent_on(rt.alloc(), b"GET http://a/ HTTP/1.1\r\nhost: a\r\n\r\n")?;
-    assert!(rt; scheme.is_empty());
-    let connect = sent_on(rt.alloc(), b"CONNECT /a HTTP/1.1\r\n\r\n")?;
-    assert!(rt; connect.is_empty());
-    let socket = sent_on(rt.alloc(), b"GET /a HTTP/1.1\r\nupgrade: websocket\r\n\r\n")?;
-    assert!(rt; socket.is_empty());
     Ok(())
 }

@@ -1,8 +1,7 @@
 //! The codecs of a client: answers that come byte by byte, and codecs that change into each other.
 use bytes::BytesMut;
-use h1_client_framed::{ClientCodec, ClientPayloadCodec, Message, MessageType};
-use http_framing::BodySize;
-use http_types::{Method, RequestHead, RequestHeadType, ServiceConfig};
+use h1_client_framed::{ClientCodec, ClientPayloadCodec, MessageType};
+use http_types::ServiceConfig;
 use std::alloc::{AllocError, Global};
 use std::test::Fail;
 
@@ -86,24 +85,4 @@ fn answers_come_byte_by_byte(rt: HostRuntime) -> Result<(), Fail> {
     let notes = notes_of(rt.alloc(), codec, text)?;
     assert!(rt; notes.as_slice() == b"head,data,one,head,head,head,hi,end,head,HTTP".as_slice());
     Ok(())
-}
-
-// The length in the answer to HEAD is that of a body which doesn't come: the next answer follows.
-#[test]
-fn no_payload_follows_the_answer_to_head(rt: HostRuntime) -> Result<(), Fail> {
-    let text = b"HTTP/1.1 200 OK\r\ncontent-length: 2\r\n\r\nHTTP/1.1 204 No Content\r\n\r\n";
-    let notes = notes_of(rt.alloc(), asked_head(rt.alloc())?, text)?;
-    assert!(rt; notes.as_slice() == b"head,head,".as_slice());
-    Ok(())
-}
-
-// A codec that has asked by HEAD.
-fn asked_head(alloc: Global) -> Result<ClientCodec, Fail> {
-    let mut codec = ClientCodec::new(ServiceConfig::default());
-    let mut head = RequestHead::new(alloc);
-    head.method = Method::HEAD;
-    let mut out = BytesMut::new(alloc);
-    let head = Message::Item((RequestHeadType::from(head), BodySize::None));
-    codec.encode(head, &mut out).ok().ok_or("refused")?;
-    Ok(codec)
 }

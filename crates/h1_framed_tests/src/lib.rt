@@ -1,11 +1,9 @@
-//! Tests of the codecs of a server and of a client, and of answers that are sent over framed wires: what no clause says,
-//! and each call once with ample memory.
+//! Tests of the codecs of a server and of a client, and of an answer that is sent over a framed wire: one of each, with
+//! ample memory.
 #![tactic(auto)]
 
 #[cfg(test)]
 mod client;
-#[cfg(test)]
-mod client_wire;
 #[cfg(test)]
 mod framed;
 #[cfg(test)]

@@ -1,4 +1,4 @@
-//! Tests of bodies, through what `h1_payload` makes public, that need code: pulls, steps of one byte, and copies. What is
+//! A test of bodies, through what `h1_payload` makes public, that needs code: copies, which read on by themselves. What is
 //! read of bytes are vectors of `message_vectors`.
 #![tactic(auto)]
 

@@ -1,11 +1,9 @@
-//! Tests of encoders and scripts, through what `h1_codec` and `h1_replay` make public.
+//! Tests of scripts, through what `h1_replay` makes public.
 //!
 //! A contract holds for every call, so nothing that a clause says is tested again. A test stands here for what no clause
-//! can say: that a call which may run out of memory has it where there is some, and faults in mid-stream. Texts of answers
-//! are vectors of `message_vectors`.
+//! can say: faults in mid-stream, and reports, one of them of an event that may not come. Whole exchanges are vectors of
+//! `exchange_vectors`.
 #![tactic(auto)]
 
-#[cfg(test)]
-mod answers;
 #[cfg(test)]
 mod replay;

@@ -1,8 +1,7 @@
 //! Tests of bodies, of the queue of a request's body and of services, through what `http_services` makes public.
 //!
-//! A contract holds for every call, so nothing that a clause says is tested again. A row stands here for what no
-//! clause can say: that each impl runs at a type, that a task is really woken, the text of an error's answer, and that
-//! a call which may want memory has it where there is some.
+//! A contract holds for every call, so nothing that a clause says is tested again. A test stands here for what no
+//! clause can say: that a task is really woken, and that a call which may want memory has it where there is some.
 #![tactic(auto)]
 
 #[cfg(test)]

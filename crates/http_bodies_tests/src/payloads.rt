@@ -1,10 +1,8 @@
 //! The queue of a request's body, fed and pulled.
 use bytes::Bytes;
-use futures::task::{Context, Poll};
+use futures::task::Poll;
 use futures::test::MockTask;
-use http_services::{
-    BoxedPayloadStream, Counted, Payload, PayloadStatus, PlainSource, h1, payload_of_bytes,
-};
+use http_services::{PayloadStatus, h1};
 use http_types::PayloadError;
 use http_types::header::HeaderMap;
 use std::test::Fail;
@@ -68,32 +66,5 @@ fn trailers_come_with_the_end(rt: HostRuntime) -> Result<(), Fail> {
     queue.sender().close_sender();
     assert!(rt; matches!(task.enter(|cx| queue.poll_next(cx)), Poll::Ready(None)));
     assert!(rt; queue.trailers().is_some());
-    Ok(())
-}
-
-/// A source that is pending at each poll.
-#[derive(Drop)]
-struct Silent;
-
-impl PlainSource for Silent {
-    fn poll_next(&mut self, cx: &mut Context<'_>) -> Poll<Option<Result<Bytes, PayloadError>>> {
-        cx.yield_now()
-    }
-}
-
-#[test]
-fn payloads_give_what_they_hold(rt: HostRuntime) -> Result<(), Fail> {
-    let task = MockTask::new(&rt)?;
-    let mut payload: Payload = payload_of_bytes(rt.alloc(), Bytes::from_static(b"x"))?;
-    let polled = task.enter(|cx| payload.poll_next(cx));
-    assert!(rt;
-        matches!(&polled, Poll::Ready(Some(Ok(piece))) if piece.as_slice() == b"x".as_slice())
-    );
-    let mut rest = payload.take();
-    assert!(rt; matches!(task.enter(|cx| rest.poll_next(cx)), Poll::Ready(None)));
-    assert!(rt; matches!(task.enter(|cx| payload.poll_next(cx)), Poll::Ready(None)));
-    let boxed: BoxedPayloadStream = Box::new(rt.alloc(), Counted::new(Silent))?;
-    let mut stream = Payload::from(boxed);
-    assert!(rt; matches!(task.enter(|cx| stream.poll_next(cx)), Poll::Pending));
     Ok(())
 }

@@ -1,48 +1,10 @@
-//! Services, called, and the answer to an error.
+//! Services, called.
 use bytes::Bytes;
 use futures::task::{Context, Poll};
 use futures::test::MockTask;
-use http_services::{
-    BoxBody, CountedService, ExpectHandler, FnService, Handler, PlainService, Service,
-    UpgradeHandler, h1, response_of_error,
-};
-use http_types::{Error, Kind, PayloadError, StatusCode};
+use http_services::{CountedService, ExpectHandler, PlainService, Service, UpgradeHandler, h1};
+use http_types::PayloadError;
 use std::test::Fail;
-
-/// Halves even numbers.
-#[derive(Drop)]
-struct Halves;
-
-impl Handler<u32> for Halves {
-    type Response = u32;
-
-    type Error = ();
-
-    fn handle(&mut self, req: u32) -> Result<u32, ()> {
-        if req % 2 == 0 { Ok(req / 2) } else { Err(()) }
-    }
-}
-
-#[test]
-fn a_handler_answers_at_once(rt: HostRuntime) -> Result<(), Fail> {
-    let task = MockTask::new(&rt)?;
-    let mut halves: FnService<Halves, ()> = FnService::new(Halves);
-    let mut call = halves.call(8);
-    assert!(rt;
-        matches!(
-            task.enter(|cx| halves.poll_call(&mut call, &mut (), cx)),
-            Poll::Ready(Ok(4))
-        )
-    );
-    let mut call = halves.call(7);
-    assert!(rt;
-        matches!(
-            task.enter(|cx| halves.poll_call(&mut call, &mut (), cx)),
-            Poll::Ready(Err(()))
-        )
-    );
-    Ok(())
-}
 
 /// Counts the bytes of a request's body, one chunk in each poll.
 #[derive(Drop)]
@@ -123,25 +85,5 @@ fn requests_go_on_and_upgrades_do_not(rt: HostRuntime) -> Result<(), Fail> {
             Poll::Ready(Err(_))
         )
     );
-    Ok(())
-}
-
-/// Whether the body is a text that begins so.
-fn begins_with(body: &BoxBody, front: &str) -> bool {
-    match body {
-        BoxBody::Bytes(bytes) => bytes.as_slice().starts_with(front.as_bytes()),
-        _ => false,
-    }
-}
-
-#[test]
-fn an_error_is_answered_by_its_text(rt: HostRuntime) -> Result<(), Fail> {
-    let error = Error {
-        kind: Kind::Parse,
-        cause: None,
-    };
-    let response = response_of_error(rt.alloc(), &error)?;
-    assert!(rt; response.status() == StatusCode::BAD_REQUEST);
-    assert!(rt; begins_with(response.body(), "error parsing HTTP message"));
     Ok(())
 }

@@ -1,7 +1,5 @@
-//! Tests of wires, and of items over them.
+//! Tests of wires, clocks and doors, through their traits.
 #![tactic(auto)]
 
-#[cfg(test)]
-mod framed;
 #[cfg(test)]
 mod outside;

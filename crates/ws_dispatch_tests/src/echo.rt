@@ -1,4 +1,4 @@
-//! Echoes, in whatever pieces their frames come.
+//! Echoes, by short writes, and a Close that was queued.
 ghost use Rattle.ws_dispatch.specs.Polls.{MayBePolled};
 ghost use Rattle.ws_dispatch_tests.specs.Calls.{answers_once};
 
@@ -29,23 +29,6 @@ fn end_of(task: &MockTask, served: &mut Served) -> Result<Ends, Fail>
         }
     }
     Err(Fail::new("it does not end"))
-}
-
-#[test]
-fn three_messages_come_back_in_any_pieces(rt: HostRuntime) -> Result<(), Fail> {
-    for size in 1..THREE.len() + 1 {
-        let task = MockTask::new(&rt)?;
-        let mut served = serve_text(
-            rt.alloc(),
-            THREE,
-            size,
-            Vec::new(rt.alloc()),
-            Vec::new(rt.alloc()),
-        )?;
-        assert!(rt; matches!(end_of(&task, &mut served)?, Ok(())));
-        assert!(rt; sent(served, rt.alloc())?.as_slice() == ECHOES);
-    }
-    Ok(())
 }
 
 #[test]

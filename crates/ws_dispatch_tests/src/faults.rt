@@ -1,19 +1,13 @@
-//! Frames that break a rule, a service that fails, and wires that fail.
+//! Wires that fail.
 ghost use Rattle.ws_dispatch.specs.Polls.{MayBePolled};
 ghost use Rattle.ws_dispatch_tests.specs.Calls.{answers_once};
 
-use crate::services::{Ends, Refused, Served, sent, serve_text};
+use crate::services::{Ends, Served, sent, serve_text};
 use futures::task::Poll;
 use futures::test::MockTask;
 use std::test::Fail;
 use ws_dispatch::DispatcherError;
 use ws_frames::ProtocolError;
-
-/// A Ping of `p`, and then a frame without a mask.
-const BROKEN: &[u8] = b"\x89\x81\0\0\0\0p\x81\x01x";
-
-/// A Ping of `p`, and then the text `fail`.
-const FAILS: &[u8] = b"\x89\x81\0\0\0\0p\x81\x84\0\0\0\0fail";
 
 /// A Ping of `p`.
 const PING: &[u8] = b"\x89\x81\0\0\0\0p";
@@ -28,43 +22,6 @@ fn end_of(task: &MockTask, served: &mut Served) -> Result<Ends, Fail>
         }
     }
     Err(Fail::new("it does not end"))
-}
-
-#[test]
-fn a_broken_frame_ends_it(rt: HostRuntime) -> Result<(), Fail> {
-    let task = MockTask::new(&rt)?;
-    let mut served = serve_text(
-        rt.alloc(),
-        BROKEN,
-        1,
-        Vec::new(rt.alloc()),
-        Vec::new(rt.alloc()),
-    )?;
-    let ends = end_of(&task, &mut served)?;
-    assert!(rt;
-        matches!(
-            ends,
-            Err(DispatcherError::Decoder(ProtocolError::UnmaskedFrame))
-        )
-    );
-    assert!(rt; sent(served, rt.alloc())?.as_slice() == b"\x8a\x01p".as_slice());
-    Ok(())
-}
-
-#[test]
-fn what_was_answered_before_an_error_is_sent(rt: HostRuntime) -> Result<(), Fail> {
-    let task = MockTask::new(&rt)?;
-    let mut served = serve_text(
-        rt.alloc(),
-        FAILS,
-        100,
-        Vec::new(rt.alloc()),
-        Vec::new(rt.alloc()),
-    )?;
-    let ends = end_of(&task, &mut served)?;
-    assert!(rt; matches!(ends, Err(DispatcherError::Service(Refused))));
-    assert!(rt; sent(served, rt.alloc())?.as_slice() == b"\x8a\x01p".as_slice());
-    Ok(())
 }
 
 #[test]

@@ -1,4 +1,4 @@
-//! Services of frames, and wires in memory.
+//! A service of frames, over a wire in memory.
 ghost use Rattle.std.specs.Prelude.{IfOk};
 ghost use Rattle.ws_dispatch.specs.Polls.{MayBePolled};
 ghost use Rattle.ws_dispatch_tests.specs.Calls.{answers_once};
@@ -11,27 +11,18 @@ use std::test::Fail;
 use ws_dispatch::{DispatcherError, inner, ws};
 use ws_frames::{Codec, Frame, Message, NoWords};
 
-/// Sends back each payload, and closes where the peer does. The payload `fail` is an error.
+/// Sends back each payload, and closes where the peer does.
 #[derive(Drop)]
 pub(crate) struct Echo;
-
-/// Why an echo fails.
-#[derive(Clone, Copy, Debug, PartialEq, Eq)]
-pub(crate) struct Refused;
 
 impl Handler<Frame> for Echo {
     type Response = Message;
 
-    type Error = Refused;
+    type Error = ();
 
-    fn handle(&mut self, req: Frame) -> Result<Message, Refused> {
+    fn handle(&mut self, req: Frame) -> Result<Message, ()> {
         match req {
-            Frame::Text(payload) => {
-                if payload.as_slice() == b"fail".as_slice() {
-                    return Err(Refused);
-                }
-                Ok(Message::Binary(payload))
-            }
+            Frame::Text(payload) => Ok(Message::Binary(payload)),
             Frame::Binary(payload) => Ok(Message::Binary(payload)),
             Frame::Continuation(item) => Ok(Message::Continuation(item)),
             Frame::Ping(payload) => Ok(Message::Pong(payload)),
@@ -43,10 +34,10 @@ impl Handler<Frame> for Echo {
 
 pub(crate) type Service = FnService<Echo, ()>;
 
-pub(crate) type Served = ws::Dispatcher<Service, Option<Frame>, MemWire, Refused>;
+pub(crate) type Served = ws::Dispatcher<Service, Option<Frame>, MemWire, ()>;
 
 /// Why a dispatcher of an echo ends.
-pub(crate) type Ends = Result<(), DispatcherError<Refused>>;
+pub(crate) type Ends = Result<(), DispatcherError<()>>;
 
 /// An echo over a wire that gives this text in pieces of so many bytes, of which there is at least one.
 pub(crate) fn serve_text(
