@@ -27,9 +27,10 @@ use Rattle.h1_connection.specs.declared.connection.ahead.Slot.{Slot}
 use Rattle.h1_connection.specs.declared.connection.intake.Turn.{Turn}
 use Rattle.h1_connection.specs.declared.connection.intake.Turn.TheVariants.{Unasked, Later, Next}
 use Rattle.h1_connection.proofs.InputLemmas.{scan_is}
+use Rattle.h1_connection.proofs.ScanLemmas.{scan_answers}
 use Rattle.h1_connection.proofs.PassingLemmas.{nothing_passed}
 use Rattle.h1_connection.proofs.RingLemmas.{joined_more}
-use Rattle.h1_connection.proofs.StockLemmas.{first_coming, is_refused, refused_last, hands_out, counts_fewer, counts_all, lone_handed}
+use Rattle.h1_connection.proofs.StockLemmas.{same_search, first_coming, is_refused, refused_last, hands_out, counts_fewer, counts_all, lone_handed}
 
 -- ---- where none is searched for
 
@@ -466,3 +467,149 @@ nothing_to_forget Later heads i t view stocked other whole =
     let none : IsTrue (is_coming_in (piece_by Later heads i)) = subst (λ (u : Stock). IsWholeOf u) (sym view) whole in
     absurd (cc none)
 nothing_to_forget Next heads i t view stocked other whole = absurd (other refl)
+
+-- ---- how many are counted
+
+pub none_counted : (turn : Turn) (heads : List Slot) (i : Incoming) (t : Stock) → stock_of heads turn i ≡ t → turn ≡ Unasked → 0 ≡ t.ahead
+none_counted turn heads i t view is = sym (ap (λ (u : Turn). ahead_by u heads) is) ∙ ap (λ (s : Stock). s.ahead) view
+
+pub all_counted : (turn : Turn) (heads : List Slot) (i : Incoming) (t : Stock) → stock_of heads turn i ≡ t → (turn ≡ Later) ⊎ (turn ≡ Next) → IsStocked heads turn i
+    → (length heads ≡ t.ahead) × (length heads ≤ 16)
+all_counted turn heads i t view (inl is) stocked =
+    (sym (ap (λ (u : Turn). ahead_by u heads) is) ∙ ap (λ (s : Stock). s.ahead) view, (subst (λ (u : Turn). IsTurn u heads i) is stocked.turns).1)
+all_counted turn heads i t view (inr is) stocked =
+    (sym (ap (λ (u : Turn). ahead_by u heads) is) ∙ ap (λ (s : Stock). s.ahead) view, (subst (λ (u : Turn). IsTurn u heads i) is stocked.turns).1)
+
+-- ---- by the turn
+
+-- the fields of one that is asked are those of the bytes where no head was read
+pub empty_view : (turn : Turn) (heads : List Slot) (i : Incoming) (t : Stock) → stock_of heads turn i ≡ t → turn ≡ Unasked → heads ≡ []
+    → t ≡ record { unread = i.unread; piece = i.piece; ahead = 0 }
+empty_view turn heads i t view is empty = sym view ∙ ap (λ (u : Turn). stock_of heads u i) is ∙ ap (λ (l : List Slot). stock_of l Unasked i) empty
+
+pub coming_input : (turn : Turn) (heads : List Slot) (i : Incoming) (t : Stock) → stock_of heads turn i ≡ t → turn ≡ Unasked → heads ≡ [] → is_coming_in i.piece ≡ is_coming_in t.piece
+coming_input turn heads i t view is empty = sym (ap (λ (s : Stock). is_coming_in s.piece) (empty_view turn heads i t view is empty))
+
+pub coming_heads : (turn : Turn) (heads : List Slot) (i : Incoming) (t : Stock) → stock_of heads turn i ≡ t → turn ≡ Unasked → IsStocked heads turn i → 0 < length heads
+    → true ≡ is_coming_in t.piece
+coming_heads turn heads i t view is stocked some =
+    sym (coming_unasked heads i (subst (λ (u : Turn). IsStocked heads u i) is stocked) some) ∙ sym (ap (λ (u : Turn). is_coming_in (piece_by u heads i)) is)
+    ∙ ap (λ (s : Stock). is_coming_in s.piece) view
+
+pub coming_next : (turn : Turn) (heads : List Slot) (i : Incoming) (t : Stock) → stock_of heads turn i ≡ t → turn ≡ Next → IsStocked heads turn i → true ≡ is_coming_in t.piece
+coming_next turn heads i t view is stocked =
+    sym (coming_first heads i (subst (λ (u : Turn). IsStocked heads u i) is stocked)) ∙ sym (ap (λ (u : Turn). is_coming_in (piece_by u heads i)) is)
+    ∙ ap (λ (s : Stock). is_coming_in s.piece) view
+
+pub coming_later : (turn : Turn) (heads : List Slot) (i : Incoming) (t : Stock) → stock_of heads turn i ≡ t → turn ≡ Later → false ≡ is_coming_in t.piece
+coming_later turn heads i t view is = sym (ap (λ (u : Turn). is_coming_in (piece_by u heads i)) is) ∙ ap (λ (s : Stock). is_coming_in s.piece) view
+
+-- where none was read, none waits
+empty_turn : (turn : Turn) (i : Incoming) → IsStocked [] turn i → turn ≡ Unasked
+empty_turn Unasked i stocked = refl
+empty_turn Later i stocked = absurd (omega (arith, stocked.turns.0))
+empty_turn Next i stocked = absurd (omega (arith, stocked.turns.0))
+
+pub empty_stock : (turn : Turn) (heads : List Slot) (i : Incoming) (t : Stock) → stock_of heads turn i ≡ t → IsStocked heads turn i → heads ≡ []
+    → t ≡ record { unread = i.unread; piece = i.piece; ahead = 0 }
+empty_stock turn heads i t view stocked empty =
+    empty_view turn heads i t view (empty_turn turn i (subst (λ (l : List Slot). IsStocked l turn i) empty stocked)) empty
+
+pub none_here : (turn : Turn) (heads : List Slot) (i : Incoming) (t : Stock) → stock_of heads turn i ≡ t → IsStocked heads turn i → heads ≡ [] → IsHeadOf i None
+    → IsHeadAhead t None × (t.ahead ≡ 0)
+none_here turn heads i t view stocked empty none =
+    subst (λ (s : Stock). IsHeadAhead s None × (s.ahead ≡ 0)) (sym (empty_stock turn heads i t view stocked empty)) (none, refl)
+
+-- ---- the next head is searched for
+
+-- a search where none was read
+pub searched_stock : (turn : Turn) (heads : List Slot) (i j : Incoming) (t : Stock) → stock_of heads turn i ≡ t → IsStocked heads turn i → turn ≡ Unasked → heads ≡ []
+    → j.unread ≡ i.unread → IsFound j → is_some j.piece ≡ true
+    → IsStocked heads turn j × ((stock_of heads turn j).unread ≡ t.unread) × IsFoundIn (stock_of heads turn j).unread (stock_of heads turn j).piece
+    × (is_some (stock_of heads turn j).piece ≡ true) × ((stock_of heads turn j).ahead ≡ t.ahead)
+searched_stock turn heads i j t view stocked is empty same found searched =
+    subst (λ (u : Turn). Said u heads t) (sym is) (subst (λ (l : List Slot). Said Unasked l t) (sym empty) (subst (λ (s : Stock). Said Unasked [] s) (sym at) said))
+  where
+    Said : Turn → List Slot → Stock → Type 0
+    Said u l s =
+        IsStocked l u j × ((stock_of l u j).unread ≡ s.unread) × IsFoundIn (stock_of l u j).unread (stock_of l u j).piece × (is_some (stock_of l u j).piece ≡ true)
+        × ((stock_of l u j).ahead ≡ s.ahead)
+
+    at : t ≡ record { unread = i.unread; piece = i.piece; ahead = 0 }
+    at = empty_view turn heads i t view is empty
+
+    was : IsStocked [] turn i
+    was = subst (λ (l : List Slot). IsStocked l turn i) empty stocked
+
+    said : Said Unasked [] (record { unread = i.unread; piece = i.piece; ahead = 0 })
+    said = (
+      record { fits = subst (λ (l : List ℕ). length l < 2 ^ 64) (sym same) was.fits; are = tt; turns = tt },
+      same,
+      found,
+      searched,
+      refl,
+    )
+
+-- the first of heads that were read is found without one
+unasked_some : (heads : List Slot) (i : Incoming) → 0 < length heads
+    → IsFoundIn (joined heads ++ i.unread) (piece_by Unasked heads i) × (is_some (piece_by Unasked heads i) ≡ true)
+unasked_some [] i some = absurd (omega (arith, some))
+unasked_some (s ∷ more) i some = (scan_answers (joined (s ∷ more) ++ i.unread), refl)
+
+pub found_heads : (turn : Turn) (heads : List Slot) (i : Incoming) (t : Stock) → stock_of heads turn i ≡ t → turn ≡ Unasked → 0 < length heads
+    → IsFoundIn t.unread t.piece × (is_some t.piece ≡ true)
+found_heads turn heads i t view is some =
+    subst (λ (s : Stock). IsFoundIn s.unread s.piece × (is_some s.piece ≡ true)) view
+    (subst (λ (u : Turn). IsFoundIn (joined heads ++ i.unread) (piece_by u heads i) × (is_some (piece_by u heads i) ≡ true)) (sym is) (unasked_some heads i some))
+
+-- their turn comes
+pub turned : (turn : Turn) (heads : List Slot) (i : Incoming) (t : Stock) → stock_of heads turn i ≡ t → IsStocked heads turn i → ¬ (turn ≡ Unasked)
+    → IsStocked heads Next i × (joined heads ++ i.unread ≡ t.unread) × (length heads ≡ t.ahead)
+turned Unasked heads i t view stocked other = absurd (other refl)
+turned Later heads i t view stocked other =
+    (record { fits = stocked.fits; are = stocked.are; turns = stocked.turns }, ap (λ (s : Stock). s.unread) view, ap (λ (s : Stock). s.ahead) view)
+turned Next heads i t view stocked other = (stocked, ap (λ (s : Stock). s.unread) view, ap (λ (s : Stock). s.ahead) view)
+
+pub turned_found : (heads : List Slot) (i : Incoming) → IsFoundIn (joined heads ++ i.unread) (piece_by Next heads i)
+turned_found heads i = scan_answers (joined heads ++ i.unread)
+
+-- ---- more bytes
+
+-- with others behind them the heads are the same
+pub grown_stock : (turn : Turn) (heads : List Slot) (i j : Incoming) → IsStocked heads turn i → is_some j.piece ≡ is_some i.piece → length (joined heads ++ j.unread) < 2 ^ 64
+    → IsStocked heads turn j
+grown_stock turn heads i j stocked same fits = record { fits = fits; are = stocked.are; turns = by_turn turn heads stocked.turns }
+  where
+    still_none : (p q : Option HeadScan) → is_some q ≡ is_some p → p ≡ None → q ≡ None
+    still_none p None is none = refl
+    still_none p (Some x) is none = absurd (let no : true ≡ false = is ∙ ap (λ (o : Option HeadScan). is_some o) none in cc no)
+
+    by_turn : (u : Turn) (l : List Slot) → IsTurn u l i → IsTurn u l j
+    by_turn Unasked [] is = tt
+    by_turn Unasked (s ∷ more) is = (same ∙ is.0, is.1, is.2)
+    by_turn Later l is = (is.0, is.1, still_none i.piece j.piece same is.2)
+    by_turn Next l is = (is.0, is.1, still_none i.piece j.piece same is.2)
+
+-- so many are taken as there is room for
+pub room_left : (limit held : ℕ) (heads : List Slot) (i : Incoming) (t : Stock) (turn : Turn) → stock_of heads turn i ≡ t → held ≡ length (joined heads)
+    → limit - held - length i.unread ≡ limit - length t.unread
+room_left limit held heads i t turn view is =
+    omega (arith, is, ap (λ (s : Stock). length s.unread) view, length-append (joined heads) i.unread)
+
+pub grown_unread : (turn : Turn) (heads : List Slot) (i j : Incoming) (t : Stock) (more : List ℕ) → stock_of heads turn i ≡ t → j.unread ≡ i.unread ++ more
+    → joined heads ++ j.unread ≡ t.unread ++ more
+grown_unread turn heads i j t more view is =
+    ap (λ (l : List ℕ). joined heads ++ l) is ∙ sym (append_assoc (joined heads) i.unread more) ∙ ap (λ (s : Stock). s.unread ++ more) view
+
+pub same_turn : (turn : Turn) (heads : List Slot) (i j : Incoming) (t : Stock) → stock_of heads turn i ≡ t → is_some j.piece ≡ is_some i.piece
+    → (is_some (piece_by turn heads j) ≡ is_some t.piece) × (ahead_by turn heads ≡ t.ahead)
+same_turn turn heads i j t view same = (same_search turn heads i j same ∙ ap (λ (s : Stock). is_some s.piece) view, ap (λ (s : Stock). s.ahead) view)
+
+-- ---- frames
+
+pub bare_stock : (turn : Turn) (heads : List Slot) (i : Incoming) (t : Stock) → stock_of heads turn i ≡ t → IsStocked heads turn i → t.piece ≡ None → t.ahead ≡ 0
+    → (heads ≡ []) × (i.piece ≡ None) × (i.unread ≡ t.unread)
+bare_stock turn heads i t view stocked none no_head =
+    let off : piece_by turn heads i ≡ None = ap (λ (s : Stock). s.piece) view ∙ none in
+    let empty = no_heads turn heads i stocked off (ap (λ (s : Stock). s.ahead) view ∙ no_head) in
+    (empty, unsearched turn heads i stocked off, sym (ap (λ (l : List Slot). joined l ++ i.unread) empty) ∙ ap (λ (s : Stock). s.unread) view)

@@ -54,10 +54,10 @@ nothing_pulled ended (chunks_rest place section) bytes answer later behind pulle
 nothing_pulled ended (frames_rest under_way limit) bytes answer later behind pulled is = absurd (cc is)
 
 -- also where memory ran out
-pub still_nothing : {E : Type 0} {P : Type 0} (ended : Bool) (rest : Rest) (bytes : List ℕ) (r : Result Answer E) (later : Rest) (behind : List ℕ)
+pub still_nothing : {E : Type 0} (P : Type 0) (ended : Bool) (rest : Rest) (bytes : List ℕ) (r : Result Answer E) (later : Rest) (behind : List ℕ)
     → IfOk r (λ answer. (p : Pulled) → IsPull ended rest bytes p → IsPulled p answer later behind) → OnErr r ((later ≡ rest) × P) → is_nothing rest ≡ true → is_nothing later ≡ true
-still_nothing ended rest bytes (Ok answer) later behind pulled same is = nothing_pulled ended rest bytes answer later behind pulled is
-still_nothing ended rest bytes (Err e) later behind pulled same is = ap is_nothing same.0 ∙ is
+still_nothing P ended rest bytes (Ok answer) later behind pulled same is = nothing_pulled ended rest bytes answer later behind pulled is
+still_nothing P ended rest bytes (Err e) later behind pulled same is = ap is_nothing same.0 ∙ is
 
 -- ---- of a connection
 

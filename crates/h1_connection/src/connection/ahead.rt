@@ -1,5 +1,5 @@
 // Heads that were read before they are asked for.
-ghost use Rattle.std.specs.Prelude.{◌≡◌, ◌<◌, ◌≤◌, ◌+◌, ◌^◌, ◌==◌, ◌++◌, ℕ, List, [], ◌∷◌, None, true, false, not, length, take, IfSome, IfNone, IfOk, IfErr, OnOk, OnErr};
+ghost use Rattle.std.specs.Prelude.{◌≡◌, ◌<◌, ◌≤◌, ◌+◌, ◌^◌, ◌++◌, ℕ, List, [], ◌∷◌, None, true, false, not, length, take, IfSome, IfNone, IfOk, IfErr, OnOk, OnErr};
 ghost use Rattle.http_framing.specs.Kinds.{kind_of};
 ghost use Rattle.h1_decode.specs.Refusal.{UnlessNoMemory, fault_of};
 ghost use Rattle.h1_model.specs.HeadPiece.{IsHeadPiece};
@@ -71,10 +71,10 @@ impl Slot {
                 if is_first {
                     return Err(error);
                 }
-                if error == ParseError::NoMemory {
-                    return Err(error);
+                match error {
+                    ParseError::NoMemory => Err(ParseError::NoMemory),
+                    error => Ok(Some(self.keep(input, Some(error))?)),
                 }
-                Ok(Some(self.keep(input, Some(error))?))
             }
         }
     }
@@ -135,6 +135,8 @@ pub struct Ahead {
 }
 
 impl Model for Ahead {
+    ghost use Rattle.std.specs.Prelude.{List};
+    ghost use Rattle.h1_connection.specs.declared.connection.ahead.Slot.{Slot};
     ghost use Rattle.h1_connection.specs.Ahead.{taken, AreKept};
 
     ghost Value = { List Slot };
@@ -166,7 +168,8 @@ impl Ahead {
 
     /// Whether there is none.
     pub fn is_empty(&self) -> bool
-        ensures { result ≡ (length self.now == 0) }
+        ensures none { result ≡ true → self.now ≡ [] }
+        ensures some { result ≡ false → 0 < length self.now }
     {
         self.count == 0
     }

@@ -1,5 +1,5 @@
 // What a connection holds of its input: the bytes that were read and not passed, and the search for a head among them.
-ghost use Rattle.std.specs.Prelude.{◌≡◌, ◌≢◌, ◌≤◌, ◌-◌, ◌++◌, ◌⊎◌, ◌↔◌, ℕ, Bool, List, [], Some, None, length, take, drop, slice_range, min, true, false, is_some, IsTrue, IfOk, IfErr, IsOk, OnOk, OnErr, IsErrOf};
+ghost use Rattle.std.specs.Prelude.{◌≡◌, ◌≢◌, ◌<◌, ◌≤◌, ◌-◌, ◌^◌, ◌++◌, ◌⊎◌, ◌↔◌, ℕ, Bool, List, [], Some, None, length, take, drop, slice_range, min, true, false, is_some, IsTrue, IfOk, IfErr, IsOk, OnOk, OnErr, IsErrOf};
 ghost use Rattle.std.specs.Io.KnownBytes.{Consumes, Keeps, IsAtEnd};
 ghost use Rattle.http_config.specs.Causes.{Rose, counted, IsAsked};
 ghost use Rattle.http_framing.specs.Kinds.{kind_of};
@@ -112,7 +112,8 @@ impl Input {
 
     /// How many bytes are held.
     pub fn len(&self) -> usize
-        ensures { result ≡ length self.now.unread }
+        ensures value { result ≡ length self.now.unread }
+        ensures fits { length self.now.unread < 2 ^ 64 }
     {
         self.head_bytes.len() + self.bytes.len()
     }

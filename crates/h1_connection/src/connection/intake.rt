@@ -118,7 +118,10 @@ impl Intake {
         ensures none { result ≡ true → IsHeadAhead self.now None }
         ensures ahead { result ≡ true → self.now.ahead ≡ 0 }
     {
-        self.ahead.is_empty() && self.input.has_none()
+        if !self.ahead.is_empty() {
+            return false;
+        }
+        self.input.has_none()
     }
 
     /// Takes the bytes that there is room for up to the limit, and says how many.
@@ -130,8 +133,9 @@ impl Intake {
         ensures ahead { self.new.ahead ≡ self.old.ahead }
         ensures err { OnErr result (self.new ≡ self.old) }
     {
-        self.input
-            .take(bytes, limit.saturating_sub(self.ahead.held()))
+        let room = limit.saturating_sub(self.ahead.held());
+        let count = self.input.take(bytes, room)?;
+        Ok(count)
     }
 
     /// Reads bytes from the source, at most as many as there is room for up to the limit, and at most `READ_SIZE`.
@@ -160,8 +164,9 @@ impl Intake {
         ensures failed_asked { IsErrOf result ReadFromError.Failed → IsAsked (S.calls source.old) (S.calls source.new) }
         ensures err { OnErr result (self.new ≡ self.old) }
     {
-        self.input
-            .read_from(source, limit.saturating_sub(self.ahead.held()))
+        let room = limit.saturating_sub(self.ahead.held());
+        let count = self.input.read_from(source, room)?;
+        Ok(count)
     }
 
     /// Lets the next head be searched for when it is asked for.
@@ -171,15 +176,14 @@ impl Intake {
         ensures searched { is_some self.new.piece ≡ true }
         ensures ahead { self.new.ahead ≡ self.old.ahead }
     {
-        match self.turn {
-            Turn::Unasked => {
-                if self.ahead.is_empty() {
-                    self.input.await_head();
-                }
+        if let Turn::Unasked = self.turn {
+            if self.ahead.is_empty() {
+                self.input.await_head();
+                return;
             }
-            Turn::Later => self.turn = Turn::Next,
-            Turn::Next => {}
+            return;
         }
+        self.turn = Turn::Next;
     }
 
     /// Gives back the memory that is taken, where no byte is held in it.
@@ -196,15 +200,14 @@ impl Intake {
         ensures searched { is_some self.new.piece ≡ true }
         ensures ahead { self.new.ahead ≡ self.old.ahead }
     {
-        match self.turn {
-            Turn::Unasked => {
-                if self.ahead.is_empty() {
-                    self.input.search();
-                }
+        if let Turn::Unasked = self.turn {
+            if self.ahead.is_empty() {
+                self.input.search();
+                return;
             }
-            Turn::Later => self.turn = Turn::Next,
-            Turn::Next => {}
+            return;
         }
+        self.turn = Turn::Next;
     }
 
     /// Hands out the next head over another one, and says whether it is there. Where none was read ahead, further ones are,
@@ -270,7 +273,9 @@ impl Intake {
     {
         let _ = &self.ahead;
         let _ = &self.turn;
-        self.input.pull(rest, has_ended)
+        let pulled = self.input.pull(rest, has_ended)?;
+        let _ = self.input.len();
+        Ok(pulled)
     }
 
     /// Passes over what is left of a body.
@@ -283,6 +288,7 @@ impl Intake {
         let _ = &self.ahead;
         let _ = &self.turn;
         self.input.pass(rest, has_ended);
+        let _ = self.input.len();
     }
 
     /// Whether neither a whole frame nor a broken rule stands in front, in payloads of at most so many bytes.
@@ -307,7 +313,9 @@ impl Intake {
     {
         let _ = &self.ahead;
         let _ = &self.turn;
-        self.input.take_frame(frames)
+        let taken = self.input.take_frame(frames);
+        let _ = self.input.len();
+        taken
     }
 
     /// With the input a raw body ends of which no byte is left.
