@@ -286,7 +286,7 @@ head_back front bytes head i search scan start view none searched here answers =
     let bytes_is : bytes ≡ i.unread = ap (λ (f : List ℕ). f ++ bytes) (sym empty) ∙ ap (λ (j : Incoming). j.unread) view in (
       subst (λ (p : HeadScan). IsSearchedTo head bytes scan.scanner p) (sym found) (grown, inr refl),
       ap (λ (p : HeadScan). record { unread = head ++ bytes; piece = Some p }) piece
-      ∙ ap (λ (l : List ℕ). record { unread = head ++ l; piece = Some (scan_of (head ++ l)) }) bytes_is,
+          ∙ ap (λ (l : List ℕ). record { unread = head ++ l; piece = Some (scan_of (head ++ l)) }) bytes_is,
     )
 
 -- ---- none is searched for any more

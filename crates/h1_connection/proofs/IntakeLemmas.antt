@@ -208,11 +208,10 @@ filling_start was i first = record {
 }
 
 taken_bytes : (i : Incoming) (piece : Option HeadScan) (bytes : List ℕ) (after : Incoming) → IsTakenIn i piece bytes after → (bytes ++ after.unread ≡ i.unread) × (after.piece ≡ None)
-taken_bytes i (Some (Piece start end)) bytes after is =
-    (
-      ap (λ (l : List ℕ). l ++ after.unread) is.0 ∙ ap (λ (j : Incoming). take end i.unread ++ j.unread) is.1 ∙ take-append-drop end i.unread,
-      ap (λ (j : Incoming). j.piece) is.1,
-    )
+taken_bytes i (Some (Piece start end)) bytes after is = (
+  ap (λ (l : List ℕ). l ++ after.unread) is.0 ∙ ap (λ (j : Incoming). take end i.unread ++ j.unread) is.1 ∙ take-append-drop end i.unread,
+  ap (λ (j : Incoming). j.piece) is.1,
+)
 taken_bytes i (Some Open) bytes after is = absurd is
 taken_bytes i None bytes after is = absurd is
 
@@ -293,7 +292,6 @@ module _ (was : List Slot) (i : Incoming) (searched : is_some i.piece ≡ true) 
       by_more : (now ≡ was) ⊎ (length was < length now) → now ≡ was
       by_more (inl is) = is
       by_more (inr more) = absurd (omega (arith, more, ap length empty))
-
 
 -- as many as may be were
 pub all_filled : (was : List Slot) (i : Incoming) (now : List Slot) (j : Incoming) → IsFillingOn was i now j → may_go_on was ≡ true → may_go_on now ≡ false → IsFilled was i now j
@@ -397,8 +395,7 @@ filled_hands was i now j s more item turn stocked searched filled are few now_is
 pub waiting_hands : (heads : List Slot) (i : Incoming) (s : Slot) (more : List Slot) (item : HeadItem) (turn : Turn) → IsStocked heads Next i → heads ≡ s ∷ more → s.refused ≡ None
     → item ≡ s.item → turn ≡ turn_behind more → HandsOut (stock_of heads Next i) item (stock_of more turn i) × IsStocked more turn i
 waiting_hands heads i s more item turn stocked heads_is first item_is turn_is =
-    subst (λ (u : Turn). HandsOut (stock_of heads Next i) item (stock_of more u i) × IsStocked more u i) (sym turn_is)
-    (
+    subst (λ (u : Turn). HandsOut (stock_of heads Next i) item (stock_of more u i) × IsStocked more u i) (sym turn_is) (
       subst (λ (l : List Slot). HandsOut (stock_of l Next i) item (stock_of more (turn_behind more) i)) (sym heads_is) hands,
       stocked_behind s more i at.fits at.are (omega (arith, at.turns.1)) at.turns.2,
     )
@@ -422,8 +419,7 @@ waiting_hands heads i s more item turn stocked heads_is first item_is turn_is =
 pub waiting_fault : (heads : List Slot) (i : Incoming) (s : Slot) (more : List Slot) (e : ParseError) → IsStocked heads Next i → heads ≡ s ∷ more → s.refused ≡ Some e
     → IsFaultAhead (stock_of heads Next i) (fault_of e) × (length heads ≤ 1)
 waiting_fault heads i s more e stocked heads_is refused =
-    subst (λ (l : List Slot). IsFaultAhead (stock_of l Next i) (fault_of e) × (length l ≤ 1)) (sym heads_is)
-    (
+    subst (λ (l : List Slot). IsFaultAhead (stock_of l Next i) (fault_of e) × (length l ≤ 1)) (sym heads_is) (
       is_refused (stock_of (s ∷ more) Next i) s more i at.are refl refl e refused,
       omega (arith, refused_last (stock_of (s ∷ more) Next i) s more i at.are refl refl e refused),
     )
@@ -440,8 +436,7 @@ passed_less i None after passed = absurd passed
 pub lone_hands : (heads : List Slot) (i after : Incoming) (item : HeadItem) → heads ≡ [] → IsStocked heads Unasked i → IsNextHead i item → IsAlone i item → IsPassedHead i after
     → HandsOut (stock_of heads Unasked i) item (stock_of heads Unasked after) × IsStocked heads Unasked after
 lone_hands heads i after item empty stocked next alone passed =
-    subst (λ (l : List Slot). HandsOut (stock_of l Unasked i) item (stock_of l Unasked after) × IsStocked l Unasked after) (sym empty)
-    (
+    subst (λ (l : List Slot). HandsOut (stock_of l Unasked i) item (stock_of l Unasked after) × IsStocked l Unasked after) (sym empty) (
       lone_handed i after item next alone passed,
       record { fits = omega (arith, passed_less i i.piece after passed, at.fits); are = tt; turns = tt },
     )

@@ -1,7 +1,7 @@
 -- The places of heads that were read ahead.
-use Rattle.std.proofs.Common.{◌≡◌, ◌≢◌, ℕ, zero, suc, ◌+◌, ◌-◌, ◌<◌, ◌≤◌, Bool, true, false, not, List, [], ◌∷◌, ◌++◌, length, take, drop, get_or, set, Option, Some, None, inl, inr, refl, sym, ap, ◌∙◌, subst, arith, append-nil, append_assoc, length-append, length-drop}
+use Rattle.std.proofs.Common.{◌≡◌, ◌≢◌, ℕ, zero, suc, ◌+◌, ◌-◌, ◌<◌, ◌≤◌, ◌^◌, Bool, true, false, not, eqb, List, [], ◌∷◌, ◌++◌, length, take, drop, get_or, set, Option, Some, None, Result, Ok, Err, inl, inr, refl, sym, ap, ◌∙◌, subst, arith, append-nil, append_assoc, length-append, length-drop}
 use Rattle.std.specs.Prelude.{slice_range, IsTrue, ◌&&◌, nat_lt, IfOk, IfSome, IfNone, OnErr}
-use Rattle.std.proofs.lemmas.Bool.{and_parts, le-ltb, lt-ltb, ltb-true, cases_lt}
+use Rattle.std.proofs.lemmas.Bool.{and_parts, le-ltb, lt-ltb, ltb-true, cases_lt, eq-eqb}
 use Rattle.std.proofs.lemmas.List.{take-append-le, drop-append-le, take-append-drop, length-take, length-set, take-set-le, drop-set-lt, drop-take, drop_more, get_or-take, get_or-drop, drop_all}
 use Rattle.std.proofs.lemmas.Grind.{take-set_at}
 use Rattle.httparse.specs.Grammar.{print_end}
@@ -310,3 +310,51 @@ none_of heads is = ap length is
 pub empty_of : (heads : List Slot) → length heads ≡ 0 → heads ≡ []
 empty_of [] is = refl
 empty_of (s ∷ more) is = absurd (cc is)
+
+-- ---- what the ring's calls say
+
+-- whether one more may be read behind the last of them
+pub may_at : (slots heads : List Slot) (passed count held : ℕ) (last : Slot) → AreKept slots passed count held → taken slots passed count ≡ heads → 0 < count → count < 17
+    → last ≡ get_or slots (passed + count - 1) last → has_no_body last ≡ may_go_on heads
+may_at slots heads passed count held last kept view some few at =
+    let place : passed + count - 1 ≡ passed + (count - 1) = omega (arith, some) in
+    let there : last ≡ get_or slots (passed + (count - 1)) last = at ∙ ap (λ (n : ℕ). get_or slots n last) place in
+    let long : length heads ≡ suc (count - 1) = omega (arith, some, count_of slots heads passed count held kept view) in
+    may_last heads (count - 1) last long (omega (arith, some, few))
+    (ap (λ (l : List Slot). get_or l (count - 1) last) (sym view)
+    ∙ taken_last slots passed count (count - 1) last last (omega (arith, some)) there (omega (arith, some, kept.fits)))
+
+-- the first of them and the others
+pub first_of : (slots heads : List Slot) (passed count held : ℕ) (s : Slot) → AreKept slots passed count held → taken slots passed count ≡ heads → 0 < length heads
+    → s ≡ get_or slots passed s → heads ≡ s ∷ taken slots (passed + 1) (count - 1)
+first_of slots heads passed count held s kept view some at =
+    let is : count ≡ suc (count - 1) = omega (arith, some, count_of slots heads passed count held kept view) in
+    sym view ∙ taken_first slots passed count (count - 1) s (omega (arith, kept.fits, is)) is at
+
+-- the bytes that are taken fit beside those that were
+taken_within : (i : Incoming) (piece : Option HeadScan) (bytes : List ℕ) (after : Incoming) → IsTakenIn i piece bytes after → length bytes ≤ length i.unread
+taken_within i (Some (Piece start end)) bytes after is = omega (arith, ap length is.0, length-take end i.unread)
+taken_within i (Some Open) bytes after is = absurd is
+taken_within i None bytes after is = absurd is
+
+pub held_fits : (heads : List Slot) (i j : Incoming) (bytes : List ℕ) (held size : ℕ) → held ≡ length (joined heads) → length (joined heads ++ i.unread) < 2 ^ 64
+    → size ≡ length bytes → IsTakenHead i bytes j → held + size < 2 ^ 64
+held_fits heads i j bytes held size held_is fits size_is is =
+    omega (arith, held_is, fits, size_is, length-append (joined heads) i.unread, taken_within i i.piece bytes j is)
+
+-- what holds of an error, of an answer that there is none, and of an error where none was read
+pub on_err : {T E : Type 0} (P : Type 0) (r : Result T E) → P → OnErr r P
+on_err P (Ok x) p = tt
+on_err P (Err e) p = p
+
+pub none_from : {E : Type 0} (P Q R : Type 0) (r : Result Bool E) → IfOk r (λ b. (b ≡ false) × P) → Q → R → IfOk r (λ b. b ≡ false → P × Q × R)
+none_from P Q R (Ok b) none q r = λ _. (none.1, q, r)
+none_from P Q R (Err e) none q r = tt
+
+pub whole_from : {T E : Type 0} (W : Type 0) (r : Result T E) (heads : List Slot) (count : ℕ) → length heads ≡ count → OnErr r (eqb count 0 ≡ true → W) → OnErr r (heads ≡ [] → W)
+whole_from W (Ok x) heads count long whole = tt
+whole_from W (Err e) heads count long whole = λ none. whole (eq-eqb count 0 (sym long ∙ ap length none))
+
+pub is_none_of : (P : Type 0) (o : Option ℕ) → ((x : ℕ) → o ≡ Some x → ⊥) → IfNone o P → P
+is_none_of P None no p = p
+is_none_of P (Some x) no p = absurd (no x refl)
