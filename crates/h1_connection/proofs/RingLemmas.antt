@@ -356,5 +356,5 @@ whole_from W (Ok x) heads count long whole = tt
 whole_from W (Err e) heads count long whole = λ none. whole (eq-eqb count 0 (sym long ∙ ap length none))
 
 pub is_none_of : (P : Type 0) (o : Option ℕ) → ((x : ℕ) → o ≡ Some x → ⊥) → IfNone o P → P
-is_none_of P None no p = p
-is_none_of P (Some x) no p = absurd (no x refl)
+is_none_of P None other p = p
+is_none_of P (Some x) other p = absurd (other x refl)
