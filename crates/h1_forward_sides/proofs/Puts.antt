@@ -1,6 +1,7 @@
 -- Which heads of replies a call puts.
 use Rattle.std.proofs.Common.{◌≡◌, ◌⊎◌, inl, inr, ℕ, List, [], ◌∷◌, ◌++◌, Some, refl, sym, ap, ap₂, ◌∙◌, subst, append_assoc, append-nil}
 use Rattle.h1_model.specs.Event as on
+use Rattle.h1_model.specs.Request.{Head}
 use Rattle.h1_model.specs.Sums.{Step}
 use Rattle.h1_payload.specs.Rests.{SaysPulled}
 use Rattle.h1_payload.specs.declared.pulled.Pulled.{Pulled}
@@ -21,7 +22,7 @@ use Rattle.h1_client.specs.Meaning as asking
 use Rattle.h1_client.specs.State as servers
 use Rattle.h1_client.specs.declared.event.NextAnswer.{NextAnswer}
 use Rattle.h1_client.specs.declared.event.NextAnswer.TheVariants as answered
-use Rattle.h1_forward_sides.specs.Puts.{Put, put_by, heads_put, Puts, HandsNext, HandsPulled, Tells, IsRead, CannotTell, HandsAnswer}
+use Rattle.h1_forward_sides.specs.Puts.{Put, put_by, heads_put, Puts, HandsHead, HandsFault, HandsNext, HandsPulled, good_of, good_answers, HandsNone, Tells, IsRead, CannotTell, HandsAnswer}
 
 -- ---- one after another
 
@@ -81,12 +82,53 @@ pulled_hands (pulled.Broken fault) a b one = λ trace stands.
     let s = one trace stands in subst (λ (o : on.Outcome). Stands b (record { event = on.pull; outcome = o } ∷ trace)) s.1 s.3
 pulled_hands pulled.Pending a b one = one_puts a on.pull _ b [] one refl
 
+-- a head, or the fault of a body, that is handed out
+pub head_puts : (Is : Head → Type 0) (a b : State) → HandsHead Is a b → Puts [] a b
+unfolding heads_put
+head_puts Is a b x = λ trace stands. let y = x trace stands in (record { event = on.next; outcome = on.head y.0 } ∷ [], y.2, refl)
+
+pub fault_puts : (fault : on.BodyFault) (a b : State) → HandsFault fault a b → Puts [] a b
+unfolding heads_put
+fault_puts fault a b x = λ trace stands. (record { event = on.pull; outcome = on.broken_by fault } ∷ [], x trace stands, refl)
+
 -- ---- a server's side
 
 tells : (a b : servers.State) (Says : asked.ClientOutcome → Type 0) (o : asked.ClientOutcome) → (one : servers.GoesOn a asked.next Says b) → one.outcome ≡ o
     → Tells o a b
 tells a b Says o one is = λ trace stands.
     subst (λ (o : asked.ClientOutcome). servers.Stands b (record { event = asked.next; outcome = o } ∷ trace)) is (one.stands trace stands)
+
+-- a step that hands out no answer to be passed on
+pub one_hands : (a : servers.State) (event : asked.ClientEvent) (Says : asked.ClientOutcome → Type 0) (b : servers.State) → (one : servers.GoesOn a event Says b)
+    → good_of one.outcome ≡ [] → HandsNone a b
+unfolding good_answers
+one_hands a event Says b one none = λ trace stands.
+    (record { event = event; outcome = one.outcome } ∷ [], one.stands trace stands, append-nil (good_of one.outcome) ∙ none)
+
+pub hands_same : (a : servers.State) → HandsNone a a
+unfolding good_answers
+hands_same a = λ trace stands. ([], stands, refl)
+
+good_both : (first second : List Happened) → good_answers (second ++ first) ≡ good_answers second ++ good_answers first
+unfolding good_answers
+good_both first [] = refl
+good_both first (s ∷ second) =
+    ap (λ (as : List Answer). good_of s.outcome ++ as) (good_both first second)
+    ∙ sym (append_assoc (good_of s.outcome) (good_answers second) (good_answers first))
+
+pub hands_then : (a b c : servers.State) → HandsNone a b → HandsNone b c → HandsNone a c
+hands_then a b c first second = λ trace stands.
+    let x = first trace stands in
+    let y = second (x.0 ++ trace) x.1 in (
+      y.0 ++ x.0,
+      subst (servers.Stands c) (sym (append_assoc y.0 x.0 trace)) y.1,
+      good_both x.0 y.0 ∙ ap₂ (λ (m s : List Answer). m ++ s) y.2 x.2,
+    )
+
+-- the answer that was told isn't to be passed on
+pub tells_none : (o : asked.ClientOutcome) (a b : servers.State) → good_of o ≡ [] → Tells o a b → HandsNone a b
+unfolding good_answers
+tells_none o a b none x = λ trace stands. (record { event = asked.next; outcome = o } ∷ [], x trace stands, append-nil (good_of o) ∙ none)
 
 is_read : (size : ℕ) (piece : List ℕ) (a : Answer) → IsAnswerReadingWithin (Some size) piece (answer_is a) → IsRead a
 is_read size piece a (inl x) = (piece, x.1)
@@ -105,5 +147,5 @@ answer_hands (answered.Answer item) a b one = (
   tells a b _ (asked.answer one.says.0) one one.says.2,
 )
 answer_hands (answered.Fault fault) a b one = tells a b _ (asked.fault _) one one.says
-answer_hands answered.Pending a b one = tt
+answer_hands answered.Pending a b one = one_hands a asked.next _ b one (ap good_of one.says)
 answer_hands (answered.Closed end) a b one = inr (tells a b _ (asked.closed _) one one.says)

@@ -1,5 +1,5 @@
 -- Which heads of replies a call puts towards the client, and what a call of a server's connection hands out, whatever happened before.
-use Rattle.std.specs.Prelude.{◌≡◌, ◌⊎◌, ℕ, false, List, [], ◌∷◌, ◌++◌, ⊤}
+use Rattle.std.specs.Prelude.{◌≡◌, ◌⊎◌, ℕ, Bool, false, not, ◌&&◌, ◌||◌, ◌==◌, if◌then◌else◌, List, [], ◌∷◌, ◌++◌}
 use Rattle.h1_model.specs.Answer.{AnswerHead, BodySize}
 use Rattle.h1_model.specs.Event as on
 use Rattle.h1_model.specs.Request.{Head}
@@ -15,6 +15,7 @@ use Rattle.h1_connection.specs.State.{State, Stands}
 use Rattle.h1_connection.specs.declared.connection.heads.NextHead.{NextHead}
 use Rattle.h1_connection.specs.declared.connection.heads.NextHead.TheVariants as next
 use Rattle.h1_client_heads.specs.Meaning as heads
+use Rattle.h1_client_model.specs.AnswerParse.{is_interim}
 use Rattle.h1_client_model.specs.AnswerReading.{Answer, answer_is, IsAnswerReading}
 use Rattle.h1_client_machine.specs.ClientEvent as asked
 use Rattle.h1_client_machine.specs.ClientKept.{client_allows}
@@ -75,6 +76,27 @@ HandsPulled pulled.Pending old new = Puts [] old new
 
 -- ---- a server's side
 
+-- an answer that is never passed on: its head was read only with blanks passed over, or it goes over to another protocol
+abbrev pub is_refused : Answer → Bool
+is_refused a = a.is_lax || (a.status == 101)
+
+-- and one that is
+abbrev pub is_good : Answer → Bool
+is_good a = not (is_refused a) && not (is_interim a.status)
+
+abbrev pub good_of : asked.ClientOutcome → List Answer
+good_of (asked.answer a) = if is_good a then a ∷ [] else []
+good_of _ = []
+
+-- the answers to be passed on that were handed out in these steps, the newest first
+unfoldable pub good_answers : List Happened → List Answer
+good_answers [] = []
+good_answers (s ∷ before) = good_of s.outcome ++ good_answers before
+
+-- more happened on the server's connection, and none was handed out in it
+abbrev pub HandsNone : servers.State → servers.State → Type 0
+HandsNone old new = (trace : List Happened) → servers.Stands old trace → (more : List Happened) × servers.Stands new (more ++ trace) × (good_answers more ≡ [])
+
 -- asked for the next answer, the connection told this
 abbrev pub Tells : asked.ClientOutcome → servers.State → servers.State → Type 0
 Tells o old new =
@@ -93,4 +115,4 @@ abbrev pub HandsAnswer : NextAnswer → servers.State → servers.State → Type
 HandsAnswer (answered.Answer item) old new = (a : Answer) × SaysAnswer item a × IsRead a × Tells (asked.answer a) old new
 HandsAnswer (answered.Fault fault) old new = Tells (asked.fault (heads.fault_of fault)) old new
 HandsAnswer (answered.Closed end) old new = CannotTell old ⊎ Tells (asked.closed (asking.end_of end)) old new
-HandsAnswer answered.Pending old new = ⊤
+HandsAnswer answered.Pending old new = HandsNone old new

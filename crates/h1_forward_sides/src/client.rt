@@ -6,7 +6,7 @@ ghost use Rattle.h1_model.specs.Event as on;
 ghost use Rattle.h1_forward_sides.specs.Sides.{ClientBrings, BringsNext, BringsPulled};
 ghost use Rattle.h1_codec.specs.Meaning.{answer_of, size_of};
 ghost use Rattle.h1_forward_sides.specs.Leaves.{LeavesNext, LeavesPulled};
-ghost use Rattle.h1_forward_sides.specs.Wants.{Wants, WantsNoMore, WantsNext, HasHead, HasEnd};
+ghost use Rattle.h1_forward_sides.specs.Wants.{Wants, WantsTheSame, WantsNext, HasHead, HasEnd};
 ghost use Rattle.h1_forward_sides.specs.Puts.{Puts, MayPut, HandsNext, HandsPulled};
 
 use h1_connection::{BodySize, Bytes, Connection, NextHead, NoMemory, Pulled, ResponseHead};
@@ -29,7 +29,7 @@ pub fn next_head(client: &mut Connection) -> Result<NextHead, NoMemory>
 pub fn next_bytes(client: &mut Connection) -> Result<Pulled, NoMemory>
     ensures brings { IfOk result (λ pulled. BringsPulled pulled client.old client.new) }
     ensures leaves { IfOk result (λ pulled. LeavesPulled pulled client.old client.new) }
-    ensures wants { OnOk result (Wants WantsNoMore client.old client.new) }
+    ensures wants { OnOk result (Wants WantsTheSame client.old client.new) }
     ensures hands { IfOk result (λ pulled. HandsPulled pulled client.old client.new) }
 {
     if !client.can_pull() {
@@ -42,7 +42,7 @@ pub fn next_bytes(client: &mut Connection) -> Result<Pulled, NoMemory>
 /// The rest of the request's body isn't wanted.
 pub fn leave_body(client: &mut Connection)
     ensures brings { ClientBrings on.done client.old client.new }
-    ensures wants { Wants WantsNoMore client.old client.new }
+    ensures wants { Wants WantsTheSame client.old client.new }
     ensures puts { Puts [] client.old client.new }
 {
     if !client.can_pull() {
@@ -54,7 +54,7 @@ pub fn leave_body(client: &mut Connection)
 /// Tells the client to go on, where it waits for that.
 pub fn tell_to_go_on(client: &mut Connection) -> Result<(), NoMemory>
     ensures brings { OnOk result (ClientBrings on.done client.old client.new) }
-    ensures wants { OnOk result (Wants WantsNoMore client.old client.new) }
+    ensures wants { OnOk result (Wants WantsTheSame client.old client.new) }
     ensures puts { OnOk result (Puts [] client.old client.new) }
 {
     if !client.can_continue() {
@@ -84,7 +84,7 @@ pub fn put_head(
 /// A piece of its body.
 pub fn put_piece(client: &mut Connection, bytes: Bytes) -> Result<(), NoMemory>
     ensures brings { OnOk result (ClientBrings on.done client.old client.new) }
-    ensures wants { OnOk result (Wants WantsNoMore client.old client.new) }
+    ensures wants { OnOk result (Wants WantsTheSame client.old client.new) }
     ensures puts { OnOk result (Puts [] client.old client.new) }
 {
     if !client.can_chunk() {

@@ -17,6 +17,7 @@ returns-clause-brings c = client_plain c.args.client.now (on.answer (answer_of c
 pub returns-clause-wants : goal.returns-clause-wants
 returns-clause-wants c =
     has_head (answer_of c.args.head.now) (size_of c.args.size) c.args.client.now c.answer.new.self c.answer.ensures.settings c.in_ok-answer.ensures.stands
+    (sym (c.can_answer.ensures (answer_of c.args.head.now) (size_of c.args.size)) ∙ c.if-not-can_answer.false)
 
 pub returns-then-not-can_answer-clause-puts : goal.returns-then-not-can_answer-clause-puts
 returns-then-not-can_answer-clause-puts c =

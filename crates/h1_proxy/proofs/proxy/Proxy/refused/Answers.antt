@@ -41,5 +41,5 @@ returns-clause-serves c =
     let x = refused_no_reply p c.requires.wants_server s in
     c.in_ok-reply.ensures.serves
     (noted_idle q _ c.note_unsent.ensures.noted (record { unsent = c.take-unsent.ensures.after; sent = refl }))
-    (noted_no_reply q _ c.note_unsent.ensures.noted (record { told = x.told; complete = x.complete })))
+    (noted_no_reply q _ c.note_unsent.ensures.noted (record { told = x.told; complete = x.complete; waited = x.waited })))
     c.in_ok-settle.ensures.serves
