@@ -1,6 +1,6 @@
 -- Why a forwarder puts the head of a reply.
 use Rattle.std.proofs.Common.{◌≡◌, ◌⊎◌, inl, inr, ℕ, Bool, true, false, not, ◌&&◌, List, [], ◌∷◌, Option, Some, None, refl, sym, ap, ◌∙◌, subst, subst₂}
-use Rattle.std.specs.Prelude.{if◌then◌else◌}
+use Rattle.std.specs.Prelude.{IsTrue, is_some, is_none, if◌then◌else◌}
 use Rattle.std.proofs.lemmas.Bool.{false≢true}
 use Rattle.h1_model.specs.Answer.{AnswerHead, BodySize}
 use Rattle.h1_model.specs.Event as on
@@ -9,7 +9,7 @@ use Rattle.h1_model.specs.Request.{Head}
 use Rattle.h1_decode.specs.HeadItem.{SaysHead}
 use Rattle.h1_decode.specs.declared.decoder.HeadItem.{HeadItem}
 use Rattle.h1_decode.specs.declared.response.ResponseItem.{ResponseItem}
-use Rattle.h1_connection.specs.State.{State}
+use Rattle.h1_connection.specs.State.{State, GoesOn}
 use Rattle.h1_client_model.specs.AnswerParse.{Received, is_interim}
 use Rattle.h1_client_model.specs.AnswerReading.{Answer, answer_is}
 use Rattle.h1_client_machine.specs.ClientEvent as asked
@@ -18,14 +18,15 @@ use Rattle.h1_client.specs.declared.event.ClientEnd.{ClientEnd}
 use Rattle.h1_client.specs.declared.event.NextAnswer.TheVariants as answered
 use Rattle.h1_forward_model.specs.Answers.{Found, found_bad, found_body, found_by, reply_head, reply_size}
 use Rattle.h1_forward_model.specs.Forward.{is_forwardable}
-use Rattle.h1_forward_sides.specs.Puts.{Put, Puts, MayPut, HandsHead, HandsFault, HandsAnswer, is_refused, is_good, HandsNone, good_of}
-use Rattle.h1_forward_sides.proofs.Puts.{puts_none, then_none, none_then, head_puts, fault_puts, hands_same, hands_then, tells_none}
+use Rattle.h1_forward_sides.specs.Puts.{Put, Puts, MayPut, put_by, HandsHead, HandsFault, HandsAnswer, is_refused, is_good, HandsNone, good_of}
+use Rattle.h1_forward_sides.proofs.Puts.{puts_none, then_none, none_then, head_puts, fault_puts, hands_same, hands_then, one_puts, one_hands, tells_none}
 use Rattle.h1_proxy.specs.declared.proxy.Proxy.{Proxy}
 use Rattle.h1_proxy.specs.declared.proxy.Sent.{Sent}
 use Rattle.h1_proxy.specs.declared.proxy.Unsent.{Unsent}
-use Rattle.h1_proxy.specs.Kept.{IsIdle, Runs, was_answered}
+use Rattle.h1_proxy.specs.Kept.{IsIdle, Runs, was_answered, wants_server, is_closing}
 use Rattle.h1_proxy.specs.Rests.{IsNoted}
-use Rattle.h1_proxy.specs.Replies.{no_head, broken_body, not_forwardable, no_answer, passed_on, own, passed, AtMost, IsUnanswered, GoesOnWaiting, LacksAnswer, HasCause, TurnReplies, Fails, Breaks, PassesBody, UsesAnswer, TakesAnswer, Opens}
+use Rattle.h1_proxy.proofs.EventMoves.{three_parts}
+use Rattle.h1_proxy.specs.Replies.{no_head, broken_body, not_forwardable, no_answer, passed_on, own, passed, AtMost, IsUnanswered, GoesOnWaiting, LacksAnswer, HasCause, TurnReplies, Fails, Breaks, PassesBody, UsesAnswer, TakesAnswer, Opens, PutsNoHead, HasReplied, Replies, RepliesRefused}
 
 -- ---- one after another
 
@@ -227,3 +228,65 @@ replies_of_unsent p q o is x = subst (λ (o : Option Unsent). TurnReplies (recor
 
 pub replies_of_server : (p q : Proxy) (o : Option servers.State) → p.server ≡ o → TurnReplies (record p { server = o }) q → TurnReplies p q
 replies_of_server p q o is x = subst (λ (o : Option servers.State). TurnReplies (record p { server = o }) q) (sym is) x
+
+-- ---- events
+
+pub no_head_same : (p : Proxy) → PutsNoHead p p
+no_head_same p = record { waits = λ sent s x is. waits_as p sent s s x.runs x.unanswered is (hands_same s); puts = puts_none p.client }
+
+-- something happened on the client's connection
+pub client_no_head : (p : Proxy) (event : on.Event) (Says : on.Outcome → Type 0) (c : State) → GoesOn p.client event Says c → put_by event ≡ []
+    → PutsNoHead p (record p { client = c })
+client_no_head p event Says c one none = record {
+  waits = λ sent s x is.
+      waits_as (record p { client = c }) sent s s (record { unsent = x.runs.unsent; sent = x.runs.sent }) x.unanswered is (hands_same s);
+  puts = one_puts p.client event Says c [] one none;
+}
+
+-- or on the server's
+pub server_no_head : (p : Proxy) (a b : servers.State) (event : asked.ClientEvent) (Says : asked.ClientOutcome → Type 0) → p.server ≡ Some a
+    → (one : servers.GoesOn a event Says b) → good_of one.outcome ≡ [] → PutsNoHead p (record p { server = Some b })
+server_no_head p a b event Says here one none = record {
+  waits = λ sent s x is.
+      let found : Some a ≡ Some s = sym here ∙ is in
+      let same : a ≡ s = cc found in
+      waits_as (record p { server = Some b }) sent s b (record { unsent = x.runs.unsent; sent = x.runs.sent }) x.unanswered refl
+      (subst (λ (s : servers.State). HandsNone s b) same (one_hands a event Says b one none));
+  puts = puts_none p.client;
+}
+
+pub no_head_moment : (p q : Proxy) (m : Option ℕ) → PutsNoHead p q → PutsNoHead p (record q { moment = m })
+no_head_moment p q m x = record {
+  waits = λ sent s y is.
+      let z = x.waits sent s y is in record {
+        sent = z.sent;
+        waits = record { runs = record { unsent = z.waits.runs.unsent; sent = z.waits.runs.sent }; unanswered = z.waits.unanswered };
+        after = z.after;
+        is_there = z.is_there;
+        none = z.none;
+      };
+  puts = x.puts;
+}
+
+-- a server connection that is there where none was
+pub connected_no_head : (p : Proxy) (t : servers.State) → p.server ≡ None → PutsNoHead p (record p { server = Some t })
+connected_no_head p t none = record {
+  waits = λ sent s x is. let no : ◌≡◌ {A = Option servers.State} None (Some s) = sym none ∙ is in absurd (cc no);
+  puts = puts_none p.client;
+}
+
+pub no_server_of : (p : Proxy) → IsTrue (wants_server p) → p.server ≡ None
+no_server_of p wants = none_of p.server (three_parts (is_some p.unsent) (is_none p.server) (not (is_closing p)) wants).1
+  where
+    none_of : (o : Option servers.State) → is_none o ≡ true → o ≡ None
+    none_of None is = refl
+    none_of (Some s) is = absurd (false≢true is)
+
+pub replies_by : (p mid q : Proxy) → PutsNoHead p mid → HasReplied mid q → Replies p q
+replies_by p mid q event turns = record { mid = mid; event = event; turns = turns }
+
+-- no server connection is to be had
+pub refused_by : (p a b mid q : Proxy) → a.client ≡ p.client → b.client ≡ a.client → AtMost (own 502 ∷ []) b.client mid.client → HasReplied mid q
+    → RepliesRefused p q
+refused_by p a b mid q first second puts turns =
+    record { mid = mid; puts = subst (λ (s : State). AtMost (own 502 ∷ []) s mid.client) (second ∙ first) puts; turns = turns }

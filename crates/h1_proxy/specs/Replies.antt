@@ -93,11 +93,15 @@ pub data HasReplied (old : Proxy) : Proxy → Type 0 where
   nothing : HasReplied old old
   turned : (mid new : Proxy) → HasReplied old mid → TurnReplies mid new → HasReplied old new
 
+-- no head of a reply is put, and a request that waits for its answer goes on waiting
+pub record PutsNoHead (old new : Proxy) : Type 0 where
+  pub waits : HasCause no_head old new
+  pub puts : Puts [] old.client new.client
+
 -- an event puts no head of a reply itself, and then come turns
 pub record Replies (old new : Proxy) : Type 0 where
   pub mid : Proxy
-  pub event : HasCause no_head old mid
-  pub puts : Puts [] old.client mid.client
+  pub event : PutsNoHead old mid
   pub turns : HasReplied mid new
 
 -- a server connection is refused for a request that waits: it gets 502
