@@ -113,7 +113,7 @@ good_both : (first second : List Happened) → good_answers (second ++ first) �
 unfolding good_answers
 good_both first [] = refl
 good_both first (s ∷ second) =
-    ap (λ (as : List Answer). good_of s.outcome ++ as) (good_both first second)
+    ap (λ (more : List Answer). good_of s.outcome ++ more) (good_both first second)
     ∙ sym (append_assoc (good_of s.outcome) (good_answers second) (good_answers first))
 
 pub hands_then : (a b c : servers.State) → HandsNone a b → HandsNone b c → HandsNone a c
@@ -143,7 +143,7 @@ answer_hands (answered.Answer item) a b one = (
   one.says.0,
   one.says.1,
   step_read (asking.setting_of a.settings) a.kept b.kept one.says.0
-  (subst (λ (o : asked.ClientOutcome). IsClientStep (asking.setting_of a.settings) a.kept asked.next o b.kept) one.says.2 one.step),
+      (subst (λ (o : asked.ClientOutcome). IsClientStep (asking.setting_of a.settings) a.kept asked.next o b.kept) one.says.2 one.step),
   tells a b _ (asked.answer one.says.0) one one.says.2,
 )
 answer_hands (answered.Fault fault) a b one = tells a b _ (asked.fault _) one one.says

@@ -182,7 +182,7 @@ answer_replies p q sent s t item runs unanswered (a, says, read, tells) takes = 
     by_use (inr (inl x)) = (
       no_head,
       waits_cause p q sent s runs
-      (λ _. waits_before s t q (tells_none (asked.answer a) s t (ap (λ (b : Bool). if b then a ∷ [] else []) x.0) tells) x.2),
+          (λ _. waits_before s t q (tells_none (asked.answer a) s t (ap (λ (b : Bool). if b then a ∷ [] else []) x.0) tells) x.2),
       inl x.1,
     )
     by_use (inr (inr x)) = (passed_on sent.is_head a, (sent, waits, refl, (x.0, read, t, tells)), x.1)
@@ -194,6 +194,31 @@ head_replies p q item c idle hands (inr x) = (
   (idle, c, λ trace stands. let y = hands trace stands in (y.0, x.0 y.0 y.1, y.2)),
   then_most (own 501 ∷ []) p.client c q.client (head_puts (SaysHead item) p.client c hands) x.1,
 )
+
+-- by whether the head of its answer was passed on
+pub fails_puts : (t : Bool) (a b : State) → t ≡ true → Fails t a b → Puts [] a b
+fails_puts true a b is x = x
+fails_puts false a b is x = absurd (false≢true is)
+
+pub fails_most : (t : Bool) (a b : State) → t ≡ false → Fails t a b → AtMost (own 502 ∷ []) a b
+fails_most true a b is x = absurd (false≢true (sym is))
+fails_most false a b is x = x
+
+pub cut_fails : (t : Bool) (a b : State) → t ≡ true → Puts [] a b → Fails t a b
+cut_fails true a b is x = x
+cut_fails false a b is x = absurd (false≢true is)
+
+pub own_fails : (t : Bool) (a b : State) → t ≡ false → AtMost (own 502 ∷ []) a b → Fails t a b
+own_fails true a b is x = absurd (false≢true (sym is))
+own_fails false a b is x = x
+
+pub kept_breaks : (t : Bool) (a : State) → t ≡ true → Breaks t a a
+kept_breaks true a is = puts_none a
+kept_breaks false a is = absurd (false≢true is)
+
+pub own_breaks : (t : Bool) (a b : State) → t ≡ false → AtMost (own 400 ∷ []) a b → Breaks t a b
+own_breaks true a b is x = absurd (false≢true (sym is))
+own_breaks false a b is x = x
 
 -- the head of this answer is passed on
 pub head_passes : (is_head : Bool) (a : Answer) (head : AnswerHead) (size : BodySize) (b c : State) → head ≡ reply_head a → size ≡ reply_size is_head a

@@ -4,7 +4,7 @@ use Rattle.h1_proxy.proofs.Moves.{goes_then, fails, resent}
 use Rattle.h1_proxy.proofs.Work.{less_then, weaker, closed_less, drop_sent, remarked, broken_mark}
 use Rattle.h1_proxy.proofs.Served.{with_server, resent_serves, no_reply_of}
 use Rattle.std.proofs.Common.{subst, sym, Bool}
-use Rattle.h1_proxy.specs.Replies.{Breaks}
+use Rattle.h1_proxy.proofs.Replies.{kept_breaks, own_breaks}
 use Rattle.h1_forward_sides.proofs.Puts.{puts_none}
 use Rattle.h1_proxy.proofs.proxy.Proxy.break_body.Goals as goal
 
@@ -40,7 +40,7 @@ returns-clause-serves c = λ s.
 
 pub returns-then-sent-clause-replies : goal.returns-then-sent-clause-replies
 returns-then-sent-clause-replies c =
-    subst (λ (t : Bool). Breaks t c.args.self.now.client c.args.self.now.client) (sym c.if-sent.true) (puts_none c.args.self.now.client)
+    kept_breaks c.args.sent.is_answered c.args.self.now.client c.if-sent.true
 
 pub returns-clause-replies : goal.returns-clause-replies
-returns-clause-replies c = subst (λ (t : Bool). Breaks t c.args.self.now.client c.reply.new.self.client) (sym c.if-sent.false) c.in_ok-reply.ensures.replies
+returns-clause-replies c = own_breaks c.args.sent.is_answered c.args.self.now.client _ c.if-sent.false c.in_ok-reply.ensures.replies

@@ -123,29 +123,41 @@ returns-clause-serves c = λ s.
 
 pub returns-then-not-may_send-clause-replies : goal.returns-then-not-may_send-clause-replies
 returns-then-not-may_send-clause-replies c =
-    inl (puts_none c.args.self.now.client, λ unanswered.
-    waits_as (record c.args.self.now { server = Some c.args.server }) c.args.sent c.args.server c.args.server
-    (record { unsent = c.requires.runs.unsent; sent = c.requires.runs.sent }) unanswered refl (hands_same c.args.server))
+    inl (
+      puts_none c.args.self.now.client,
+      λ unanswered.
+          waits_as (record c.args.self.now { server = Some c.args.server }) c.args.sent c.args.server c.args.server
+          (record { unsent = c.requires.runs.unsent; sent = c.requires.runs.sent }) unanswered refl (hands_same c.args.server),
+    )
 
 pub returns-in-Bytes-clause-replies : goal.returns-in-Bytes-clause-replies
 returns-in-Bytes-clause-replies c =
-    inl (subst (λ (n : Pulled). HandsPulled n c.args.self.now.client c.next_bytes.new.client) c.in-Bytes.is c.in_ok-bytes.ensures.hands, λ unanswered.
-    waits_as (record c.args.self.now { client = c.next_bytes.new.client; server = Some c.chunk.new.self }) c.args.sent c.args.server c.chunk.new.self
-    (record { unsent = c.requires.runs.unsent; sent = c.requires.runs.sent }) unanswered refl
-    (one_hands c.args.server (asked.chunk c.as_slice.result.now) _ c.chunk.new.self c.in_ok-chunk-in-Bytes.ensures.stands (ap good_of c.in_ok-chunk-in-Bytes.ensures.stands.says)))
+    inl (
+      subst (λ (n : Pulled). HandsPulled n c.args.self.now.client c.next_bytes.new.client) c.in-Bytes.is c.in_ok-bytes.ensures.hands,
+      λ unanswered.
+          waits_as (record c.args.self.now { client = c.next_bytes.new.client; server = Some c.chunk.new.self }) c.args.sent c.args.server c.chunk.new.self
+          (record { unsent = c.requires.runs.unsent; sent = c.requires.runs.sent }) unanswered refl
+          (one_hands c.args.server (asked.chunk c.as_slice.result.now) _ c.chunk.new.self c.in_ok-chunk-in-Bytes.ensures.stands (ap good_of c.in_ok-chunk-in-Bytes.ensures.stands.says)),
+    )
 
 pub returns-in-Trailers-clause-replies : goal.returns-in-Trailers-clause-replies
 returns-in-Trailers-clause-replies c =
-    inl (subst (λ (n : Pulled). HandsPulled n c.args.self.now.client c.next_bytes.new.client) c.in-Trailers.is c.in_ok-bytes.ensures.hands, λ unanswered.
-    waits_as (record c.args.self.now { client = c.next_bytes.new.client; server = Some c.args.server }) c.args.sent c.args.server c.args.server
-    (record { unsent = c.requires.runs.unsent; sent = c.requires.runs.sent }) unanswered refl (hands_same c.args.server))
+    inl (
+      subst (λ (n : Pulled). HandsPulled n c.args.self.now.client c.next_bytes.new.client) c.in-Trailers.is c.in_ok-bytes.ensures.hands,
+      λ unanswered.
+          waits_as (record c.args.self.now { client = c.next_bytes.new.client; server = Some c.args.server }) c.args.sent c.args.server c.args.server
+          (record { unsent = c.requires.runs.unsent; sent = c.requires.runs.sent }) unanswered refl (hands_same c.args.server),
+    )
 
 pub returns-in-End-clause-replies : goal.returns-in-End-clause-replies
 returns-in-End-clause-replies c =
-    inl (subst (λ (n : Pulled). HandsPulled n c.args.self.now.client c.next_bytes.new.client) c.in-End.is c.in_ok-bytes.ensures.hands, λ unanswered.
-    waits_as (record c.args.self.now { client = c.next_bytes.new.client; server = Some c.end_body.new.self; sent = Some c.whole.result }) c.whole.result c.args.server c.end_body.new.self
-    (record { unsent = c.requires.runs.unsent; sent = refl }) (c.whole.ensures.answered ∙ unanswered) refl
-    (one_hands c.args.server asked.body_end _ c.end_body.new.self c.in_ok-end_body-in-End.ensures.stands (ap good_of c.in_ok-end_body-in-End.ensures.stands.says)))
+    inl (
+      subst (λ (n : Pulled). HandsPulled n c.args.self.now.client c.next_bytes.new.client) c.in-End.is c.in_ok-bytes.ensures.hands,
+      λ unanswered.
+          waits_as (record c.args.self.now { client = c.next_bytes.new.client; server = Some c.end_body.new.self; sent = Some c.whole.result }) c.whole.result c.args.server c.end_body.new.self
+          (record { unsent = c.requires.runs.unsent; sent = refl }) (c.whole.ensures.answered ∙ unanswered) refl
+          (one_hands c.args.server asked.body_end _ c.end_body.new.self c.in_ok-end_body-in-End.ensures.stands (ap good_of c.in_ok-end_body-in-End.ensures.stands.says)),
+    )
 
 pub returns-in-Broken-clause-replies : goal.returns-in-Broken-clause-replies
 returns-in-Broken-clause-replies c =
@@ -155,6 +167,9 @@ returns-in-Broken-clause-replies c =
 
 pub returns-clause-replies : goal.returns-clause-replies
 returns-clause-replies c =
-    inl (subst (λ (n : Pulled). HandsPulled n c.args.self.now.client c.next_bytes.new.client) c.in-Pending.is c.in_ok-bytes.ensures.hands, λ unanswered.
-    waits_as (record c.args.self.now { client = c.next_bytes.new.client; server = Some c.args.server }) c.args.sent c.args.server c.args.server
-    (record { unsent = c.requires.runs.unsent; sent = c.requires.runs.sent }) unanswered refl (hands_same c.args.server))
+    inl (
+      subst (λ (n : Pulled). HandsPulled n c.args.self.now.client c.next_bytes.new.client) c.in-Pending.is c.in_ok-bytes.ensures.hands,
+      λ unanswered.
+          waits_as (record c.args.self.now { client = c.next_bytes.new.client; server = Some c.args.server }) c.args.sent c.args.server c.args.server
+          (record { unsent = c.requires.runs.unsent; sent = c.requires.runs.sent }) unanswered refl (hands_same c.args.server),
+    )

@@ -11,7 +11,7 @@ use Rattle.h1_proxy.proofs.Served.{client_serves, with_server, serves_of_sent}
 use Rattle.std.proofs.Common.{Bool}
 use Rattle.h1_proxy.proofs.Replies.{body_puts}
 use Rattle.h1_forward_sides.proofs.Puts.{puts_none}
-use Rattle.h1_proxy.specs.Replies.{Fails}
+use Rattle.h1_proxy.proofs.Replies.{fails_puts}
 use Rattle.h1_proxy.proofs.proxy.Proxy.pass_piece.Goals as goal
 
 pub pass_body-requires : goal.pass_body-requires
@@ -123,7 +123,7 @@ returns-in_ok-end_reply-in-End-clause-replies c = λ answered. c.in_ok-end_reply
 
 pub returns-in_ok-fail-in-Broken-clause-replies : goal.returns-in_ok-fail-in-Broken-clause-replies
 returns-in_ok-fail-in-Broken-clause-replies c = λ answered.
-    subst (λ (t : Bool). Fails t c.args.self.now.client c.fail.new.self.client) answered c.in_ok-fail-in-Broken.ensures.replies
+    fails_puts c.args.sent.is_answered c.args.self.now.client _ answered c.in_ok-fail-in-Broken.ensures.replies
 
 pub returns-in_ok-more-in-Pending-clause-replies : goal.returns-in_ok-more-in-Pending-clause-replies
 returns-in_ok-more-in-Pending-clause-replies c = λ answered. body_puts _ _ c.args.sent _ answered c.in_ok-more-in-Pending.ensures.replies
