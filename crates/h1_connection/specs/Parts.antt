@@ -1,5 +1,5 @@
 -- What a connection's fields mean: what the machine keeps.
-use Rattle.std.specs.Prelude.{◌≡◌, ℕ, ◌<◌, Bool, true, false, ◌&&◌, List, [], ◌∷◌, length, replicate, Option, Some, None, option_map, is_some, if◌then◌else◌}
+use Rattle.std.specs.Prelude.{◌≡◌, ℕ, ◌<◌, ◌≤◌, ◌⊎◌, Bool, true, false, ◌&&◌, List, [], ◌∷◌, length, replicate, Option, Some, None, option_map, is_some, if◌then◌else◌}
 use Rattle.http_types.specs.declared.message.ConnectionType.{ConnectionType}
 use Rattle.http_config.specs.Config.{Settings}
 use Rattle.h1_model.specs.Limits.{MAX_MOMENT}
@@ -157,6 +157,12 @@ pub record IsSettled (setting : Setting) (k : Kept) (q : Parts) : Type 0 where
   pub kept : kept_of q ≡ noting_since setting (record k { is_coming = is_coming_in q.input.piece })
   pub searched : is_some q.input.piece ≡ is_free k
   pub scanned : IsFound q.input
+
+-- ---- a read
+
+-- no byte is taken: there is none, or as many are held as may be
+abbrev pub TakesNoByte : Settings → Kept → List ℕ → Type 0
+TakesNoByte settings k bytes = (length bytes ≡ 0) ⊎ (settings.h1_hold_size ≤ length k.unread)
 
 -- ---- a step
 

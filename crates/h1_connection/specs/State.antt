@@ -13,6 +13,7 @@ use Rattle.h1_connection.specs.Meaning.{setting_of}
 use Rattle.h1_connection.specs.Heads.{NeedsNoMemory}
 use Rattle.h1_connection.specs.Given.{next_allowed, frame_allowed}
 use Rattle.h1_connection.specs.Frames.{is_refused, sends_nothing}
+use Rattle.h1_connection.specs.Parts.{TakesNoByte}
 use Rattle.h1_connection.specs.Pulls.{IsLightPull}
 use Rattle.h1_connection.specs.Ticks.{IsQuietTick}
 use Rattle.h1_connection.specs.Unsent.{SendsNoPiece, SendsNoEnd}
@@ -59,15 +60,16 @@ GoesOn state event Says after =
     × Stands after (record { event = event; outcome = out } ∷ trace)
     × (IsMarked state trace → IsMarked after (record { event = event; outcome = out } ∷ trace))
 
--- The event takes no memory: the input's end, a drop, a drain, an answer's body that fails; a next one that closes, or
--- finds no head and room for more bytes; a pull that tells the end or a fault, or gives nothing; a piece or an end of
--- which nothing goes out; a write of nothing; a tick but one that answers a head that doesn't come; an upgrade that is
--- refused; a message of which nothing is sent.
+-- The event takes no memory: the input's end, a drop, a drain, an answer's body that fails; a read of which no byte is
+-- taken; a next one that closes, or finds no head and room for more bytes; a pull that tells the end or a fault, or gives
+-- nothing; a piece or an end of which nothing goes out; a write of nothing; a tick but one that answers a head that
+-- doesn't come; an upgrade that is refused; a message of which nothing is sent.
 abbrev pub TakesNoMemory : State → on.Event → Type 0
 TakesNoMemory state on.eof = ⊤
 TakesNoMemory state on.drop_body = ⊤
 TakesNoMemory state on.body_error = ⊤
 TakesNoMemory state on.drain = ⊤
+TakesNoMemory state (on.read bytes) = TakesNoByte state.settings state.kept bytes
 TakesNoMemory state on.next = NeedsNoMemory (setting_of state.settings) state.kept
 TakesNoMemory state on.pull = IsLightPull state.kept
 TakesNoMemory state (on.chunk bytes) = SendsNoPiece state.kept bytes

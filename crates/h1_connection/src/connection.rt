@@ -19,6 +19,7 @@ ghost use Rattle.h1_connection.specs.Meaning.{setting_of, event_of, end_of};
 ghost use Rattle.h1_connection.specs.Heads.{SaysNext, NeedsNoMemory, with_head, KeepsItem, LosesAtMostHeaders};
 ghost use Rattle.ws_frames.specs.Sent.{message_says};
 ghost use Rattle.h1_connection.specs.Frames.{accepted_of, is_done, is_refused, SaysFrame, IsPulledNamed, SaysSent, sends_nothing};
+ghost use Rattle.h1_connection.specs.Parts.{TakesNoByte};
 ghost use Rattle.h1_connection.specs.Pulls.{IsLightPull};
 ghost use Rattle.h1_connection.specs.Unsent.{SendsNoPiece, SendsNoEnd};
 ghost use Rattle.h1_connection.specs.Ticks.{expiry_of, IsQuietTick};
@@ -138,11 +139,13 @@ impl Connection {
         self.parts.input.len()
     }
 
-    /// Takes bytes that were read from the peer, from the first on, and says how many there was room for.
+    /// Takes bytes that were read from the peer, from the first on, and says how many there was room for. Where it takes
+    /// none, it takes no memory.
     pub fn read(&mut self, bytes: &[u8]) -> Result<usize, NoMemory>
         requires can_read { IsAllowed self.old (on.read bytes.now) }
         ensures stands { IfOk result (λ count. GoesOn self.old (on.read bytes.now) (Is (on.took count)) self.new) }
         ensures settings { self.new.settings ≡ self.old.settings }
+        ensures no_memory_needed { TakesNoByte self.old.settings self.old.kept bytes.now → IsOk result }
         ensures err { OnErr result (self.new ≡ self.old) }
     {
         self.parts.read(&self.config, bytes)

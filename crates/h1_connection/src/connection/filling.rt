@@ -1,5 +1,5 @@
 // Bytes that are read from a source straight into a buffer.
-ghost use Rattle.std.specs.Prelude.{◌≡◌, ◌<◌, ◌≤◌, ◌++◌, ℕ, List, length, IfOk, OnOk, OnErr, IsErrOf};
+ghost use Rattle.std.specs.Prelude.{◌≡◌, ◌<◌, ◌≤◌, ◌++◌, ℕ, List, length, IfOk, IsOk, OnOk, OnErr, IsErrOf};
 ghost use Rattle.std.specs.Io.KnownBytes.{Consumes, Keeps, IsAtEnd};
 ghost use Rattle.http_config.specs.Causes.{Rose, counted, IsAsked};
 
@@ -15,6 +15,7 @@ const LEAST_READ: usize = 1024;
 pub fn make_room(bytes: &mut BytesMut, size: usize) -> Result<(), NoMemory>
     ensures items { bytes.new.items ≡ bytes.old.items }
     ensures room { OnOk result (size ≤ bytes.new.spare) }
+    ensures no_memory_needed { size ≡ 0 → IsOk result }
 {
     if size <= bytes.capacity() - bytes.len() {
         return Ok(());

@@ -128,6 +128,7 @@ impl Input {
         ensures ok { IfOk result (λ count. self.new.unread ≡ self.old.unread ++ take count bytes.now) }
         ensures scanned { OnOk result (IsFound self.new) }
         ensures searched { OnOk result (is_some self.new.piece ≡ is_some self.old.piece) }
+        ensures no_memory_needed { min (length bytes.now) (limit - length self.old.unread) ≡ 0 → IsOk result }
         ensures err { OnErr result (self.new ≡ self.old) }
     {
         let held = self.head_bytes.len() + self.bytes.len();

@@ -5,7 +5,7 @@ ghost use Rattle.http_config.specs.Causes.{Rose, counted, IsAsked};
 ghost use Rattle.h1_model.specs.Event as on;
 ghost use Rattle.h1_machine.specs.Kept.{is_free};
 ghost use Rattle.h1_segment_model.specs.Runs.{runs_behind};
-ghost use Rattle.h1_connection.specs.Parts.{kept_of, ended_exchange, dropped, with_continue, IsSound, Steps, StepsIn};
+ghost use Rattle.h1_connection.specs.Parts.{kept_of, ended_exchange, dropped, with_continue, TakesNoByte, IsSound, Steps, StepsIn};
 
 use crate::connection::READ_SIZE;
 use crate::connection::parts::Parts;
@@ -20,6 +20,7 @@ impl Parts {
         ensures ok { IfOk result (λ count. Steps config.now self.old (on.read bytes.now) (on.took count) self.new) }
         ensures marks { OnOk result (self.new.output.marks ≡ self.old.output.marks) }
         ensures sound { OnOk result (IsSound config.now self.new) }
+        ensures no_memory_needed { TakesNoByte config.now (kept_of self.old) bytes.now → IsOk result }
         ensures err { OnErr result (self.new ≡ self.old) }
     {
         let count = self.input.take(bytes, config.h1_hold_size())?;
