@@ -4,13 +4,14 @@ use Rattle.std.proofs.Common.{refl, sym, ap, subst, ◌∙◌, append_assoc, app
 use Rattle.h1_model.specs.Event as on
 use Rattle.h1_model.specs.Event.{Event, Outcome}
 use Rattle.h1_model.specs.Request.{Head}
-use Rattle.h1_model.specs.Sums.{Step}
-use Rattle.h1_connection.specs.Meaning.{end_of}
+use Rattle.h1_model.specs.Sums.{Step, written}
+use Rattle.h1_model.specs.Text.{text}
+use Rattle.h1_connection.specs.Meaning.{setting_of, end_of}
 use Rattle.h1_connection.specs.declared.event.End.{End}
 use Rattle.h1_decode.specs.declared.decoder.HeadItem.{HeadItem}
 use Rattle.h1_judge.specs.Judgement.{status_of}
 use Rattle.h1_blocking.specs.Judged.{doubt_if}
-use Rattle.h1_blocking.specs.Served.{Line, Base, IsServedBehind, Follows, Adds, HandsOutOne, SayHeads, Notes, is_admitted, admitted, IsHandled, Handles, IsWritten, HandlesToEnd}
+use Rattle.h1_blocking.specs.Served.{Line, Base, IsServed, IsServedBehind, Follows, Adds, HandsOutOne, SayHeads, Notes, is_admitted, admitted, IsHandled, Handles, IsWritten, HandlesToEnd}
 use Rattle.h1_blocking.proofs.Followed.{behind_then}
 
 -- ---- lists that grow
