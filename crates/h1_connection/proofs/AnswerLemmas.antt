@@ -144,6 +144,7 @@ sending_sound s p x y queue there unsent sound =
       moment = sound.moment;
       searched = here.searched ∙ not_free (is_answered (reply_of x.reply)) (is_nothing x.rest) unsent;
       scanned = sound.scanned;
+      behind = here.behind;
       noted = λ c. here.noted (sym (ap is_some (sending_noted (setting_of s) p x x.reply y queue unsent)) ∙ c);
     }
 

@@ -1,7 +1,7 @@
 -- The machine's steps of reads, the input's end, drains, writes, and what concerns the open request alone.
 use Rattle.std.proofs.Math.Seq.{take-length}
 use Rattle.std.proofs.Common.{◌≡◌, ◌≢◌, ℕ, ◌-◌, ◌<◌, ◌≤◌, Bool, true, false, ◌&&◌, List, [], ◌∷◌, ◌++◌, length, take, drop, Option, Some, None, refl, sym, ap, ◌∙◌, subst, arith}
-use Rattle.std.specs.Prelude.{option_map, is_some, min}
+use Rattle.std.specs.Prelude.{option_map, is_some, min, not, ◌||◌}
 use Rattle.http_config.specs.Config.{Settings}
 use Rattle.h1_model.specs.Limits.{MAX_MOMENT}
 use Rattle.h1_model.specs.AnswerText.{interim_text}
@@ -13,9 +13,10 @@ use Rattle.h1_machine.specs.Local.{closing_by}
 use Rattle.h1_machine.specs.Body.{passing}
 use Rattle.h1_machine.specs.Change.{IsChange, noting_since, ending_input, exchange_at_end}
 use Rattle.http_segments.specs.Queued.{Queued}
-use Rattle.h1_connection.specs.Incoming.{Incoming, is_coming_in, IsFound}
+use Rattle.h1_connection.specs.Incoming.{is_coming_in}
+use Rattle.h1_connection.specs.Stock.{Stock, IsFoundOf}
 use Rattle.h1_connection.specs.Meaning.{setting_of}
-use Rattle.h1_connection.specs.Parts.{kept_of, exchange_of, reply_of, ended_exchange, dropped, with_continue, MayBeSearched, IsNoted, IsSound, IsSettled, Steps, StepsIn}
+use Rattle.h1_connection.specs.Parts.{kept_of, exchange_of, reply_of, ended_exchange, dropped, with_continue, leaves_body, HasNoneBehind, MayBeSearched, IsNoted, IsSound, IsSettled, Steps, StepsIn}
 use Rattle.h1_connection.specs.declared.connection.exchange.Exchange.{Exchange}
 use Rattle.h1_connection.specs.declared.connection.exchange.Reply.{Reply}
 use Rattle.h1_connection.specs.declared.connection.exchange.Reply.TheVariants.{Unanswered, Sending, Answered}
@@ -29,10 +30,11 @@ now_passed k m is = ap (λ (k : Kept). now k) is ∙ ap (λ (c : machine.Clock).
 
 -- ---- reads
 
-pub read_may : (s : Settings) (p : Parts) (grown : Incoming) → IsSound s p → is_some grown.piece ≡ is_some p.input.piece → MayBeSearched (record p { input = grown })
-read_may s p grown sound same = may_of (record p { input = grown }) (λ found. sym sound.searched ∙ sym same ∙ found)
+pub read_may : (s : Settings) (p : Parts) (grown : Stock) → IsSound s p → is_some grown.piece ≡ is_some p.input.piece → grown.ahead ≡ p.input.ahead
+    → MayBeSearched (record p { input = grown })
+read_may s p grown sound same ahead = may_of (record p { input = grown }) (λ found. sym sound.searched ∙ sym same ∙ found) (λ left. ahead ∙ sound.behind left)
 
-pub read_steps : (s : Settings) (p n q : Parts) (grown : Incoming) (bytes : List ℕ) (count : ℕ)
+pub read_steps : (s : Settings) (p n q : Parts) (grown : Stock) (bytes : List ℕ) (count : ℕ)
     → count ≡ min (length bytes) (s.h1_hold_size - length p.input.unread) → grown.unread ≡ p.input.unread ++ take count bytes
     → kept_of n ≡ passing (kept_of (record p { input = grown })) → IsSettled (setting_of s) (kept_of n) q
     → Steps s p (on.read bytes) (on.took count) q
@@ -45,13 +47,13 @@ read_steps s p n q grown bytes count count_is grown_is passed settled =
     (λ i. record { outcome = on.took (count_is i); kept = passing (record (kept_of p) { unread = all i }) })
     (passed ∙ passing_coming (record (kept_of p) { unread = grown.unread }) coming) settled
 
-pub read_sound : (s : Settings) (p n q : Parts) (grown : Incoming) → IsSound s p → kept_of n ≡ passing (kept_of (record p { input = grown }))
+pub read_sound : (s : Settings) (p n q : Parts) (grown : Stock) → IsSound s p → kept_of n ≡ passing (kept_of (record p { input = grown }))
     → IsSettled (setting_of s) (kept_of n) q → IsSound s q
 read_sound s p n q grown sound passed settled =
     settled_sound s (kept_of n) q (subst (λ (m : ℕ). m < MAX_MOMENT) (sym (now_passed (kept_of n) (kept_of (record p { input = grown })) passed)) sound.moment) settled
 
 -- bytes from a source, which all found room
-came_all : (s : Settings) (p n q : Parts) (grown : Incoming) (bytes : List ℕ) → length bytes ≤ s.h1_hold_size - length p.input.unread
+came_all : (s : Settings) (p n q : Parts) (grown : Stock) (bytes : List ℕ) → length bytes ≤ s.h1_hold_size - length p.input.unread
     → grown.unread ≡ p.input.unread ++ bytes → kept_of n ≡ passing (kept_of (record p { input = grown })) → IsSettled (setting_of s) (kept_of n) q
     → Steps s p (on.read bytes) (on.took (length bytes)) q
 came_all s p n q grown bytes fits grown_is passed settled =
@@ -59,7 +61,7 @@ came_all s p n q grown bytes fits grown_is passed settled =
     (grown_is ∙ ap (λ (l : List ℕ). p.input.unread ++ l) (sym (take-length bytes))) passed settled
 
 -- of which there is at least one
-pub came_steps : (s : Settings) (p n q : Parts) (grown : Incoming) (bytes : List ℕ) (count : ℕ) → count ≢ 0 → length bytes ≡ count
+pub came_steps : (s : Settings) (p n q : Parts) (grown : Stock) (bytes : List ℕ) (count : ℕ) → count ≢ 0 → length bytes ≡ count
     → count ≤ s.h1_hold_size - length p.input.unread → grown.unread ≡ p.input.unread ++ bytes
     → kept_of n ≡ passing (kept_of (record p { input = grown })) → IsSettled (setting_of s) (kept_of n) q → StepsIn s p bytes q
 came_steps s p n q grown [] count some long fits grown_is passed settled = absurd (some (sym long))
@@ -93,8 +95,23 @@ ended_free : (p : Parts) (x : Option Exchange) → is_free (kept_of (record p { 
 ended_free p None free = refl
 ended_free p (Some x) free = both_nothing (is_answered (reply_of x.reply)) p.input.unread x.rest free
 
+-- where something is left of a body at the end, something was
+ended_leaves : (p : Parts) (x : Option Exchange) → leaves_body (kept_of (record p { has_ended = true; exchange = ended_exchange p.input.unread x })) ≡ true
+    → leaves_body (kept_of (record p { exchange = x })) ≡ true
+ended_leaves p None left = left
+ended_leaves p (Some x) left = rest_in_leaves x.request.asked.is_raw p.input.unread x.rest left
+  where
+    rest_in_leaves : (raw : Bool) (bytes : List ℕ) (rest : Rest) → (raw || not (is_nothing (rest_in true bytes rest))) ≡ true → (raw || not (is_nothing rest)) ≡ true
+    rest_in_leaves true bytes rest left = refl
+    rest_in_leaves false bytes no_rest left = absurd (cc (left, nothing_ends bytes no_rest refl))
+    rest_in_leaves false bytes raw_rest left = refl
+    rest_in_leaves false bytes (fixed_rest n) left = refl
+    rest_in_leaves false bytes (chunks_rest place section) left = refl
+    rest_in_leaves false bytes (frames_rest under_way limit) left = refl
+
 pub eof_may : (s : Settings) (p : Parts) → IsSound s p → MayBeSearched (ended_parts p)
-eof_may s p sound = may_of (ended_parts p) (λ found. ended_free p p.exchange (sym sound.searched ∙ found))
+eof_may s p sound =
+    may_of (ended_parts p) (λ found. ended_free p p.exchange (sym sound.searched ∙ found)) (λ left. sound.behind (ended_leaves p p.exchange left))
 
 pub eof_steps : (s : Settings) (p n q : Parts) → kept_of n ≡ passing (kept_of (ended_parts p)) → IsSettled (setting_of s) (kept_of n) q
     → Steps s p on.eof on.done q
@@ -112,15 +129,15 @@ eof_sound s p n q sound passed settled =
 
 -- with the parts in between, of which only what isn't the input's is other
 pub noted_steps : (s : Settings) (p m q : Parts) (event : on.Event) → IsChange (setting_of s) (kept_of p) event (record { outcome = on.done; kept = kept_of m })
-    → kept_of q ≡ noting_since (setting_of s) (kept_of m) → q.input ≡ m.input → is_some m.input.piece ≡ is_free (kept_of m) → IsFound m.input
-    → Steps s p event on.done q
-noted_steps s p m q event changes kept input searched scanned =
-    settled_step s p q event on.done (kept_of m) (kept_of m) (kept_of m).is_coming changes refl (settled_noted (setting_of s) m q kept input searched scanned)
+    → kept_of q ≡ noting_since (setting_of s) (kept_of m) → q.input ≡ m.input → is_some m.input.piece ≡ is_free (kept_of m) → IsFoundOf m.input
+    → HasNoneBehind (kept_of m) m.input.ahead → Steps s p event on.done q
+noted_steps s p m q event changes kept input searched scanned behind =
+    settled_step s p q event on.done (kept_of m) (kept_of m) (kept_of m).is_coming changes refl (settled_noted (setting_of s) m q kept input searched scanned behind)
 
 pub noted_sound : (s : Settings) (m q : Parts) → now (kept_of m) < MAX_MOMENT → kept_of q ≡ noting_since (setting_of s) (kept_of m) → q.input ≡ m.input
-    → is_some m.input.piece ≡ is_free (kept_of m) → IsFound m.input → IsSound s q
-noted_sound s m q moment kept input searched scanned =
-    settled_sound s (kept_of m) q moment (settled_noted (setting_of s) m q kept input searched scanned)
+    → is_some m.input.piece ≡ is_free (kept_of m) → IsFoundOf m.input → HasNoneBehind (kept_of m) m.input.ahead → IsSound s q
+noted_sound s m q moment kept input searched scanned behind =
+    settled_sound s (kept_of m) q moment (settled_noted (setting_of s) m q kept input searched scanned behind)
 
 -- a drop
 drop_changes : (set : Setting) (p : Parts) (x : Option Exchange)
@@ -132,28 +149,33 @@ dropped_free : (p : Parts) (x : Option Exchange) → is_free (kept_of (record p 
 dropped_free p None = refl
 dropped_free p (Some x) = refl
 
+dropped_behind : (p : Parts) (x : Option Exchange) → HasNoneBehind (kept_of (record p { exchange = x })) p.input.ahead
+    → HasNoneBehind (kept_of (record p { exchange = dropped x })) p.input.ahead
+dropped_behind p None behind = behind
+dropped_behind p (Some x) behind = behind
+
 pub dropped_may : (s : Settings) (p m : Parts) → IsSound s p → m ≡ record p { exchange = dropped p.exchange } → MayBeSearched m
-dropped_may s p m sound is = λ busy.
-    ap (λ (r : Parts). r.input.piece) is
-    ∙ sound_may s p sound (sym (dropped_free p p.exchange) ∙ sym (ap (λ (r : Parts). is_free (kept_of r)) is) ∙ busy)
+dropped_may s p m sound is =
+    subst (λ (r : Parts). MayBeSearched r) (sym is)
+    (may_of (record p { exchange = dropped p.exchange }) (λ found. dropped_free p p.exchange ∙ sym sound.searched ∙ found) (dropped_behind p p.exchange sound.behind))
 
 pub drop_steps : (s : Settings) (p q : Parts) → IsSound s p → kept_of q ≡ noting_since (setting_of s) (kept_of (record p { exchange = dropped p.exchange })) → q.input ≡ p.input
     → Steps s p on.drop_body on.done q
 drop_steps s p q sound kept input =
     noted_steps s p (record p { exchange = dropped p.exchange }) q on.drop_body (drop_changes (setting_of s) p p.exchange) kept input
-    (sound.searched ∙ sym (dropped_free p p.exchange)) sound.scanned
+    (sound.searched ∙ sym (dropped_free p p.exchange)) sound.scanned (dropped_behind p p.exchange sound.behind)
 
 pub drop_sound : (s : Settings) (p q : Parts) → IsSound s p → kept_of q ≡ noting_since (setting_of s) (kept_of (record p { exchange = dropped p.exchange })) → q.input ≡ p.input
     → IsSound s q
 drop_sound s p q sound kept input =
-    noted_sound s (record p { exchange = dropped p.exchange }) q sound.moment kept input (sound.searched ∙ sym (dropped_free p p.exchange)) sound.scanned
+    noted_sound s (record p { exchange = dropped p.exchange }) q sound.moment kept input (sound.searched ∙ sym (dropped_free p p.exchange)) sound.scanned (dropped_behind p p.exchange sound.behind)
 
 -- ---- writes
 
 -- what is to be written is no matter for why it closes
 output_sound : (s : Settings) (p : Parts) (queue : Queued) → IsSound s p → IsSound s (record p { output = queue })
 unfolding closing_by
-output_sound s p queue sound = record { moment = sound.moment; searched = sound.searched; scanned = sound.scanned; noted = sound.noted }
+output_sound s p queue sound = record { moment = sound.moment; searched = sound.searched; scanned = sound.scanned; behind = sound.behind; noted = sound.noted }
 
 pub write_sound : (s : Settings) (p : Parts) (queue : Queued) → IsSound s p → IsSound s (record p { output = queue })
 write_sound s p queue sound = output_sound s p queue sound
@@ -178,7 +200,7 @@ told_sound : (s : Settings) (p : Parts) (x : Exchange) (queue : Queued) → p.ex
     → IsSound s (record p { exchange = Some (record x { had_continue = true }); output = queue })
 told_sound s p x queue there sound =
     let was : IsSound s (record p { exchange = Some x }) = subst (λ (e : Option Exchange). IsSound s (record p { exchange = e })) there sound in
-    record { moment = was.moment; searched = was.searched; scanned = was.scanned; noted = told_reply (setting_of s) p x x.reply queue was.noted }
+    record { moment = was.moment; searched = was.searched; scanned = was.scanned; behind = was.behind; noted = told_reply (setting_of s) p x x.reply queue was.noted }
 
 pub continue_sound : (s : Settings) (p : Parts) (queue : Queued) → IsSound s p → IsSound s (record p { exchange = with_continue p.exchange; output = queue })
 continue_sound s p queue sound = of_exchange p.exchange refl

@@ -22,9 +22,10 @@ use Rattle.ws_frames.specs.Sent.{sending_after}
 use Rattle.ws_frames.specs.declared.error.ProtocolError.{ProtocolError}
 use Rattle.ws_session.specs.declared.verify.HandshakeError.{HandshakeError}
 use Rattle.h1_connection.specs.Frames.{with_frames, is_raw_request, SaysFrame, frame_end, IsFrameFrom, IsLightFrame, sends_nothing}
-use Rattle.h1_connection.specs.Incoming.{Incoming, is_coming_in, IsFoundIn, IsFound}
+use Rattle.h1_connection.specs.Incoming.{is_coming_in, IsFoundIn}
+use Rattle.h1_connection.specs.Stock.{Stock, IsFoundOf}
 use Rattle.h1_connection.specs.Meaning.{setting_of, end_of, failing_of, SaysRule}
-use Rattle.h1_connection.specs.Parts.{key_or_zeros, key_bytes, exchange_of, kept_of, reply_of, request_in, MayBeSearched, IsSound, Steps}
+use Rattle.h1_connection.specs.Parts.{key_or_zeros, key_bytes, exchange_of, kept_of, reply_of, request_in, leaves_body, HasNoneBehind, MayBeSearched, IsSound, Steps}
 use Rattle.h1_connection.specs.Pulls.{IsLightPull}
 use Rattle.h1_connection.specs.declared.connection.exchange.Exchange.{Exchange}
 use Rattle.h1_connection.specs.declared.connection.frames.PulledFrame.{PulledFrame}
@@ -40,10 +41,10 @@ use Rattle.h1_connection.proofs.StepLemmas.{quiet_step, settled_step, settled_no
 
 noted_step : (s : Settings) (p m q : Parts) (event : on.Event) (out : on.Outcome)
     → IsChange (setting_of s) (kept_of p) event (record { outcome = out; kept = kept_of m })
-    → kept_of q ≡ noting_since (setting_of s) (kept_of m) → q.input ≡ m.input → is_some m.input.piece ≡ is_free (kept_of m) → IsFound m.input
-    → Steps s p event out q
-noted_step s p m q event out changes kept input searched scanned =
-    settled_step s p q event out (kept_of m) (kept_of m) (kept_of m).is_coming changes refl (settled_noted (setting_of s) m q kept input searched scanned)
+    → kept_of q ≡ noting_since (setting_of s) (kept_of m) → q.input ≡ m.input → is_some m.input.piece ≡ is_free (kept_of m) → IsFoundOf m.input
+    → HasNoneBehind (kept_of m) m.input.ahead → Steps s p event out q
+noted_step s p m q event out changes kept input searched scanned behind =
+    settled_step s p q event out (kept_of m) (kept_of m) (kept_of m).is_coming changes refl (settled_noted (setting_of s) m q kept input searched scanned behind)
 
 -- ---- an upgrade
 
@@ -96,11 +97,22 @@ upgrades p request is raw =
       },
     )
 
+-- one that may be upgraded has none read ahead behind it
+raw_leaves : (p : Parts) (e : Option Exchange) → is_raw_request (kept_of (record p { exchange = e })) ≡ true → leaves_body (kept_of (record p { exchange = e })) ≡ true
+raw_leaves p None raw = raw
+raw_leaves p (Some x) raw = ap (λ (b : Bool). b || not (is_nothing x.rest)) raw
+
+raw_behind : (s : Settings) (p : Parts) → is_raw_request (kept_of p) ≡ true → IsSound s p → p.input.ahead ≡ 0
+raw_behind s p raw sound = sound.behind (raw_leaves p p.exchange raw)
+
 pub framed_may : (s : Settings) (p m : Parts) (request : Request) (limit : ℕ) (queue : Queued) → m ≡ framed p limit queue → request_in p.exchange ≡ Some request
-    → waits_for_answer (kept_of p) ≡ true → IsSound s p → MayBeSearched m
-framed_may s p m request limit queue is asks waits sound =
+    → waits_for_answer (kept_of p) ≡ true → is_raw_request (kept_of p) ≡ true → IsSound s p → MayBeSearched m
+framed_may s p m request limit queue is asks waits raw sound =
     let e = some_request p.exchange request asks in
-    λ busy. ap (λ (r : Parts). r.input.piece) is ∙ waiting_none s p e.0 e.1 waits sound
+    record {
+      searched = λ busy. ap (λ (r : Parts). r.input.piece) is ∙ waiting_none s p e.0 e.1 waits sound;
+      behind = λ left. ap (λ (r : Parts). r.input.ahead) is ∙ raw_behind s p raw sound;
+    }
 
 pub framed_steps : (s : Settings) (p m q : Parts) (request : Request) (limit : ℕ) (queue : Queued) → IsSound s p → waits_for_answer (kept_of p) ≡ true
     → is_raw_request (kept_of p) ≡ true → request_in p.exchange ≡ Some request → request.refusal ≡ None
@@ -121,16 +133,17 @@ framed_steps s p m q request limit queue sound waits raw asks none text is kept 
     (noted_step s (record p { exchange = Some x }) (framed (record p { exchange = Some x }) limit queue) q (on.accept limit) on.done
     (framed_change (setting_of s) p x limit queue none_too u.raw text_too)
     (kept ∙ ap (λ (r : Parts). noting_since (setting_of s) (kept_of r)) same) (input ∙ ap (λ (r : Parts). r.input) same)
-    (framed_searched s p x limit queue u.there waits sound) sound.scanned)
+    (framed_searched s p x limit queue u.there waits sound) sound.scanned (λ left. raw_behind s p raw sound))
 
 pub framed_sound : (s : Settings) (p m q : Parts) (request : Request) (limit : ℕ) (queue : Queued) → IsSound s p → waits_for_answer (kept_of p) ≡ true
-    → request_in p.exchange ≡ Some request → m ≡ framed p limit queue → kept_of q ≡ noting_since (setting_of s) (kept_of m) → q.input ≡ m.input → IsSound s q
-framed_sound s p m q request limit queue sound waits asks is kept input =
+    → is_raw_request (kept_of p) ≡ true → request_in p.exchange ≡ Some request → m ≡ framed p limit queue → kept_of q ≡ noting_since (setting_of s) (kept_of m)
+    → q.input ≡ m.input → IsSound s q
+framed_sound s p m q request limit queue sound waits raw asks is kept input =
     let e = some_request p.exchange request asks in
     let same : m ≡ framed (record p { exchange = Some e.0 }) limit queue = is ∙ ap (λ (o : Option Exchange). framed (record p { exchange = o }) limit queue) e.1 in
     noted_sound s (framed (record p { exchange = Some e.0 }) limit queue) q sound.moment
     (kept ∙ ap (λ (r : Parts). noting_since (setting_of s) (kept_of r)) same) (input ∙ ap (λ (r : Parts). r.input) same)
-    (framed_searched s p e.0 limit queue e.1 waits sound) sound.scanned
+    (framed_searched s p e.0 limit queue e.1 waits sound) sound.scanned (λ left. raw_behind s p raw sound)
 
 -- it is refused
 pub refused_steps : (s : Settings) (p : Parts) (request : Request) (limit : ℕ) (error : HandshakeError) → IsSound s p → request_in p.exchange ≡ Some request
@@ -181,16 +194,32 @@ upgraded_case p None is = absurd (cc is)
 upgraded_case p (Some x) is = frames_busy x.rest (is_answered (reply_of x.reply)) is
 
 pub upgraded_none : (p : Parts) → is_upgraded (kept_of p) ≡ true → MayBeSearched p → p.input.piece ≡ None
-upgraded_none p is may = may (upgraded_case p p.exchange is)
+upgraded_none p is may = may.searched (upgraded_case p p.exchange is)
 
 pub upgraded_unsearched : (s : Settings) (p : Parts) → is_upgraded (kept_of p) ≡ true → IsSound s p → p.input.piece ≡ None
 upgraded_unsearched s p is sound = upgraded_none p is (sound_may s p sound)
 
+-- nor read ahead
+leaves_frames : (raw : Bool) (rest : Rest) → is_frames rest ≡ true → (raw || not (is_nothing rest)) ≡ true
+leaves_frames true rest is = refl
+leaves_frames false no_rest is = absurd (cc is)
+leaves_frames false raw_rest is = refl
+leaves_frames false (fixed_rest n) is = refl
+leaves_frames false (chunks_rest place section) is = refl
+leaves_frames false (frames_rest under_way limit) is = refl
+
+upgraded_leaves : (p : Parts) (e : Option Exchange) → is_upgraded (kept_of (record p { exchange = e })) ≡ true → leaves_body (kept_of (record p { exchange = e })) ≡ true
+upgraded_leaves p None is = absurd (cc is)
+upgraded_leaves p (Some x) is = leaves_frames x.request.asked.is_raw x.rest is
+
+pub upgraded_behind : (p : Parts) → is_upgraded (kept_of p) ≡ true → MayBeSearched p → p.input.ahead ≡ 0
+upgraded_behind p is may = may.behind (upgraded_leaves p p.exchange is)
+
 -- the parts after one was taken
-abbrev pub frame_parts : Parts → Exchange → Incoming → Option End → Parts
+abbrev pub frame_parts : Parts → Exchange → Stock → Option End → Parts
 frame_parts p y after failed = record p { exchange = Some y; input = after; failed = failed }
 
-frame_change : (set : Setting) (p : Parts) (x y : Exchange) (after : Incoming) (answer : PulledFrame) (failed : Option End) → p.input.piece ≡ None
+frame_change : (set : Setting) (p : Parts) (x y : Exchange) (after : Stock) (answer : PulledFrame) (failed : Option End) → p.input.piece ≡ None
     → (from : IsFrameFrom x p.input.unread answer y after)
     → option_map end_of failed ≡ option_or (frame_end answer) (option_map end_of p.failed)
     → IsChange set (kept_of (record p { exchange = Some x })) on.pull (record { outcome = from.pulled.of.outcome; kept = kept_of (frame_parts p y after failed) })
@@ -200,7 +229,7 @@ frame_change set p x y after answer failed unsearched from failed_is =
     let done : x.body_is_done ≡ (x.body_is_done || t.of.is_done) = or_false x.body_is_done ∙ ap (λ (b : Bool). x.body_is_done || b) (sym t.not_done) in
     let ends_too : option_map end_of failed ≡ option_or t.of.failed (option_map end_of p.failed) =
     failed_is ∙ ap (λ (o : Option ends.End). option_or o (option_map end_of p.failed)) (sym t.failed) in
-    let coming : is_coming_in after.piece ≡ is_coming_in p.input.piece = ap (λ (i : Incoming). is_coming_in i.piece) t.after_is ∙ sym (ap is_coming_in unsearched) in
+    let coming : is_coming_in after.piece ≡ is_coming_in p.input.piece = ap (λ (i : Stock). is_coming_in i.piece) t.after_is ∙ sym (ap is_coming_in unsearched) in
     let exchange : exchange_of y ≡ record (exchange_of x) { rest = t.of.rest; was_pulled = true; body_is_done = x.body_is_done || t.of.is_done } =
     ap (λ (z : Exchange). exchange_of z) from.exchange ∙ (λ i. record (exchange_of x) { rest = t.rest_is i; was_pulled = true; body_is_done = done i }) in (
       t.of,
@@ -208,7 +237,7 @@ frame_change set p x y after answer failed unsearched from failed_is =
       λ i. record {
         outcome = t.of.outcome;
         kept = record k {
-          unread = (ap (λ (j : Incoming). j.unread) t.after_is) i;
+          unread = (ap (λ (j : Stock). j.unread) t.after_is) i;
           is_coming = coming i;
           exchange = Some (exchange i);
           failed = ends_too i;
@@ -216,20 +245,24 @@ frame_change set p x y after answer failed unsearched from failed_is =
       },
     )
 
-frame_searched : (p : Parts) (x y : Exchange) (after : Incoming) (answer : PulledFrame) (failed : Option End) (from : IsFrameFrom x p.input.unread answer y after)
+frame_searched : (p : Parts) (x y : Exchange) (after : Stock) (answer : PulledFrame) (failed : Option End) (from : IsFrameFrom x p.input.unread answer y after)
     → is_some after.piece ≡ is_free (kept_of (frame_parts p y after failed))
 frame_searched p x y after answer failed from =
-    ap (λ (i : Incoming). is_some i.piece) from.pulled.after_is ∙ sym (frames_busy y.rest (is_answered (reply_of y.reply)) from.frames)
+    ap (λ (i : Stock). is_some i.piece) from.pulled.after_is ∙ sym (frames_busy y.rest (is_answered (reply_of y.reply)) from.frames)
 
-frame_found : (x y : Exchange) (bytes : List ℕ) (after : Incoming) (answer : PulledFrame) → IsFrameFrom x bytes answer y after → IsFound after
+frame_found : (x y : Exchange) (bytes : List ℕ) (after : Stock) (answer : PulledFrame) → IsFrameFrom x bytes answer y after → IsFoundOf after
 frame_found x y bytes after answer from =
-    subst (λ (o : Option HeadScan). IsFoundIn after.unread o) (sym (ap (λ (i : Incoming). i.piece) from.pulled.after_is)) tt
+    subst (λ (o : Option HeadScan). IsFoundIn after.unread o) (sym (ap (λ (i : Stock). i.piece) from.pulled.after_is)) tt
 
-pub frame_may : (p m : Parts) (x y : Exchange) (after : Incoming) (answer : PulledFrame) (failed : Option End) → m ≡ frame_parts p y after failed
+pub frame_may : (p m : Parts) (x y : Exchange) (after : Stock) (answer : PulledFrame) (failed : Option End) → m ≡ frame_parts p y after failed
     → IsFrameFrom x p.input.unread answer y after → MayBeSearched m
-frame_may p m x y after answer failed is from = λ busy. ap (λ (r : Parts). r.input.piece) is ∙ ap (λ (i : Incoming). i.piece) from.pulled.after_is
+frame_may p m x y after answer failed is from =
+    record {
+      searched = λ busy. ap (λ (r : Parts). r.input.piece) is ∙ ap (λ (i : Stock). i.piece) from.pulled.after_is;
+      behind = λ left. ap (λ (r : Parts). r.input.ahead) is ∙ ap (λ (i : Stock). i.ahead) from.pulled.after_is;
+    }
 
-pub frame_steps : (s : Settings) (p m q : Parts) (x y : Exchange) (after : Incoming) (answer : PulledFrame) → p.exchange ≡ Some x → is_upgraded (kept_of p) ≡ true
+pub frame_steps : (s : Settings) (p m q : Parts) (x y : Exchange) (after : Stock) (answer : PulledFrame) → p.exchange ≡ Some x → is_upgraded (kept_of p) ≡ true
     → IsSound s p → IsFrameFrom x p.input.unread answer y after
     → option_map end_of m.failed ≡ option_or (frame_end answer) (option_map end_of p.failed) → m ≡ frame_parts p y after m.failed
     → kept_of q ≡ noting_since (setting_of s) (kept_of m) → q.input ≡ m.input
@@ -243,16 +276,18 @@ frame_steps s p m q x y after answer there upgraded sound from failed is kept in
           (noted_step s (record p { exchange = Some x }) n q on.pull from.pulled.of.outcome
           (frame_change (setting_of s) p x y after answer m.failed none from failed)
           (kept ∙ ap (λ (r : Parts). noting_since (setting_of s) (kept_of r)) is) (input ∙ ap (λ (r : Parts). r.input) is)
-          (frame_searched p x y after answer m.failed from) (frame_found x y p.input.unread after answer from)),
+          (frame_searched p x y after answer m.failed from) (frame_found x y p.input.unread after answer from)
+          (λ left. ap (λ (i : Stock). i.ahead) from.pulled.after_is)),
     )
 
-pub frame_sound : (s : Settings) (p m q : Parts) (x y : Exchange) (after : Incoming) (answer : PulledFrame) → IsSound s p
+pub frame_sound : (s : Settings) (p m q : Parts) (x y : Exchange) (after : Stock) (answer : PulledFrame) → IsSound s p
     → IsFrameFrom x p.input.unread answer y after → m ≡ frame_parts p y after m.failed
     → kept_of q ≡ noting_since (setting_of s) (kept_of m) → q.input ≡ m.input → IsSound s q
 frame_sound s p m q x y after answer sound from is kept input =
     noted_sound s (frame_parts p y after m.failed) q sound.moment
     (kept ∙ ap (λ (r : Parts). noting_since (setting_of s) (kept_of r)) is) (input ∙ ap (λ (r : Parts). r.input) is)
     (frame_searched p x y after answer m.failed from) (frame_found x y p.input.unread after answer from)
+    (λ left. ap (λ (i : Stock). i.ahead) from.pulled.after_is)
 
 -- a pull that needs no memory is one of a frame that needs none
 pub light_frame : (p : Parts) (x : Exchange) → p.exchange ≡ Some x → IsLightPull (kept_of p) → IsLightFrame x.rest p.input.unread
@@ -275,7 +310,7 @@ sent_change set p m queue sending none bytes_are sending_is =
 
 sent_sound_at : (s : Settings) (p : Parts) (queue : Queued) (sending : Bool) → IsSound s p → IsSound s (record p { output = queue; is_sending = sending })
 unfolding closing_by
-sent_sound_at s p queue sending sound = record { moment = sound.moment; searched = sound.searched; scanned = sound.scanned; noted = sound.noted }
+sent_sound_at s p queue sending sound = record { moment = sound.moment; searched = sound.searched; scanned = sound.scanned; behind = sound.behind; noted = sound.noted }
 
 pub sent_sound : (s : Settings) (p q : Parts) (queue : Queued) (sending : Bool) → q ≡ record p { output = queue; is_sending = sending } → IsSound s p → IsSound s q
 sent_sound s p q queue sending is sound = subst (λ (r : Parts). IsSound s r) (sym is) (sent_sound_at s p queue sending sound)
@@ -306,12 +341,12 @@ unsent_steps s p q m error some sound kept input =
       on.protocol e.0,
       record { rule = e.0; outcome_is = refl; says = e.2 },
       noted_step s p n q (on.send m) (on.protocol e.0)
-          (sym (ap (λ (o : Option Rule). sending_message m (kept_of p) o) e.1)) kept input sound.searched sound.scanned,
+          (sym (ap (λ (o : Option Rule). sending_message m (kept_of p) o) e.1)) kept input sound.searched sound.scanned sound.behind,
     )
 
 pub unsent_sound : (s : Settings) (p q : Parts) → IsSound s p → kept_of q ≡ noting_since (setting_of s) (kept_of (record p { failed = Some Protocol }))
     → q.input ≡ p.input → IsSound s q
-unsent_sound s p q sound kept input = noted_sound s (record p { failed = Some Protocol }) q sound.moment kept input sound.searched sound.scanned
+unsent_sound s p q sound kept input = noted_sound s (record p { failed = Some Protocol }) q sound.moment kept input sound.searched sound.scanned sound.behind
 
 -- a message of which nothing is sent, and that breaks no rule, says nothing
 pub nothing_said : (k : Kept) (m : Message) → send_error k.is_sending m ≡ None → sends_nothing k m ≡ true → m ≡ nop

@@ -17,7 +17,8 @@ use Rattle.ws_frames.specs.declared.error.ProtocolError.{ProtocolError}
 use Rattle.ws_frames.specs.declared.error.ProtocolError.TheVariants as errors
 use Rattle.ws_frames.specs.declared.message.Frame.{Frame}
 use Rattle.h1_connection.specs.Frames.{IsFramePulled, IsLightFrame}
-use Rattle.h1_connection.specs.Incoming.{Incoming, piece_of, IsSearched}
+use Rattle.h1_connection.specs.Incoming.{piece_of, IsSearched}
+use Rattle.h1_connection.specs.Stock.{Stock}
 use Rattle.h1_connection.specs.declared.connection.frames.PulledFrame.TheVariants as pulled
 use Rattle.h1_connection.specs.declared.connection.input.Search.{Search}
 use Rattle.h1_connection.specs.declared.connection.input.Search.TheVariants.{Off, Due, Done}
@@ -37,39 +38,39 @@ partial_same (whole frame len) = refl
 partial_same (breaks rule) = refl
 
 -- what is held then
-held : (after : Incoming) (bytes : List ℕ) → after.unread ≡ bytes → after.piece ≡ None → after ≡ record { unread = bytes; piece = None }
-held after bytes unread piece = λ i. record { unread = unread i; piece = piece i }
+held : (after : Stock) (bytes : List ℕ) → after.unread ≡ bytes → after.piece ≡ None → after.ahead ≡ 0 → after ≡ record { unread = bytes; piece = None; ahead = 0 }
+held after bytes unread piece ahead = λ i. record { unread = unread i; piece = piece i; ahead = ahead i }
 
 -- nothing changes
-pub held_same : (was after : Incoming) → after.unread ≡ was.unread → after.piece ≡ None → was.piece ≡ None → after ≡ was
-held_same was after unread piece none = held after was.unread unread piece ∙ sym (held was was.unread refl none)
+pub held_same : (was after : Stock) → after.unread ≡ was.unread → after.piece ≡ None → after.ahead ≡ 0 → was.piece ≡ None → was.ahead ≡ 0 → after ≡ was
+held_same was after unread piece ahead none no_head = held after was.unread unread piece ahead ∙ sym (held was was.unread refl none no_head)
 
 -- ---- a frame
 
-pub taken_frame : (under_way later : Bool) (limit : ℕ) (bytes : List ℕ) (frame : Frame) (after : Incoming) → after.piece ≡ None
+pub taken_frame : (under_way later : Bool) (limit : ℕ) (bytes : List ℕ) (frame : Frame) (after : Stock) → after.piece ≡ None → after.ahead ≡ 0
     → FrontTaken true limit under_way bytes (Ok (Some (frame, later))) after.unread → IsNamed frame
     → IsFramePulled (frames_rest under_way limit) bytes (pulled.Frame frame) (frames_rest later limit) after
-taken_frame under_way later limit bytes frame after none (len, front, rest, goes_on) named =
+taken_frame under_way later limit bytes frame after none no_head (len, front, rest, goes_on) named =
     record {
       of = pull_front under_way limit bytes (whole (frame_says frame) len);
       is_pull = λ ended. sym (ap (λ (f : Front). pull_front under_way limit bytes f) front);
       says = (refl, named);
       rest_is = ap (λ (b : Bool). frames_rest b limit) goes_on;
-      after_is = held after (drop len bytes) rest none;
+      after_is = held after (drop len bytes) rest none no_head;
       not_done = refl;
       failed = refl;
     }
 
-pub taken_none : (under_way : Bool) (limit : ℕ) (bytes : List ℕ) (after : Incoming) → after.piece ≡ None
+pub taken_none : (under_way : Bool) (limit : ℕ) (bytes : List ℕ) (after : Stock) → after.piece ≡ None → after.ahead ≡ 0
     → FrontTaken true limit under_way bytes (Ok None) after.unread
     → IsFramePulled (frames_rest under_way limit) bytes pulled.Pending (frames_rest under_way limit) after
-taken_none under_way limit bytes after none (front, rest) =
+taken_none under_way limit bytes after none no_head (front, rest) =
     record {
       of = pull_front under_way limit bytes partial;
       is_pull = λ ended. sym (ap (λ (f : Front). pull_front under_way limit bytes f) front);
       says = refl;
       rest_is = refl;
-      after_is = held after bytes rest none;
+      after_is = held after bytes rest none no_head;
       not_done = refl;
       failed = refl;
     }
@@ -80,17 +81,17 @@ rule_by partial e some is = absurd is
 rule_by (whole frame len) e some is = absurd (some is)
 rule_by (breaks rule) e some is = (rule, refl, is)
 
-pub taken_rule : (under_way : Bool) (limit : ℕ) (bytes : List ℕ) (e : ProtocolError) (after : Incoming) → after.piece ≡ None → ¬ (e ≡ errors.NoMemory)
+pub taken_rule : (under_way : Bool) (limit : ℕ) (bytes : List ℕ) (e : ProtocolError) (after : Stock) → after.piece ≡ None → after.ahead ≡ 0 → ¬ (e ≡ errors.NoMemory)
     → FrontTaken true limit under_way bytes (Err e) after.unread
     → IsFramePulled (frames_rest under_way limit) bytes (pulled.Protocol e) (frames_rest under_way limit) after
-taken_rule under_way limit bytes e after none some (error, rest) =
+taken_rule under_way limit bytes e after none no_head some (error, rest) =
     let rule = rule_by (front_frame (connection_reader limit) under_way bytes) e some error in
     record {
       of = pull_front under_way limit bytes (breaks rule.0);
       is_pull = λ ended. sym (ap (λ (f : Front). pull_front under_way limit bytes f) rule.1);
       says = record { rule = rule.0; outcome_is = refl; says = rule.2 };
       rest_is = refl;
-      after_is = held after bytes rest none;
+      after_is = held after bytes rest none no_head;
       not_done = refl;
       failed = refl;
     }

@@ -1,5 +1,5 @@
 -- A step of the parts goes on behind each trace that the connection stands for.
-use Rattle.std.proofs.Common.{◌≡◌, ℕ, ◌+◌, ◌<◌, ◌≤◌, Bool, true, false, not, ◌&&◌, ◌||◌, List, [], ◌∷◌, length, Option, Some, None, Result, Ok, Err, refl, sym, ap, ◌∙◌, subst, length-drop}
+use Rattle.std.proofs.Common.{◌≡◌, ◌≢◌, ℕ, zero, suc, arith, ◌+◌, ◌<◌, ◌≤◌, Bool, true, false, not, ◌&&◌, ◌||◌, List, [], ◌∷◌, length, Option, Some, None, Result, Ok, Err, refl, sym, ap, ◌∙◌, subst, length-drop}
 use Rattle.std.specs.Prelude.{IsTrue, OnOk, OnErr, is_some, nat_lt, nat_le, ◌↔◌, if◌then◌else◌}
 use Rattle.http_config.specs.Config.{Settings}
 use Rattle.h1_model.specs.Setting.{Setting}
@@ -32,11 +32,17 @@ use Rattle.h1_connection.specs.Meaning.{setting_of, end_of, fault_of}
 use Rattle.h1_connection.specs.Parts.{kept_of, IsSound, Steps, StepsIn}
 use Rattle.h1_connection.specs.Frames.{is_raw_request}
 use Rattle.h1_connection.specs.Pulls.{IsPullFrom, IsPullOf}
-use Rattle.h1_connection.specs.Heads.{IsHeld, IsNexted, SaysNext}
-use Rattle.h1_connection.specs.State.{State, IsAllowed, IsFrameAllowed, Stands, IsMarked, GoesOn, ReadsIn, Is}
+use Rattle.h1_connection.specs.Heads.{IsHeld, IsNexted, MayAsk, NumberGoes, SaysNext}
+use Rattle.h1_connection.specs.Stock.{is_bare, CountsOn}
+use Rattle.h1_ahead_model.specs.Ahead.{is_bodiless, AreAhead, IsAhead}
+use Rattle.h1_decode.specs.HeadItem.{SaysHead}
+use Rattle.h1_decode.specs.declared.decoder.HeadItem.{HeadItem}
+use Rattle.h1_model.specs.Request.{BodyKind, Head, Fault, has_body, head_is}
+use Rattle.h1_connection.specs.State.{State, IsAllowed, IsFrameAllowed, Stands, IsMarked, IsCounted, GoesOn, ReadsIn, Is}
 use Rattle.h1_connection.specs.declared.connection.heads.NextHead.{NextHead}
 use Rattle.h1_connection.specs.declared.connection.heads.NextHead.TheVariants as next
 use Rattle.h1_connection.specs.declared.connection.parts.Parts.{Parts}
+use Rattle.h1_connection.proofs.CountLemmas.{decodes, hands_out, fails, fails_at_once, finds_nothing, stays}
 use Rattle.h1_connection.proofs.MarkLemmas.{MarksGo, quiet_pull}
 use Rattle.h1_connection.proofs.ResultLemmas.{err_map}
 
@@ -50,28 +56,48 @@ still_sound (Err e) s p q was sound same = subst (λ (p : Parts). IsSound s p) (
 -- ---- a state
 
 abbrev pub state_of : Settings → Parts → State
-state_of s p = record { settings = s; kept = kept_of p; marks = p.output.marks }
+state_of s p = record { settings = s; kept = kept_of p; marks = p.output.marks; ahead = p.input.ahead }
 
 -- an error changes nothing
 pub same_state : {A E : Type 0} (r : Result A E) (s : Settings) (p q : Parts) (now : State) → state_of s p ≡ now → OnErr r (q ≡ p) → OnErr r (state_of s q ≡ now)
 same_state r s p q now view same = err_map r (q ≡ p) (state_of s q ≡ now) (λ e. ap (λ (p : Parts). state_of s p) e ∙ view) same
 
-goes_from : (s : Settings) (p q : Parts) (event : on.Event) (out : on.Outcome) → Steps s p event out q → MarksGo p event out q
+-- what the event and its outcome do to the number of heads that were read ahead, behind each trace
+abbrev AheadGoes : Settings → Parts → on.Event → on.Outcome → Parts → Type 0
+AheadGoes s p event out q =
+    (trace : List sums.Step) → Stands (state_of s p) trace → Stands (state_of s q) (record { event = event; outcome = out } ∷ trace)
+    → IsCounted (state_of s p) trace → IsCounted (state_of s q) (record { event = event; outcome = out } ∷ trace)
+
+goes_from : (s : Settings) (p q : Parts) (event : on.Event) (out : on.Outcome) → Steps s p event out q → MarksGo p event out q → AheadGoes s p event out q
     → IsAllowed (state_of s p) event → GoesOn (state_of s p) event (Is out) (state_of s q)
-goes_from s p q event out steps marks allowed = λ trace stands.
-    let set = setting_of s in (
+goes_from s p q event out steps marks ahead allowed = λ trace stands.
+    let set = setting_of s in
+    let later = step_state set (kept_of p) (kept_of q) trace event out stands allowed steps in (
       out,
       refl,
       step_outcome set (kept_of p) (kept_of q) trace event out stands allowed steps,
-      step_state set (kept_of p) (kept_of q) trace event out stands allowed steps,
+      later,
       λ marked. marks ∙ ap (λ (l : List Run). marks_after (kept_of p) event out l) marked ∙ marks_go set (kept_of p) trace event out stands allowed,
+      ahead trace stands later,
     )
+
+-- no event but a call for the next head changes the number
+abbrev pub is_other : on.Event → Bool
+is_other on.next = false
+is_other event = true
+
+pub ahead_stays : (s : Settings) (p q : Parts) (event : on.Event) (out : on.Outcome) → q.input.ahead ≡ p.input.ahead → is_other event ≡ true → AheadGoes s p event out q
+ahead_stays s p q event out same other = λ trace stands later counted.
+    subst (λ (n : ℕ). IsAhead (setting_of s) (record { event = event; outcome = out } ∷ trace) n) (sym same)
+    (stays (setting_of s) (record { event = event; outcome = out }) trace p.input.ahead (λ is. let no : false ≡ true = sym (ap is_other is) ∙ other in cc no) counted)
 
 -- a step of the parts is one of the connection
 pub goes_on : (now : State) (s : Settings) (p q : Parts) (event : on.Event) (out : on.Outcome) → state_of s p ≡ now
-    → IsAllowed now event → Steps s p event out q → MarksGo p event out q → GoesOn now event (Is out) (state_of s q)
-goes_on now s p q event out view allowed steps marks =
-    subst (λ (m : State). IsAllowed m event → GoesOn m event (Is out) (state_of s q)) view (goes_from s p q event out steps marks) allowed
+    → IsAllowed now event → Steps s p event out q → MarksGo p event out q → q.input.ahead ≡ p.input.ahead → is_other event ≡ true
+    → GoesOn now event (Is out) (state_of s q)
+goes_on now s p q event out view allowed steps marks ahead other =
+    subst (λ (m : State). IsAllowed m event → GoesOn m event (Is out) (state_of s q)) view
+    (goes_from s p q event out steps marks (ahead_stays s p q event out ahead other)) allowed
 
 -- what is said of the connection is said of its parts
 pub allowed_parts : (now : State) (s : Settings) (p : Parts) (event : on.Event) → state_of s p ≡ now → IsAllowed now event → IsAllowed (state_of s p) event
@@ -85,30 +111,83 @@ unfolding allowed_by
 any_read now bytes allowed = allowed
 
 pub reads_in : (now : State) (s : Settings) (p q : Parts) (bytes : List ℕ) → state_of s p ≡ now → IsAllowed now (on.read []) → StepsIn s p bytes q
-    → q.output.marks ≡ p.output.marks → ReadsIn now bytes (state_of s q)
-reads_in now s p q [] view allowed same marks = ap (λ (p : Parts). state_of s p) same ∙ view
-reads_in now s p q (b ∷ bytes) view allowed steps marks =
-    goes_on now s p q (on.read (b ∷ bytes)) (on.took (length (b ∷ bytes))) view (any_read now (b ∷ bytes) allowed) steps marks
+    → q.output.marks ≡ p.output.marks → q.input.ahead ≡ p.input.ahead → ReadsIn now bytes (state_of s q)
+reads_in now s p q [] view allowed same marks ahead = ap (λ (p : Parts). state_of s p) same ∙ view
+reads_in now s p q (b ∷ bytes) view allowed steps marks ahead =
+    goes_on now s p q (on.read (b ∷ bytes)) (on.took (length (b ∷ bytes))) view (any_read now (b ∷ bytes) allowed) steps marks ahead refl
 
 -- ---- the next head
 
-head_from : (s : Settings) (p q : Parts) (answer : NextHead) → (IsHeld s p → IsNexted s p answer q) → q.output.marks ≡ p.output.marks → IsAllowed (state_of s p) on.next
-    → GoesOn (state_of s p) on.next (SaysNext answer) (state_of s q)
-head_from s p q (next.Head item) nexted marks allowed = λ trace stands.
-    let n = nexted (unread_bounded (setting_of s) (kept_of p) trace stands) in
-    let goes = goes_from s p q on.next (on.head n.0) n.2 marks allowed trace stands in
-    (goes.0, (n.0, n.1, goes.1), goes.2, goes.3, goes.4)
-head_from s p q (next.Fault fault) nexted marks allowed = λ trace stands.
-    goes_from s p q on.next (on.fault (fault_of fault)) (nexted (unread_bounded (setting_of s) (kept_of p) trace stands)) marks allowed trace stands
-head_from s p q next.Pending nexted marks allowed = λ trace stands.
-    goes_from s p q on.next on.pending (nexted (unread_bounded (setting_of s) (kept_of p) trace stands)) marks allowed trace stands
-head_from s p q (next.Closed end) nexted marks allowed = λ trace stands.
-    goes_from s p q on.next (on.closed (end_of end)) (nexted (unread_bounded (setting_of s) (kept_of p) trace stands)) marks allowed trace stands
+-- where the next head is asked for
+ask_case : (over closes closing running : Bool) → (not over && (if closes then closing else running)) ≡ true → (closes || running) ≡ true
+ask_case true closes closing running is = absurd (cc is)
+ask_case false true closing running is = refl
+ask_case false false closing running is = is
+
+pub may_ask : (now : State) (s : Settings) (p : Parts) → state_of s p ≡ now → IsAllowed now on.next → MayAsk (setting_of s) (kept_of p)
+unfolding allowed_by
+may_ask now s p view allowed =
+    ask_case p.is_over (is_some (closing_by (setting_of s) (kept_of p))) true (not (is_open (kept_of p))) (allowed_parts now s p on.next view allowed)
+
+-- how the number goes on behind what comes
+head_counts : (s : Settings) (p q : Parts) (item : HeadItem) (h : Head) → SaysHead item h → IsHeld s p → CountsOn p.input item q.input
+    → AheadGoes s p on.next (on.head h) q
+head_counts s p q item h says held counts = by_number p.input.ahead refl
+  where
+    by_number : (n : ℕ) → p.input.ahead ≡ n → AheadGoes s p on.next (on.head h) q
+    by_number zero is = λ trace stands later counted.
+        let all = counts.decoded is in
+        let bare : is_bare item ≡ is_bodiless (head_is h) = ap (λ (k : BodyKind). not (has_body k)) says.body in
+        subst (λ (m : ℕ). IsAhead (setting_of s) (record { event = on.next; outcome = on.head h } ∷ trace) m) (sym all.1)
+        (decodes (setting_of s) (kept_of q) trace h all.0 (subst (λ (m : ℕ). IsAhead (setting_of s) trace m) is counted) later
+        (subst (λ (b : Bool). AreAhead s.h1_hold_size 16 b q.input.unread all.0) bare (all.2 s.h1_hold_size held)))
+    by_number (suc n) is = λ trace stands later counted.
+        subst (λ (m : ℕ). IsAhead (setting_of s) (record { event = on.next; outcome = on.head h } ∷ trace) m) (sym (counts.fewer n is))
+        (hands_out (setting_of s) trace h n (subst (λ (m : ℕ). IsAhead (setting_of s) trace m) is counted))
+
+fault_counts : (s : Settings) (p q : Parts) (f : Fault) → p.input.ahead ≤ 1 → q.input.ahead ≡ 0 → AheadGoes s p on.next (on.fault f) q
+fault_counts s p q f last none = by_number p.input.ahead refl
+  where
+    by_number : (n : ℕ) → p.input.ahead ≡ n → AheadGoes s p on.next (on.fault f) q
+    by_number zero is = λ trace stands later counted.
+        subst (λ (m : ℕ). IsAhead (setting_of s) (record { event = on.next; outcome = on.fault f } ∷ trace) m) (sym none)
+        (fails_at_once (setting_of s) trace f (subst (λ (m : ℕ). IsAhead (setting_of s) trace m) is counted))
+    by_number (suc n) is = λ trace stands later counted.
+        let left : n ≡ 0 = omega (arith, last, is) in
+        subst (λ (m : ℕ). IsAhead (setting_of s) (record { event = on.next; outcome = on.fault f } ∷ trace) m) (left ∙ sym none)
+        (fails (setting_of s) trace f n (subst (λ (m : ℕ). IsAhead (setting_of s) trace m) is counted))
+
+nothing_counts : (s : Settings) (p q : Parts) (out : on.Outcome) → ((h : Head) → out ≢ on.head h) → ((f : Fault) → out ≢ on.fault f) → q.input.ahead ≡ p.input.ahead
+    → AheadGoes s p on.next out q
+nothing_counts s p q out no_head no_fault same = λ trace stands later counted.
+    subst (λ (m : ℕ). IsAhead (setting_of s) (record { event = on.next; outcome = out } ∷ trace) m) (sym same)
+    (finds_nothing (setting_of s) trace out p.input.ahead no_head no_fault counted)
+
+head_from : (s : Settings) (p q : Parts) (answer : NextHead) → (IsHeld s p → IsNexted s p answer q) → q.output.marks ≡ p.output.marks
+    → (IsHeld s p → NumberGoes s p answer q) → IsAllowed (state_of s p) on.next → GoesOn (state_of s p) on.next (SaysNext answer) (state_of s q)
+head_from s p q (next.Head item) nexted marks number allowed = λ trace stands.
+    let held = unread_bounded (setting_of s) (kept_of p) trace stands in
+    let n = nexted held in
+    let goes = goes_from s p q on.next (on.head n.0) n.2 marks (head_counts s p q item n.0 n.1 held (number held)) allowed trace stands in
+    (goes.0, (n.0, n.1, goes.1), goes.2, goes.3, goes.4, goes.5)
+head_from s p q (next.Fault fault) nexted marks number allowed = λ trace stands.
+    let held = unread_bounded (setting_of s) (kept_of p) trace stands in
+    let none = number held in
+    goes_from s p q on.next (on.fault (fault_of fault)) (nexted held) marks (fault_counts s p q (fault_of fault) none.0 none.1) allowed trace stands
+head_from s p q next.Pending nexted marks number allowed = λ trace stands.
+    let held = unread_bounded (setting_of s) (kept_of p) trace stands in
+    goes_from s p q on.next on.pending (nexted held) marks
+    (nothing_counts s p q on.pending (λ h is. cc is) (λ f is. cc is) (number held)) allowed trace stands
+head_from s p q (next.Closed end) nexted marks number allowed = λ trace stands.
+    let held = unread_bounded (setting_of s) (kept_of p) trace stands in
+    goes_from s p q on.next (on.closed (end_of end)) (nexted held) marks
+    (nothing_counts s p q (on.closed (end_of end)) (λ h is. cc is) (λ f is. cc is) (number held)) allowed trace stands
 
 pub head_goes_on : (now : State) (s : Settings) (p q : Parts) (answer : NextHead) → state_of s p ≡ now → IsAllowed now on.next
-    → (IsHeld s p → IsNexted s p answer q) → q.output.marks ≡ p.output.marks → GoesOn now on.next (SaysNext answer) (state_of s q)
-head_goes_on now s p q answer view allowed nexted marks =
-    subst (λ (m : State). IsAllowed m on.next → GoesOn m on.next (SaysNext answer) (state_of s q)) view (head_from s p q answer nexted marks) allowed
+    → (IsHeld s p → IsNexted s p answer q) → q.output.marks ≡ p.output.marks → (IsHeld s p → NumberGoes s p answer q)
+    → GoesOn now on.next (SaysNext answer) (state_of s q)
+head_goes_on now s p q answer view allowed nexted marks number =
+    subst (λ (m : State). IsAllowed m on.next → GoesOn m on.next (SaysNext answer) (state_of s q)) view (head_from s p q answer nexted marks number) allowed
 
 -- ---- pulls
 
@@ -156,31 +235,35 @@ pulling_case k (Some x) c opened pulling = (pulling.0, pulling.1)
 
 pull_from : (s : Settings) (p q : Parts) (answer : Answer)
     → ((r : Pulled) → IsPullOf (kept_of p) r → SaysPulled answer r.outcome × Steps s p on.pull r.outcome q)
-    → q.output.marks ≡ p.output.marks → IsAllowed (state_of s p) on.drop_body → GoesOn (state_of s p) on.pull (SaysPulled answer) (state_of s q)
-pull_from s p q answer pulled marks allowed = λ trace stands.
+    → q.output.marks ≡ p.output.marks → q.input.ahead ≡ p.input.ahead → IsAllowed (state_of s p) on.drop_body
+    → GoesOn (state_of s p) on.pull (SaysPulled answer) (state_of s q)
+pull_from s p q answer pulled marks ahead allowed = λ trace stands.
     let set = setting_of s in
     let may = body_pulled (state_of s p) allowed in
     let there = a_step_is_there set (kept_of p) trace on.pull stands may in
     let r = pulling_case (kept_of p) (kept_of p).exchange there.2.change (body_open s p allowed) there.2.changes in
     let x = pulled r.0 r.1 in
-    let goes = goes_from s p q on.pull r.0.outcome x.1 (marks ∙ quiet_pull answer r.0.outcome p.output.marks x.0) may trace stands in
-    (goes.0, subst (λ (o : on.Outcome). SaysPulled answer o) (sym goes.1) x.0, goes.2, goes.3, goes.4)
+    let goes =
+    goes_from s p q on.pull r.0.outcome x.1 (marks ∙ quiet_pull answer r.0.outcome p.output.marks x.0) (ahead_stays s p q on.pull r.0.outcome ahead refl) may
+    trace stands in
+    (goes.0, subst (λ (o : on.Outcome). SaysPulled answer o) (sym goes.1) x.0, goes.2, goes.3, goes.4, goes.5)
 
 pub pull_goes_on : (now : State) (s : Settings) (p q : Parts) (answer : Answer) → state_of s p ≡ now → IsAllowed now on.drop_body
     → ((r : Pulled) → IsPullOf (kept_of p) r → SaysPulled answer r.outcome × Steps s p on.pull r.outcome q)
-    → q.output.marks ≡ p.output.marks → GoesOn now on.pull (SaysPulled answer) (state_of s q)
-pull_goes_on now s p q answer view allowed pulled marks =
+    → q.output.marks ≡ p.output.marks → q.input.ahead ≡ p.input.ahead → GoesOn now on.pull (SaysPulled answer) (state_of s q)
+pull_goes_on now s p q answer view allowed pulled marks ahead =
     subst (λ (m : State). IsAllowed m on.drop_body → GoesOn m on.pull (SaysPulled answer) (state_of s q)) view
-    (pull_from s p q answer pulled marks) allowed
+    (pull_from s p q answer pulled marks ahead) allowed
 
 -- ---- frames, and messages
 
 -- a step with one of these outcomes
 pub some_goes_on : (now : State) (s : Settings) (p q : Parts) (event : on.Event) (Says : on.Outcome → Type 0) → state_of s p ≡ now → IsAllowed now event
-    → ((out : on.Outcome) → Says out → MarksGo p event out q) → ((out : on.Outcome) × Says out × Steps s p event out q) → GoesOn now event Says (state_of s q)
-some_goes_on now s p q event Says view allowed marks steps = λ trace stands.
-    let goes = goes_on now s p q event steps.0 view allowed steps.2 (marks steps.0 steps.1) trace stands in
-    (goes.0, subst Says (sym goes.1) steps.1, goes.2, goes.3, goes.4)
+    → ((out : on.Outcome) → Says out → MarksGo p event out q) → q.input.ahead ≡ p.input.ahead → is_other event ≡ true
+    → ((out : on.Outcome) × Says out × Steps s p event out q) → GoesOn now event Says (state_of s q)
+some_goes_on now s p q event Says view allowed marks ahead other steps = λ trace stands.
+    let goes = goes_on now s p q event steps.0 view allowed steps.2 (marks steps.0 steps.1) ahead other trace stands in
+    (goes.0, subst Says (sym goes.1) steps.1, goes.2, goes.3, goes.4, goes.5)
 
 -- a frame may be asked for on a WebSocket alone
 pub frame_pulled : (now : State) → IsFrameAllowed now → IsAllowed now on.pull

@@ -1,7 +1,7 @@
 -- The machine's steps where the next head is asked for.
 use Rattle.std.proofs.lemmas.List.{length-take, length-drop}
-use Rattle.std.proofs.Common.{◌≡◌, ℕ, zero, suc, ◌-◌, ◌≤◌, Bool, true, false, ◌&&◌, List, [], ◌∷◌, length, drop, Option, Some, None, inl, refl, sym, ap, ◌∙◌, subst, arith}
-use Rattle.std.specs.Prelude.{option_map, is_some, slice_range, ◌==◌, ◌||◌, not, if◌then◌else◌}
+use Rattle.std.proofs.Common.{◌≡◌, ℕ, zero, suc, ◌-◌, ◌≤◌, Bool, true, false, ◌&&◌, List, [], ◌∷◌, length, drop, Option, Some, None, Result, Ok, Err, ◌<◌, inl, refl, sym, ap, ◌∙◌, subst, arith}
+use Rattle.std.specs.Prelude.{option_map, is_some, slice_range, ◌==◌, ◌||◌, not, IfOk, OnOk, if◌then◌else◌}
 use Rattle.http_config.specs.Config.{Settings}
 use Rattle.h1_model.specs.HeadPiece.{IsHeadPiece}
 use Rattle.h1_model.specs.Request as model
@@ -17,26 +17,30 @@ use Rattle.ws_session.proofs.ValueLemmas.{head_values}
 use Rattle.h1_model.specs.Event as on
 use Rattle.h1_model.specs.End as ends
 use Rattle.h1_machine.specs.Kept as machine
-use Rattle.h1_machine.specs.Kept.{Kept, Change, is_free, is_frames, is_answered, is_unanswered, now, rest_in, whole_rest, new_exchange, refusal_of, key_answer_of}
+use Rattle.h1_machine.specs.Kept.{Kept, Change, is_free, is_frames, is_nothing, is_open, is_answered, is_unanswered, now, rest_in, whole_rest, new_exchange, refusal_of, key_answer_of}
 use Rattle.h1_machine.specs.Local.{closing_by, answered_end_of}
 use Rattle.h1_machine.specs.Change.{IsStep, IsChange, IsNext, IsUpcoming, noting_since, behind_head, without_head}
 use Rattle.h1_decode.specs.HeadItem.{SaysHead, version_of, connection_type_of}
+use Rattle.http_framing.specs.Kinds.{kind_of}
 use Rattle.h1_codec.specs.Meaning.{minor_of, model_type}
-use Rattle.h1_model.specs.Answer.{Asked, asked_of}
+use Rattle.h1_model.specs.Answer.{Asked, asked_of, is_raw_kind}
 use Rattle.http_types.specs.declared.message.ConnectionType.{ConnectionType}
 use Rattle.h1_decode.specs.declared.decoder.HeadItem.{HeadItem}
 use Rattle.h1_decode.specs.declared.scan.HeadScan.{HeadScan}
 use Rattle.h1_decode.specs.declared.scan.HeadScan.TheVariants.{Open, Piece}
-use Rattle.h1_connection.specs.Incoming.{Incoming, is_coming_in, IsFoundIn, IsHeadIn, IsHeadOf, IsPassedIn, IsPassedHead}
+use Rattle.h1_connection.specs.Incoming.{Incoming, is_coming_in, IsFoundIn, IsHeadIn, IsHeadOf}
+use Rattle.h1_connection.specs.Stock.{Stock, incoming_of, is_bare, IsHeadAhead, IsPassedTo, HandsOut}
 use Rattle.h1_connection.specs.Meaning.{setting_of, end_of, fault_of, failing_of}
-use Rattle.h1_connection.specs.Parts.{key_bytes, kept_of, exchange_of, reply_of, IsNoted, IsSound, IsSettled, Steps}
-use Rattle.h1_connection.specs.Given.{HasOpened}
-use Rattle.h1_connection.specs.Heads.{IsAsked, after_head, refused, IsHeld, IsNexted}
+use Rattle.h1_connection.specs.Parts.{key_bytes, kept_of, exchange_of, reply_of, leaves_body, HasNoneBehind, IsNoted, IsSound, IsSettled, Steps}
+use Rattle.h1_connection.specs.Given.{HasOpened, is_head_kind}
+use Rattle.h1_connection.specs.Heads.{IsAsked, IsFresh, after_head, refused, with_head, IsHeld, IsNexted, MayAsk, NumberGoes}
 use Rattle.h1_connection.specs.declared.connection.exchange.Exchange.{Exchange}
 use Rattle.h1_connection.specs.declared.connection.exchange.Reply.{Reply}
 use Rattle.h1_connection.specs.declared.connection.exchange.Reply.TheVariants.{Unanswered}
 use Rattle.h1_connection.specs.declared.connection.heads.NextHead.{NextHead}
 use Rattle.h1_connection.specs.declared.connection.heads.NextHead.TheVariants as next
+use Rattle.h1_connection.specs.declared.connection.heads.NextKind.{NextKind}
+use Rattle.h1_connection.specs.declared.connection.heads.NextKind.TheVariants as next_kind
 use Rattle.h1_connection.specs.declared.connection.parts.Parts.{Parts}
 use Rattle.h1_connection.specs.declared.connection.request.Request.{Request}
 use Rattle.h1_connection.specs.declared.event.End.{End}
@@ -80,7 +84,7 @@ not_coming i is = none_coming i i.piece is
 
 pub closed_sound : (s : Settings) (p : Parts) → IsSound s p → IsSound s (record p { is_over = true })
 unfolding closing_by
-closed_sound s p sound = record { moment = sound.moment; searched = sound.searched; scanned = sound.scanned; noted = sound.noted }
+closed_sound s p sound = record { moment = sound.moment; searched = sound.searched; scanned = sound.scanned; behind = sound.behind; noted = sound.noted }
 
 pub closed_steps : (s : Settings) (p : Parts) (end : End) → IsSound s p → option_map end_of (Some end) ≡ closing_by (setting_of s) (kept_of p)
     → Steps s p on.next (on.closed (end_of end)) (record p { is_over = true })
@@ -102,11 +106,11 @@ without_full : (set : Setting) (k : Kept) (full : Bool) → (length k.unread == 
 without_full set k false is none = absurd (cc none)
 without_full set k true is none = rw is refl
 
-pub pending_steps : (s : Settings) (p : Parts) → IsSound s p → closing_by (setting_of s) (kept_of p) ≡ None → IsHeadOf p.input None
+pub pending_steps : (s : Settings) (p : Parts) → IsSound s p → closing_by (setting_of s) (kept_of p) ≡ None → IsHeadAhead p.input None
     → (length p.input.unread == s.h1_hold_size) ≡ false → Steps s p on.next on.pending p
 pending_steps s p sound runs none room =
     quiet_step s p p on.next on.pending
-    (next_change (setting_of s) (kept_of p) false (record { outcome = on.pending; kept = kept_of p }) runs (not_coming p.input none)
+    (next_change (setting_of s) (kept_of p) false (record { outcome = on.pending; kept = kept_of p }) runs (not_coming (incoming_of p.input) none)
     (sym (without_pending (setting_of s) (kept_of p) false room refl))) sound
 
 -- a fault is settled as any change is
@@ -116,12 +120,12 @@ fault_steps : (s : Settings) (p q : Parts) (fault : HeadFault)
 fault_steps s p q fault changes settled =
     settled_step s p q on.next (on.fault (fault_of fault)) (refused fault (kept_of p)) (refused fault (kept_of p)) (kept_of p).is_coming changes refl settled
 
-pub full_steps : (s : Settings) (p q : Parts) (fault : HeadFault) → fault_of fault ≡ too_large → closing_by (setting_of s) (kept_of p) ≡ None → IsHeadOf p.input None
+pub full_steps : (s : Settings) (p q : Parts) (fault : HeadFault) → fault_of fault ≡ too_large → closing_by (setting_of s) (kept_of p) ≡ None → IsHeadAhead p.input None
     → (length p.input.unread == s.h1_hold_size) ≡ true → IsSettled (setting_of s) (refused fault (kept_of p)) q
     → Steps s p on.next (on.fault (fault_of fault)) q
 full_steps s p q fault large runs none full settled =
     fault_steps s p q fault
-    (next_change (setting_of s) (kept_of p) false (record { outcome = on.fault (fault_of fault); kept = refused fault (kept_of p) }) runs (not_coming p.input none)
+    (next_change (setting_of s) (kept_of p) false (record { outcome = on.fault (fault_of fault); kept = refused fault (kept_of p) }) runs (not_coming (incoming_of p.input) none)
     ((λ i. behind_head (kept_of p) 0 (faulty (large i))) ∙ sym (without_full (setting_of s) (kept_of p) true full refl))) settled
 
 pub refused_sound : (s : Settings) (p q : Parts) (fault : HeadFault) → IsSound s p → IsSettled (setting_of s) (refused fault (kept_of p)) q → IsSound s q
@@ -160,27 +164,27 @@ within s p head start end what is held reading =
     inl (fits, subst (λ (bytes : List ℕ). IsReading bytes what) is reading)
 
 -- a fault of it
-pub found_steps : (s : Settings) (p q : Parts) (head : List ℕ) (fault : HeadFault) → closing_by (setting_of s) (kept_of p) ≡ None → IsHeadOf p.input (Some head)
+pub found_steps : (s : Settings) (p q : Parts) (head : List ℕ) (fault : HeadFault) → closing_by (setting_of s) (kept_of p) ≡ None → IsHeadAhead p.input (Some head)
     → IsReading head (faulty (fault_of fault)) → IsSettled (setting_of s) (refused fault (kept_of p)) q → IsHeld s p
     → Steps s p on.next (on.fault (fault_of fault)) q
 found_steps s p q head fault runs found reading settled held =
-    let at = found_at p.input head found in
+    let at = found_at (incoming_of p.input) head found in
     let what = faulty (fault_of fault) in
     fault_steps s p q fault
-    (next_change (setting_of s) (kept_of p) true (record { outcome = on.fault (fault_of fault); kept = refused fault (kept_of p) }) runs (found_whole p.input head found)
+    (next_change (setting_of s) (kept_of p) true (record { outcome = on.fault (fault_of fault); kept = refused fault (kept_of p) }) runs (found_whole (incoming_of p.input) head found)
     (at.start, at.end, what, at.here, within s p head at.start at.end what at.head_is held reading, refl)) settled
 
 -- the head itself
-pub head_steps : (s : Settings) (p q : Parts) (head : List ℕ) (item : HeadItem) (h : Head) → closing_by (setting_of s) (kept_of p) ≡ None → IsHeadOf p.input (Some head)
+pub head_steps : (s : Settings) (p q : Parts) (head : List ℕ) (item : HeadItem) (h : Head) → closing_by (setting_of s) (kept_of p) ≡ None → IsHeadAhead p.input (Some head)
     → IsReading head (head_is h) → SaysHead item h
     → ((piece : List ℕ) (h : Head) (start end : ℕ) → IsReading piece (head_is h) → SaysHead item h → p.input.piece ≡ Some (Piece start end)
     → kept_of q ≡ noting_since (setting_of s) (after_head (kept_of p) end h))
     → IsHeld s p → IsNexted s p (next.Head item) q
 head_steps s p q head item h runs found reading says handed held =
-    let at = found_at p.input head found in (
+    let at = found_at (incoming_of p.input) head found in (
       h,
       says,
-      head_step (setting_of s) (kept_of p) (kept_of q) h at.start at.end runs (found_whole p.input head found) at.here
+      head_step (setting_of s) (kept_of p) (kept_of q) h at.start at.end runs (found_whole (incoming_of p.input) head found) at.here
           (within s p head at.start at.end (head_is h) at.head_is held reading)
           (handed head h at.start at.end reading says at.piece),
     )
@@ -207,19 +211,20 @@ plain_same x h rest request asked is =
     })
 
 -- the input behind the head
-pub passed_at : (i after : Incoming) (start end : ℕ) → i.piece ≡ Some (Piece start end) → IsPassedHead i after → after ≡ record { unread = drop end i.unread; piece = None }
-passed_at i after start end is passed = subst (λ (o : Option HeadScan). IsPassedIn i o after) is passed
+pub passed_at : (i after : Stock) (start end : ℕ) → i.piece ≡ Some (Piece start end) → IsPassedTo i i.piece after
+    → (after.unread ≡ drop end i.unread) × (after.piece ≡ None)
+passed_at i after start end is passed = subst (λ (o : Option HeadScan). IsPassedTo i o after) is passed
 
-passed_none : (i after : Incoming) (piece : Option HeadScan) → IsPassedIn i piece after → after.piece ≡ None
+passed_none : (i after : Stock) (piece : Option HeadScan) → IsPassedTo i piece after → after.piece ≡ None
 passed_none i after None passed = absurd passed
 passed_none i after (Some Open) passed = absurd passed
-passed_none i after (Some (Piece start end)) passed = ap (λ (j : Incoming). j.piece) passed
+passed_none i after (Some (Piece start end)) passed = passed.1
 
-pub passed_unsearched : (i after : Incoming) → IsPassedHead i after → after.piece ≡ None
+pub passed_unsearched : (i after : Stock) → IsPassedTo i i.piece after → after.piece ≡ None
 passed_unsearched i after passed = passed_none i after i.piece passed
 
 -- the parts behind a head
-abbrev pub handed : Parts → Incoming → Exchange → Parts
+abbrev pub handed : Parts → Stock → Exchange → Parts
 handed p after x = record p { input = after; exchange = Some x }
 
 -- what is left of its body isn't read as frames
@@ -246,56 +251,129 @@ rest_plain : (ended : Bool) (unread : List ℕ) (body : model.BodyKind) (rest : 
 rest_plain ended unread body rest is = ap is_frames is ∙ in_plain ended unread (whole_rest body) (whole_plain body)
 
 -- so its request is open, and nothing closes
-handed_open : (set : Setting) (p : Parts) (after : Incoming) (x : Exchange) → closing_by set (kept_of p) ≡ None → x.reply ≡ Unanswered → is_frames x.rest ≡ false
+handed_open : (set : Setting) (p : Parts) (after : Stock) (x : Exchange) → closing_by set (kept_of p) ≡ None → x.reply ≡ Unanswered → is_frames x.rest ≡ false
     → closing_by set (kept_of (handed p after x)) ≡ None
 handed_open set p after x runs waits plain =
     handed_runs set (kept_of p) (kept_of (handed p after x)) runs refl refl
     (ap (λ (r : Reply). answered_end_of (exchange_of x) (reply_of r)) waits)
     (ap (λ (r : Reply). is_frames x.rest || not (is_answered (reply_of r))) waits ∙ ap (λ (f : Bool). f || true) plain) plain
 
-handed_noted : (set : Setting) (p : Parts) (after : Incoming) (x : Exchange) → closing_by set (kept_of p) ≡ None → x.reply ≡ Unanswered → is_frames x.rest ≡ false
+handed_noted : (set : Setting) (p : Parts) (after : Stock) (x : Exchange) → closing_by set (kept_of p) ≡ None → x.reply ≡ Unanswered → is_frames x.rest ≡ false
     → IsNoted set (kept_of (handed p after x))
 handed_noted set p after x runs waits plain = λ is.
     let none = handed_open set p after x runs waits plain in
     absurd (let no : false ≡ true = sym (ap is_some none) ∙ is in cc no)
 
 -- and waits for its answer
-pub handed_opened : (s : Settings) (p : Parts) (after : Incoming) (x : Exchange) (body : model.BodyKind) → closing_by (setting_of s) (kept_of p) ≡ None
-    → x.reply ≡ Unanswered → x.rest ≡ rest_in p.has_ended after.unread (whole_rest body) → HasOpened (setting_of s) p.is_over (kept_of (handed p after x))
-handed_opened s p after x body runs waits rest_is =
-    let plain = rest_plain p.has_ended after.unread body x.rest rest_is in
+pub handed_opened : (s : Settings) (p : Parts) (after : Stock) (x : Exchange) (item : HeadItem) → closing_by (setting_of s) (kept_of p) ≡ None
+    → IsFresh item p.has_ended after.unread x → HasOpened (setting_of s) p.is_over (kept_of (handed p after x))
+handed_opened s p after x item runs fresh =
+    let plain = rest_plain p.has_ended after.unread (kind_of item.body) x.rest fresh.rest in
+    let waits : x.reply ≡ Unanswered = ap (λ (y : Exchange). y.reply) fresh.plain in
     record {
       over = refl;
       runs = handed_open (setting_of s) p after x runs waits plain;
       waits = (λ i. is_unanswered (reply_of (waits i)) && not (plain i));
     }
 
-pub handed_kept : (set : Setting) (p : Parts) (after : Incoming) (x : Exchange) (h : Head) (request : Request) (rest : machine.Rest) (start end : ℕ)
-    → closing_by set (kept_of p) ≡ None → p.input.piece ≡ Some (Piece start end) → IsPassedHead p.input after → IsAsked h request
-    → rest ≡ rest_in p.has_ended after.unread (whole_rest h.body)
-    → x ≡ record { request = request; rest = rest; reply = Unanswered; was_pulled = false; was_dropped = false; had_continue = false; body_is_done = false }
-    → kept_of (handed p after x) ≡ noting_since set (after_head (kept_of p) end h)
-handed_kept set p after x h request rest start end runs piece passed asked rest_is x_is =
-    let input = passed_at p.input after start end piece passed in
-    let unread : after.unread ≡ drop end p.input.unread = ap (λ (i : Incoming). i.unread) input in
+pub handed_kept : (s : Settings) (p : Parts) (after : Stock) (x : Exchange) (h : Head) (start end : ℕ) → closing_by (setting_of s) (kept_of p) ≡ None
+    → p.input.piece ≡ Some (Piece start end) → IsPassedTo p.input p.input.piece after → (item : HeadItem) (piece : List ℕ) → IsReading piece (head_is h) → SaysHead item h
+    → IsFresh item p.has_ended after.unread x → kept_of (handed p after x) ≡ noting_since (setting_of s) (after_head (kept_of p) end h)
+handed_kept s p after x h start end runs at passed item piece reading says fresh =
+    let set = setting_of s in
+    let ends = passed_at p.input after start end at passed in
+    let rest : x.rest ≡ rest_in p.has_ended (drop end p.input.unread) (whole_rest h.body) =
+    fresh.rest ∙ (λ i. rest_in p.has_ended (ends.0 i) (whole_rest (says.body i))) in
     let exchange : exchange_of x ≡ new_exchange (rest_in p.has_ended (drop end p.input.unread) (whole_rest h.body)) h =
-    plain_same x h rest request asked x_is ∙ ap (λ (r : machine.Rest). new_exchange r h) (rest_is ∙ ap (λ (b : List ℕ). rest_in p.has_ended b (whole_rest h.body)) unread) in
-    let plain : is_frames x.rest ≡ false = ap (λ (y : Exchange). is_frames y.rest) x_is ∙ rest_plain p.has_ended after.unread h.body rest rest_is in
-    let waits : x.reply ≡ Unanswered = ap (λ (y : Exchange). y.reply) x_is in
+    plain_same x h x.rest x.request (fresh.asked piece h reading says) fresh.plain ∙ ap (λ (r : machine.Rest). new_exchange r h) rest in
+    let plain : is_frames x.rest ≡ false = rest_plain p.has_ended after.unread (kind_of item.body) x.rest fresh.rest in
+    let waits : x.reply ≡ Unanswered = ap (λ (y : Exchange). y.reply) fresh.plain in
     sym (noted_same set (kept_of (handed p after x)) (handed_noted set p after x runs waits plain))
-    ∙ (λ i. noting_since set (record (kept_of p) { unread = unread i; is_coming = is_coming_in (input i).piece; exchange = Some (exchange i) }))
+    ∙ (λ i. noting_since set (record (kept_of p) { unread = ends.0 i; is_coming = is_coming_in (ends.1 i); exchange = Some (exchange i) }))
 
-pub handed_sound : (s : Settings) (p : Parts) (after : Incoming) (x : Exchange) (body : model.BodyKind) → IsSound s p → closing_by (setting_of s) (kept_of p) ≡ None
-    → IsPassedHead p.input after → x.reply ≡ Unanswered → x.rest ≡ rest_in p.has_ended after.unread (whole_rest body) → IsSound s (handed p after x)
-handed_sound s p after x body sound runs passed waits rest_is =
-    let none : after.piece ≡ None = passed_unsearched p.input after passed in
+-- it may have heads read ahead behind it where it has no body
+bare_rest : (ended : Bool) (unread : List ℕ) (body : model.BodyKind) → not (model.has_body body) ≡ true → is_nothing (rest_in ended unread (whole_rest body)) ≡ true
+bare_rest true [] model.no_body bare = refl
+bare_rest true (b ∷ unread) model.no_body bare = refl
+bare_rest false unread model.no_body bare = refl
+bare_rest ended unread (model.fixed_body n) bare = absurd (cc bare)
+bare_rest ended unread model.chunked_body bare = absurd (cc bare)
+bare_rest ended unread model.raw_body bare = absurd (cc bare)
+
+bare_raw : (body : model.BodyKind) → not (model.has_body body) ≡ true → is_raw_kind body ≡ false
+bare_raw model.no_body bare = refl
+bare_raw (model.fixed_body n) bare = absurd (cc bare)
+bare_raw model.chunked_body bare = absurd (cc bare)
+bare_raw model.raw_body bare = absurd (cc bare)
+
+handed_behind : (p : Parts) (after : Stock) (x : Exchange) (item : HeadItem) (out : HandsOut p.input item after) → IsFresh item p.has_ended after.unread x
+    → HasNoneBehind (kept_of (handed p after x)) after.ahead
+handed_behind p after x item out fresh = λ left. by_number after.ahead out.behind left
+  where
+    nothing : is_bare item ≡ true → leaves_body (kept_of (handed p after x)) ≡ false
+    nothing bare =
+        let raw : x.request.asked.is_raw ≡ false =
+        ap (λ a. a.is_raw) (fresh.asked out.head out.h out.reads out.says).asked
+        ∙ bare_raw out.h.body (sym (ap (λ k. not (model.has_body k)) out.says.body) ∙ bare) in
+        let rest : is_nothing x.rest ≡ true = ap is_nothing fresh.rest ∙ bare_rest p.has_ended after.unread (kind_of item.body) bare in
+        (λ i. raw i || not (rest i))
+
+    by_number : (n : ℕ) → (0 < n → is_bare item ≡ true) → leaves_body (kept_of (handed p after x)) ≡ true → n ≡ 0
+    by_number zero bare left = refl
+    by_number (suc n) bare left = absurd (let no : false ≡ true = sym (nothing (bare (omega arith))) ∙ left in cc no)
+
+pub handed_sound : (s : Settings) (p : Parts) (after : Stock) (x : Exchange) (item : HeadItem) → IsSound s p → closing_by (setting_of s) (kept_of p) ≡ None
+    → (out : HandsOut p.input item after) → IsFresh item p.has_ended after.unread x → IsSound s (handed p after x)
+handed_sound s p after x item sound runs out fresh =
+    let none : after.piece ≡ None = passed_unsearched p.input after out.passed in
+    let waits : x.reply ≡ Unanswered = ap (λ (y : Exchange). y.reply) fresh.plain in
     let free : is_free (kept_of (handed p after x)) ≡ false = ap (λ (r : Reply). is_free (kept_of (handed p after (record x { reply = r })))) waits in
     record {
       moment = sound.moment;
       searched = ap is_some none ∙ sym free;
       scanned = subst (λ (o : Option HeadScan). IsFoundIn after.unread o) (sym none) tt;
-      noted = handed_noted (setting_of s) p after x runs waits (rest_plain p.has_ended after.unread body x.rest rest_is);
+      behind = handed_behind p after x item out fresh;
+      noted = handed_noted (setting_of s) p after x runs waits (rest_plain p.has_ended after.unread (kind_of item.body) x.rest fresh.rest);
     }
+
+-- ---- where no head is there, none was read ahead
+
+-- an answered request of which something is left
+left_open : (k : Kept) (e : Option machine.Exchange) → is_open (record k { exchange = e }) ≡ false → is_free (record k { exchange = e }) ≡ false
+    → leaves_body (record k { exchange = e }) ≡ true
+left_open k None closed busy = absurd (cc busy)
+left_open k (Some x) closed busy = by_rest (is_frames x.rest) (is_answered x.reply) (is_nothing x.rest) x.asked.is_raw closed busy
+  where
+    by_rest : (frames answered nothing raw : Bool) → (frames || not answered) ≡ false → (answered && nothing) ≡ false → (raw || not nothing) ≡ true
+    by_rest true answered nothing raw closed busy = absurd (cc closed)
+    by_rest false false nothing raw closed busy = absurd (cc closed)
+    by_rest false true true raw closed busy = absurd (cc busy)
+    by_rest false true false true closed busy = refl
+    by_rest false true false false closed busy = refl
+
+pub none_ahead_here : (s : Settings) (p : Parts) → IsSound s p → closing_by (setting_of s) (kept_of p) ≡ None → (is_some p.input.piece ≡ true → p.input.ahead ≡ 0)
+    → MayAsk (setting_of s) (kept_of p) → p.input.ahead ≡ 0
+none_ahead_here s p sound runs none may = by_free (is_free (kept_of p)) refl
+  where
+    closed : is_open (kept_of p) ≡ false
+    closed = not_true (is_open (kept_of p)) (sym (ap (λ (o : Option ends.End). is_some o || not (is_open (kept_of p))) runs) ∙ may)
+      where
+        not_true : (b : Bool) → not b ≡ true → b ≡ false
+        not_true true is = absurd (cc is)
+        not_true false is = refl
+
+    by_free : (free : Bool) → is_free (kept_of p) ≡ free → p.input.ahead ≡ 0
+    by_free true is = none (sound.searched ∙ is)
+    by_free false is = sound.behind (left_open (kept_of p) (kept_of p).exchange closed is)
+
+-- so behind it there is none either
+pub none_counts : (s : Settings) (p q : Parts) (item : HeadItem) (r : Result NextKind NoMemory) → OnOk r (q.input.ahead ≡ p.input.ahead) → IfOk r (λ kind. is_head_kind kind ≡ false)
+    → (MayAsk (setting_of s) (kept_of p) → p.input.ahead ≡ 0) → IfOk r (λ kind. MayAsk (setting_of s) (kept_of p) → IsHeld s p → NumberGoes s p (with_head item kind) q)
+none_counts s p q item (Err e) same no_head none = tt
+none_counts s p q item (Ok next_kind.Head) same no_head none = absurd (cc no_head)
+none_counts s p q item (Ok (next_kind.Fault fault)) same no_head none = λ may held. (omega (arith, none may), same ∙ none may)
+none_counts s p q item (Ok next_kind.Pending) same no_head none = λ may held. same
+none_counts s p q item (Ok (next_kind.Closed end)) same no_head none = λ may held. same
 
 -- ---- what is kept of a request is what its head asks
 
@@ -332,7 +410,7 @@ pub runs_same : (s : Settings) (p : Parts) (i : Incoming) → i ≡ p.input → 
     → closing_by (setting_of s) (kept_of (record p { input = i })) ≡ None
 runs_same s p i same runs = subst (λ (j : Incoming). closing_by (setting_of s) (kept_of (record p { input = j })) ≡ None) (sym same) runs
 
-pub found_same : (p : Parts) (i : Incoming) (head : List ℕ) → i ≡ p.input → IsHeadOf p.input (Some head) → IsHeadOf i (Some head)
+pub found_same : (p : Parts) (i : Incoming) (head : List ℕ) → i ≡ p.input → IsHeadAhead p.input (Some head) → IsHeadOf i (Some head)
 found_same p i head same found = subst (λ (j : Incoming). IsHeadOf j (Some head)) (sym same) found
 
 -- ---- what an upgrade needs of it

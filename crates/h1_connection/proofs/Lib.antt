@@ -6,6 +6,7 @@ pub mod AnswerLemmas
 pub mod PullLemmas
 pub mod HeadLemmas
 pub mod MarkLemmas
+pub mod CountLemmas
 pub mod OutputLemmas
 pub mod ResultLemmas
 pub mod GoesOnLemmas
@@ -17,6 +18,10 @@ pub mod LawLemmas
 pub mod DeadlineLemmas
 pub mod ScanLemmas
 pub mod InputLemmas
+pub mod AheadLemmas
+pub mod StockLemmas
+pub mod RingLemmas
+pub mod IntakeLemmas
 pub mod ClosingLemmas
 pub mod CutLemmas
 pub mod FrameLemmas

@@ -1,10 +1,14 @@
 -- A body that is passed over leaves the rest of what the machine keeps.
-use Rattle.std.proofs.Common.{◌≡◌, ℕ, ◌-◌, Bool, true, false, List, [], length, drop, Option, Some, None, refl, ap, ◌∙◌}
-use Rattle.std.specs.Prelude.{if◌then◌else◌, nat_le}
+use Rattle.std.proofs.Common.{◌≡◌, ℕ, ◌-◌, Bool, true, false, List, [], length, drop, Option, Some, None, Result, Ok, Err, refl, ap, ◌∙◌}
+use Rattle.std.specs.Prelude.{if◌then◌else◌, nat_le, IfOk, OnErr}
 use Rattle.h1_chunks.specs.Place.{Place}
 use Rattle.h1_chunks.specs.Reading.{Ending, ends_before, goes_on, is_broken, read}
 use Rattle.h1_machine.specs.Kept.{Rest, no_rest, raw_rest, fixed_rest, chunks_rest, frames_rest, Reply, unanswered, sending, answered, Exchange, Kept, is_frames, is_nothing, is_free, is_upgraded}
 use Rattle.h1_machine.specs.Body.{Passed, pass_chunks, pass_rest, passing}
+use Rattle.h1_machine.specs.Pull.{Pulled, finishes, IsPull}
+use Rattle.h1_model.specs.Event as on
+use Rattle.h1_payload.specs.Rests.{IsPulled}
+use Rattle.h1_payload.specs.declared.pulled.Pulled.{Pulled as Answer}
 
 -- ---- what is left of a body
 
@@ -31,12 +35,29 @@ rest_no_frames ended (chunks_rest place section) bytes is = chunks_no_frames pla
 rest_no_frames ended (frames_rest under_way limit) bytes is = is
 
 -- where nothing is left, nothing is passed
-nothing_passed : (ended : Bool) (rest : Rest) (bytes : List ℕ) → is_nothing rest ≡ true → pass_rest ended rest bytes ≡ record { rest = rest; unread = bytes }
+pub nothing_passed : (ended : Bool) (rest : Rest) (bytes : List ℕ) → is_nothing rest ≡ true → pass_rest ended rest bytes ≡ record { rest = rest; unread = bytes }
 nothing_passed ended no_rest bytes is = refl
 nothing_passed ended raw_rest bytes is = absurd (cc is)
 nothing_passed ended (fixed_rest n) bytes is = absurd (cc is)
 nothing_passed ended (chunks_rest place section) bytes is = absurd (cc is)
 nothing_passed ended (frames_rest under_way limit) bytes is = absurd (cc is)
+
+-- ---- a pull of nothing
+
+-- nothing is left behind it
+nothing_pulled : (ended : Bool) (rest : Rest) (bytes : List ℕ) (answer : Answer) (later : Rest) (behind : List ℕ)
+    → ((p : Pulled) → IsPull ended rest bytes p → IsPulled p answer later behind) → is_nothing rest ≡ true → is_nothing later ≡ true
+nothing_pulled ended no_rest bytes answer later behind pulled is = ap is_nothing (pulled (finishes on.body_ended no_rest bytes) refl).rest_is
+nothing_pulled ended raw_rest bytes answer later behind pulled is = absurd (cc is)
+nothing_pulled ended (fixed_rest n) bytes answer later behind pulled is = absurd (cc is)
+nothing_pulled ended (chunks_rest place section) bytes answer later behind pulled is = absurd (cc is)
+nothing_pulled ended (frames_rest under_way limit) bytes answer later behind pulled is = absurd (cc is)
+
+-- also where memory ran out
+pub still_nothing : {E : Type 0} (P : Type 0) (ended : Bool) (rest : Rest) (bytes : List ℕ) (r : Result Answer E) (later : Rest) (behind : List ℕ)
+    → IfOk r (λ answer. (p : Pulled) → IsPull ended rest bytes p → IsPulled p answer later behind) → OnErr r ((later ≡ rest) × P) → is_nothing rest ≡ true → is_nothing later ≡ true
+still_nothing P ended rest bytes (Ok answer) later behind pulled same is = nothing_pulled ended rest bytes answer later behind pulled is
+still_nothing P ended rest bytes (Err e) later behind pulled same is = ap is_nothing same.0 ∙ is
 
 -- ---- of a connection
 

@@ -12,11 +12,12 @@ use Rattle.h1_machine.specs.Kept.{Rest, no_rest, raw_rest, fixed_rest, chunks_re
 use Rattle.h1_machine.specs.Local.{closing_by}
 use Rattle.h1_machine.specs.Pull.{Pulled, lacking, pull_fixed, pull_raw, EndsWith, IsPullOfChunks, IsPull}
 use Rattle.h1_machine.specs.Change.{IsChange}
-use Rattle.h1_payload.specs.Rests.{SaysPulled}
+use Rattle.h1_payload.specs.Rests.{SaysPulled, IsPulled}
 use Rattle.h1_payload.specs.declared.pulled.Pulled.{Pulled as Answer}
 use Rattle.h1_payload.specs.declared.pulled.Pulled.TheVariants as answers
 use Rattle.h1_decode.specs.declared.scan.HeadScan.{HeadScan}
-use Rattle.h1_connection.specs.Incoming.{Incoming, IsFoundIn}
+use Rattle.h1_connection.specs.Incoming.{IsFoundIn}
+use Rattle.h1_connection.specs.Stock.{Stock}
 use Rattle.h1_connection.specs.Meaning.{setting_of}
 use Rattle.h1_connection.specs.Parts.{kept_of, reply_of, IsSound, Steps}
 use Rattle.h1_connection.specs.Pulls.{tells_done, IsPulledFrom, IsPullOf}
@@ -92,23 +93,23 @@ pull_tells stopped (frames_rest under_way limit) bytes p plain is = absurd (cc p
 -- ---- the step
 
 -- the parts behind a pull
-abbrev pub pulled_parts : Parts → Exchange → Incoming → Parts
+abbrev pub pulled_parts : Parts → Exchange → Stock → Parts
 pulled_parts p y after = record p { exchange = Some y; input = after }
 
 or_none : (o : Option End) → option_or None o ≡ o
 or_none o = refl
 
-pull_change : (set : Setting) (r : Parts) (x y : Exchange) (p : Pulled) (answer : Answer) (after : Incoming) → is_frames x.rest ≡ false
-    → IsPull r.has_ended x.rest r.input.unread p → IsPulledFrom x p answer y after → r.input.piece ≡ None → after.piece ≡ None
+pull_change : (set : Setting) (r : Parts) (x y : Exchange) (p : Pulled) (answer : Answer) (after : Stock) → is_frames x.rest ≡ false
+    → IsPull r.has_ended x.rest r.input.unread p → IsPulledFrom x p answer y after → r.input.piece ≡ None → after.piece ≡ None → after.ahead ≡ r.input.ahead
     → IsChange set (kept_of (record r { exchange = Some x })) on.pull (record { outcome = p.outcome; kept = kept_of (pulled_parts r y after) })
-pull_change set r x y p answer after plain pull from none still =
+pull_change set r x y p answer after plain pull from none still ahead =
     let t = pull_tells r.has_ended x.rest r.input.unread p plain pull in
     let tells : tells_done answer ≡ p.is_done = unfolding_done answer p.outcome from.outcome ∙ sym t.done in
     let exchange : y ≡ record x { rest = p.rest; was_pulled = true; body_is_done = x.body_is_done || p.is_done } =
     from.exchange ∙ (λ i. record x { rest = p.rest; was_pulled = true; body_is_done = x.body_is_done || tells i }) in
     let k : Kept = kept_of (record r { exchange = Some x }) in
     let incoming : after ≡ record r.input { unread = p.unread } =
-    λ i. record { unread = from.unread i; piece = (still ∙ sym none) i } in (
+    λ i. record { unread = from.unread i; piece = (still ∙ sym none) i; ahead = ahead i } in (
       p,
       pull,
       λ i. record {
@@ -118,7 +119,7 @@ pull_change set r x y p answer after plain pull from none still =
     )
 
 -- an open request stays opened, and the connection as it is
-noted_reply : (set : Setting) (r : Parts) (x : Exchange) (reply : Reply) (rest : Rest) (done : Bool) (after : Incoming) → is_answered (reply_of reply) ≡ false
+noted_reply : (set : Setting) (r : Parts) (x : Exchange) (reply : Reply) (rest : Rest) (done : Bool) (after : Stock) → is_answered (reply_of reply) ≡ false
     → is_frames x.rest ≡ false → is_frames rest ≡ false
     → closing_by set (kept_of (pulled_parts r (record x { reply = reply; rest = rest; was_pulled = true; body_is_done = done }) (record after { piece = r.input.piece })))
     ≡ closing_by set (kept_of (record r { exchange = Some (record x { reply = reply }) }))
@@ -137,20 +138,29 @@ open_reply true answered plain is = absurd (cc plain)
 open_reply false true plain is = absurd (cc is)
 open_reply false false plain is = refl
 
-pulled_sound : (s : Settings) (r : Parts) (x y : Exchange) (after : Incoming) (rest : Rest) (done : Bool) → is_answered (reply_of x.reply) ≡ false
+-- what was nothing is nothing behind a pull
+still_leaves : (raw was now : Bool) → (was ≡ true → now ≡ true) → (raw || not now) ≡ true → (raw || not was) ≡ true
+still_leaves true was now stays left = refl
+still_leaves false true true stays left = absurd (cc left)
+still_leaves false true false stays left = stays refl
+still_leaves false false now stays left = refl
+
+pulled_sound : (s : Settings) (r : Parts) (x y : Exchange) (after : Stock) (rest : Rest) (done : Bool) → after.ahead ≡ r.input.ahead
+    → (is_nothing x.rest ≡ true → is_nothing rest ≡ true) → is_answered (reply_of x.reply) ≡ false
     → is_frames x.rest ≡ false → is_frames rest ≡ false → r.exchange ≡ Some x → r.input.piece ≡ None → after.piece ≡ None
     → y ≡ record x { rest = rest; was_pulled = true; body_is_done = done } → IsSound s r → IsSound s (pulled_parts r y after)
-pulled_sound s r x y after rest done opened was plain there none still is sound =
+pulled_sound s r x y after rest done ahead stays opened was plain there none still is sound =
     let z : Exchange = record x { rest = rest; was_pulled = true; body_is_done = done } in
     let at_x : IsSound s (record r { exchange = Some x }) = subst (λ (e : Option Exchange). IsSound s (record r { exchange = e })) there sound in
     let same_after : record after { piece = r.input.piece } ≡ after = λ i. record after { piece = (none ∙ sym still) i } in
     let closes : closing_by (setting_of s) (kept_of (pulled_parts r z after)) ≡ closing_by (setting_of s) (kept_of (record r { exchange = Some x })) =
-    sym (ap (λ (a : Incoming). closing_by (setting_of s) (kept_of (pulled_parts r z a))) same_after)
+    sym (ap (λ (a : Stock). closing_by (setting_of s) (kept_of (pulled_parts r z a))) same_after)
     ∙ noted_reply (setting_of s) r x x.reply rest done after opened was plain in
     subst (λ (e : Exchange). IsSound s (pulled_parts r e after)) (sym is) (record {
       moment = sound.moment;
       searched = ap is_some still ∙ sym (not_free (is_answered (reply_of x.reply)) _ opened);
       scanned = subst (λ (o : Option HeadScan). IsFoundIn after.unread o) (sym still) tt;
+      behind = λ left. ahead ∙ at_x.behind (still_leaves x.request.asked.is_raw (is_nothing x.rest) (is_nothing rest) stays left);
       noted = λ c. at_x.noted (sym (ap is_some closes) ∙ c);
     })
 
@@ -180,26 +190,28 @@ open_unsearched s r x there opened sound =
     nothing None is = refl
     nothing (Some x) is = absurd (cc is)
 
-pub pull_sound : (s : Settings) (r : Parts) (x y : Exchange) (after : Incoming) → r.exchange ≡ Some x → is_open (kept_of r) ≡ true
+pub pull_sound : (s : Settings) (r : Parts) (x y : Exchange) (after : Stock) → after.ahead ≡ r.input.ahead → (is_nothing x.rest ≡ true → is_nothing y.rest ≡ true)
+    → r.exchange ≡ Some x → is_open (kept_of r) ≡ true
     → (is_frames x.rest ≡ false) × (is_frames y.rest ≡ false) → after.piece ≡ None
     → y ≡ record x { rest = y.rest; was_pulled = true; body_is_done = y.body_is_done } → IsSound s r → IsSound s (pulled_parts r y after)
-pull_sound s r x y after there opened plain still is sound =
-    pulled_sound s r x y after y.rest y.body_is_done (exchange_open r x there opened plain.0) plain.0 plain.1 there
+pull_sound s r x y after ahead stays there opened plain still is sound =
+    pulled_sound s r x y after y.rest y.body_is_done ahead stays (exchange_open r x there opened plain.0) plain.0 plain.1 there
     (open_unsearched s r x there opened sound) still is sound
 
-pub pull_steps : (s : Settings) (r : Parts) (x y : Exchange) (p : Pulled) (answer : Answer) (after : Incoming) → r.exchange ≡ Some x → is_open (kept_of r) ≡ true
+pub pull_steps : (s : Settings) (r : Parts) (x y : Exchange) (p : Pulled) (answer : Answer) (after : Stock) → after.ahead ≡ r.input.ahead
+    → (is_nothing x.rest ≡ true → is_nothing y.rest ≡ true) → r.exchange ≡ Some x → is_open (kept_of r) ≡ true
     → (is_frames x.rest ≡ false) × (is_frames y.rest ≡ false) → after.piece ≡ None
     → y ≡ record x { rest = y.rest; was_pulled = true; body_is_done = y.body_is_done } → IsSound s r
     → IsPull r.has_ended x.rest r.input.unread p → IsPulledFrom x p answer y after
     → SaysPulled answer p.outcome × Steps s r on.pull p.outcome (pulled_parts r y after)
-pull_steps s r x y p answer after there opened plain still is sound pull from =
+pull_steps s r x y p answer after ahead stays there opened plain still is sound pull from =
     let none = open_unsearched s r x there opened sound in
-    let changes = pull_change (setting_of s) r x y p answer after plain.0 pull from none still in (
+    let changes = pull_change (setting_of s) r x y p answer after plain.0 pull from none still ahead in (
       from.outcome,
       quiet_step s r (pulled_parts r y after) on.pull p.outcome
           (subst (λ (e : Option Exchange). IsChange (setting_of s) (kept_of (record r { exchange = e })) on.pull
           (record { outcome = p.outcome; kept = kept_of (pulled_parts r y after) })) (sym there) changes)
-          (pull_sound s r x y after there opened plain still is sound),
+          (pull_sound s r x y after ahead stays there opened plain still is sound),
     )
 
 -- a pull of the parts is one of the exchange that is there

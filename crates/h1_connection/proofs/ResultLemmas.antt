@@ -14,6 +14,11 @@ pub ok_two : {A E : Type 0} (r : Result A E) (P Q R : A → Type 0) → ((a : A)
 ok_two (Ok a) P Q R f x y = f a x y
 ok_two (Err e) P Q R f x y = tt
 
+pub ok_more : {A E : Type 0} (r : Result A E) (P : A → Type 0) (Q : Type 0) (N R : A → Type 0) → ((a : A) → P a → Q → N a → R a) → IfOk r P → OnOk r Q → IfOk r N
+    → IfOk r R
+ok_more (Ok a) P Q N R f x y z = f a x y z
+ok_more (Err e) P Q N R f x y z = tt
+
 pub on_map : {A E : Type 0} (r : Result A E) (P Q : Type 0) → (P → Q) → OnOk r P → OnOk r Q
 on_map (Ok a) P Q f x = f x
 on_map (Err e) P Q f x = tt

@@ -1,21 +1,23 @@
 -- The machine's steps of a connection's parts.
 use Rattle.std.proofs.Common.{◌≡◌, ℕ, ◌<◌, Bool, true, false, List, [], Option, Some, None, refl, sym, ap, ◌∙◌, subst, lit<}
-use Rattle.std.specs.Prelude.{is_some, if◌then◌else◌}
+use Rattle.std.specs.Prelude.{is_some, if◌then◌else◌, not, ◌||◌}
 use Rattle.std.specs.Option.{option_or}
 use Rattle.http_config.specs.Config.{Settings}
 use Rattle.h1_model.specs.Limits.{MAX_MOMENT}
 use Rattle.h1_model.specs.Setting.{Setting}
 use Rattle.h1_model.specs.Event as on
-use Rattle.h1_machine.specs.Kept.{Kept, is_free, now}
+use Rattle.h1_machine.specs.Kept as machine
+use Rattle.h1_machine.specs.Kept.{Kept, Rest, no_rest, raw_rest, fixed_rest, chunks_rest, frames_rest, is_nothing, is_free, now}
 use Rattle.h1_machine.specs.Local.{closing_by}
-use Rattle.h1_machine.specs.Body.{passing}
+use Rattle.h1_machine.specs.Body.{pass_rest, passing}
 use Rattle.h1_machine.specs.Change.{IsChange, IsComing, noting_since}
 use Rattle.h1_decode.specs.declared.scan.HeadScan.{HeadScan}
 use Rattle.h1_decode.specs.declared.scan.HeadScan.TheVariants.{Open, Piece}
 use Rattle.http_segments.specs.Queued.{Queued}
-use Rattle.h1_connection.specs.Incoming.{Incoming, is_coming_in, IsFoundIn, IsFound}
+use Rattle.h1_connection.specs.Incoming.{is_coming_in, IsFoundIn}
+use Rattle.h1_connection.specs.Stock.{Stock, IsFoundOf}
 use Rattle.h1_connection.specs.Meaning.{setting_of}
-use Rattle.h1_connection.specs.Parts.{kept_of, passed_by, MayBeSearched, IsNoted, IsSound, IsSearchedFor, IsSettled, Steps}
+use Rattle.h1_connection.specs.Parts.{kept_of, passed_by, leaves_body, HasNoneBehind, MayBeSearched, IsNoted, IsSound, IsSearchedFor, IsSettled, Steps}
 use Rattle.h1_connection.specs.declared.connection.clock.Clock.{Clock}
 use Rattle.h1_connection.specs.declared.connection.exchange.Exchange.{Exchange}
 use Rattle.h1_connection.specs.declared.connection.exchange.Reply.{Reply}
@@ -52,7 +54,7 @@ coming_found bytes None found = refl
 coming_found bytes (Some Open) found = found
 coming_found bytes (Some (Piece start end)) found = (start, end, found)
 
-coming_free : (i : Incoming) (free : Bool) → is_some i.piece ≡ free → IsFound i → IsComing free i.unread (is_coming_in i.piece)
+coming_free : (i : Stock) (free : Bool) → is_some i.piece ≡ free → IsFoundOf i → IsComing free i.unread (is_coming_in i.piece)
 coming_free i free is found = subst (λ (b : Bool). IsComing b i.unread (is_coming_in i.piece)) is (coming_found i.unread i.piece found)
 
 -- ---- a step
@@ -96,37 +98,40 @@ settled_sound s k q moment settled =
       moment = subst (λ (k : Kept). now k < MAX_MOMENT) (sym settled.kept) moment;
       searched = settled.searched ∙ sym (ap (λ (k : Kept). is_free k) settled.kept);
       scanned = settled.scanned;
+      behind = subst (λ (k : Kept). HasNoneBehind k q.input.ahead) (sym settled.kept) settled.behind;
       noted = subst (λ (k : Kept). IsNoted (setting_of s) k) (sym settled.kept) (noting_notes (setting_of s) (record k { is_coming = coming }));
     }
 
 -- ---- bringing up to date
 
 -- a search, and then a note
-pub settled_of : (set : Setting) (p m q : Parts) → IsSearchedFor p m → kept_of q ≡ noting_since set (kept_of m) → q.input ≡ m.input → IsSettled set (kept_of p) q
-settled_of set p m q searched kept input =
+pub settled_of : (set : Setting) (p m q : Parts) → MayBeSearched p → IsSearchedFor p m → kept_of q ≡ noting_since set (kept_of m) → q.input ≡ m.input → IsSettled set (kept_of p) q
+settled_of set p m q may searched kept input =
     let coming = is_coming_in m.input.piece in
     let parts : kept_of m ≡ record (kept_of p) { is_coming = coming } =
     ap (λ (r : Parts). kept_of r) searched.parts ∙ (λ i. record (kept_of p) { unread = searched.unread i; is_coming = coming }) in
     record {
       kept = kept ∙ ap (λ (k : Kept). noting_since set k) parts
           ∙ (λ i. noting_since set (record (kept_of p) { is_coming = is_coming_in (sym input i).piece }));
-      searched = ap (λ (i : Incoming). is_some i.piece) input ∙ searched.searched;
-      scanned = subst (λ (i : Incoming). IsFound i) (sym input) searched.scanned;
+      searched = ap (λ (i : Stock). is_some i.piece) input ∙ searched.searched;
+      scanned = subst (λ (i : Stock). IsFoundOf i) (sym input) searched.scanned;
+      behind = λ left. ap (λ (i : Stock). i.ahead) input ∙ searched.ahead ∙ may.behind left;
     }
 
 -- a note alone, where it was searched already
 pub settled_noted : (set : Setting) (m q : Parts) → kept_of q ≡ noting_since set (kept_of m) → q.input ≡ m.input
-    → is_some m.input.piece ≡ is_free (kept_of m) → IsFound m.input → IsSettled set (kept_of m) q
-settled_noted set m q kept input searched scanned =
+    → is_some m.input.piece ≡ is_free (kept_of m) → IsFoundOf m.input → HasNoneBehind (kept_of m) m.input.ahead → IsSettled set (kept_of m) q
+settled_noted set m q kept input searched scanned behind =
     record {
       kept = kept ∙ (λ i. noting_since set (record (kept_of m) { is_coming = is_coming_in (sym input i).piece }));
-      searched = ap (λ (i : Incoming). is_some i.piece) input ∙ searched;
-      scanned = subst (λ (i : Incoming). IsFound i) (sym input) scanned;
+      searched = ap (λ (i : Stock). is_some i.piece) input ∙ searched;
+      scanned = subst (λ (i : Stock). IsFoundOf i) (sym input) scanned;
+      behind = λ left. ap (λ (i : Stock). i.ahead) input ∙ behind left;
     }
 
 -- where nothing is found it may be searched
-pub may_of : (m : Parts) → (is_some m.input.piece ≡ true → is_free (kept_of m) ≡ true) → MayBeSearched m
-may_of m free = λ busy. nothing m.input.piece free busy
+pub may_of : (m : Parts) → (is_some m.input.piece ≡ true → is_free (kept_of m) ≡ true) → HasNoneBehind (kept_of m) m.input.ahead → MayBeSearched m
+may_of m free behind = record { searched = λ busy. nothing m.input.piece free busy; behind = behind }
   where
     nothing : (piece : Option HeadScan) → (is_some piece ≡ true → is_free (kept_of m) ≡ true) → is_free (kept_of m) ≡ false → piece ≡ None
     nothing None free busy = refl
@@ -134,10 +139,22 @@ may_of m free = λ busy. nothing m.input.piece free busy
 
 -- so it is with sound parts, and with those that were searched
 pub sound_may : (s : Settings) (m : Parts) → IsSound s m → MayBeSearched m
-sound_may s m sound = may_of m (λ found. sym sound.searched ∙ found)
+sound_may s m sound = may_of m (λ found. sym sound.searched ∙ found) sound.behind
 
-pub searched_may : (p m : Parts) → IsSearchedFor p m → MayBeSearched m
-searched_may p m searched = may_of m (λ found. ap (λ (r : Parts). is_free (kept_of r)) searched.parts ∙ sym searched.searched ∙ found)
+pub searched_may : (p m : Parts) → MayBeSearched p → IsSearchedFor p m → MayBeSearched m
+searched_may p m may searched =
+    may_of m (λ found. ap (λ (r : Parts). is_free (kept_of r)) searched.parts ∙ sym searched.searched ∙ found)
+    (λ left. searched.ahead ∙ may.behind (sym (ap (λ (r : Parts). leaves_body (kept_of r)) searched.parts) ∙ left))
+
+-- no head is read ahead behind a body of which something is left
+left_leaves : (raw nothing : Bool) → nothing ≡ false → (raw || not nothing) ≡ true
+left_leaves true nothing is = refl
+left_leaves false true is = absurd (cc is)
+left_leaves false false is = refl
+
+pub rest_behind : (p : Parts) (x : Exchange) → p.exchange ≡ Some x → HasNoneBehind (kept_of p) p.input.ahead → is_nothing x.rest ≡ false → p.input.ahead ≡ 0
+rest_behind p x there behind left =
+    behind (subst (λ (e : Option Exchange). leaves_body (kept_of (record p { exchange = e })) ≡ true) (sym there) (left_leaves x.request.asked.is_raw (is_nothing x.rest) left))
 
 -- ---- passing
 
@@ -165,16 +182,44 @@ pub passed_none : (p : Parts) → kept_of (record p { exchange = None }) ≡ pas
 unfolding passing
 passed_none p = refl
 
+-- where something is left of a body behind it, something was
+rest_leaves : (raw ended : Bool) (rest : Rest) (bytes : List ℕ) → (raw || not (is_nothing (pass_rest ended rest bytes).rest)) ≡ true → (raw || not (is_nothing rest)) ≡ true
+rest_leaves true ended rest bytes left = refl
+rest_leaves false ended no_rest bytes left = left
+rest_leaves false ended raw_rest bytes left = refl
+rest_leaves false ended (fixed_rest n) bytes left = refl
+rest_leaves false ended (chunks_rest place section) bytes left = refl
+rest_leaves false ended (frames_rest under_way limit) bytes left = refl
+
+leaves_reply : (k : Kept) (x : machine.Exchange) (r : machine.Reply) → leaves_body (passing (record k { exchange = Some (record x { reply = r }) })) ≡ true
+    → leaves_body (record k { exchange = Some (record x { reply = r }) }) ≡ true
+unfolding passing
+leaves_reply k x machine.unanswered left = left
+leaves_reply k x (machine.sending shape kind missing) left = left
+leaves_reply k x (machine.answered kind) left = rest_leaves x.asked.is_raw k.has_ended x.rest k.unread left
+
+leaves_exchange : (k : Kept) (e : Option machine.Exchange) → leaves_body (passing (record k { exchange = e })) ≡ true → leaves_body (record k { exchange = e }) ≡ true
+unfolding passing
+leaves_exchange k None left = left
+leaves_exchange k (Some x) left = leaves_reply k x x.reply left
+
+pub passing_leaves : (k : Kept) → leaves_body (passing k) ≡ true → leaves_body k ≡ true
+passing_leaves k left = leaves_exchange k k.exchange left
+
 -- a search that may be done may be done behind it
-pub passed_may : (p m : Parts) → kept_of m ≡ passing (kept_of p) → m.input.piece ≡ p.input.piece → MayBeSearched p → MayBeSearched m
-passed_may p m same piece may = λ busy. piece ∙ may (still (is_free (kept_of p)) refl busy)
+pub passed_may : (p m : Parts) → kept_of m ≡ passing (kept_of p) → m.input.piece ≡ p.input.piece → m.input.ahead ≡ p.input.ahead → MayBeSearched p → MayBeSearched m
+passed_may p m same piece ahead may =
+    record {
+      searched = λ busy. piece ∙ may.searched (still (is_free (kept_of p)) refl busy);
+      behind = λ left. ahead ∙ may.behind (passing_leaves (kept_of p) (sym (ap leaves_body same) ∙ left));
+    }
   where
     still : (free : Bool) → is_free (kept_of p) ≡ free → is_free (kept_of m) ≡ false → is_free (kept_of p) ≡ false
     still false is busy = is
     still true is busy = absurd (cc (sym busy ∙ ap (λ (k : Kept). is_free k) same ∙ ap (λ (k : Kept). is_free k) (passing_free (kept_of p) is) ∙ is))
 
 -- the body of an exchange that is there
-pub pass_some : (p : Parts) (x y : Exchange) (after : Incoming) → p.exchange ≡ Some x
+pub pass_some : (p : Parts) (x y : Exchange) (after : Stock) → p.exchange ≡ Some x
     → y ≡ record x { rest = (passed_by p.has_ended x p.input.unread).rest }
     → after ≡ record p.input { unread = (passed_by p.has_ended x p.input.unread).unread }
     → kept_of (record p { exchange = Some y; input = after }) ≡ passing (kept_of p)
@@ -191,7 +236,7 @@ pass_none p none =
 
 fresh_sound : (s : Settings) (queue : Queued) → IsFoundIn [] (Some Open)
     → IsSound s (record {
-      input = record { unread = []; piece = Some Open };
+      input = record { unread = []; piece = Some Open; ahead = 0 };
       has_ended = false;
       is_draining = false;
       is_over = false;
@@ -203,9 +248,9 @@ fresh_sound : (s : Settings) (queue : Queued) → IsFoundIn [] (Some Open)
       closing_since = None;
     })
 unfolding closing_by
-fresh_sound s queue none = record { moment = lit< tt; searched = refl; scanned = none; noted = λ is. absurd (cc is) }
+fresh_sound s queue none = record { moment = lit< tt; searched = refl; scanned = none; behind = λ left. refl; noted = λ is. absurd (cc is) }
 
-pub new_sound : (s : Settings) (i : Incoming) (queue : Queued) (k : Clock) → i ≡ record { unread = []; piece = Some Open } → IsFound i
+pub new_sound : (s : Settings) (i : Stock) (queue : Queued) (k : Clock) → i ≡ record { unread = []; piece = Some Open; ahead = 0 } → IsFoundOf i
     → k ≡ record { first = None; last = None; completed = None }
     → IsSound s (record {
       input = i;
@@ -220,7 +265,7 @@ pub new_sound : (s : Settings) (i : Incoming) (queue : Queued) (k : Clock) → i
       closing_since = None;
     })
 new_sound s i queue k input found clock =
-    let made : Incoming → Clock → Parts = λ j t. record {
+    let made : Stock → Clock → Parts = λ j t. record {
       input = j;
       has_ended = false;
       is_draining = false;
@@ -233,5 +278,5 @@ new_sound s i queue k input found clock =
       closing_since = None;
     } in
     subst (λ (t : Clock). IsSound s (made i t)) (sym clock)
-    (subst (λ (j : Incoming). IsSound s (made j (record { first = None; last = None; completed = None }))) (sym input)
-    (fresh_sound s queue (subst (λ (j : Incoming). IsFound j) input found)))
+    (subst (λ (j : Stock). IsSound s (made j (record { first = None; last = None; completed = None }))) (sym input)
+    (fresh_sound s queue (subst (λ (j : Stock). IsFoundOf j) input found)))

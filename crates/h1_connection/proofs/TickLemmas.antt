@@ -15,9 +15,9 @@ use Rattle.h1_machine.specs.Kept.{Change, is_free}
 use Rattle.h1_machine.specs.Local.{closing_by}
 use Rattle.h1_machine.specs.Clock.{expiring, at_moment}
 use Rattle.h1_machine.specs.Change.{noting_since}
-use Rattle.h1_connection.specs.Incoming.{Incoming, IsFound}
+use Rattle.h1_connection.specs.Stock.{Stock, IsFoundOf}
 use Rattle.h1_connection.specs.Meaning.{setting_of, end_of}
-use Rattle.h1_connection.specs.Parts.{kept_of, MayBeSearched, IsSound, Steps}
+use Rattle.h1_connection.specs.Parts.{kept_of, leaves_body, HasNoneBehind, MayBeSearched, IsSound, Steps}
 use Rattle.h1_connection.specs.Ticks.{expiry_of}
 use Rattle.h1_connection.specs.declared.connection.clock.Clock.{Clock}
 use Rattle.h1_connection.specs.declared.connection.exchange.Exchange.{Exchange}
@@ -53,31 +53,40 @@ at_tick ms p = record p { clock = record p.clock { first = option_or p.clock.fir
 tick_free : (m p : Parts) (ms : ℕ) → m.exchange ≡ p.exchange → is_free (kept_of (at_tick ms m)) ≡ is_free (kept_of p)
 tick_free m p ms same = ap (λ (e : Option Exchange). is_free (kept_of (record p { exchange = e }))) same
 
+-- none is read ahead behind a body then either
+tick_behind : (s : Settings) (p m : Parts) → IsSound s p → m.exchange ≡ p.exchange → m.input ≡ p.input → HasNoneBehind (kept_of m) m.input.ahead
+tick_behind s p m sound exchange input = λ left.
+    ap (λ (i : Stock). i.ahead) input ∙ sound.behind (sym (ap (λ (e : Option Exchange). leaves_body (kept_of (record p { exchange = e }))) exchange) ∙ left)
+
 -- no head is searched for then where none was
 pub tick_may : (s : Settings) (p m : Parts) → IsSound s p → m.exchange ≡ p.exchange → m.input ≡ p.input → MayBeSearched m
-tick_may s p m sound exchange input = λ busy.
-    ap (λ (i : Incoming). i.piece) input
-    ∙ sound_may s p sound (sym (ap (λ (e : Option Exchange). is_free (kept_of (record p { exchange = e }))) exchange) ∙ busy)
+tick_may s p m sound exchange input =
+    record {
+      searched = λ busy. ap (λ (i : Stock). i.piece) input
+          ∙ (sound_may s p sound).searched (sym (ap (λ (e : Option Exchange). is_free (kept_of (record p { exchange = e }))) exchange) ∙ busy);
+      behind = tick_behind s p m sound exchange input;
+    }
 
 pub tick_steps : (s : Settings) (p m q : Parts) (ms : ℕ) (expiry : Expiry) → IsSound s p
     → record { outcome = expiry_of expiry; kept = kept_of m } ≡ expiring (setting_of s) (kept_of p) (closing_by (setting_of s) (kept_of p)) (unwrap_or p.clock.first ms) ms
     → m.exchange ≡ p.exchange → m.input ≡ p.input
     → kept_of q ≡ noting_since (setting_of s) (kept_of (at_tick ms m)) → q.input ≡ m.input → Steps s p (on.tick ms) (expiry_of expiry) q
 tick_steps s p m q ms expiry sound expires exchange input noted still =
-    let searched = ap (λ (i : Incoming). is_some i.piece) input ∙ sound.searched ∙ sym (tick_free m p ms exchange) in
-    let found = subst (λ (i : Incoming). IsFound i) (sym input) sound.scanned in
+    let searched = ap (λ (i : Stock). is_some i.piece) input ∙ sound.searched ∙ sym (tick_free m p ms exchange) in
+    let found = subst (λ (i : Stock). IsFoundOf i) (sym input) sound.scanned in
     let c : Change = record { outcome = expiry_of expiry; kept = kept_of m } in
     settled_step s p q (on.tick ms) (expiry_of expiry) (kept_of (at_tick ms m)) (kept_of (at_tick ms m)) (kept_of m).is_coming
     (ap (λ (d : Change). at_moment ms d) expires) refl
-    (settled_noted (setting_of s) (at_tick ms m) q noted still searched found)
+    (settled_noted (setting_of s) (at_tick ms m) q noted still searched found (tick_behind s p m sound exchange input))
 
 pub tick_sound : (s : Settings) (p m q : Parts) (ms : ℕ) → ms < MAX_MOMENT → IsSound s p → m.exchange ≡ p.exchange → m.input ≡ p.input
     → kept_of q ≡ noting_since (setting_of s) (kept_of (at_tick ms m)) → q.input ≡ m.input → IsSound s q
 tick_sound s p m q ms before sound exchange input noted still =
     settled_sound s (kept_of (at_tick ms m)) q before
     (settled_noted (setting_of s) (at_tick ms m) q noted still
-    (ap (λ (i : Incoming). is_some i.piece) input ∙ sound.searched ∙ sym (tick_free m p ms exchange))
-    (subst (λ (i : Incoming). IsFound i) (sym input) sound.scanned))
+    (ap (λ (i : Stock). is_some i.piece) input ∙ sound.searched ∙ sym (tick_free m p ms exchange))
+    (subst (λ (i : Stock). IsFoundOf i) (sym input) sound.scanned)
+    (tick_behind s p m sound exchange input))
 
 -- the same of parts that are these
 pub tick_steps_by : (s : Settings) (p m q : Parts) (first ms : ℕ) (clock : Clock) (expiry : Expiry) → IsSound s p → first ≡ unwrap_or p.clock.first ms

@@ -10,7 +10,7 @@ use Rattle.h1_machine.specs.Pull as pulls
 use Rattle.h1_machine.specs.Pull.{IsPull}
 use Rattle.h1_payload.specs.Rests.{IsLight}
 use Rattle.ws_frames.specs.Codec.{frame_says, IsNamed}
-use Rattle.h1_connection.specs.Incoming.{Incoming}
+use Rattle.h1_connection.specs.Stock.{Stock}
 use Rattle.h1_connection.specs.Meaning.{failing_of, SaysRule}
 use Rattle.h1_connection.specs.declared.connection.exchange.Exchange.{Exchange}
 use Rattle.h1_connection.specs.declared.connection.frames.Accepted.{Accepted}
@@ -66,17 +66,17 @@ frame_end (pulled.Protocol error) = Some ends.protocol
 frame_end pulled.Pending = None
 
 -- the answer, and what is then left, are those of a pull
-pub record IsFramePulled (was : machine.Rest) (bytes : List ℕ) (answer : PulledFrame) (rest : machine.Rest) (after : Incoming) : Type 0 where
+pub record IsFramePulled (was : machine.Rest) (bytes : List ℕ) (answer : PulledFrame) (rest : machine.Rest) (after : Stock) : Type 0 where
   pub of : pulls.Pulled
   pub is_pull : (ended : Bool) → IsPull ended was bytes of
   pub says : SaysFrame answer of.outcome
   pub rest_is : rest ≡ of.rest
-  pub after_is : after ≡ record { unread = of.unread; piece = None }
+  pub after_is : after ≡ record { unread = of.unread; piece = None; ahead = 0 }
   pub not_done : of.is_done ≡ false
   pub failed : of.failed ≡ frame_end answer
 
 -- what the next frame of this exchange gives leads to that one, and leaves those bytes
-pub record IsFrameFrom (x : Exchange) (bytes : List ℕ) (answer : PulledFrame) (y : Exchange) (after : Incoming) : Type 0 where
+pub record IsFrameFrom (x : Exchange) (bytes : List ℕ) (answer : PulledFrame) (y : Exchange) (after : Stock) : Type 0 where
   pub pulled : IsFramePulled x.rest bytes answer y.rest after
   pub exchange : y ≡ record x { rest = y.rest; was_pulled = true }
   pub frames : is_frames y.rest ≡ true

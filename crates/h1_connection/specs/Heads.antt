@@ -1,17 +1,22 @@
 -- What comes where the next head is asked for.
-use Rattle.std.specs.Prelude.{◌≡◌, ℕ, ◌≤◌, ◌==◌, ◌⊎◌, Bool, true, false, if◌then◌else◌, length, drop, Some, IsSome, option_map, ⊤}
+use Rattle.std.specs.Prelude.{◌≡◌, ℕ, ◌≤◌, ◌==◌, ◌⊎◌, Bool, true, false, not, ◌||◌, is_some, if◌then◌else◌, List, length, drop, Some, IsSome, option_map, ⊤}
 use Rattle.http_config.specs.Config.{Settings}
-use Rattle.h1_model.specs.Request.{Head, has_body, faulty}
+use Rattle.http_framing.specs.Kinds.{kind_of}
+use Rattle.h1_model.specs.Request.{Head, head_is, has_body, faulty}
+use Rattle.h1_model.specs.RequestHead.{IsReading}
 use Rattle.h1_model.specs.Setting.{Setting}
 use Rattle.h1_model.specs.Answer.{asked_of}
 use Rattle.h1_model.specs.Event as on
-use Rattle.h1_machine.specs.Kept.{Kept, new_exchange, rest_in, whole_rest, refusal_of, key_answer_of}
+use Rattle.h1_machine.specs.Kept.{Kept, is_open, new_exchange, rest_in, whole_rest, refusal_of, key_answer_of}
 use Rattle.h1_machine.specs.Local.{closing_by}
 use Rattle.h1_machine.specs.Change.{behind_head}
 use Rattle.h1_decode.specs.HeadItem.{SaysHead, without_headers}
 use Rattle.h1_decode.specs.declared.decoder.HeadItem.{HeadItem}
 use Rattle.h1_connection.specs.Meaning.{end_of, fault_of, failing_of}
 use Rattle.h1_connection.specs.Parts.{key_bytes, Steps}
+use Rattle.h1_connection.specs.Stock.{CountsOn}
+use Rattle.h1_connection.specs.declared.connection.exchange.Exchange.{Exchange}
+use Rattle.h1_connection.specs.declared.connection.exchange.Reply.TheVariants.{Unanswered}
 use Rattle.h1_connection.specs.declared.connection.heads.NextHead.{NextHead}
 use Rattle.h1_connection.specs.declared.connection.heads.NextHead.TheVariants as next
 use Rattle.h1_connection.specs.declared.connection.heads.NextKind.{NextKind}
@@ -27,6 +32,12 @@ pub record IsAsked (h : Head) (request : Request) : Type 0 where
   pub expects : request.expects ≡ h.expects
   pub refusal : option_map failing_of request.refusal ≡ refusal_of h
   pub accept_key : key_bytes (asked_of h).is_raw request.accept_key ≡ key_answer_of h
+
+-- a request that was just opened by its head
+pub record IsFresh (item : HeadItem) (ended : Bool) (unread : List ℕ) (x : Exchange) : Type 0 where
+  pub rest : x.rest ≡ rest_in ended unread (whole_rest (kind_of item.body))
+  pub asked : (piece : List ℕ) (h : Head) → IsReading piece (head_is h) → SaysHead item h → IsAsked h x.request
+  pub plain : x ≡ record { request = x.request; rest = x.rest; reply = Unanswered; was_pulled = false; was_dropped = false; had_continue = false; body_is_done = false }
 
 -- what is kept after its head
 abbrev pub after_head : Kept → ℕ → Head → Kept
@@ -51,6 +62,18 @@ IsNexted settings p (next.Head item) q = (h : Head) × SaysHead item h × Steps 
 IsNexted settings p (next.Fault fault) q = Steps settings p on.next (on.fault (fault_of fault)) q
 IsNexted settings p next.Pending q = Steps settings p on.next on.pending q
 IsNexted settings p (next.Closed end) q = Steps settings p on.next (on.closed (end_of end)) q
+
+-- the next head may be asked for: the connection closes, or no request is open
+abbrev pub MayAsk : Setting → Kept → Type 0
+MayAsk setting k = (is_some (closing_by setting k) || not (is_open k)) ≡ true
+
+-- What becomes of the number of heads that were read ahead: behind a head there is one fewer, or where there was none, as
+-- many as may be; behind a fault, which is the last of them, there is none; and else it stays.
+abbrev pub NumberGoes : Settings → Parts → NextHead → Parts → Type 0
+NumberGoes settings p (next.Head item) q = CountsOn p.input item q.input
+NumberGoes settings p (next.Fault fault) q = (p.input.ahead ≤ 1) × (q.input.ahead ≡ 0)
+NumberGoes settings p next.Pending q = q.input.ahead ≡ p.input.ahead
+NumberGoes settings p (next.Closed end) q = q.input.ahead ≡ p.input.ahead
 
 -- what comes where no whole head is there is the machine's
 abbrev pub IsWaited : Settings → Parts → NextKind → Parts → Type 0

@@ -1,6 +1,8 @@
 pub mod Meaning
 pub mod Scan
 pub mod Incoming
+pub mod Ahead
+pub mod Stock
 pub mod Readings
 pub mod Sent
 pub mod Parts

@@ -1,5 +1,5 @@
 -- What a connection's fields mean: what the machine keeps.
-use Rattle.std.specs.Prelude.{◌≡◌, ℕ, ◌<◌, Bool, true, false, ◌&&◌, List, [], ◌∷◌, length, replicate, Option, Some, None, option_map, is_some, if◌then◌else◌}
+use Rattle.std.specs.Prelude.{◌≡◌, ℕ, ◌<◌, Bool, true, false, not, ◌&&◌, ◌||◌, List, [], ◌∷◌, length, replicate, Option, Some, None, option_map, is_some, if◌then◌else◌}
 use Rattle.http_types.specs.declared.message.ConnectionType.{ConnectionType}
 use Rattle.http_config.specs.Config.{Settings}
 use Rattle.h1_model.specs.Limits.{MAX_MOMENT}
@@ -8,11 +8,12 @@ use Rattle.h1_model.specs.Event as on
 use Rattle.h1_model.specs.Answer.{Asked}
 use Rattle.h1_codec.specs.Meaning.{model_type, model_shape}
 use Rattle.h1_machine.specs.Kept as machine
-use Rattle.h1_machine.specs.Kept.{Kept, is_free, is_nothing, is_answered, now, rest_in, unanswered, sending, answered}
+use Rattle.h1_machine.specs.Kept.{Kept, is_free, is_nothing, is_answered, of_exchange, now, rest_in, unanswered, sending, answered}
 use Rattle.h1_machine.specs.Local.{closing_by}
 use Rattle.h1_machine.specs.Body.{Passed, pass_rest}
 use Rattle.h1_machine.specs.Change.{noting_since, IsStep}
-use Rattle.h1_connection.specs.Incoming.{is_coming_in, IsFound}
+use Rattle.h1_connection.specs.Incoming.{is_coming_in}
+use Rattle.h1_connection.specs.Stock.{IsFoundOf}
 use Rattle.h1_connection.specs.Meaning.{setting_of, end_of, failing_of}
 use Rattle.h1_connection.specs.declared.connection.clock.Clock.{Clock}
 use Rattle.h1_connection.specs.declared.connection.exchange.Exchange.{Exchange}
@@ -126,20 +127,31 @@ completed connection p = record p { exchange = replied (Answered connection) p.e
 
 -- ---- what holds of them
 
--- a body isn't searched for a head
-abbrev pub MayBeSearched : Parts → Type 0
-MayBeSearched p = is_free (kept_of p) ≡ false → p.input.piece ≡ None
+-- something is left of the last request's body, or it may be upgraded
+abbrev pub leaves_body : Kept → Bool
+leaves_body k = of_exchange (λ x. x.asked.is_raw || not (is_nothing x.rest)) k
+
+-- no head is read ahead behind it
+abbrev pub HasNoneBehind : Kept → ℕ → Type 0
+HasNoneBehind k ahead = leaves_body k ≡ true → ahead ≡ 0
+
+-- a body isn't searched for a head, and none is read ahead behind it
+pub record MayBeSearched (p : Parts) : Type 0 where
+  pub searched : is_free (kept_of p) ≡ false → p.input.piece ≡ None
+  pub behind : HasNoneBehind (kept_of p) p.input.ahead
 
 -- since when it closes is noted, where it closes
 abbrev pub IsNoted : Setting → Kept → Type 0
 IsNoted setting k = is_some (closing_by setting k) ≡ true → is_some k.closing_since ≡ true
 
 -- What holds of every connection between two events: the last tick is before the year 10000; a head is searched for, or
--- will be when it is asked for, where the last request is done with, and what is found is there; and since when it closes is noted.
+-- will be when it is asked for, where the last request is done with, and what is found is there; no head was read ahead
+-- behind a body of which something is left; and since when it closes is noted.
 pub record IsSound (settings : Settings) (p : Parts) : Type 0 where
   pub moment : now (kept_of p) < MAX_MOMENT
   pub searched : is_some p.input.piece ≡ is_free (kept_of p)
-  pub scanned : IsFound p.input
+  pub scanned : IsFoundOf p.input
+  pub behind : HasNoneBehind (kept_of p) p.input.ahead
   pub noted : IsNoted (setting_of settings) (kept_of p)
 
 -- ---- what is brought up to date behind an event
@@ -148,15 +160,17 @@ pub record IsSound (settings : Settings) (p : Parts) : Type 0 where
 pub record IsSearchedFor (p q : Parts) : Type 0 where
   pub parts : q ≡ record p { input = q.input }
   pub unread : q.input.unread ≡ p.input.unread
+  pub ahead : q.input.ahead ≡ p.input.ahead
   pub searched : is_some q.input.piece ≡ is_free (kept_of p)
-  pub scanned : IsFound q.input
+  pub scanned : IsFoundOf q.input
 
 -- Of what the machine keeps behind an event, it was searched for a head where one may come, and since when the
 -- connection closes is noted.
 pub record IsSettled (setting : Setting) (k : Kept) (q : Parts) : Type 0 where
   pub kept : kept_of q ≡ noting_since setting (record k { is_coming = is_coming_in q.input.piece })
   pub searched : is_some q.input.piece ≡ is_free k
-  pub scanned : IsFound q.input
+  pub scanned : IsFoundOf q.input
+  pub behind : HasNoneBehind k q.input.ahead
 
 -- ---- a step
 

@@ -7,7 +7,7 @@ use Rattle.h1_machine.specs.Pull.{IsPull}
 use Rattle.h1_payload.specs.Rests.{SaysPulled, IsLight}
 use Rattle.h1_payload.specs.declared.pulled.Pulled.{Pulled}
 use Rattle.h1_payload.specs.declared.pulled.Pulled.TheVariants.{End, Broken}
-use Rattle.h1_connection.specs.Incoming.{Incoming}
+use Rattle.h1_connection.specs.Stock.{Stock}
 use Rattle.h1_connection.specs.declared.connection.exchange.Exchange.{Exchange}
 
 -- the end or the fault of the body is told
@@ -17,7 +17,7 @@ tells_done (Broken fault) = true
 tells_done pulled = false
 
 -- what a pull of this body gives leads from this exchange to that one, and leaves those bytes
-pub record IsPulledFrom (x : Exchange) (p : pulls.Pulled) (answer : Pulled) (y : Exchange) (after : Incoming) : Type 0 where
+pub record IsPulledFrom (x : Exchange) (p : pulls.Pulled) (answer : Pulled) (y : Exchange) (after : Stock) : Type 0 where
   pub outcome : SaysPulled answer p.outcome
   pub exchange : y ≡ record x { rest = p.rest; was_pulled = true; body_is_done = x.body_is_done || tells_done answer }
   pub unread : after.unread ≡ p.unread

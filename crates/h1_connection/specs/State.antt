@@ -9,6 +9,7 @@ use Rattle.h1_machine.specs.Kept.{Kept, fresh}
 use Rattle.h1_machine.specs.Local.{allowed_by}
 use Rattle.h1_machine.specs.StandsFor.{StandsFor}
 use Rattle.h1_segment_model.specs.Marks.{buffered_runs}
+use Rattle.h1_ahead_model.specs.Ahead.{IsAhead}
 use Rattle.h1_connection.specs.Meaning.{setting_of}
 use Rattle.h1_connection.specs.Heads.{NeedsNoMemory}
 use Rattle.h1_connection.specs.Given.{next_allowed, frame_allowed}
@@ -21,10 +22,11 @@ pub record State : Type 0 where
   pub settings : Settings
   pub kept : Kept
   pub marks : List Run
+  pub ahead : ℕ
 
 -- a connection to which nothing came
 abbrev pub fresh_state : Settings → State
-fresh_state settings = record { settings = settings; kept = fresh; marks = [] }
+fresh_state settings = record { settings = settings; kept = fresh; marks = []; ahead = 0 }
 
 -- the event is allowed
 abbrev pub IsAllowed : State → on.Event → Type 0
@@ -50,14 +52,19 @@ Stands state trace = StandsFor (setting_of state.settings) state.kept trace
 abbrev pub IsMarked : State → List sums.Step → Type 0
 IsMarked state trace = state.marks ≡ buffered_runs (setting_of state.settings) trace
 
+-- as many heads were read ahead as there are to be behind the trace
+abbrev pub IsCounted : State → List sums.Step → Type 0
+IsCounted state trace = IsAhead (setting_of state.settings) trace state.ahead
+
 -- Behind each trace that the connection stands for, the table's outcome is such a one, and the connection stands for
--- the longer trace, also with the places of the body bytes among those that wait.
+-- the longer trace, also with the places of the body bytes among those that wait, and with the heads that were read ahead.
 abbrev pub GoesOn : State → on.Event → (on.Outcome → Type 0) → State → Type 0
 GoesOn state event Says after =
     (trace : List sums.Step) → Stands state trace
     → (out : on.Outcome) × Says out × IsOutcome (setting_of state.settings) trace event out
     × Stands after (record { event = event; outcome = out } ∷ trace)
     × (IsMarked state trace → IsMarked after (record { event = event; outcome = out } ∷ trace))
+    × (IsCounted state trace → IsCounted after (record { event = event; outcome = out } ∷ trace))
 
 -- The event takes no memory: the input's end, a drop, a drain, an answer's body that fails; a next one that closes, or
 -- finds no head and room for more bytes; a pull that tells the end or a fault, or gives nothing; a piece or an end of

@@ -12,6 +12,7 @@ ghost use Rattle.h1_model.specs.Text.{buffered};
 ghost use Rattle.h1_model.specs.Trace as traces;
 ghost use Rattle.h1_model.specs.Event as on;
 ghost use Rattle.h1_machine.specs.Local.{closing_by, allowed_by};
+ghost use Rattle.h1_ahead_model.specs.Ahead.{IsAhead};
 ghost use Rattle.h1_segment_model.specs.Runs.{first_segment, IsFirstSegment};
 ghost use Rattle.h1_segment_model.specs.Marks.{front_of};
 ghost use Rattle.h1_payload.specs.Rests.{SaysPulled};
@@ -23,12 +24,11 @@ ghost use Rattle.h1_connection.specs.Pulls.{IsLightPull};
 ghost use Rattle.h1_connection.specs.Unsent.{SendsNoPiece, SendsNoEnd};
 ghost use Rattle.h1_connection.specs.Ticks.{expiry_of, IsQuietTick};
 ghost use Rattle.h1_connection.specs.Given.{is_head, is_head_kind};
-ghost use Rattle.h1_connection.specs.State.{fresh_state, IsAllowed, IsNextAllowed, IsFrameAllowed, HasWriteRoom, Stands, IsMarked, GoesOn, ReadsIn, Is};
+ghost use Rattle.h1_connection.specs.State.{fresh_state, IsAllowed, IsNextAllowed, IsFrameAllowed, HasWriteRoom, Stands, IsCounted, IsMarked, GoesOn, ReadsIn, Is};
 
 use crate::connection::clock::Clock;
 pub use crate::connection::frames::{Accepted, PulledFrame, Sent};
 pub use crate::connection::heads::{NextHead, NextKind};
-use crate::connection::input::Input;
 use crate::connection::output::Output;
 use crate::connection::parts::Parts;
 pub use crate::connection::ticks::Expiry;
@@ -42,6 +42,7 @@ use std::alloc::Global;
 use std::marker::Model;
 use ws_frames::Message;
 
+mod ahead;
 mod allowed;
 mod answers;
 mod bodies;
@@ -53,6 +54,7 @@ mod filling;
 mod frames;
 mod heads;
 mod input;
+mod intake;
 mod messages;
 mod output;
 mod parts;
@@ -71,7 +73,8 @@ pub const READ_SIZE: usize = 8192;
 /// Each event has a call of its own, which may be made where `allowed` says so. What it answers is what the tables
 /// over all that happened say. After an error all is as before: memory ran out, or a source failed or found no room.
 ///
-/// A clause sees it as its settings, what the machine keeps, and the places of body bytes among those that wait.
+/// A clause sees it as its settings, what the machine keeps, the places of body bytes among those that wait, and how many
+/// heads were read ahead.
 #[derive(Drop)]
 pub struct Connection {
     alloc: Global,
@@ -85,7 +88,7 @@ impl Model for Connection {
 
     ghost Value = { State };
 
-    ghost view = { λ c. record { settings = c.config; kept = kept_of c.parts; marks = c.parts.output.marks } };
+    ghost view = { λ c. record { settings = c.config; kept = kept_of c.parts; marks = c.parts.output.marks; ahead = c.parts.input.ahead } };
 
     ghost invariant = { λ c. IsSound c.config c.parts };
 }
@@ -136,6 +139,16 @@ impl Connection {
         ensures limit { (trace : List sums.Step) → Stands self.now trace → result ≤ self.now.settings.h1_hold_size }
     {
         self.parts.input.len()
+    }
+
+    /// How many heads were read ahead of the one that was handed out last: at most 16. They are handed out by the next
+    /// calls, and count among the bytes that are held.
+    pub fn ahead(&self) -> usize
+        ensures value { result ≡ self.now.ahead }
+        ensures most { result ≤ 16 }
+        ensures traced { (trace : List sums.Step) → IsCounted self.now trace → IsAhead (setting_of self.now.settings) trace result }
+    {
+        self.parts.input.ahead()
     }
 
     /// Takes bytes that were read from the peer, from the first on, and says how many there was room for.

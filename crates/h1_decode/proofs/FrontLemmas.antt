@@ -1,22 +1,20 @@
 -- A head with which a buffer begins, without a search for its end.
-use Rattle.std.proofs.Common.{◌≡◌, ℕ, ◌+◌, ◌<◌, ◌≤◌, Bool, List, [], ◌∷◌, ◌++◌, length, take, drop, map, filter, flat_map, get_or, slice_range, cond, true, false, All, refl, sym, ap, ◌∙◌, subst, arith, append-nil, append_assoc, length-append, length-drop}
-use Rattle.std.specs.Prelude.{IsTrue}
+use Rattle.std.proofs.Common.{◌≡◌, ℕ, ◌+◌, ◌<◌, ◌≤◌, List, [], ◌∷◌, ◌++◌, length, take, drop, map, flat_map, slice_range, All, refl, sym, ap, ◌∙◌, subst, arith, append-nil, append_assoc, length-append, length-drop}
 use Rattle.std.proofs.Math.Seq.{take-append_seam}
-use Rattle.std.proofs.lemmas.Bool.{eq-eqb, false≢true}
 use Rattle.std.proofs.lemmas.List.{take-append-drop, drop_all, length-take-le, length-map}
 use Rattle.std.proofs.lemmas.List.Elements.{All-head, All-tail}
 use Rattle.std.proofs.lemmas.Slice.{between_is}
 use Rattle.bytes.proofs.Ranges.{slice_range_front}
-use Rattle.httparse.specs.Ascii.{line_feed, carriage_return, space, colon}
-use Rattle.httparse.specs.Grammar.{is_token_byte, is_uri_byte, is_value_byte, IsToken, LineEnd, crlf, lf, print_end, print_blank, print_version, Field, IsField, print_field, RequestHead, IsRequestHead, print_request, ReadsRequest}
+use Rattle.httparse.specs.Ascii.{line_feed, space}
+use Rattle.httparse.specs.Grammar.{is_uri_byte, LineEnd, print_end, print_blank, print_version, print_field, RequestHead, IsRequestHead, print_request, ReadsRequest}
 use Rattle.httparse.specs.Spans.{span_bytes, header_bytes, name_and_value, IsHeaderWithin, IsRequestWithin, IsRequestAt, IsRequestOf}
 use Rattle.httparse.specs.declared.spans.HeaderSpan.{HeaderSpan}
 use Rattle.httparse.specs.declared.spans.RequestSpans.{RequestSpans}
 use Rattle.httparse.proofs.GrammarLemmas.{print_request-append}
 use Rattle.h1_model.specs.HeadPiece.{BeginsBlank, EndsBlank, IsHeadPiece}
 use Rattle.h1_decode.specs.WholeHead.{BeginsWithHead, IsWholeHeadAt}
-use Rattle.h1_model.proofs.LineFeeds.{is_feed, feeds, feeds-append, feeds-none, feeds-token, feeds-version, no_blank, header_lines-fields}
-use Rattle.h1_model.proofs.HeadEnds.{EndsLate, late_text, late_section, ends_section, token_begins}
+use Rattle.h1_model.proofs.LineFeeds.{feeds, feeds-append, feeds-none, feeds-token, feeds-version, no_blank, header_lines-fields}
+use Rattle.h1_model.proofs.HeadEnds.{EndsLate, late_text, late_section, ends_section}
 
 -- ---- the head with which a buffer begins
 

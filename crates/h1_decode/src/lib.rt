@@ -30,7 +30,8 @@ mod scan;
 mod value;
 
 pub use decoder::{
-    HeadItem, HeadRoom, cut_head_into, read_head_into, request_head, request_head_in,
+    FrontHead, HeadItem, HeadRoom, cut_head_into, read_head_into, read_lone_head_into,
+    request_head, request_head_in,
 };
 pub use http_framing::BodyKind;
 pub use response::{ResponseItem, response_head};

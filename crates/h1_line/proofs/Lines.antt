@@ -154,7 +154,7 @@ pub fails_after : (old new : State) (was now : Option (List Pair)) (event : on.E
     → LineFails (record { state = old; noted = was }) event (record { state = new; noted = now })
 fails_after old new was now event Says goes grows = record {
   noted = grows;
-  connection = inr (λ trace stands. let g = goes trace stands in (g.0, tt, g.2, g.3, g.4));
+  connection = inr (λ trace stands. let g = goes trace stands in (g.0, tt, g.2, g.3, g.4, g.5));
 }
 
 pub fails_unnoted : (old new : State) (was : Option (List Pair)) (event : on.Event) (Says : on.Outcome → Type 0) → GoesOn old event Says new

@@ -13,7 +13,7 @@ ghost use Rattle.h1_machine.specs.Reply.{stated, short_end};
 ghost use Rattle.h1_segment_model.specs.After.{marks_after};
 ghost use Rattle.h1_connection.specs.Meaning.{setting_of, end_of, keep_alive_of};
 ghost use Rattle.h1_connection.specs.Unsent.{SendsNoPiece, SendsNoEnd};
-ghost use Rattle.h1_connection.specs.Parts.{kept_of, asked_in, sending_in, replied, completed, IsSettled, IsSound, Steps};
+ghost use Rattle.h1_connection.specs.Parts.{kept_of, HasNoneBehind, asked_in, sending_in, replied, completed, IsSettled, IsSound, Steps};
 
 use crate::End;
 use crate::connection::exchange::{Reply, Sending};
@@ -35,6 +35,7 @@ impl Parts {
         requires waits { waits_for_answer (kept_of self.old) ≡ true }
         ensures ok { OnOk result (Steps config.now self.old (on.answer (answer_of head.now) (size_of size)) on.done self.new) }
         ensures marks { OnOk result (self.new.output.marks ≡ self.old.output.marks) }
+        ensures ahead { self.new.input.ahead ≡ self.old.input.ahead }
         ensures sound { OnOk result (IsSound config.now self.new) }
         ensures err { OnErr result (self.new ≡ self.old) }
     {
@@ -68,6 +69,7 @@ impl Parts {
         requires { IsSound config.now self.old }
         ensures ok { OnOk result (Steps config.now self.old (on.chunk bytes.now) on.done self.new) }
         ensures marks { OnOk result (self.new.output.marks ≡ marks_after (kept_of self.old) (on.chunk bytes.now) on.done self.old.output.marks) }
+        ensures ahead { self.new.input.ahead ≡ self.old.input.ahead }
         ensures sound { OnOk result (IsSound config.now self.new) }
         ensures no_memory_needed { SendsNoPiece (kept_of self.old) bytes.now → IsOk result }
         ensures err { OnErr result (self.new ≡ self.old) }
@@ -93,6 +95,7 @@ impl Parts {
         requires { IsSound config.now self.old }
         ensures ok { OnOk result (Steps config.now self.old (on.chunk bytes) on.done self.new) }
         ensures marks { OnOk result (self.new.output.marks ≡ marks_after (kept_of self.old) (on.chunk bytes) on.done self.old.output.marks) }
+        ensures ahead { self.new.input.ahead ≡ self.old.input.ahead }
         ensures sound { OnOk result (IsSound config.now self.new) }
         ensures no_memory_needed { SendsNoPiece (kept_of self.old) bytes → IsOk result }
         ensures err { OnErr result (self.new ≡ self.old) }
@@ -119,6 +122,7 @@ impl Parts {
         requires { IsSound config.now self.old }
         ensures ok { OnOk result (Steps config.now self.old on.body_end on.done self.new) }
         ensures marks { OnOk result (self.new.output.marks ≡ self.old.output.marks) }
+        ensures ahead { self.new.input.ahead ≡ self.old.input.ahead }
         ensures sound { OnOk result (IsSound config.now self.new) }
         ensures no_memory_needed { SendsNoEnd (kept_of self.old) → IsOk result }
         ensures err { OnErr result (self.new ≡ self.old) }
@@ -148,9 +152,11 @@ impl Parts {
 
     // The answer is complete: the rest of its request's body is passed.
     fn complete(&mut self, config: &ServiceConfig, connection: ConnectionType)
-        requires { self.old.input.piece ≡ None }
+        requires unsearched { self.old.input.piece ≡ None }
+        requires behind { HasNoneBehind (kept_of self.old) self.old.input.ahead }
         ensures settled { IsSettled (setting_of config.now) (passing (kept_of (completed connection self.old))) self.new }
         ensures output { self.new.output ≡ self.old.output }
+        ensures ahead { self.new.input.ahead ≡ self.old.input.ahead }
     {
         self.set_reply(Reply::Answered(connection));
         self.clock.completed = self.clock.last;

@@ -1,7 +1,7 @@
 // What a pull does to the parts.
 ghost use Rattle.std.specs.Prelude.{◌≡◌, ◌||◌, true, false, None, IfOk, IsOk, OnErr, OnOk};
 ghost use Rattle.h1_model.specs.Event as on;
-ghost use Rattle.h1_machine.specs.Kept.{is_frames, is_open, is_upgraded};
+ghost use Rattle.h1_machine.specs.Kept.{is_frames, is_nothing, is_open, is_upgraded};
 ghost use Rattle.h1_machine.specs.Pull.{IsPull};
 ghost use Rattle.h1_machine.specs.Pull as pulls;
 ghost use Rattle.h1_payload.specs.Rests.{SaysPulled, IsLight};
@@ -9,7 +9,7 @@ ghost use Rattle.h1_connection.specs.Parts.{kept_of, IsSound, Steps};
 ghost use Rattle.h1_connection.specs.Pulls.{tells_done, IsPulledFrom, IsPullOf, IsLightPull};
 
 use crate::connection::exchange::Exchange;
-use crate::connection::input::Input;
+use crate::connection::intake::Intake;
 use crate::connection::parts::Parts;
 use h1_payload::Pulled;
 use http_types::{NoMemory, ServiceConfig};
@@ -23,6 +23,7 @@ impl Parts {
         ensures ok { IfOk result (λ answer. (p : pulls.Pulled) → IsPullOf (kept_of self.old) p
             → SaysPulled answer p.outcome × Steps config.now self.old on.pull p.outcome self.new) }
         ensures marks { OnOk result (self.new.output.marks ≡ self.old.output.marks) }
+        ensures ahead { self.new.input.ahead ≡ self.old.input.ahead }
         ensures sound { OnOk result (IsSound config.now self.new) }
         ensures no_memory_needed { IsLightPull (kept_of self.old) → IsOk result }
         ensures err { OnErr result (self.new ≡ self.old) }
@@ -36,14 +37,17 @@ impl Parts {
 
 impl Exchange {
     /// Takes what comes next of the body.
-    pub fn pull(&mut self, input: &mut Input, has_ended: bool) -> Result<Pulled, NoMemory>
+    pub fn pull(&mut self, input: &mut Intake, has_ended: bool) -> Result<Pulled, NoMemory>
         requires unsearched { input.old.piece ≡ None }
+        requires behind { is_nothing self.old.rest ≡ false → input.old.ahead ≡ 0 }
         requires plain { is_frames self.old.rest ≡ false }
         ensures pulled { IfOk result (λ answer. (p : pulls.Pulled) → IsPull has_ended self.old.rest input.old.unread p
             → IsPulledFrom self.old p answer self.new input.new) }
         ensures parts { OnOk result (self.new ≡ record self.old { rest = self.new.rest; was_pulled = true; body_is_done = self.new.body_is_done }) }
         ensures no_frames { OnOk result ((is_frames self.old.rest ≡ false) × (is_frames self.new.rest ≡ false)) }
         ensures piece { input.new.piece ≡ None }
+        ensures ahead { input.new.ahead ≡ input.old.ahead }
+        ensures nothing { is_nothing self.old.rest ≡ true → is_nothing self.new.rest ≡ true }
         ensures no_memory_needed { (p : pulls.Pulled) → IsPull has_ended self.old.rest input.old.unread p → IsLight self.old.rest p.outcome p.rest → IsOk result }
         ensures err { OnErr result ((self.new ≡ self.old) × (input.new ≡ input.old)) }
     {

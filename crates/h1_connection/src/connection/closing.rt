@@ -6,7 +6,7 @@ ghost use Rattle.h1_model.specs.End as ends;
 ghost use Rattle.h1_machine.specs.Kept.{of_exchange, is_open, is_upgraded};
 ghost use Rattle.h1_machine.specs.Local.{closing_by, answered_end, drained_end, input_end, is_exhausted, has_no_frame};
 ghost use Rattle.h1_connection.specs.Meaning.{setting_of, end_of};
-ghost use Rattle.h1_connection.specs.Parts.{kept_of, MayBeSearched, IsSound};
+ghost use Rattle.h1_connection.specs.Parts.{kept_of, HasNoneBehind, MayBeSearched, IsSound};
 
 use crate::End;
 use crate::connection::parts::Parts;
@@ -108,7 +108,8 @@ impl Parts {
     }
 
     fn waits_for_frame(&self) -> bool
-        requires { self.now.input.piece ≡ None }
+        requires unsearched { self.now.input.piece ≡ None }
+        requires behind { HasNoneBehind (kept_of self.now) self.now.input.ahead }
         ensures { result ≡ of_exchange (λ x. has_no_frame self.now.input.unread x.rest) (kept_of self.now) }
     {
         match &self.exchange {

@@ -1,12 +1,12 @@
 // The last request that was handed out, without its head, and what happened since.
 ghost use Rattle.std.specs.Prelude.{◌≡◌, ◌||◌, false, not, None, option_map};
-ghost use Rattle.h1_machine.specs.Kept.{is_frames, is_answered, is_unanswered, is_sending_body};
+ghost use Rattle.h1_machine.specs.Kept.{is_frames, is_nothing, is_answered, is_unanswered, is_sending_body};
 ghost use Rattle.h1_machine.specs.Local.{answered_end_of};
 ghost use Rattle.h1_connection.specs.Meaning.{end_of};
 ghost use Rattle.h1_connection.specs.Parts.{reply_of, exchange_of, is_done, passed_by, sending_by};
 
 use crate::End;
-use crate::connection::input::Input;
+use crate::connection::intake::Intake;
 use crate::connection::reading::Reading;
 use crate::connection::request::Request;
 use h1_codec::Shape;
@@ -88,8 +88,9 @@ impl Exchange {
     }
 
     /// Passes the rest of the body where the answer is complete.
-    pub fn pass(&mut self, input: &mut Input, has_ended: bool)
-        requires { is_done self.old ≡ false → input.old.piece ≡ None }
+    pub fn pass(&mut self, input: &mut Intake, has_ended: bool)
+        requires unsearched { is_done self.old ≡ false → input.old.piece ≡ None }
+        requires behind { is_nothing self.old.rest ≡ false → input.old.ahead ≡ 0 }
         ensures exchange { self.new ≡ record self.old { rest = (passed_by has_ended self.old input.old.unread).rest } }
         ensures input { input.new ≡ record input.old { unread = (passed_by has_ended self.old input.old.unread).unread } }
     {

@@ -14,7 +14,7 @@ ghost use Rattle.h1_connection.specs.Frames.{accepted_of, is_done, with_frames, 
 
 use crate::End;
 use crate::connection::exchange::Exchange;
-use crate::connection::input::Input;
+use crate::connection::intake::Intake;
 use crate::connection::parts::Parts;
 use crate::connection::reading::Reading;
 use crate::connection::request::Request;
@@ -63,6 +63,7 @@ impl Parts {
         requires raw { is_raw_request (kept_of self.old) ≡ true }
         ensures ok { IfOk result (λ accepted. Steps config.now self.old (on.accept limit) (accepted_of accepted) self.new) }
         ensures marks { OnOk result (self.new.output.marks ≡ self.old.output.marks) }
+        ensures ahead { self.new.input.ahead ≡ self.old.input.ahead }
         ensures sound { OnOk result (IsSound config.now self.new) }
         ensures refused { IfOk result (λ accepted. is_done accepted ≡ false → self.new ≡ self.old) }
         ensures no_memory_needed { is_refused (kept_of self.old) ≡ true → IsOk result }
@@ -107,6 +108,7 @@ impl Parts {
         requires upgraded { is_upgraded (kept_of self.old) ≡ true }
         ensures ok { IfOk result (λ answer. (out : on.Outcome) × SaysFrame answer out × Steps config.now self.old on.pull out self.new) }
         ensures marks { OnOk result (self.new.output.marks ≡ self.old.output.marks) }
+        ensures ahead { self.new.input.ahead ≡ self.old.input.ahead }
         ensures named { IfOk result IsPulledNamed }
         ensures sound { OnOk result (IsSound config.now self.new) }
         ensures no_memory_needed { IsLightPull (kept_of self.old) → IsOk result }
@@ -136,6 +138,7 @@ impl Parts {
         requires { IsSound config.now self.old }
         ensures ok { IfOk result (λ sent. (out : on.Outcome) × SaysSent sent out × Steps config.now self.old (on.send (message_says message.now)) out self.new) }
         ensures marks { OnOk result (self.new.output.marks ≡ self.old.output.marks) }
+        ensures ahead { self.new.input.ahead ≡ self.old.input.ahead }
         ensures sound { OnOk result (IsSound config.now self.new) }
         ensures no_memory_needed { sends_nothing (kept_of self.old) (message_says message.now) ≡ true → IsOk result }
         ensures err { OnErr result (self.new ≡ self.old) }
@@ -153,8 +156,9 @@ impl Parts {
 
 impl Exchange {
     /// Takes the next frame.
-    pub fn pull_frame(&mut self, input: &mut Input) -> Result<PulledFrame, NoMemory>
+    pub fn pull_frame(&mut self, input: &mut Intake) -> Result<PulledFrame, NoMemory>
         requires unsearched { input.old.piece ≡ None }
+        requires behind { input.old.ahead ≡ 0 }
         requires frames { is_frames self.old.rest ≡ true }
         ensures pulled { IfOk result (λ answer. IsFrameFrom self.old input.old.unread answer self.new input.new) }
         ensures no_memory_needed { IsLightFrame self.old.rest input.old.unread → IsOk result }

@@ -1,22 +1,20 @@
 // What the next head does to the parts.
-ghost use Rattle.std.specs.Prelude.{◌≡◌, ◌≢◌, ◌==◌, ℕ, List, true, false, None, Some, length, option_map, IfOk, IsOk, OnOk, OnErr};
+ghost use Rattle.std.specs.Prelude.{◌≡◌, ◌≢◌, ◌≤◌, ◌==◌, ℕ, List, true, false, None, Some, length, option_map, IfOk, IsOk, OnOk, OnErr};
 ghost use Rattle.http_framing.specs.Kinds.{kind_of};
 ghost use Rattle.h1_decode.specs.HeadItem.{SaysHead, without_headers};
-ghost use Rattle.h1_decode.specs.declared.scan.HeadScan.TheVariants.{Piece};
 ghost use Rattle.h1_model.specs.Request.{Head, head_is};
 ghost use Rattle.h1_model.specs.Answer.{asked_of};
 ghost use Rattle.h1_model.specs.RequestHead.{IsReading};
 ghost use Rattle.h1_model.specs.Event as on;
 ghost use Rattle.h1_machine.specs.Kept.{rest_in, whole_rest, refusal_of, key_answer_of};
 ghost use Rattle.h1_machine.specs.Local.{closing_by};
-ghost use Rattle.h1_machine.specs.Change.{noting_since};
 ghost use Rattle.h1_model.specs.Closing.{fault_end};
 ghost use Rattle.h1_decode.specs.Refusal as decode;
-ghost use Rattle.h1_connection.specs.Incoming.{IsWhole, IsHeadOf};
+ghost use Rattle.h1_connection.specs.Stock.{IsHeadAhead, IsWholeOf};
 ghost use Rattle.h1_connection.specs.Meaning.{setting_of, end_of, fault_of, failing_of};
 ghost use Rattle.h1_connection.specs.Parts.{key_bytes, kept_of, IsSettled, IsSound, Steps};
 ghost use Rattle.h1_connection.specs.Given.{is_head, is_head_kind, HasOpened};
-ghost use Rattle.h1_connection.specs.Heads.{refused, after_head, with_head, IsAsked, IsHeld, IsNexted, IsWaited, KeepsItem, LosesAtMostHeaders, NeedsNoMemory};
+ghost use Rattle.h1_connection.specs.Heads.{refused, with_head, IsAsked, IsFresh, IsHeld, IsNexted, IsWaited, MayAsk, NumberGoes, KeepsItem, LosesAtMostHeaders, NeedsNoMemory};
 
 use crate::connection::exchange::{Exchange, Reply};
 use crate::connection::parts::Parts;
@@ -68,6 +66,7 @@ impl Parts {
         requires { IsSound config.now self.old }
         ensures ok { IfOk result (λ next. IsHeld config.now self.old → IsNexted config.now self.old next self.new) }
         ensures marks { OnOk result (self.new.output.marks ≡ self.old.output.marks) }
+        ensures ahead { IfOk result (λ next. MayAsk (setting_of config.now) (kept_of self.old) → IsHeld config.now self.old → NumberGoes config.now self.old next self.new) }
         ensures opened { IfOk result (λ next. is_head next ≡ true → HasOpened (setting_of config.now) self.old.is_over (kept_of self.new)) }
         ensures sound { OnOk result (IsSound config.now self.new) }
         ensures no_memory_needed { NeedsNoMemory (setting_of config.now) (kept_of self.old) → IsOk result }
@@ -88,9 +87,11 @@ impl Parts {
     // The same where no whole head is there.
     fn next_without(&mut self, config: &ServiceConfig) -> Result<NextHead, NoMemory>
         requires sound { IsSound config.now self.old }
-        requires none { IsHeadOf self.old.input None }
+        requires none { IsHeadAhead self.old.input None }
+        requires none_ahead { self.old.input.ahead ≡ 0 }
         ensures ok { IfOk result (λ next. IsHeld config.now self.old → IsNexted config.now self.old next self.new) }
         ensures marks { OnOk result (self.new.output.marks ≡ self.old.output.marks) }
+        ensures ahead { IfOk result (λ next. MayAsk (setting_of config.now) (kept_of self.old) → NumberGoes config.now self.old next self.new) }
         ensures no_head { IfOk result (λ next. is_head next ≡ false) }
         ensures sound { OnOk result (IsSound config.now self.new) }
         ensures no_memory_needed { NeedsNoMemory (setting_of config.now) (kept_of self.old) → IsOk result }
@@ -117,6 +118,7 @@ impl Parts {
         requires { IsSound config.now self.old }
         ensures ok { IfOk result (λ kind. IsHeld config.now self.old → IsNexted config.now self.old (with_head item.new kind) self.new) }
         ensures marks { OnOk result (self.new.output.marks ≡ self.old.output.marks) }
+        ensures ahead { IfOk result (λ kind. MayAsk (setting_of config.now) (kept_of self.old) → IsHeld config.now self.old → NumberGoes config.now self.old (with_head item.new kind) self.new) }
         ensures opened { IfOk result (λ kind. is_head_kind kind ≡ true → HasOpened (setting_of config.now) self.old.is_over (kept_of self.new)) }
         ensures sound { OnOk result (IsSound config.now self.new) }
         ensures item { IfOk result (λ kind. KeepsItem (kept_of self.old).is_coming kind item.old item.new) }
@@ -128,9 +130,9 @@ impl Parts {
             self.is_over = true;
             return Ok(NextKind::Closed(end));
         }
-        match self.input.read_head(alloc, item, room) {
+        match self.input.take_head(alloc, item, room) {
             Ok(true) => {
-                self.hand_out(config, item);
+                self.open(item);
                 Ok(NextKind::Head)
             }
             Ok(false) => self.go_without(config),
@@ -142,9 +144,10 @@ impl Parts {
     fn go_without(&mut self, config: &ServiceConfig) -> Result<NextKind, NoMemory>
         requires sound { IsSound config.now self.old }
         requires runs { closing_by (setting_of config.now) (kept_of self.old) ≡ None }
-        requires none { IsHeadOf self.old.input None }
+        requires none { IsHeadAhead self.old.input None }
         ensures ok { IfOk result (λ kind. IsWaited config.now self.old kind self.new) }
         ensures marks { OnOk result (self.new.output.marks ≡ self.old.output.marks) }
+        ensures ahead { OnOk result (self.new.input.ahead ≡ self.old.input.ahead) }
         ensures no_head { IfOk result (λ kind. is_head_kind kind ≡ false) }
         ensures sound { OnOk result (IsSound config.now self.new) }
         ensures no_memory_needed { (length self.old.input.unread == config.now.h1_hold_size) ≡ false → IsOk result }
@@ -163,14 +166,18 @@ impl Parts {
         config: &ServiceConfig,
         error: ParseError,
     ) -> Result<HeadFault, NoMemory>
-        requires { IsSound config.now self.old }
+        requires sound { IsSound config.now self.old }
+        requires whole { IsWholeOf self.old.input }
+        requires last { error ≢ ParseError.NoMemory → self.old.input.ahead ≤ 1 }
         ensures cause { IfOk result (λ fault. (error ≢ ParseError.NoMemory) × (fault_of fault ≡ decode.fault_of error)) }
         ensures ok { IfOk result (λ fault. IsSettled (setting_of config.now) (refused fault (kept_of self.old)) self.new) }
         ensures marks { OnOk result (self.new.output.marks ≡ self.old.output.marks) }
+        ensures ahead { OnOk result (self.new.input.ahead ≡ 0) }
         ensures err { OnErr result (self.new ≡ self.old) }
     {
         let fault = fault_by(error)?;
         self.refuse(config, fault)?;
+        self.input.forget();
         Ok(fault)
     }
 
@@ -179,6 +186,7 @@ impl Parts {
         requires { IsSound config.now self.old }
         ensures ok { OnOk result (IsSettled (setting_of config.now) (refused fault (kept_of self.old)) self.new) }
         ensures marks { OnOk result (self.new.output.marks ≡ self.old.output.marks) }
+        ensures input { OnOk result (self.new.input ≡ self.old.input) }
         ensures err { OnErr result (self.new ≡ self.old) }
     {
         self.output.put_fault(fault, self.clock.now())?;
@@ -187,19 +195,10 @@ impl Parts {
         Ok(())
     }
 
-    // The head is handed out: its request is open, and nothing closes behind it. `config` is named by the clauses alone.
-    fn hand_out(&mut self, config: &ServiceConfig, item: &HeadItem)
-        requires sound { IsSound config.now self.old }
-        requires runs { closing_by (setting_of config.now) (kept_of self.old) ≡ None }
-        requires whole { IsWhole self.old.input }
-        ensures handed { (piece : List ℕ) (h : Head) (start end : ℕ) → IsReading piece (head_is h) → SaysHead item.now h → self.old.input.piece ≡ Some (Piece start end)
-            → kept_of self.new ≡ noting_since (setting_of config.now) (after_head (kept_of self.old) end h) }
-        ensures marks { self.new.output.marks ≡ self.old.output.marks }
-        ensures opened { HasOpened (setting_of config.now) self.old.is_over (kept_of self.new) }
-        ensures sound { IsSound config.now self.new }
+    // The request of a head that was handed out is open.
+    fn open(&mut self, item: &HeadItem)
+        ensures { (x : Exchange) × (self.new ≡ record self.old { exchange = Some x }) × IsFresh item.now self.old.has_ended self.old.input.unread x }
     {
-        let _ = config;
-        self.input.pass_head();
         let rest = self.whole_rest(item);
         self.exchange = Some(Exchange {
             request: request_of(item),

@@ -10,7 +10,7 @@ ghost use Rattle.h1_connection.specs.Parts.{kept_of, MayBeSearched, IsSearchedFo
 use crate::End;
 use crate::connection::clock::Clock;
 use crate::connection::exchange::Exchange;
-use crate::connection::input::Input;
+use crate::connection::intake::Intake;
 use crate::connection::output::Output;
 use http_types::ServiceConfig;
 use std::alloc::Global;
@@ -19,7 +19,7 @@ use std::alloc::Global;
 #[derive(Drop)]
 pub struct Parts {
     /// The bytes taken and not passed.
-    pub input: Input,
+    pub input: Intake,
     pub has_ended: bool,
     pub is_draining: bool,
     pub is_over: bool,
@@ -44,10 +44,11 @@ impl Parts {
     pub fn new(alloc: Global) -> Parts
         ensures kept { kept_of result ≡ fresh }
         ensures marks { result.output.marks ≡ [] }
+        ensures ahead { result.input.ahead ≡ 0 }
         ensures sound { (settings : Settings) → IsSound settings result }
     {
         Parts {
-            input: Input::new(alloc),
+            input: Intake::new(alloc),
             has_ended: false,
             is_draining: false,
             is_over: false,
@@ -95,6 +96,7 @@ impl Parts {
         requires { MayBeSearched self.old }
         ensures kept { kept_of self.new ≡ passing (kept_of self.old) }
         ensures output { self.new.output ≡ self.old.output }
+        ensures ahead { self.new.input.ahead ≡ self.old.input.ahead }
         ensures input { self.new.input.piece ≡ self.old.input.piece }
     {
         if let Some(exchange) = &mut self.exchange {
@@ -108,6 +110,7 @@ impl Parts {
         requires { MayBeSearched self.old }
         ensures settled { IsSettled (setting_of config.now) (kept_of self.old) self.new }
         ensures output { self.new.output ≡ self.old.output }
+        ensures ahead { self.new.input.ahead ≡ self.old.input.ahead }
     {
         self.search();
         self.note(config);
@@ -119,6 +122,7 @@ impl Parts {
         requires { MayBeSearched self.old }
         ensures searched { IsSearchedFor self.old self.new }
         ensures output { self.new.output ≡ self.old.output }
+        ensures ahead { self.new.input.ahead ≡ self.old.input.ahead }
     {
         if !self.is_free() {
             return;

@@ -11,7 +11,7 @@ ghost use Rattle.h1_connection.specs.Meaning.{end_of};
 
 use crate::End;
 use crate::connection::frames::PulledFrame;
-use crate::connection::input::Input;
+use crate::connection::intake::Intake;
 use h1_payload::{Pulled, Rest, RestKind};
 use http_types::NoMemory;
 use std::alloc::AllocError;
@@ -30,8 +30,9 @@ pub struct Frames {
 
 impl Frames {
     /// Takes the next frame.
-    fn pull(&mut self, input: &mut Input) -> Result<PulledFrame, NoMemory>
-        requires { input.old.piece ≡ None }
+    fn pull(&mut self, input: &mut Intake) -> Result<PulledFrame, NoMemory>
+        requires unsearched { input.old.piece ≡ None }
+        requires behind { input.old.ahead ≡ 0 }
         ensures pulled { IfOk result (λ answer. IsFramePulled (frames_rest self.old.under_way self.old.limit) input.old.unread answer
             (frames_rest self.new.under_way self.new.limit) input.new) }
         ensures no_memory_needed { IsLightFrame (frames_rest self.old.under_way self.old.limit) input.old.unread → IsOk result }
@@ -121,13 +122,16 @@ impl Reading {
     }
 
     /// Takes what comes next of a body.
-    pub fn pull(&mut self, input: &mut Input, has_ended: bool) -> Result<Pulled, NoMemory>
+    pub fn pull(&mut self, input: &mut Intake, has_ended: bool) -> Result<Pulled, NoMemory>
         requires unsearched { input.old.piece ≡ None }
+        requires behind { is_nothing self.old ≡ false → input.old.ahead ≡ 0 }
         requires plain { is_frames self.old ≡ false }
         ensures pulled { IfOk result (λ answer. (p : pulls.Pulled) → IsPull has_ended self.old input.old.unread p
             → IsPulled p answer self.new input.new.unread) }
         ensures plain { is_frames self.new ≡ false }
         ensures piece { input.new.piece ≡ None }
+        ensures ahead { input.new.ahead ≡ input.old.ahead }
+        ensures nothing { is_nothing self.old ≡ true → is_nothing self.new ≡ true }
         ensures no_memory_needed { (p : pulls.Pulled) → IsPull has_ended self.old input.old.unread p → IsLight self.old p.outcome p.rest → IsOk result }
         ensures err { OnErr result ((self.new ≡ self.old) × (input.new ≡ input.old)) }
     {
@@ -141,8 +145,9 @@ impl Reading {
     }
 
     /// Takes the next frame.
-    pub fn pull_frame(&mut self, input: &mut Input) -> Result<PulledFrame, NoMemory>
+    pub fn pull_frame(&mut self, input: &mut Intake) -> Result<PulledFrame, NoMemory>
         requires unsearched { input.old.piece ≡ None }
+        requires behind { input.old.ahead ≡ 0 }
         requires frames { is_frames self.old ≡ true }
         ensures pulled { IfOk result (λ answer. IsFramePulled self.old input.old.unread answer self.new input.new) }
         ensures frames { is_frames self.new ≡ true }
@@ -160,10 +165,11 @@ impl Reading {
     }
 
     /// Passes over what is left of a body.
-    pub fn pass(&mut self, input: &mut Input, has_ended: bool)
-        requires { input.old.piece ≡ None }
+    pub fn pass(&mut self, input: &mut Intake, has_ended: bool)
+        requires unsearched { input.old.piece ≡ None }
+        requires behind { is_nothing self.old ≡ false → input.old.ahead ≡ 0 }
         ensures rest { self.new ≡ (pass_rest has_ended self.old input.old.unread).rest }
-        ensures unread { input.new ≡ record { unread = (pass_rest has_ended self.old input.old.unread).unread; piece = None } }
+        ensures unread { input.new ≡ record input.old { unread = (pass_rest has_ended self.old input.old.unread).unread } }
     {
         if let Form::Body(rest) = &mut self.form {
             input.pass(rest, has_ended);
@@ -171,7 +177,7 @@ impl Reading {
     }
 
     /// With the input a raw body ends of which no byte is left.
-    pub fn end(&mut self, input: &Input)
+    pub fn end(&mut self, input: &Intake)
         ensures { self.new ≡ rest_in true input.now.unread self.old }
     {
         if let Form::Body(rest) = &mut self.form {
@@ -197,8 +203,9 @@ impl Reading {
     }
 
     /// Whether frames are read, and neither a whole one nor a broken rule stands in front.
-    pub fn waits_for_frame(&self, input: &Input) -> bool
-        requires { input.now.piece ≡ None }
+    pub fn waits_for_frame(&self, input: &Intake) -> bool
+        requires unsearched { input.now.piece ≡ None }
+        requires behind { is_nothing self.now ≡ false → input.now.ahead ≡ 0 }
         ensures { result ≡ has_no_frame input.now.unread self.now }
     {
         match &self.form {

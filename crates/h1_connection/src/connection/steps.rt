@@ -19,6 +19,7 @@ impl Parts {
         requires { IsSound config.now self.old }
         ensures ok { IfOk result (λ count. Steps config.now self.old (on.read bytes.now) (on.took count) self.new) }
         ensures marks { OnOk result (self.new.output.marks ≡ self.old.output.marks) }
+        ensures ahead { self.new.input.ahead ≡ self.old.input.ahead }
         ensures sound { OnOk result (IsSound config.now self.new) }
         ensures err { OnErr result (self.new ≡ self.old) }
     {
@@ -38,6 +39,7 @@ impl Parts {
         ensures ok { IfOk result (λ count. (bytes : List ℕ) × (length bytes ≡ count) × Consumes (S.left source.old) (S.left source.new) bytes
             × StepsIn config.now self.old bytes self.new) }
         ensures marks { OnOk result (self.new.output.marks ≡ self.old.output.marks) }
+        ensures ahead { self.new.input.ahead ≡ self.old.input.ahead }
         ensures bound { IfOk result (λ count. count ≤ READ_SIZE) }
         ensures end { IfOk result (λ count. count ≡ 0 → (self.new ≡ self.old) × IsAtEnd (S.left source.new)) }
         ensures sound { OnOk result (IsSound config.now self.new) }
@@ -66,6 +68,7 @@ impl Parts {
         requires { IsSound config.now self.old }
         ensures ok { Steps config.now self.old on.eof on.done self.new }
         ensures marks { self.new.output.marks ≡ self.old.output.marks }
+        ensures ahead { self.new.input.ahead ≡ self.old.input.ahead }
         ensures sound { IsSound config.now self.new }
     {
         self.has_ended = true;
@@ -88,6 +91,7 @@ impl Parts {
         requires { IsSound config.now self.old }
         ensures ok { Steps config.now self.old on.drain on.done self.new }
         ensures marks { self.new.output.marks ≡ self.old.output.marks }
+        ensures ahead { self.new.input.ahead ≡ self.old.input.ahead }
         ensures sound { IsSound config.now self.new }
     {
         self.is_draining = true;
@@ -99,6 +103,7 @@ impl Parts {
         requires { IsSound config.now self.old }
         ensures ok { Steps config.now self.old on.body_error on.done self.new }
         ensures marks { self.new.output.marks ≡ self.old.output.marks }
+        ensures ahead { self.new.input.ahead ≡ self.old.input.ahead }
         ensures sound { IsSound config.now self.new }
     {
         self.failed = Some(End::Body);
@@ -110,6 +115,7 @@ impl Parts {
         requires { IsSound config.now self.old }
         ensures ok { Steps config.now self.old on.drop_body on.done self.new }
         ensures marks { self.new.output.marks ≡ self.old.output.marks }
+        ensures ahead { self.new.input.ahead ≡ self.old.input.ahead }
         ensures sound { IsSound config.now self.new }
     {
         self.set_dropped();
@@ -129,6 +135,7 @@ impl Parts {
         requires { IsSound config.now self.old }
         ensures ok { OnOk result (Steps config.now self.old on.send_continue on.done self.new) }
         ensures marks { OnOk result (self.new.output.marks ≡ self.old.output.marks) }
+        ensures ahead { self.new.input.ahead ≡ self.old.input.ahead }
         ensures sound { OnOk result (IsSound config.now self.new) }
         ensures err { OnErr result (self.new ≡ self.old) }
     {
@@ -153,6 +160,7 @@ impl Parts {
         requires { IsSound config.now self.old }
         ensures ok { IfOk result (λ bytes. Steps config.now self.old (on.write limit) (on.gave bytes) self.new) }
         ensures marks { IfOk result (λ bytes. self.new.output.marks ≡ runs_behind (length bytes) self.old.output.marks) }
+        ensures ahead { self.new.input.ahead ≡ self.old.input.ahead }
         ensures sound { OnOk result (IsSound config.now self.new) }
         ensures none { length (take limit (kept_of self.old).buffered) ≡ 0 → IsOk result }
         ensures err { OnErr result (self.new ≡ self.old) }
@@ -165,6 +173,7 @@ impl Parts {
         requires { IsSound config.now self.old }
         ensures ok { Steps config.now self.old (on.write (length room.old)) (on.gave (take (length room.old) (kept_of self.old).buffered)) self.new }
         ensures marks { self.new.output.marks ≡ runs_behind (length (take (length room.old) (kept_of self.old).buffered)) self.old.output.marks }
+        ensures ahead { self.new.input.ahead ≡ self.old.input.ahead }
         ensures count { result ≡ min (length room.old) (length (kept_of self.old).buffered) }
         ensures given { take result room.new ≡ take (length room.old) (kept_of self.old).buffered }
         ensures rest { drop result room.new ≡ drop result room.old }
@@ -179,6 +188,7 @@ impl Parts {
         requires fits { count ≤ length (kept_of self.old).buffered }
         ensures ok { Steps config.now self.old (on.write count) (on.gave (take count (kept_of self.old).buffered)) self.new }
         ensures marks { self.new.output.marks ≡ runs_behind (length (take count (kept_of self.old).buffered)) self.old.output.marks }
+        ensures ahead { self.new.input.ahead ≡ self.old.input.ahead }
         ensures sound { IsSound config.now self.new }
     {
         self.output.advance(count);

@@ -37,6 +37,7 @@ impl Parts {
         requires before { moment < MAX_MOMENT }
         ensures ok { IfOk result (λ expiry. Steps config.now self.old (on.tick moment) (expiry_of expiry) self.new) }
         ensures marks { OnOk result (self.new.output.marks ≡ self.old.output.marks) }
+        ensures ahead { self.new.input.ahead ≡ self.old.input.ahead }
         ensures sound { OnOk result (IsSound config.now self.new) }
         ensures no_memory_needed { IsQuietTick (setting_of config.now) (kept_of self.old) moment → IsOk result }
         ensures err { OnErr result (self.new ≡ self.old) }
@@ -61,6 +62,7 @@ impl Parts {
         requires before { moment < MAX_MOMENT }
         ensures ok { IfOk result (λ expiry. Steps config.now self.old (on.tick moment) (expiry_of expiry) self.new) }
         ensures marks { OnOk result (self.new.output.marks ≡ self.old.output.marks) }
+        ensures ahead { self.new.input.ahead ≡ self.old.input.ahead }
         ensures sound { OnOk result (IsSound config.now self.new) }
         ensures no_memory_needed { IsQuietTick (setting_of config.now) (kept_of self.old) moment → IsOk result }
         ensures err { OnErr result (self.new ≡ self.old) }
@@ -84,6 +86,7 @@ impl Parts {
         ensures ok { IfOk result (λ expiry. record { outcome = expiry_of expiry; kept = kept_of self.new }
             ≡ expiring (setting_of config.now) (kept_of self.old) (closing_by (setting_of config.now) (kept_of self.old)) first moment) }
         ensures marks { OnOk result (self.new.output.marks ≡ self.old.output.marks) }
+        ensures ahead { self.new.input.ahead ≡ self.old.input.ahead }
         ensures input { self.new.input ≡ self.old.input }
         ensures exchange { self.new.exchange ≡ self.old.exchange }
         ensures no_memory_needed { IsSome (closing_by (setting_of config.now) (kept_of self.old)) ⊎ (is_slow (setting_of config.now) (kept_of self.old) first moment ≡ false) → IsOk result }

@@ -19,7 +19,7 @@ invariant_of-self c = still_sound c.accept.result _ _ _ c.self.invariant c.accep
 
 pub returns-clause-stands : goal.returns-clause-stands
 returns-clause-stands c =
-    ok_both c.accept.result _ _ _ (λ accepted steps marks. goes_on _ _ _ _ _ _ c.self.view_is c.requires.can_accept steps (marks ∙ quiet_accept accepted _)) c.accept.ensures.ok c.accept.ensures.marks
+    ok_both c.accept.result _ _ _ (λ accepted steps marks. goes_on _ _ _ _ _ _ c.self.view_is c.requires.can_accept steps (marks ∙ quiet_accept accepted _) c.accept.ensures.ahead refl) c.accept.ensures.ok c.accept.ensures.marks
 
 pub returns-clause-refused : goal.returns-clause-refused
 returns-clause-refused c =

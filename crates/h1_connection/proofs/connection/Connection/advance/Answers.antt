@@ -14,4 +14,4 @@ invariant_of-self c = c.advance.ensures.sound
 pub returns-clause-stands : goal.returns-clause-stands
 returns-clause-stands c =
     subst (λ (s : State). GoesOn c.args.self.now (on.write c.args.count) (Is (on.gave (take c.args.count s.kept.buffered))) (state_of c.self.inside.config c.advance.new.self)) c.self.view_is
-    (goes_on _ _ _ _ _ _ c.self.view_is c.requires.can_write c.advance.ensures.ok c.advance.ensures.marks)
+    (goes_on _ _ _ _ _ _ c.self.view_is c.requires.can_write c.advance.ensures.ok c.advance.ensures.marks c.advance.ensures.ahead refl)

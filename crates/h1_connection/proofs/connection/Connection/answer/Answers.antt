@@ -8,7 +8,7 @@ invariant_of-self c = still_sound c.answer.result _ _ _ c.self.invariant c.answe
 
 pub returns-clause-stands : goal.returns-clause-stands
 returns-clause-stands c =
-    on_both c.answer.result _ _ _ (λ steps marks. goes_on _ _ _ _ _ _ c.self.view_is c.requires.can_answer steps marks) c.answer.ensures.ok c.answer.ensures.marks
+    on_both c.answer.result _ _ _ (λ steps marks. goes_on _ _ _ _ _ _ c.self.view_is c.requires.can_answer steps marks c.answer.ensures.ahead refl) c.answer.ensures.ok c.answer.ensures.marks
 
 pub returns-clause-err : goal.returns-clause-err
 returns-clause-err c = same_state c.answer.result _ _ _ _ c.self.view_is c.answer.ensures.err

@@ -1,5 +1,5 @@
-use Rattle.h1_connection.proofs.ResultLemmas.{ok_map, ok_both}
-use Rattle.h1_connection.proofs.GoesOnLemmas.{still_sound, same_state, head_goes_on}
+use Rattle.h1_connection.proofs.ResultLemmas.{ok_map, ok_more}
+use Rattle.h1_connection.proofs.GoesOnLemmas.{still_sound, same_state, head_goes_on, may_ask}
 use Rattle.h1_connection.proofs.GivenLemmas.{answer_given}
 use Rattle.h1_connection.proofs.connection.Connection.ask.Goals as goal
 
@@ -8,7 +8,9 @@ invariant_of-self c = still_sound c.next.result _ _ _ c.self.invariant c.next.en
 
 pub returns-clause-stands : goal.returns-clause-stands
 returns-clause-stands c =
-    ok_both c.next.result _ _ _ (λ answer nexted marks. head_goes_on _ _ _ _ answer c.self.view_is c.requires.allowed nexted marks) c.next.ensures.ok c.next.ensures.marks
+    ok_more c.next.result _ _ _ _
+    (λ answer nexted marks number. head_goes_on _ _ _ _ answer c.self.view_is c.requires.allowed nexted marks (number (may_ask _ _ _ c.self.view_is c.requires.allowed)))
+    c.next.ensures.ok c.next.ensures.marks c.next.ensures.ahead
 
 pub returns-clause-err : goal.returns-clause-err
 returns-clause-err c = same_state c.next.result _ _ _ _ c.self.view_is c.next.ensures.err

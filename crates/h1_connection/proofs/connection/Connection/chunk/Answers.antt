@@ -8,7 +8,7 @@ invariant_of-self c = still_sound c.chunk.result _ _ _ c.self.invariant c.chunk.
 
 pub returns-clause-stands : goal.returns-clause-stands
 returns-clause-stands c =
-    on_both c.chunk.result _ _ _ (λ steps marks. goes_on _ _ _ _ _ _ c.self.view_is c.requires.can_chunk steps marks) c.chunk.ensures.ok c.chunk.ensures.marks
+    on_both c.chunk.result _ _ _ (λ steps marks. goes_on _ _ _ _ _ _ c.self.view_is c.requires.can_chunk steps marks c.chunk.ensures.ahead refl) c.chunk.ensures.ok c.chunk.ensures.marks
 
 pub returns-clause-err : goal.returns-clause-err
 returns-clause-err c = same_state c.chunk.result _ _ _ _ c.self.view_is c.chunk.ensures.err

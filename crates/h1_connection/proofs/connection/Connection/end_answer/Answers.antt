@@ -7,7 +7,7 @@ invariant_of-self c = still_sound c.end_answer.result _ _ _ c.self.invariant c.e
 
 pub returns-clause-stands : goal.returns-clause-stands
 returns-clause-stands c =
-    on_both c.end_answer.result _ _ _ (λ steps marks. goes_on _ _ _ _ _ _ c.self.view_is c.requires.can_end_answer steps marks) c.end_answer.ensures.ok c.end_answer.ensures.marks
+    on_both c.end_answer.result _ _ _ (λ steps marks. goes_on _ _ _ _ _ _ c.self.view_is c.requires.can_end_answer steps marks c.end_answer.ensures.ahead refl) c.end_answer.ensures.ok c.end_answer.ensures.marks
 
 pub returns-clause-err : goal.returns-clause-err
 returns-clause-err c = same_state c.end_answer.result _ _ _ _ c.self.view_is c.end_answer.ensures.err

@@ -2,8 +2,8 @@ use Rattle.std.proofs.Common.{subst}
 use Rattle.std.specs.Prelude.{IfOk, OnErr}
 use Rattle.h1_connection.specs.State.{State}
 use Rattle.h1_connection.specs.Heads.{with_head, KeepsItem, LosesAtMostHeaders}
-use Rattle.h1_connection.proofs.ResultLemmas.{ok_map, ok_both}
-use Rattle.h1_connection.proofs.GoesOnLemmas.{still_sound, same_state, head_goes_on}
+use Rattle.h1_connection.proofs.ResultLemmas.{ok_map, ok_more}
+use Rattle.h1_connection.proofs.GoesOnLemmas.{still_sound, same_state, head_goes_on, may_ask}
 use Rattle.h1_connection.proofs.GivenLemmas.{next_is_allowed, answer_given}
 use Rattle.h1_connection.proofs.connection.Connection.next_into.Goals as goal
 
@@ -12,7 +12,10 @@ invariant_of-self c = still_sound c.next_into.result _ _ _ c.self.invariant c.ne
 
 pub returns-clause-stands : goal.returns-clause-stands
 returns-clause-stands c =
-    ok_both c.next_into.result _ _ _ (λ kind nexted marks. head_goes_on _ _ _ _ (with_head c.next_into.new.item kind) c.self.view_is (next_is_allowed c.args.self.now c.requires.can_next) nexted marks) c.next_into.ensures.ok c.next_into.ensures.marks
+    ok_more c.next_into.result _ _ _ _
+    (λ kind nexted marks number. head_goes_on _ _ _ _ (with_head c.next_into.new.item kind) c.self.view_is (next_is_allowed c.args.self.now c.requires.can_next) nexted marks
+    (number (may_ask _ _ _ c.self.view_is (next_is_allowed c.args.self.now c.requires.can_next))))
+    c.next_into.ensures.ok c.next_into.ensures.marks c.next_into.ensures.ahead
 
 pub returns-clause-err : goal.returns-clause-err
 returns-clause-err c = same_state c.next_into.result _ _ _ _ c.self.view_is c.next_into.ensures.err

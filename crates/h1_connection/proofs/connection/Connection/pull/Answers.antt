@@ -13,7 +13,7 @@ invariant_of-self c = still_sound c.pull.result _ _ _ c.self.invariant c.pull.en
 
 pub returns-clause-stands : goal.returns-clause-stands
 returns-clause-stands c =
-    ok_both c.pull.result _ _ _ (λ answer pulled marks. pull_goes_on _ _ _ _ answer c.self.view_is c.requires.can_pull pulled marks) c.pull.ensures.ok c.pull.ensures.marks
+    ok_both c.pull.result _ _ _ (λ answer pulled marks. pull_goes_on _ _ _ _ answer c.self.view_is c.requires.can_pull pulled marks c.pull.ensures.ahead) c.pull.ensures.ok c.pull.ensures.marks
 
 pub returns-clause-err : goal.returns-clause-err
 returns-clause-err c = same_state c.pull.result _ _ _ _ c.self.view_is c.pull.ensures.err

@@ -15,7 +15,7 @@ invariant_of-self c = still_sound c.pull_frame.result _ _ _ c.self.invariant c.p
 
 pub returns-clause-stands : goal.returns-clause-stands
 returns-clause-stands c =
-    ok_both c.pull_frame.result _ _ _ (λ answer steps marks. some_goes_on _ _ _ _ _ _ c.self.view_is (frame_pulled c.args.self.now c.requires.can_pull_frame) (λ out says. marks ∙ quiet_frame answer out _ says) steps)
+    ok_both c.pull_frame.result _ _ _ (λ answer steps marks. some_goes_on _ _ _ _ _ _ c.self.view_is (frame_pulled c.args.self.now c.requires.can_pull_frame) (λ out says. marks ∙ quiet_frame answer out _ says) c.pull_frame.ensures.ahead refl steps)
     c.pull_frame.ensures.ok c.pull_frame.ensures.marks
 
 pub returns-clause-no_memory_needed : goal.returns-clause-no_memory_needed

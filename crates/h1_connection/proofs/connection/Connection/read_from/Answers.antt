@@ -12,7 +12,7 @@ invariant_of-self g c = still_sound c.read_from.result _ _ _ c.self.invariant c.
 
 pub returns-clause-stands : goal.returns-clause-stands
 returns-clause-stands g c =
-    ok_both c.read_from.result _ _ _ (λ count came marks. (came.0, came.1, came.2, reads_in _ _ _ _ came.0 c.self.view_is c.requires.can_read came.3 marks)) c.read_from.ensures.ok c.read_from.ensures.marks
+    ok_both c.read_from.result _ _ _ (λ count came marks. (came.0, came.1, came.2, reads_in _ _ _ _ came.0 c.self.view_is c.requires.can_read came.3 marks c.read_from.ensures.ahead)) c.read_from.ensures.ok c.read_from.ensures.marks
 
 pub returns-clause-end : goal.returns-clause-end
 returns-clause-end g c =

@@ -13,7 +13,7 @@ invariant_of-self c = still_sound c.send.result _ _ _ c.self.invariant c.send.en
 
 pub returns-clause-stands : goal.returns-clause-stands
 returns-clause-stands c =
-    ok_both c.send.result _ _ _ (λ sent steps marks. some_goes_on _ _ _ _ _ _ c.self.view_is c.requires.can_send (λ out says. marks ∙ quiet_send sent out _ says) steps)
+    ok_both c.send.result _ _ _ (λ sent steps marks. some_goes_on _ _ _ _ _ _ c.self.view_is c.requires.can_send (λ out says. marks ∙ quiet_send sent out _ says) c.send.ensures.ahead refl steps)
     c.send.ensures.ok c.send.ensures.marks
 
 pub returns-clause-no_memory_needed : goal.returns-clause-no_memory_needed

@@ -8,7 +8,7 @@ invariant_of-self c = still_sound c.send_continue.result _ _ _ c.self.invariant 
 
 pub returns-clause-stands : goal.returns-clause-stands
 returns-clause-stands c =
-    on_both c.send_continue.result _ _ _ (λ steps marks. goes_on _ _ _ _ _ _ c.self.view_is c.requires.can_continue steps marks) c.send_continue.ensures.ok c.send_continue.ensures.marks
+    on_both c.send_continue.result _ _ _ (λ steps marks. goes_on _ _ _ _ _ _ c.self.view_is c.requires.can_continue steps marks c.send_continue.ensures.ahead refl) c.send_continue.ensures.ok c.send_continue.ensures.marks
 
 pub returns-clause-err : goal.returns-clause-err
 returns-clause-err c = same_state c.send_continue.result _ _ _ _ c.self.view_is c.send_continue.ensures.err

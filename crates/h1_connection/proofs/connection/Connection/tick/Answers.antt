@@ -12,7 +12,7 @@ invariant_of-self c = still_sound c.tick.result _ _ _ c.self.invariant c.tick.en
 
 pub returns-clause-stands : goal.returns-clause-stands
 returns-clause-stands c =
-    ok_both c.tick.result _ _ _ (λ expiry steps marks. goes_on _ _ _ _ _ _ c.self.view_is c.requires.can_tick steps (marks ∙ quiet_tick expiry _)) c.tick.ensures.ok c.tick.ensures.marks
+    ok_both c.tick.result _ _ _ (λ expiry steps marks. goes_on _ _ _ _ _ _ c.self.view_is c.requires.can_tick steps (marks ∙ quiet_tick expiry _) c.tick.ensures.ahead refl) c.tick.ensures.ok c.tick.ensures.marks
 
 pub returns-clause-err : goal.returns-clause-err
 returns-clause-err c = same_state c.tick.result _ _ _ _ c.self.view_is c.tick.ensures.err

@@ -12,7 +12,7 @@ pub returns-clause-stands : goal.returns-clause-stands
 returns-clause-stands c =
     let limit = length c.args.room.now in
     subst (λ (s : State). GoesOn c.args.self.now (on.write limit) (Is (on.gave (take limit s.kept.buffered))) (state_of c.self.inside.config c.write_into.new.self)) c.self.view_is
-    (goes_on _ _ _ _ _ _ c.self.view_is c.requires.can_write c.write_into.ensures.ok c.write_into.ensures.marks)
+    (goes_on _ _ _ _ _ _ c.self.view_is c.requires.can_write c.write_into.ensures.ok c.write_into.ensures.marks c.write_into.ensures.ahead refl)
 
 pub returns-clause-count : goal.returns-clause-count
 returns-clause-count c =

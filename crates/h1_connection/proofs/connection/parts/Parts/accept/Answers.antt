@@ -5,11 +5,12 @@ use Rattle.h1_model.specs.Text.{answer_head_text}
 use Rattle.h1_connection.proofs.FrameLemmas.{framed_may, framed_steps, framed_sound, refused_steps, no_accept}
 use Rattle.http_segments.specs.Queued.{Queued}
 use Rattle.h1_connection.specs.declared.connection.parts.Parts.{Parts}
+use Rattle.h1_connection.specs.Stock.{Stock}
 use Rattle.h1_connection.proofs.connection.parts.Parts.accept.Goals as goal
 
 pub note-requires : goal.note-requires
 note-requires c =
-    framed_may c.args.config.now c.args.self.now _ c.in-Some.request c.args.limit _ c.set_frames.ensures (sym c.request.ensures ∙ c.in-Some.is) c.requires.waits c.requires.sound
+    framed_may c.args.config.now c.args.self.now _ c.in-Some.request c.args.limit _ c.set_frames.ensures (sym c.request.ensures ∙ c.in-Some.is) c.requires.waits c.requires.raw c.requires.sound
 
 pub returns-in_default-clause-ok : goal.returns-in_default-clause-ok
 returns-in_default-clause-ok c = no_accept c.args.config.now c.args.self.now c.args.limit (sym c.request.ensures ∙ c.in_default.is) c.requires.sound
@@ -27,9 +28,12 @@ returns-clause-ok c =
 
 pub returns-clause-sound : goal.returns-clause-sound
 returns-clause-sound c =
-    framed_sound c.args.config.now c.args.self.now c.set_frames.new.self c.note.new.self c.in-Some.request c.args.limit c.put_accept.new.self c.requires.sound c.requires.waits (sym c.request.ensures ∙ c.in-Some.is) c.set_frames.ensures
+    framed_sound c.args.config.now c.args.self.now c.set_frames.new.self c.note.new.self c.in-Some.request c.args.limit c.put_accept.new.self c.requires.sound c.requires.waits c.requires.raw (sym c.request.ensures ∙ c.in-Some.is) c.set_frames.ensures
     c.note.ensures.kept c.note.ensures.input
 
 pub returns-clause-marks : goal.returns-clause-marks
 returns-clause-marks c =
     ap (λ (q : Queued). q.marks) (c.note.ensures.output ∙ ap (λ (p : Parts). p.output) c.set_frames.ensures ∙ c.in_ok-put_accept.ensures.ok)
+
+pub returns-clause-ahead : goal.returns-clause-ahead
+returns-clause-ahead c = ap (λ (i : Stock). i.ahead) c.note.ensures.input ∙ ap (λ (p : Parts). p.input.ahead) c.set_frames.ensures

@@ -45,3 +45,9 @@ returns-then-is_at_once-clause-marks c = ap (λ (q : Queued). q.marks) (c.comple
 
 pub returns-else-is_at_once-clause-marks : goal.returns-else-is_at_once-clause-marks
 returns-else-is_at_once-clause-marks c = ap (λ (q : Queued). q.marks) (ap (λ (p : Parts). p.output) c.set_reply.ensures ∙ c.in_ok-put_head.ensures.ok)
+
+pub returns-then-is_at_once-clause-ahead : goal.returns-then-is_at_once-clause-ahead
+returns-then-is_at_once-clause-ahead c = c.complete.ensures.ahead
+
+pub returns-else-is_at_once-clause-ahead : goal.returns-else-is_at_once-clause-ahead
+returns-else-is_at_once-clause-ahead c = ap (λ (p : Parts). p.input.ahead) c.set_reply.ensures

@@ -1,5 +1,10 @@
+use Rattle.std.proofs.Common.{ap}
 use Rattle.h1_connection.proofs.StepLemmas.{sound_may}
+use Rattle.h1_connection.specs.Stock.{Stock}
 use Rattle.h1_connection.proofs.connection.parts.Parts.drain.Goals as goal
 
 pub note-requires : goal.note-requires
 note-requires c = sound_may c.args.config.now c.args.self.now c.requires
+
+pub returns-clause-ahead : goal.returns-clause-ahead
+returns-clause-ahead c = ap (λ (i : Stock). i.ahead) c.note.ensures.input

@@ -2,6 +2,7 @@ use Rattle.std.proofs.Common.{ap, ◌∙◌}
 use Rattle.h1_connection.proofs.EventLemmas.{dropped_may, dropped_steps, dropped_sound}
 use Rattle.http_segments.specs.Queued.{Queued}
 use Rattle.h1_connection.specs.declared.connection.parts.Parts.{Parts}
+use Rattle.h1_connection.specs.Stock.{Stock}
 use Rattle.h1_connection.proofs.connection.parts.Parts.drop_body.Goals as goal
 
 pub note-requires : goal.note-requires
@@ -15,3 +16,6 @@ returns-clause-sound c = dropped_sound c.args.config.now c.args.self.now c.set_d
 
 pub returns-clause-marks : goal.returns-clause-marks
 returns-clause-marks c = ap (λ (q : Queued). q.marks) (c.note.ensures.output ∙ ap (λ (p : Parts). p.output) c.set_dropped.ensures)
+
+pub returns-clause-ahead : goal.returns-clause-ahead
+returns-clause-ahead c = ap (λ (i : Stock). i.ahead) c.note.ensures.input ∙ ap (λ (p : Parts). p.input.ahead) c.set_dropped.ensures

@@ -32,3 +32,6 @@ returns-in_err-put_end-clause-no_memory_needed c = λ none.
 
 pub returns-clause-marks : goal.returns-clause-marks
 returns-clause-marks c = ap (λ (q : Queued). q.marks) (c.complete.ensures.output ∙ ap (λ (p : Parts). p.output) c.note_short.ensures.parts ∙ c.in_ok-put_end.ensures.ok)
+
+pub returns-clause-ahead : goal.returns-clause-ahead
+returns-clause-ahead c = c.complete.ensures.ahead ∙ ap (λ (p : Parts). p.input.ahead) c.note_short.ensures.parts

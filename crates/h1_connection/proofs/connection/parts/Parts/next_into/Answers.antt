@@ -1,31 +1,56 @@
-use Rattle.std.proofs.Common.{sym, subst}
+use Rattle.std.proofs.Common.{refl, sym, ◌∙◌, subst}
 use Rattle.h1_model.specs.Request.{Fault, faulty}
 use Rattle.h1_model.specs.RequestHead.{IsReading}
 use Rattle.h1_connection.specs.declared.connection.heads.NextHead.TheVariants as next
-use Rattle.h1_connection.proofs.HeadLemmas.{closed_steps, head_steps, found_steps, next_same, runs_same, found_same}
+use Rattle.h1_connection.proofs.HeadLemmas.{closed_steps, head_steps, found_steps, handed_kept, handed_sound, handed_opened, none_ahead_here, none_counts}
 use Rattle.h1_connection.proofs.connection.parts.Parts.next_into.Goals as goal
+
+-- ---- it closes
 
 pub returns-in-Some-clause-ok : goal.returns-in-Some-clause-ok
 returns-in-Some-clause-ok c = λ held. closed_steps c.args.config.now c.args.self.now c.in-Some.end c.requires c.in-Some.ensures
 
+-- ---- a head was handed out
+
 pub returns-in-Ok-true-clause-ok : goal.returns-in-Ok-true-clause-ok
 returns-in-Ok-true-clause-ok c = λ held.
     let p = c.args.self.now in
-    let i = c.read_head.new.self in
-    let same = c.read_head.ensures.same in
-    let read = c.in-Ok-true.ensures.head c.in-Ok-true.field-0-test in
-    next_same c.args.config.now p i c.hand_out.new.self (next.Head c.read_head.new.item) same
-    (head_steps c.args.config.now (record p { input = i }) c.hand_out.new.self read.0 c.read_head.new.item read.2.0 (runs_same c.args.config.now p i same (sym c.in_default.ensures))
-    (found_same p i read.0 same read.1) read.2.1 read.2.2 c.hand_out.ensures.handed) held
+    let out = c.in-Ok-true.ensures.head c.in-Ok-true.field-0-test in
+    let opened = c.open.ensures in
+    head_steps c.args.config.now p c.open.new.self out.head c.take_head.new.item out.h (sym c.in_default.ensures) out.is_head out.reads out.says
+    (λ piece h start end reading says at.
+    handed_kept c.args.config.now p c.take_head.new.self opened.0 h start end (sym c.in_default.ensures) at out.passed c.take_head.new.item piece reading says opened.2) held
+
+pub returns-in-Ok-true-clause-ahead : goal.returns-in-Ok-true-clause-ahead
+returns-in-Ok-true-clause-ahead c = λ may held. (c.in-Ok-true.ensures.head c.in-Ok-true.field-0-test).counts
+
+pub returns-in-Ok-true-clause-sound : goal.returns-in-Ok-true-clause-sound
+returns-in-Ok-true-clause-sound c =
+    let out = c.in-Ok-true.ensures.head c.in-Ok-true.field-0-test in
+    handed_sound c.args.config.now c.args.self.now c.take_head.new.self c.open.ensures.0 c.take_head.new.item c.requires (sym c.in_default.ensures) out c.open.ensures.2
+
+pub returns-in-Ok-true-clause-opened : goal.returns-in-Ok-true-clause-opened
+returns-in-Ok-true-clause-opened c = λ is.
+    handed_opened c.args.config.now c.args.self.now c.take_head.new.self c.open.ensures.0 c.take_head.new.item (sym c.in_default.ensures) c.open.ensures.2
+
+-- ---- none was there
+
+pub returns-in-Ok-false-clause-ahead : goal.returns-in-Ok-false-clause-ahead
+returns-in-Ok-false-clause-ahead c =
+    none_counts c.args.config.now c.args.self.now c.go_without.new.self c.take_head.new.item c.go_without.result c.go_without.ensures.ahead c.go_without.ensures.no_head
+    (none_ahead_here c.args.config.now c.args.self.now c.requires (sym c.in_default.ensures) (c.in-Ok-false.ensures.none_ahead c.in-Ok-false.field-0-test))
+
+-- ---- it was refused
 
 pub returns-in_ok-refuse_by-in-Err-clause-ok : goal.returns-in_ok-refuse_by-in-Err-clause-ok
 returns-in_ok-refuse_by-in-Err-clause-ok c = λ held.
     let p = c.args.self.now in
-    let i = c.read_head.new.self in
-    let same = c.read_head.ensures.same in
     let fault = c.in_ok-refuse_by-in-Err.field-0 in
     let cause = c.in_ok-refuse_by-in-Err.ensures.cause in
     let read = c.in-Err.ensures.fault cause.0 in
-    next_same c.args.config.now p i c.refuse_by.new.self (next.Fault fault) same
-    (found_steps c.args.config.now (record p { input = i }) c.refuse_by.new.self read.0 fault (runs_same c.args.config.now p i same (sym c.in_default.ensures))
-    (found_same p i read.0 same read.1) (subst (λ (f : Fault). IsReading read.0 (faulty f)) (sym cause.1) read.2) c.in_ok-refuse_by-in-Err.ensures.ok) held
+    found_steps c.args.config.now p c.refuse_by.new.self read.0 fault (sym c.in_default.ensures) read.1
+    (subst (λ (f : Fault). IsReading read.0 (faulty f)) (sym cause.1) read.2) c.in_ok-refuse_by-in-Err.ensures.ok held
+
+pub returns-in_ok-refuse_by-in-Err-clause-ahead : goal.returns-in_ok-refuse_by-in-Err-clause-ahead
+returns-in_ok-refuse_by-in-Err-clause-ahead c = λ may held.
+    (c.in-Err.ensures.last (c.in_ok-refuse_by-in-Err.ensures.cause).0, c.in_ok-refuse_by-in-Err.ensures.ahead)

@@ -1,4 +1,4 @@
-use Rattle.h1_connection.proofs.StepLemmas.{pass_some, pass_none}
+use Rattle.h1_connection.proofs.StepLemmas.{pass_some, pass_none, rest_behind}
 use Rattle.h1_connection.proofs.connection.parts.Parts.pass_body.Goals as goal
 
 pub returns-in-Some-clause-kept : goal.returns-in-Some-clause-kept
@@ -6,3 +6,9 @@ returns-in-Some-clause-kept c = pass_some c.args.self.now _ _ _ c.in-Some.is c.p
 
 pub returns-in_default-clause-kept : goal.returns-in_default-clause-kept
 returns-in_default-clause-kept c = pass_none c.args.self.now c.in_default.is
+
+pub pass-requires-clause-behind : goal.pass-requires-clause-behind
+pass-requires-clause-behind c = rest_behind c.args.self.now _ c.in-Some.is c.requires.behind
+
+pub pass-requires-clause-unsearched : goal.pass-requires-clause-unsearched
+pass-requires-clause-unsearched c = c.requires.searched

@@ -1,9 +1,11 @@
-use Rattle.std.proofs.Common.{ap, ◌∙◌}
+use Rattle.std.proofs.Common.{ap, ◌∙◌, sym}
 use Rattle.std.proofs.lemmas.Bool.{false≢true}
-use Rattle.h1_connection.proofs.FrameLemmas.{light_frame, upgraded_frames, upgraded_unsearched, frame_may, frame_steps, frame_sound}
+use Rattle.h1_connection.proofs.FrameLemmas.{light_frame, upgraded_frames, upgraded_unsearched, upgraded_behind, frame_may, frame_steps, frame_sound}
 use Rattle.h1_connection.proofs.NamedLemmas.{says_named}
 use Rattle.http_segments.specs.Queued.{Queued}
 use Rattle.h1_connection.specs.declared.connection.parts.Parts.{Parts}
+use Rattle.h1_connection.specs.Stock.{Stock}
+use Rattle.h1_connection.proofs.StepLemmas.{sound_may}
 use Rattle.h1_connection.proofs.connection.parts.Parts.pull_frame.Goals as goal
 
 pub pull_frame-requires-clause-unsearched : goal.pull_frame-requires-clause-unsearched
@@ -34,3 +36,12 @@ returns-clause-named c = says_named c.in_ok-pulled.pulled _ c.in_ok-pulled.ensur
 
 pub returns-clause-marks : goal.returns-clause-marks
 returns-clause-marks c = ap (λ (q : Queued). q.marks) (c.note.ensures.output ∙ ap (λ (p : Parts). p.output) c.fail_by.ensures.parts)
+
+pub pull_frame-requires-clause-behind : goal.pull_frame-requires-clause-behind
+pull_frame-requires-clause-behind c = upgraded_behind c.args.self.now c.requires.upgraded (sound_may c.args.config.now c.args.self.now c.requires.sound)
+
+pub returns-clause-ahead : goal.returns-clause-ahead
+returns-clause-ahead c =
+    ap (λ (i : Stock). i.ahead) c.note.ensures.input ∙ ap (λ (p : Parts). p.input.ahead) c.fail_by.ensures.parts
+    ∙ ap (λ (i : Stock). i.ahead) c.in_ok-pulled.ensures.pulled.pulled.after_is
+    ∙ sym (upgraded_behind c.args.self.now c.requires.upgraded (sound_may c.args.config.now c.args.self.now c.requires.sound))

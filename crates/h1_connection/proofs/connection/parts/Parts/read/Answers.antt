@@ -6,7 +6,8 @@ use Rattle.h1_connection.proofs.connection.parts.Parts.read.Goals as goal
 
 pub settle-requires : goal.settle-requires
 settle-requires c =
-    passed_may (record c.args.self.now { input = c.take.new.self }) c.pass_body.new.self c.pass_body.ensures.kept c.pass_body.ensures.input (read_may c.args.config.now c.args.self.now c.take.new.self c.requires c.in_ok-count.ensures.searched)
+    passed_may (record c.args.self.now { input = c.take.new.self }) c.pass_body.new.self c.pass_body.ensures.kept c.pass_body.ensures.input c.pass_body.ensures.ahead
+    (read_may c.args.config.now c.args.self.now c.take.new.self c.requires c.in_ok-count.ensures.searched c.take.ensures.ahead)
 
 pub returns-clause-ok : goal.returns-clause-ok
 returns-clause-ok c =
@@ -15,3 +16,6 @@ returns-clause-ok c =
 
 pub returns-clause-sound : goal.returns-clause-sound
 returns-clause-sound c = read_sound c.args.config.now c.args.self.now c.pass_body.new.self c.settle.new.self c.take.new.self c.requires c.pass_body.ensures.kept c.settle.ensures.settled
+
+pub returns-clause-ahead : goal.returns-clause-ahead
+returns-clause-ahead c = c.settle.ensures.ahead ∙ c.pass_body.ensures.ahead ∙ c.take.ensures.ahead

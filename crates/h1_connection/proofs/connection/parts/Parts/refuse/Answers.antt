@@ -8,3 +8,6 @@ note-requires c = sound_may c.args.config.now c.args.self.now c.requires
 
 pub returns-clause-marks : goal.returns-clause-marks
 returns-clause-marks c = ap (λ (q : Queued). q.marks) (c.note.ensures.output ∙ c.in_ok-put_fault.ensures.ok)
+
+pub returns-clause-input : goal.returns-clause-input
+returns-clause-input c = c.note.ensures.input

@@ -5,6 +5,7 @@ use Rattle.h1_connection.specs.Parts.{kept_of}
 use Rattle.h1_connection.proofs.StepLemmas.{sound_may}
 use Rattle.h1_connection.proofs.FrameLemmas.{no_rule, nothing_said, sent_steps, sent_sound, unsent_steps, unsent_sound}
 use Rattle.http_segments.specs.Queued.{Queued}
+use Rattle.h1_connection.specs.Stock.{Stock}
 use Rattle.h1_connection.proofs.connection.parts.Parts.send.Goals as goal
 
 pub note-requires : goal.note-requires
@@ -36,3 +37,6 @@ returns-in-Some-clause-marks c = ap (λ (q : Queued). q.marks) c.note.ensures.ou
 
 pub returns-clause-marks : goal.returns-clause-marks
 returns-clause-marks c = ap (λ (q : Queued). q.marks) c.in_ok-put_message.ensures.ok
+
+pub returns-in-Some-clause-ahead : goal.returns-in-Some-clause-ahead
+returns-in-Some-clause-ahead c = ap (λ (i : Stock). i.ahead) c.note.ensures.input

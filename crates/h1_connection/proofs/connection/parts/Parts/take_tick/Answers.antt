@@ -2,6 +2,7 @@ use Rattle.std.proofs.Common.{ap, ◌∙◌}
 use Rattle.h1_connection.proofs.StepLemmas.{sound_may}
 use Rattle.h1_connection.proofs.TickLemmas.{tick_may, tick_steps_by, tick_sound_by}
 use Rattle.http_segments.specs.Queued.{Queued}
+use Rattle.h1_connection.specs.Stock.{Stock}
 use Rattle.h1_connection.proofs.connection.parts.Parts.take_tick.Goals as goal
 
 pub expire-requires-clause-searched : goal.expire-requires-clause-searched
@@ -22,3 +23,6 @@ returns-clause-sound c =
 
 pub returns-clause-marks : goal.returns-clause-marks
 returns-clause-marks c = ap (λ (q : Queued). q.marks) c.note.ensures.output ∙ c.in_ok-expiry.ensures.marks
+
+pub returns-clause-ahead : goal.returns-clause-ahead
+returns-clause-ahead c = ap (λ (i : Stock). i.ahead) (c.note.ensures.input ∙ c.expire.ensures.input)

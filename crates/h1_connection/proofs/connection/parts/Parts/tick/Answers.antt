@@ -27,3 +27,6 @@ returns-clause-err c = err_map c.take_tick.result _ _ (λ e. e ∙ c.give_back.e
 pub returns-clause-marks : goal.returns-clause-marks
 returns-clause-marks c =
     subst (λ (p : Parts). OnOk c.take_tick.result (c.take_tick.new.self.output.marks ≡ p.output.marks)) c.give_back.ensures c.take_tick.ensures.marks
+
+pub returns-clause-ahead : goal.returns-clause-ahead
+returns-clause-ahead c = subst (λ (p : Parts). c.take_tick.new.self.input.ahead ≡ p.input.ahead) c.give_back.ensures c.take_tick.ensures.ahead
