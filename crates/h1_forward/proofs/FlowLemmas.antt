@@ -1,21 +1,25 @@
 -- Reads and writes, put together of their parts.
-use Rattle.std.proofs.Common.{ℕ, List, Option}
+use Rattle.std.proofs.Common.{ℕ, Bool, List, Option}
 use Rattle.h1_forward_model.specs.Past as event
 use Rattle.h1_forward_model.specs.Past.{ProxyEvent}
 use Rattle.h1_proxy.specs.declared.proxy.Proxy.{Proxy}
-use Rattle.h1_forward_loop.specs.Flow.{TakesIn, Writes}
+use Rattle.h1_forward_loop.specs.Flow.{TakesIn, Writes, HasReadCause, HasWriteCause}
 use Rattle.h1_forward_loop.specs.declared.flow.TakenIn.{TakenIn}
 use Rattle.h1_forward.specs.declared.standing.Stage.{Stage}
 use Rattle.h1_forward.specs.Flow.{FollowsClient, FollowsServer, HearsClient, HearsServer, Tells}
 
-pub hears_client : (left rest : Option (List ℕ)) (old between new : Proxy) (now : Stage) (came : TakenIn) → TakesIn event.client old left rest came between
-    → FollowsClient came between now new → HearsClient left rest old now new
-hears_client left rest old between new now came takes follows = record { came = came; between = between; takes = takes; follows = follows }
+pub hears_client : (limit before after : ℕ) (left rest : Option (List ℕ)) (old between new : Proxy) (now : Stage) (came : TakenIn)
+    → TakesIn event.client old left rest came between → HasReadCause limit before after came → FollowsClient came between now new
+    → HearsClient limit before after left rest old now new
+hears_client limit before after left rest old between new now came takes cause follows =
+    record { came = came; between = between; takes = takes; cause = cause; follows = follows }
 
-pub hears_server : (left rest : Option (List ℕ)) (old between new : Proxy) (came : TakenIn) → TakesIn event.server old left rest came between
-    → FollowsServer came between new → HearsServer left rest old new
-hears_server left rest old between new came takes follows = record { came = came; between = between; takes = takes; follows = follows }
+pub hears_server : (limit before after : ℕ) (left rest : Option (List ℕ)) (old between new : Proxy) (now : Stage) (came : TakenIn)
+    → TakesIn event.server old left rest came between → HasReadCause limit before after came → FollowsServer came between now new
+    → HearsServer limit before after left rest old now new
+hears_server limit before after left rest old between new now came takes cause follows =
+    record { came = came; between = between; takes = takes; cause = cause; follows = follows }
 
-pub tells : (by : ℕ → ProxyEvent) (waited : List ℕ) (given after : Option (List ℕ)) (old new : Proxy) (count : Option ℕ)
-    → Writes by waited old given after count new → Tells by waited given after old new
-tells by waited given after old new count writes = record { count = count; writes = writes }
+pub tells : (by : ℕ → ProxyEvent) (waited : List ℕ) (allowed : Bool) (before now : ℕ) (given after : Option (List ℕ)) (old new : Proxy) (count : Option ℕ)
+    → Writes by waited old given after count new → HasWriteCause allowed before now count → Tells by waited allowed before now given after old new
+tells by waited allowed before now given after old new count writes cause = record { count = count; writes = writes; cause = cause }

@@ -1,8 +1,10 @@
 //! What moves between a client, the server and the forwarder between them, whatever their sockets are.
-ghost use Rattle.std.specs.Prelude.{OnOk};
+ghost use Rattle.std.specs.Prelude.{OnOk, length, min};
 ghost use Rattle.h1_forward_model.specs.Past as event;
-ghost use Rattle.h1_proxy.specs.Kept.{client_of, server_of, server_text};
-ghost use Rattle.h1_forward.specs.Flow.{FollowsClient, FollowsServer, HearsClient, HearsServer, MayEnd, Tells};
+ghost use Rattle.h1_proxy.specs.Kept.{client_of, server_of, server_text, client_room, server_room};
+ghost use Rattle.h1_forward_loop.specs.Flow.{may_write_client, may_write_server};
+ghost use Rattle.h1_forward_loop.specs.History.{EndsServer};
+ghost use Rattle.h1_forward.specs.Flow.{FollowsClient, FollowsServer, HearsClient, HearsServer, BreaksOff, Tells};
 
 use crate::standing::{Stage, Standing};
 use h1_forward_loop::{
@@ -20,7 +22,7 @@ pub fn hear_client<S: Source + Polled>(
     room: &mut [u8],
     uptime: u64,
 ) -> Result<bool, NoMemory>
-    ensures { OnOk result (HearsClient (S.left source.old) (S.left source.new) forwarder.old standing.new.stage forwarder.new) }
+    ensures { OnOk result (HearsClient (min (client_room forwarder.old) (length room.old)) (S.faults source.old) (S.faults source.new) (S.left source.old) (S.left source.new) forwarder.old standing.new.stage forwarder.new) }
 {
     let limit = forwarder.proxy().client_room().min(room.len());
     let came = take_in_client(forwarder, source, room)?;
@@ -76,7 +78,7 @@ pub fn hear_server<S: Source + Polled>(
     room: &mut [u8],
     uptime: u64,
 ) -> Result<bool, NoMemory>
-    ensures { OnOk result (HearsServer (S.left source.old) (S.left source.new) forwarder.old forwarder.new) }
+    ensures { OnOk result (HearsServer (min (server_room forwarder.old) (length room.old)) (S.faults source.old) (S.faults source.new) (S.left source.old) (S.left source.new) forwarder.old standing.new.stage forwarder.new) }
 {
     let limit = forwarder.proxy().server_room().min(room.len());
     let came = take_in_server(forwarder, source, room)?;
@@ -93,7 +95,7 @@ fn follow_server(
     is_not_now: bool,
     uptime: u64,
 ) -> Result<bool, NoMemory>
-    ensures { OnOk result (FollowsServer came forwarder.old forwarder.new) }
+    ensures { OnOk result (FollowsServer came forwarder.old standing.new.stage forwarder.new) }
 {
     match came {
         TakenIn::Bytes(count) => {
@@ -129,7 +131,7 @@ fn follow_server(
 // The connection to the server broke. Its end doesn't tell that an answer is whole, so the client is let go where one is under
 // way.
 fn break_off(forwarder: &mut Forwarder, standing: &mut Standing) -> Result<(), NoMemory>
-    ensures { OnOk result (MayEnd forwarder.old forwarder.new) }
+    ensures { OnOk result (BreaksOff forwarder.old standing.new.stage forwarder.new) }
 {
     if forwarder.proxy().is_answering() {
         standing.stage = Stage::Lost;
@@ -140,7 +142,7 @@ fn break_off(forwarder: &mut Forwarder, standing: &mut Standing) -> Result<(), N
 
 // The server sends no more bytes.
 fn end_server(forwarder: &mut Forwarder) -> Result<(), NoMemory>
-    ensures { OnOk result (MayEnd forwarder.old forwarder.new) }
+    ensures { OnOk result (EndsServer forwarder.old forwarder.new) }
 {
     forwarder.server_eof()?;
     Ok(())
@@ -154,7 +156,7 @@ pub fn tell_client<K: Sink + Polled>(
     sink: &mut K,
     uptime: u64,
 ) -> Result<bool, NoMemory>
-    ensures { OnOk result (Tells event.to_client (client_of forwarder.old).kept.buffered (K.given sink.old) (K.given sink.new) forwarder.old forwarder.new) }
+    ensures { OnOk result (Tells event.to_client (client_of forwarder.old).kept.buffered (may_write_client forwarder.old) (K.faults sink.old) (K.faults sink.new) (K.given sink.old) (K.given sink.new) forwarder.old forwarder.new) }
 {
     let written = write_client(forwarder, sink)?;
     if written.is_some() {
@@ -178,7 +180,7 @@ pub fn tell_server<K: Sink>(
     sink: &mut K,
     uptime: u64,
 ) -> Result<bool, NoMemory>
-    ensures { OnOk result (Tells event.to_server (server_text (server_of forwarder.old)) (K.given sink.old) (K.given sink.new) forwarder.old forwarder.new) }
+    ensures { OnOk result (Tells event.to_server (server_text (server_of forwarder.old)) (may_write_server forwarder.old) (K.faults sink.old) (K.faults sink.new) (K.given sink.old) (K.given sink.new) forwarder.old forwarder.new) }
 {
     let written = write_server(forwarder, sink)?;
     if written.is_some() {

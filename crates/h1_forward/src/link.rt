@@ -1,6 +1,6 @@
 //! The socket of a client's connection to the server.
 ghost use Rattle.std.specs.Prelude.{OnOk};
-ghost use Rattle.h1_forward.specs.Flow.{MayEnd};
+ghost use Rattle.h1_forward.specs.Flow.{GivesBack};
 ghost use Rattle.h1_forward.specs.Links.{GivesUp, Finishes};
 
 use crate::flow::{hear_server, tell_server};
@@ -153,7 +153,7 @@ impl Link {
         forwarder: &mut Forwarder,
         shared: &mut Shared,
     ) -> Result<(), NoMemory>
-        ensures { OnOk result (MayEnd forwarder.old forwarder.new) }
+        ensures { OnOk result (GivesBack forwarder.old forwarder.new) }
     {
         if !forwarder.proxy().is_reusable() {
             return Ok(());

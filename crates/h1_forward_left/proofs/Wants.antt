@@ -1,9 +1,9 @@
 -- Which answers the client's connection wants after an event.
 use Rattle.std.proofs.Common.{◌≡◌, ℕ, Bool, true, false, not, ◌&&◌, ◌||◌, cond, List, [], ◌∷◌, ◌++◌, drop, Option, Some, None, refl, sym, ap, ◌∙◌, subst, subst₂}
-use Rattle.std.specs.Prelude.{◌-◌, min, ⊤, IsTrue, is_some, is_none, if◌then◌else◌, ◌==◌, take, length}
+use Rattle.std.specs.Prelude.{◌-◌, min, nat_le, ⊤, IsTrue, is_some, is_none, if◌then◌else◌, ◌==◌, take, length}
 use Rattle.std.specs.Option.{option_or}
 use Rattle.std.proofs.lemmas.Bool.{false≢true, true≢false}
-use Rattle.h1_model.specs.Request.{ConnectionType, too_large, Reading, head_is, faulty}
+use Rattle.h1_model.specs.Request.{BodyKind, no_body, fixed_body, chunked_body, raw_body, ConnectionType, too_large, Reading, head_is, faulty}
 use Rattle.h1_model.specs.Answer.{AnswerHead, BodySize, is_at_once, Shape, shape_of, type_of}
 use Rattle.h1_model.specs.Text.{answer_head_text}
 use Rattle.h1_model.specs.AnswerText.{interim_text, timeout_text}
@@ -13,47 +13,54 @@ use Rattle.h1_model.specs.End.{End}
 use Rattle.h1_model.specs.End as ends
 use Rattle.h1_model.specs.Sums.{Step}
 use Rattle.h1_model.proofs.PastLemmas.{legal_of}
-use Rattle.h1_machine.specs.Kept.{Rest, no_rest, raw_rest, fixed_rest, chunks_rest, frames_rest, Reply, unanswered, sending, answered, Exchange, Kept, Change, is_free, is_frames, is_unanswered, is_upgraded, rest_in, now}
+use Rattle.h1_machine.specs.Kept.{Rest, no_rest, raw_rest, fixed_rest, chunks_rest, frames_rest, Reply, unanswered, sending, answered, Exchange, Kept, Change, is_free, is_frames, is_unanswered, is_upgraded, rest_in, whole_rest, now}
 use Rattle.h1_machine.specs.Local.{closing_by, allowed_by, is_allowed_running, is_allowed_closing, has_body_left, is_answering, waits_for_answer}
 use Rattle.h1_machine.specs.Body.{passing}
 use Rattle.h1_machine.specs.Clock.{is_abandoned, is_slow, is_idle, expiring, at_moment, ticking}
 use Rattle.h1_machine.specs.Change.{behind_head, without_head, IsUpcoming, IsNext, pulled_from, IsPulling, IsChange, IsComing, noting_since, IsStep, doing_with, exchange_at_end}
 use Rattle.h1_machine.specs.Reply.{completing, answering, sending_piece, ending_body, stated}
-use Rattle.h1_machine.specs.Pull.{Pulled}
+use Rattle.h1_chunks.specs.Place.{Place}
+use Rattle.h1_chunks.specs.TakeNext as taking
+use Rattle.h1_chunks.specs.TakeNext.{Next}
+use Rattle.h1_machine.specs.Pull.{Pulled, IsPull, IsPullOfChunks, EndsWith}
 use Rattle.h1_machine.specs.StandsFor.{StandsFor}
 use Rattle.h1_machine.proofs.Kernel.{coming_of}
 use Rattle.h1_machine.proofs.OneStep.{coming_one}
-use Rattle.h1_forward_left.specs.Wants.{is_running, IsAnswered, IsComplete, WantsNoMore, AnswersNothing, WantsAfterNext}
+use Rattle.h1_forward_left.specs.Wants.{is_running, IsAnswered, IsComplete, IsWaitedFor, IsAnswering, WantsNoMore, WantsTheSame, AnswersNothing, WantsAfterNext}
 use Rattle.h1_forward_left.proofs.Client.{machine_step, droppable}
 
 -- ---- what an exchange wants
 
--- nothing more is wanted, whether the connection goes on or not
+-- what is wanted is what was, whether the connection goes on or not
+abbrev pub Alike : Kept → Kept → Type 0
+Alike k m = (waits_for_answer m ≡ waits_for_answer k) × (is_answering m ≡ is_answering k)
+
+same : (k : Kept) → Alike k k
+same k = (refl, refl)
+
+alike_then : (a b c : Kept) → Alike a b → Alike b c → Alike a c
+alike_then a b c x y = (y.0 ∙ x.0, y.1 ∙ x.1)
+
+-- or nothing more is
 abbrev pub Less : Kept → Kept → Type 0
 Less k m = (waits_for_answer k ≡ false → waits_for_answer m ≡ false) × (is_answering k ≡ false → is_answering m ≡ false)
 
-same : (k : Kept) → Less k k
-same k = (λ w. w, λ a. a)
-
-less_then : (a b c : Kept) → Less a b → Less b c → Less a c
-less_then a b c x y = (λ w. y.0 (x.0 w), λ w. y.1 (x.1 w))
-
 -- a body is passed only where the answer is complete
-passing_less : (k : Kept) (ex : Option Exchange) → Less (record k { exchange = ex }) (passing (record k { exchange = ex }))
+passing_alike : (k : Kept) (ex : Option Exchange) → Alike (record k { exchange = ex }) (passing (record k { exchange = ex }))
 unfolding passing
-passing_less k None = (λ w. w, λ a. a)
-passing_less k (Some x) = by_reply x.reply
+passing_alike k None = (refl, refl)
+passing_alike k (Some x) = by_reply x.reply
   where
-    by_reply : (r : Reply) → Less (record k { exchange = Some (record x { reply = r }) }) (passing (record k { exchange = Some (record x { reply = r }) }))
-    by_reply unanswered = (λ w. w, λ a. a)
-    by_reply (sending shape kind missing) = (λ w. w, λ a. a)
-    by_reply (answered kind) = (λ w. refl, λ a. refl)
+    by_reply : (r : Reply) → Alike (record k { exchange = Some (record x { reply = r }) }) (passing (record k { exchange = Some (record x { reply = r }) }))
+    by_reply unanswered = (refl, refl)
+    by_reply (sending shape kind missing) = (refl, refl)
+    by_reply (answered kind) = (refl, refl)
 
 with_exchange : (act : Exchange → Kept → Kept) (k : Kept) (ex : Option Exchange)
-    → ((x : Exchange) → Less (record k { exchange = Some x }) (act x (record k { exchange = Some x })))
-    → Less (record k { exchange = ex }) (doing_with act (record k { exchange = ex })).kept
-with_exchange act k None less = (λ w. w, λ a. a)
-with_exchange act k (Some x) less = less x
+    → ((x : Exchange) → Alike (record k { exchange = Some x }) (act x (record k { exchange = Some x })))
+    → Alike (record k { exchange = ex }) (doing_with act (record k { exchange = ex })).kept
+with_exchange act k None alike = (refl, refl)
+with_exchange act k (Some x) alike = alike x
 
 -- ---- each event
 
@@ -69,68 +76,109 @@ frames_in (b ∷ bytes) (fixed_rest n) = refl
 frames_in (b ∷ bytes) (chunks_rest place section) = refl
 frames_in (b ∷ bytes) (frames_rest under_way limit) = refl
 
-ending_less : (k : Kept) (bytes : List ℕ) (ex : Option Exchange)
-    → Less (record k { exchange = ex }) (record k { has_ended = true; exchange = exchange_at_end bytes ex })
-ending_less k bytes None = (λ w. w, λ a. a)
-ending_less k bytes (Some x) = (λ w. ap (λ (f : Bool). is_unanswered x.reply && not f) (frames_in bytes x.rest) ∙ w, λ a. a)
+ending_alike : (k : Kept) (bytes : List ℕ) (ex : Option Exchange)
+    → Alike (record k { exchange = ex }) (record k { has_ended = true; exchange = exchange_at_end bytes ex })
+ending_alike k bytes None = (refl, refl)
+ending_alike k bytes (Some x) = (ap (λ (f : Bool). is_unanswered x.reply && not f) (frames_in bytes x.rest), refl)
 
-no_frames : (u f g : Bool) → f ≡ false → (u && not f) ≡ false → (u && not g) ≡ false
-no_frames true true g none w = absurd (true≢false none)
-no_frames true false g none w = absurd (true≢false w)
-no_frames false f g none w = refl
+frames_in_rest : (ended : Bool) (bytes : List ℕ) (rest : Rest) → is_frames (rest_in ended bytes rest) ≡ is_frames rest
+frames_in_rest true bytes rest = frames_in bytes rest
+frames_in_rest false bytes no_rest = refl
+frames_in_rest false bytes raw_rest = refl
+frames_in_rest false bytes (fixed_rest n) = refl
+frames_in_rest false bytes (chunks_rest place section) = refl
+frames_in_rest false bytes (frames_rest under_way limit) = refl
 
-pull_less : (k : Kept) (ex : Option Exchange) (c : Change) → k.exchange ≡ ex → is_upgraded k ≡ false → IsPulling k ex c → Less k c.kept
-pull_less k None c here plain is = subst (λ (c : Change). Less k c.kept) (sym is) (same k)
-pull_less k (Some x) c here plain (p, pull, is) =
+no_frames_by : (t : Bool) (a b : Rest) → is_frames a ≡ false → is_frames b ≡ false → is_frames (if t then a else b) ≡ false
+no_frames_by true a b x y = x
+no_frames_by false a b x y = y
+
+none_whole : (kind : BodyKind) → is_frames (whole_rest kind) ≡ false
+none_whole no_body = refl
+none_whole (fixed_body n) = no_frames_by (n == 0) no_rest (fixed_rest n) refl refl
+none_whole chunked_body = refl
+none_whole raw_body = refl
+
+rest_of : (p q : Pulled) → p ≡ q → is_frames q.rest ≡ false → is_frames p.rest ≡ false
+rest_of p q is x = ap (λ (p : Pulled). is_frames p.rest) is ∙ x
+
+chunk_frames : (is_ended : Bool) (place : Place) (section bytes : List ℕ) (next : Next) (noted : List ℕ) (p : Pulled)
+    → IsPullOfChunks is_ended place section bytes next noted p → is_frames p.rest ≡ false
+chunk_frames is_ended place section bytes (taking.chunk given next behind) noted p x = rest_of p _ x refl
+chunk_frames true place section bytes (taking.waits next) noted p x = rest_of p _ x refl
+chunk_frames false place section bytes (taking.waits next) noted p x = rest_of p _ x refl
+chunk_frames is_ended place section bytes (taking.ended behind) noted p x = ends_with (section ++ noted) x
+  where
+    ends_with : (all : List ℕ) → EndsWith all behind p → is_frames p.rest ≡ false
+    ends_with [] x = rest_of p _ x refl
+    ends_with (b ∷ all) x = rest_of p _ x.3 refl
+chunk_frames is_ended place section bytes taking.breaks noted p x = rest_of p _ x refl
+
+-- of a body that is no frames no frames are left
+pull_frames : (is_ended : Bool) (rest : Rest) (bytes : List ℕ) (p : Pulled) → IsPull is_ended rest bytes p → is_frames rest ≡ false → is_frames p.rest ≡ false
+pull_frames is_ended no_rest bytes p x plain = rest_of p _ x refl
+pull_frames true raw_rest [] p x plain = rest_of p _ x refl
+pull_frames false raw_rest [] p x plain = rest_of p _ x refl
+pull_frames is_ended raw_rest (b ∷ bytes) p x plain = rest_of p _ x (no_frames_by is_ended no_rest raw_rest refl refl)
+pull_frames true (fixed_rest n) [] p x plain = rest_of p _ x refl
+pull_frames false (fixed_rest n) [] p x plain = rest_of p _ x refl
+pull_frames is_ended (fixed_rest n) (b ∷ bytes) p x plain =
+    rest_of p _ x (no_frames_by (nat_le n (length (b ∷ bytes))) no_rest (fixed_rest (n - length (b ∷ bytes))) refl refl)
+pull_frames is_ended (chunks_rest place section) bytes p x plain = chunk_frames is_ended place section bytes _ _ p x
+pull_frames is_ended (frames_rest under_way limit) bytes p x plain = absurd (true≢false plain)
+
+pull_alike : (k : Kept) (ex : Option Exchange) (c : Change) → k.exchange ≡ ex → is_upgraded k ≡ false → IsPulling k ex c → Alike k c.kept
+pull_alike k None c here plain is = subst (λ (c : Change). Alike k c.kept) (sym is) (same k)
+pull_alike k (Some x) c here plain (p, pull, is) =
     let waits = ap (λ (e : Option Exchange). waits_for_answer (record k { exchange = e })) here in
     let going = ap (λ (e : Option Exchange). is_answering (record k { exchange = e })) here in
     let frames = ap (λ (e : Option Exchange). is_upgraded (record k { exchange = e })) here in
-    subst (λ (c : Change). Less k c.kept) (sym is)
-    (λ w. no_frames (is_unanswered x.reply) (is_frames x.rest) (is_frames p.rest) (sym frames ∙ plain) (sym waits ∙ w), λ a. sym going ∙ a)
+    subst (λ (c : Change). Alike k c.kept) (sym is)
+    (ap (λ (f : Bool). is_unanswered x.reply && not f) (pull_frames k.has_ended x.rest k.unread p pull (sym frames ∙ plain) ∙ sym plain ∙ frames) ∙ sym waits, sym going)
 
-piece_less : (bytes : List ℕ) (k : Kept) (x : Exchange) (reply : Reply)
-    → Less (record k { exchange = Some (record x { reply = reply }) })
+piece_alike : (bytes : List ℕ) (k : Kept) (x : Exchange) (reply : Reply)
+    → Alike (record k { exchange = Some (record x { reply = reply }) })
     (sending_piece bytes (record x { reply = reply }) (record k { exchange = Some (record x { reply = reply }) }))
-piece_less bytes k x unanswered = (λ w. w, λ a. a)
-piece_less bytes k x (sending shape kind missing) = (λ w. w, λ a. a)
-piece_less bytes k x (answered kind) = (λ w. w, λ a. a)
+piece_alike bytes k x unanswered = (refl, refl)
+piece_alike bytes k x (sending shape kind missing) = (refl, refl)
+piece_alike bytes k x (answered kind) = (refl, refl)
 
 module _ (setting : Setting) where
-  of_change : (k : Kept) (c d : Change) → c ≡ d → Less k d.kept → Less k c.kept
-  of_change k c d is x = subst (λ (c : Change). Less k c.kept) (sym is) x
+  of_change : (k : Kept) (c d : Change) → c ≡ d → Alike k d.kept → Alike k c.kept
+  of_change k c d is x = subst (λ (c : Change). Alike k c.kept) (sym is) x
 
-  ticking_less : (k : Kept) (closing : Option End) (ms : ℕ) → Less k (ticking setting k closing ms).kept
-  ticking_less k (Some end) ms = by_choice (is_abandoned setting k _ ms)
+  ticking_alike : (k : Kept) (closing : Option End) (ms : ℕ) → Alike k (ticking setting k closing ms).kept
+  ticking_alike k (Some end) ms = by_choice (is_abandoned setting k _ ms)
     where
       by_choice : (t : Bool)
-          → Less k (at_moment ms (if t then record { outcome = on.abandoned; kept = record k { is_over = true } } else record { outcome = on.done; kept = k })).kept
-      by_choice true = (λ w. w, λ a. a)
-      by_choice false = (λ w. w, λ a. a)
-  ticking_less k None ms = by_two (is_slow setting k _ ms) (is_idle setting k _ ms)
+          → Alike k (at_moment ms (if t then record { outcome = on.abandoned; kept = record k { is_over = true } } else record { outcome = on.done; kept = k })).kept
+      by_choice true = (refl, refl)
+      by_choice false = (refl, refl)
+  ticking_alike k None ms = by_two (is_slow setting k _ ms) (is_idle setting k _ ms)
     where
       by_two : (slow idle : Bool)
-          → Less k (at_moment ms (if slow
+          → Alike k (at_moment ms (if slow
           then record { outcome = on.expired ends.slow_request; kept = record k { failed = Some ends.slow_request; buffered = k.buffered ++ timeout_text ms } }
           else (if idle then record { outcome = on.expired ends.keep_alive_expired; kept = record k { failed = Some ends.keep_alive_expired } }
           else record { outcome = on.done; kept = k }))).kept
-      by_two true idle = (λ w. w, λ a. a)
-      by_two false true = (λ w. w, λ a. a)
-      by_two false false = (λ w. w, λ a. a)
+      by_two true idle = (refl, refl)
+      by_two false true = (refl, refl)
+      by_two false false = (refl, refl)
 
-  change_less : (k : Kept) (event : on.Event) (c : Change) → AnswersNothing event → IsChange setting k event c → Less k c.kept
-  change_less k (on.read bytes) c asks is = of_change k c _ is (passing_less (record k { unread = _ }) k.exchange)
-  change_less k on.eof c asks is =
+  change_alike : (k : Kept) (event : on.Event) (c : Change) → AnswersNothing event → IsChange setting k event c → Alike k c.kept
+  change_alike k (on.read bytes) c asks is = of_change k c _ is (passing_alike (record k { unread = _ }) k.exchange)
+  change_alike k on.eof c asks is =
       let m : Kept = record k { has_ended = true; exchange = exchange_at_end k.unread k.exchange } in
-      of_change k c _ is (less_then k m (passing m) (ending_less k k.unread k.exchange) (passing_less (record k { has_ended = true }) (exchange_at_end k.unread k.exchange)))
-  change_less k on.drop_body c asks is =
-      of_change k c _ is (with_exchange (λ x k. record k { exchange = Some (record x { was_dropped = true }) }) k k.exchange (λ x. (λ w. w, λ a. a)))
-  change_less k on.send_continue c asks is =
+      of_change k c _ is (alike_then k m (passing m) (ending_alike k k.unread k.exchange) (passing_alike (record k { has_ended = true }) (exchange_at_end k.unread k.exchange)))
+  change_alike k on.drop_body c asks is =
+      of_change k c _ is (with_exchange (λ x k. record k { exchange = Some (record x { was_dropped = true }) }) k k.exchange (λ x. (refl, refl)))
+  change_alike k on.send_continue c asks is =
       of_change k c _ is
-      (with_exchange (λ x k. record k { buffered = k.buffered ++ interim_text; exchange = Some (record x { had_continue = true }) }) k k.exchange (λ x. (λ w. w, λ a. a)))
-  change_less k (on.chunk bytes) c asks is = of_change k c _ is (with_exchange (sending_piece bytes) k k.exchange (λ x. piece_less bytes k x x.reply))
-  change_less k (on.write n) c asks is = of_change k c _ is (same k)
-  change_less k (on.tick ms) c asks is = of_change k c _ is (ticking_less k (closing_by setting k) ms)
-  change_less k event c asks is = absurd asks
+      (with_exchange (λ x k. record k { buffered = k.buffered ++ interim_text; exchange = Some (record x { had_continue = true }) }) k k.exchange (λ x. (refl, refl)))
+  change_alike k (on.chunk bytes) c asks is = of_change k c _ is (with_exchange (sending_piece bytes) k k.exchange (λ x. piece_alike bytes k x x.reply))
+  change_alike k (on.write n) c asks is = of_change k c _ is (same k)
+  change_alike k (on.tick ms) c asks is = of_change k c _ is (ticking_alike k (closing_by setting k) ms)
+  change_alike k event c asks is = absurd asks
 
   -- ---- whether it goes on
 
@@ -241,29 +289,44 @@ module _ (setting : Setting) where
 
   -- ---- what is wanted after each
 
-  as_next : (k m next : Kept) (coming : Bool) → next ≡ noting_since setting (record m { is_coming = coming }) → Less k m → Less k next
-  as_next k m next coming is x = subst (Less k) (sym is) x
+  as_next : (k m next : Kept) (coming : Bool) → next ≡ noting_since setting (record m { is_coming = coming }) → Alike k m → Alike k next
+  as_next k m next coming is x = subst (Alike k) (sym is) x
+
+  less_next : (k m next : Kept) (coming : Bool) → next ≡ noting_since setting (record m { is_coming = coming }) → Less k m → Less k next
+  less_next k m next coming is x = subst (Less k) (sym is) x
+
+  wants_alike : (k next : Kept) → (is_running setting next ≡ true → is_running setting k ≡ true) → Alike k next → WantsTheSame setting k next
+  wants_alike k next back alike = record {
+    answered = λ old runs. alike.0 ∙ old (back runs);
+    complete = λ old runs. alike.1 ∙ old (back runs);
+    waited = λ old runs. alike.0 ∙ old (back runs);
+    answering = λ old runs. alike.1 ∙ old (back runs);
+  }
 
   wants_less : (k next : Kept) → (is_running setting next ≡ true → is_running setting k ≡ true) → Less k next → WantsNoMore setting k next
   wants_less k next back less = record { answered = λ old runs. less.0 (old (back runs)); complete = λ old runs. less.1 (old (back runs)) }
 
   pub others_want : (k next : Kept) (trace : List Step) (event : on.Event) (o : on.Outcome) → AnswersNothing event → allowed_by setting k event ≡ true
-      → StandsFor setting k trace → StandsFor setting next (record { event = event; outcome = o } ∷ trace) → WantsNoMore setting k next
+      → StandsFor setting k trace → StandsFor setting next (record { event = event; outcome = o } ∷ trace) → WantsTheSame setting k next
   others_want k next trace event o asks allowed x y =
       let step = machine_step setting k next trace (record { event = event; outcome = o }) x y in
-      wants_less k next (runs_before k next trace event o asks x allowed step)
-      (as_next k step.change.kept next step.coming step.keeps (change_less k event step.change asks step.changes))
+      wants_alike k next (runs_before k next trace event o asks x allowed step)
+      (as_next k step.change.kept next step.coming step.keeps (change_alike k event step.change asks step.changes))
 
   pub pull_wants : (k next : Kept) (trace : List Step) (o : on.Outcome) → allowed_by setting k on.drop_body ≡ true
-      → StandsFor setting k trace → StandsFor setting next (record { event = on.pull; outcome = o } ∷ trace) → WantsNoMore setting k next
+      → StandsFor setting k trace → StandsFor setting next (record { event = on.pull; outcome = o } ∷ trace) → WantsTheSame setting k next
   pull_wants k next trace o allowed x y =
       let step = machine_step setting k next trace (record { event = on.pull; outcome = o }) x y in
-      wants_less k next (λ runs. running_of k on.drop_body refl allowed)
-      (as_next k step.change.kept next step.coming step.keeps (pull_less k k.exchange step.change refl (droppable setting k allowed).0 step.changes))
+      wants_alike k next (λ runs. running_of k on.drop_body refl allowed)
+      (as_next k step.change.kept next step.coming step.keeps (pull_alike k k.exchange step.change refl (droppable setting k allowed).0 step.changes))
 
   -- the head of an answer
-  answer_less : (head : AnswerHead) (size : BodySize) (k : Kept) (x : Exchange)
-      → (waits_for_answer (answering setting head size x k) ≡ false) × (is_at_once size ≡ true → is_answering (answering setting head size x k) ≡ false)
+  abbrev HasHead : BodySize → Kept → Kept → Type 0
+  HasHead size k m =
+      (waits_for_answer m ≡ false) × (is_at_once size ≡ true → is_answering m ≡ false)
+      × (waits_for_answer k ≡ true → is_at_once size ≡ false → is_answering m ≡ true)
+
+  answer_less : (head : AnswerHead) (size : BodySize) (k : Kept) (x : Exchange) → HasHead size k (answering setting head size x k)
   unfolding passing
   answer_less head size k x = by_size (is_at_once size)
     where
@@ -279,25 +342,34 @@ module _ (setting : Setting) where
       by_size : (t : Bool)
           → (waits_for_answer (if t then completing kind x next else record next { exchange = Some (record x { reply = sending shape kind (stated shape) }) }) ≡ false)
           × (t ≡ true → is_answering (if t then completing kind x next else record next { exchange = Some (record x { reply = sending shape kind (stated shape) }) }) ≡ false)
-      by_size true = (refl, λ is. refl)
-      by_size false = (refl, λ is. absurd (false≢true is))
+          × (waits_for_answer k ≡ true → t ≡ false → is_answering (if t then completing kind x next else record next { exchange = Some (record x { reply = sending shape kind (stated shape) }) }) ≡ true)
+      by_size true = (refl, λ is. refl, λ waits is. absurd (true≢false is))
+      by_size false = (refl, λ is. absurd (false≢true is), λ waits is. refl)
 
   answer_change : (head : AnswerHead) (size : BodySize) (k : Kept) (ex : Option Exchange) (c : Change)
-      → c ≡ doing_with (answering setting head size) (record k { exchange = ex })
-      → (waits_for_answer c.kept ≡ false) × (is_at_once size ≡ true → is_answering c.kept ≡ false)
+      → c ≡ doing_with (answering setting head size) (record k { exchange = ex }) → HasHead size (record k { exchange = ex }) c.kept
   answer_change head size k None c is =
-      subst (λ (c : Change). (waits_for_answer c.kept ≡ false) × (is_at_once size ≡ true → is_answering c.kept ≡ false)) (sym is) (refl, λ once. refl)
+      subst (λ (c : Change). HasHead size (record k { exchange = None }) c.kept) (sym is) (refl, λ once. refl, λ waits none. absurd (false≢true waits))
   answer_change head size k (Some x) c is =
-      subst (λ (c : Change). (waits_for_answer c.kept ≡ false) × (is_at_once size ≡ true → is_answering c.kept ≡ false)) (sym is)
-      (answer_less head size (record k { exchange = Some x }) x)
+      subst (λ (c : Change). HasHead size (record k { exchange = Some x }) c.kept) (sym is) (answer_less head size (record k { exchange = Some x }) x)
+
+  waited_by : (over : Bool) (closing : Option End) (waits : Bool) → (not over && (if is_some closing then false else waits)) ≡ true → waits ≡ true
+  waited_by true closing waits is = absurd (false≢true is)
+  waited_by false None waits is = is
+  waited_by false (Some end) waits is = absurd (false≢true is)
+
+  -- a request waits where an answer is allowed
+  pub waited : (k : Kept) (head : AnswerHead) (size : BodySize) → allowed_by setting k (on.answer head size) ≡ true → waits_for_answer k ≡ true
+  unfolding allowed_by
+  waited k head size is = waited_by k.is_over (closing_by setting k) (waits_for_answer k) is
 
   pub answer_wants : (k next : Kept) (trace : List Step) (head : AnswerHead) (size : BodySize) (o : on.Outcome)
       → StandsFor setting k trace → StandsFor setting next (record { event = on.answer head size; outcome = o } ∷ trace)
       → (waits_for_answer next ≡ false) × (is_at_once size ≡ true → is_answering next ≡ false)
+      × (waits_for_answer k ≡ true → is_at_once size ≡ false → is_answering next ≡ true)
   answer_wants k next trace head size o x y =
       let step = machine_step setting k next trace (record { event = on.answer head size; outcome = o }) x y in
-      subst (λ (n : Kept). (waits_for_answer n ≡ false) × (is_at_once size ≡ true → is_answering n ≡ false)) (sym step.keeps)
-      (answer_change head size k k.exchange step.change step.changes)
+      subst (HasHead size k) (sym step.keeps) (answer_change head size k k.exchange step.change step.changes)
 
   -- its end
   end_less : (k : Kept) (x : Exchange) (reply : Reply)
@@ -322,7 +394,7 @@ module _ (setting : Setting) where
   end_wants k next trace o allowed x y =
       let step = machine_step setting k next trace (record { event = on.body_end; outcome = o }) x y in
       let two = end_change k k.exchange step.change step.changes in (
-        wants_less k next (λ runs. running_of k on.body_end refl allowed) (as_next k step.change.kept next step.coming step.keeps two.0),
+        wants_less k next (λ runs. running_of k on.body_end refl allowed) (less_next k step.change.kept next step.coming step.keeps two.0),
         subst (λ (n : Kept). is_answering n ≡ false) (sym step.keeps) two.1,
       )
 
@@ -343,9 +415,9 @@ module _ (setting : Setting) where
 
   -- the next head
   abbrev NextSo : Kept → on.Outcome → Kept → Type 0
-  NextSo k (on.head h) m = is_answering m ≡ false
+  NextSo k (on.head h) m = (is_answering m ≡ false) × (waits_for_answer m ≡ true)
   NextSo k (on.closed end) m = m.is_over ≡ true
-  NextSo k o m = Less k m × (closing_by setting k ≡ None)
+  NextSo k o m = Alike k m × (closing_by setting k ≡ None)
 
   abbrev OfChange : Kept → Change → Type 0
   OfChange k c = NextSo k c.outcome c.kept
@@ -359,7 +431,7 @@ module _ (setting : Setting) where
   upcoming k true c none (start, end, what, piece, reading, is) = subst (OfChange k) (sym is) (by_what what)
     where
       by_what : (what : Reading) → OfChange k (behind_head k end what)
-      by_what (head_is h) = refl
+      by_what (head_is h) = (refl, ap not (frames_in_rest k.has_ended (drop end k.unread) (whole_rest h.body) ∙ none_whole h.body))
       by_what (faulty f) = (same k, none)
 
   next_case : (k : Kept) (closing : Option End) (c : Change) → closing_by setting k ≡ closing → IsNext setting k closing c → OfChange k c
@@ -368,13 +440,19 @@ module _ (setting : Setting) where
 
   noted : (k m next : Kept) (coming : Bool) (o : on.Outcome) → next ≡ noting_since setting (record m { is_coming = coming }) → k.is_over ≡ false
       → NextSo k o m → WantsAfterNext setting o k next
-  noted k m next coming (on.head h) is over x = λ runs. ap (λ (n : Kept). is_answering n) is ∙ x
+  noted k m next coming (on.head h) is over x =
+      (λ runs. ap (λ (n : Kept). is_answering n) is ∙ x.0, λ runs. ap (λ (n : Kept). waits_for_answer n) is ∙ x.1)
   noted k m next coming (on.closed end) is over x =
       let stops : is_running setting next ≡ true → ⊥ = over_stops next (ap (λ (n : Kept). n.is_over) is ∙ x) in
-      record { answered = λ old runs. absurd (stops runs); complete = λ old runs. absurd (stops runs) }
-  noted k m next coming on.pending is over x = wants_less k next (λ runs. running_none k over x.1) (as_next k m next coming is x.0)
-  noted k m next coming (on.fault f) is over x = wants_less k next (λ runs. running_none k over x.1) (as_next k m next coming is x.0)
-  noted k m next coming o is over x = wants_less k next (λ runs. running_none k over x.1) (as_next k m next coming is x.0)
+      record {
+        answered = λ old runs. absurd (stops runs);
+        complete = λ old runs. absurd (stops runs);
+        waited = λ old runs. absurd (stops runs);
+        answering = λ old runs. absurd (stops runs);
+      }
+  noted k m next coming on.pending is over x = wants_alike k next (λ runs. running_none k over x.1) (as_next k m next coming is x.0)
+  noted k m next coming (on.fault f) is over x = wants_alike k next (λ runs. running_none k over x.1) (as_next k m next coming is x.0)
+  noted k m next coming o is over x = wants_alike k next (λ runs. running_none k over x.1) (as_next k m next coming is x.0)
 
   pub next_wants : (k next : Kept) (trace : List Step) (o : on.Outcome) → allowed_by setting k on.next ≡ true
       → StandsFor setting k trace → StandsFor setting next (record { event = on.next; outcome = o } ∷ trace) → WantsAfterNext setting o k next

@@ -17,10 +17,25 @@ IsAnswered setting k = is_running setting k ≡ true → waits_for_answer k ≡ 
 abbrev pub IsComplete : Setting → Kept → Type 0
 IsComplete setting k = is_running setting k ≡ true → is_answering k ≡ false
 
+-- while it goes on, a request waits for its answer
+abbrev pub IsWaitedFor : Setting → Kept → Type 0
+IsWaitedFor setting k = is_running setting k ≡ true → waits_for_answer k ≡ true
+
+-- while it goes on, an answer lacks more of its body, or its end
+abbrev pub IsAnswering : Setting → Kept → Type 0
+IsAnswering setting k = is_running setting k ≡ true → is_answering k ≡ true
+
 -- nothing is wanted that wasn't before
 pub record WantsNoMore (setting : Setting) (old new : Kept) : Type 0 where
   pub answered : IsAnswered setting old → IsAnswered setting new
   pub complete : IsComplete setting old → IsComplete setting new
+
+-- and what was wanted still is
+pub record WantsTheSame (setting : Setting) (old new : Kept) : Type 0 where
+  pub answered : IsAnswered setting old → IsAnswered setting new
+  pub complete : IsComplete setting old → IsComplete setting new
+  pub waited : IsWaitedFor setting old → IsWaitedFor setting new
+  pub answering : IsAnswering setting old → IsAnswering setting new
 
 -- an event that hands out no request, and hands in no head of an answer and no end of one
 abbrev pub AnswersNothing : on.Event → Type 0
@@ -33,7 +48,7 @@ AnswersNothing (on.write n) = ⊤
 AnswersNothing (on.tick ms) = ⊤
 AnswersNothing event = ⊥
 
--- after a head no answer is under way; else nothing more is wanted
+-- after a head its request waits, and no answer is under way; else what is wanted is what was
 abbrev pub WantsAfterNext : Setting → on.Outcome → Kept → Kept → Type 0
-WantsAfterNext setting (on.head h) old new = IsComplete setting new
-WantsAfterNext setting o old new = WantsNoMore setting old new
+WantsAfterNext setting (on.head h) old new = IsComplete setting new × IsWaitedFor setting new
+WantsAfterNext setting o old new = WantsTheSame setting old new

@@ -11,7 +11,7 @@ ghost use Rattle.h1_client_machine.specs.ClientEvent as asked;
 ghost use Rattle.h1_client_machine.specs.ClientKept.{ClientKept, client_allows, client_closing};
 ghost use Rattle.h1_client_machine.specs.ClientStep.{IsClientStep};
 ghost use Rattle.h1_client_machine.specs.ClientTrace.{Happened, IsClientTrace};
-ghost use Rattle.h1_forward_left.specs.Wants.{is_running, WantsNoMore, AnswersNothing, WantsAfterNext};
+ghost use Rattle.h1_forward_left.specs.Wants.{is_running, WantsNoMore, WantsTheSame, AnswersNothing, WantsAfterNext};
 ghost use Rattle.h1_forward_left.specs.Left.{client_left, AsksNothing, LeavesAfterNext, LeavesAfterPull, server_left, LeavesAll, LeavesAfterAnswer, LeavesAfterPiece};
 
 /// Of the client's connection: a head that is handed out leaves less, by more than a request has parts to do, and after a fault the
@@ -42,23 +42,25 @@ pub fn no_more_is_held()
     ensures server { (setting : Setting) (k : ClientKept) (trace : List Happened) → IsClientTrace setting trace k → length k.unread ≤ setting.hold_size }
 {}
 
-/// Which answers the client's connection wants, while it goes on: no call but for the next head wants more; after the head of an answer
-/// no request waits for one, and where it ends at once, nothing is under way; after the end of an answer, or one that is cut, none is.
+/// Which answers the client's connection wants, while it goes on: after a head its request waits, and no answer is under way; after the
+/// head of an answer no request waits for one, and one is under way unless it ends at once; after the end of an answer, or one that is
+/// cut, none is; what any other event leaves wanted is what was.
 pub fn no_more_answers_are_wanted()
     ensures next { (setting : Setting) (k next : Kept) (trace : List Step) (o : on.Outcome) → allowed_by setting k on.next ≡ true → StandsFor setting k trace
         → StandsFor setting next (record { event = on.next; outcome = o } ∷ trace) → WantsAfterNext setting o k next }
     ensures pull { (setting : Setting) (k next : Kept) (trace : List Step) (o : on.Outcome) → allowed_by setting k on.drop_body ≡ true
-        → StandsFor setting k trace → StandsFor setting next (record { event = on.pull; outcome = o } ∷ trace) → WantsNoMore setting k next }
+        → StandsFor setting k trace → StandsFor setting next (record { event = on.pull; outcome = o } ∷ trace) → WantsTheSame setting k next }
     ensures answer { (setting : Setting) (k next : Kept) (trace : List Step) (head : AnswerHead) (size : BodySize) (o : on.Outcome) → StandsFor setting k trace
         → StandsFor setting next (record { event = on.answer head size; outcome = o } ∷ trace)
-        → (waits_for_answer next ≡ false) × (is_at_once size ≡ true → is_answering next ≡ false) }
+        → (waits_for_answer next ≡ false) × (is_at_once size ≡ true → is_answering next ≡ false)
+        × (waits_for_answer k ≡ true → is_at_once size ≡ false → is_answering next ≡ true) }
     ensures end { (setting : Setting) (k next : Kept) (trace : List Step) (o : on.Outcome) → allowed_by setting k on.body_end ≡ true → StandsFor setting k trace
         → StandsFor setting next (record { event = on.body_end; outcome = o } ∷ trace) → WantsNoMore setting k next × (is_answering next ≡ false) }
     ensures cut { (setting : Setting) (k next : Kept) (trace : List Step) (o : on.Outcome) → StandsFor setting k trace
         → StandsFor setting next (record { event = on.body_error; outcome = o } ∷ trace) → is_running setting next ≡ true → ⊥ }
     ensures others { (setting : Setting) (k next : Kept) (trace : List Step) (event : on.Event) (o : on.Outcome) → AnswersNothing event
         → allowed_by setting k event ≡ true → StandsFor setting k trace
-        → StandsFor setting next (record { event = event; outcome = o } ∷ trace) → WantsNoMore setting k next }
+        → StandsFor setting next (record { event = event; outcome = o } ∷ trace) → WantsTheSame setting k next }
 {}
 
 /// Where a server's next answer isn't there yet, its connection isn't to end, and that is as it was; where no byte of an answer's body is,

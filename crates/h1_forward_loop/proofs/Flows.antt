@@ -1,10 +1,12 @@
 -- Bytes between sockets and a forwarder, one call after another.
-use Rattle.std.proofs.Common.{◌≡◌, ℕ, List, length, Option, subst}
+use Rattle.std.proofs.Common.{◌≡◌, ℕ, Bool, true, false, List, length, Option, None, refl, sym, subst}
+use Rattle.std.proofs.lemmas.Bool.{false≢true}
 use Rattle.std.specs.Io.KnownBytes.{Consumes}
+use Rattle.http_config.specs.Causes.{counted}
 use Rattle.h1_forward_model.specs.Past.{ProxyEvent, took}
 use Rattle.h1_proxy.specs.declared.proxy.Proxy.{Proxy}
 use Rattle.h1_proxy.specs.Kept.{GoesBy}
-use Rattle.h1_forward_loop.specs.Flow.{TakesIn}
+use Rattle.h1_forward_loop.specs.Flow.{TakesIn, HasWriteCause}
 use Rattle.h1_forward_loop.specs.declared.flow.TakenIn.TheVariants as came
 
 -- all that came was taken
@@ -12,3 +14,12 @@ pub took_all : (event : List ℕ → ProxyEvent) (n m : ℕ) (old new : Proxy) (
     → Consumes left rest bytes → GoesBy (event bytes) (took m) old new → TakesIn event old left rest (came.Bytes n) new
 took_all event n m old new left rest bytes size same consumes goes =
     (bytes, size, (consumes, subst (λ (k : ℕ). GoesBy (event bytes) (took k) old new) same goes))
+
+-- nothing might be written, or the sink failed
+pub not_allowed : (allowed : Bool) (faults : ℕ) → allowed ≡ false → HasWriteCause allowed faults faults None
+not_allowed false faults is = refl
+not_allowed true faults is = absurd (false≢true (sym is))
+
+pub has_failed : (allowed : Bool) (before now : ℕ) → allowed ≡ true → now ≡ counted before → HasWriteCause allowed before now None
+has_failed true before now is faults = faults
+has_failed false before now is faults = absurd (false≢true is)

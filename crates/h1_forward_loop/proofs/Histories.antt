@@ -1,10 +1,11 @@
 -- A forwarder has a history after each call.
-use Rattle.std.proofs.Common.{◌≡◌, [], ◌∷◌, subst}
+use Rattle.std.proofs.Common.{◌≡◌, Bool, true, false, [], ◌∷◌, subst, refl, sym}
+use Rattle.std.proofs.lemmas.Bool.{false≢true}
 use Rattle.h1_forward_model.specs.Past.{ProxyEvent, ProxyOutcome}
 use Rattle.h1_forward_traces.specs.Happenings.{nothing_happened}
 use Rattle.h1_proxy.specs.declared.proxy.Proxy.{Proxy}
 use Rattle.h1_proxy.specs.Kept.{Forwards, Goes, GoesBy}
-use Rattle.h1_forward_loop.specs.History.{HasHistory}
+use Rattle.h1_forward_loop.specs.History.{HasHistory, IfTold}
 
 pub begins : (p : Proxy) → Forwards p [] nothing_happened → HasHistory p
 begins p stands = record { history = []; all = nothing_happened; stands = stands }
@@ -23,3 +24,13 @@ seen p q new is goes = subst (λ (p : Proxy). Goes p new) is goes
 
 pub seen_by : (event : ProxyEvent) (outcome : ProxyOutcome) (p q new : Proxy) → p ≡ q → GoesBy event outcome p new → GoesBy event outcome q new
 seen_by event outcome p q new is goes = subst (λ (p : Proxy). GoesBy event outcome p new) is goes
+
+-- it is told where that is allowed, and else nothing is
+pub told : (allowed : Bool) (event : ProxyEvent) (outcome : ProxyOutcome) (old new : Proxy) → allowed ≡ true → GoesBy event outcome old new
+    → IfTold allowed event outcome old new
+told true event outcome old new is goes = goes
+told false event outcome old new is goes = absurd (false≢true is)
+
+pub untold : (allowed : Bool) (event : ProxyEvent) (outcome : ProxyOutcome) (old : Proxy) → allowed ≡ false → IfTold allowed event outcome old old
+untold false event outcome old is = refl
+untold true event outcome old is = absurd (false≢true (sym is))

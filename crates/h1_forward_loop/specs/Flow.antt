@@ -1,9 +1,12 @@
 -- Bytes between sockets and a forwarder.
-use Rattle.std.specs.Prelude.{◌≡◌, ℕ, List, [], length, take, Option, Some, None}
+use Rattle.std.specs.Prelude.{◌≡◌, ℕ, Bool, true, false, List, [], length, take, Option, Some, None}
 use Rattle.std.specs.Io.KnownBytes.{Consumes, Keeps, IsAtEnd, Appends}
+use Rattle.http_config.specs.Causes.{counted}
+use Rattle.h1_model.specs.Event as on
+use Rattle.h1_client_machine.specs.ClientEvent as asked
 use Rattle.h1_forward_model.specs.Past.{ProxyEvent, took, gave}
 use Rattle.h1_proxy.specs.declared.proxy.Proxy.{Proxy}
-use Rattle.h1_proxy.specs.Kept.{GoesBy}
+use Rattle.h1_proxy.specs.Kept.{GoesBy, server_of, client_takes, server_allows}
 use Rattle.h1_forward_loop.specs.declared.flow.TakenIn.{TakenIn}
 use Rattle.h1_forward_loop.specs.declared.flow.TakenIn.TheVariants as came
 
@@ -28,3 +31,26 @@ TakesIn event old left rest (came.Cut n) new = (bytes : List ℕ) × Told event 
 abbrev pub Writes : (ℕ → ProxyEvent) → List ℕ → Proxy → Option (List ℕ) → Option (List ℕ) → Option ℕ → Proxy → Type 0
 Writes event waited old given after (Some n) new = Appends given after (take n waited) × GoesBy (event n) (gave (take n waited)) old new
 Writes event waited old given after None new = Keeps given after × (new ≡ old)
+
+-- ---- causes
+
+-- Of so many bytes that there was room for: the source was asked unless there was room for none, and failed only where it counted a fault.
+abbrev pub HasReadCause : ℕ → ℕ → ℕ → TakenIn → Type 0
+HasReadCause limit before now (came.Bytes n) = now ≡ before
+HasReadCause limit before now came.End = now ≡ before
+HasReadCause limit before now came.Failed = now ≡ counted before
+HasReadCause limit before now came.Full = (limit ≡ 0) × (now ≡ before)
+HasReadCause limit before now (came.Cut n) = now ≡ before
+
+-- bytes may be written towards a side
+abbrev pub may_write_client : Proxy → Bool
+may_write_client p = client_takes p (on.write 0)
+
+abbrev pub may_write_server : Proxy → Bool
+may_write_server p = server_allows (server_of p) (asked.write 0)
+
+-- Where something might be written, it wasn't only where the sink counted a fault.
+abbrev pub HasWriteCause : Bool → ℕ → ℕ → Option ℕ → Type 0
+HasWriteCause allowed before now (Some n) = now ≡ before
+HasWriteCause true before now None = now ≡ counted before
+HasWriteCause false before now None = now ≡ before

@@ -1,9 +1,12 @@
 -- A forwarder that has a history.
-use Rattle.std.specs.Prelude.{◌≡◌, Bool, true, false, List}
-use Rattle.h1_forward_model.specs.Past.{ProxyStep, ProxyEvent, ProxyOutcome}
+use Rattle.std.specs.Prelude.{◌≡◌, ℕ, Bool, true, false, List}
+use Rattle.h1_model.specs.Event as on
+use Rattle.h1_client_machine.specs.ClientEvent as asked
+use Rattle.h1_forward_model.specs.Past as told
+use Rattle.h1_forward_model.specs.Past.{ProxyStep, ProxyEvent, ProxyOutcome, done}
 use Rattle.h1_forward_traces.specs.Happenings.{Happenings}
 use Rattle.h1_proxy.specs.declared.proxy.Proxy.{Proxy}
-use Rattle.h1_proxy.specs.Kept.{Forwards, GoesBy}
+use Rattle.h1_proxy.specs.Kept.{Forwards, GoesBy, server_of, server_allows, client_takes, wants_server}
 
 -- it stands for what happened after some events
 pub record HasHistory (p : Proxy) : Type 0 where
@@ -15,3 +18,18 @@ pub record HasHistory (p : Proxy) : Type 0 where
 abbrev pub IfTold : Bool → ProxyEvent → ProxyOutcome → Proxy → Proxy → Type 0
 IfTold true event outcome old new = GoesBy event outcome old new
 IfTold false event outcome old new = new ≡ old
+
+-- that the server has ended is told exactly where its connection is there and hasn't
+abbrev pub EndsServer : Proxy → Proxy → Type 0
+EndsServer old new = IfTold (server_allows (server_of old) asked.eof) told.server_eof done old new
+
+-- that a server connection is there, or can't be had, is told exactly where one is wanted
+abbrev pub Connects : Proxy → Proxy → Type 0
+Connects old new = IfTold (wants_server old) told.connected done old new
+
+abbrev pub Refuses : Proxy → Proxy → Type 0
+Refuses old new = IfTold (wants_server old) told.refused done old new
+
+-- a moment is told exactly where it may come
+abbrev pub Ticks : ℕ → Proxy → Proxy → Type 0
+Ticks moment old new = IfTold (client_takes old (on.tick moment)) (told.tick moment) done old new

@@ -1,8 +1,8 @@
 //! Bytes between sockets and a forwarder.
-ghost use Rattle.std.specs.Prelude.{◌<◌, IfOk, length};
+ghost use Rattle.std.specs.Prelude.{◌<◌, ℕ, IfOk, length, min};
 ghost use Rattle.h1_forward_model.specs.Past as event;
-ghost use Rattle.h1_proxy.specs.Kept.{client_of, server_of, server_text};
-ghost use Rattle.h1_forward_loop.specs.Flow.{TakesIn, Writes};
+ghost use Rattle.h1_proxy.specs.Kept.{client_of, server_of, server_text, client_room, server_room};
+ghost use Rattle.h1_forward_loop.specs.Flow.{TakesIn, Writes, HasReadCause, HasWriteCause, may_write_client, may_write_server};
 
 use crate::forwarder::Forwarder;
 use h1_proxy::NoMemory;
@@ -33,7 +33,8 @@ pub fn take_in_client<S: Source>(
     source: &mut S,
     room: &mut [u8],
 ) -> Result<TakenIn, NoMemory>
-    ensures { IfOk result (λ came. TakesIn event.client forwarder.old (S.left source.old) (S.left source.new) came forwarder.new) }
+    ensures came { IfOk result (λ came. TakesIn event.client forwarder.old (S.left source.old) (S.left source.new) came forwarder.new) }
+    ensures cause { IfOk result (λ came. HasReadCause (min (client_room forwarder.old) (length room.old)) (S.faults source.old) (S.faults source.new) came) }
 {
     let limit = forwarder.proxy().client_room().min(room.len());
     if limit == 0 {
@@ -49,7 +50,8 @@ fn read_client<S: Source>(
     piece: &mut [u8],
 ) -> Result<TakenIn, NoMemory>
     requires room { 0 < length piece.old }
-    ensures { IfOk result (λ came. TakesIn event.client forwarder.old (S.left source.old) (S.left source.new) came forwarder.new) }
+    ensures came { IfOk result (λ came. TakesIn event.client forwarder.old (S.left source.old) (S.left source.new) came forwarder.new) }
+    ensures cause { (limit : ℕ) → IfOk result (λ came. HasReadCause limit (S.faults source.old) (S.faults source.new) came) }
 {
     let Ok(count) = source.read(piece) else {
         return Ok(TakenIn::Failed);
@@ -70,7 +72,8 @@ pub fn take_in_server<S: Source>(
     source: &mut S,
     room: &mut [u8],
 ) -> Result<TakenIn, NoMemory>
-    ensures { IfOk result (λ came. TakesIn event.server forwarder.old (S.left source.old) (S.left source.new) came forwarder.new) }
+    ensures came { IfOk result (λ came. TakesIn event.server forwarder.old (S.left source.old) (S.left source.new) came forwarder.new) }
+    ensures cause { IfOk result (λ came. HasReadCause (min (server_room forwarder.old) (length room.old)) (S.faults source.old) (S.faults source.new) came) }
 {
     let limit = forwarder.proxy().server_room().min(room.len());
     if limit == 0 {
@@ -86,7 +89,8 @@ fn read_server<S: Source>(
     piece: &mut [u8],
 ) -> Result<TakenIn, NoMemory>
     requires room { 0 < length piece.old }
-    ensures { IfOk result (λ came. TakesIn event.server forwarder.old (S.left source.old) (S.left source.new) came forwarder.new) }
+    ensures came { IfOk result (λ came. TakesIn event.server forwarder.old (S.left source.old) (S.left source.new) came forwarder.new) }
+    ensures cause { (limit : ℕ) → IfOk result (λ came. HasReadCause limit (S.faults source.old) (S.faults source.new) came) }
 {
     let Ok(count) = source.read(piece) else {
         return Ok(TakenIn::Failed);
@@ -107,7 +111,8 @@ pub fn write_client<K: Sink>(
     forwarder: &mut Forwarder,
     sink: &mut K,
 ) -> Result<Option<usize>, NoMemory>
-    ensures { IfOk result (λ count. Writes event.to_client (client_of forwarder.old).kept.buffered forwarder.old (K.given sink.old) (K.given sink.new) count forwarder.new) }
+    ensures wrote { IfOk result (λ count. Writes event.to_client (client_of forwarder.old).kept.buffered forwarder.old (K.given sink.old) (K.given sink.new) count forwarder.new) }
+    ensures cause { IfOk result (λ count. HasWriteCause (may_write_client forwarder.old) (K.faults sink.old) (K.faults sink.new) count) }
 {
     if !forwarder.proxy().can_write_client() {
         return Ok(None);
@@ -125,7 +130,8 @@ pub fn write_server<K: Sink>(
     forwarder: &mut Forwarder,
     sink: &mut K,
 ) -> Result<Option<usize>, NoMemory>
-    ensures { IfOk result (λ count. Writes event.to_server (server_text (server_of forwarder.old)) forwarder.old (K.given sink.old) (K.given sink.new) count forwarder.new) }
+    ensures wrote { IfOk result (λ count. Writes event.to_server (server_text (server_of forwarder.old)) forwarder.old (K.given sink.old) (K.given sink.new) count forwarder.new) }
+    ensures cause { IfOk result (λ count. HasWriteCause (may_write_server forwarder.old) (K.faults sink.old) (K.faults sink.new) count) }
 {
     if !forwarder.proxy().can_write_server() {
         return Ok(None);

@@ -4,8 +4,8 @@ ghost use Rattle.h1_model.specs.Event as on;
 ghost use Rattle.h1_client_machine.specs.ClientEvent as asked;
 ghost use Rattle.h1_forward_model.specs.Past.{took, gave, done};
 ghost use Rattle.h1_forward_model.specs.Past as event;
-ghost use Rattle.h1_proxy.specs.Kept.{Goes, GoesBy, client_of, server_of, server_text, client_takes, server_allows};
-ghost use Rattle.h1_forward_loop.specs.History.{IfTold};
+ghost use Rattle.h1_proxy.specs.Kept.{Goes, GoesBy, client_of, server_of, server_text, client_takes, server_allows, wants_server};
+ghost use Rattle.h1_forward_loop.specs.History.{EndsServer, Connects, Refuses, Ticks};
 
 use h1_proxy::{Expiry, NoMemory, Proxy, Reply, ServiceConfig};
 use std::alloc::Global;
@@ -108,10 +108,11 @@ impl Forwarder {
         }
     }
 
-    /// The server sends no more bytes, where that may be told. It says whether it was.
+    /// The server sends no more bytes. That is told where its connection is there and hasn't ended before; it says whether it was.
     #[tactic(auto, using(crate::proofs::Histories::begins))]
     pub fn server_eof(&mut self) -> Result<bool, NoMemory>
-        ensures goes { IfOk result (λ told. IfTold told event.server_eof done self.old self.new) }
+        ensures goes { OnOk result (EndsServer self.old self.new) }
+        ensures told { IfOk result (λ told. told ≡ server_allows (server_of self.old) asked.eof) }
     {
         if !self.proxy.can_read_server() {
             return Ok(false);
@@ -125,10 +126,11 @@ impl Forwarder {
         }
     }
 
-    /// A server connection is there on which nothing has come, where one is wanted. It says whether it was told so.
+    /// A server connection is there on which nothing has come. That is told where one is wanted; it says whether it was.
     #[tactic(auto, using(crate::proofs::Histories::begins))]
     pub fn connected(&mut self) -> Result<bool, NoMemory>
-        ensures goes { IfOk result (λ told. IfTold told event.connected done self.old self.new) }
+        ensures goes { OnOk result (Connects self.old self.new) }
+        ensures told { IfOk result (λ told. told ≡ wants_server self.old) }
     {
         if !self.proxy.wants_server() {
             return Ok(false);
@@ -142,10 +144,11 @@ impl Forwarder {
         }
     }
 
-    /// A server connection can't be had, where one is wanted. It says whether it was told so.
+    /// A server connection can't be had. That is told where one is wanted; it says whether it was.
     #[tactic(auto, using(crate::proofs::Histories::begins))]
     pub fn refused(&mut self) -> Result<bool, NoMemory>
-        ensures goes { IfOk result (λ told. IfTold told event.refused done self.old self.new) }
+        ensures goes { OnOk result (Refuses self.old self.new) }
+        ensures told { IfOk result (λ told. told ≡ wants_server self.old) }
     {
         if !self.proxy.wants_server() {
             return Ok(false);
@@ -195,7 +198,8 @@ impl Forwarder {
     /// connection ran out, and nothing where it wasn't told.
     #[tactic(auto, using(crate::proofs::Histories::begins))]
     pub fn tick(&mut self, moment: u64) -> Result<Option<Expiry>, NoMemory>
-        ensures goes { IfOk result (λ expiry. IfTold (is_some expiry) (event.tick moment) done self.old self.new) }
+        ensures goes { OnOk result (Ticks moment self.old self.new) }
+        ensures told { IfOk result (λ expiry. is_some expiry ≡ client_takes self.old (on.tick moment)) }
     {
         if !self.proxy.can_tick(moment) {
             return Ok(None);

@@ -18,7 +18,7 @@
 //!
 //! A `Forwarder` always has a history: nothing but the events of `h1_proxy` changes it. Of the bytes that leave a source it
 //! is told the first ones, and which those are is said; of the bytes that wait towards a side the first ones are written,
-//! and those wait no more.
+//! and those wait no more. Every other event is made exactly where it is allowed, and its call says whether it was.
 #![tactic(auto)]
 
 mod flow;

@@ -1,2 +1,3 @@
 pub mod Sides
 pub mod Wants
+pub mod Puts

@@ -1,3 +1,4 @@
 pub mod Sides
 pub mod Leaves
 pub mod Wants
+pub mod Puts

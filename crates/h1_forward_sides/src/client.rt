@@ -1,12 +1,13 @@
 //! The calls of the client's connection, each where it is allowed.
 #![tactic(auto, using(crate::proofs::Sides::client_same))]
 
-ghost use Rattle.std.specs.Prelude.{IfOk, OnOk};
+ghost use Rattle.std.specs.Prelude.{IfOk, OnOk, []};
 ghost use Rattle.h1_model.specs.Event as on;
 ghost use Rattle.h1_forward_sides.specs.Sides.{ClientBrings, BringsNext, BringsPulled};
-ghost use Rattle.h1_codec.specs.Meaning.{size_of};
+ghost use Rattle.h1_codec.specs.Meaning.{answer_of, size_of};
 ghost use Rattle.h1_forward_sides.specs.Leaves.{LeavesNext, LeavesPulled};
-ghost use Rattle.h1_forward_sides.specs.Wants.{Wants, WantsNoMore, WantsNext, HasHead, HasEnd};
+ghost use Rattle.h1_forward_sides.specs.Wants.{Wants, WantsTheSame, WantsNext, HasHead, HasEnd};
+ghost use Rattle.h1_forward_sides.specs.Puts.{Puts, MayPut, HandsNext, HandsPulled};
 
 use h1_connection::{BodySize, Bytes, Connection, NextHead, NoMemory, Pulled, ResponseHead};
 
@@ -15,6 +16,7 @@ pub fn next_head(client: &mut Connection) -> Result<NextHead, NoMemory>
     ensures brings { IfOk result (λ next. BringsNext next client.old client.new) }
     ensures leaves { IfOk result (λ next. LeavesNext next client.old client.new) }
     ensures wants { IfOk result (λ next. Wants (WantsNext next) client.old client.new) }
+    ensures hands { IfOk result (λ next. HandsNext next client.old client.new) }
 {
     if !client.can_next() {
         return Ok(NextHead::Pending);
@@ -27,7 +29,8 @@ pub fn next_head(client: &mut Connection) -> Result<NextHead, NoMemory>
 pub fn next_bytes(client: &mut Connection) -> Result<Pulled, NoMemory>
     ensures brings { IfOk result (λ pulled. BringsPulled pulled client.old client.new) }
     ensures leaves { IfOk result (λ pulled. LeavesPulled pulled client.old client.new) }
-    ensures wants { OnOk result (Wants WantsNoMore client.old client.new) }
+    ensures wants { OnOk result (Wants WantsTheSame client.old client.new) }
+    ensures hands { IfOk result (λ pulled. HandsPulled pulled client.old client.new) }
 {
     if !client.can_pull() {
         return Ok(Pulled::Pending);
@@ -39,7 +42,8 @@ pub fn next_bytes(client: &mut Connection) -> Result<Pulled, NoMemory>
 /// The rest of the request's body isn't wanted.
 pub fn leave_body(client: &mut Connection)
     ensures brings { ClientBrings on.done client.old client.new }
-    ensures wants { Wants WantsNoMore client.old client.new }
+    ensures wants { Wants WantsTheSame client.old client.new }
+    ensures puts { Puts [] client.old client.new }
 {
     if !client.can_pull() {
         return;
@@ -50,7 +54,8 @@ pub fn leave_body(client: &mut Connection)
 /// Tells the client to go on, where it waits for that.
 pub fn tell_to_go_on(client: &mut Connection) -> Result<(), NoMemory>
     ensures brings { OnOk result (ClientBrings on.done client.old client.new) }
-    ensures wants { OnOk result (Wants WantsNoMore client.old client.new) }
+    ensures wants { OnOk result (Wants WantsTheSame client.old client.new) }
+    ensures puts { OnOk result (Puts [] client.old client.new) }
 {
     if !client.can_continue() {
         return Ok(());
@@ -67,6 +72,7 @@ pub fn put_head(
 ) -> Result<(), NoMemory>
     ensures brings { OnOk result (ClientBrings on.done client.old client.new) }
     ensures wants { OnOk result (Wants (HasHead (size_of size)) client.old client.new) }
+    ensures puts { OnOk result (MayPut (record { head = answer_of head.now; size = size_of size }) client.old client.new) }
 {
     if !client.can_answer() {
         return Ok(());
@@ -78,7 +84,8 @@ pub fn put_head(
 /// A piece of its body.
 pub fn put_piece(client: &mut Connection, bytes: Bytes) -> Result<(), NoMemory>
     ensures brings { OnOk result (ClientBrings on.done client.old client.new) }
-    ensures wants { OnOk result (Wants WantsNoMore client.old client.new) }
+    ensures wants { OnOk result (Wants WantsTheSame client.old client.new) }
+    ensures puts { OnOk result (Puts [] client.old client.new) }
 {
     if !client.can_chunk() {
         return Ok(());
@@ -91,6 +98,7 @@ pub fn put_piece(client: &mut Connection, bytes: Bytes) -> Result<(), NoMemory>
 pub fn put_end(client: &mut Connection) -> Result<(), NoMemory>
     ensures brings { OnOk result (ClientBrings on.done client.old client.new) }
     ensures wants { OnOk result (Wants HasEnd client.old client.new) }
+    ensures puts { OnOk result (Puts [] client.old client.new) }
 {
     if !client.can_end_answer() {
         return Ok(());
@@ -103,6 +111,7 @@ pub fn put_end(client: &mut Connection) -> Result<(), NoMemory>
 pub fn cut_reply(client: &mut Connection)
     ensures brings { ClientBrings on.done client.old client.new }
     ensures wants { Wants HasEnd client.old client.new }
+    ensures puts { Puts [] client.old client.new }
 {
     if !client.can_end_answer() {
         return;

@@ -6,6 +6,7 @@ ghost use Rattle.h1_codec.specs.Meaning.{size_of};
 ghost use Rattle.h1_client.specs.Meaning.{request_of};
 ghost use Rattle.h1_forward_sides.specs.Sides.{ServerStays, MayAsk, SendsBody};
 ghost use Rattle.h1_forward_sides.specs.Leaves.{LeavesAnswer, LeavesPiece};
+ghost use Rattle.h1_forward_sides.specs.Puts.{HandsAnswer};
 
 use h1_client::{ClientConnection, ClientEnd, NextAnswer, Pulled};
 use http_framing::BodySize;
@@ -51,6 +52,7 @@ pub fn sends_body(server: &ClientConnection) -> bool
 pub fn next_answer(server: &mut ClientConnection) -> Result<NextAnswer, NoMemory>
     ensures stays { OnOk result (ServerStays server.old server.new) }
     ensures leaves { IfOk result (λ next. LeavesAnswer next server.old server.new) }
+    ensures hands { IfOk result (λ next. HandsAnswer next server.old server.new) }
 {
     if !server.can_next() {
         return Ok(NextAnswer::Closed(ClientEnd::BrokenAnswer));

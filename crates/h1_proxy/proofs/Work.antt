@@ -33,6 +33,7 @@ use Rattle.h1_proxy.specs.declared.proxy.Sent.{Sent}
 use Rattle.h1_proxy.specs.Kept.{is_closing, HasSettings, Forwards, Goes, GoesBy, Runs, IsIdle}
 use Rattle.h1_forward_model.specs.Rests.{MAX_WAITING}
 use Rattle.h1_proxy.specs.declared.notes.Notes.{Notes}
+use Rattle.h1_proxy.specs.Replies.{HasReplied}
 use Rattle.h1_proxy.specs.Served.{GoesOnServing}
 use Rattle.h1_proxy.specs.Rests.{may_begin, may_turn, RestsSent, RestsBy, Rests, RestsWhereItMay, Settles, mark, sent_left, request_left, side_left, left, going_on, work, ServerTold, Told, LeavesLess, IsNoted, LeavesMore, Works, Turns, BodyRests, WorksBody}
 
@@ -435,6 +436,7 @@ work_fits p history all f =
 -- so many were made
 pub record HasTurned (n : ℕ) (p q : Proxy) : Type 0 where
   pub goes : Goes p q
+  pub replies : HasReplied p q
   pub leaves : (history : List ProxyStep) (all : Happenings) → Forwards p history all → Told q × (work q + n ≤ work p)
   pub serves : GoesOnServing p q
 

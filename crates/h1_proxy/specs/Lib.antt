@@ -1,3 +1,4 @@
 pub mod Kept
 pub mod Rests
 pub mod Served
+pub mod Replies

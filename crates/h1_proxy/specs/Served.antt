@@ -4,21 +4,23 @@ use Rattle.h1_model.specs.Sums.{Step}
 use Rattle.h1_connection.specs.State.{State, Stands}
 use Rattle.h1_forward_model.specs.Past.{ProxyStep}
 use Rattle.h1_forward_traces.specs.Happenings.{Happenings}
-use Rattle.h1_forward_sides.specs.Wants.{IsAnswered, IsComplete}
+use Rattle.h1_forward_sides.specs.Wants.{IsAnswered, IsComplete, IsWaitedFor, IsAnswering}
 use Rattle.h1_proxy.specs.declared.proxy.Proxy.{Proxy}
 use Rattle.h1_proxy.specs.declared.proxy.Unsent.{Unsent}
 use Rattle.h1_proxy.specs.declared.proxy.Sent.{Sent}
 use Rattle.h1_proxy.specs.Kept.{Forwards}
 
--- by whether the head of its answer was passed on: no request waits for one, or no answer is under way
+-- by whether the head of its answer was passed on: then no request waits for one, and an answer is under way; else a request waits, and
+-- none is
 abbrev pub FitsAnswer : Bool → State → Type 0
-FitsAnswer true client = IsAnswered client
-FitsAnswer false client = IsComplete client
+FitsAnswer true client = IsAnswered client × IsAnswering client
+FitsAnswer false client = IsComplete client × IsWaitedFor client
 
--- What the client's connection wants is what the request that is under way is to get: one that waits for a server connection, or was sent
--- on and has no answer yet, gets the head of one; then what is missing of that. Where none is under way, nothing is wanted.
+-- What the client's connection wants is what the request that is under way is to get, no more and no less: one that waits for a server
+-- connection, or was sent on and has no answer yet, gets the head of one; then what is missing of that. Where none is under way, nothing is
+-- wanted.
 abbrev pub Fits : Option Unsent → Option Sent → State → Type 0
-Fits (Some u) sent client = IsComplete client × (u.sent.is_answered ≡ false)
+Fits (Some u) sent client = FitsAnswer false client × (u.sent.is_answered ≡ false)
 Fits None (Some s) client = FitsAnswer s.is_answered client
 Fits None None client = IsAnswered client × IsComplete client
 
@@ -42,12 +44,13 @@ pub record Serving (p : Proxy) : Type 0 where
 abbrev pub GoesOnServing : Proxy → Proxy → Type 0
 GoesOnServing old new = Serving old → Serving new
 
--- no answer is under way
+-- a request waits for its answer, and none is under way
 pub record HasNoReply (p : Proxy) : Type 0 where
   pub told : HasTrace p.client
   pub complete : IsComplete p.client
+  pub waited : IsWaitedFor p.client
 
--- and no request waits for one
+-- no request waits for an answer, and none is under way
 pub record WantsNothing (p : Proxy) : Type 0 where
   pub told : HasTrace p.client
   pub answered : IsAnswered p.client

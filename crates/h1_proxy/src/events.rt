@@ -7,6 +7,7 @@ ghost use Rattle.h1_client_machine.specs.ClientEvent as asked;
 ghost use Rattle.h1_forward_model.specs.Past.{took, gave, done};
 ghost use Rattle.h1_forward_model.specs.Past as event;
 ghost use Rattle.h1_proxy.specs.Rests.{Settles};
+ghost use Rattle.h1_proxy.specs.Replies.{PutsNoHead, Replies, RepliesRefused};
 ghost use Rattle.h1_proxy.specs.Served.{Serves, GoesOnServing};
 ghost use Rattle.h1_proxy.specs.Kept.{client_of, server_of, wants_server, server_text, server_allows, client_takes, client_room, server_room, TakesAll, Goes, GoesBy};
 
@@ -22,6 +23,7 @@ impl Proxy {
         ensures took { IfOk result (λ count. TakesAll count bytes.now (client_room self.old) self.old) }
         ensures rests { OnOk result (Settles self.old self.new) }
         ensures serves { OnOk result (Serves self.old self.new) }
+        ensures replies { OnOk result (Replies self.old self.new) }
     {
         let taken = self.take_from_client(bytes)?;
         self.settle()?;
@@ -32,6 +34,7 @@ impl Proxy {
         ensures goes { IfOk result (λ count. GoesBy (event.client bytes.now) (took count) self.old self.new) }
         ensures took { IfOk result (λ count. TakesAll count bytes.now (client_room self.old) self.old) }
         ensures serves { OnOk result (GoesOnServing self.old self.new) }
+        ensures replies { OnOk result (PutsNoHead self.old self.new) }
     {
         if self.client_room() == 0 {
             return Ok(0);
@@ -49,6 +52,7 @@ impl Proxy {
         ensures took { IfOk result (λ count. TakesAll count bytes.now (server_room self.old) self.old) }
         ensures rests { OnOk result (Settles self.old self.new) }
         ensures serves { OnOk result (Serves self.old self.new) }
+        ensures replies { OnOk result (Replies self.old self.new) }
     {
         let taken = self.take_from_server(bytes)?;
         self.settle()?;
@@ -59,6 +63,7 @@ impl Proxy {
         ensures goes { IfOk result (λ count. GoesBy (event.server bytes.now) (took count) self.old self.new) }
         ensures took { IfOk result (λ count. TakesAll count bytes.now (server_room self.old) self.old) }
         ensures serves { OnOk result (GoesOnServing self.old self.new) }
+        ensures replies { OnOk result (PutsNoHead self.old self.new) }
     {
         if self.server_room() == 0 {
             return Ok(0);
@@ -79,6 +84,7 @@ impl Proxy {
         ensures goes { OnOk result (GoesBy event.client_eof done self.old self.new) }
         ensures rests { OnOk result (Settles self.old self.new) }
         ensures serves { OnOk result (Serves self.old self.new) }
+        ensures replies { OnOk result (Replies self.old self.new) }
     {
         self.end_client();
         self.settle()?;
@@ -88,6 +94,7 @@ impl Proxy {
     fn end_client(&mut self)
         ensures goes { GoesBy event.client_eof done self.old self.new }
         ensures serves { GoesOnServing self.old self.new }
+        ensures replies { PutsNoHead self.old self.new }
     {
         if !self.client.can_read() {
             return;
@@ -101,6 +108,7 @@ impl Proxy {
         ensures goes { OnOk result (GoesBy event.server_eof done self.old self.new) }
         ensures rests { OnOk result (Settles self.old self.new) }
         ensures serves { OnOk result (Serves self.old self.new) }
+        ensures replies { OnOk result (Replies self.old self.new) }
     {
         self.end_server();
         self.settle()?;
@@ -111,6 +119,7 @@ impl Proxy {
         requires can_read_server { IsTrue (server_allows (server_of self.old) asked.eof) }
         ensures goes { GoesBy event.server_eof done self.old self.new }
         ensures serves { GoesOnServing self.old self.new }
+        ensures replies { PutsNoHead self.old self.new }
     {
         let Some(mut server) = self.server.take() else {
             return;
@@ -125,6 +134,7 @@ impl Proxy {
         ensures goes { OnOk result (GoesBy event.connected done self.old self.new) }
         ensures rests { OnOk result (Settles self.old self.new) }
         ensures serves { OnOk result (Serves self.old self.new) }
+        ensures replies { OnOk result (Replies self.old self.new) }
     {
         self.server = Some(ClientConnection::new(self.alloc, self.config));
         self.settle()?;
@@ -137,6 +147,7 @@ impl Proxy {
         ensures goes { OnOk result (GoesBy event.refused done self.old self.new) }
         ensures rests { OnOk result (Settles self.old self.new) }
         ensures serves { OnOk result (Serves self.old self.new) }
+        ensures replies { OnOk result (RepliesRefused self.old self.new) }
     {
         let unsent = self.unsent.take();
         self.sent = None;
@@ -153,6 +164,7 @@ impl Proxy {
         ensures goes { OnOk result (GoesBy (event.to_client count) (gave (take count (client_of self.old).kept.buffered)) self.old self.new) }
         ensures rests { OnOk result (Settles self.old self.new) }
         ensures serves { OnOk result (Serves self.old self.new) }
+        ensures replies { OnOk result (Replies self.old self.new) }
     {
         self.client.advance(count);
         self.settle()?;
@@ -166,6 +178,7 @@ impl Proxy {
         ensures goes { OnOk result (GoesBy (event.to_server count) (gave (take count (server_text (server_of self.old)))) self.old self.new) }
         ensures rests { OnOk result (Settles self.old self.new) }
         ensures serves { OnOk result (Serves self.old self.new) }
+        ensures replies { OnOk result (Replies self.old self.new) }
     {
         self.write_server(count);
         self.settle()?;
@@ -177,6 +190,7 @@ impl Proxy {
         requires fits { count ≤ length (server_text (server_of self.old)) }
         ensures goes { GoesBy (event.to_server count) (gave (take count (server_text (server_of self.old)))) self.old self.new }
         ensures serves { GoesOnServing self.old self.new }
+        ensures replies { PutsNoHead self.old self.new }
     {
         let Some(mut server) = self.server.take() else {
             return;
@@ -192,6 +206,7 @@ impl Proxy {
         ensures goes { OnOk result (GoesBy (event.tick moment) done self.old self.new) }
         ensures rests { OnOk result (Settles self.old self.new) }
         ensures serves { OnOk result (Serves self.old self.new) }
+        ensures replies { OnOk result (Replies self.old self.new) }
     {
         let expiry = self.client.tick(moment)?;
         self.moment = Some(moment);

@@ -2,7 +2,7 @@
 ghost use Rattle.std.specs.Prelude.{◌≡◌, ◌⊎◌, ◌≤◌, ℕ, List, length, Some, true, false};
 ghost use Rattle.h1_model.specs.Event as on;
 ghost use Rattle.h1_machine.specs.Local.{waits_for_answer, is_answering};
-ghost use Rattle.h1_connection.specs.State.{IsAllowed};
+ghost use Rattle.h1_connection.specs.State.{IsAllowed, IsNextAllowed};
 ghost use Rattle.h1_client.specs.State as servers;
 ghost use Rattle.h1_forward_model.specs.Past.{ProxyStep};
 ghost use Rattle.h1_forward_traces.specs.Happenings.{Happenings};
@@ -31,4 +31,12 @@ pub fn no_client_waits_in_vain()
     ensures body { (p : Proxy) → IsServed p → RestsWhereItMay p → may_turn p ≡ true → (client_of p).kept.is_over ≡ false
         → is_answering (client_of p).kept ≡ true
         → (s : servers.State) × (server_of p ≡ Some s) × (((bytes : List ℕ) → IsAllowed (client_of p) (on.chunk bytes)) → LacksBytes s) }
+{}
+
+/// No request is left behind one whose reply is complete. After an event, while turns may be made and the client's connection isn't given up:
+/// where no request waits for its answer, and no answer is under way, no whole head of a further request is there.
+pub fn no_request_is_left_behind()
+    ensures { (p : Proxy) → IsServed p → RestsWhereItMay p → may_turn p ≡ true → (client_of p).kept.is_over ≡ false
+        → waits_for_answer (client_of p).kept ≡ false → is_answering (client_of p).kept ≡ false → IsNextAllowed (client_of p)
+        → (client_of p).kept.is_coming ≡ false }
 {}

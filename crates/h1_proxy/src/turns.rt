@@ -1,12 +1,15 @@
 //! What a forwarder does of its own between two events, turn by turn.
 #![tactic(auto)]
 
-ghost use Rattle.std.specs.Prelude.{◌≡◌, ◌<◌, ◌+◌, ◌*◌, IsTrue, None, Some, true, false, not, is_some, length, OnOk, IfOk};
+ghost use Rattle.std.specs.Prelude.{◌≡◌, ◌<◌, ◌+◌, ◌*◌, [], ◌∷◌, IsTrue, None, Some, true, false, not, is_some, length, OnOk, IfOk};
 ghost use Rattle.h1_model.specs.Event as on;
 ghost use Rattle.h1_forward_sides.specs.Sides.{ServerStays, SendsBody};
 ghost use Rattle.h1_forward_model.specs.Rests.{MAX_WAITING};
 ghost use Rattle.h1_proxy.specs.Kept.{Goes, GoesWith, GoesUnsent, GoesFrom, IsIdle, Runs};
 ghost use Rattle.h1_proxy.specs.Served.{Serving, GoesOnServing, HasNoReply};
+ghost use Rattle.h1_forward_heads.specs.Meaning.{status_of};
+ghost use Rattle.h1_forward_sides.specs.Puts.{Puts};
+ghost use Rattle.h1_proxy.specs.Replies.{own, AtMost, TurnReplies, HasReplied, Fails, Breaks, PassesBody, PassesHead, TakesAnswer, Opens};
 ghost use Rattle.h1_proxy.specs.Rests.{may_turn, Settles, LeavesLess, LeavesMore, Works, WorksBody, Turns};
 
 use crate::proxy::{MAX_WAITING, Proxy, Sent, Unsent};
@@ -26,6 +29,7 @@ impl Proxy {
         ensures goes { OnOk result (Goes self.old self.new) }
         ensures rests { OnOk result (Settles self.old self.new) }
         ensures serves { OnOk result (GoesOnServing self.old self.new) }
+        ensures replies { OnOk result (HasReplied self.old self.new) }
     {
         for turn in 0..self.most_turns() {
             let more = self.turn()?;
@@ -48,6 +52,7 @@ impl Proxy {
         ensures goes { OnOk result (Goes self.old self.new) }
         ensures works { IfOk result (λ more. Turns more self.old self.new) }
         ensures serves { OnOk result (GoesOnServing self.old self.new) }
+        ensures replies { OnOk result (TurnReplies self.old self.new) }
     {
         if self.is_still() {
             return Ok(false);
@@ -83,6 +88,7 @@ impl Proxy {
         ensures goes { OnOk result (GoesUnsent unsent self.old self.new) }
         ensures works { IfOk result (λ more. Works more (record self.old { unsent = Some unsent }) self.new) }
         ensures serves { OnOk result (GoesOnServing (record self.old { unsent = Some unsent }) self.new) }
+        ensures replies { OnOk result (TurnReplies (record self.old { unsent = Some unsent }) self.new) }
     {
         if self.is_server_over() {
             self.server = None;
@@ -129,6 +135,7 @@ impl Proxy {
         ensures goes { OnOk result (Goes self.old self.new) }
         ensures works { IfOk result (λ more. Works more self.old self.new) }
         ensures serves { OnOk result (GoesOnServing self.old self.new) }
+        ensures replies { OnOk result (TurnReplies self.old self.new) }
     {
         match self.sent {
             Some(sent) => {
@@ -148,6 +155,7 @@ impl Proxy {
         ensures goes { OnOk result (Goes self.old self.new) }
         ensures works { IfOk result (λ more. Works more self.old self.new) }
         ensures serves { OnOk result (GoesOnServing self.old self.new) }
+        ensures replies { OnOk result (TurnReplies self.old self.new) }
     {
         if self.is_server_over() {
             self.server = None;
@@ -162,6 +170,7 @@ impl Proxy {
         ensures goes { OnOk result (Goes self.old self.new) }
         ensures works { IfOk result (λ more. Works more self.old self.new) }
         ensures serves { OnOk result (GoesOnServing self.old self.new) }
+        ensures replies { OnOk result (TurnReplies self.old self.new) }
     {
         match next_head(&mut self.client)? {
             NextHead::Head(item) => {
@@ -183,6 +192,7 @@ impl Proxy {
         ensures goes { OnOk result (GoesFrom item self.old self.new) }
         ensures works { OnOk result (LeavesMore 3 self.old self.new) }
         ensures serves { OnOk result (HasNoReply self.old → Serving self.new) }
+        ensures replies { OnOk result (Opens item self.old.client self.new.client) }
     {
         if !is_forwardable(&item) {
             self.server = None;
@@ -201,6 +211,7 @@ impl Proxy {
         ensures goes { OnOk result (Goes self.old self.new) }
         ensures works { IfOk result (λ more. Works more self.old self.new) }
         ensures serves { OnOk result (GoesOnServing self.old self.new) }
+        ensures replies { OnOk result (TurnReplies self.old self.new) }
     {
         match self.server.take() {
             Some(server) => {
@@ -220,6 +231,7 @@ impl Proxy {
         ensures goes { OnOk result (GoesWith server self.old self.new) }
         ensures works { IfOk result (λ more. Works more (record self.old { server = Some server }) self.new) }
         ensures serves { OnOk result (GoesOnServing self.old self.new) }
+        ensures replies { OnOk result (TurnReplies (record self.old { server = Some server }) self.new) }
     {
         if sent.is_answered {
             let moved = self.pass_piece(sent, server)?;
@@ -235,6 +247,7 @@ impl Proxy {
         ensures goes { OnOk result (GoesWith server self.old self.new) }
         ensures works { IfOk result (λ more. sent.is_answered ≡ false → Works more (record self.old { server = Some server }) self.new) }
         ensures serves { OnOk result (sent.is_answered ≡ false → GoesOnServing self.old self.new) }
+        ensures replies { OnOk result (sent.is_answered ≡ false → TurnReplies (record self.old { server = Some server }) self.new) }
     {
         let mut server = server;
         match next_answer(&mut server)? {
@@ -268,6 +281,7 @@ impl Proxy {
         ensures goes { OnOk result (GoesWith server self.old self.new) }
         ensures works { OnOk result (LeavesLess 0 (record self.old { server = Some server }) self.new) }
         ensures serves { OnOk result (sent.is_answered ≡ false → GoesOnServing self.old self.new) }
+        ensures replies { OnOk result (TakesAnswer sent server item self.old self.new) }
     {
         match answer_use(&item) {
             AnswerUse::Refuse => {
@@ -296,6 +310,7 @@ impl Proxy {
         ensures goes { OnOk result (GoesWith server self.old self.new) }
         ensures works { OnOk result (LeavesLess 0 (record self.old { server = Some server }) self.new) }
         ensures serves { OnOk result (HasNoReply self.old → Serving self.new) }
+        ensures replies { OnOk result (PassesHead sent.is_head item self.old.client self.new.client) }
     {
         let status = status_of(&item);
         self.pass_head(sent, server, item)?;
@@ -313,6 +328,7 @@ impl Proxy {
         ensures goes { OnOk result (GoesWith server self.old self.new) }
         ensures works { OnOk result (LeavesLess 0 (record self.old { server = Some server }) self.new) }
         ensures serves { OnOk result (HasNoReply self.old → Serving self.new) }
+        ensures replies { OnOk result (PassesHead sent.is_head item self.old.client self.new.client) }
     {
         let size = reply_size(sent.is_head, &item);
         let sent = answered(sent, says_close(&item));
@@ -335,6 +351,7 @@ impl Proxy {
         ensures goes { OnOk result (GoesWith server self.old self.new) }
         ensures works { IfOk result (λ more. sent.is_answered ≡ true → Works more (record self.old { server = Some server }) self.new) }
         ensures serves { OnOk result (sent.is_answered ≡ true → GoesOnServing self.old self.new) }
+        ensures replies { OnOk result (sent.is_answered ≡ true → Puts [] self.old.client self.new.client) }
     {
         if !self.client.can_chunk() {
             let moved = self.pass_body(sent, server)?;
@@ -372,6 +389,7 @@ impl Proxy {
         ensures goes { OnOk result (GoesWith server self.old self.new) }
         ensures works { OnOk result (LeavesLess 0 (record self.old { server = Some server; sent = None }) self.new) }
         ensures serves { OnOk result (sent.is_answered ≡ true → GoesOnServing self.old self.new) }
+        ensures replies { OnOk result (Puts [] self.old.client self.new.client) }
     {
         leave_body(&mut self.client);
         put_end(&mut self.client)?;
@@ -385,6 +403,7 @@ impl Proxy {
         ensures goes { GoesWith server self.old self.new }
         ensures works { LeavesLess 0 (record self.old { server = Some server; sent = None }) self.new }
         ensures serves { GoesOnServing (record self.old { sent = None }) self.new }
+        ensures client { self.new.client ≡ self.old.client }
     {
         self.sent = None;
         if may_keep(sent, &server) {
@@ -400,6 +419,7 @@ impl Proxy {
         ensures goes { OnOk result (GoesWith server self.old self.new) }
         ensures works { IfOk result (λ more. WorksBody sent server more self.old self.new) }
         ensures serves { OnOk result (GoesOnServing self.old self.new) }
+        ensures replies { OnOk result (PassesBody sent server self.old.client self.new) }
     {
         if !may_send(sent, &server) {
             self.server = Some(server);
@@ -440,6 +460,7 @@ impl Proxy {
         ensures goes { OnOk result (GoesWith server self.old self.new) }
         ensures works { OnOk result (sent.is_whole ≡ false → sent.is_broken ≡ false → LeavesLess 1 (record self.old { server = Some server }) self.new) }
         ensures serves { OnOk result (GoesOnServing self.old self.new) }
+        ensures replies { OnOk result (Breaks sent.is_answered self.old.client self.new.client) }
     {
         if sent.is_answered {
             self.server = Some(server);
@@ -459,6 +480,7 @@ impl Proxy {
         ensures goes { OnOk result (Goes (record self.old { server = None }) self.new) }
         ensures works { OnOk result (LeavesLess 0 (record self.old { server = None; sent = None }) self.new) }
         ensures serves { OnOk result (GoesOnServing (record self.old { sent = Some sent }) self.new) }
+        ensures replies { OnOk result (Fails sent.is_answered self.old.client self.new.client) }
     {
         self.server = None;
         self.sent = None;
@@ -475,6 +497,7 @@ impl Proxy {
         ensures goes { OnOk result (Goes self.old self.new) }
         ensures works { OnOk result (LeavesLess 0 self.old self.new) }
         ensures serves { OnOk result (IsIdle self.old → HasNoReply self.old → Serving self.new) }
+        ensures replies { OnOk result (AtMost (own (status_of refusal) ∷ []) self.old.client self.new.client) }
     {
         leave_body(&mut self.client);
         let head = refusal.head(self.alloc);

@@ -1,7 +1,8 @@
-use Rattle.std.proofs.Common.{refl, sym, ◌∙◌}
+use Rattle.std.proofs.Common.{refl, sym, ◌∙◌, []}
 use Rattle.h1_model.specs.Event as on
 use Rattle.h1_forward_sides.proofs.Sides.{client_same, client_plain}
 use Rattle.h1_forward_sides.proofs.Wants.{wants_same, client_wants}
+use Rattle.h1_forward_sides.proofs.Puts.{one_puts, puts_none}
 use Rattle.h1_forward_sides.proofs.client.leave_body.Goals as goal
 
 pub returns-then-not-can_pull-clause-wants : goal.returns-then-not-can_pull-clause-wants
@@ -14,3 +15,9 @@ pub returns-clause-wants : goal.returns-clause-wants
 returns-clause-wants c =
     client_wants c.args.client.now on.drop_body on.done c.drop_body.new.self c.drop_body.ensures.settings c.drop_body.ensures.stands tt
     (sym c.can_pull.ensures.value ∙ c.if-not-can_pull.false)
+
+pub returns-then-not-can_pull-clause-puts : goal.returns-then-not-can_pull-clause-puts
+returns-then-not-can_pull-clause-puts c = puts_none c.args.client.now
+
+pub returns-clause-puts : goal.returns-clause-puts
+returns-clause-puts c = one_puts c.args.client.now on.drop_body _ c.drop_body.new.self [] c.drop_body.ensures.stands refl

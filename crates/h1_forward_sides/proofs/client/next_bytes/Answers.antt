@@ -2,6 +2,7 @@ use Rattle.std.proofs.Common.{sym, ◌∙◌}
 use Rattle.std.proofs.lemmas.Bool.{false≢true}
 use Rattle.h1_forward_sides.proofs.Sides.{pull_brings, pull_less}
 use Rattle.h1_forward_sides.proofs.Wants.{wants_same, pulled_wants}
+use Rattle.h1_forward_sides.proofs.Puts.{pulled_hands, puts_none}
 use Rattle.h1_forward_sides.proofs.client.next_bytes.Goals as goal
 
 pub returns-clause-brings : goal.returns-clause-brings
@@ -22,3 +23,9 @@ returns-clause-wants c =
 
 pub returns-then-not-can_pull-clause-wants : goal.returns-then-not-can_pull-clause-wants
 returns-then-not-can_pull-clause-wants c = λ trace stands. wants_same c.args.client.now
+
+pub returns-clause-hands : goal.returns-clause-hands
+returns-clause-hands c = pulled_hands c.in_ok-pulled.pulled c.args.client.now c.pull.new.self c.in_ok-pulled.ensures.stands
+
+pub returns-then-not-can_pull-clause-hands : goal.returns-then-not-can_pull-clause-hands
+returns-then-not-can_pull-clause-hands c = puts_none c.args.client.now

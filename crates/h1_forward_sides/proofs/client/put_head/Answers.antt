@@ -1,8 +1,9 @@
-use Rattle.std.proofs.Common.{refl, sym, ◌∙◌}
+use Rattle.std.proofs.Common.{refl, sym, ◌∙◌, inl, inr, [], ◌∷◌}
 use Rattle.h1_model.specs.Event as on
 use Rattle.h1_codec.specs.Meaning.{answer_of, size_of}
 use Rattle.h1_forward_sides.proofs.Sides.{client_plain}
 use Rattle.h1_forward_sides.proofs.Wants.{has_head, head_not_wanted}
+use Rattle.h1_forward_sides.proofs.Puts.{one_puts}
 use Rattle.h1_forward_sides.proofs.client.put_head.Goals as goal
 
 pub returns-then-not-can_answer-clause-wants : goal.returns-then-not-can_answer-clause-wants
@@ -16,3 +17,13 @@ returns-clause-brings c = client_plain c.args.client.now (on.answer (answer_of c
 pub returns-clause-wants : goal.returns-clause-wants
 returns-clause-wants c =
     has_head (answer_of c.args.head.now) (size_of c.args.size) c.args.client.now c.answer.new.self c.answer.ensures.settings c.in_ok-answer.ensures.stands
+    (sym (c.can_answer.ensures (answer_of c.args.head.now) (size_of c.args.size)) ∙ c.if-not-can_answer.false)
+
+pub returns-then-not-can_answer-clause-puts : goal.returns-then-not-can_answer-clause-puts
+returns-then-not-can_answer-clause-puts c =
+    inl (sym (c.can_answer.ensures (answer_of c.args.head.now) (size_of c.args.size)) ∙ c.if-not-can_answer.true, refl)
+
+pub returns-clause-puts : goal.returns-clause-puts
+returns-clause-puts c =
+    inr (one_puts c.args.client.now (on.answer (answer_of c.args.head.now) (size_of c.args.size)) _ c.answer.new.self
+    (record { head = answer_of c.args.head.now; size = size_of c.args.size } ∷ []) c.in_ok-answer.ensures.stands refl)

@@ -1,7 +1,8 @@
-use Rattle.std.proofs.Common.{refl, sym, ◌∙◌}
+use Rattle.std.proofs.Common.{refl, sym, ◌∙◌, []}
 use Rattle.h1_model.specs.Event as on
 use Rattle.h1_forward_sides.proofs.Sides.{client_same, client_plain}
 use Rattle.h1_forward_sides.proofs.Wants.{wants_same, client_wants}
+use Rattle.h1_forward_sides.proofs.Puts.{one_puts, puts_none}
 use Rattle.h1_forward_sides.proofs.client.tell_to_go_on.Goals as goal
 
 pub returns-then-not-can_continue-clause-wants : goal.returns-then-not-can_continue-clause-wants
@@ -14,3 +15,9 @@ pub returns-clause-wants : goal.returns-clause-wants
 returns-clause-wants c =
     client_wants c.args.client.now on.send_continue on.done c.send_continue.new.self c.send_continue.ensures.settings c.in_ok-send_continue.ensures.stands tt
     (sym c.can_continue.ensures ∙ c.if-not-can_continue.false)
+
+pub returns-then-not-can_continue-clause-puts : goal.returns-then-not-can_continue-clause-puts
+returns-then-not-can_continue-clause-puts c = puts_none c.args.client.now
+
+pub returns-clause-puts : goal.returns-clause-puts
+returns-clause-puts c = one_puts c.args.client.now on.send_continue _ c.send_continue.new.self [] c.in_ok-send_continue.ensures.stands refl

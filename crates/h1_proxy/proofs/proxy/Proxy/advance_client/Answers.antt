@@ -6,6 +6,8 @@ use Rattle.h1_proxy.proofs.Work.{rests_by}
 use Rattle.h1_proxy.proofs.EventMoves.{client_writes}
 use Rattle.h1_proxy.specs.declared.proxy.Proxy.{Proxy}
 use Rattle.h1_proxy.proofs.Served.{serves_by, event_serves}
+use Rattle.h1_proxy.proofs.Replies.{replies_by, client_no_head}
+use Rattle.std.proofs.Common.{refl}
 use Rattle.h1_proxy.proofs.proxy.Proxy.advance_client.Goals as goal
 
 pub returns-clause-goes : goal.returns-clause-goes
@@ -32,3 +34,8 @@ returns-clause-serves c =
     serves_by p mid c.settle.new.self
     (event_serves (on.write c.args.count) (on.gave bytes) p c.advance.new.self c.advance.ensures.settings c.advance.ensures.stands tt c.requires.can_write_client)
     c.in_ok-settle.ensures.serves
+
+pub returns-clause-replies : goal.returns-clause-replies
+returns-clause-replies c =
+    replies_by c.args.self.now (record c.args.self.now { client = c.advance.new.self }) c.settle.new.self
+    (client_no_head c.args.self.now (on.write c.args.count) _ c.advance.new.self c.advance.ensures.stands refl) c.in_ok-settle.ensures.replies

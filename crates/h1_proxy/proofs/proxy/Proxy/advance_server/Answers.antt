@@ -4,6 +4,7 @@ use Rattle.h1_proxy.proofs.Moves.{by_then}
 use Rattle.h1_proxy.proofs.Work.{rests_by}
 use Rattle.h1_proxy.specs.Kept.{server_text}
 use Rattle.h1_proxy.proofs.Served.{serves_by}
+use Rattle.h1_proxy.proofs.Replies.{replies_by}
 use Rattle.h1_proxy.proofs.proxy.Proxy.advance_server.Goals as goal
 
 pub returns-clause-goes : goal.returns-clause-goes
@@ -18,3 +19,6 @@ returns-clause-rests c =
 
 pub returns-clause-serves : goal.returns-clause-serves
 returns-clause-serves c = serves_by c.args.self.now c.write_server.new.self c.settle.new.self c.write_server.ensures.serves c.in_ok-settle.ensures.serves
+
+pub returns-clause-replies : goal.returns-clause-replies
+returns-clause-replies c = replies_by c.args.self.now c.write_server.new.self c.settle.new.self c.write_server.ensures.replies c.in_ok-settle.ensures.replies

@@ -3,6 +3,9 @@ use Rattle.std.proofs.Common.{Some, None}
 use Rattle.h1_proxy.proofs.Moves.{goes_then, fails, resent}
 use Rattle.h1_proxy.proofs.Work.{less_then, weaker, closed_less, drop_sent, remarked, broken_mark}
 use Rattle.h1_proxy.proofs.Served.{with_server, resent_serves, no_reply_of}
+use Rattle.std.proofs.Common.{subst, sym, Bool}
+use Rattle.h1_proxy.proofs.Replies.{kept_breaks, own_breaks}
+use Rattle.h1_forward_sides.proofs.Puts.{puts_none}
 use Rattle.h1_proxy.proofs.proxy.Proxy.break_body.Goals as goal
 
 pub returns-then-sent-clause-goes : goal.returns-then-sent-clause-goes
@@ -33,4 +36,11 @@ returns-then-sent-clause-serves c = λ s.
 pub returns-clause-serves : goal.returns-clause-serves
 returns-clause-serves c = λ s.
     let x = no_reply_of c.args.self.now c.args.sent c.requires.runs c.if-sent.false s in
-    c.in_ok-reply.ensures.serves (record { unsent = c.requires.runs.unsent; sent = refl }) (record { told = x.told; complete = x.complete })
+    c.in_ok-reply.ensures.serves (record { unsent = c.requires.runs.unsent; sent = refl }) (record { told = x.told; complete = x.complete; waited = x.waited })
+
+pub returns-then-sent-clause-replies : goal.returns-then-sent-clause-replies
+returns-then-sent-clause-replies c =
+    kept_breaks c.args.sent.is_answered c.args.self.now.client c.if-sent.true
+
+pub returns-clause-replies : goal.returns-clause-replies
+returns-clause-replies c = own_breaks c.args.sent.is_answered c.args.self.now.client _ c.if-sent.false c.in_ok-reply.ensures.replies

@@ -2,6 +2,7 @@ use Rattle.h1_forward_model.specs.Past.{client_eof, done}
 use Rattle.h1_proxy.proofs.Moves.{by_then}
 use Rattle.h1_proxy.proofs.Work.{rests_by}
 use Rattle.h1_proxy.proofs.Served.{serves_by}
+use Rattle.h1_proxy.proofs.Replies.{replies_by}
 use Rattle.h1_proxy.proofs.proxy.Proxy.client_eof.Goals as goal
 
 pub returns-clause-goes : goal.returns-clause-goes
@@ -14,3 +15,6 @@ returns-clause-rests c =
 
 pub returns-clause-serves : goal.returns-clause-serves
 returns-clause-serves c = serves_by c.args.self.now c.end_client.new.self c.settle.new.self c.end_client.ensures.serves c.in_ok-settle.ensures.serves
+
+pub returns-clause-replies : goal.returns-clause-replies
+returns-clause-replies c = replies_by c.args.self.now c.end_client.new.self c.settle.new.self c.end_client.ensures.replies c.in_ok-settle.ensures.replies

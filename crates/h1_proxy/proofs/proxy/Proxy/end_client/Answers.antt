@@ -2,6 +2,8 @@ use Rattle.std.proofs.Common.{sym, ◌∙◌}
 use Rattle.h1_model.specs.Event as on
 use Rattle.h1_proxy.proofs.EventMoves.{client_end_nothing, client_ends}
 use Rattle.h1_proxy.proofs.Served.{event_serves}
+use Rattle.h1_proxy.proofs.Replies.{no_head_same, client_no_head}
+use Rattle.std.proofs.Common.{refl}
 use Rattle.h1_proxy.proofs.proxy.Proxy.end_client.Goals as goal
 
 pub returns-then-not-can_read-clause-goes : goal.returns-then-not-can_read-clause-goes
@@ -16,3 +18,9 @@ returns-clause-goes c = client_ends c.args.self.now c.eof.new.self c.eof.ensures
 pub returns-clause-serves : goal.returns-clause-serves
 returns-clause-serves c =
     event_serves on.eof on.done c.args.self.now c.eof.new.self c.eof.ensures.settings c.eof.ensures.stands tt (sym c.can_read.ensures.eof ∙ c.if-not-can_read.false)
+
+pub returns-then-not-can_read-clause-replies : goal.returns-then-not-can_read-clause-replies
+returns-then-not-can_read-clause-replies c = no_head_same c.args.self.now
+
+pub returns-clause-replies : goal.returns-clause-replies
+returns-clause-replies c = client_no_head c.args.self.now on.eof _ c.eof.new.self c.eof.ensures.stands refl

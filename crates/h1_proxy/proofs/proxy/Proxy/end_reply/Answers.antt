@@ -3,6 +3,9 @@ use Rattle.h1_proxy.proofs.Moves.{goes_then, client_done}
 use Rattle.h1_model.specs.Event as on
 use Rattle.h1_proxy.proofs.Work.{less_then, client_less}
 use Rattle.h1_proxy.proofs.Served.{told_by, answered_of, end_put, idle_serves}
+use Rattle.std.proofs.Common.{subst, sym, []}
+use Rattle.h1_forward_sides.proofs.Puts.{then_none}
+use Rattle.h1_forward_sides.specs.Puts.{Puts}
 use Rattle.h1_proxy.proofs.proxy.Proxy.end_reply.Goals as goal
 
 pub part-requires : goal.part-requires
@@ -30,3 +33,8 @@ returns-clause-serves c = λ answered s.
     c.part.ensures.serves
     (idle_serves (record c.args.self.now { client = c.put_end.new.client; sent = None }) (record { unsent = c.requires.runs.unsent; sent = refl })
     (record { told = x.told; answered = x.answered; complete = x.complete }))
+
+pub returns-clause-replies : goal.returns-clause-replies
+returns-clause-replies c =
+    let puts = then_none [] c.args.self.now.client c.leave_body.new.client c.put_end.new.client c.leave_body.ensures.puts c.in_ok-put_end.ensures.puts in
+    subst (Puts [] c.args.self.now.client) (sym c.part.ensures.client) puts

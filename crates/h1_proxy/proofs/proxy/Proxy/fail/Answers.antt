@@ -4,6 +4,8 @@ use Rattle.h1_proxy.proofs.Moves.{goes_then, fails, client_done}
 use Rattle.h1_model.specs.Event as on
 use Rattle.h1_proxy.proofs.Work.{client_less}
 use Rattle.h1_proxy.proofs.Served.{idle_serves, end_put, answered_of, no_reply_of}
+use Rattle.std.proofs.Common.{subst, sym, Bool}
+use Rattle.h1_proxy.proofs.Replies.{cut_fails, own_fails}
 use Rattle.h1_proxy.proofs.proxy.Proxy.fail.Goals as goal
 
 pub returns-then-sent-clause-goes : goal.returns-then-sent-clause-goes
@@ -32,4 +34,10 @@ pub returns-clause-serves : goal.returns-clause-serves
 returns-clause-serves c = λ s.
     let p = record c.args.self.now { sent = Some c.args.sent } in
     let x = no_reply_of p c.args.sent (record { unsent = c.requires.unsent; sent = refl }) c.if-sent.false s in
-    c.in_ok-reply.ensures.serves (record { unsent = c.requires.unsent; sent = refl }) (record { told = x.told; complete = x.complete })
+    c.in_ok-reply.ensures.serves (record { unsent = c.requires.unsent; sent = refl }) (record { told = x.told; complete = x.complete; waited = x.waited })
+
+pub returns-then-sent-clause-replies : goal.returns-then-sent-clause-replies
+returns-then-sent-clause-replies c = cut_fails c.args.sent.is_answered c.args.self.now.client _ c.if-sent.true c.cut_reply.ensures.puts
+
+pub returns-clause-replies : goal.returns-clause-replies
+returns-clause-replies c = own_fails c.args.sent.is_answered c.args.self.now.client _ c.if-sent.false c.in_ok-reply.ensures.replies

@@ -3,6 +3,10 @@ use Rattle.std.proofs.Common.{Some, None, sym, ◌∙◌}
 use Rattle.h1_model.specs.Event as on
 use Rattle.h1_proxy.proofs.Work.{more_of, more_then, less_then, closes_less, waits_more, client_less, noted_less}
 use Rattle.h1_proxy.proofs.Served.{noted_idle, noted_no_reply, client_serves, waits_serves}
+use Rattle.std.proofs.Common.{subst, inl, inr, [], ◌∷◌}
+use Rattle.h1_proxy.proofs.Replies.{noted_client}
+use Rattle.h1_proxy.specs.Replies.{own, AtMost}
+use Rattle.h1_connection.specs.State.{State}
 use Rattle.h1_proxy.proofs.proxy.Proxy.open.Goals as goal
 
 pub returns-then-not-is_forwardable-clause-goes : goal.returns-then-not-is_forwardable-clause-goes
@@ -30,10 +34,20 @@ returns-then-not-is_forwardable-clause-serves c = λ x.
     let p = record c.args.self.now { server = None } in
     c.in_ok-reply.ensures.serves
     (noted_idle p _ c.note_request.ensures.noted (record { unsent = c.requires.idle.unsent; sent = c.requires.idle.sent }))
-    (noted_no_reply p _ c.note_request.ensures.noted (record { told = x.told; complete = x.complete }))
+    (noted_no_reply p _ c.note_request.ensures.noted (record { told = x.told; complete = x.complete; waited = x.waited }))
 
 pub returns-clause-serves : goal.returns-clause-serves
 returns-clause-serves c = λ x.
     let q = record c.args.self.now { unsent = Some c.new.result } in
     client_serves on.done q c.tell_to_go_on.new.client c.in_ok-tell_to_go_on.ensures.brings c.in_ok-tell_to_go_on.ensures.wants
     (waits_serves c.args.self.now c.new.result c.new.ensures.unanswered x)
+
+pub returns-then-not-is_forwardable-clause-replies : goal.returns-then-not-is_forwardable-clause-replies
+returns-then-not-is_forwardable-clause-replies c =
+    inr (
+      λ h says. sym (c.is_forwardable.ensures h says) ∙ c.if-not-is_forwardable.true,
+      subst (λ (s : State). AtMost (own 501 ∷ []) s c.reply.new.self.client) (noted_client (record c.args.self.now { server = None }) _ c.note_request.ensures.noted) c.in_ok-reply.ensures.replies,
+    )
+
+pub returns-clause-replies : goal.returns-clause-replies
+returns-clause-replies c = inl c.in_ok-tell_to_go_on.ensures.puts

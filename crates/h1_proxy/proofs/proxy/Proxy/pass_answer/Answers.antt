@@ -8,6 +8,10 @@ use Rattle.std.proofs.Common.{subst}
 use Rattle.h1_client.specs.declared.event.NextAnswer.{NextAnswer}
 use Rattle.h1_forward_sides.specs.Leaves.{LeavesAnswer}
 use Rattle.h1_proxy.proofs.Served.{serves_of_sent}
+use Rattle.std.proofs.Common.{inr}
+use Rattle.h1_proxy.proofs.Replies.{answer_replies, fails_replies, closed_lacks, body_replies, body_before}
+use Rattle.h1_forward_sides.specs.Puts.{HandsAnswer}
+use Rattle.h1_client_machine.specs.ClientEvent as asked
 use Rattle.h1_proxy.proofs.proxy.Proxy.pass_answer.Goals as goal
 
 pub take_answer-requires : goal.take_answer-requires
@@ -75,3 +79,27 @@ returns-in_ok-fail-in-Closed-clause-serves c = λ _. serves_of_sent c.args.self.
 
 pub returns-in_ok-more-in-Pending-clause-serves : goal.returns-in_ok-more-in-Pending-clause-serves
 returns-in_ok-more-in-Pending-clause-serves c = λ _. c.in_ok-more-in-Pending.ensures.serves
+
+pub returns-in_ok-take_answer-in-Answer-clause-replies : goal.returns-in_ok-take_answer-in-Answer-clause-replies
+returns-in_ok-take_answer-in-Answer-clause-replies c = λ unanswered.
+    answer_replies c.args.self.now _ c.args.sent c.args.server c.next_answer.new.server _ c.requires.runs unanswered
+    (subst (λ (n : NextAnswer). HandsAnswer n c.args.server c.next_answer.new.server) c.in-Answer.is c.in_ok-item.ensures.hands)
+    c.in_ok-take_answer-in-Answer.ensures.replies
+
+pub returns-in_ok-fail-in-Fault-clause-replies : goal.returns-in_ok-fail-in-Fault-clause-replies
+returns-in_ok-fail-in-Fault-clause-replies c = λ unanswered.
+    fails_replies c.args.self.now _ c.args.sent (Some c.args.server) c.requires.runs
+    (inr (asked.fault _, tt, c.next_answer.new.server, subst (λ (n : NextAnswer). HandsAnswer n c.args.server c.next_answer.new.server) c.in-Fault.is c.in_ok-item.ensures.hands))
+    c.in_ok-fail-in-Fault.ensures.replies
+
+pub returns-in_ok-fail-in-Closed-clause-replies : goal.returns-in_ok-fail-in-Closed-clause-replies
+returns-in_ok-fail-in-Closed-clause-replies c = λ unanswered.
+    fails_replies c.args.self.now _ c.args.sent (Some c.args.server) c.requires.runs
+    (closed_lacks c.args.server c.next_answer.new.server _ (subst (λ (n : NextAnswer). HandsAnswer n c.args.server c.next_answer.new.server) c.in-Closed.is c.in_ok-item.ensures.hands))
+    c.in_ok-fail-in-Closed.ensures.replies
+
+pub returns-in_ok-more-in-Pending-clause-replies : goal.returns-in_ok-more-in-Pending-clause-replies
+returns-in_ok-more-in-Pending-clause-replies c = λ unanswered.
+    body_replies c.args.self.now _ c.args.sent c.args.server c.requires.runs
+    (body_before c.args.self.now _ c.args.sent c.args.server c.next_answer.new.server
+    (subst (λ (n : NextAnswer). HandsAnswer n c.args.server c.next_answer.new.server) c.in-Pending.is c.in_ok-item.ensures.hands) c.in_ok-more-in-Pending.ensures.replies)

@@ -1,8 +1,10 @@
-use Rattle.std.proofs.Common.{Some, None, refl}
+use Rattle.std.proofs.Common.{Some, None, refl, sym, ◌∙◌}
+use Rattle.std.proofs.lemmas.Bool.{false≢true}
 use Rattle.h1_proxy.proofs.Moves.{goes_then, client_done, resent}
 use Rattle.h1_model.specs.Event as on
 use Rattle.h1_proxy.proofs.Work.{less_then, client_less, drop_sent, remarked, same_mark}
-use Rattle.h1_proxy.proofs.Served.{told_by, passed_serves, idle_serves, head_put, at_once_of}
+use Rattle.h1_proxy.proofs.Served.{told_by, passed_serves, idle_serves, head_put, at_once_of, not_at_once}
+use Rattle.h1_proxy.proofs.Replies.{head_passes, then_most, most_as}
 use Rattle.h1_proxy.proofs.proxy.Proxy.pass_head.Goals as goal
 
 pub returns-then-not-is_eof-clause-goes : goal.returns-then-not-is_eof-clause-goes
@@ -43,6 +45,8 @@ returns-then-not-is_eof-clause-serves c = λ x.
     let p = record c.args.self.now { client = c.put_head.new.client; server = Some c.args.server } in
     passed_serves p c.answered-sent.result c.requires.runs.unsent c.answered-sent.ensures.answered
     (told_by on.done c.args.self.now.client c.put_head.new.client c.in_ok-put_head.ensures.brings x.told) (c.in_ok-put_head.ensures.wants x.told.0 x.told.1).answered
+    ((c.in_ok-put_head.ensures.wants x.told.0 x.told.1).answering
+    (not_at_once c.reply_size-size.result (λ e. false≢true (sym c.if-not-is_eof.true ∙ c.is_eof.ensures.1 e))) x.waited)
 
 pub returns-clause-serves : goal.returns-clause-serves
 returns-clause-serves c = λ x.
@@ -51,3 +55,15 @@ returns-clause-serves c = λ x.
     c.part.ensures.serves
     (idle_serves (record c.args.self.now { client = c.put_head-2.new.client; sent = None }) (record { unsent = c.requires.runs.unsent; sent = refl })
     (record { told = y.told; answered = y.answered; complete = y.complete }))
+
+pub returns-then-not-is_eof-clause-replies : goal.returns-then-not-is_eof-clause-replies
+returns-then-not-is_eof-clause-replies c = λ a read says.
+    head_passes c.args.sent.is_head a _ _ c.args.self.now.client c.put_head.new.client (c.in_ok-head.ensures read.0 a read.1 says) (c.reply_size-size.ensures a says)
+    c.in_ok-put_head.ensures.puts
+
+pub returns-clause-replies : goal.returns-clause-replies
+returns-clause-replies c = λ a read says.
+    most_as _ c.args.self.now.client c.put_head-2.new.client _ c.part.ensures.client
+    (then_most _ c.args.self.now.client c.leave_body.new.client c.put_head-2.new.client c.leave_body.ensures.puts
+    (head_passes c.args.sent.is_head a _ _ c.leave_body.new.client c.put_head-2.new.client (c.in_ok-head.ensures read.0 a read.1 says) (c.reply_size-size.ensures a says)
+    c.in_ok-put_head-2.ensures.puts))

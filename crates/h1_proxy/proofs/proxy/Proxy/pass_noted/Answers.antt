@@ -1,6 +1,7 @@
 use Rattle.h1_proxy.proofs.Moves.{goes_then}
 use Rattle.h1_proxy.proofs.Work.{less_then, noted_less}
 use Rattle.h1_proxy.proofs.Served.{noted_serves}
+use Rattle.h1_proxy.proofs.Replies.{most_as, noted_client}
 use Rattle.h1_proxy.proofs.proxy.Proxy.pass_noted.Goals as goal
 
 pub returns-clause-goes : goal.returns-clause-goes
@@ -11,3 +12,7 @@ returns-clause-works c = less_then 0 _ c.pass_head.new.self _ c.in_ok-pass_head.
 
 pub returns-clause-serves : goal.returns-clause-serves
 returns-clause-serves c = λ x. noted_serves c.pass_head.new.self _ c.in_ok-note_reply.ensures.noted (c.in_ok-pass_head.ensures.serves x)
+
+pub returns-clause-replies : goal.returns-clause-replies
+returns-clause-replies c = λ a read says.
+    most_as _ c.args.self.now.client c.pass_head.new.self.client _ (noted_client _ _ c.in_ok-note_reply.ensures.noted) (c.in_ok-pass_head.ensures.replies a read says)

@@ -3,6 +3,7 @@ use Rattle.h1_proxy.proofs.Moves.{of_server, of_no_server}
 use Rattle.std.proofs.Common.{Some, None, true, arith}
 use Rattle.h1_proxy.proofs.Work.{works, works_of_server, less_then, over_sent}
 use Rattle.h1_proxy.proofs.Served.{with_server, serves_of_sent}
+use Rattle.h1_proxy.proofs.Replies.{replies_of_server, fails_replies}
 use Rattle.h1_proxy.proofs.proxy.Proxy.pass_on.Goals as goal
 
 pub pass-requires : goal.pass-requires
@@ -34,3 +35,11 @@ pub returns-in_ok-fail-in-None-clause-serves : goal.returns-in_ok-fail-in-None-c
 returns-in_ok-fail-in-None-clause-serves c =
     serves_of_sent c.args.self.now _ c.args.sent c.requires.runs.sent
     (λ s. c.in_ok-fail-in-None.ensures.serves (with_server (record c.args.self.now { sent = Some c.args.sent }) c.take.new.self s))
+
+pub returns-in_ok-more-in-Some-clause-replies : goal.returns-in_ok-more-in-Some-clause-replies
+returns-in_ok-more-in-Some-clause-replies c = replies_of_server c.args.self.now _ (Some c.in-Some.server) (sym c.in-Some.ensures.value) c.in_ok-more-in-Some.ensures.replies
+
+pub returns-in_ok-fail-in-None-clause-replies : goal.returns-in_ok-fail-in-None-clause-replies
+returns-in_ok-fail-in-None-clause-replies c =
+    replies_of_server c.args.self.now _ None (sym c.in-None.ensures.value)
+    (fails_replies c.args.self.now _ c.args.sent None c.requires.runs tt c.in_ok-fail-in-None.ensures.replies)

@@ -8,6 +8,10 @@ use Rattle.std.proofs.Common.{subst}
 use Rattle.h1_payload.specs.declared.pulled.Pulled.{Pulled}
 use Rattle.h1_forward_sides.specs.Leaves.{LeavesPiece}
 use Rattle.h1_proxy.proofs.Served.{client_serves, with_server, serves_of_sent}
+use Rattle.std.proofs.Common.{Bool}
+use Rattle.h1_proxy.proofs.Replies.{body_puts}
+use Rattle.h1_forward_sides.proofs.Puts.{puts_none}
+use Rattle.h1_proxy.proofs.Replies.{fails_puts}
 use Rattle.h1_proxy.proofs.proxy.Proxy.pass_piece.Goals as goal
 
 pub pass_body-requires : goal.pass_body-requires
@@ -104,3 +108,22 @@ returns-in_ok-fail-in-Broken-clause-serves c = λ _. serves_of_sent c.args.self.
 
 pub returns-in_ok-more-in-Pending-clause-serves : goal.returns-in_ok-more-in-Pending-clause-serves
 returns-in_ok-more-in-Pending-clause-serves c = λ _. c.in_ok-more-in-Pending.ensures.serves
+
+pub returns-then-not-can_chunk-clause-replies : goal.returns-then-not-can_chunk-clause-replies
+returns-then-not-can_chunk-clause-replies c = λ answered. body_puts _ _ c.args.sent _ answered c.in_ok-moved.ensures.replies
+
+pub returns-in_ok-put_piece-in-Bytes-clause-replies : goal.returns-in_ok-put_piece-in-Bytes-clause-replies
+returns-in_ok-put_piece-in-Bytes-clause-replies c = λ answered. c.in_ok-put_piece-in-Bytes.ensures.puts
+
+pub returns-in-Trailers-clause-replies : goal.returns-in-Trailers-clause-replies
+returns-in-Trailers-clause-replies c = λ answered. puts_none c.args.self.now.client
+
+pub returns-in_ok-end_reply-in-End-clause-replies : goal.returns-in_ok-end_reply-in-End-clause-replies
+returns-in_ok-end_reply-in-End-clause-replies c = λ answered. c.in_ok-end_reply-in-End.ensures.replies
+
+pub returns-in_ok-fail-in-Broken-clause-replies : goal.returns-in_ok-fail-in-Broken-clause-replies
+returns-in_ok-fail-in-Broken-clause-replies c = λ answered.
+    fails_puts c.args.sent.is_answered c.args.self.now.client _ answered c.in_ok-fail-in-Broken.ensures.replies
+
+pub returns-in_ok-more-in-Pending-clause-replies : goal.returns-in_ok-more-in-Pending-clause-replies
+returns-in_ok-more-in-Pending-clause-replies c = λ answered. body_puts _ _ c.args.sent _ answered c.in_ok-more-in-Pending.ensures.replies

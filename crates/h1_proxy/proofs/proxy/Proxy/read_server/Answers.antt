@@ -2,6 +2,7 @@ use Rattle.h1_forward_model.specs.Past.{server, took}
 use Rattle.h1_proxy.proofs.Moves.{by_then}
 use Rattle.h1_proxy.proofs.Work.{rests_by}
 use Rattle.h1_proxy.proofs.Served.{serves_by}
+use Rattle.h1_proxy.proofs.Replies.{replies_by}
 use Rattle.h1_proxy.proofs.proxy.Proxy.read_server.Goals as goal
 
 pub returns-clause-goes : goal.returns-clause-goes
@@ -17,3 +18,6 @@ returns-clause-serves c = serves_by c.args.self.now c.take_from_server.new.self 
 
 pub returns-clause-took : goal.returns-clause-took
 returns-clause-took c = c.in_ok-taken.ensures.took
+
+pub returns-clause-replies : goal.returns-clause-replies
+returns-clause-replies c = replies_by c.args.self.now c.take_from_server.new.self c.settle.new.self c.in_ok-taken.ensures.replies c.in_ok-settle.ensures.replies

@@ -10,6 +10,7 @@ use Rattle.h1_proxy.specs.Kept.{Goes}
 use Rattle.h1_proxy.specs.declared.proxy.Proxy.{Proxy}
 use Rattle.h1_proxy.specs.declared.proxy.Unsent.{Unsent}
 use Rattle.h1_proxy.proofs.Served.{serves_by, noted_idle, noted_no_reply, refused_no_reply}
+use Rattle.h1_proxy.proofs.Replies.{refused_by, noted_client}
 use Rattle.h1_proxy.proofs.proxy.Proxy.refused.Goals as goal
 
 pub returns-clause-goes : goal.returns-clause-goes
@@ -41,5 +42,11 @@ returns-clause-serves c =
     let x = refused_no_reply p c.requires.wants_server s in
     c.in_ok-reply.ensures.serves
     (noted_idle q _ c.note_unsent.ensures.noted (record { unsent = c.take-unsent.ensures.after; sent = refl }))
-    (noted_no_reply q _ c.note_unsent.ensures.noted (record { told = x.told; complete = x.complete })))
+    (noted_no_reply q _ c.note_unsent.ensures.noted (record { told = x.told; complete = x.complete; waited = x.waited })))
     c.in_ok-settle.ensures.serves
+
+pub returns-clause-replies : goal.returns-clause-replies
+returns-clause-replies c =
+    let a : Proxy = record c.args.self.now { unsent = c.take-unsent.new.self; sent = None } in
+    refused_by c.args.self.now a c.note_unsent.new.self c.reply.new.self c.settle.new.self refl (noted_client a c.note_unsent.new.self c.note_unsent.ensures.noted)
+    c.in_ok-reply.ensures.replies c.in_ok-settle.ensures.replies

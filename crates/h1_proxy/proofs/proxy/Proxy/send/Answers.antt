@@ -6,6 +6,8 @@ use Rattle.h1_proxy.proofs.Work.{over_less, waits_rests, works, works_of_server,
 use Rattle.h1_codec.specs.Meaning.{size_of}
 use Rattle.h1_client.specs.Meaning.{request_of}
 use Rattle.h1_proxy.proofs.Served.{with_server, noted_serves, sent_serves}
+use Rattle.h1_proxy.proofs.Replies.{no_head_put, unsent_cause, same_puts, noted_client}
+use Rattle.h1_forward_sides.proofs.Puts.{puts_none}
 use Rattle.h1_proxy.proofs.proxy.Proxy.send.Goals as goal
 
 pub returns-then-is_server_over-clause-goes : goal.returns-then-is_server_over-clause-goes
@@ -64,3 +66,21 @@ returns-then-branch-clause-serves c = λ s.
 
 pub returns-clause-serves : goal.returns-clause-serves
 returns-clause-serves c = with_server (record c.args.self.now { unsent = Some c.args.unsent }) c.take.new.self
+
+pub returns-then-is_server_over-clause-replies : goal.returns-then-is_server_over-clause-replies
+returns-then-is_server_over-clause-replies c =
+    no_head_put (record c.args.self.now { unsent = Some c.args.unsent }) _ (unsent_cause c.args.self.now _ c.args.unsent) (puts_none c.args.self.now.client)
+
+pub returns-in_default-clause-replies : goal.returns-in_default-clause-replies
+returns-in_default-clause-replies c =
+    no_head_put (record c.args.self.now { unsent = Some c.args.unsent }) _ (unsent_cause c.args.self.now _ c.args.unsent) (puts_none c.args.self.now.client)
+
+pub returns-then-branch-clause-replies : goal.returns-then-branch-clause-replies
+returns-then-branch-clause-replies c =
+    no_head_put (record c.args.self.now { unsent = Some c.args.unsent }) _ (unsent_cause c.args.self.now _ c.args.unsent)
+    (same_puts c.args.self.now.client _
+    (noted_client (record c.args.self.now { unsent = None; sent = Some c.args.unsent.sent; server = Some c.ask.new.server }) _ c.note_unsent.ensures.noted))
+
+pub returns-clause-replies : goal.returns-clause-replies
+returns-clause-replies c =
+    no_head_put (record c.args.self.now { unsent = Some c.args.unsent }) _ (unsent_cause c.args.self.now _ c.args.unsent) (puts_none c.args.self.now.client)

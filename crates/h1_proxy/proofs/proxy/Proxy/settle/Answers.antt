@@ -1,16 +1,18 @@
 use Rattle.std.proofs.Common.{arith, sym, ◌∙◌}
 use Rattle.h1_proxy.proofs.Moves.{goes_same, goes_then}
 use Rattle.h1_proxy.proofs.Work.{told_of, more_turns, no_more_turns, too_many}
+use Rattle.h1_proxy.specs.Replies.{nothing, turned}
 use Rattle.h1_proxy.proofs.proxy.Proxy.settle.Goals as goal
 
 pub loop-turn-init : goal.loop-turn-init
-loop-turn-init c = record { goes = goes_same _; leaves = λ history all f. (told_of _ history all f, omega arith); serves = λ s. s }
+loop-turn-init c = record { goes = goes_same _; leaves = λ history all f. (told_of _ history all f, omega arith); serves = λ s. s; replies = nothing }
 
 pub loop-turn-preserved : goal.loop-turn-preserved
 loop-turn-preserved c = record {
   goes = goes_then _ _ _ c.loop-turn.invariant.goes c.in_ok-more.ensures.goes;
   leaves = λ history all f. let x = c.loop-turn.invariant.leaves history all f in more_turns c.in_ok-more.more c.loop-turn.turn c.args.self.now c.loop-turn.self c.turn.new.self c.if-not-more.false x.0 x.1 c.in_ok-more.ensures.works;
   serves = λ s. c.in_ok-more.ensures.serves (c.loop-turn.invariant.serves s);
+  replies = turned _ _ c.loop-turn.invariant.replies c.in_ok-more.ensures.replies;
 }
 
 pub returns-then-not-more-clause-goes : goal.returns-then-not-more-clause-goes
@@ -30,3 +32,9 @@ returns-then-not-more-clause-serves c = λ s. c.in_ok-more.ensures.serves (c.loo
 
 pub returns-clause-serves : goal.returns-clause-serves
 returns-clause-serves c = c.loop-turn.invariant.serves
+
+pub returns-then-not-more-clause-replies : goal.returns-then-not-more-clause-replies
+returns-then-not-more-clause-replies c = turned _ _ c.loop-turn.invariant.replies c.in_ok-more.ensures.replies
+
+pub returns-clause-replies : goal.returns-clause-replies
+returns-clause-replies c = c.loop-turn.invariant.replies

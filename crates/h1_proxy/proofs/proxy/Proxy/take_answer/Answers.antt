@@ -2,6 +2,14 @@ use Rattle.std.proofs.Common.{Some, None, refl}
 use Rattle.h1_proxy.proofs.Moves.{goes_same, goes_then, closes}
 use Rattle.h1_proxy.proofs.Work.{less_same, less_then, weaker, closed_less, drop_sent}
 use Rattle.h1_proxy.proofs.Served.{serves_of_sent, with_server, no_reply_of}
+use Rattle.std.proofs.Common.{subst, Bool, inl, inr, ◌≡◌}
+use Rattle.h1_proxy.proofs.Replies.{is_refused_so, is_passed_over, is_passed_on, waits_as}
+use Rattle.h1_forward_sides.proofs.Puts.{puts_none, hands_same}
+use Rattle.h1_proxy.proofs.Replies.{fails_most}
+use Rattle.h1_forward_heads.specs.declared.replies.AnswerUse.{AnswerUse}
+use Rattle.h1_forward_heads.specs.Meaning.{found_as}
+use Rattle.h1_forward_model.specs.Answers.{found_by}
+use Rattle.h1_client_model.specs.AnswerReading.{answer_is}
 use Rattle.h1_proxy.proofs.proxy.Proxy.take_answer.Goals as goal
 
 pub fail-requires : goal.fail-requires
@@ -31,3 +39,26 @@ returns-in-PassOver-clause-serves c = λ _. with_server c.args.self.now (Some c.
 pub returns-in_ok-pass_noted-in-PassOn-clause-serves : goal.returns-in_ok-pass_noted-in-PassOn-clause-serves
 returns-in_ok-pass_noted-in-PassOn-clause-serves c = λ unanswered s.
     c.in_ok-pass_noted-in-PassOn.ensures.serves (no_reply_of c.args.self.now c.args.sent c.requires.runs unanswered s)
+
+pub returns-in_ok-fail-in-Refuse-clause-replies : goal.returns-in_ok-fail-in-Refuse-clause-replies
+returns-in_ok-fail-in-Refuse-clause-replies c = λ unanswered a read says.
+    inl (
+      is_refused_so a (λ r b later. subst (λ (u : AnswerUse). found_by r (answer_is a) b later ≡ found_as u r a b later) c.in-Refuse.is (c.answer_use.ensures a r b later says)),
+      fails_most c.args.sent.is_answered c.args.self.now.client _ unanswered c.in_ok-fail-in-Refuse.ensures.replies,
+    )
+
+pub returns-in-PassOver-clause-replies : goal.returns-in-PassOver-clause-replies
+returns-in-PassOver-clause-replies c = λ unanswered a read says.
+    inr (inl (
+      is_passed_over a (λ r b later. subst (λ (u : AnswerUse). found_by r (answer_is a) b later ≡ found_as u r a b later) c.in-PassOver.is (c.answer_use.ensures a r b later says)),
+      puts_none c.args.self.now.client,
+      waits_as (record c.args.self.now { server = Some c.args.server }) c.args.sent c.args.server c.args.server
+          (record { unsent = c.requires.runs.unsent; sent = c.requires.runs.sent }) unanswered refl (hands_same c.args.server),
+    ))
+
+pub returns-in_ok-pass_noted-in-PassOn-clause-replies : goal.returns-in_ok-pass_noted-in-PassOn-clause-replies
+returns-in_ok-pass_noted-in-PassOn-clause-replies c = λ unanswered a read says.
+    inr (inr (
+      is_passed_on a (λ r b later. subst (λ (u : AnswerUse). found_by r (answer_is a) b later ≡ found_as u r a b later) c.in-PassOn.is (c.answer_use.ensures a r b later says)),
+      c.in_ok-pass_noted-in-PassOn.ensures.replies a read says,
+    ))

@@ -3,6 +3,8 @@ use Rattle.h1_model.specs.Event as on
 use Rattle.h1_proxy.proofs.EventMoves.{client_nothing, client_reads}
 use Rattle.h1_proxy.proofs.Rooms.{client_count, client_has}
 use Rattle.h1_proxy.proofs.Served.{event_serves}
+use Rattle.h1_proxy.proofs.Replies.{no_head_same, client_no_head}
+use Rattle.std.proofs.Common.{refl}
 use Rattle.h1_proxy.proofs.proxy.Proxy.take_from_client.Goals as goal
 
 pub returns-then-client_room-eq0-clause-goes : goal.returns-then-client_room-eq0-clause-goes
@@ -31,3 +33,12 @@ returns-clause-took c = λ history all f.
     client_count c.args.bytes.now c.in_ok-count.count c.args.self.now c.read.new.self c.read.ensures.settings c.in_ok-count.ensures.stands history all f
     ∙ ap (λ (n : ℕ). min (length c.args.bytes.now) n)
     (sym (client_has c.args.self.now (λ none. c.if-client_room-eq0.false (c.client_room.ensures ∙ none))))
+
+pub returns-then-client_room-eq0-clause-replies : goal.returns-then-client_room-eq0-clause-replies
+returns-then-client_room-eq0-clause-replies c = no_head_same c.args.self.now
+
+pub returns-then-not-can_read-clause-replies : goal.returns-then-not-can_read-clause-replies
+returns-then-not-can_read-clause-replies c = no_head_same c.args.self.now
+
+pub returns-clause-replies : goal.returns-clause-replies
+returns-clause-replies c = client_no_head c.args.self.now (on.read c.args.bytes.now) _ c.read.new.self c.in_ok-count.ensures.stands refl

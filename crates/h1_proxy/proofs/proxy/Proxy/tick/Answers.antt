@@ -7,6 +7,8 @@ use Rattle.h1_proxy.proofs.Work.{rests_by}
 use Rattle.h1_proxy.proofs.EventMoves.{ticks}
 use Rattle.h1_proxy.specs.declared.proxy.Proxy.{Proxy}
 use Rattle.h1_proxy.proofs.Served.{serves_by, with_moment, event_serves}
+use Rattle.h1_proxy.proofs.Replies.{replies_by, client_no_head, no_head_moment}
+use Rattle.std.proofs.Common.{refl}
 use Rattle.h1_proxy.proofs.proxy.Proxy.tick.Goals as goal
 
 pub returns-clause-goes : goal.returns-clause-goes
@@ -32,3 +34,9 @@ returns-clause-serves c =
     (λ s. with_moment q (Some c.args.moment)
     (event_serves (on.tick c.args.moment) (expiry_of c.in_ok-expiry.expiry) p c.tick.new.self c.tick.ensures.settings c.in_ok-expiry.ensures.stands tt c.requires.can_tick s))
     c.in_ok-settle.ensures.serves
+
+pub returns-clause-replies : goal.returns-clause-replies
+returns-clause-replies c =
+    let q : Proxy = record c.args.self.now { client = c.tick.new.self } in
+    replies_by c.args.self.now (record q { moment = Some c.args.moment }) c.settle.new.self
+    (no_head_moment c.args.self.now q (Some c.args.moment) (client_no_head c.args.self.now (on.tick c.args.moment) _ c.tick.new.self c.in_ok-expiry.ensures.stands refl)) c.in_ok-settle.ensures.replies

@@ -2,6 +2,7 @@ use Rattle.std.proofs.Common.{sym, ◌∙◌}
 use Rattle.h1_proxy.proofs.Moves.{goes_same, of_unsent, of_no_unsent}
 use Rattle.h1_proxy.proofs.Work.{turns, still_rests, works_of_unsent, not_still, runs_on}
 use Rattle.h1_proxy.proofs.Served.{serves_of_unsent}
+use Rattle.h1_proxy.proofs.Replies.{still_replies, replies_of_unsent}
 use Rattle.h1_proxy.proofs.proxy.Proxy.turn.Goals as goal
 
 pub returns-then-is_still-clause-goes : goal.returns-then-is_still-clause-goes
@@ -38,3 +39,13 @@ returns-in_ok-more-in-Some-clause-serves c = serves_of_unsent c.args.self.now c.
 pub returns-in_ok-more-in-None-clause-serves : goal.returns-in_ok-more-in-None-clause-serves
 returns-in_ok-more-in-None-clause-serves c =
     serves_of_unsent c.args.self.now c.go_on.new.self _ (sym c.in-None.ensures.value ∙ sym c.take.ensures.after) c.in_ok-more-in-None.ensures.serves
+
+pub returns-then-is_still-clause-replies : goal.returns-then-is_still-clause-replies
+returns-then-is_still-clause-replies c = still_replies c.args.self.now
+
+pub returns-in_ok-more-in-Some-clause-replies : goal.returns-in_ok-more-in-Some-clause-replies
+returns-in_ok-more-in-Some-clause-replies c = replies_of_unsent c.args.self.now c.send.new.self _ (sym c.in-Some.ensures.value) c.in_ok-more-in-Some.ensures.replies
+
+pub returns-in_ok-more-in-None-clause-replies : goal.returns-in_ok-more-in-None-clause-replies
+returns-in_ok-more-in-None-clause-replies c =
+    replies_of_unsent c.args.self.now c.go_on.new.self _ (sym c.in-None.ensures.value ∙ sym c.take.ensures.after) c.in_ok-more-in-None.ensures.replies
