@@ -177,6 +177,15 @@ where
         self.line.connection().deadline()
     }
 
+    /// How many heads were read ahead of the request that was handed out last: at most 16. They count among the bytes that
+    /// are held.
+    pub fn ahead(&self) -> usize
+        ensures value { result ≡ (view_of T.wiring S.served S.calling B.gives L.noted self.now).line.state.ahead }
+        ensures most { result ≤ 16 }
+    {
+        self.line.connection().ahead()
+    }
+
     /// The service.
     pub fn service(&self) -> &S
         ensures { told_service B.gives (S.served result.now) ≡ (view_of T.wiring S.served S.calling B.gives L.noted self.now).service }
