@@ -1,5 +1,5 @@
 //! A dispatcher, and what it keeps.
-ghost use Rattle.std.specs.Prelude.{◌≡◌, ◌⊎◌, None, Some, []};
+ghost use Rattle.std.specs.Prelude.{◌≡◌, ◌≤◌, ◌⊎◌, None, Some, []};
 ghost use Rattle.h1_machine.specs.Deadline.{deadline_by};
 ghost use Rattle.h1_connection.specs.Meaning.{setting_of};
 ghost use Rattle.h1_line.specs.Line.{LineStands};
