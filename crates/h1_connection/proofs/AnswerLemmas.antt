@@ -21,8 +21,9 @@ use Rattle.h1_machine.specs.Change.{IsChange}
 use Rattle.h1_decode.specs.declared.scan.HeadScan.{HeadScan}
 use Rattle.http_segments.specs.Queued.{Queued}
 use Rattle.h1_connection.specs.Meaning.{setting_of, end_of}
-use Rattle.h1_connection.specs.Parts.{kept_of, exchange_of, reply_of, asked_in, sending_in, sending_by, replied, completed, IsSettled, IsSound, Steps}
+use Rattle.h1_connection.specs.Parts.{kept_of, exchange_of, reply_of, asked_in, sending_in, sending_by, replied, completed, HasNoneBehind, MayBeSearched, IsSettled, IsSound, Steps}
 use Rattle.h1_connection.specs.Unsent.{NoPieceBy, NoPieceOf, SendsNoPiece, NoEndBy, NoEndOf, SendsNoEnd}
+use Rattle.h1_connection.specs.declared.connection.clock.Clock.{Clock}
 use Rattle.h1_connection.specs.declared.connection.exchange.Exchange.{Exchange}
 use Rattle.h1_connection.specs.declared.connection.exchange.Sending.{Sending}
 use Rattle.h1_connection.specs.declared.connection.exchange.Reply.{Reply}
@@ -33,6 +34,18 @@ use Rattle.h1_connection.proofs.PassingLemmas.{passing_clock}
 use Rattle.h1_connection.proofs.StepLemmas.{quiet_step, settled_step, settled_sound}
 
 -- ---- an answer that is complete
+
+-- a reply leaves what is left of the body
+replied_behind : (p : Parts) (reply : Reply) (e : Option Exchange) → HasNoneBehind (kept_of (record p { exchange = e })) p.input.ahead
+    → HasNoneBehind (kept_of (record p { exchange = replied reply e })) p.input.ahead
+replied_behind p reply None behind = behind
+replied_behind p reply (Some x) behind = behind
+
+pub completed_may : (p m : Parts) (kind : ConnectionType) (clock : Clock) → m ≡ record p { exchange = replied (Answered kind) p.exchange } → p.input.piece ≡ None
+    → HasNoneBehind (kept_of p) p.input.ahead → MayBeSearched (record m { clock = clock })
+completed_may p m kind clock is none behind =
+    subst (λ (r : Parts). MayBeSearched (record r { clock = clock })) (sym is)
+    (record { searched = λ busy. none; behind = replied_behind p (Answered kind) p.exchange behind })
 
 -- the moment stays
 complete_now : (p : Parts) (kind : ConnectionType) → now (passing (kept_of (completed kind p))) ≡ now (kept_of p)
@@ -331,6 +344,10 @@ pub chunked_sound : (s : Settings) (p q : Parts) (asked : Asked) (z y : Sending)
 chunked_sound s p q asked z y queue asks sends sound is = subst (λ (r : Parts). IsSound s r) (sym is) (chunk_sound s p asked z y queue asks sends sound)
 
 -- what a short body leaves
+pub short_parts_behind : (p m : Parts) (queue : Queued) → m ≡ record p { output = queue; failed = m.failed } → HasNoneBehind (kept_of p) p.input.ahead
+    → HasNoneBehind (kept_of m) m.input.ahead
+short_parts_behind p m queue is behind = subst (λ (r : Parts). HasNoneBehind (kept_of r) r.input.ahead) (sym is) behind
+
 pub short_parts_piece : (p m : Parts) (queue : Queued) → m ≡ record p { output = queue; failed = m.failed } → p.input.piece ≡ None → m.input.piece ≡ None
 short_parts_piece p m queue is none = ap (λ (r : Parts). r.input.piece) is ∙ none
 

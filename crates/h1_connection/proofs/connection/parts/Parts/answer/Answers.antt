@@ -8,8 +8,11 @@ use Rattle.http_segments.specs.Queued.{Queued}
 use Rattle.h1_connection.specs.declared.connection.parts.Parts.{Parts}
 use Rattle.h1_connection.proofs.connection.parts.Parts.answer.Goals as goal
 
-pub complete-requires : goal.complete-requires
-complete-requires c = waiting_unsearched c.args.config.now c.args.self.now _ (sym c.asked.ensures ∙ c.in-Some.is) c.requires.waits c.requires.sound
+pub complete-requires-clause-unsearched : goal.complete-requires-clause-unsearched
+complete-requires-clause-unsearched c = waiting_unsearched c.args.config.now c.args.self.now _ (sym c.asked.ensures ∙ c.in-Some.is) c.requires.waits c.requires.sound
+
+pub complete-requires-clause-behind : goal.complete-requires-clause-behind
+complete-requires-clause-behind c = c.requires.sound.behind
 
 pub returns-in_default-clause-ok : goal.returns-in_default-clause-ok
 returns-in_default-clause-ok c = no_answer c.args.config.now c.args.self.now _ _ (sym c.asked.ensures ∙ c.in_default.is) c.requires.sound

@@ -38,3 +38,6 @@ returns-clause-marks c =
     ap (λ (p : Parts). p.output.marks) c.set_reply.ensures
     ∙ chunk_marks c.args.self.now c.in-Some.asked c.in-Some-sending.sending _ _ (sym c.asked.ensures ∙ c.in-Some.is) (sym c.sending.ensures ∙ c.in-Some-sending.is)
     c.in_ok-put_piece.ensures.ok
+
+pub returns-clause-ahead : goal.returns-clause-ahead
+returns-clause-ahead c = ap (λ (p : Parts). p.input.ahead) c.set_reply.ensures

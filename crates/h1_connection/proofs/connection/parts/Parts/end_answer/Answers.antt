@@ -1,14 +1,17 @@
 use Rattle.std.proofs.Common.{◌∙◌, sym, ap}
 use Rattle.std.proofs.lemmas.Bool.{false≢true}
-use Rattle.h1_connection.proofs.AnswerLemmas.{unsent_end, unasked, no_end, sending_unsearched, ended_steps, ended_sound, short_parts_piece}
+use Rattle.h1_connection.proofs.AnswerLemmas.{unsent_end, unasked, no_end, sending_unsearched, ended_steps, ended_sound, short_parts_piece, short_parts_behind}
 use Rattle.http_segments.specs.Queued.{Queued}
 use Rattle.h1_connection.specs.declared.connection.parts.Parts.{Parts}
 use Rattle.h1_connection.proofs.connection.parts.Parts.end_answer.Goals as goal
 
-pub complete-requires : goal.complete-requires
-complete-requires c =
+pub complete-requires-clause-unsearched : goal.complete-requires-clause-unsearched
+complete-requires-clause-unsearched c =
     short_parts_piece c.args.self.now _ _ c.note_short.ensures.parts
     (sending_unsearched c.args.config.now c.args.self.now _ _ (sym c.asked.ensures ∙ c.in-Some.is) (sym c.sending.ensures ∙ c.in-Some-sending.is) c.requires)
+
+pub complete-requires-clause-behind : goal.complete-requires-clause-behind
+complete-requires-clause-behind c = short_parts_behind c.args.self.now _ _ c.note_short.ensures.parts c.requires.behind
 
 pub returns-in_default-clause-ok : goal.returns-in_default-clause-ok
 returns-in_default-clause-ok c = no_end c.args.config.now c.args.self.now (unasked _ (sym c.asked.ensures ∙ c.in_default.is)) c.requires

@@ -9,3 +9,6 @@ returns-then-is_some-clause-ok c =
 
 pub returns-then-is_some-clause-marks : goal.returns-then-is_some-clause-marks
 returns-then-is_some-clause-marks c = ap (λ (p : Parts). p.output.marks) c.abandon.ensures.parts
+
+pub returns-then-is_some-clause-ahead : goal.returns-then-is_some-clause-ahead
+returns-then-is_some-clause-ahead c = ap (λ (p : Parts). p.input.ahead) c.abandon.ensures.parts

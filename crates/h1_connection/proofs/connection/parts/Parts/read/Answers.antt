@@ -4,6 +4,9 @@ use Rattle.h1_connection.proofs.EventLemmas.{read_may, read_steps, read_sound}
 use Rattle.h1_connection.proofs.StepLemmas.{passed_may}
 use Rattle.h1_connection.proofs.connection.parts.Parts.read.Goals as goal
 
+pub pass_body-requires : goal.pass_body-requires
+pass_body-requires c = read_may c.args.config.now c.args.self.now c.take.new.self c.requires c.in_ok-count.ensures.searched c.take.ensures.ahead
+
 pub settle-requires : goal.settle-requires
 settle-requires c =
     passed_may (record c.args.self.now { input = c.take.new.self }) c.pass_body.new.self c.pass_body.ensures.kept c.pass_body.ensures.input c.pass_body.ensures.ahead

@@ -3,6 +3,9 @@ use Rattle.h1_connection.proofs.EventLemmas.{read_may, read_sound, came_steps}
 use Rattle.h1_connection.proofs.StepLemmas.{passed_may}
 use Rattle.h1_connection.proofs.connection.parts.Parts.read_from.Goals as goal
 
+pub pass_body-requires : goal.pass_body-requires
+pass_body-requires g c = read_may c.args.config.now c.args.self.now c.read_from.new.self c.requires c.in_ok-came.ensures.searched c.read_from.ensures.ahead
+
 pub settle-requires : goal.settle-requires
 settle-requires g c =
     passed_may (record c.args.self.now { input = c.read_from.new.self }) c.pass_body.new.self c.pass_body.ensures.kept c.pass_body.ensures.input c.pass_body.ensures.ahead

@@ -16,3 +16,6 @@ returns-clause-sound c = told_sound_by c.args.config.now c.args.self.now _ _ c.r
 
 pub returns-clause-marks : goal.returns-clause-marks
 returns-clause-marks c = ap (λ (q : Queued). q.marks) (ap (λ (p : Parts). p.output) c.set_had_continue.ensures ∙ c.in_ok-put_interim.ensures.ok)
+
+pub returns-clause-ahead : goal.returns-clause-ahead
+returns-clause-ahead c = ap (λ (p : Parts). p.input.ahead) c.set_had_continue.ensures

@@ -9,7 +9,9 @@ pub expire-requires-clause-searched : goal.expire-requires-clause-searched
 expire-requires-clause-searched c = sound_may c.args.config.now c.args.self.now c.requires.sound
 
 pub note-requires : goal.note-requires
-note-requires c = tick_may c.args.config.now c.args.self.now c.expire.new.self c.requires.sound c.expire.ensures.exchange c.expire.ensures.input
+note-requires c =
+    let may = tick_may c.args.config.now c.args.self.now c.expire.new.self c.requires.sound c.expire.ensures.exchange c.expire.ensures.input in
+    record { searched = may.searched; behind = may.behind }
 
 pub returns-clause-ok : goal.returns-clause-ok
 returns-clause-ok c =
