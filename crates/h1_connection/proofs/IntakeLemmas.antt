@@ -5,7 +5,7 @@ use Rattle.std.specs.Prelude.{is_some, slice_range, IsTrue, IfOk, IsOk, OnErr, �
 use Rattle.std.proofs.lemmas.Bool.{false≢true, cases_Bool, cases_lt}
 use Rattle.std.proofs.lemmas.List.{take-append-drop, length-take}
 use Rattle.h1_model.specs.HeadPiece.{IsHeadPiece, HasNoHeadPiece, EndsBlank}
-use Rattle.h1_model.specs.Request.{has_body}
+use Rattle.h1_model.specs.Request.{Fault, has_body}
 use Rattle.h1_model.proofs.BlankLemmas.{ends_blank_long}
 use Rattle.h1_machine.specs.Kept.{Rest, no_rest, raw_rest, fixed_rest, chunks_rest, frames_rest, is_nothing, rest_in}
 use Rattle.h1_machine.specs.Body.{Passed, pass_rest}
@@ -20,7 +20,7 @@ use Rattle.h1_decode.specs.declared.scan.HeadScan.{HeadScan}
 use Rattle.h1_decode.specs.declared.scan.HeadScan.TheVariants.{Open, Piece}
 use Rattle.http_types.specs.declared.error.ParseError.{ParseError}
 use Rattle.h1_connection.specs.Ahead.{joined, AreRead, FirstIsHead, may_go_on, turn_behind, IsReadNext, IsFilled, IsFilling, IsFillingOn}
-use Rattle.h1_connection.specs.Incoming.{Incoming, is_coming_in, IsFound, IsFoundIn, IsWhole, IsHeadIn, IsHeadOf, IsNextHead, IsPassedHead, IsPassedIn, IsAlone, IsTakenIn, IsTakenHead}
+use Rattle.h1_connection.specs.Incoming.{Incoming, is_coming_in, IsFound, IsFoundIn, IsWhole, IsHeadIn, IsHeadOf, IsNextHead, IsNextFault, IsPassedHead, IsPassedIn, IsAlone, IsTakenIn, IsTakenHead}
 use Rattle.h1_connection.specs.Scan.{scan_of}
 use Rattle.h1_connection.specs.Stock.{Stock, IsFaultAhead, IsHeadAhead, IsWholeOf, HandsOut, CountsOn, piece_by, ahead_by, stock_of, WaitFor, IsTurn, IsStocked, IsSameStock}
 use Rattle.h1_connection.specs.declared.connection.ahead.Slot.{Slot}
@@ -158,6 +158,29 @@ light_waiting ended rest turn heads i t r view stocked none left needs p is ligh
     let at = pull_inner ended rest heads i.unread p bare (subst (λ (u : Stock). IsPull ended rest u.unread p) (sym view) is) in
     needs at.0 at.1 (subst (λ (o : on.Outcome). IsLight rest o at.0.rest) at.2 (subst (λ (l : Rest). IsLight rest p.outcome l) at.3 light))
 
+-- what is held is right behind it
+pub pull_waits : (ended : Bool) (rest later : Rest) (turn : Turn) (heads : List Slot) (i j : Incoming) (t : Stock) (answer : Answer) → stock_of heads turn i ≡ t → IsStocked heads turn i → t.piece ≡ None
+    → (is_nothing rest ≡ false → t.ahead ≡ 0) → ((q : Pulled) → IsPull ended rest i.unread q → IsPulled q answer later j.unread) → j.piece ≡ None → length j.unread < 2 ^ 64
+    → IsStocked heads turn j
+pull_waits ended rest later turn heads i j t answer view stocked none left pulled still short = (still_waits turn heads i j stocked off still (fits bare)).0
+  where
+    off : piece_by turn heads i ≡ None
+    off = ap (λ (u : Stock). u.piece) view ∙ none
+
+    bare : IsBare rest heads
+    bare = bare_rest turn heads i rest stocked off (λ l. ap (λ (u : Stock). u.ahead) view ∙ left l)
+
+    same : (r : Rest) → is_nothing r ≡ true → ((q : Pulled) → IsPull ended r i.unread q → IsPulled q answer later j.unread) → j.unread ≡ i.unread
+    same no_rest nothing says = (says (finishes on.body_ended no_rest i.unread) refl).unread_is
+    same raw_rest nothing says = absurd (cc nothing)
+    same (fixed_rest n) nothing says = absurd (cc nothing)
+    same (chunks_rest place section) nothing says = absurd (cc nothing)
+    same (frames_rest under_way limit) nothing says = absurd (cc nothing)
+
+    fits : IsBare rest heads → length (joined heads ++ j.unread) < 2 ^ 64
+    fits (inl nothing) = subst (λ (l : List ℕ). length (joined heads ++ l) < 2 ^ 64) (sym (same rest nothing pulled)) stocked.fits
+    fits (inr empty) = subst (λ (l : List Slot). length (joined l ++ j.unread) < 2 ^ 64) (sym empty) short
+
 -- no byte of a body is left where the input ends with it
 long_head : (heads : List Slot) → AreRead heads → 0 < length heads → 0 < length (joined heads)
 long_head [] are some = absurd (omega (arith, some))
@@ -214,6 +237,11 @@ taken_bytes i (Some (Piece start end)) bytes after is = (
 )
 taken_bytes i (Some Open) bytes after is = absurd is
 taken_bytes i None bytes after is = absurd is
+
+-- what was found is what a search finds
+found_scan : (i : Incoming) (piece : Option HeadScan) → IsFoundIn i.unread piece → is_some piece ≡ true → piece ≡ Some (scan_of i.unread)
+found_scan i (Some p) found is = ap (λ (q : HeadScan). Some q) (scan_is i.unread p found)
+found_scan i None found is = absurd (cc is)
 
 module _ (was : List Slot) (i : Incoming) (searched : is_some i.piece ≡ true) (now : List Slot) (j k : Incoming) (goes : IsFillingOn was i now j) (awaited : IsAwaited j k) where
   -- while none was read all is as before
@@ -273,6 +301,28 @@ module _ (was : List Slot) (i : Incoming) (searched : is_some i.piece ≡ true) 
       no_piece (Some (Piece start end)) found is head = absurd (cc head.1)
       no_piece None found is head = absurd (cc is)
 
+  pub ends_filled : (after : List Slot) (l m : Incoming) → IsHeadOf k None → after ≡ now → l ≡ k → 0 < length after → m ≡ record { unread = l.unread; piece = None } → IsFilled was i after m
+  ends_filled after l m none same input some m_is =
+      subst (λ (x : List Slot). IsFilled was i x m) (sym same)
+      (none_filled m none (subst (λ (x : List Slot). 0 < length x) same some) (m_is ∙ ap (λ (x : Incoming). record { unread = x.unread; piece = None }) input))
+
+  -- one was there before any was read, where one is there now or was read
+  pub whole_before : AreRead now → (now ≡ [] → IsWhole k) → was ≡ [] → IsWhole i
+  whole_before are whole none = by_more goes.filling.more
+    where
+      bytes : joined now ++ j.unread ≡ i.unread
+      bytes = goes.filling.bytes ∙ ap (λ (l : List Slot). joined l ++ i.unread) none
+
+      read_one : (heads : List Slot) → AreRead heads → 0 < length heads → joined heads ++ j.unread ≡ i.unread → IsFound i → IsWhole i
+      read_one [] read some all found = absurd (omega (arith, some))
+      read_one (s ∷ more) read some all found =
+          ap (λ (o : Option HeadScan). is_coming_in o) (found_scan i i.piece found searched ∙ ap (λ (l : List ℕ). Some (scan_of l)) (sym all))
+          ∙ first_coming s more j.unread read
+
+      by_more : (now ≡ was) ⊎ (length was < length now) → IsWhole i
+      by_more (inl same) = subst (λ (x : Incoming). IsWhole x) (same_input same) (whole (same ∙ none))
+      by_more (inr more) = read_one now are (omega (arith, more)) bytes (goes.filling.found none (omega (arith, more)))
+
   -- nor was any
   pub none_there : now ≡ [] → IsHeadOf k None → (was ≡ []) × IsHeadOf i None × (k ≡ i)
   none_there empty none =
@@ -310,10 +360,6 @@ all_filled was i now j goes may done = record {
 
 -- ---- memory ran out
 
-found_scan : (i : Incoming) (piece : Option HeadScan) → IsFoundIn i.unread piece → is_some piece ≡ true → piece ≡ Some (scan_of i.unread)
-found_scan i (Some p) found is = ap (λ (q : HeadScan). Some q) (scan_is i.unread p found)
-found_scan i None found is = absurd (cc is)
-
 pub same_stock : (was : List Slot) (i : Incoming) (now : List Slot) (j : Incoming) → IsStocked was Unasked i → is_some i.piece ≡ true → IsFilling was i now j → is_some j.piece ≡ true
     → may_go_on now ≡ true → AreRead now → IsSameStock was i now j
 same_stock was i now j stocked searched filling still may are = record {
@@ -340,7 +386,19 @@ same_stock was i now j stocked searched filling still may are = record {
         shrinks (inr less) = omega (arith, less)
     pieces (s ∷ more) (t ∷ rest) f = ap (λ (l : List ℕ). Some (scan_of l)) f.bytes
 
+-- where the first was refused, or memory wanted, one was there
+pub empty_fault : (heads : List Slot) (i : Incoming) (fault : Fault) → heads ≡ [] → IsNextFault i fault → IsFaultAhead (stock_of heads Unasked i) fault
+empty_fault heads i fault empty next = subst (λ (l : List Slot). IsFaultAhead (stock_of l Unasked i) fault) (sym empty) next
+
+pub filled_whole : (heads : List Slot) (i : Incoming) → IsStocked heads Unasked i → (heads ≡ [] → IsWhole i) → IsWholeOf (stock_of heads Unasked i)
+filled_whole [] i stocked whole = whole refl
+filled_whole (s ∷ more) i stocked whole = first_coming s more i.unread stocked.are
+
 -- ---- the first is handed out
+
+-- it is one
+pub same_first : (heads : List Slot) (s t : Slot) (more rest : List Slot) → heads ≡ s ∷ more → heads ≡ t ∷ rest → s ≡ t
+same_first heads s t more rest here there = cc
 
 -- what is held behind it
 stocked_behind : (s : Slot) (more : List Slot) (i : Incoming) → length (joined (s ∷ more) ++ i.unread) < 2 ^ 64 → AreRead (s ∷ more) → length more ≤ 16 → i.piece ≡ None
@@ -476,6 +534,9 @@ all_counted turn heads i t view (inr is) stocked =
     (sym (ap (λ (u : Turn). ahead_by u heads) is) ∙ ap (λ (s : Stock). s.ahead) view, (subst (λ (u : Turn). IsTurn u heads i) is stocked.turns).1)
 
 -- ---- by the turn
+
+pub turn_view : (turn u : Turn) (heads : List Slot) (i : Incoming) (t : Stock) → stock_of heads turn i ≡ t → turn ≡ u → stock_of heads u i ≡ t
+turn_view turn u heads i t view is = ap (λ (v : Turn). stock_of heads v i) (sym is) ∙ view
 
 -- the fields of one that is asked are those of the bytes where no head was read
 pub empty_view : (turn : Turn) (heads : List Slot) (i : Incoming) (t : Stock) → stock_of heads turn i ≡ t → turn ≡ Unasked → heads ≡ []

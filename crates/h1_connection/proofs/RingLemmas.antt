@@ -175,7 +175,7 @@ may_few (s ∷ more) may = ltb-true (length (s ∷ more)) 17 (and_parts (nat_lt 
 
 -- ---- one more is read
 
-joined_more : (heads : List Slot) (s : Slot) → joined (heads ++ s ∷ []) ≡ joined heads ++ s.piece
+pub joined_more : (heads : List Slot) (s : Slot) → joined (heads ++ s ∷ []) ≡ joined heads ++ s.piece
 joined_more [] s = append-nil s.piece
 joined_more (h ∷ heads) s = ap (λ (l : List ℕ). h.piece ++ l) (joined_more heads s) ∙ sym (append_assoc h.piece (joined heads) s.piece)
 

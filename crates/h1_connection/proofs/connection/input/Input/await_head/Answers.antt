@@ -1,4 +1,4 @@
-use Rattle.std.proofs.Common.{◌≡◌, true, false, refl, ap, sym, ◌∙◌, subst}
+use Rattle.std.proofs.Common.{◌≡◌, ◌++◌, true, false, refl, ap, sym, ◌∙◌, subst}
 use Rattle.std.specs.Prelude.{is_some}
 use Rattle.h1_connection.specs.Incoming.{Incoming, piece_of, IsFound}
 use Rattle.h1_connection.specs.declared.connection.input.Search.{Search}
@@ -12,7 +12,7 @@ returns-in-Off-clause-scanned c = scan_answers _
 pub returns-in-Off-clause-same : goal.returns-in-Off-clause-same
 returns-in-Off-clause-same c = λ is.
     let off : false ≡ is_some c.args.self.now.piece =
-    ap (λ (s : Search). is_some (piece_of _ s)) (sym c.in-Off.is) ∙ ap (λ (i : Incoming). is_some i.piece) c.self.view_is in
+    ap (λ (s : Search). is_some (piece_of (c.self.inside.head_bytes ++ c.self.inside.bytes.items) s)) (sym c.in-Off.is) ∙ ap (λ (i : Incoming). is_some i.piece) c.self.view_is in
     absurd (let no : false ≡ true = off ∙ is in cc no)
 
 pub returns-in_default : goal.returns-in_default
