@@ -5,7 +5,7 @@ use Rattle.std.specs.Prelude.{option_map, is_some, slice_range, ◌==◌, ◌||�
 use Rattle.http_config.specs.Config.{Settings}
 use Rattle.h1_model.specs.HeadPiece.{IsHeadPiece}
 use Rattle.h1_model.specs.Request as model
-use Rattle.h1_model.specs.Request.{Head, Reading, head_is, faulty, too_large}
+use Rattle.h1_model.specs.Request.{Head, Reading, head_is, faulty, too_large, is_raw_kind}
 use Rattle.h1_model.specs.RequestHead.{IsReading, IsReadingWithin}
 use Rattle.h1_model.specs.Setting.{Setting}
 use Rattle.h1_model.specs.Handshake as checks
@@ -23,7 +23,7 @@ use Rattle.h1_machine.specs.Change.{IsStep, IsChange, IsNext, IsUpcoming, noting
 use Rattle.h1_decode.specs.HeadItem.{SaysHead, version_of, connection_type_of}
 use Rattle.http_framing.specs.Kinds.{kind_of}
 use Rattle.h1_codec.specs.Meaning.{minor_of, model_type}
-use Rattle.h1_model.specs.Answer.{Asked, asked_of, is_raw_kind}
+use Rattle.h1_model.specs.Answer.{Asked, asked_of}
 use Rattle.http_types.specs.declared.message.ConnectionType.{ConnectionType}
 use Rattle.h1_decode.specs.declared.decoder.HeadItem.{HeadItem}
 use Rattle.h1_decode.specs.declared.scan.HeadScan.{HeadScan}
@@ -130,6 +130,13 @@ full_steps s p q fault large runs none full settled =
 
 pub refused_sound : (s : Settings) (p q : Parts) (fault : HeadFault) → IsSound s p → IsSettled (setting_of s) (refused fault (kept_of p)) q → IsSound s q
 refused_sound s p q fault sound settled = settled_sound s (refused fault (kept_of p)) q sound.moment settled
+
+-- that a head is counted no more is no matter
+pub forgotten_settled : (set : Setting) (k : Kept) (q : Parts) (after : Stock) → after ≡ record q.input { ahead = 0 } → IsSettled set k q
+    → IsSettled set k (record q { input = after })
+forgotten_settled set k q after is settled =
+    subst (λ (i : Stock). IsSettled set k (record q { input = i })) (sym is)
+    (record { kept = settled.kept; searched = settled.searched; scanned = settled.scanned; behind = λ left. refl })
 
 -- ---- a head that was found
 
@@ -367,7 +374,7 @@ none_ahead_here s p sound runs none may = by_free (is_free (kept_of p)) refl
     by_free false is = sound.behind (left_open (kept_of p) (kept_of p).exchange closed is)
 
 -- so behind it there is none either
-pub none_counts : (s : Settings) (p q : Parts) (item : HeadItem) (r : Result NextKind NoMemory) → OnOk r (q.input.ahead ≡ p.input.ahead) → IfOk r (λ kind. is_head_kind kind ≡ false)
+pub none_counts : {E : Type 0} (s : Settings) (p q : Parts) (item : HeadItem) (r : Result NextKind E) → OnOk r (q.input.ahead ≡ p.input.ahead) → IfOk r (λ kind. is_head_kind kind ≡ false)
     → (MayAsk (setting_of s) (kept_of p) → p.input.ahead ≡ 0) → IfOk r (λ kind. MayAsk (setting_of s) (kept_of p) → IsHeld s p → NumberGoes s p (with_head item kind) q)
 none_counts s p q item (Err e) same no_head none = tt
 none_counts s p q item (Ok next_kind.Head) same no_head none = absurd (cc no_head)
@@ -402,16 +409,9 @@ asked_by piece item h a is_head is_raw kind reading says is head raw connection 
     })
 
 -- where the input stayed, all is said of the parts as they were
-pub next_same : (s : Settings) (p : Parts) (i : Incoming) (q : Parts) (answer : NextHead) → i ≡ p.input
-    → (IsHeld s (record p { input = i }) → IsNexted s (record p { input = i }) answer q) → IsHeld s p → IsNexted s p answer q
-next_same s p i q answer same nexted = subst (λ (j : Incoming). IsHeld s (record p { input = j }) → IsNexted s (record p { input = j }) answer q) same nexted
-
-pub runs_same : (s : Settings) (p : Parts) (i : Incoming) → i ≡ p.input → closing_by (setting_of s) (kept_of p) ≡ None
-    → closing_by (setting_of s) (kept_of (record p { input = i })) ≡ None
-runs_same s p i same runs = subst (λ (j : Incoming). closing_by (setting_of s) (kept_of (record p { input = j })) ≡ None) (sym same) runs
-
-pub found_same : (p : Parts) (i : Incoming) (head : List ℕ) → i ≡ p.input → IsHeadAhead p.input (Some head) → IsHeadOf i (Some head)
-found_same p i head same found = subst (λ (j : Incoming). IsHeadOf j (Some head)) (sym same) found
+pub settled_same : (s : Settings) (p q : Parts) (i : Stock) (fault : HeadFault) → i ≡ p.input → IsSettled (setting_of s) (refused fault (kept_of (record p { input = i }))) q
+    → IsSettled (setting_of s) (refused fault (kept_of p)) q
+settled_same s p q i fault same settled = subst (λ (j : Stock). IsSettled (setting_of s) (refused fault (kept_of (record p { input = j }))) q) same settled
 
 -- ---- what an upgrade needs of it
 

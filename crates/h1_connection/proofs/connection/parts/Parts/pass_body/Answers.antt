@@ -1,3 +1,7 @@
+use Rattle.std.proofs.Common.{Option, ap, ◌∙◌}
+use Rattle.h1_machine.specs.Kept.{is_free}
+use Rattle.h1_connection.specs.Parts.{kept_of}
+use Rattle.h1_connection.specs.declared.connection.exchange.Exchange.{Exchange}
 use Rattle.h1_connection.proofs.StepLemmas.{pass_some, pass_none, rest_behind}
 use Rattle.h1_connection.proofs.connection.parts.Parts.pass_body.Goals as goal
 
@@ -11,4 +15,5 @@ pub pass-requires-clause-behind : goal.pass-requires-clause-behind
 pass-requires-clause-behind c = rest_behind c.args.self.now _ c.in-Some.is c.requires.behind
 
 pub pass-requires-clause-unsearched : goal.pass-requires-clause-unsearched
-pass-requires-clause-unsearched c = c.requires.searched
+pass-requires-clause-unsearched c = λ busy.
+    c.requires.searched (ap (λ (e : Option Exchange). is_free (kept_of (record c.args.self.now { exchange = e }))) c.in-Some.is ∙ busy)

@@ -4,7 +4,7 @@ use Rattle.http_segments.specs.Queued.{Queued}
 use Rattle.h1_connection.proofs.connection.parts.Parts.refuse.Goals as goal
 
 pub note-requires : goal.note-requires
-note-requires c = sound_may c.args.config.now c.args.self.now c.requires
+note-requires c = let may = sound_may c.args.config.now c.args.self.now c.requires in record { searched = may.searched; behind = may.behind }
 
 pub returns-clause-marks : goal.returns-clause-marks
 returns-clause-marks c = ap (λ (q : Queued). q.marks) (c.note.ensures.output ∙ c.in_ok-put_fault.ensures.ok)

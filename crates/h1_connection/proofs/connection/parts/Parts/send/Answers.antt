@@ -9,7 +9,7 @@ use Rattle.h1_connection.specs.Stock.{Stock}
 use Rattle.h1_connection.proofs.connection.parts.Parts.send.Goals as goal
 
 pub note-requires : goal.note-requires
-note-requires c = sound_may c.args.config.now c.args.self.now c.requires
+note-requires c = let may = sound_may c.args.config.now c.args.self.now c.requires in record { searched = may.searched; behind = may.behind }
 
 pub returns-in-Some-clause-ok : goal.returns-in-Some-clause-ok
 returns-in-Some-clause-ok c =
