@@ -37,7 +37,7 @@ at_event now after event other outcome is goes = subst (λ (e : Event). GoesOn n
 pub says_more : (now after : State) (event : on.Event) (P : on.Outcome → Type 0) (outcome : Outcome) → ((out : on.Outcome) → P out → SaysOutcome outcome out)
     → GoesOn now event P after → GoesOn now event (SaysOutcome outcome) after
 says_more now after event P outcome says goes = λ trace stands.
-    let x = goes trace stands in (x.0, says x.0 x.1, x.2, x.3, x.4)
+    let x = goes trace stands in (x.0, says x.0 x.1, x.2, x.3, x.4, x.5)
 
 -- ---- a run
 
@@ -46,7 +46,7 @@ pub record IsDrivenTo (settings : Settings) (events : List Event) (index : ℕ) 
   pub settings_are : now.settings ≡ settings
   pub events_are : map (λ (step : Step). step.event) steps ≡ take index events
   pub model : List sums.Step
-  pub stands : Stands (record { settings = settings; kept = now.kept; marks = now.marks }) model
+  pub stands : Stands (record { settings = settings; kept = now.kept; marks = now.marks; ahead = now.ahead }) model
   pub says : SaySteps steps (reverse model)
 
 -- no body byte waits in a new connection
@@ -75,7 +75,7 @@ pub driven_more : (settings : Settings) (events : List Event) (index : ℕ) (ste
     → GoesOn now (event_of event) (SaysOutcome outcome) after → after.settings ≡ now.settings
     → IsDrivenTo settings events (index + 1) (steps ++ (record { event = event; outcome = outcome }) ∷ []) after
 driven_more settings events index steps now after event outcome in_range is driven goes same =
-    let stands = subst (λ (s : Settings). Stands (record { settings = s; kept = now.kept; marks = now.marks }) driven.model) (sym driven.settings_are) driven.stands in
+    let stands = subst (λ (s : Settings). Stands (record { settings = s; kept = now.kept; marks = now.marks; ahead = now.ahead }) driven.model) (sym driven.settings_are) driven.stands in
     let next = goes driven.model stands in
     let step : sums.Step = record { event = event_of event; outcome = next.0 } in
     record {
@@ -86,7 +86,7 @@ driven_more settings events index steps now after event outcome in_range is driv
           ∙ ap (λ (e : Event). take index events ++ e ∷ []) is
           ∙ sym (take_more events index event in_range);
       model = step ∷ driven.model;
-      stands = subst (λ (s : Settings). Stands (record { settings = s; kept = after.kept; marks = after.marks }) (step ∷ driven.model)) (same ∙ driven.settings_are) next.3;
+      stands = subst (λ (s : Settings). Stands (record { settings = s; kept = after.kept; marks = after.marks; ahead = after.ahead }) (step ∷ driven.model)) (same ∙ driven.settings_are) next.3;
       says =
           subst (λ (l : List sums.Step). SaySteps (steps ++ (record { event = event; outcome = outcome }) ∷ []) l) (sym (reverse_onto driven.model step []))
           (say_more steps (reverse driven.model) (record { event = event; outcome = outcome }) step driven.says (record { event = refl; outcome = next.1 }));
@@ -128,7 +128,7 @@ pub run_of : (settings : Settings) (events : List Event) (index : ℕ) (steps : 
     → IsDriven settings (take index events) trace x.model
 run_of settings events index steps now trace x steps_are buffered_are closing_is =
     let set = setting_of settings in
-    let at : State = record { settings = settings; kept = now.kept; marks = now.marks } in
+    let at : State = record { settings = settings; kept = now.kept; marks = now.marks; ahead = now.ahead } in
     record {
       traced = x.stands.traced;
       says = subst (λ (l : List Step). SaySteps l (reverse x.model)) (sym steps_are) x.says;
@@ -168,6 +168,6 @@ misplaced_of settings events index steps now trace event x steps_are buffered_ar
       event = event;
       event_is = there;
       refused =
-          refused_at (record { settings = settings; kept = now.kept; marks = now.marks }) x.model (event_of event) x.stands
+          refused_at (record { settings = settings; kept = now.kept; marks = now.marks; ahead = now.ahead }) x.model (event_of event) x.stands
           (ap (λ (s : Settings). allowed_by (setting_of s) now.kept (event_of event)) (sym x.settings_are) ∙ refused);
     }

@@ -1,4 +1,4 @@
-use Rattle.std.proofs.Common.{◌≡◌, ◌∙◌, true, ap, subst}
+use Rattle.std.proofs.Common.{◌≡◌, ◌∙◌, true, ap, subst, refl}
 use Rattle.std.specs.Prelude.{IsOk}
 use Rattle.h1_connection.specs.Frames.{is_refused}
 use Rattle.h1_connection.specs.State.{State}

@@ -1,4 +1,4 @@
-use Rattle.std.proofs.Common.{◌≤◌, length, subst, sym}
+use Rattle.std.proofs.Common.{◌≤◌, length, subst, sym, refl}
 use Rattle.std.proofs.Common.{take}
 use Rattle.h1_model.specs.Event as on
 use Rattle.h1_connection.specs.State.{State, GoesOn, Is}

@@ -1,3 +1,4 @@
+use Rattle.std.proofs.Common.{refl}
 use Rattle.h1_connection.proofs.ResultLemmas.{on_map, on_both}
 use Rattle.h1_connection.proofs.GoesOnLemmas.{still_sound, same_state, goes_on, allowed_parts, answer_waits}
 use Rattle.h1_connection.proofs.GivenLemmas.{answer_sends, chunk_given, end_given, fail_given}

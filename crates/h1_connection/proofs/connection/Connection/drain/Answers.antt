@@ -1,3 +1,4 @@
+use Rattle.std.proofs.Common.{refl}
 use Rattle.h1_connection.proofs.GoesOnLemmas.{goes_on}
 use Rattle.h1_connection.proofs.connection.Connection.drain.Goals as goal
 

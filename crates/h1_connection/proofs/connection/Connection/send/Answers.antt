@@ -1,4 +1,4 @@
-use Rattle.std.proofs.Common.{◌∙◌, ◌≡◌, true, subst}
+use Rattle.std.proofs.Common.{◌∙◌, ◌≡◌, true, subst, refl}
 use Rattle.std.specs.Prelude.{IsOk}
 use Rattle.ws_frames.specs.Sent.{message_says}
 use Rattle.h1_connection.specs.Frames.{sends_nothing}

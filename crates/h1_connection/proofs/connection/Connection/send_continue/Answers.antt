@@ -1,3 +1,4 @@
+use Rattle.std.proofs.Common.{refl}
 use Rattle.h1_connection.proofs.ResultLemmas.{on_map, on_both}
 use Rattle.h1_connection.proofs.GoesOnLemmas.{still_sound, same_state, goes_on}
 use Rattle.h1_connection.proofs.GivenLemmas.{continue_opens, waits_given}

@@ -1,4 +1,4 @@
-use Rattle.std.proofs.Common.{◌∙◌}
+use Rattle.std.proofs.Common.{◌∙◌, refl}
 use Rattle.h1_connection.proofs.MarkLemmas.{quiet_tick}
 use Rattle.h1_connection.proofs.ResultLemmas.{ok_both}
 use Rattle.h1_connection.proofs.GoesOnLemmas.{still_sound, same_state, goes_on, allowed_parts, tick_before}

@@ -1,4 +1,4 @@
-use Rattle.std.proofs.Common.{◌≡◌, length, take, subst}
+use Rattle.std.proofs.Common.{◌≡◌, length, take, subst, refl}
 use Rattle.std.specs.Prelude.{min}
 use Rattle.h1_model.specs.Event as on
 use Rattle.h1_connection.specs.State.{State, GoesOn, Is}
