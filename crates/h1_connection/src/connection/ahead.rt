@@ -10,7 +10,7 @@ ghost use Rattle.h1_connection.specs.Incoming.{IsHeadOf, IsNextFault, IsTakenHea
 use crate::connection::input::{Found, Input};
 use bytes::Bytes;
 use h1_decode::{BodyKind, HeadItem, HeadRoom};
-use http_types::{NoMemory, ParseError, Uri};
+use http_types::{Method, NoMemory, ParseError, Uri, Version};
 use std::alloc::Global;
 use std::marker::Model;
 use std::mem;
@@ -97,12 +97,14 @@ impl Slot {
         Ok(size)
     }
 
-    /// Hands out its head, and says how many bytes it had. What was in `item` stays here, without the bytes that it shared.
+    /// Hands out its head, and says how many bytes it had. What was in `item` stays here, without the bytes that it shared
+    /// and without its method, which may have memory of its own.
     fn hand_out(&mut self, item: &mut HeadItem) -> usize
         ensures item { item.new ≡ self.old.item }
         ensures size { result ≡ length self.old.piece }
     {
         mem::swap(&mut self.item, item);
+        self.item.head.restart(Method::GET, Version::HTTP_11);
         self.item.head.headers.clear();
         self.item.head.uri = Uri::default();
         self.item.target = Bytes::new();
@@ -255,6 +257,18 @@ impl Ahead {
         self.held -= size;
         self.passed = place_behind(self.passed, left);
         self.count = left;
+    }
+
+    /// Lets their places go where there is none of them.
+    pub fn give_back(&mut self)
+        ensures { self.new ≡ self.old }
+    {
+        if self.is_empty() {
+            self.slots = Vec::new(*self.slots.allocator());
+            self.passed = 0;
+            self.count = 0;
+            self.held = 0;
+        }
     }
 
     /// Takes the bytes of the only one of them back.

@@ -186,10 +186,11 @@ impl Intake {
         self.turn = Turn::Next;
     }
 
-    /// Gives back the memory that is taken, where no byte is held in it.
+    /// Gives back the memory that is taken, where no byte is held in it, and the places of heads, where none is kept.
     pub fn give_back(&mut self)
         ensures { self.new ≡ self.old }
     {
+        self.ahead.give_back();
         self.input.give_back();
     }
 
