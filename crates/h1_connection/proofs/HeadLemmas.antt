@@ -37,7 +37,6 @@ use Rattle.h1_connection.specs.Heads.{IsAsked, IsFresh, after_head, refused, wit
 use Rattle.h1_connection.specs.declared.connection.exchange.Exchange.{Exchange}
 use Rattle.h1_connection.specs.declared.connection.exchange.Reply.{Reply}
 use Rattle.h1_connection.specs.declared.connection.exchange.Reply.TheVariants.{Unanswered}
-use Rattle.h1_connection.specs.declared.connection.heads.NextHead.{NextHead}
 use Rattle.h1_connection.specs.declared.connection.heads.NextHead.TheVariants as next
 use Rattle.h1_connection.specs.declared.connection.heads.NextKind.{NextKind}
 use Rattle.h1_connection.specs.declared.connection.heads.NextKind.TheVariants as next_kind

@@ -12,7 +12,7 @@ use Rattle.h1_machine.specs.Kept.{Rest, no_rest, raw_rest, fixed_rest, chunks_re
 use Rattle.h1_machine.specs.Local.{closing_by}
 use Rattle.h1_machine.specs.Pull.{Pulled, lacking, pull_fixed, pull_raw, EndsWith, IsPullOfChunks, IsPull}
 use Rattle.h1_machine.specs.Change.{IsChange}
-use Rattle.h1_payload.specs.Rests.{SaysPulled, IsPulled}
+use Rattle.h1_payload.specs.Rests.{SaysPulled}
 use Rattle.h1_payload.specs.declared.pulled.Pulled.{Pulled as Answer}
 use Rattle.h1_payload.specs.declared.pulled.Pulled.TheVariants as answers
 use Rattle.h1_decode.specs.declared.scan.HeadScan.{HeadScan}
