@@ -226,8 +226,8 @@ impl Connection {
         self.parts.next(self.alloc, &self.config)
     }
 
-    /// The same, with a head that is written over `item`, whose map keeps its memory, and with room that the caller
-    /// keeps from head to head. Where no head comes, `item` is what it was; but where a head was found and is
+    /// The same, with a head that is written over `item`, the memory of whose map is used again, and with room that the
+    /// caller keeps from head to head. Where no head comes, `item` is what it was; but where a head was found and is
     /// refused, it has lost its headers, and where memory ran out it may have.
     pub fn next_into(
         &mut self,

@@ -272,6 +272,7 @@ impl Intake {
         ensures no_memory_needed { (p : pulls.Pulled) → IsPull has_ended rest.old self.old.unread p → IsLight rest.old p.outcome p.rest → IsOk result }
         ensures err { OnErr result ((self.new ≡ self.old) × (rest.new ≡ rest.old)) }
     {
+        // (the fields are looked at so that their invariants are at hand)
         let _ = &self.ahead;
         let _ = &self.turn;
         let pulled = self.input.pull(rest, has_ended)?;
