@@ -1,10 +1,9 @@
 -- Heads that were read ahead are those that may be.
 use Rattle.std.proofs.Math.Seq.{drop-append_seam}
-use Rattle.std.proofs.Common.{◌≡◌, ℕ, zero, suc, ◌+◌, ◌<◌, ◌≤◌, Bool, true, false, not, List, [], ◌∷◌, ◌++◌, length, drop, Option, Some, None, inl, inr, refl, sym, ap, ◌∙◌, subst, arith, append-nil, append_assoc, length-append}
-use Rattle.std.specs.Prelude.{slice_range, IsTrue, ◌&&◌, ◌⊎◌, nat_lt, ⊤}
+use Rattle.std.proofs.Common.{◌≡◌, ℕ, zero, suc, ◌<◌, ◌≤◌, Bool, true, false, not, List, [], ◌∷◌, ◌++◌, length, Option, Some, None, inl, inr, refl, sym, ap, ◌∙◌, subst, arith, append_assoc, length-append}
+use Rattle.std.specs.Prelude.{slice_range, ◌&&◌, ◌⊎◌, nat_lt, ⊤}
 use Rattle.std.proofs.lemmas.Bool.{false≢true, ltb-false}
 use Rattle.httparse.proofs.RunLemmas.{length-slice_range}
-use Rattle.http_framing.specs.Kinds.{kind_of}
 use Rattle.http_types.specs.declared.error.ParseError.{ParseError}
 use Rattle.h1_model.specs.HeadPiece.{IsHeadPiece, HasNoHeadPiece}
 use Rattle.h1_model.specs.Request.{BodyKind, has_body, Reading, head_is, faulty}

@@ -1,36 +1,31 @@
 -- What is held of the input while heads are read ahead, and where they wait.
-use Rattle.std.proofs.Math.Seq.{drop-append_seam}
-use Rattle.std.proofs.Common.{◌≡◌, ◌≢◌, ℕ, zero, suc, ◌+◌, ◌-◌, ◌<◌, ◌≤◌, ◌^◌, Bool, true, false, not, List, [], ◌∷◌, ◌++◌, length, drop, take, Option, Some, None, Result, Ok, Err, inl, inr, refl, sym, ap, ◌∙◌, subst, arith, append-nil, append_assoc, length-append, length-drop}
-use Rattle.std.specs.Prelude.{is_some, slice_range, IsTrue, IfOk, IsOk, OnErr, ◌⊎◌}
-use Rattle.std.proofs.lemmas.Bool.{false≢true, cases_Bool, cases_lt}
-use Rattle.std.proofs.lemmas.List.{take-append-drop, length-take}
-use Rattle.h1_model.specs.HeadPiece.{IsHeadPiece, HasNoHeadPiece, EndsBlank}
-use Rattle.h1_model.specs.Request.{Fault, has_body}
-use Rattle.h1_model.proofs.BlankLemmas.{ends_blank_long}
-use Rattle.h1_machine.specs.Kept.{Rest, no_rest, raw_rest, fixed_rest, chunks_rest, frames_rest, is_nothing, rest_in}
-use Rattle.h1_machine.specs.Body.{Passed, pass_rest}
+use Rattle.std.proofs.Common.{◌≡◌, ℕ, ◌+◌, ◌<◌, ◌≤◌, ◌^◌, Bool, true, false, List, [], ◌∷◌, ◌++◌, length, take, Option, Some, None, Result, inl, inr, refl, sym, ap, ◌∙◌, subst, arith, append_assoc, length-append, length-drop}
+use Rattle.std.specs.Prelude.{is_some, IsOk, ◌⊎◌}
+use Rattle.std.proofs.lemmas.Bool.{cases_Bool}
+use Rattle.std.proofs.lemmas.List.{take-append-drop}
+use Rattle.h1_model.specs.HeadPiece.{HasNoHeadPiece}
+use Rattle.h1_model.specs.Request.{Fault}
+use Rattle.h1_machine.specs.Kept.{Rest, no_rest, raw_rest, fixed_rest, chunks_rest, frames_rest, is_nothing}
 use Rattle.h1_machine.specs.Pull.{Pulled, finishes, IsPull}
 use Rattle.h1_model.specs.Event as on
 use Rattle.h1_payload.specs.Rests.{SaysPulled, IsPulled, IsLight}
 use Rattle.h1_payload.specs.declared.pulled.Pulled.{Pulled as Answer}
 use Rattle.h1_decode.specs.Refusal.{fault_of}
-use Rattle.h1_decode.specs.HeadScan.{AnswersScan}
 use Rattle.h1_decode.specs.declared.decoder.HeadItem.{HeadItem}
 use Rattle.h1_decode.specs.declared.scan.HeadScan.{HeadScan}
 use Rattle.h1_decode.specs.declared.scan.HeadScan.TheVariants.{Open, Piece}
 use Rattle.http_types.specs.declared.error.ParseError.{ParseError}
 use Rattle.h1_connection.specs.Ahead.{joined, AreRead, FirstIsHead, may_go_on, turn_behind, IsReadNext, IsFilled, IsFilling, IsFillingOn}
-use Rattle.h1_connection.specs.Incoming.{Incoming, is_coming_in, IsFound, IsFoundIn, IsWhole, IsHeadIn, IsHeadOf, IsNextHead, IsNextFault, IsPassedHead, IsPassedIn, IsAlone, IsTakenIn, IsTakenHead}
+use Rattle.h1_connection.specs.Incoming.{Incoming, is_coming_in, IsFound, IsFoundIn, IsWhole, IsHeadIn, IsHeadOf, IsNextHead, IsNextFault, IsPassedHead, IsPassedIn, IsAlone, IsTakenIn}
 use Rattle.h1_connection.specs.Scan.{scan_of}
-use Rattle.h1_connection.specs.Stock.{Stock, IsFaultAhead, IsHeadAhead, IsWholeOf, HandsOut, CountsOn, piece_by, ahead_by, stock_of, WaitFor, IsTurn, IsStocked, IsSameStock}
+use Rattle.h1_connection.specs.Stock.{Stock, IsFaultAhead, IsWholeOf, HandsOut, piece_by, ahead_by, stock_of, IsTurn, IsStocked, IsSameStock}
 use Rattle.h1_connection.specs.declared.connection.ahead.Slot.{Slot}
 use Rattle.h1_connection.specs.declared.connection.intake.Turn.{Turn}
 use Rattle.h1_connection.specs.declared.connection.intake.Turn.TheVariants.{Unasked, Later, Next}
 use Rattle.h1_connection.proofs.InputLemmas.{scan_is}
 use Rattle.h1_connection.proofs.ScanLemmas.{scan_answers}
-use Rattle.h1_connection.proofs.PassingLemmas.{nothing_passed}
 use Rattle.h1_connection.proofs.RingLemmas.{joined_more}
-use Rattle.h1_connection.proofs.StockLemmas.{same_search, first_coming, is_refused, refused_last, hands_out, counts_fewer, counts_all, lone_handed}
+use Rattle.h1_connection.proofs.StockLemmas.{first_coming, is_refused, refused_last, hands_out, counts_fewer, counts_all, lone_handed}
 
 -- ---- where none is searched for
 
@@ -70,58 +65,6 @@ bare_rest turn heads i rest stocked none behind =
       | inl nothing ↦ inl nothing
       | inr left ↦ inr (no_heads turn heads i stocked none (behind left))
     ]
-
-passes_all : (ended : Bool) (rest : Rest) (heads : List Slot) (bytes : List ℕ) → IsBare rest heads
-    → ((pass_rest ended rest (joined heads ++ bytes)).rest ≡ (pass_rest ended rest bytes).rest)
-    × ((pass_rest ended rest (joined heads ++ bytes)).unread ≡ joined heads ++ (pass_rest ended rest bytes).unread)
-passes_all ended rest heads bytes (inl nothing) =
-    let all = nothing_passed ended rest (joined heads ++ bytes) nothing in
-    let few = nothing_passed ended rest bytes nothing in
-    (ap (λ (p : Passed). p.rest) all ∙ sym (ap (λ (p : Passed). p.rest) few), ap (λ (p : Passed). p.unread) all ∙ sym (ap (λ (p : Passed). joined heads ++ p.unread) few))
-passes_all ended rest heads bytes (inr none) = (
-  ap (λ (l : List Slot). (pass_rest ended rest (joined l ++ bytes)).rest) none,
-  ap (λ (l : List Slot). (pass_rest ended rest (joined l ++ bytes)).unread) none ∙ sym (ap (λ (l : List Slot). joined l ++ (pass_rest ended rest bytes).unread) none),
-)
-
--- a body is passed over
-pub pass_waiting : (ended : Bool) (rest later : Rest) (turn : Turn) (heads : List Slot) (i j : Incoming) (t : Stock) → stock_of heads turn i ≡ t → IsStocked heads turn i → t.piece ≡ None
-    → (is_nothing rest ≡ false → t.ahead ≡ 0) → later ≡ (pass_rest ended rest i.unread).rest
-    → j ≡ record { unread = (pass_rest ended rest i.unread).unread; piece = None } → (heads ≡ [] → length j.unread < 2 ^ 64)
-    → (later ≡ (pass_rest ended rest t.unread).rest) × (stock_of heads turn j ≡ record t { unread = (pass_rest ended rest t.unread).unread }) × IsStocked heads turn j
-pass_waiting ended rest later turn heads i j t view stocked none behind later_is j_is short =
-    subst (λ (u : Stock). (later ≡ (pass_rest ended rest u.unread).rest) × (stock_of heads turn j ≡ record u { unread = (pass_rest ended rest u.unread).unread }) × IsStocked heads turn j)
-    view here
-  where
-    off : piece_by turn heads i ≡ None
-    off = ap (λ (u : Stock). u.piece) view ∙ none
-
-    bare : IsBare rest heads
-    bare = bare_rest turn heads i rest stocked off (λ left. ap (λ (u : Stock). u.ahead) view ∙ behind left)
-
-    all : ((pass_rest ended rest (joined heads ++ i.unread)).rest ≡ (pass_rest ended rest i.unread).rest)
-        × ((pass_rest ended rest (joined heads ++ i.unread)).unread ≡ joined heads ++ (pass_rest ended rest i.unread).unread)
-    all = passes_all ended rest heads i.unread bare
-
-    still : j.piece ≡ None
-    still = ap (λ (x : Incoming). x.piece) j_is
-
-    fits : IsBare rest heads → length (joined heads ++ j.unread) < 2 ^ 64
-    fits (inl nothing) =
-        let same : j.unread ≡ i.unread = ap (λ (x : Incoming). x.unread) j_is ∙ ap (λ (p : Passed). p.unread) (nothing_passed ended rest i.unread nothing) in
-        subst (λ (l : List ℕ). length (joined heads ++ l) < 2 ^ 64) (sym same) stocked.fits
-    fits (inr empty) = subst (λ (l : List Slot). length (joined l ++ j.unread) < 2 ^ 64) (sym empty) (short empty)
-
-    unread_is : joined heads ++ j.unread ≡ (pass_rest ended rest (joined heads ++ i.unread)).unread
-    unread_is = ap (λ (x : Incoming). joined heads ++ x.unread) j_is ∙ sym all.1
-
-    here : (later ≡ (pass_rest ended rest (joined heads ++ i.unread)).rest)
-        × (stock_of heads turn j ≡ record (stock_of heads turn i) { unread = (pass_rest ended rest (joined heads ++ i.unread)).unread }) × IsStocked heads turn j
-    here =
-        let waits = still_waits turn heads i j stocked off still (fits bare) in (
-          later_is ∙ sym all.0,
-          λ k. record { unread = unread_is k; piece = (waits.1 ∙ sym off) k; ahead = ahead_by turn heads },
-          waits.0,
-        )
 
 -- a pull of it is one of the bytes behind the heads
 pull_inner : (ended : Bool) (rest : Rest) (heads : List Slot) (bytes : List ℕ) (p : Pulled) → IsBare rest heads → IsPull ended rest (joined heads ++ bytes) p
@@ -181,24 +124,6 @@ pull_waits ended rest later turn heads i j t answer view stocked none left pulle
     fits (inl nothing) = subst (λ (l : List ℕ). length (joined heads ++ l) < 2 ^ 64) (sym (same rest nothing pulled)) stocked.fits
     fits (inr empty) = subst (λ (l : List Slot). length (joined l ++ j.unread) < 2 ^ 64) (sym empty) short
 
--- no byte of a body is left where the input ends with it
-long_head : (heads : List Slot) → AreRead heads → 0 < length heads → 0 < length (joined heads)
-long_head [] are some = absurd (omega (arith, some))
-long_head (s ∷ more) are some =
-    let read = are.0.1 in
-    let n = length s.piece in
-    omega (arith, length-append s.piece (joined more), ends_blank_long (slice_range s.piece read.start n) read.here.ends, length-take (n - read.start) (drop read.start s.piece), length-drop read.start s.piece)
-
-held_rest : (bytes : List ℕ) (rest : Rest) → 0 < length bytes → rest ≡ rest_in true bytes rest
-held_rest [] rest some = absurd (omega (arith, some))
-held_rest (b ∷ bytes) rest some = refl
-
-pub end_waiting : (turn : Turn) (heads : List Slot) (i : Incoming) (t : Stock) (rest : Rest) → stock_of heads turn i ≡ t → IsStocked heads turn i → 0 < length heads
-    → rest ≡ rest_in true t.unread rest
-end_waiting turn heads i t rest view stocked some =
-    subst (λ (u : Stock). rest ≡ rest_in true u.unread rest) view
-    (held_rest (joined heads ++ i.unread) rest (omega (arith, length-append (joined heads) i.unread, long_head heads stocked.are some)))
-
 -- ---- whether a head is coming
 
 pub coming_first : (heads : List Slot) (i : Incoming) → IsStocked heads Next i → is_coming_in (piece_by Next heads i) ≡ true
@@ -217,18 +142,6 @@ pub record IsAwaited (j k : Incoming) : Type 0 where
   pub unread : k.unread ≡ j.unread
   pub found : IsFound k
   pub searched : is_some k.piece ≡ true
-
-pub filling_start : (was : List Slot) (i : Incoming) → FirstIsHead was → IsFillingOn was i was i
-filling_start was i first = record {
-  filling = record {
-    bytes = refl;
-    first = first;
-    found = λ none some. absurd (omega (arith, some, ap length none));
-    none = λ _. refl;
-    more = inl refl;
-  };
-  off = λ less. absurd (omega (arith, less));
-}
 
 taken_bytes : (i : Incoming) (piece : Option HeadScan) (bytes : List ℕ) (after : Incoming) → IsTakenIn i piece bytes after → (bytes ++ after.unread ≡ i.unread) × (after.piece ≡ None)
 taken_bytes i (Some (Piece start end)) bytes after is = (
@@ -249,15 +162,6 @@ module _ (was : List Slot) (i : Incoming) (searched : is_some i.piece ≡ true) 
   same_input is =
       let same : j ≡ i = goes.filling.none is in
       awaited.same (ap (λ (x : Incoming). is_some x.piece) same ∙ searched) ∙ same
-
-  pub filling_await : IsFilling was i now k
-  filling_await = record {
-    bytes = ap (λ (l : List ℕ). joined now ++ l) awaited.unread ∙ goes.filling.bytes;
-    first = goes.filling.first;
-    found = goes.filling.found;
-    none = same_input;
-    more = goes.filling.more;
-  }
 
   -- one more was
   pub filling_more : (after : List Slot) (m : Incoming) → IsReadNext now k after m → IsFillingOn was i after m
@@ -323,41 +227,6 @@ module _ (was : List Slot) (i : Incoming) (searched : is_some i.piece ≡ true) 
       by_more (inl same) = subst (λ (x : Incoming). IsWhole x) (same_input same) (whole (same ∙ none))
       by_more (inr more) = read_one now are (omega (arith, more)) bytes (goes.filling.found none (omega (arith, more)))
 
-  -- nor was any
-  pub none_there : now ≡ [] → IsHeadOf k None → (was ≡ []) × IsHeadOf i None × (k ≡ i)
-  none_there empty none =
-      let same : now ≡ was = by_more goes.filling.more in
-      (sym same ∙ empty, subst (λ (x : Incoming). IsHeadOf x None) (same_input same) none, same_input same)
-    where
-      by_more : (now ≡ was) ⊎ (length was < length now) → now ≡ was
-      by_more (inl is) = is
-      by_more (inr more) = absurd (omega (arith, more, ap length empty))
-
-  -- where none is there now, none was
-  pub first_time : now ≡ [] → (was ≡ []) × (k ≡ i)
-  first_time empty =
-      let same : now ≡ was = by_more goes.filling.more in
-      (sym same ∙ empty, same_input same)
-    where
-      by_more : (now ≡ was) ⊎ (length was < length now) → now ≡ was
-      by_more (inl is) = is
-      by_more (inr more) = absurd (omega (arith, more, ap length empty))
-
--- as many as may be were
-pub all_filled : (was : List Slot) (i : Incoming) (now : List Slot) (j : Incoming) → IsFillingOn was i now j → may_go_on was ≡ true → may_go_on now ≡ false → IsFilled was i now j
-all_filled was i now j goes may done = record {
-  bytes = goes.filling.bytes;
-  first = goes.filling.first;
-  some = omega (arith, longer goes.filling.more);
-  found = λ empty. goes.filling.found empty (omega (arith, longer goes.filling.more));
-  piece = goes.off (longer goes.filling.more);
-  all = inl done;
-}
-  where
-    longer : (now ≡ was) ⊎ (length was < length now) → length was < length now
-    longer (inl same) = absurd (false≢true (sym done ∙ ap may_go_on same ∙ may))
-    longer (inr more) = more
-
 -- ---- memory ran out
 
 pub same_stock : (was : List Slot) (i : Incoming) (now : List Slot) (j : Incoming) → IsStocked was Unasked i → is_some i.piece ≡ true → IsFilling was i now j → is_some j.piece ≡ true
@@ -396,7 +265,7 @@ filled_whole (s ∷ more) i stocked whole = first_coming s more i.unread stocked
 
 -- ---- the first is handed out
 
--- it is one
+-- there is one first
 pub same_first : (heads : List Slot) (s t : Slot) (more rest : List Slot) → heads ≡ s ∷ more → heads ≡ t ∷ rest → s ≡ t
 same_first heads s t more rest here there = cc
 
@@ -502,49 +371,10 @@ lone_hands heads i after item empty stocked next alone passed =
     at : IsStocked [] Unasked i
     at = subst (λ (l : List Slot). IsStocked l Unasked i) empty stocked
 
--- ---- a fault that was answered is counted no more
-
-pub forgotten : (heads : List Slot) (i j : Incoming) (piece : List ℕ) (t : Stock) → stock_of heads Next i ≡ t → piece ≡ joined heads
-    → j ≡ record { unread = piece ++ i.unread; piece = Some (scan_of (piece ++ i.unread)) } → stock_of [] Unasked j ≡ record t { ahead = 0 }
-forgotten heads i j piece t view piece_is j_is =
-    let unread : j.unread ≡ joined heads ++ i.unread = ap (λ (x : Incoming). x.unread) j_is ∙ ap (λ (l : List ℕ). l ++ i.unread) piece_is in
-    let found : j.piece ≡ Some (scan_of (joined heads ++ i.unread)) =
-    ap (λ (x : Incoming). x.piece) j_is ∙ ap (λ (l : List ℕ). Some (scan_of (l ++ i.unread))) piece_is in
-    let same : stock_of [] Unasked j ≡ record (stock_of heads Next i) { ahead = 0 } = λ k. record { unread = unread k; piece = found k; ahead = 0 } in
-    same ∙ ap (λ (u : Stock). record u { ahead = 0 }) view
-
-pub nothing_to_forget : (turn : Turn) (heads : List Slot) (i : Incoming) (t : Stock) → stock_of heads turn i ≡ t → IsStocked heads turn i → ¬ (turn ≡ Next) → IsWholeOf t
-    → t ≡ record t { ahead = 0 }
-nothing_to_forget Unasked heads i t view stocked other whole = subst (λ (u : Stock). u ≡ record u { ahead = 0 }) view refl
-nothing_to_forget Later heads i t view stocked other whole =
-    let none : IsTrue (is_coming_in (piece_by Later heads i)) = subst (λ (u : Stock). IsWholeOf u) (sym view) whole in
-    absurd (cc none)
-nothing_to_forget Next heads i t view stocked other whole = absurd (other refl)
-
--- ---- how many are counted
-
-pub none_counted : (turn : Turn) (heads : List Slot) (i : Incoming) (t : Stock) → stock_of heads turn i ≡ t → turn ≡ Unasked → 0 ≡ t.ahead
-none_counted turn heads i t view is = sym (ap (λ (u : Turn). ahead_by u heads) is) ∙ ap (λ (s : Stock). s.ahead) view
-
-pub all_counted : (turn : Turn) (heads : List Slot) (i : Incoming) (t : Stock) → stock_of heads turn i ≡ t → (turn ≡ Later) ⊎ (turn ≡ Next) → IsStocked heads turn i
-    → (length heads ≡ t.ahead) × (length heads ≤ 16)
-all_counted turn heads i t view (inl is) stocked =
-    (sym (ap (λ (u : Turn). ahead_by u heads) is) ∙ ap (λ (s : Stock). s.ahead) view, (subst (λ (u : Turn). IsTurn u heads i) is stocked.turns).1)
-all_counted turn heads i t view (inr is) stocked =
-    (sym (ap (λ (u : Turn). ahead_by u heads) is) ∙ ap (λ (s : Stock). s.ahead) view, (subst (λ (u : Turn). IsTurn u heads i) is stocked.turns).1)
-
 -- ---- by the turn
 
 pub turn_view : (turn u : Turn) (heads : List Slot) (i : Incoming) (t : Stock) → stock_of heads turn i ≡ t → turn ≡ u → stock_of heads u i ≡ t
 turn_view turn u heads i t view is = ap (λ (v : Turn). stock_of heads v i) (sym is) ∙ view
-
--- the fields of one that is asked are those of the bytes where no head was read
-pub empty_view : (turn : Turn) (heads : List Slot) (i : Incoming) (t : Stock) → stock_of heads turn i ≡ t → turn ≡ Unasked → heads ≡ []
-    → t ≡ record { unread = i.unread; piece = i.piece; ahead = 0 }
-empty_view turn heads i t view is empty = sym view ∙ ap (λ (u : Turn). stock_of heads u i) is ∙ ap (λ (l : List Slot). stock_of l Unasked i) empty
-
-pub coming_input : (turn : Turn) (heads : List Slot) (i : Incoming) (t : Stock) → stock_of heads turn i ≡ t → turn ≡ Unasked → heads ≡ [] → is_coming_in i.piece ≡ is_coming_in t.piece
-coming_input turn heads i t view is empty = sym (ap (λ (s : Stock). is_coming_in s.piece) (empty_view turn heads i t view is empty))
 
 pub coming_heads : (turn : Turn) (heads : List Slot) (i : Incoming) (t : Stock) → stock_of heads turn i ≡ t → turn ≡ Unasked → IsStocked heads turn i → 0 < length heads
     → true ≡ is_coming_in t.piece
@@ -557,54 +387,7 @@ coming_next turn heads i t view is stocked =
     sym (coming_first heads i (subst (λ (u : Turn). IsStocked heads u i) is stocked)) ∙ sym (ap (λ (u : Turn). is_coming_in (piece_by u heads i)) is)
     ∙ ap (λ (s : Stock). is_coming_in s.piece) view
 
-pub coming_later : (turn : Turn) (heads : List Slot) (i : Incoming) (t : Stock) → stock_of heads turn i ≡ t → turn ≡ Later → false ≡ is_coming_in t.piece
-coming_later turn heads i t view is = sym (ap (λ (u : Turn). is_coming_in (piece_by u heads i)) is) ∙ ap (λ (s : Stock). is_coming_in s.piece) view
-
--- where none was read, none waits
-empty_turn : (turn : Turn) (i : Incoming) → IsStocked [] turn i → turn ≡ Unasked
-empty_turn Unasked i stocked = refl
-empty_turn Later i stocked = absurd (omega (arith, stocked.turns.0))
-empty_turn Next i stocked = absurd (omega (arith, stocked.turns.0))
-
-pub empty_stock : (turn : Turn) (heads : List Slot) (i : Incoming) (t : Stock) → stock_of heads turn i ≡ t → IsStocked heads turn i → heads ≡ []
-    → t ≡ record { unread = i.unread; piece = i.piece; ahead = 0 }
-empty_stock turn heads i t view stocked empty =
-    empty_view turn heads i t view (empty_turn turn i (subst (λ (l : List Slot). IsStocked l turn i) empty stocked)) empty
-
-pub none_here : (turn : Turn) (heads : List Slot) (i : Incoming) (t : Stock) → stock_of heads turn i ≡ t → IsStocked heads turn i → heads ≡ [] → IsHeadOf i None
-    → IsHeadAhead t None × (t.ahead ≡ 0)
-none_here turn heads i t view stocked empty none =
-    subst (λ (s : Stock). IsHeadAhead s None × (s.ahead ≡ 0)) (sym (empty_stock turn heads i t view stocked empty)) (none, refl)
-
 -- ---- the next head is searched for
-
--- a search where none was read
-pub searched_stock : (turn : Turn) (heads : List Slot) (i j : Incoming) (t : Stock) → stock_of heads turn i ≡ t → IsStocked heads turn i → turn ≡ Unasked → heads ≡ []
-    → j.unread ≡ i.unread → IsFound j → is_some j.piece ≡ true
-    → IsStocked heads turn j × ((stock_of heads turn j).unread ≡ t.unread) × IsFoundIn (stock_of heads turn j).unread (stock_of heads turn j).piece
-    × (is_some (stock_of heads turn j).piece ≡ true) × ((stock_of heads turn j).ahead ≡ t.ahead)
-searched_stock turn heads i j t view stocked is empty same found searched =
-    subst (λ (u : Turn). Said u heads t) (sym is) (subst (λ (l : List Slot). Said Unasked l t) (sym empty) (subst (λ (s : Stock). Said Unasked [] s) (sym at) said))
-  where
-    Said : Turn → List Slot → Stock → Type 0
-    Said u l s =
-        IsStocked l u j × ((stock_of l u j).unread ≡ s.unread) × IsFoundIn (stock_of l u j).unread (stock_of l u j).piece × (is_some (stock_of l u j).piece ≡ true)
-        × ((stock_of l u j).ahead ≡ s.ahead)
-
-    at : t ≡ record { unread = i.unread; piece = i.piece; ahead = 0 }
-    at = empty_view turn heads i t view is empty
-
-    was : IsStocked [] turn i
-    was = subst (λ (l : List Slot). IsStocked l turn i) empty stocked
-
-    said : Said Unasked [] (record { unread = i.unread; piece = i.piece; ahead = 0 })
-    said = (
-      record { fits = subst (λ (l : List ℕ). length l < 2 ^ 64) (sym same) was.fits; are = tt; turns = tt },
-      same,
-      found,
-      searched,
-      refl,
-    )
 
 -- the first of heads that were read is found without one
 unasked_some : (heads : List Slot) (i : Incoming) → 0 < length heads
@@ -628,44 +411,3 @@ turned Next heads i t view stocked other = (stocked, ap (λ (s : Stock). s.unrea
 
 pub turned_found : (heads : List Slot) (i : Incoming) → IsFoundIn (joined heads ++ i.unread) (piece_by Next heads i)
 turned_found heads i = scan_answers (joined heads ++ i.unread)
-
--- ---- more bytes
-
--- with others behind them the heads are the same
-pub grown_stock : (turn : Turn) (heads : List Slot) (i j : Incoming) → IsStocked heads turn i → is_some j.piece ≡ is_some i.piece → length (joined heads ++ j.unread) < 2 ^ 64
-    → IsStocked heads turn j
-grown_stock turn heads i j stocked same fits = record { fits = fits; are = stocked.are; turns = by_turn turn heads stocked.turns }
-  where
-    still_none : (p q : Option HeadScan) → is_some q ≡ is_some p → p ≡ None → q ≡ None
-    still_none p None is none = refl
-    still_none p (Some x) is none = absurd (let no : true ≡ false = is ∙ ap (λ (o : Option HeadScan). is_some o) none in cc no)
-
-    by_turn : (u : Turn) (l : List Slot) → IsTurn u l i → IsTurn u l j
-    by_turn Unasked [] is = tt
-    by_turn Unasked (s ∷ more) is = (same ∙ is.0, is.1, is.2)
-    by_turn Later l is = (is.0, is.1, still_none i.piece j.piece same is.2)
-    by_turn Next l is = (is.0, is.1, still_none i.piece j.piece same is.2)
-
--- so many are taken as there is room for
-pub room_left : (limit held : ℕ) (heads : List Slot) (i : Incoming) (t : Stock) (turn : Turn) → stock_of heads turn i ≡ t → held ≡ length (joined heads)
-    → limit - held - length i.unread ≡ limit - length t.unread
-room_left limit held heads i t turn view is =
-    omega (arith, is, ap (λ (s : Stock). length s.unread) view, length-append (joined heads) i.unread)
-
-pub grown_unread : (turn : Turn) (heads : List Slot) (i j : Incoming) (t : Stock) (more : List ℕ) → stock_of heads turn i ≡ t → j.unread ≡ i.unread ++ more
-    → joined heads ++ j.unread ≡ t.unread ++ more
-grown_unread turn heads i j t more view is =
-    ap (λ (l : List ℕ). joined heads ++ l) is ∙ sym (append_assoc (joined heads) i.unread more) ∙ ap (λ (s : Stock). s.unread ++ more) view
-
-pub same_turn : (turn : Turn) (heads : List Slot) (i j : Incoming) (t : Stock) → stock_of heads turn i ≡ t → is_some j.piece ≡ is_some i.piece
-    → (is_some (piece_by turn heads j) ≡ is_some t.piece) × (ahead_by turn heads ≡ t.ahead)
-same_turn turn heads i j t view same = (same_search turn heads i j same ∙ ap (λ (s : Stock). is_some s.piece) view, ap (λ (s : Stock). s.ahead) view)
-
--- ---- frames
-
-pub bare_stock : (turn : Turn) (heads : List Slot) (i : Incoming) (t : Stock) → stock_of heads turn i ≡ t → IsStocked heads turn i → t.piece ≡ None → t.ahead ≡ 0
-    → (heads ≡ []) × (i.piece ≡ None) × (i.unread ≡ t.unread)
-bare_stock turn heads i t view stocked none no_head =
-    let off : piece_by turn heads i ≡ None = ap (λ (s : Stock). s.piece) view ∙ none in
-    let empty = no_heads turn heads i stocked off (ap (λ (s : Stock). s.ahead) view ∙ no_head) in
-    (empty, unsearched turn heads i stocked off, sym (ap (λ (l : List Slot). joined l ++ i.unread) empty) ∙ ap (λ (s : Stock). s.unread) view)

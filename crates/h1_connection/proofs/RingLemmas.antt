@@ -1,8 +1,8 @@
 -- The places of heads that were read ahead.
 use Rattle.std.proofs.Common.{◌≡◌, ◌≢◌, ℕ, zero, suc, ◌+◌, ◌-◌, ◌<◌, ◌≤◌, ◌^◌, Bool, true, false, not, eqb, List, [], ◌∷◌, ◌++◌, length, take, drop, get_or, set, Option, Some, None, Result, Ok, Err, inl, inr, refl, sym, ap, ◌∙◌, subst, arith, append-nil, append_assoc, length-append, length-drop}
-use Rattle.std.specs.Prelude.{slice_range, IsTrue, ◌&&◌, nat_lt, IfOk, IfSome, IfNone, OnErr}
+use Rattle.std.specs.Prelude.{slice_range, ◌&&◌, nat_lt, IfOk, IfNone, OnErr}
 use Rattle.std.proofs.lemmas.Bool.{and_parts, le-ltb, lt-ltb, ltb-true, cases_lt, eq-eqb}
-use Rattle.std.proofs.lemmas.List.{take-append-le, drop-append-le, take-append-drop, length-take, length-set, take-set-le, drop-set-lt, drop-take, drop_more, get_or-take, get_or-drop, drop_all}
+use Rattle.std.proofs.lemmas.List.{take-append-le, drop-append-le, take-append-drop, length-take, length-set, take-set-le, drop-set-lt, drop-take, drop_more, get_or-take, get_or-drop}
 use Rattle.std.proofs.lemmas.Grind.{take-set_at}
 use Rattle.httparse.specs.Grammar.{print_end}
 use Rattle.http_framing.specs.Kinds.{kind_of}
@@ -14,13 +14,12 @@ use Rattle.h1_model.specs.HeadPiece.{AreBlankLines, EndsBlank, IsHeadPiece}
 use Rattle.h1_model.specs.Request.{Reading, head_is, faulty, has_body}
 use Rattle.h1_model.specs.RequestHead.{IsReading}
 use Rattle.h1_model.proofs.HeadPieceLemmas.{slice_range-append}
-use Rattle.h1_ahead_model.specs.Ahead.{is_bodiless}
 use Rattle.h1_decode.specs.Refusal.{fault_of}
 use Rattle.h1_decode.specs.declared.decoder.HeadItem.{HeadItem}
 use Rattle.h1_decode.specs.declared.scan.HeadScan.{HeadScan}
 use Rattle.h1_decode.specs.declared.scan.HeadScan.TheVariants.{Open, Piece}
 use Rattle.h1_connection.specs.Ahead.{taken, joined, SaysRead, IsRead, AreRead, has_no_body, last_has_none, may_go_on, AreKept, FirstIsHead, IsReadInto, IsReadNext}
-use Rattle.h1_connection.specs.Incoming.{Incoming, IsFound, IsHeadIn, IsHeadOf, IsNextHead, IsNextFault, IsTakenIn, IsTakenHead, is_coming_in}
+use Rattle.h1_connection.specs.Incoming.{Incoming, IsFound, IsHeadIn, IsNextHead, IsNextFault, IsTakenIn, IsTakenHead}
 use Rattle.h1_connection.specs.declared.connection.ahead.Slot.{Slot}
 use Rattle.h1_connection.proofs.InputLemmas.{cut_slice}
 use Rattle.h1_connection.proofs.AheadLemmas.{bare_read}

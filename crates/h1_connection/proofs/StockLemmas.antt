@@ -1,6 +1,6 @@
 -- What is held of the input, with the heads that were read ahead.
 use Rattle.std.proofs.Math.Seq.{drop-append_seam}
-use Rattle.std.proofs.Common.{◌≡◌, ◌≢◌, ℕ, zero, suc, ◌+◌, ◌-◌, ◌<◌, ◌≤◌, Bool, true, false, not, List, [], ◌∷◌, ◌++◌, length, drop, take, Option, Some, None, inl, inr, refl, sym, ap, ◌∙◌, subst, arith, append_assoc, length-append}
+use Rattle.std.proofs.Common.{◌≡◌, ℕ, zero, suc, ◌<◌, ◌≤◌, Bool, true, false, not, List, [], ◌∷◌, ◌++◌, length, drop, Option, Some, None, inl, inr, refl, sym, ap, ◌∙◌, subst, arith, append_assoc, length-append}
 use Rattle.std.specs.Prelude.{is_some, slice_range, IsTrue, ◌⊎◌}
 use Rattle.std.proofs.lemmas.Bool.{false≢true}
 use Rattle.http_framing.specs.Kinds.{kind_of}
@@ -16,10 +16,10 @@ use Rattle.h1_decode.specs.Refusal.{fault_of}
 use Rattle.h1_decode.specs.declared.decoder.HeadItem.{HeadItem}
 use Rattle.h1_decode.specs.declared.scan.HeadScan.{HeadScan}
 use Rattle.h1_decode.specs.declared.scan.HeadScan.TheVariants.{Open, Piece}
-use Rattle.h1_connection.specs.Ahead.{joined, SaysRead, IsRead, AreRead, FirstIsHead, bare_by, has_no_body, may_go_on, turn_behind}
-use Rattle.h1_connection.specs.Incoming.{Incoming, is_coming_in, IsFound, IsHeadIn, IsNextHead, IsPassedHead, IsPassedIn, IsAlone, IsAloneIn, IsWhole}
+use Rattle.h1_connection.specs.Ahead.{joined, SaysRead, AreRead, bare_by, has_no_body, may_go_on, turn_behind}
+use Rattle.h1_connection.specs.Incoming.{Incoming, is_coming_in, IsFound, IsHeadIn, IsNextHead, IsPassedHead, IsPassedIn, IsAlone, IsAloneIn}
 use Rattle.h1_connection.specs.Scan.{scan_of}
-use Rattle.h1_connection.specs.Stock.{Stock, IsFoundOf, IsHeadAhead, IsFaultAhead, IsWholeOf, IsPassedTo, is_bare, CountsOn, HandsOut, piece_by, ahead_by, stock_of, WaitFor, IsTurn, IsStocked}
+use Rattle.h1_connection.specs.Stock.{Stock, IsFoundOf, IsHeadAhead, IsFaultAhead, IsPassedTo, is_bare, CountsOn, HandsOut, piece_by, ahead_by, stock_of}
 use Rattle.h1_connection.specs.declared.connection.ahead.Slot.{Slot}
 use Rattle.h1_connection.specs.declared.connection.intake.Turn.{Turn}
 use Rattle.h1_connection.specs.declared.connection.intake.Turn.TheVariants.{Unasked, Later, Next}

@@ -1,5 +1,4 @@
 use Rattle.h1_connection.proofs.InputLemmas.{none_coming}
-use Rattle.h1_connection.proofs.IntakeLemmas.{no_heads}
 use Rattle.h1_connection.proofs.connection.intake.ends.Goals as goal
 
 pub stop-requires : goal.stop-requires

@@ -1,4 +1,4 @@
-use Rattle.std.proofs.Common.{sym, ◌∙◌, arith}
+use Rattle.std.proofs.Common.{◌∙◌, arith}
 use Rattle.h1_connection.proofs.RingLemmas.{may_full, may_at, count_of}
 use Rattle.h1_connection.proofs.connection.ahead.Ahead.may_go_on.Goals as goal
 
