@@ -22,7 +22,7 @@ use Rattle.h1_connection.specs.declared.connection.exchange.Reply.{Reply}
 use Rattle.h1_connection.specs.declared.connection.exchange.Reply.TheVariants.{Unanswered, Sending, Answered}
 use Rattle.h1_connection.specs.declared.connection.parts.Parts.{Parts}
 use Rattle.h1_connection.proofs.PassingLemmas.{passing_coming, passing_clock}
-use Rattle.h1_connection.proofs.StepLemmas.{quiet_step, settled_step, settled_sound, settled_noted, may_of, sound_may}
+use Rattle.h1_connection.proofs.StepLemmas.{quiet_step, settled_step, settled_sound, settled_noted, may_of}
 
 -- the moment, behind a body that is passed
 now_passed : (k m : Kept) → k ≡ passing m → now k ≡ now m

@@ -1,7 +1,6 @@
 -- What a connection holds of its input, and how many heads of it were read ahead.
-use Rattle.std.specs.Prelude.{◌≡◌, ℕ, suc, ◌<◌, ◌≤◌, ◌^◌, Bool, true, false, not, List, [], ◌∷◌, ◌++◌, length, drop, slice_range, is_some, IsTrue, Option, Some, None, ⊤}
+use Rattle.std.specs.Prelude.{◌≡◌, ℕ, suc, ◌<◌, ◌≤◌, ◌^◌, Bool, true, not, List, [], ◌∷◌, ◌++◌, length, drop, is_some, IsTrue, Option, Some, None, ⊤}
 use Rattle.http_framing.specs.Kinds.{kind_of}
-use Rattle.h1_model.specs.HeadPiece.{IsHeadPiece}
 use Rattle.h1_model.specs.Request.{Head, Fault, Reading, head_is, faulty, has_body}
 use Rattle.h1_model.specs.RequestHead.{IsReading}
 use Rattle.h1_ahead_model.specs.Ahead.{AreAhead}
