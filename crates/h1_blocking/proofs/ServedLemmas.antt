@@ -120,7 +120,7 @@ pub followed_by : (old new : Line) (e : Event) (Says : Outcome → Type 0) (came
     → Follows old new
 followed_by old new e Says came went goes moves lost got judges = record {
   goes = λ base served.
-      let (o, says, is, stands, marked) = goes served.trace served.stands in
+      let (o, says, is, stands, marked, counted) = goes served.trace served.stands in
       (step_behind base old new e o came went [] base.handed served stands (moves o says) (append-nil base.handed) lost got judges).0;
 }
 
@@ -135,7 +135,7 @@ pub quietly_adds : (old new : Line) (e : Event) (o : Outcome) → GoesOn old.sta
     → new.left ≡ old.left → new.given ≡ old.given → new.judges ≡ old.judges → Adds e o old new
 quietly_adds old new e o goes moves left given judges = record {
   goes = λ base served.
-      let (out, says, is, stands, marked) = goes served.trace served.stands in
+      let (out, says, is, stands, marked, counted) = goes served.trace served.stands in
       step_behind base old new e o [] [] [] base.handed served
       (subst (λ (x : Outcome). Stands new.state (record { event = e; outcome = x } ∷ served.trace)) says stands)
       moves (append-nil base.handed) (keeps_left old new left) (keeps_given old new given) judges;
@@ -255,7 +255,7 @@ pub handed_out : (was old new : Line) (kind : NextKind) (item : HeadItem) → ol
 handed_out was old new next_kind.Head item seen goes left given judges = record {
   head = λ is. subst (λ (l : Line). HandsOutOne l new item) seen (record {
     goes = λ base served.
-        let (o, says, is, stands, marked) = goes served.trace served.stands in (
+        let (o, says, is, stands, marked, counted) = goes served.trace served.stands in (
           says.0,
           says.1,
           (step_behind base old new on.next o [] [] (says.0 ∷ []) (base.handed ++ (says.0 ∷ [])) served stands (head_moves says.0 o says.2) refl
