@@ -1,11 +1,10 @@
 -- Why a forwarder puts the head of a reply.
-use Rattle.std.proofs.Common.{◌≡◌, ◌⊎◌, inl, inr, ℕ, Bool, true, false, not, ◌&&◌, List, [], ◌∷◌, Option, Some, None, refl, sym, ap, ◌∙◌, subst, subst₂}
+use Rattle.std.proofs.Common.{◌≡◌, inl, inr, ℕ, Bool, true, false, not, ◌&&◌, List, [], ◌∷◌, Option, Some, None, refl, sym, ap, ◌∙◌, subst, subst₂}
 use Rattle.std.specs.Prelude.{IsTrue, is_some, is_none, if◌then◌else◌}
 use Rattle.std.proofs.lemmas.Bool.{false≢true}
 use Rattle.h1_model.specs.Answer.{AnswerHead, BodySize}
 use Rattle.h1_model.specs.Event as on
 use Rattle.h1_model.specs.Parse.{Body, content, still_open}
-use Rattle.h1_model.specs.Request.{Head}
 use Rattle.h1_decode.specs.HeadItem.{SaysHead}
 use Rattle.h1_decode.specs.declared.decoder.HeadItem.{HeadItem}
 use Rattle.h1_decode.specs.declared.response.ResponseItem.{ResponseItem}
@@ -17,7 +16,6 @@ use Rattle.h1_client.specs.State as servers
 use Rattle.h1_client.specs.declared.event.ClientEnd.{ClientEnd}
 use Rattle.h1_client.specs.declared.event.NextAnswer.TheVariants as answered
 use Rattle.h1_forward_model.specs.Answers.{Found, found_bad, found_body, found_by, reply_head, reply_size}
-use Rattle.h1_forward_model.specs.Forward.{is_forwardable}
 use Rattle.h1_forward_sides.specs.Puts.{Put, Puts, MayPut, put_by, HandsHead, HandsFault, HandsAnswer, is_refused, is_good, HandsNone, good_of}
 use Rattle.h1_forward_sides.proofs.Puts.{puts_none, then_none, none_then, head_puts, fault_puts, hands_same, hands_then, one_puts, one_hands, tells_none}
 use Rattle.h1_proxy.specs.declared.proxy.Proxy.{Proxy}
@@ -53,10 +51,10 @@ noted_client p q (n, is) = ap (λ (p : Proxy). p.client) is
 
 -- ---- what is done with an answer
 
-received : Received
+abbrev received : Received
 received = record { bytes = []; ended = false; hold_size = None }
 
-body : Body
+abbrev body : Body
 body = content [] still_open
 
 abbrev found : Answer → Found
@@ -257,7 +255,7 @@ replies_of_server p q o is x = subst (λ (o : Option servers.State). TurnReplies
 -- ---- events
 
 pub no_head_same : (p : Proxy) → PutsNoHead p p
-no_head_same p = record { waits = λ sent s x is. waits_as p sent s s x.runs x.unanswered is (hands_same s); puts = puts_none p.client }
+no_head_same p = record { waits = λ sent s x is. waits_as p sent s s x.runs x.unanswered is (hands_same s); puts = puts_none p.client; unsent = refl }
 
 -- something happened on the client's connection
 pub client_no_head : (p : Proxy) (event : on.Event) (Says : on.Outcome → Type 0) (c : State) → GoesOn p.client event Says c → put_by event ≡ []
@@ -266,6 +264,7 @@ client_no_head p event Says c one none = record {
   waits = λ sent s x is.
       waits_as (record p { client = c }) sent s s (record { unsent = x.runs.unsent; sent = x.runs.sent }) x.unanswered is (hands_same s);
   puts = one_puts p.client event Says c [] one none;
+  unsent = refl;
 }
 
 -- or on the server's
@@ -278,6 +277,7 @@ server_no_head p a b event Says here one none = record {
       waits_as (record p { server = Some b }) sent s b (record { unsent = x.runs.unsent; sent = x.runs.sent }) x.unanswered refl
       (subst (λ (s : servers.State). HandsNone s b) same (one_hands a event Says b one none));
   puts = puts_none p.client;
+  unsent = refl;
 }
 
 pub no_head_moment : (p q : Proxy) (m : Option ℕ) → PutsNoHead p q → PutsNoHead p (record q { moment = m })
@@ -291,6 +291,7 @@ no_head_moment p q m x = record {
         none = z.none;
       };
   puts = x.puts;
+  unsent = x.unsent;
 }
 
 -- a server connection that is there where none was
@@ -298,6 +299,7 @@ pub connected_no_head : (p : Proxy) (t : servers.State) → p.server ≡ None �
 connected_no_head p t none = record {
   waits = λ sent s x is. let no : ◌≡◌ {A = Option servers.State} None (Some s) = sym none ∙ is in absurd (cc no);
   puts = puts_none p.client;
+  unsent = refl;
 }
 
 pub no_server_of : (p : Proxy) → IsTrue (wants_server p) → p.server ≡ None
@@ -311,7 +313,7 @@ pub replies_by : (p mid q : Proxy) → PutsNoHead p mid → HasReplied mid q →
 replies_by p mid q event turns = record { mid = mid; event = event; turns = turns }
 
 -- no server connection is to be had
-pub refused_by : (p a b mid q : Proxy) → a.client ≡ p.client → b.client ≡ a.client → AtMost (own 502 ∷ []) b.client mid.client → HasReplied mid q
+pub refuses_by : (p a b mid q : Proxy) → a.client ≡ p.client → b.client ≡ a.client → AtMost (own 502 ∷ []) b.client mid.client → HasReplied mid q
     → RepliesRefused p q
-refused_by p a b mid q first second puts turns =
+refuses_by p a b mid q first second puts turns =
     record { mid = mid; puts = subst (λ (s : State). AtMost (own 502 ∷ []) s mid.client) (second ∙ first) puts; turns = turns }

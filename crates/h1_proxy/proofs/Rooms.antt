@@ -1,6 +1,6 @@
 -- How many bytes are taken from either side.
-use Rattle.std.proofs.Common.{◌≡◌, ℕ, Bool, true, false, not, ◌||◌, List, [], ◌∷◌, length, Option, Some, None, refl, sym, ap, ◌∙◌, subst, subst₂, arith}
-use Rattle.std.specs.Prelude.{◌-◌, IsTrue, min, nat_le, if◌then◌else◌}
+use Rattle.std.proofs.Common.{◌≡◌, ℕ, Bool, true, false, not, ◌||◌, List, ◌∷◌, length, Option, Some, None, refl, sym, ap, ◌∙◌, subst₂, arith}
+use Rattle.std.specs.Prelude.{◌-◌, min, nat_le, if◌then◌else◌}
 use Rattle.std.proofs.lemmas.Bool.{true≢false}
 use Rattle.h1_model.specs.Event as on
 use Rattle.h1_model.specs.Setting.{Setting}

@@ -1,6 +1,7 @@
 -- What a forwarder's moves make of what its client waits for.
-use Rattle.std.proofs.Common.{◌≡◌, ◌⊎◌, inl, inr, ℕ, Bool, true, false, not, ◌&&◌, List, [], ◌∷◌, Option, Some, None, refl, sym, ap, ap₂, ◌∙◌, subst, subst₂}
+use Rattle.std.proofs.Common.{◌≡◌, ◌⊎◌, inl, inr, ℕ, Bool, true, false, not, ◌&&◌, List, ◌∷◌, Option, Some, None, refl, sym, ap, ap₂, ◌∙◌, subst, subst₂}
 use Rattle.std.specs.Prelude.{IsTrue, zero, suc, is_some, is_none, length, nat_lt}
+use Rattle.std.proofs.Math.Dec.{eqb-suc-zero}
 use Rattle.std.proofs.lemmas.Bool.{false≢true, true≢false}
 use Rattle.http_config.specs.Config.{Settings}
 use Rattle.h1_model.specs.Event as on
@@ -15,20 +16,17 @@ use Rattle.http_framing.specs.declared.body.size.BodySize.TheVariants as sizes
 use Rattle.h1_codec.specs.Meaning.{size_of}
 use Rattle.h1_decode.specs.declared.decoder.HeadItem.{HeadItem}
 use Rattle.h1_connection.specs.Meaning.{setting_of}
-use Rattle.h1_connection.specs.State.{State, Stands, GoesOn, Is, IsAllowed, IsNextAllowed, fresh_state}
+use Rattle.h1_connection.specs.State.{State, GoesOn, Is, IsAllowed, IsNextAllowed, fresh_state}
 use Rattle.h1_connection.specs.declared.connection.heads.NextHead.TheVariants as next
 use Rattle.h1_client.specs.State as servers
 use Rattle.h1_forward_left.specs.Wants as wanted
-use Rattle.h1_forward_model.specs.Past.{ProxyStep}
-use Rattle.h1_forward_traces.specs.Happenings.{Happenings}
 use Rattle.h1_forward_sides.specs.Sides.{ClientBrings, ClientBringsHead}
-use Rattle.h1_forward_sides.specs.Wants.{IsAnswered, IsComplete, IsAnswering, WantsTheSame, Wants, WantsNext, HasHead, HasEnd}
+use Rattle.h1_forward_sides.specs.Wants.{IsAnswered, IsAnswering, WantsTheSame, Wants, WantsNext, HasHead, HasEnd}
 use Rattle.h1_forward_sides.proofs.Wants.{client_wants}
 use Rattle.h1_proxy.specs.declared.proxy.Proxy.{Proxy}
 use Rattle.h1_proxy.specs.declared.proxy.Unsent.{Unsent}
 use Rattle.h1_proxy.specs.declared.proxy.Sent.{Sent}
-use Rattle.h1_proxy.specs.declared.notes.Notes.{Notes}
-use Rattle.h1_proxy.specs.Kept.{Forwards, Runs, IsIdle, is_closing, wants_server}
+use Rattle.h1_proxy.specs.Kept.{Runs, IsIdle, is_closing, wants_server}
 use Rattle.h1_proxy.proofs.EventMoves.{three_parts, some_unsent}
 use Rattle.h1_forward_model.specs.Rests.{MAX_WAITING}
 use Rattle.h1_proxy.specs.Rests.{IsNoted, may_begin, may_turn, RestsBy, RestsWhereItMay}
@@ -162,7 +160,7 @@ at_once_of size (inr is) = ap (λ (s : ours.BodySize). is_at_once (size_of s)) i
 pub not_at_once : (size : ours.BodySize) → ((size ≡ sizes.None) ⊎ (size ≡ sizes.Sized 0) → ⊥) → is_at_once (size_of size) ≡ false
 not_at_once sizes.None some = absurd (some (inl refl))
 not_at_once (sizes.Sized zero) some = absurd (some (inr refl))
-not_at_once (sizes.Sized (suc n)) some = refl
+not_at_once (sizes.Sized (suc n)) some = eqb-suc-zero n
 not_at_once sizes.Stream some = refl
 
 -- the body of the request is left, and the head of an answer is put

@@ -1,6 +1,6 @@
 -- What the moves of a forwarder leave to do.
 use Rattle.std.proofs.Common.{◌≡◌, ℕ, ◌+◌, ◌<◌, ◌≤◌, Bool, true, false, not, ◌&&◌, ◌||◌, List, [], ◌∷◌, length, Option, Some, None, refl, sym, ap, ap₂, ◌∙◌, subst, subst₂, arith}
-use Rattle.std.specs.Prelude.{◌*◌, IsTrue, is_some, option_map, nat_lt, ⊤, if◌then◌else◌}
+use Rattle.std.specs.Prelude.{◌*◌, is_some, option_map, nat_lt}
 use Rattle.std.proofs.lemmas.Bool.{false≢true, true≢false}
 use Rattle.http_config.specs.Config.{Settings}
 use Rattle.h1_model.specs.Event as on
@@ -26,7 +26,7 @@ use Rattle.h1_forward_sides.specs.Sides.{ClientBrings, ClientBringsHead, ServerS
 use Rattle.h1_forward_sides.specs.Leaves.{IsAwaited, LacksBytes}
 use Rattle.h1_forward_model.specs.Past.{ProxyStep, ProxyEvent, ProxyOutcome}
 use Rattle.h1_forward_traces.specs.Happenings.{Happenings, Link}
-use Rattle.h1_forward_traces.specs.Carried.{IsServer, Carries}
+use Rattle.h1_forward_traces.specs.Carried.{IsServer}
 use Rattle.h1_proxy.specs.declared.proxy.Proxy.{Proxy}
 use Rattle.h1_proxy.specs.declared.proxy.Unsent.{Unsent}
 use Rattle.h1_proxy.specs.declared.proxy.Sent.{Sent}
@@ -35,7 +35,7 @@ use Rattle.h1_forward_model.specs.Rests.{MAX_WAITING}
 use Rattle.h1_proxy.specs.declared.notes.Notes.{Notes}
 use Rattle.h1_proxy.specs.Replies.{HasReplied}
 use Rattle.h1_proxy.specs.Served.{GoesOnServing}
-use Rattle.h1_proxy.specs.Rests.{may_begin, may_turn, RestsSent, RestsBy, Rests, RestsWhereItMay, Settles, mark, sent_left, request_left, side_left, left, going_on, work, ServerTold, Told, LeavesLess, IsNoted, LeavesMore, Works, Turns, BodyRests, WorksBody}
+use Rattle.h1_proxy.specs.Rests.{may_begin, may_turn, RestsBy, Rests, Settles, mark, sent_left, request_left, side_left, going_on, work, ServerTold, Told, LeavesLess, IsNoted, LeavesMore, Works, Turns, BodyRests, WorksBody}
 
 -- ---- one after another
 

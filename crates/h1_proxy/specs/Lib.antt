@@ -1,4 +1,5 @@
 pub mod Kept
 pub mod Rests
 pub mod Served
+pub mod Fresh
 pub mod Replies

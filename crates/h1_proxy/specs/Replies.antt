@@ -16,6 +16,7 @@ use Rattle.h1_forward_model.specs.Answers.{reply_head, reply_size, own_head}
 use Rattle.h1_forward_sides.specs.Puts.{Put, Puts, HandsHead, HandsFault, is_refused, is_good, HandsNone, Tells, IsRead, CannotTell}
 use Rattle.h1_proxy.specs.declared.proxy.Proxy.{Proxy}
 use Rattle.h1_proxy.specs.declared.proxy.Sent.{Sent}
+use Rattle.h1_proxy.specs.Fresh.{SendsAfterAll, BeginsWhereItMay}
 use Rattle.h1_proxy.specs.Kept.{IsIdle, Runs}
 
 -- ---- what is put
@@ -88,15 +89,22 @@ HasCause broken_body old new = (sent : Sent) × IsUnanswered sent old × (fault 
 abbrev pub TurnReplies : Proxy → Proxy → Type 0
 TurnReplies old new = (puts : TurnPuts) × HasCause puts old new × AtMost (heads_of puts) old.client new.client
 
+-- it begins where it may, and a request is sent on only where all that came before from its server was read
+pub record IsTurn (old new : Proxy) : Type 0 where
+  pub begins : BeginsWhereItMay old new
+  pub replies : TurnReplies old new
+  pub sends : SendsAfterAll old new
+
 -- turns one after another
 pub data HasReplied (old : Proxy) : Proxy → Type 0 where
   nothing : HasReplied old old
-  turned : (mid new : Proxy) → HasReplied old mid → TurnReplies mid new → HasReplied old new
+  turned : (mid new : Proxy) → HasReplied old mid → IsTurn mid new → HasReplied old new
 
--- no head of a reply is put, and a request that waits for its answer goes on waiting
+-- no head of a reply is put, a request that waits for its answer goes on waiting, and no other is sent on
 pub record PutsNoHead (old new : Proxy) : Type 0 where
   pub waits : HasCause no_head old new
   pub puts : Puts [] old.client new.client
+  pub unsent : new.unsent ≡ old.unsent
 
 -- an event puts no head of a reply itself, and then come turns
 pub record Replies (old new : Proxy) : Type 0 where

@@ -4,7 +4,6 @@ use Rattle.h1_model.specs.Event as on
 use Rattle.h1_model.specs.Sums as sums
 use Rattle.h1_connection.specs.State.{State, Stands, IsAllowed, IsNextAllowed}
 use Rattle.h1_client.specs.State as servers
-use Rattle.h1_client_machine.specs.ClientEvent as asked
 use Rattle.h1_client_machine.specs.ClientTrace.{Happened}
 use Rattle.h1_forward_model.specs.Rests.{MAX_WAITING}
 use Rattle.h1_forward_left.specs.Left.{client_left, server_left}

@@ -1,14 +1,21 @@
 //! What a forwarder's contracts come to.
-ghost use Rattle.std.specs.Prelude.{◌≡◌, ◌⊎◌, ◌≤◌, ℕ, List, length, Some, true, false};
+ghost use Rattle.std.specs.Prelude.{◌≡◌, ◌⊎◌, ◌≤◌, ◌++◌, ℕ, List, [], length, Some, true, false};
+ghost use Rattle.h1_model.specs.Setting.{Setting};
 ghost use Rattle.h1_model.specs.Event as on;
 ghost use Rattle.h1_machine.specs.Local.{waits_for_answer, is_answering};
 ghost use Rattle.h1_connection.specs.State.{IsAllowed, IsNextAllowed};
+ghost use Rattle.h1_client_model.specs.AnswerReading.{Answer};
+ghost use Rattle.h1_client_machine.specs.ClientEvent as asked;
+ghost use Rattle.h1_client_machine.specs.ClientKept.{ClientKept};
+ghost use Rattle.h1_client_machine.specs.ClientStep.{IsClientStep};
+ghost use Rattle.h1_client_machine.specs.ClientTrace.{Happened, IsClientTrace, taken};
 ghost use Rattle.h1_client.specs.State as servers;
 ghost use Rattle.h1_forward_model.specs.Past.{ProxyStep};
 ghost use Rattle.h1_forward_traces.specs.Happenings.{Happenings};
 ghost use Rattle.h1_forward_sides.specs.Leaves.{IsAwaited, LacksBytes};
 ghost use Rattle.h1_proxy.specs.declared.proxy.Proxy.{Proxy};
 ghost use Rattle.h1_proxy.specs.Kept.{client_of, server_of, wants_server, Forwards};
+ghost use Rattle.h1_proxy.specs.Fresh.{IsReadFrom};
 ghost use Rattle.h1_proxy.specs.Rests.{may_turn, RestsWhereItMay};
 ghost use Rattle.h1_proxy.specs.Served.{IsServed};
 
@@ -39,4 +46,12 @@ pub fn no_request_is_left_behind()
     ensures { (p : Proxy) → IsServed p → RestsWhereItMay p → may_turn p ≡ true → (client_of p).kept.is_over ≡ false
         → waits_for_answer (client_of p).kept ≡ false → is_answering (client_of p).kept ≡ false → IsNextAllowed (client_of p)
         → (client_of p).kept.is_coming ≡ false }
+{}
+
+/// No answer is read from bytes that came before its request was sent. A request is sent on only where all that came before on its server
+/// connection was read (`SendsAfterAll`): and any answer that is handed out after that is read from bytes that were taken after it.
+pub fn no_answer_comes_before_its_request()
+    ensures { (setting : Setting) (before more : List Happened) (k m next : ClientKept) (a : Answer) → IsClientTrace setting before k
+        → k.unread ≡ [] → IsClientTrace setting (more ++ before) m → IsClientStep setting m asked.next (asked.answer a) next
+        → (later : List ℕ) × (taken (more ++ before) ≡ taken before ++ later) × IsReadFrom setting later a }
 {}

@@ -8,7 +8,9 @@ ghost use Rattle.h1_forward_model.specs.Rests.{MAX_WAITING};
 ghost use Rattle.h1_proxy.specs.Kept.{Goes, GoesWith, GoesUnsent, GoesFrom, IsIdle, Runs};
 ghost use Rattle.h1_proxy.specs.Served.{Serving, GoesOnServing, HasNoReply};
 ghost use Rattle.h1_forward_heads.specs.Meaning.{status_of};
+ghost use Rattle.h1_client.specs.State as servers;
 ghost use Rattle.h1_forward_sides.specs.Puts.{Puts};
+ghost use Rattle.h1_proxy.specs.Fresh.{HasReadAll, SendsAfterAll, BeginsWhereItMay};
 ghost use Rattle.h1_proxy.specs.Replies.{own, AtMost, TurnReplies, HasReplied, Fails, Breaks, PassesBody, PassesHead, TakesAnswer, Opens};
 ghost use Rattle.h1_proxy.specs.Rests.{may_turn, Settles, LeavesLess, LeavesMore, Works, WorksBody, Turns};
 
@@ -53,6 +55,8 @@ impl Proxy {
         ensures works { IfOk result (λ more. Turns more self.old self.new) }
         ensures serves { OnOk result (GoesOnServing self.old self.new) }
         ensures replies { OnOk result (TurnReplies self.old self.new) }
+        ensures begins { OnOk result (BeginsWhereItMay self.old self.new) }
+        ensures sends { OnOk result (SendsAfterAll self.old self.new) }
     {
         if self.is_still() {
             return Ok(false);
@@ -89,8 +93,9 @@ impl Proxy {
         ensures works { IfOk result (λ more. Works more (record self.old { unsent = Some unsent }) self.new) }
         ensures serves { OnOk result (GoesOnServing (record self.old { unsent = Some unsent }) self.new) }
         ensures replies { OnOk result (TurnReplies (record self.old { unsent = Some unsent }) self.new) }
+        ensures sends { OnOk result (SendsAfterAll (record self.old { unsent = Some unsent }) self.new) }
     {
-        if self.is_server_over() {
+        if self.is_server_used() {
             self.server = None;
             self.unsent = Some(unsent);
             return Ok(true);
@@ -117,6 +122,17 @@ impl Proxy {
     {
         match &self.server {
             Some(server) => server.closing().is_some(),
+            None => false,
+        }
+    }
+
+    // It closes, or something of an earlier answer is to come: then no request is sent on there.
+    fn is_server_used(&self) -> bool
+        ensures some { IsTrue result → is_some self.now.server ≡ true }
+        ensures none { result ≡ false → (s : servers.State) → self.now.server ≡ Some s → HasReadAll s }
+    {
+        match &self.server {
+            Some(server) => !has_read_all(server),
             None => false,
         }
     }
@@ -558,6 +574,19 @@ fn may_keep(sent: Sent, server: &ClientConnection) -> bool
         return false;
     }
     server.closing().is_none()
+}
+
+// Whether nothing of an earlier answer is to come, and no byte came that no request asked for.
+fn has_read_all(server: &ClientConnection) -> bool
+    ensures { IsTrue result → HasReadAll server.now }
+{
+    if server.closing().is_some() {
+        return false;
+    }
+    if server.waiting() != 0 {
+        return false;
+    }
+    server.can_next()
 }
 
 // Whether more of the request's body may be sent on.

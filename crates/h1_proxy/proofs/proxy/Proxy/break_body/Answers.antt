@@ -1,11 +1,9 @@
 use Rattle.std.proofs.Common.{refl}
 use Rattle.std.proofs.Common.{Some, None}
 use Rattle.h1_proxy.proofs.Moves.{goes_then, fails, resent}
-use Rattle.h1_proxy.proofs.Work.{less_then, weaker, closed_less, drop_sent, remarked, broken_mark}
+use Rattle.h1_proxy.proofs.Work.{less_then, closed_less, drop_sent, remarked, broken_mark}
 use Rattle.h1_proxy.proofs.Served.{with_server, resent_serves, no_reply_of}
-use Rattle.std.proofs.Common.{subst, sym, Bool}
 use Rattle.h1_proxy.proofs.Replies.{kept_breaks, own_breaks}
-use Rattle.h1_forward_sides.proofs.Puts.{puts_none}
 use Rattle.h1_proxy.proofs.proxy.Proxy.break_body.Goals as goal
 
 pub returns-then-sent-clause-goes : goal.returns-then-sent-clause-goes

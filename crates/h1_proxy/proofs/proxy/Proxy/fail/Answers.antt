@@ -4,7 +4,6 @@ use Rattle.h1_proxy.proofs.Moves.{goes_then, fails, client_done}
 use Rattle.h1_model.specs.Event as on
 use Rattle.h1_proxy.proofs.Work.{client_less}
 use Rattle.h1_proxy.proofs.Served.{idle_serves, end_put, answered_of, no_reply_of}
-use Rattle.std.proofs.Common.{subst, sym, Bool}
 use Rattle.h1_proxy.proofs.Replies.{cut_fails, own_fails}
 use Rattle.h1_proxy.proofs.proxy.Proxy.fail.Goals as goal
 

@@ -1,4 +1,4 @@
-use Rattle.std.proofs.Common.{Some, None, refl}
+use Rattle.std.proofs.Common.{Some, None}
 use Rattle.h1_proxy.proofs.Moves.{fails, is_over}
 use Rattle.h1_proxy.proofs.Work.{less_same, weaker, closed_less}
 use Rattle.h1_proxy.proofs.Served.{with_server}

@@ -1,7 +1,7 @@
-use Rattle.std.proofs.Common.{Some, None, refl}
+use Rattle.std.proofs.Common.{Some, None}
 use Rattle.h1_proxy.proofs.Moves.{goes_then, closes, server_moves}
 use Rattle.std.proofs.Common.{Some, None}
-use Rattle.std.proofs.Common.{arith, true, sym, ◌∙◌}
+use Rattle.std.proofs.Common.{arith, sym, ◌∙◌}
 use Rattle.std.proofs.lemmas.Bool.{false≢true}
 use Rattle.h1_proxy.proofs.Work.{works, less_then, server_less, server_much_less, closed_less, drop_sent, then_told, sent_rests}
 use Rattle.std.proofs.Common.{subst}
@@ -82,24 +82,24 @@ returns-in_ok-more-in-Pending-clause-serves c = λ _. c.in_ok-more-in-Pending.en
 
 pub returns-in_ok-take_answer-in-Answer-clause-replies : goal.returns-in_ok-take_answer-in-Answer-clause-replies
 returns-in_ok-take_answer-in-Answer-clause-replies c = λ unanswered.
-    answer_replies c.args.self.now _ c.args.sent c.args.server c.next_answer.new.server _ c.requires.runs unanswered
+    answer_replies c.args.self.now c.take_answer.new.self c.args.sent c.args.server c.next_answer.new.server _ c.requires.runs unanswered
     (subst (λ (n : NextAnswer). HandsAnswer n c.args.server c.next_answer.new.server) c.in-Answer.is c.in_ok-item.ensures.hands)
     c.in_ok-take_answer-in-Answer.ensures.replies
 
 pub returns-in_ok-fail-in-Fault-clause-replies : goal.returns-in_ok-fail-in-Fault-clause-replies
 returns-in_ok-fail-in-Fault-clause-replies c = λ unanswered.
-    fails_replies c.args.self.now _ c.args.sent (Some c.args.server) c.requires.runs
+    fails_replies c.args.self.now c.fail.new.self c.args.sent (Some c.args.server) c.requires.runs
     (inr (asked.fault _, tt, c.next_answer.new.server, subst (λ (n : NextAnswer). HandsAnswer n c.args.server c.next_answer.new.server) c.in-Fault.is c.in_ok-item.ensures.hands))
     c.in_ok-fail-in-Fault.ensures.replies
 
 pub returns-in_ok-fail-in-Closed-clause-replies : goal.returns-in_ok-fail-in-Closed-clause-replies
 returns-in_ok-fail-in-Closed-clause-replies c = λ unanswered.
-    fails_replies c.args.self.now _ c.args.sent (Some c.args.server) c.requires.runs
+    fails_replies c.args.self.now c.fail-in-Closed.new.self c.args.sent (Some c.args.server) c.requires.runs
     (closed_lacks c.args.server c.next_answer.new.server _ (subst (λ (n : NextAnswer). HandsAnswer n c.args.server c.next_answer.new.server) c.in-Closed.is c.in_ok-item.ensures.hands))
     c.in_ok-fail-in-Closed.ensures.replies
 
 pub returns-in_ok-more-in-Pending-clause-replies : goal.returns-in_ok-more-in-Pending-clause-replies
 returns-in_ok-more-in-Pending-clause-replies c = λ unanswered.
-    body_replies c.args.self.now _ c.args.sent c.args.server c.requires.runs
-    (body_before c.args.self.now _ c.args.sent c.args.server c.next_answer.new.server
+    body_replies c.args.self.now c.pass_body.new.self c.args.sent c.args.server c.requires.runs
+    (body_before c.args.self.now c.pass_body.new.self c.args.sent c.args.server c.next_answer.new.server
     (subst (λ (n : NextAnswer). HandsAnswer n c.args.server c.next_answer.new.server) c.in-Pending.is c.in_ok-item.ensures.hands) c.in_ok-more-in-Pending.ensures.replies)

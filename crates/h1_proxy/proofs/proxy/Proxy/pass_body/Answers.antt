@@ -2,7 +2,7 @@ use Rattle.std.proofs.Common.{Some}
 use Rattle.h1_client_machine.specs.ClientEvent as asked
 use Rattle.h1_proxy.proofs.Done.{server_did, did_chunk}
 use Rattle.h1_proxy.proofs.Moves.{goes_same, goes_then, client_done, pieces, ends, breaks}
-use Rattle.std.proofs.Common.{true, arith}
+use Rattle.std.proofs.Common.{arith}
 use Rattle.h1_model.specs.Event as on
 use Rattle.h1_proxy.proofs.Work.{works, less_then, then_less, client_less, client_much_less, server_same, remarked, whole_mark, body_same, body_waits}
 use Rattle.std.proofs.Common.{subst}

@@ -15,4 +15,4 @@ returns-clause-serves c = λ x. noted_serves c.pass_head.new.self _ c.in_ok-note
 
 pub returns-clause-replies : goal.returns-clause-replies
 returns-clause-replies c = λ a read says.
-    most_as _ c.args.self.now.client c.pass_head.new.self.client _ (noted_client _ _ c.in_ok-note_reply.ensures.noted) (c.in_ok-pass_head.ensures.replies a read says)
+    most_as _ c.args.self.now.client c.pass_head.new.self.client _ (noted_client c.pass_head.new.self c.note_reply.new.self c.in_ok-note_reply.ensures.noted) (c.in_ok-pass_head.ensures.replies a read says)

@@ -37,9 +37,9 @@ returns-in_ok-fail-in-None-clause-serves c =
     (λ s. c.in_ok-fail-in-None.ensures.serves (with_server (record c.args.self.now { sent = Some c.args.sent }) c.take.new.self s))
 
 pub returns-in_ok-more-in-Some-clause-replies : goal.returns-in_ok-more-in-Some-clause-replies
-returns-in_ok-more-in-Some-clause-replies c = replies_of_server c.args.self.now _ (Some c.in-Some.server) (sym c.in-Some.ensures.value) c.in_ok-more-in-Some.ensures.replies
+returns-in_ok-more-in-Some-clause-replies c = replies_of_server c.args.self.now c.pass.new.self (Some c.in-Some.server) (sym c.in-Some.ensures.value) c.in_ok-more-in-Some.ensures.replies
 
 pub returns-in_ok-fail-in-None-clause-replies : goal.returns-in_ok-fail-in-None-clause-replies
 returns-in_ok-fail-in-None-clause-replies c =
-    replies_of_server c.args.self.now _ None (sym c.in-None.ensures.value)
-    (fails_replies c.args.self.now _ c.args.sent None c.requires.runs tt c.in_ok-fail-in-None.ensures.replies)
+    replies_of_server c.args.self.now c.fail.new.self None (sym c.in-None.ensures.value)
+    (fails_replies c.args.self.now c.fail.new.self c.args.sent None c.requires.runs tt c.in_ok-fail-in-None.ensures.replies)

@@ -1,6 +1,6 @@
 use Rattle.std.proofs.Common.{Some}
 use Rattle.h1_proxy.proofs.Moves.{goes_then, closes, server_moves, client_done}
-use Rattle.std.proofs.Common.{None, true, arith, [], sym, ◌∙◌}
+use Rattle.std.proofs.Common.{None, arith, [], sym, ◌∙◌}
 use Rattle.std.proofs.lemmas.Bool.{false≢true, true≢false}
 use Rattle.h1_model.specs.Event as on
 use Rattle.h1_proxy.proofs.Work.{works, less_same, less_then, then_less, client_less, server_less, server_much_less, closed_less, drop_sent, over_sent, then_told, sent_rests}
@@ -8,7 +8,6 @@ use Rattle.std.proofs.Common.{subst}
 use Rattle.h1_payload.specs.declared.pulled.Pulled.{Pulled}
 use Rattle.h1_forward_sides.specs.Leaves.{LeavesPiece}
 use Rattle.h1_proxy.proofs.Served.{client_serves, with_server, serves_of_sent}
-use Rattle.std.proofs.Common.{Bool}
 use Rattle.h1_proxy.proofs.Replies.{body_puts}
 use Rattle.h1_forward_sides.proofs.Puts.{puts_none}
 use Rattle.h1_proxy.proofs.Replies.{fails_puts}
@@ -110,7 +109,8 @@ pub returns-in_ok-more-in-Pending-clause-serves : goal.returns-in_ok-more-in-Pen
 returns-in_ok-more-in-Pending-clause-serves c = λ _. c.in_ok-more-in-Pending.ensures.serves
 
 pub returns-then-not-can_chunk-clause-replies : goal.returns-then-not-can_chunk-clause-replies
-returns-then-not-can_chunk-clause-replies c = λ answered. body_puts _ _ c.args.sent _ answered c.in_ok-moved.ensures.replies
+returns-then-not-can_chunk-clause-replies c = λ answered.
+    body_puts c.args.self.now.client c.pass_body.new.self c.args.sent c.args.server answered c.in_ok-moved.ensures.replies
 
 pub returns-in_ok-put_piece-in-Bytes-clause-replies : goal.returns-in_ok-put_piece-in-Bytes-clause-replies
 returns-in_ok-put_piece-in-Bytes-clause-replies c = λ answered. c.in_ok-put_piece-in-Bytes.ensures.puts
@@ -126,4 +126,5 @@ returns-in_ok-fail-in-Broken-clause-replies c = λ answered.
     fails_puts c.args.sent.is_answered c.args.self.now.client _ answered c.in_ok-fail-in-Broken.ensures.replies
 
 pub returns-in_ok-more-in-Pending-clause-replies : goal.returns-in_ok-more-in-Pending-clause-replies
-returns-in_ok-more-in-Pending-clause-replies c = λ answered. body_puts _ _ c.args.sent _ answered c.in_ok-more-in-Pending.ensures.replies
+returns-in_ok-more-in-Pending-clause-replies c = λ answered.
+    body_puts c.args.self.now.client c.pass_body-in-Pending.new.self c.args.sent c.next_piece.new.server answered c.in_ok-more-in-Pending.ensures.replies

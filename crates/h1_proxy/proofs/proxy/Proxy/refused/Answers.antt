@@ -10,7 +10,7 @@ use Rattle.h1_proxy.specs.Kept.{Goes}
 use Rattle.h1_proxy.specs.declared.proxy.Proxy.{Proxy}
 use Rattle.h1_proxy.specs.declared.proxy.Unsent.{Unsent}
 use Rattle.h1_proxy.proofs.Served.{serves_by, noted_idle, noted_no_reply, refused_no_reply}
-use Rattle.h1_proxy.proofs.Replies.{refused_by, noted_client}
+use Rattle.h1_proxy.proofs.Replies.{refuses_by, noted_client}
 use Rattle.h1_proxy.proofs.proxy.Proxy.refused.Goals as goal
 
 pub returns-clause-goes : goal.returns-clause-goes
@@ -48,5 +48,5 @@ returns-clause-serves c =
 pub returns-clause-replies : goal.returns-clause-replies
 returns-clause-replies c =
     let a : Proxy = record c.args.self.now { unsent = c.take-unsent.new.self; sent = None } in
-    refused_by c.args.self.now a c.note_unsent.new.self c.reply.new.self c.settle.new.self refl (noted_client a c.note_unsent.new.self c.note_unsent.ensures.noted)
+    refuses_by c.args.self.now a c.note_unsent.new.self c.reply.new.self c.settle.new.self refl (noted_client a c.note_unsent.new.self c.note_unsent.ensures.noted)
     c.in_ok-reply.ensures.replies c.in_ok-settle.ensures.replies

@@ -34,7 +34,7 @@ returns-clause-serves c = λ idle x.
 
 pub returns-clause-replies : goal.returns-clause-replies
 returns-clause-replies c =
-    most_as _ c.args.self.now.client c.put_head.new.client _ (noted_client _ _ c.in_ok-note_reply.ensures.noted)
+    most_as _ c.args.self.now.client c.put_head.new.client _ (noted_client (record c.args.self.now { client = c.put_head.new.client }) c.note_reply.new.self c.in_ok-note_reply.ensures.noted)
     (then_most _ c.args.self.now.client c.leave_body.new.client c.put_head.new.client c.leave_body.ensures.puts
     (may_put (own (status_of c.args.refusal)) c.leave_body.new.client c.put_head.new.client
-    (subst (λ (h : AnswerHead). MayPut (record { head = h; size = size_of 0 }) c.leave_body.new.client c.put_head.new.client) c.head.ensures c.in_ok-put_head.ensures.puts)))
+    (subst (λ (h : AnswerHead). MayPut (record { head = h; size = size_of 0 }) c.leave_body.new.client c.put_head.new.client) c.head-head.ensures c.in_ok-put_head.ensures.puts)))

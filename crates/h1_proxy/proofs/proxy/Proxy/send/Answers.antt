@@ -1,17 +1,18 @@
 use Rattle.std.proofs.Common.{None}
 use Rattle.h1_proxy.proofs.Moves.{goes_then, of_server, closes, closes_as, server_moves, asks}
 use Rattle.h1_proxy.proofs.Done.{did_ask}
-use Rattle.std.proofs.Common.{sym, Some, true, arith}
+use Rattle.std.proofs.Common.{sym, Some, true, arith, refl}
 use Rattle.h1_proxy.proofs.Work.{over_less, waits_rests, works, works_of_server, then_less, less_then, server_less, server_asks, sent_less, over_as, noted_less}
 use Rattle.h1_codec.specs.Meaning.{size_of}
 use Rattle.h1_client.specs.Meaning.{request_of}
 use Rattle.h1_proxy.proofs.Served.{with_server, noted_serves, sent_serves}
 use Rattle.h1_proxy.proofs.Replies.{no_head_put, unsent_cause, same_puts, noted_client}
 use Rattle.h1_forward_sides.proofs.Puts.{puts_none}
+use Rattle.h1_proxy.proofs.Fresh.{waits_sends}
 use Rattle.h1_proxy.proofs.proxy.Proxy.send.Goals as goal
 
-pub returns-then-is_server_over-clause-goes : goal.returns-then-is_server_over-clause-goes
-returns-then-is_server_over-clause-goes c = closes (record c.args.self.now { unsent = Some c.args.unsent })
+pub returns-then-is_server_used-clause-goes : goal.returns-then-is_server_used-clause-goes
+returns-then-is_server_used-clause-goes c = closes (record c.args.self.now { unsent = Some c.args.unsent })
 
 pub returns-in_default-clause-goes : goal.returns-in_default-clause-goes
 returns-in_default-clause-goes c = closes_as (record c.args.self.now { unsent = Some c.args.unsent }) c.take.new.self c.take.ensures.after
@@ -30,9 +31,9 @@ returns-then-branch-clause-goes c =
 pub returns-clause-goes : goal.returns-clause-goes
 returns-clause-goes c = closes_as (record c.args.self.now { unsent = Some c.args.unsent }) c.take.new.self c.take.ensures.after
 
-pub returns-then-is_server_over-clause-works : goal.returns-then-is_server_over-clause-works
-returns-then-is_server_over-clause-works c =
-    works 1 _ _ (omega arith) (over_less (record c.args.self.now { unsent = Some c.args.unsent }) (c.is_server_over.ensures c.if-is_server_over.true))
+pub returns-then-is_server_used-clause-works : goal.returns-then-is_server_used-clause-works
+returns-then-is_server_used-clause-works c =
+    works 1 _ _ (omega arith) (over_less (record c.args.self.now { unsent = Some c.args.unsent }) (c.is_server_used.ensures.some c.if-is_server_used.true))
 
 pub returns-in_default-clause-works : goal.returns-in_default-clause-works
 returns-in_default-clause-works c = waits_rests c.args.self.now c.args.unsent c.take.new.self (sym c.in_default.ensures.value) c.take.ensures.after
@@ -53,8 +54,8 @@ pub returns-clause-works : goal.returns-clause-works
 returns-clause-works c =
     works 1 _ _ (omega arith) (over_as (record c.args.self.now { unsent = Some c.args.unsent }) c.in-Some.server c.take.new.self (sym c.in-Some.ensures.value) c.take.ensures.after)
 
-pub returns-then-is_server_over-clause-serves : goal.returns-then-is_server_over-clause-serves
-returns-then-is_server_over-clause-serves c = with_server (record c.args.self.now { unsent = Some c.args.unsent }) None
+pub returns-then-is_server_used-clause-serves : goal.returns-then-is_server_used-clause-serves
+returns-then-is_server_used-clause-serves c = with_server (record c.args.self.now { unsent = Some c.args.unsent }) None
 
 pub returns-in_default-clause-serves : goal.returns-in_default-clause-serves
 returns-in_default-clause-serves c = with_server (record c.args.self.now { unsent = Some c.args.unsent }) c.take.new.self
@@ -67,8 +68,8 @@ returns-then-branch-clause-serves c = λ s.
 pub returns-clause-serves : goal.returns-clause-serves
 returns-clause-serves c = with_server (record c.args.self.now { unsent = Some c.args.unsent }) c.take.new.self
 
-pub returns-then-is_server_over-clause-replies : goal.returns-then-is_server_over-clause-replies
-returns-then-is_server_over-clause-replies c =
+pub returns-then-is_server_used-clause-replies : goal.returns-then-is_server_used-clause-replies
+returns-then-is_server_used-clause-replies c =
     no_head_put (record c.args.self.now { unsent = Some c.args.unsent }) _ (unsent_cause c.args.self.now _ c.args.unsent) (puts_none c.args.self.now.client)
 
 pub returns-in_default-clause-replies : goal.returns-in_default-clause-replies
@@ -84,3 +85,19 @@ returns-then-branch-clause-replies c =
 pub returns-clause-replies : goal.returns-clause-replies
 returns-clause-replies c =
     no_head_put (record c.args.self.now { unsent = Some c.args.unsent }) _ (unsent_cause c.args.self.now _ c.args.unsent) (puts_none c.args.self.now.client)
+
+pub returns-then-is_server_used-clause-sends : goal.returns-then-is_server_used-clause-sends
+returns-then-is_server_used-clause-sends c =
+    waits_sends (record c.args.self.now { unsent = Some c.args.unsent }) (record c.args.self.now { server = None; unsent = Some c.args.unsent }) c.args.unsent refl
+
+pub returns-in_default-clause-sends : goal.returns-in_default-clause-sends
+returns-in_default-clause-sends c =
+    waits_sends (record c.args.self.now { unsent = Some c.args.unsent }) (record c.args.self.now { server = c.take.new.self; unsent = Some c.args.unsent }) c.args.unsent refl
+
+pub returns-then-branch-clause-sends : goal.returns-then-branch-clause-sends
+returns-then-branch-clause-sends c = λ u is none.
+    (c.in-Some.server, sym c.in-Some.ensures.value, c.is_server_used.ensures.none c.if-is_server_used.false c.in-Some.server (sym c.in-Some.ensures.value))
+
+pub returns-clause-sends : goal.returns-clause-sends
+returns-clause-sends c =
+    waits_sends (record c.args.self.now { unsent = Some c.args.unsent }) (record c.args.self.now { server = c.take.new.self; unsent = Some c.args.unsent }) c.args.unsent refl

@@ -2,7 +2,7 @@ use Rattle.std.proofs.Common.{Some, None, refl}
 use Rattle.h1_proxy.proofs.Moves.{goes_same, goes_then, closes}
 use Rattle.h1_proxy.proofs.Work.{less_same, less_then, weaker, closed_less, drop_sent}
 use Rattle.h1_proxy.proofs.Served.{serves_of_sent, with_server, no_reply_of}
-use Rattle.std.proofs.Common.{subst, Bool, inl, inr, ◌≡◌}
+use Rattle.std.proofs.Common.{subst, inl, inr, ◌≡◌}
 use Rattle.h1_proxy.proofs.Replies.{is_refused_so, is_passed_over, is_passed_on, waits_as}
 use Rattle.h1_forward_sides.proofs.Puts.{puts_none, hands_same}
 use Rattle.h1_proxy.proofs.Replies.{fails_most}

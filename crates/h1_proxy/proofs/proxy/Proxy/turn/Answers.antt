@@ -3,6 +3,8 @@ use Rattle.h1_proxy.proofs.Moves.{goes_same, of_unsent, of_no_unsent}
 use Rattle.h1_proxy.proofs.Work.{turns, still_rests, works_of_unsent, not_still, runs_on}
 use Rattle.h1_proxy.proofs.Served.{serves_of_unsent}
 use Rattle.h1_proxy.proofs.Replies.{still_replies, replies_of_unsent}
+use Rattle.std.proofs.Common.{refl, inl, inr}
+use Rattle.h1_proxy.proofs.Fresh.{still_sends, may_of, idle_sends}
 use Rattle.h1_proxy.proofs.proxy.Proxy.turn.Goals as goal
 
 pub returns-then-is_still-clause-goes : goal.returns-then-is_still-clause-goes
@@ -49,3 +51,21 @@ returns-in_ok-more-in-Some-clause-replies c = replies_of_unsent c.args.self.now 
 pub returns-in_ok-more-in-None-clause-replies : goal.returns-in_ok-more-in-None-clause-replies
 returns-in_ok-more-in-None-clause-replies c =
     replies_of_unsent c.args.self.now c.go_on.new.self _ (sym c.in-None.ensures.value ∙ sym c.take.ensures.after) c.in_ok-more-in-None.ensures.replies
+
+pub returns-then-is_still-clause-begins : goal.returns-then-is_still-clause-begins
+returns-then-is_still-clause-begins c = inr refl
+
+pub returns-in_ok-more-in-Some-clause-begins : goal.returns-in_ok-more-in-Some-clause-begins
+returns-in_ok-more-in-Some-clause-begins c = inl (may_of c.is_still.result c.args.self.now c.is_still.ensures c.if-is_still.false)
+
+pub returns-in_ok-more-in-None-clause-begins : goal.returns-in_ok-more-in-None-clause-begins
+returns-in_ok-more-in-None-clause-begins c = inl (may_of c.is_still.result c.args.self.now c.is_still.ensures c.if-is_still.false)
+
+pub returns-then-is_still-clause-sends : goal.returns-then-is_still-clause-sends
+returns-then-is_still-clause-sends c = still_sends c.args.self.now
+
+pub returns-in_ok-more-in-Some-clause-sends : goal.returns-in_ok-more-in-Some-clause-sends
+returns-in_ok-more-in-Some-clause-sends c = λ u is none. c.in_ok-more-in-Some.ensures.sends c.in-Some.unsent refl none
+
+pub returns-in_ok-more-in-None-clause-sends : goal.returns-in_ok-more-in-None-clause-sends
+returns-in_ok-more-in-None-clause-sends c = idle_sends c.args.self.now c.go_on.new.self (sym c.in-None.ensures.value)
