@@ -13,14 +13,12 @@ use Rattle.h1_forward.specs.declared.standing.Stage.TheVariants as stage
 
 -- ---- reads
 
--- What is made of what a read of the client brought: its end is told, and nothing else. A client of whose bytes not all were
--- taken is let go.
+-- What is made of what a read of the client brought: its end is told, and nothing else.
 abbrev pub FollowsClient : TakenIn → Proxy → Stage → Proxy → Type 0
 FollowsClient (came.Bytes n) old now new = new ≡ old
 FollowsClient came.End old now new = GoesBy event.client_eof done old new
 FollowsClient came.Failed old now new = new ≡ old
 FollowsClient came.Full old now new = new ≡ old
-FollowsClient (came.Cut n) old now new = (new ≡ old) × (now ≡ stage.Lost)
 
 -- The connection to the server broke: where an answer is under way its client is let go, and else it is told that the server has ended.
 abbrev pub BreaksOff : Proxy → Stage → Proxy → Type 0
@@ -32,10 +30,9 @@ FollowsServer (came.Bytes n) old now new = new ≡ old
 FollowsServer came.End old now new = EndsServer old new
 FollowsServer came.Failed old now new = (new ≡ old) ⊎ BreaksOff old now new
 FollowsServer came.Full old now new = new ≡ old
-FollowsServer (came.Cut n) old now new = BreaksOff old now new
 
 -- The bytes that left the client's source were told to the forwarder, all in one event and in order. Its end was told exactly
--- where the source showed it. A client of whose bytes not all were taken is let go. The source was asked unless there was room for
+-- where the source showed it. The source was asked unless there was room for
 -- nothing.
 pub record HearsClient (limit before after : ℕ) (left rest : Option (List ℕ)) (old : Proxy) (now : Stage) (new : Proxy) : Type 0 where
   pub came : TakenIn

@@ -61,10 +61,6 @@ fn follow_client(
             standing.stage = Stage::Lost;
             Ok(true)
         }
-        TakenIn::Cut(_) => {
-            standing.stage = Stage::Lost;
-            Ok(true)
-        }
     }
 }
 
@@ -117,11 +113,6 @@ fn follow_server(
             if is_not_now {
                 return Ok(false);
             }
-            break_off(forwarder, standing)?;
-            Ok(true)
-        }
-        TakenIn::Cut(_) => {
-            standing.server.may_read = false;
             break_off(forwarder, standing)?;
             Ok(true)
         }

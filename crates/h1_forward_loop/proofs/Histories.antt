@@ -1,10 +1,10 @@
 -- A forwarder has a history after each call.
-use Rattle.std.proofs.Common.{◌≡◌, Bool, true, false, [], ◌∷◌, subst, refl, sym}
+use Rattle.std.proofs.Common.{◌≡◌, ℕ, Bool, true, false, List, [], ◌∷◌, length, min, subst, refl, sym, ap, ◌∙◌}
 use Rattle.std.proofs.lemmas.Bool.{false≢true}
 use Rattle.h1_forward_model.specs.Past.{ProxyEvent, ProxyOutcome}
 use Rattle.h1_forward_traces.specs.Happenings.{nothing_happened}
 use Rattle.h1_proxy.specs.declared.proxy.Proxy.{Proxy}
-use Rattle.h1_proxy.specs.Kept.{Forwards, Goes, GoesBy}
+use Rattle.h1_proxy.specs.Kept.{Forwards, Goes, GoesBy, TakesAll}
 use Rattle.h1_forward_loop.specs.History.{HasHistory, IfTold}
 
 pub begins : (p : Proxy) → Forwards p [] nothing_happened → HasHistory p
@@ -24,6 +24,10 @@ seen p q new is goes = subst (λ (p : Proxy). Goes p new) is goes
 
 pub seen_by : (event : ProxyEvent) (outcome : ProxyOutcome) (p q new : Proxy) → p ≡ q → GoesBy event outcome p new → GoesBy event outcome q new
 seen_by event outcome p q new is goes = subst (λ (p : Proxy). GoesBy event outcome p new) is goes
+
+-- as many bytes are taken as there is room for
+pub takes : (p q : Proxy) (count : ℕ) (bytes : List ℕ) (room : Proxy → ℕ) → p ≡ q → HasHistory p → TakesAll count bytes (room p) p → count ≡ min (length bytes) (room q)
+takes p q count bytes room is x took = took x.history x.all x.stands ∙ ap (λ (r : Proxy). min (length bytes) (room r)) is
 
 -- it is told where that is allowed, and else nothing is
 pub told : (allowed : Bool) (event : ProxyEvent) (outcome : ProxyOutcome) (old new : Proxy) → allowed ≡ true → GoesBy event outcome old new

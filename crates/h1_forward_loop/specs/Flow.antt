@@ -1,5 +1,5 @@
 -- Bytes between sockets and a forwarder.
-use Rattle.std.specs.Prelude.{◌≡◌, ℕ, Bool, true, false, List, [], length, take, Option, Some, None}
+use Rattle.std.specs.Prelude.{◌≡◌, ℕ, ◌<◌, Bool, true, false, List, [], length, take, Option, Some, None}
 use Rattle.std.specs.Io.KnownBytes.{Consumes, Keeps, IsAtEnd, Appends}
 use Rattle.http_config.specs.Causes.{counted}
 use Rattle.h1_model.specs.Event as on
@@ -14,7 +14,7 @@ use Rattle.h1_forward_loop.specs.declared.flow.TakenIn.TheVariants as came
 abbrev pub Stays : Proxy → Option (List ℕ) → Option (List ℕ) → Proxy → Type 0
 Stays old left rest new = (new ≡ old) × Consumes left rest []
 
--- What a read brought: the bytes that left the source are those that the forwarder was told by the event, and it took so many.
+-- What a read brought: the bytes that left the source are those that the forwarder was told by the event, and it took them all.
 abbrev pub Told : (List ℕ → ProxyEvent) → ℕ → Proxy → Option (List ℕ) → Option (List ℕ) → Proxy → List ℕ → Type 0
 Told event count old left rest new bytes = Consumes left rest bytes × GoesBy (event bytes) (took count) old new
 
@@ -24,7 +24,6 @@ TakesIn event old left rest (came.Bytes n) new = (bytes : List ℕ) × (length b
 TakesIn event old left rest came.End new = Stays old left rest new × IsAtEnd rest
 TakesIn event old left rest came.Failed new = Stays old left rest new
 TakesIn event old left rest came.Full new = Stays old left rest new
-TakesIn event old left rest (came.Cut n) new = (bytes : List ℕ) × Told event n old left rest new bytes
 
 -- Of the bytes that waited the first so many were written, and no others, and the forwarder gave them. Where nothing was written
 -- it was told of nothing.
@@ -36,11 +35,10 @@ Writes event waited old given after None new = Keeps given after × (new ≡ old
 
 -- Of so many bytes that there was room for: the source was asked unless there was room for none, and failed only where it counted a fault.
 abbrev pub HasReadCause : ℕ → ℕ → ℕ → TakenIn → Type 0
-HasReadCause limit before now (came.Bytes n) = now ≡ before
+HasReadCause limit before now (came.Bytes n) = (0 < n) × (now ≡ before)
 HasReadCause limit before now came.End = now ≡ before
 HasReadCause limit before now came.Failed = now ≡ counted before
 HasReadCause limit before now came.Full = (limit ≡ 0) × (now ≡ before)
-HasReadCause limit before now (came.Cut n) = now ≡ before
 
 -- bytes may be written towards a side
 abbrev pub may_write_client : Proxy → Bool

@@ -1,5 +1,5 @@
 //! Bytes between sockets and a forwarder.
-ghost use Rattle.std.specs.Prelude.{◌<◌, ℕ, IfOk, length, min};
+ghost use Rattle.std.specs.Prelude.{◌<◌, ◌≤◌, ℕ, IfOk, length, min};
 ghost use Rattle.h1_forward_model.specs.Past as event;
 ghost use Rattle.h1_proxy.specs.Kept.{client_of, server_of, server_text, client_room, server_room};
 ghost use Rattle.h1_forward_loop.specs.Flow.{TakesIn, Writes, HasReadCause, HasWriteCause, may_write_client, may_write_server};
@@ -22,9 +22,6 @@ pub enum TakenIn {
 
     /// The forwarder takes no bytes now, and none were read.
     Full,
-
-    /// The forwarder took only so many of the bytes that came, so the peer has to be let go.
-    Cut(usize),
 }
 
 /// Reads from the client once, at most what there is room for, and tells the forwarder what came.
@@ -50,6 +47,7 @@ fn read_client<S: Source>(
     piece: &mut [u8],
 ) -> Result<TakenIn, NoMemory>
     requires room { 0 < length piece.old }
+    requires fits { length piece.old ≤ client_room forwarder.old }
     ensures came { IfOk result (λ came. TakesIn event.client forwarder.old (S.left source.old) (S.left source.new) came forwarder.new) }
     ensures cause { (limit : ℕ) → IfOk result (λ came. HasReadCause limit (S.faults source.old) (S.faults source.new) came) }
 {
@@ -60,10 +58,7 @@ fn read_client<S: Source>(
         return Ok(TakenIn::End);
     }
     let taken = forwarder.read_client(&piece[..count])?;
-    if taken == count {
-        return Ok(TakenIn::Bytes(count));
-    }
-    Ok(TakenIn::Cut(taken))
+    Ok(TakenIn::Bytes(taken))
 }
 
 /// Reads from the server once, at most what there is room for, and tells the forwarder what came.
@@ -89,6 +84,7 @@ fn read_server<S: Source>(
     piece: &mut [u8],
 ) -> Result<TakenIn, NoMemory>
     requires room { 0 < length piece.old }
+    requires fits { length piece.old ≤ server_room forwarder.old }
     ensures came { IfOk result (λ came. TakesIn event.server forwarder.old (S.left source.old) (S.left source.new) came forwarder.new) }
     ensures cause { (limit : ℕ) → IfOk result (λ came. HasReadCause limit (S.faults source.old) (S.faults source.new) came) }
 {
@@ -99,10 +95,7 @@ fn read_server<S: Source>(
         return Ok(TakenIn::End);
     }
     let taken = forwarder.read_server(&piece[..count])?;
-    if taken == count {
-        return Ok(TakenIn::Bytes(count));
-    }
-    Ok(TakenIn::Cut(taken))
+    Ok(TakenIn::Bytes(taken))
 }
 
 /// Writes what waits towards the client once, as far as the sink takes it: how many bytes that were, and nothing where the

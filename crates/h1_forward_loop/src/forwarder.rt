@@ -1,10 +1,10 @@
 //! A forwarder that always has a history.
-ghost use Rattle.std.specs.Prelude.{◌≡◌, ◌≤◌, take, length, is_some, IsTrue, IfOk, OnOk};
+ghost use Rattle.std.specs.Prelude.{◌≡◌, ◌≤◌, take, min, length, is_some, IsTrue, IfOk, OnOk};
 ghost use Rattle.h1_model.specs.Event as on;
 ghost use Rattle.h1_client_machine.specs.ClientEvent as asked;
 ghost use Rattle.h1_forward_model.specs.Past.{took, gave, done};
 ghost use Rattle.h1_forward_model.specs.Past as event;
-ghost use Rattle.h1_proxy.specs.Kept.{Goes, GoesBy, client_of, server_of, server_text, client_takes, server_allows, wants_server};
+ghost use Rattle.h1_proxy.specs.Kept.{Goes, GoesBy, client_of, server_of, server_text, client_takes, client_room, server_room, server_allows, wants_server};
 ghost use Rattle.h1_forward_loop.specs.History.{EndsServer, Connects, Refuses, Ticks};
 
 use h1_proxy::{Expiry, NoMemory, Proxy, Reply, ServiceConfig};
@@ -70,6 +70,7 @@ impl Forwarder {
     #[tactic(auto, using(crate::proofs::Histories::begins))]
     pub fn read_client(&mut self, bytes: &[u8]) -> Result<usize, NoMemory>
         ensures goes { IfOk result (λ count. GoesBy (event.client bytes.now) (took count) self.old self.new) }
+        ensures took { IfOk result (λ count. count ≡ min (length bytes.now) (client_room self.old)) }
     {
         match self.proxy.read_client(bytes) {
             Ok(count) => Ok(count),
@@ -84,6 +85,7 @@ impl Forwarder {
     #[tactic(auto, using(crate::proofs::Histories::begins))]
     pub fn read_server(&mut self, bytes: &[u8]) -> Result<usize, NoMemory>
         ensures goes { IfOk result (λ count. GoesBy (event.server bytes.now) (took count) self.old self.new) }
+        ensures took { IfOk result (λ count. count ≡ min (length bytes.now) (server_room self.old)) }
     {
         match self.proxy.read_server(bytes) {
             Ok(count) => Ok(count),

@@ -1,10 +1,14 @@
 use Rattle.h1_forward_model.specs.Past as event
 use Rattle.h1_forward_model.specs.Past.{took}
-use Rattle.h1_forward_loop.proofs.Histories.{goes_by, seen_by}
+use Rattle.h1_proxy.specs.Kept.{client_room}
+use Rattle.h1_forward_loop.proofs.Histories.{goes_by, seen_by, takes}
 use Rattle.h1_forward_loop.proofs.forwarder.Forwarder.read_client.Goals as goal
 
 pub invariant_of-self : goal.invariant_of-self
 invariant_of-self c = goes_by (event.client c.args.bytes.now) (took c.in-Ok.count) c.self.inside.proxy c.read_client.new.self c.self.invariant c.in-Ok.ensures.goes
 
 pub returns-in-Ok : goal.returns-in-Ok
-returns-in-Ok c = record { goes = seen_by (event.client c.args.bytes.now) (took c.in-Ok.count) c.self.inside.proxy c.args.self.now c.read_client.new.self c.self.view_is c.in-Ok.ensures.goes }
+returns-in-Ok c = record {
+  goes = seen_by (event.client c.args.bytes.now) (took c.in-Ok.count) c.self.inside.proxy c.args.self.now c.read_client.new.self c.self.view_is c.in-Ok.ensures.goes;
+  took = takes c.self.inside.proxy c.args.self.now c.in-Ok.count c.args.bytes.now client_room c.self.view_is c.self.invariant c.in-Ok.ensures.took;
+}
