@@ -16,15 +16,17 @@ use Rattle.h1_client.specs.State as servers
 use Rattle.h1_client.specs.declared.event.ClientEnd.{ClientEnd}
 use Rattle.h1_client.specs.declared.event.NextAnswer.TheVariants as answered
 use Rattle.h1_forward_model.specs.Answers.{Found, found_bad, found_body, found_by, reply_head, reply_size}
+use Rattle.h1_forward_model.specs.Past.{ProxyEvent, ProxyOutcome}
+use Rattle.h1_forward_model.specs.Past as past
 use Rattle.h1_forward_sides.specs.Puts.{Put, Puts, MayPut, put_by, HandsHead, HandsFault, HandsAnswer, is_refused, is_good, HandsNone, good_of}
 use Rattle.h1_forward_sides.proofs.Puts.{puts_none, then_none, none_then, head_puts, fault_puts, hands_same, hands_then, one_puts, one_hands, tells_none}
 use Rattle.h1_proxy.specs.declared.proxy.Proxy.{Proxy}
 use Rattle.h1_proxy.specs.declared.proxy.Sent.{Sent}
 use Rattle.h1_proxy.specs.declared.proxy.Unsent.{Unsent}
-use Rattle.h1_proxy.specs.Kept.{IsIdle, Runs, was_answered, wants_server, is_closing}
+use Rattle.h1_proxy.specs.Kept.{IsIdle, Runs, GoesBy, was_answered, wants_server, is_closing}
 use Rattle.h1_proxy.specs.Rests.{IsNoted}
 use Rattle.h1_proxy.proofs.EventMoves.{three_parts}
-use Rattle.h1_proxy.specs.Replies.{no_head, broken_body, not_forwardable, no_answer, passed_on, own, passed, AtMost, IsUnanswered, GoesOnWaiting, LacksAnswer, HasCause, TurnReplies, Fails, Breaks, PassesBody, UsesAnswer, TakesAnswer, Opens, PutsNoHead, HasReplied, Replies, RepliesRefused}
+use Rattle.h1_proxy.specs.Replies.{no_head, broken_body, not_forwardable, no_answer, passed_on, own, passed, AtMost, IsUnanswered, GoesOnWaiting, LacksAnswer, HasCause, TurnReplies, Fails, Breaks, PassesBody, UsesAnswer, TakesAnswer, Opens, ServerGoesOn, LeavesServer, PutsNoHead, HasReplied, Replies, RepliesRefused}
 
 -- ---- one after another
 
@@ -254,23 +256,36 @@ replies_of_server p q o is x = subst (λ (o : Option servers.State). TurnReplies
 
 -- ---- events
 
-pub no_head_same : (p : Proxy) → PutsNoHead p p
-no_head_same p = record { waits = λ sent s x is. waits_as p sent s s x.runs x.unanswered is (hands_same s); puts = puts_none p.client; unsent = refl }
+pub server_same : (o : Option servers.State) → ServerGoesOn o o
+server_same None = tt
+server_same (Some s) = hands_same s
+
+pub no_head_same : (by : ProxyEvent) (p : Proxy) → LeavesServer by p.config p.server p.server → PutsNoHead by p p
+no_head_same by p server = record {
+  waits = λ sent s x is. waits_as p sent s s x.runs x.unanswered is (hands_same s);
+  puts = puts_none p.client;
+  unsent = refl;
+  sent = refl;
+  server = server;
+}
 
 -- something happened on the client's connection
-pub client_no_head : (p : Proxy) (event : on.Event) (Says : on.Outcome → Type 0) (c : State) → GoesOn p.client event Says c → put_by event ≡ []
-    → PutsNoHead p (record p { client = c })
-client_no_head p event Says c one none = record {
+pub client_no_head : (by : ProxyEvent) (p : Proxy) (event : on.Event) (Says : on.Outcome → Type 0) (c : State) → GoesOn p.client event Says c
+    → put_by event ≡ [] → LeavesServer by p.config p.server p.server → PutsNoHead by p (record p { client = c })
+client_no_head by p event Says c one none server = record {
   waits = λ sent s x is.
       waits_as (record p { client = c }) sent s s (record { unsent = x.runs.unsent; sent = x.runs.sent }) x.unanswered is (hands_same s);
   puts = one_puts p.client event Says c [] one none;
   unsent = refl;
+  sent = refl;
+  server = server;
 }
 
 -- or on the server's
-pub server_no_head : (p : Proxy) (a b : servers.State) (event : asked.ClientEvent) (Says : asked.ClientOutcome → Type 0) → p.server ≡ Some a
-    → (one : servers.GoesOn a event Says b) → good_of one.outcome ≡ [] → PutsNoHead p (record p { server = Some b })
-server_no_head p a b event Says here one none = record {
+pub server_no_head : (by : ProxyEvent) (p : Proxy) (a b : servers.State) (event : asked.ClientEvent) (Says : asked.ClientOutcome → Type 0) → p.server ≡ Some a
+    → (one : servers.GoesOn a event Says b) → good_of one.outcome ≡ []
+    → (ServerGoesOn p.server (Some b) → LeavesServer by p.config p.server (Some b)) → PutsNoHead by p (record p { server = Some b })
+server_no_head by p a b event Says here one none leaves = record {
   waits = λ sent s x is.
       let found : Some a ≡ Some s = sym here ∙ is in
       let same : a ≡ s = cc found in
@@ -278,10 +293,12 @@ server_no_head p a b event Says here one none = record {
       (subst (λ (s : servers.State). HandsNone s b) same (one_hands a event Says b one none));
   puts = puts_none p.client;
   unsent = refl;
+  sent = refl;
+  server = leaves (subst (λ (o : Option servers.State). ServerGoesOn o (Some b)) (sym here) (one_hands a event Says b one none));
 }
 
-pub no_head_moment : (p q : Proxy) (m : Option ℕ) → PutsNoHead p q → PutsNoHead p (record q { moment = m })
-no_head_moment p q m x = record {
+pub no_head_moment : (by : ProxyEvent) (p q : Proxy) (m : Option ℕ) → PutsNoHead by p q → PutsNoHead by p (record q { moment = m })
+no_head_moment by p q m x = record {
   waits = λ sent s y is.
       let z = x.waits sent s y is in record {
         sent = z.sent;
@@ -292,14 +309,19 @@ no_head_moment p q m x = record {
       };
   puts = x.puts;
   unsent = x.unsent;
+  sent = x.sent;
+  server = x.server;
 }
 
 -- a server connection that is there where none was
-pub connected_no_head : (p : Proxy) (t : servers.State) → p.server ≡ None → PutsNoHead p (record p { server = Some t })
-connected_no_head p t none = record {
+pub connected_no_head : (p : Proxy) (t : servers.State) → p.server ≡ None → t ≡ servers.fresh_state p.config
+    → PutsNoHead past.connected p (record p { server = Some t })
+connected_no_head p t none fresh = record {
   waits = λ sent s x is. let no : ◌≡◌ {A = Option servers.State} None (Some s) = sym none ∙ is in absurd (cc no);
   puts = puts_none p.client;
   unsent = refl;
+  sent = refl;
+  server = ap (λ (s : servers.State). Some s) fresh;
 }
 
 pub no_server_of : (p : Proxy) → IsTrue (wants_server p) → p.server ≡ None
@@ -309,11 +331,12 @@ no_server_of p wants = none_of p.server (three_parts (is_some p.unsent) (is_none
     none_of None is = refl
     none_of (Some s) is = absurd (false≢true is)
 
-pub replies_by : (p mid q : Proxy) → PutsNoHead p mid → HasReplied mid q → Replies p q
-replies_by p mid q event turns = record { mid = mid; event = event; turns = turns }
+pub replies_by : (by : ProxyEvent) (outcome : ProxyOutcome) (p mid q : Proxy) → GoesBy by outcome p mid → PutsNoHead by p mid → HasReplied mid q
+    → Replies by outcome p q
+replies_by by outcome p mid q goes event turns = record { mid = mid; goes = goes; event = event; turns = turns }
 
 -- no server connection is to be had
-pub refuses_by : (p a b mid q : Proxy) → a.client ≡ p.client → b.client ≡ a.client → AtMost (own 502 ∷ []) b.client mid.client → HasReplied mid q
-    → RepliesRefused p q
-refuses_by p a b mid q first second puts turns =
-    record { mid = mid; puts = subst (λ (s : State). AtMost (own 502 ∷ []) s mid.client) (second ∙ first) puts; turns = turns }
+pub refuses_by : (p a b mid q : Proxy) → GoesBy past.refused past.done p mid → a.client ≡ p.client → b.client ≡ a.client → AtMost (own 502 ∷ []) b.client mid.client
+    → HasReplied mid q → RepliesRefused p q
+refuses_by p a b mid q goes first second puts turns =
+    record { mid = mid; goes = goes; puts = subst (λ (s : State). AtMost (own 502 ∷ []) s mid.client) (second ∙ first) puts; turns = turns }

@@ -1,5 +1,6 @@
 -- Why a forwarder puts the head of a reply, turn by turn.
 use Rattle.std.specs.Prelude.{◌≡◌, ◌⊎◌, ℕ, Bool, true, false, List, [], ◌∷◌, ⊤, Option, Some, None}
+use Rattle.http_config.specs.Config.{Settings}
 use Rattle.h1_model.specs.Answer.{size_of}
 use Rattle.h1_model.specs.Event as on
 use Rattle.h1_model.specs.Request.{Head}
@@ -13,11 +14,12 @@ use Rattle.h1_client_machine.specs.ClientEvent as asked
 use Rattle.h1_client.specs.State as servers
 use Rattle.h1_forward_model.specs.Forward.{is_forwardable}
 use Rattle.h1_forward_model.specs.Answers.{reply_head, reply_size, own_head}
+use Rattle.h1_forward_model.specs.Past as event
 use Rattle.h1_forward_sides.specs.Puts.{Put, Puts, HandsHead, HandsFault, is_refused, is_good, HandsNone, Tells, IsRead, CannotTell}
 use Rattle.h1_proxy.specs.declared.proxy.Proxy.{Proxy}
 use Rattle.h1_proxy.specs.declared.proxy.Sent.{Sent}
 use Rattle.h1_proxy.specs.Fresh.{SendsAfterAll, BeginsWhereItMay}
-use Rattle.h1_proxy.specs.Kept.{IsIdle, Runs}
+use Rattle.h1_proxy.specs.Kept.{IsIdle, Runs, Goes, GoesBy}
 
 -- ---- what is put
 
@@ -89,8 +91,10 @@ HasCause broken_body old new = (sent : Sent) × IsUnanswered sent old × (fault 
 abbrev pub TurnReplies : Proxy → Proxy → Type 0
 TurnReplies old new = (puts : TurnPuts) × HasCause puts old new × AtMost (heads_of puts) old.client new.client
 
--- it begins where it may, and a request is sent on only where all that came before from its server was read
+-- What is kept after it is what is left of all that happened. It begins where it may, and a request is sent on only where all that came before
+-- from its server was read.
 pub record IsTurn (old new : Proxy) : Type 0 where
+  pub goes : Goes old new
   pub begins : BeginsWhereItMay old new
   pub replies : TurnReplies old new
   pub sends : SendsAfterAll old new
@@ -100,21 +104,41 @@ pub data HasReplied (old : Proxy) : Proxy → Type 0 where
   nothing : HasReplied old old
   turned : (mid new : Proxy) → HasReplied old mid → IsTurn mid new → HasReplied old new
 
--- no head of a reply is put, a request that waits for its answer goes on waiting, and no other is sent on
-pub record PutsNoHead (old new : Proxy) : Type 0 where
+-- the server connection stays, and hands out no answer to be passed on
+abbrev pub ServerGoesOn : Option servers.State → Option servers.State → Type 0
+ServerGoesOn None None = ⊤
+ServerGoesOn (Some a) (Some b) = HandsNone a b
+ServerGoesOn None (Some b) = ⊥
+ServerGoesOn (Some a) None = ⊥
+
+-- What an event leaves of the server connection: more happens on it by an event of its own, a new one is there where it connects, and else it
+-- is the same.
+abbrev pub LeavesServer : event.ProxyEvent → Settings → Option servers.State → Option servers.State → Type 0
+LeavesServer (event.server bytes) config old new = ServerGoesOn old new
+LeavesServer event.server_eof config old new = ServerGoesOn old new
+LeavesServer (event.to_server count) config old new = ServerGoesOn old new
+LeavesServer event.connected config old new = new ≡ Some (servers.fresh_state config)
+LeavesServer e config old new = new ≡ old
+
+-- no head of a reply is put, a request that waits for its answer goes on waiting, and none is sent on or dropped
+pub record PutsNoHead (by : event.ProxyEvent) (old new : Proxy) : Type 0 where
   pub waits : HasCause no_head old new
   pub puts : Puts [] old.client new.client
   pub unsent : new.unsent ≡ old.unsent
+  pub sent : new.sent ≡ old.sent
+  pub server : LeavesServer by old.config old.server new.server
 
 -- an event puts no head of a reply itself, and then come turns
-pub record Replies (old new : Proxy) : Type 0 where
+pub record Replies (by : event.ProxyEvent) (outcome : event.ProxyOutcome) (old new : Proxy) : Type 0 where
   pub mid : Proxy
-  pub event : PutsNoHead old mid
+  pub goes : GoesBy by outcome old mid
+  pub event : PutsNoHead by old mid
   pub turns : HasReplied mid new
 
 -- a server connection is refused for a request that waits: it gets 502
 pub record RepliesRefused (old new : Proxy) : Type 0 where
   pub mid : Proxy
+  pub goes : GoesBy event.refused event.done old mid
   pub puts : AtMost (own 502 ∷ []) old.client mid.client
   pub turns : HasReplied mid new
 

@@ -23,7 +23,7 @@ impl Proxy {
         ensures took { IfOk result (λ count. TakesAll count bytes.now (client_room self.old) self.old) }
         ensures rests { OnOk result (Settles self.old self.new) }
         ensures serves { OnOk result (Serves self.old self.new) }
-        ensures replies { OnOk result (Replies self.old self.new) }
+        ensures replies { IfOk result (λ count. Replies (event.client bytes.now) (took count) self.old self.new) }
     {
         let taken = self.take_from_client(bytes)?;
         self.settle()?;
@@ -34,7 +34,7 @@ impl Proxy {
         ensures goes { IfOk result (λ count. GoesBy (event.client bytes.now) (took count) self.old self.new) }
         ensures took { IfOk result (λ count. TakesAll count bytes.now (client_room self.old) self.old) }
         ensures serves { OnOk result (GoesOnServing self.old self.new) }
-        ensures replies { OnOk result (PutsNoHead self.old self.new) }
+        ensures replies { OnOk result (PutsNoHead (event.client bytes.now) self.old self.new) }
     {
         if self.client_room() == 0 {
             return Ok(0);
@@ -52,7 +52,7 @@ impl Proxy {
         ensures took { IfOk result (λ count. TakesAll count bytes.now (server_room self.old) self.old) }
         ensures rests { OnOk result (Settles self.old self.new) }
         ensures serves { OnOk result (Serves self.old self.new) }
-        ensures replies { OnOk result (Replies self.old self.new) }
+        ensures replies { IfOk result (λ count. Replies (event.server bytes.now) (took count) self.old self.new) }
     {
         let taken = self.take_from_server(bytes)?;
         self.settle()?;
@@ -63,7 +63,7 @@ impl Proxy {
         ensures goes { IfOk result (λ count. GoesBy (event.server bytes.now) (took count) self.old self.new) }
         ensures took { IfOk result (λ count. TakesAll count bytes.now (server_room self.old) self.old) }
         ensures serves { OnOk result (GoesOnServing self.old self.new) }
-        ensures replies { OnOk result (PutsNoHead self.old self.new) }
+        ensures replies { OnOk result (PutsNoHead (event.server bytes.now) self.old self.new) }
     {
         if self.server_room() == 0 {
             return Ok(0);
@@ -84,7 +84,7 @@ impl Proxy {
         ensures goes { OnOk result (GoesBy event.client_eof done self.old self.new) }
         ensures rests { OnOk result (Settles self.old self.new) }
         ensures serves { OnOk result (Serves self.old self.new) }
-        ensures replies { OnOk result (Replies self.old self.new) }
+        ensures replies { OnOk result (Replies event.client_eof done self.old self.new) }
     {
         self.end_client();
         self.settle()?;
@@ -94,7 +94,7 @@ impl Proxy {
     fn end_client(&mut self)
         ensures goes { GoesBy event.client_eof done self.old self.new }
         ensures serves { GoesOnServing self.old self.new }
-        ensures replies { PutsNoHead self.old self.new }
+        ensures replies { PutsNoHead event.client_eof self.old self.new }
     {
         if !self.client.can_read() {
             return;
@@ -108,7 +108,7 @@ impl Proxy {
         ensures goes { OnOk result (GoesBy event.server_eof done self.old self.new) }
         ensures rests { OnOk result (Settles self.old self.new) }
         ensures serves { OnOk result (Serves self.old self.new) }
-        ensures replies { OnOk result (Replies self.old self.new) }
+        ensures replies { OnOk result (Replies event.server_eof done self.old self.new) }
     {
         self.end_server();
         self.settle()?;
@@ -119,7 +119,7 @@ impl Proxy {
         requires can_read_server { IsTrue (server_allows (server_of self.old) asked.eof) }
         ensures goes { GoesBy event.server_eof done self.old self.new }
         ensures serves { GoesOnServing self.old self.new }
-        ensures replies { PutsNoHead self.old self.new }
+        ensures replies { PutsNoHead event.server_eof self.old self.new }
     {
         let Some(mut server) = self.server.take() else {
             return;
@@ -134,7 +134,7 @@ impl Proxy {
         ensures goes { OnOk result (GoesBy event.connected done self.old self.new) }
         ensures rests { OnOk result (Settles self.old self.new) }
         ensures serves { OnOk result (Serves self.old self.new) }
-        ensures replies { OnOk result (Replies self.old self.new) }
+        ensures replies { OnOk result (Replies event.connected done self.old self.new) }
     {
         self.server = Some(ClientConnection::new(self.alloc, self.config));
         self.settle()?;
@@ -164,7 +164,7 @@ impl Proxy {
         ensures goes { OnOk result (GoesBy (event.to_client count) (gave (take count (client_of self.old).kept.buffered)) self.old self.new) }
         ensures rests { OnOk result (Settles self.old self.new) }
         ensures serves { OnOk result (Serves self.old self.new) }
-        ensures replies { OnOk result (Replies self.old self.new) }
+        ensures replies { OnOk result (Replies (event.to_client count) (gave (take count (client_of self.old).kept.buffered)) self.old self.new) }
     {
         self.client.advance(count);
         self.settle()?;
@@ -178,7 +178,7 @@ impl Proxy {
         ensures goes { OnOk result (GoesBy (event.to_server count) (gave (take count (server_text (server_of self.old)))) self.old self.new) }
         ensures rests { OnOk result (Settles self.old self.new) }
         ensures serves { OnOk result (Serves self.old self.new) }
-        ensures replies { OnOk result (Replies self.old self.new) }
+        ensures replies { OnOk result (Replies (event.to_server count) (gave (take count (server_text (server_of self.old)))) self.old self.new) }
     {
         self.write_server(count);
         self.settle()?;
@@ -190,7 +190,7 @@ impl Proxy {
         requires fits { count ≤ length (server_text (server_of self.old)) }
         ensures goes { GoesBy (event.to_server count) (gave (take count (server_text (server_of self.old)))) self.old self.new }
         ensures serves { GoesOnServing self.old self.new }
-        ensures replies { PutsNoHead self.old self.new }
+        ensures replies { PutsNoHead (event.to_server count) self.old self.new }
     {
         let Some(mut server) = self.server.take() else {
             return;
@@ -206,7 +206,7 @@ impl Proxy {
         ensures goes { OnOk result (GoesBy (event.tick moment) done self.old self.new) }
         ensures rests { OnOk result (Settles self.old self.new) }
         ensures serves { OnOk result (Serves self.old self.new) }
-        ensures replies { OnOk result (Replies self.old self.new) }
+        ensures replies { OnOk result (Replies (event.tick moment) done self.old self.new) }
     {
         let expiry = self.client.tick(moment)?;
         self.moment = Some(moment);

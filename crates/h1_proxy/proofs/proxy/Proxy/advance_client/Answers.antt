@@ -37,5 +37,9 @@ returns-clause-serves c =
 
 pub returns-clause-replies : goal.returns-clause-replies
 returns-clause-replies c =
-    replies_by c.args.self.now (record c.args.self.now { client = c.advance.new.self }) c.settle.new.self
-    (client_no_head c.args.self.now (on.write c.args.count) _ c.advance.new.self c.advance.ensures.stands refl) c.in_ok-settle.ensures.replies
+    let p = c.args.self.now in
+    let bytes = take c.args.count p.client.kept.buffered in
+    let mid : Proxy = record p { client = c.advance.new.self } in
+    replies_by (to_client c.args.count) (gave bytes) p mid c.settle.new.self
+    (client_writes c.args.count p c.advance.new.self c.advance.ensures.settings c.advance.ensures.stands)
+    (client_no_head (to_client c.args.count) p (on.write c.args.count) _ c.advance.new.self c.advance.ensures.stands refl refl) c.in_ok-settle.ensures.replies

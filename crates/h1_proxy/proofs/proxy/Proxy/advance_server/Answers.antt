@@ -21,4 +21,5 @@ pub returns-clause-serves : goal.returns-clause-serves
 returns-clause-serves c = serves_by c.args.self.now c.write_server.new.self c.settle.new.self c.write_server.ensures.serves c.in_ok-settle.ensures.serves
 
 pub returns-clause-replies : goal.returns-clause-replies
-returns-clause-replies c = replies_by c.args.self.now c.write_server.new.self c.settle.new.self c.write_server.ensures.replies c.in_ok-settle.ensures.replies
+returns-clause-replies c = replies_by (to_server c.args.count) (gave (take c.args.count (server_text c.args.self.now.server))) c.args.self.now c.write_server.new.self c.settle.new.self
+    c.write_server.ensures.goes c.write_server.ensures.replies c.in_ok-settle.ensures.replies

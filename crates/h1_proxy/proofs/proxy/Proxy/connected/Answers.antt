@@ -29,5 +29,7 @@ returns-clause-serves c =
 
 pub returns-clause-replies : goal.returns-clause-replies
 returns-clause-replies c =
-    replies_by c.args.self.now (record c.args.self.now { server = Some c.new.result }) c.settle.new.self
-    (connected_no_head c.args.self.now c.new.result (no_server_of c.args.self.now c.requires.wants_server)) c.in_ok-settle.ensures.replies
+    let p = c.args.self.now in
+    let mid : Proxy = record p { server = Some c.new.result } in
+    replies_by event.connected done p mid c.settle.new.self (connects p c.new.result c.requires.wants_server c.new.ensures.value)
+    (connected_no_head p c.new.result (no_server_of p c.requires.wants_server) c.new.ensures.value) c.in_ok-settle.ensures.replies

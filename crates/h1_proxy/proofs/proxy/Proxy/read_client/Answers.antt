@@ -20,4 +20,4 @@ pub returns-clause-took : goal.returns-clause-took
 returns-clause-took c = c.in_ok-taken.ensures.took
 
 pub returns-clause-replies : goal.returns-clause-replies
-returns-clause-replies c = replies_by c.args.self.now c.take_from_client.new.self c.settle.new.self c.in_ok-taken.ensures.replies c.in_ok-settle.ensures.replies
+returns-clause-replies c = replies_by (client c.args.bytes.now) (took c.in_ok-taken.taken) c.args.self.now c.take_from_client.new.self c.settle.new.self c.in_ok-taken.ensures.goes c.in_ok-taken.ensures.replies c.in_ok-settle.ensures.replies

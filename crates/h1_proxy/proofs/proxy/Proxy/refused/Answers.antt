@@ -47,6 +47,12 @@ returns-clause-serves c =
 
 pub returns-clause-replies : goal.returns-clause-replies
 returns-clause-replies c =
-    let a : Proxy = record c.args.self.now { unsent = c.take-unsent.new.self; sent = None } in
-    refuses_by c.args.self.now a c.note_unsent.new.self c.reply.new.self c.settle.new.self refl (noted_client a c.note_unsent.new.self c.note_unsent.ensures.noted)
+    let p = c.args.self.now in
+    let a : Proxy = record p { unsent = c.take-unsent.new.self; sent = None } in
+    let mid : Proxy = record p { unsent = None; sent = None } in
+    let noted = subst (λ (o : Option Unsent). Goes (record p { unsent = o; sent = None }) c.note_unsent.new.self) c.take-unsent.ensures.after c.note_unsent.ensures.goes in
+    refuses_by p a c.note_unsent.new.self c.reply.new.self c.settle.new.self
+    (by_then event.refused done p c.note_unsent.new.self c.reply.new.self
+    (by_then event.refused done p mid c.note_unsent.new.self (refuses p c.requires.wants_server) noted) c.in_ok-reply.ensures.goes)
+    refl (noted_client a c.note_unsent.new.self c.note_unsent.ensures.noted)
     c.in_ok-reply.ensures.replies c.in_ok-settle.ensures.replies

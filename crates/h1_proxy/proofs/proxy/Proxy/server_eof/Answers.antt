@@ -17,4 +17,4 @@ pub returns-clause-serves : goal.returns-clause-serves
 returns-clause-serves c = serves_by c.args.self.now c.end_server.new.self c.settle.new.self c.end_server.ensures.serves c.in_ok-settle.ensures.serves
 
 pub returns-clause-replies : goal.returns-clause-replies
-returns-clause-replies c = replies_by c.args.self.now c.end_server.new.self c.settle.new.self c.end_server.ensures.replies c.in_ok-settle.ensures.replies
+returns-clause-replies c = replies_by server_eof done c.args.self.now c.end_server.new.self c.settle.new.self c.end_server.ensures.goes c.end_server.ensures.replies c.in_ok-settle.ensures.replies

@@ -1,5 +1,6 @@
 use Rattle.std.proofs.Common.{ℕ, length, min, sym, ap, ◌∙◌}
 use Rattle.h1_model.specs.Event as on
+use Rattle.h1_forward_model.specs.Past.{client}
 use Rattle.h1_proxy.proofs.EventMoves.{client_nothing, client_reads}
 use Rattle.h1_proxy.proofs.Rooms.{client_count, client_has}
 use Rattle.h1_proxy.proofs.Served.{event_serves}
@@ -35,10 +36,10 @@ returns-clause-took c = λ history all f.
     (sym (client_has c.args.self.now (λ none. c.if-client_room-eq0.false (c.client_room.ensures ∙ none))))
 
 pub returns-then-client_room-eq0-clause-replies : goal.returns-then-client_room-eq0-clause-replies
-returns-then-client_room-eq0-clause-replies c = no_head_same c.args.self.now
+returns-then-client_room-eq0-clause-replies c = no_head_same (client c.args.bytes.now) c.args.self.now refl
 
 pub returns-then-not-can_read-clause-replies : goal.returns-then-not-can_read-clause-replies
-returns-then-not-can_read-clause-replies c = no_head_same c.args.self.now
+returns-then-not-can_read-clause-replies c = no_head_same (client c.args.bytes.now) c.args.self.now refl
 
 pub returns-clause-replies : goal.returns-clause-replies
-returns-clause-replies c = client_no_head c.args.self.now (on.read c.args.bytes.now) _ c.read.new.self c.in_ok-count.ensures.stands refl
+returns-clause-replies c = client_no_head (client c.args.bytes.now) c.args.self.now (on.read c.args.bytes.now) _ c.read.new.self c.in_ok-count.ensures.stands refl refl

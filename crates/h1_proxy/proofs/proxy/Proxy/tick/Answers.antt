@@ -38,5 +38,8 @@ returns-clause-serves c =
 pub returns-clause-replies : goal.returns-clause-replies
 returns-clause-replies c =
     let q : Proxy = record c.args.self.now { client = c.tick.new.self } in
-    replies_by c.args.self.now (record q { moment = Some c.args.moment }) c.settle.new.self
-    (no_head_moment c.args.self.now q (Some c.args.moment) (client_no_head c.args.self.now (on.tick c.args.moment) _ c.tick.new.self c.in_ok-expiry.ensures.stands refl)) c.in_ok-settle.ensures.replies
+    replies_by (tick c.args.moment) done c.args.self.now (record q { moment = Some c.args.moment }) c.settle.new.self
+    (ticks c.args.moment c.in_ok-expiry.expiry c.args.self.now c.tick.new.self (Some c.args.moment) c.tick.ensures.settings c.in_ok-expiry.ensures.stands)
+    (no_head_moment (tick c.args.moment) c.args.self.now q (Some c.args.moment)
+    (client_no_head (tick c.args.moment) c.args.self.now (on.tick c.args.moment) _ c.tick.new.self c.in_ok-expiry.ensures.stands refl refl))
+    c.in_ok-settle.ensures.replies
