@@ -1,6 +1,5 @@
 //! Heads that are read ahead of the one that was asked for.
-use h1_connection::{Connection, HeadItem, HeadRoom, NextKind};
-use h1_decode::BodyKind;
+use h1_connection::{BodyKind, Connection, HeadItem, HeadRoom, NextKind};
 use http_framing::BodySize;
 use http_types::{NoMemory, ResponseHead, ServiceConfigBuilder, StatusCode};
 use std::alloc::Global;
