@@ -15,7 +15,7 @@ fn count_next(
     answer: &ResponseHead,
     counts: &mut Vec<usize>,
 ) -> Result<bool, NoMemory> {
-    while connection.can_write() && connection.buffered() > 0 {
+    if connection.can_write() {
         let _ = connection.write(connection.buffered())?;
     }
     if !connection.can_next() {
