@@ -1,5 +1,5 @@
 //! Heads that are read ahead of the one that was asked for.
-use h1_connection::{BodyKind, Connection, HeadItem, HeadRoom, NextKind};
+use h1_connection::{Connection, HeadItem, HeadRoom, NextKind};
 use http_framing::BodySize;
 use http_types::{NoMemory, ResponseHead, ServiceConfigBuilder, StatusCode};
 use std::alloc::Global;
@@ -81,42 +81,5 @@ fn at_most_sixteen_heads_are_read_ahead(rt: HostRuntime) -> Result<(), Fail> {
         16, 15, 14, 13, 12, 11, 10, 9, 8, 7, 6, 5, 4, 3, 2, 1, 0, 2, 1, 0,
     ];
     assert!(rt; counts.as_slice() == wanted.as_slice());
-    Ok(())
-}
-
-#[test]
-fn no_head_is_read_ahead_behind_a_body(rt: HostRuntime) -> Result<(), Fail> {
-    let mut text = requests(rt.alloc(), 1)?;
-    text.extend_from_slice(b"POST / HTTP/1.1\r\ncontent-length: 3\r\n\r\nabc")?;
-    text.extend_from_slice(REQUEST)?;
-    text.extend_from_slice(b"GET / HT")?;
-    let counts = counts_of(rt.alloc(), &text)?;
-    assert!(rt; counts.as_slice() == [1, 0, 0].as_slice());
-    Ok(())
-}
-
-#[test]
-fn a_head_keeps_what_it_says_where_others_are_read_ahead(rt: HostRuntime) -> Result<(), Fail> {
-    let mut connection = Connection::new(rt.alloc(), ServiceConfigBuilder::new().build());
-    assert!(rt; connection.can_read());
-    connection.read(
-        b"GET /a HTTP/1.1\r\nx: 1\r\n\r\n\r\nHEAD /b HTTP/1.1\r\n\r\nPUT /c HTTP/1.1\r\ncontent-length: 2\r\nx: 2\r\n\r\n",
-    )?;
-    let mut item = HeadItem::new(rt.alloc());
-    let mut room = HeadRoom::new();
-    let answer = ResponseHead::new(rt.alloc(), StatusCode::OK);
-    for (target, body) in [
-        (b"/a".as_slice(), BodyKind::None),
-        (b"/b".as_slice(), BodyKind::None),
-        (b"/c".as_slice(), BodyKind::Length(2)),
-    ] {
-        assert!(rt; connection.can_next());
-        assert!(rt; connection.next_into(&mut item, &mut room)? == NextKind::Head);
-        assert!(rt; item.target.as_slice() == target && item.body == body);
-        assert!(rt; connection.can_answer());
-        connection.answer(&answer, BodySize::ZERO)?;
-        assert!(rt; connection.can_write());
-        let _ = connection.write(4096)?;
-    }
     Ok(())
 }
