@@ -1,5 +1,5 @@
--- Which heads of replies a call puts towards the client, and what a call of a server's connection hands out, whatever happened before.
-use Rattle.std.specs.Prelude.{◌≡◌, ◌⊎◌, ℕ, Bool, false, not, ◌&&◌, ◌||◌, ◌==◌, if◌then◌else◌, List, [], ◌∷◌, ◌++◌}
+-- Which parts of replies a call puts towards the client, and what a call of a server's connection hands out, whatever happened before.
+use Rattle.std.specs.Prelude.{◌≡◌, ◌⊎◌, ℕ, Bool, true, false, not, ◌&&◌, ◌||◌, ◌==◌, if◌then◌else◌, List, [], ◌∷◌, ◌++◌, Option, Some, None}
 use Rattle.h1_model.specs.Answer.{AnswerHead, BodySize}
 use Rattle.h1_model.specs.Event as on
 use Rattle.h1_model.specs.Request.{Head}
@@ -18,7 +18,7 @@ use Rattle.h1_client_heads.specs.Meaning as heads
 use Rattle.h1_client_model.specs.AnswerParse.{is_interim}
 use Rattle.h1_client_model.specs.AnswerReading.{Answer, answer_is, IsAnswerReading}
 use Rattle.h1_client_machine.specs.ClientEvent as asked
-use Rattle.h1_client_machine.specs.ClientKept.{client_allows}
+use Rattle.h1_client_machine.specs.ClientKept.{client_allows, client_closing}
 use Rattle.h1_client_machine.specs.ClientTrace.{Happened}
 use Rattle.h1_client.specs.Meaning as asking
 use Rattle.h1_client.specs.State as servers
@@ -32,35 +32,53 @@ pub record Put : Type 0 where
   pub head : AnswerHead
   pub size : BodySize
 
-abbrev pub put_by : on.Event → List Put
-put_by (on.answer head size) = record { head = head; size = size } ∷ []
-put_by _ = []
+-- What the client's connection is told of a reply: its head, a piece of its body, its end, or that it is cut. And what it tells of the
+-- request: that its body broke, or was cut.
+pub data Part : Type 0 where
+  begins : Put → Part
+  continues : List ℕ → Part
+  ends breaks_off : Part
+  request_breaks : on.BodyFault → Part
 
--- the heads of replies that were put in these steps, the newest first
-unfoldable pub heads_put : List Step → List Put
-heads_put [] = []
-heads_put (s ∷ before) = put_by s.event ++ heads_put before
+abbrev pub parts_by : on.Event → on.Outcome → List Part
+parts_by (on.answer head size) o = begins (record { head = head; size = size }) ∷ []
+parts_by (on.chunk bytes) o = continues bytes ∷ []
+parts_by on.body_end o = ends ∷ []
+parts_by on.body_error o = breaks_off ∷ []
+parts_by on.pull (on.broken_by fault) = request_breaks fault ∷ []
+parts_by event o = []
 
--- More happened on the client's connection, and these heads were put in it, and no others.
-abbrev pub Puts : List Put → State → State → Type 0
-Puts heads old new = (trace : List Step) → Stands old trace → (more : List Step) × Stands new (more ++ trace) × (heads_put more ≡ heads)
+-- the parts of replies that were put in these steps, and the faults of requests that were told, the newest first
+unfoldable pub parts_of : List Step → List Part
+parts_of [] = []
+parts_of (s ∷ before) = parts_by s.event s.outcome ++ parts_of before
 
--- a head was put; none is where none may be
-abbrev pub MayPut : Put → State → State → Type 0
-MayPut put old new =
-    ((allowed_by (setting_of old.settings) old.kept (on.answer put.head put.size) ≡ false) × (new ≡ old)) ⊎ Puts (put ∷ []) old new
+-- More happened on the client's connection, and in it came these parts, and no others.
+abbrev pub Puts : List Part → State → State → Type 0
+Puts parts old new = (trace : List Step) → Stands old trace → (more : List Step) × Stands new (more ++ trace) × (parts_of more ≡ parts)
+
+-- the event by which a part comes
+abbrev pub event_of : Part → on.Event
+event_of (begins put) = on.answer put.head put.size
+event_of (continues bytes) = on.chunk bytes
+event_of ends = on.body_end
+event_of breaks_off = on.body_error
+event_of (request_breaks fault) = on.pull
+
+-- it may not be put
+abbrev pub IsRefused : Part → State → Type 0
+IsRefused part s = allowed_by (setting_of s.settings) s.kept (event_of part) ≡ false
+
+-- a part was put; none is where none may be
+abbrev pub MayPut : Part → State → State → Type 0
+MayPut part old new = (IsRefused part old × (new ≡ old)) ⊎ Puts (part ∷ []) old new
 
 -- the connection handed out a head, as this one or another
 abbrev pub HandsHead : (Head → Type 0) → State → State → Type 0
 HandsHead Is old new = (trace : List Step) → Stands old trace
     → (h : Head) × Is h × Stands new (record { event = on.next; outcome = on.head h } ∷ trace)
 
--- it told this fault of the request's body
-abbrev pub HandsFault : on.BodyFault → State → State → Type 0
-HandsFault fault old new =
-    (trace : List Step) → Stands old trace → Stands new (record { event = on.pull; outcome = on.broken_by fault } ∷ trace)
-
--- no head of a reply is put where the next request or more of its body is asked for
+-- no part of a reply is put where the next request or more of its body is asked for
 abbrev pub HandsNext : NextHead → State → State → Type 0
 HandsNext (next.Head item) old new = HandsHead (SaysHead item) old new
 HandsNext (next.Fault fault) old new = Puts [] old new
@@ -71,7 +89,7 @@ abbrev pub HandsPulled : Pulled → State → State → Type 0
 HandsPulled (pulled.Bytes bytes) old new = Puts [] old new
 HandsPulled (pulled.Trailers entries) old new = Puts [] old new
 HandsPulled pulled.End old new = Puts [] old new
-HandsPulled (pulled.Broken fault) old new = HandsFault (fault_of fault) old new
+HandsPulled (pulled.Broken fault) old new = Puts (request_breaks (fault_of fault) ∷ []) old new
 HandsPulled pulled.Pending old new = Puts [] old new
 
 -- ---- a server's side
@@ -84,18 +102,36 @@ is_refused a = a.is_lax || (a.status == 101)
 abbrev pub is_good : Answer → Bool
 is_good a = not (is_refused a) && not (is_interim a.status)
 
-abbrev pub good_of : asked.ClientOutcome → List Answer
-good_of (asked.answer a) = if is_good a then a ∷ [] else []
-good_of _ = []
+-- What a server's connection hands out of its answers: the head of one to be passed on, bytes of its body, its end, or its fault; and that
+-- the rest of a body was left, so that it never will be.
+pub data Handed : Type 0 where
+  good_answer : Answer → Handed
+  body_bytes : List ℕ → Handed
+  body_end body_left : Handed
+  body_fault : on.BodyFault → Handed
 
--- the answers to be passed on that were handed out in these steps, the newest first
-unfoldable pub good_answers : List Happened → List Answer
-good_answers [] = []
-good_answers (s ∷ before) = good_of s.outcome ++ good_answers before
+abbrev pub handed_out : asked.ClientOutcome → List Handed
+handed_out (asked.answer a) = if is_good a then good_answer a ∷ [] else []
+handed_out (asked.bytes bytes) = body_bytes bytes ∷ []
+handed_out asked.body_ended = body_end ∷ []
+handed_out (asked.broken_by fault) = body_fault fault ∷ []
+handed_out o = []
 
--- more happened on the server's connection, and none was handed out in it
+abbrev pub handed_by : asked.ClientEvent → asked.ClientOutcome → List Handed
+handed_by asked.drop_body o = body_left ∷ []
+handed_by event o = handed_out o
+
+-- what was handed out in these steps, the newest first
+unfoldable pub handed_of : List Happened → List Handed
+handed_of [] = []
+handed_of (s ∷ before) = handed_by s.event s.outcome ++ handed_of before
+
+-- more happened on the server's connection, and this was handed out in it, and nothing else
+abbrev pub Hands : List Handed → servers.State → servers.State → Type 0
+Hands handed old new = (trace : List Happened) → servers.Stands old trace → (more : List Happened) × servers.Stands new (more ++ trace) × (handed_of more ≡ handed)
+
 abbrev pub HandsNone : servers.State → servers.State → Type 0
-HandsNone old new = (trace : List Happened) → servers.Stands old trace → (more : List Happened) × servers.Stands new (more ++ trace) × (good_answers more ≡ [])
+HandsNone old new = Hands [] old new
 
 -- asked for the next answer, the connection told this
 abbrev pub Tells : asked.ClientOutcome → servers.State → servers.State → Type 0
@@ -116,3 +152,32 @@ HandsAnswer (answered.Answer item) old new = (a : Answer) × SaysAnswer item a �
 HandsAnswer (answered.Fault fault) old new = Tells (asked.fault (heads.fault_of fault)) old new
 HandsAnswer (answered.Closed end) old new = CannotTell old ⊎ Tells (asked.closed (asking.end_of end)) old new
 HandsAnswer answered.Pending old new = HandsNone old new
+
+-- no more of the answer's body can be asked for
+abbrev pub CannotPull : servers.State → Type 0
+CannotPull s = client_allows (asking.setting_of s.settings) s.kept asked.pull ≡ false
+
+-- no fault brings the connection's end
+abbrev pub is_plain : asked.ClientEnd → Bool
+is_plain asked.asked = true
+is_plain asked.unasked = true
+is_plain asked.input_ended = true
+is_plain end = false
+
+abbrev pub is_sound : Option asked.ClientEnd → Bool
+is_sound None = true
+is_sound (Some end) = is_plain end
+
+-- The last answer is read to its end: the next one may be asked for, and no fault brings the connection's end.
+pub record IsReadUp (s : servers.State) : Type 0 where
+  pub next : client_allows (asking.setting_of s.settings) s.kept asked.next ≡ true
+  pub sound : is_sound (client_closing s.kept) ≡ true
+
+-- Asked for more of the answer's body, the connection handed out what the call answers. The end is also that of a body that was read before
+-- or isn't there, and a fault that of one of which no more can be asked for.
+abbrev pub HandsPiece : Pulled → servers.State → servers.State → Type 0
+HandsPiece (pulled.Bytes bytes) old new = Hands (body_bytes bytes ∷ []) old new
+HandsPiece (pulled.Trailers entries) old new = HandsNone old new
+HandsPiece pulled.End old new = Hands (body_end ∷ []) old new ⊎ ((new ≡ old) × IsReadUp old)
+HandsPiece (pulled.Broken fault) old new = Hands (body_fault (fault_of fault) ∷ []) old new ⊎ ((new ≡ old) × CannotPull old)
+HandsPiece pulled.Pending old new = HandsNone old new

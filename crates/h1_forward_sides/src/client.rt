@@ -7,7 +7,7 @@ ghost use Rattle.h1_forward_sides.specs.Sides.{ClientBrings, BringsNext, BringsP
 ghost use Rattle.h1_codec.specs.Meaning.{answer_of, size_of};
 ghost use Rattle.h1_forward_sides.specs.Leaves.{LeavesNext, LeavesPulled};
 ghost use Rattle.h1_forward_sides.specs.Wants.{Wants, WantsTheSame, WantsNext, HasHead, HasEnd};
-ghost use Rattle.h1_forward_sides.specs.Puts.{Puts, MayPut, HandsNext, HandsPulled};
+ghost use Rattle.h1_forward_sides.specs.Puts.{begins, continues, ends, breaks_off, Puts, MayPut, HandsNext, HandsPulled};
 
 use h1_connection::{BodySize, Bytes, Connection, NextHead, NoMemory, Pulled, ResponseHead};
 
@@ -72,7 +72,7 @@ pub fn put_head(
 ) -> Result<(), NoMemory>
     ensures brings { OnOk result (ClientBrings on.done client.old client.new) }
     ensures wants { OnOk result (Wants (HasHead (size_of size)) client.old client.new) }
-    ensures puts { OnOk result (MayPut (record { head = answer_of head.now; size = size_of size }) client.old client.new) }
+    ensures puts { OnOk result (MayPut (begins (record { head = answer_of head.now; size = size_of size })) client.old client.new) }
 {
     if !client.can_answer() {
         return Ok(());
@@ -85,7 +85,7 @@ pub fn put_head(
 pub fn put_piece(client: &mut Connection, bytes: Bytes) -> Result<(), NoMemory>
     ensures brings { OnOk result (ClientBrings on.done client.old client.new) }
     ensures wants { OnOk result (Wants WantsTheSame client.old client.new) }
-    ensures puts { OnOk result (Puts [] client.old client.new) }
+    ensures puts { OnOk result (MayPut (continues bytes) client.old client.new) }
 {
     if !client.can_chunk() {
         return Ok(());
@@ -98,7 +98,7 @@ pub fn put_piece(client: &mut Connection, bytes: Bytes) -> Result<(), NoMemory>
 pub fn put_end(client: &mut Connection) -> Result<(), NoMemory>
     ensures brings { OnOk result (ClientBrings on.done client.old client.new) }
     ensures wants { OnOk result (Wants HasEnd client.old client.new) }
-    ensures puts { OnOk result (Puts [] client.old client.new) }
+    ensures puts { OnOk result (MayPut ends client.old client.new) }
 {
     if !client.can_end_answer() {
         return Ok(());
@@ -111,7 +111,7 @@ pub fn put_end(client: &mut Connection) -> Result<(), NoMemory>
 pub fn cut_reply(client: &mut Connection)
     ensures brings { ClientBrings on.done client.old client.new }
     ensures wants { Wants HasEnd client.old client.new }
-    ensures puts { Puts [] client.old client.new }
+    ensures puts { MayPut breaks_off client.old client.new }
 {
     if !client.can_end_answer() {
         return;

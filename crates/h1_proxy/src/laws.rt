@@ -18,6 +18,8 @@ ghost use Rattle.h1_proxy.specs.Kept.{client_of, server_of, wants_server, Forwar
 ghost use Rattle.h1_proxy.specs.Fresh.{IsReadFrom};
 ghost use Rattle.h1_proxy.specs.Rests.{may_turn, RestsWhereItMay};
 ghost use Rattle.h1_proxy.specs.Served.{IsServed};
+ghost use Rattle.h1_proxy.specs.declared.proxy.Sent.{Sent};
+ghost use Rattle.h1_proxy.specs.Replies.{IsAnswered, Replies, IsCarried};
 
 /// Of what came from either side, and wasn't passed on yet, no more is held than may be: the hold size of the config. So nobody makes a
 /// forwarder keep more by what it sends.
@@ -54,4 +56,11 @@ pub fn no_answer_comes_before_its_request()
     ensures { (setting : Setting) (before more : List Happened) (k m next : ClientKept) (a : Answer) → IsClientTrace setting before k
         → k.unread ≡ [] → IsClientTrace setting (more ++ before) m → IsClientStep setting m asked.next (asked.answer a) next
         → (later : List ℕ) × (taken (more ++ before) ≡ taken before ++ later) × IsReadFrom setting later a }
+{}
+
+/// The parts of a reply are those of its answer. While a reply is under way whose head was passed on, an event and the turns that it makes
+/// put each piece that the server's connection hands out of that answer's body, in order, and no other part; up to where its end was handed
+/// out, and the reply ends, or a fault was, and the reply is cut.
+pub fn a_reply_is_its_answer()
+    ensures { (old new : Proxy) (sent : Sent) (s : servers.State) → Replies old new → IsAnswered sent old → server_of old ≡ Some s → IsCarried s old new }
 {}

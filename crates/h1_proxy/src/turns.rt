@@ -1,7 +1,7 @@
 //! What a forwarder does of its own between two events, turn by turn.
 #![tactic(auto)]
 
-ghost use Rattle.std.specs.Prelude.{◌≡◌, ◌<◌, ◌+◌, ◌*◌, [], ◌∷◌, IsTrue, None, Some, true, false, not, is_some, length, OnOk, IfOk};
+ghost use Rattle.std.specs.Prelude.{◌≡◌, ◌<◌, ◌+◌, ◌*◌, [], IsTrue, None, Some, true, false, not, is_some, length, OnOk, IfOk};
 ghost use Rattle.h1_model.specs.Event as on;
 ghost use Rattle.h1_forward_sides.specs.Sides.{ServerStays, SendsBody};
 ghost use Rattle.h1_forward_model.specs.Rests.{MAX_WAITING};
@@ -9,9 +9,9 @@ ghost use Rattle.h1_proxy.specs.Kept.{Goes, GoesWith, GoesUnsent, GoesFrom, IsId
 ghost use Rattle.h1_proxy.specs.Served.{Serving, GoesOnServing, HasNoReply};
 ghost use Rattle.h1_forward_heads.specs.Meaning.{status_of};
 ghost use Rattle.h1_client.specs.State as servers;
-ghost use Rattle.h1_forward_sides.specs.Puts.{Puts};
+ghost use Rattle.h1_forward_sides.specs.Puts.{ends};
 ghost use Rattle.h1_proxy.specs.Fresh.{HasReadAll, SendsAfterAll, BeginsWhereItMay};
-ghost use Rattle.h1_proxy.specs.Replies.{own, AtMost, TurnReplies, HasReplied, Fails, Breaks, PassesBody, PassesHead, TakesAnswer, Opens};
+ghost use Rattle.h1_proxy.specs.Replies.{own, PutsLast, TurnReplies, HasReplied, Fails, Breaks, PassesBody, PassesHead, TakesAnswer, Opens};
 ghost use Rattle.h1_proxy.specs.Rests.{may_turn, Settles, LeavesLess, LeavesMore, Works, WorksBody, Turns};
 
 use crate::proxy::{MAX_WAITING, Proxy, Sent, Unsent};
@@ -326,7 +326,7 @@ impl Proxy {
         ensures goes { OnOk result (GoesWith server self.old self.new) }
         ensures works { OnOk result (LeavesLess 0 (record self.old { server = Some server }) self.new) }
         ensures serves { OnOk result (HasNoReply self.old → Serving self.new) }
-        ensures replies { OnOk result (PassesHead sent.is_head item self.old.client self.new.client) }
+        ensures replies { OnOk result (PassesHead sent server item self.old.client self.new) }
     {
         let status = status_of(&item);
         self.pass_head(sent, server, item)?;
@@ -344,7 +344,7 @@ impl Proxy {
         ensures goes { OnOk result (GoesWith server self.old self.new) }
         ensures works { OnOk result (LeavesLess 0 (record self.old { server = Some server }) self.new) }
         ensures serves { OnOk result (HasNoReply self.old → Serving self.new) }
-        ensures replies { OnOk result (PassesHead sent.is_head item self.old.client self.new.client) }
+        ensures replies { OnOk result (PassesHead sent server item self.old.client self.new) }
     {
         let size = reply_size(sent.is_head, &item);
         let sent = answered(sent, says_close(&item));
@@ -367,7 +367,7 @@ impl Proxy {
         ensures goes { OnOk result (GoesWith server self.old self.new) }
         ensures works { IfOk result (λ more. sent.is_answered ≡ true → Works more (record self.old { server = Some server }) self.new) }
         ensures serves { OnOk result (sent.is_answered ≡ true → GoesOnServing self.old self.new) }
-        ensures replies { OnOk result (sent.is_answered ≡ true → Puts [] self.old.client self.new.client) }
+        ensures replies { OnOk result (sent.is_answered ≡ true → TurnReplies (record self.old { server = Some server }) self.new) }
     {
         if !self.client.can_chunk() {
             let moved = self.pass_body(sent, server)?;
@@ -405,7 +405,8 @@ impl Proxy {
         ensures goes { OnOk result (GoesWith server self.old self.new) }
         ensures works { OnOk result (LeavesLess 0 (record self.old { server = Some server; sent = None }) self.new) }
         ensures serves { OnOk result (sent.is_answered ≡ true → GoesOnServing self.old self.new) }
-        ensures replies { OnOk result (Puts [] self.old.client self.new.client) }
+        ensures replies { OnOk result (PutsLast [] ends self.old.client self.new.client) }
+        ensures over { OnOk result (self.new.sent ≡ None) }
     {
         leave_body(&mut self.client);
         put_end(&mut self.client)?;
@@ -420,6 +421,7 @@ impl Proxy {
         ensures works { LeavesLess 0 (record self.old { server = Some server; sent = None }) self.new }
         ensures serves { GoesOnServing (record self.old { sent = None }) self.new }
         ensures client { self.new.client ≡ self.old.client }
+        ensures over { self.new.sent ≡ None }
     {
         self.sent = None;
         if may_keep(sent, &server) {
@@ -476,7 +478,7 @@ impl Proxy {
         ensures goes { OnOk result (GoesWith server self.old self.new) }
         ensures works { OnOk result (sent.is_whole ≡ false → sent.is_broken ≡ false → LeavesLess 1 (record self.old { server = Some server }) self.new) }
         ensures serves { OnOk result (GoesOnServing self.old self.new) }
-        ensures replies { OnOk result (Breaks sent.is_answered self.old.client self.new.client) }
+        ensures replies { OnOk result (Breaks sent.is_answered server self.old.client self.new) }
     {
         if sent.is_answered {
             self.server = Some(server);
@@ -496,7 +498,7 @@ impl Proxy {
         ensures goes { OnOk result (Goes (record self.old { server = None }) self.new) }
         ensures works { OnOk result (LeavesLess 0 (record self.old { server = None; sent = None }) self.new) }
         ensures serves { OnOk result (GoesOnServing (record self.old { sent = Some sent }) self.new) }
-        ensures replies { OnOk result (Fails sent.is_answered self.old.client self.new.client) }
+        ensures replies { OnOk result (Fails sent.is_answered self.old.client self.new) }
     {
         self.server = None;
         self.sent = None;
@@ -513,7 +515,7 @@ impl Proxy {
         ensures goes { OnOk result (Goes self.old self.new) }
         ensures works { OnOk result (LeavesLess 0 self.old self.new) }
         ensures serves { OnOk result (IsIdle self.old → HasNoReply self.old → Serving self.new) }
-        ensures replies { OnOk result (AtMost (own (status_of refusal) ∷ []) self.old.client self.new.client) }
+        ensures replies { OnOk result (PutsLast [] (own (status_of refusal)) self.old.client self.new.client) }
     {
         leave_body(&mut self.client);
         let head = refusal.head(self.alloc);

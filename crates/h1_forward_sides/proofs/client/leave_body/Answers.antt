@@ -20,4 +20,4 @@ pub returns-then-not-can_pull-clause-puts : goal.returns-then-not-can_pull-claus
 returns-then-not-can_pull-clause-puts c = puts_none c.args.client.now
 
 pub returns-clause-puts : goal.returns-clause-puts
-returns-clause-puts c = one_puts c.args.client.now on.drop_body _ c.drop_body.new.self [] c.drop_body.ensures.stands refl
+returns-clause-puts c = one_puts c.args.client.now on.drop_body _ c.drop_body.new.self [] c.drop_body.ensures.stands (λ o says. refl)

@@ -20,4 +20,4 @@ pub returns-then-not-can_continue-clause-puts : goal.returns-then-not-can_contin
 returns-then-not-can_continue-clause-puts c = puts_none c.args.client.now
 
 pub returns-clause-puts : goal.returns-clause-puts
-returns-clause-puts c = one_puts c.args.client.now on.send_continue _ c.send_continue.new.self [] c.in_ok-send_continue.ensures.stands refl
+returns-clause-puts c = one_puts c.args.client.now on.send_continue _ c.send_continue.new.self [] c.in_ok-send_continue.ensures.stands (λ o says. refl)

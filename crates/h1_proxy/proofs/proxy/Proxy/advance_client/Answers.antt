@@ -6,7 +6,7 @@ use Rattle.h1_proxy.proofs.Work.{rests_by}
 use Rattle.h1_proxy.proofs.EventMoves.{client_writes}
 use Rattle.h1_proxy.specs.declared.proxy.Proxy.{Proxy}
 use Rattle.h1_proxy.proofs.Served.{serves_by, event_serves}
-use Rattle.h1_proxy.proofs.Replies.{replies_by, client_no_head}
+use Rattle.h1_proxy.proofs.Replies.{replies_by, client_nothing_put}
 use Rattle.std.proofs.Common.{refl}
 use Rattle.h1_proxy.proofs.proxy.Proxy.advance_client.Goals as goal
 
@@ -38,4 +38,4 @@ returns-clause-serves c =
 pub returns-clause-replies : goal.returns-clause-replies
 returns-clause-replies c =
     replies_by c.args.self.now (record c.args.self.now { client = c.advance.new.self }) c.settle.new.self
-    (client_no_head c.args.self.now (on.write c.args.count) _ c.advance.new.self c.advance.ensures.stands refl) c.in_ok-settle.ensures.replies
+    (client_nothing_put c.args.self.now (on.write c.args.count) _ c.advance.new.self c.advance.ensures.stands (λ o. refl)) c.in_ok-settle.ensures.replies

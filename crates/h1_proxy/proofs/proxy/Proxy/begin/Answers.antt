@@ -3,7 +3,7 @@ use Rattle.h1_proxy.proofs.Moves.{closes}
 use Rattle.std.proofs.Common.{arith}
 use Rattle.h1_proxy.proofs.Work.{works, over_less}
 use Rattle.h1_proxy.proofs.Served.{with_server}
-use Rattle.h1_proxy.proofs.Replies.{no_head_put, idle_cause}
+use Rattle.h1_proxy.proofs.Replies.{no_part_put, idle_cause}
 use Rattle.h1_forward_sides.proofs.Puts.{puts_none}
 use Rattle.h1_proxy.proofs.proxy.Proxy.begin.Goals as goal
 
@@ -18,4 +18,4 @@ returns-then-is_server_over-clause-serves c = with_server c.args.self.now None
 
 pub returns-then-is_server_over-clause-replies : goal.returns-then-is_server_over-clause-replies
 returns-then-is_server_over-clause-replies c =
-    no_head_put c.args.self.now (record c.args.self.now { server = None }) (idle_cause c.args.self.now _ c.requires.idle) (puts_none c.args.self.now.client)
+    no_part_put c.args.self.now (record c.args.self.now { server = None }) (idle_cause c.args.self.now _ c.requires.idle) (puts_none c.args.self.now.client)

@@ -3,7 +3,9 @@ use Rattle.std.proofs.Common.{Some, None}
 use Rattle.h1_proxy.proofs.Moves.{goes_then, fails, resent}
 use Rattle.h1_proxy.proofs.Work.{less_then, closed_less, drop_sent, remarked, broken_mark}
 use Rattle.h1_proxy.proofs.Served.{with_server, resent_serves, no_reply_of}
-use Rattle.h1_proxy.proofs.Replies.{kept_breaks, own_breaks}
+use Rattle.std.proofs.Common.{true, [], ◌∙◌}
+use Rattle.h1_forward_sides.proofs.Puts.{puts_none, hands_same}
+use Rattle.h1_proxy.proofs.Replies.{kept_breaks, own_breaks, goes_as}
 use Rattle.h1_proxy.proofs.proxy.Proxy.break_body.Goals as goal
 
 pub returns-then-sent-clause-goes : goal.returns-then-sent-clause-goes
@@ -38,7 +40,10 @@ returns-clause-serves c = λ s.
 
 pub returns-then-sent-clause-replies : goal.returns-then-sent-clause-replies
 returns-then-sent-clause-replies c =
-    kept_breaks c.args.sent.is_answered c.args.self.now.client c.if-sent.true
+    let q = record c.args.self.now { server = Some c.args.server; sent = Some c.broken.result } in
+    kept_breaks c.args.sent.is_answered c.args.server c.args.self.now.client q c.if-sent.true (puts_none c.args.self.now.client)
+    (goes_as q c.broken.result c.args.server c.args.server true [] (record { unsent = c.requires.runs.unsent; sent = refl })
+    (c.broken.ensures.answered ∙ c.if-sent.true) refl (hands_same c.args.server))
 
 pub returns-clause-replies : goal.returns-clause-replies
-returns-clause-replies c = own_breaks c.args.sent.is_answered c.args.self.now.client _ c.if-sent.false c.in_ok-reply.ensures.replies
+returns-clause-replies c = own_breaks c.args.sent.is_answered c.args.server c.args.self.now.client c.reply.new.self c.if-sent.false c.in_ok-reply.ensures.replies

@@ -6,7 +6,7 @@ use Rattle.h1_proxy.proofs.Work.{rests_by}
 use Rattle.h1_proxy.proofs.EventMoves.{connects}
 use Rattle.h1_proxy.specs.declared.proxy.Proxy.{Proxy}
 use Rattle.h1_proxy.proofs.Served.{serves_by, with_server}
-use Rattle.h1_proxy.proofs.Replies.{replies_by, connected_no_head, no_server_of}
+use Rattle.h1_proxy.proofs.Replies.{replies_by, connected_nothing_put, no_server_of}
 use Rattle.h1_proxy.proofs.proxy.Proxy.connected.Goals as goal
 
 pub returns-clause-goes : goal.returns-clause-goes
@@ -30,4 +30,4 @@ returns-clause-serves c =
 pub returns-clause-replies : goal.returns-clause-replies
 returns-clause-replies c =
     replies_by c.args.self.now (record c.args.self.now { server = Some c.new.result }) c.settle.new.self
-    (connected_no_head c.args.self.now c.new.result (no_server_of c.args.self.now c.requires.wants_server)) c.in_ok-settle.ensures.replies
+    (connected_nothing_put c.args.self.now c.new.result (no_server_of c.args.self.now c.requires.wants_server)) c.in_ok-settle.ensures.replies

@@ -2,7 +2,7 @@ use Rattle.std.proofs.Common.{sym, ◌∙◌}
 use Rattle.h1_model.specs.Event as on
 use Rattle.h1_proxy.proofs.EventMoves.{client_end_nothing, client_ends}
 use Rattle.h1_proxy.proofs.Served.{event_serves}
-use Rattle.h1_proxy.proofs.Replies.{no_head_same, client_no_head}
+use Rattle.h1_proxy.proofs.Replies.{nothing_same, client_nothing_put}
 use Rattle.std.proofs.Common.{refl}
 use Rattle.h1_proxy.proofs.proxy.Proxy.end_client.Goals as goal
 
@@ -20,7 +20,7 @@ returns-clause-serves c =
     event_serves on.eof on.done c.args.self.now c.eof.new.self c.eof.ensures.settings c.eof.ensures.stands tt (sym c.can_read.ensures.eof ∙ c.if-not-can_read.false)
 
 pub returns-then-not-can_read-clause-replies : goal.returns-then-not-can_read-clause-replies
-returns-then-not-can_read-clause-replies c = no_head_same c.args.self.now
+returns-then-not-can_read-clause-replies c = nothing_same c.args.self.now
 
 pub returns-clause-replies : goal.returns-clause-replies
-returns-clause-replies c = client_no_head c.args.self.now on.eof _ c.eof.new.self c.eof.ensures.stands refl
+returns-clause-replies c = client_nothing_put c.args.self.now on.eof _ c.eof.new.self c.eof.ensures.stands (λ o. refl)

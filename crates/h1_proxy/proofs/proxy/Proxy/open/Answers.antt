@@ -5,7 +5,7 @@ use Rattle.h1_proxy.proofs.Work.{more_of, more_then, less_then, closes_less, wai
 use Rattle.h1_proxy.proofs.Served.{noted_idle, noted_no_reply, client_serves, waits_serves}
 use Rattle.std.proofs.Common.{subst, inl, inr, [], ◌∷◌}
 use Rattle.h1_proxy.proofs.Replies.{noted_client}
-use Rattle.h1_proxy.specs.Replies.{own, AtMost}
+use Rattle.h1_proxy.specs.Replies.{own, PutsLast}
 use Rattle.h1_connection.specs.State.{State}
 use Rattle.h1_proxy.proofs.proxy.Proxy.open.Goals as goal
 
@@ -46,7 +46,7 @@ pub returns-then-not-is_forwardable-clause-replies : goal.returns-then-not-is_fo
 returns-then-not-is_forwardable-clause-replies c =
     inr (
       λ h says. sym (c.is_forwardable.ensures h says) ∙ c.if-not-is_forwardable.true,
-      subst (λ (s : State). AtMost (own 501 ∷ []) s c.reply.new.self.client) (noted_client (record c.args.self.now { server = None }) _ c.note_request.ensures.noted) c.in_ok-reply.ensures.replies,
+      subst (λ (s : State). PutsLast [] (own 501) s c.reply.new.self.client) (noted_client (record c.args.self.now { server = None }) _ c.note_request.ensures.noted) c.in_ok-reply.ensures.replies,
     )
 
 pub returns-clause-replies : goal.returns-clause-replies

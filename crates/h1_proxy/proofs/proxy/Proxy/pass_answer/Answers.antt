@@ -89,17 +89,19 @@ returns-in_ok-take_answer-in-Answer-clause-replies c = λ unanswered.
 pub returns-in_ok-fail-in-Fault-clause-replies : goal.returns-in_ok-fail-in-Fault-clause-replies
 returns-in_ok-fail-in-Fault-clause-replies c = λ unanswered.
     fails_replies c.args.self.now c.fail.new.self c.args.sent (Some c.args.server) c.requires.runs
-    (inr (asked.fault _, tt, c.next_answer.new.server, subst (λ (n : NextAnswer). HandsAnswer n c.args.server c.next_answer.new.server) c.in-Fault.is c.in_ok-item.ensures.hands))
+    (λ _. inr (asked.fault _, tt, c.next_answer.new.server, subst (λ (n : NextAnswer). HandsAnswer n c.args.server c.next_answer.new.server) c.in-Fault.is c.in_ok-item.ensures.hands))
+    (λ answered. absurd (false≢true (sym unanswered ∙ answered)))
     c.in_ok-fail-in-Fault.ensures.replies
 
 pub returns-in_ok-fail-in-Closed-clause-replies : goal.returns-in_ok-fail-in-Closed-clause-replies
 returns-in_ok-fail-in-Closed-clause-replies c = λ unanswered.
     fails_replies c.args.self.now c.fail-in-Closed.new.self c.args.sent (Some c.args.server) c.requires.runs
-    (closed_lacks c.args.server c.next_answer.new.server _ (subst (λ (n : NextAnswer). HandsAnswer n c.args.server c.next_answer.new.server) c.in-Closed.is c.in_ok-item.ensures.hands))
+    (λ _. closed_lacks c.args.server c.next_answer.new.server _ (subst (λ (n : NextAnswer). HandsAnswer n c.args.server c.next_answer.new.server) c.in-Closed.is c.in_ok-item.ensures.hands))
+    (λ answered. absurd (false≢true (sym unanswered ∙ answered)))
     c.in_ok-fail-in-Closed.ensures.replies
 
 pub returns-in_ok-more-in-Pending-clause-replies : goal.returns-in_ok-more-in-Pending-clause-replies
 returns-in_ok-more-in-Pending-clause-replies c = λ unanswered.
     body_replies c.args.self.now c.pass_body.new.self c.args.sent c.args.server c.requires.runs
-    (body_before c.args.self.now c.pass_body.new.self c.args.sent c.args.server c.next_answer.new.server
+    (body_before c.args.self.now.client c.pass_body.new.self c.args.sent c.args.server c.next_answer.new.server
     (subst (λ (n : NextAnswer). HandsAnswer n c.args.server c.next_answer.new.server) c.in-Pending.is c.in_ok-item.ensures.hands) c.in_ok-more-in-Pending.ensures.replies)

@@ -4,7 +4,10 @@ use Rattle.h1_proxy.proofs.Moves.{goes_then, client_done, resent}
 use Rattle.h1_model.specs.Event as on
 use Rattle.h1_proxy.proofs.Work.{less_then, client_less, drop_sent, remarked, same_mark}
 use Rattle.h1_proxy.proofs.Served.{told_by, passed_serves, idle_serves, head_put, at_once_of, not_at_once}
-use Rattle.h1_proxy.proofs.Replies.{head_passes, then_most, most_as}
+use Rattle.h1_proxy.proofs.Replies.{head_passes, then_last, last_as, follows_on, goes_as}
+use Rattle.std.proofs.Common.{true, false, []}
+use Rattle.h1_forward_model.specs.Answers.{reply_size}
+use Rattle.h1_forward_sides.proofs.Puts.{hands_same}
 use Rattle.h1_proxy.proofs.proxy.Proxy.pass_head.Goals as goal
 
 pub returns-then-not-is_eof-clause-goes : goal.returns-then-not-is_eof-clause-goes
@@ -58,12 +61,21 @@ returns-clause-serves c = λ x.
 
 pub returns-then-not-is_eof-clause-replies : goal.returns-then-not-is_eof-clause-replies
 returns-then-not-is_eof-clause-replies c = λ a read says.
-    head_passes c.args.sent.is_head a _ _ c.args.self.now.client c.put_head.new.client (c.in_ok-head.ensures read.0 a read.1 says) (c.reply_size-size.ensures a says)
-    c.in_ok-put_head.ensures.puts
+    let q = record c.args.self.now { client = c.put_head.new.client; sent = Some c.answered-sent.result; server = Some c.args.server } in (
+      head_passes c.args.sent.is_head a _ _ c.args.self.now.client c.put_head.new.client (c.in_ok-head.ensures read.0 a read.1 says) (c.reply_size-size.ensures a says)
+          c.in_ok-put_head.ensures.puts,
+      follows_on _ (reply_size c.args.sent.is_head a) false c.args.server q (c.reply_size-size.ensures a says)
+          (not_at_once c.reply_size-size.result (λ e. false≢true (sym c.if-not-is_eof.true ∙ c.is_eof.ensures.1 e)))
+          (goes_as q c.answered-sent.result c.args.server c.args.server true [] (record { unsent = c.requires.runs.unsent; sent = refl })
+          c.answered-sent.ensures.answered refl (hands_same c.args.server)),
+    )
 
 pub returns-clause-replies : goal.returns-clause-replies
-returns-clause-replies c = λ a read says.
-    most_as _ c.args.self.now.client c.put_head-2.new.client _ c.part.ensures.client
-    (then_most _ c.args.self.now.client c.leave_body.new.client c.put_head-2.new.client c.leave_body.ensures.puts
-    (head_passes c.args.sent.is_head a _ _ c.leave_body.new.client c.put_head-2.new.client (c.in_ok-head.ensures read.0 a read.1 says) (c.reply_size-size.ensures a says)
-    c.in_ok-put_head-2.ensures.puts))
+returns-clause-replies c = λ a read says. (
+  last_as [] _ c.args.self.now.client c.put_head-2.new.client _ c.part.ensures.client
+      (then_last [] _ c.args.self.now.client c.leave_body.new.client c.put_head-2.new.client c.leave_body.ensures.puts
+      (head_passes c.args.sent.is_head a _ _ c.leave_body.new.client c.put_head-2.new.client (c.in_ok-head.ensures read.0 a read.1 says)
+      (c.reply_size-size.ensures a says) c.in_ok-put_head-2.ensures.puts)),
+  follows_on _ (reply_size c.args.sent.is_head a) true c.args.server c.part.new.self (c.reply_size-size.ensures a says)
+      (at_once_of c.reply_size-size.result (c.is_eof.ensures.0 c.if-not-is_eof.false)) c.part.ensures.over,
+)

@@ -1,7 +1,8 @@
 use Rattle.h1_proxy.proofs.Moves.{goes_then}
 use Rattle.h1_proxy.proofs.Work.{less_then, noted_less}
 use Rattle.h1_proxy.proofs.Served.{noted_serves}
-use Rattle.h1_proxy.proofs.Replies.{most_as, noted_client}
+use Rattle.h1_proxy.proofs.Replies.{last_as, noted_client, noted_follows}
+use Rattle.std.proofs.Common.{[]}
 use Rattle.h1_proxy.proofs.proxy.Proxy.pass_noted.Goals as goal
 
 pub returns-clause-goes : goal.returns-clause-goes
@@ -15,4 +16,7 @@ returns-clause-serves c = λ x. noted_serves c.pass_head.new.self _ c.in_ok-note
 
 pub returns-clause-replies : goal.returns-clause-replies
 returns-clause-replies c = λ a read says.
-    most_as _ c.args.self.now.client c.pass_head.new.self.client _ (noted_client c.pass_head.new.self c.note_reply.new.self c.in_ok-note_reply.ensures.noted) (c.in_ok-pass_head.ensures.replies a read says)
+    let x = c.in_ok-pass_head.ensures.replies a read says in (
+      last_as [] _ c.args.self.now.client c.pass_head.new.self.client _ (noted_client c.pass_head.new.self c.note_reply.new.self c.in_ok-note_reply.ensures.noted) x.0,
+      noted_follows _ c.args.server c.pass_head.new.self c.note_reply.new.self c.in_ok-note_reply.ensures.noted x.1,
+    )

@@ -6,7 +6,7 @@ use Rattle.h1_proxy.proofs.Work.{over_less, waits_rests, works, works_of_server,
 use Rattle.h1_codec.specs.Meaning.{size_of}
 use Rattle.h1_client.specs.Meaning.{request_of}
 use Rattle.h1_proxy.proofs.Served.{with_server, noted_serves, sent_serves}
-use Rattle.h1_proxy.proofs.Replies.{no_head_put, unsent_cause, same_puts, noted_client}
+use Rattle.h1_proxy.proofs.Replies.{no_part_put, unsent_cause, same_puts, noted_client}
 use Rattle.h1_forward_sides.proofs.Puts.{puts_none}
 use Rattle.h1_proxy.proofs.Fresh.{waits_sends}
 use Rattle.h1_proxy.proofs.proxy.Proxy.send.Goals as goal
@@ -70,21 +70,21 @@ returns-clause-serves c = with_server (record c.args.self.now { unsent = Some c.
 
 pub returns-then-is_server_used-clause-replies : goal.returns-then-is_server_used-clause-replies
 returns-then-is_server_used-clause-replies c =
-    no_head_put (record c.args.self.now { unsent = Some c.args.unsent }) _ (unsent_cause c.args.self.now _ c.args.unsent) (puts_none c.args.self.now.client)
+    no_part_put (record c.args.self.now { unsent = Some c.args.unsent }) _ (unsent_cause c.args.self.now _ c.args.unsent) (puts_none c.args.self.now.client)
 
 pub returns-in_default-clause-replies : goal.returns-in_default-clause-replies
 returns-in_default-clause-replies c =
-    no_head_put (record c.args.self.now { unsent = Some c.args.unsent }) _ (unsent_cause c.args.self.now _ c.args.unsent) (puts_none c.args.self.now.client)
+    no_part_put (record c.args.self.now { unsent = Some c.args.unsent }) _ (unsent_cause c.args.self.now _ c.args.unsent) (puts_none c.args.self.now.client)
 
 pub returns-then-branch-clause-replies : goal.returns-then-branch-clause-replies
 returns-then-branch-clause-replies c =
-    no_head_put (record c.args.self.now { unsent = Some c.args.unsent }) _ (unsent_cause c.args.self.now _ c.args.unsent)
+    no_part_put (record c.args.self.now { unsent = Some c.args.unsent }) _ (unsent_cause c.args.self.now _ c.args.unsent)
     (same_puts c.args.self.now.client _
     (noted_client (record c.args.self.now { unsent = None; sent = Some c.args.unsent.sent; server = Some c.ask.new.server }) _ c.note_unsent.ensures.noted))
 
 pub returns-clause-replies : goal.returns-clause-replies
 returns-clause-replies c =
-    no_head_put (record c.args.self.now { unsent = Some c.args.unsent }) _ (unsent_cause c.args.self.now _ c.args.unsent) (puts_none c.args.self.now.client)
+    no_part_put (record c.args.self.now { unsent = Some c.args.unsent }) _ (unsent_cause c.args.self.now _ c.args.unsent) (puts_none c.args.self.now.client)
 
 pub returns-then-is_server_used-clause-sends : goal.returns-then-is_server_used-clause-sends
 returns-then-is_server_used-clause-sends c =

@@ -2,10 +2,10 @@ use Rattle.std.proofs.Common.{Some, None, refl}
 use Rattle.h1_proxy.proofs.Moves.{goes_same, goes_then, closes}
 use Rattle.h1_proxy.proofs.Work.{less_same, less_then, weaker, closed_less, drop_sent}
 use Rattle.h1_proxy.proofs.Served.{serves_of_sent, with_server, no_reply_of}
-use Rattle.std.proofs.Common.{subst, inl, inr, ◌≡◌}
-use Rattle.h1_proxy.proofs.Replies.{is_refused_so, is_passed_over, is_passed_on, waits_as}
+use Rattle.std.proofs.Common.{subst, inl, inr, ◌≡◌, false, []}
+use Rattle.h1_proxy.proofs.Replies.{is_refused_so, is_passed_over, is_passed_on, goes_as}
 use Rattle.h1_forward_sides.proofs.Puts.{puts_none, hands_same}
-use Rattle.h1_proxy.proofs.Replies.{fails_most}
+use Rattle.h1_proxy.proofs.Replies.{fails_last}
 use Rattle.h1_forward_heads.specs.declared.replies.AnswerUse.{AnswerUse}
 use Rattle.h1_forward_heads.specs.Meaning.{found_as}
 use Rattle.h1_forward_model.specs.Answers.{found_by}
@@ -44,7 +44,7 @@ pub returns-in_ok-fail-in-Refuse-clause-replies : goal.returns-in_ok-fail-in-Ref
 returns-in_ok-fail-in-Refuse-clause-replies c = λ unanswered a read says.
     inl (
       is_refused_so a (λ r b later. subst (λ (u : AnswerUse). found_by r (answer_is a) b later ≡ found_as u r a b later) c.in-Refuse.is (c.answer_use.ensures a r b later says)),
-      fails_most c.args.sent.is_answered c.args.self.now.client _ unanswered c.in_ok-fail-in-Refuse.ensures.replies,
+      fails_last c.args.sent.is_answered c.args.self.now.client c.fail.new.self unanswered c.in_ok-fail-in-Refuse.ensures.replies,
     )
 
 pub returns-in-PassOver-clause-replies : goal.returns-in-PassOver-clause-replies
@@ -52,7 +52,7 @@ returns-in-PassOver-clause-replies c = λ unanswered a read says.
     inr (inl (
       is_passed_over a (λ r b later. subst (λ (u : AnswerUse). found_by r (answer_is a) b later ≡ found_as u r a b later) c.in-PassOver.is (c.answer_use.ensures a r b later says)),
       puts_none c.args.self.now.client,
-      waits_as (record c.args.self.now { server = Some c.args.server }) c.args.sent c.args.server c.args.server
+      goes_as (record c.args.self.now { server = Some c.args.server }) c.args.sent c.args.server c.args.server false []
           (record { unsent = c.requires.runs.unsent; sent = c.requires.runs.sent }) unanswered refl (hands_same c.args.server),
     ))
 

@@ -3,7 +3,7 @@ use Rattle.h1_model.specs.Event as on
 use Rattle.h1_proxy.proofs.EventMoves.{client_nothing, client_reads}
 use Rattle.h1_proxy.proofs.Rooms.{client_count, client_has}
 use Rattle.h1_proxy.proofs.Served.{event_serves}
-use Rattle.h1_proxy.proofs.Replies.{no_head_same, client_no_head}
+use Rattle.h1_proxy.proofs.Replies.{nothing_same, client_nothing_put}
 use Rattle.std.proofs.Common.{refl}
 use Rattle.h1_proxy.proofs.proxy.Proxy.take_from_client.Goals as goal
 
@@ -35,10 +35,10 @@ returns-clause-took c = λ history all f.
     (sym (client_has c.args.self.now (λ none. c.if-client_room-eq0.false (c.client_room.ensures ∙ none))))
 
 pub returns-then-client_room-eq0-clause-replies : goal.returns-then-client_room-eq0-clause-replies
-returns-then-client_room-eq0-clause-replies c = no_head_same c.args.self.now
+returns-then-client_room-eq0-clause-replies c = nothing_same c.args.self.now
 
 pub returns-then-not-can_read-clause-replies : goal.returns-then-not-can_read-clause-replies
-returns-then-not-can_read-clause-replies c = no_head_same c.args.self.now
+returns-then-not-can_read-clause-replies c = nothing_same c.args.self.now
 
 pub returns-clause-replies : goal.returns-clause-replies
-returns-clause-replies c = client_no_head c.args.self.now (on.read c.args.bytes.now) _ c.read.new.self c.in_ok-count.ensures.stands refl
+returns-clause-replies c = client_nothing_put c.args.self.now (on.read c.args.bytes.now) _ c.read.new.self c.in_ok-count.ensures.stands (λ o. refl)

@@ -2,9 +2,9 @@ use Rattle.std.proofs.Common.{Some, sym, ◌∙◌}
 use Rattle.h1_client_machine.specs.ClientEvent as asked
 use Rattle.h1_proxy.proofs.EventMoves.{server_nothing, server_reads, allows_of}
 use Rattle.h1_proxy.proofs.Served.{with_server}
-use Rattle.h1_proxy.proofs.Replies.{no_head_same, server_no_head}
+use Rattle.h1_proxy.proofs.Replies.{nothing_same, server_nothing_put}
 use Rattle.std.proofs.Common.{ap}
-use Rattle.h1_forward_sides.specs.Puts.{good_of}
+use Rattle.h1_forward_sides.specs.Puts.{handed_out}
 use Rattle.h1_proxy.proofs.proxy.Proxy.take_from_server.Goals as goal
 
 pub returns-then-server_room-eq0-clause-goes : goal.returns-then-server_room-eq0-clause-goes
@@ -34,12 +34,12 @@ pub returns-clause-serves : goal.returns-clause-serves
 returns-clause-serves c = with_server c.args.self.now (Some c.read.new.self)
 
 pub returns-then-server_room-eq0-clause-replies : goal.returns-then-server_room-eq0-clause-replies
-returns-then-server_room-eq0-clause-replies c = no_head_same c.args.self.now
+returns-then-server_room-eq0-clause-replies c = nothing_same c.args.self.now
 
 pub returns-then-not-can_read_server-clause-replies : goal.returns-then-not-can_read_server-clause-replies
-returns-then-not-can_read_server-clause-replies c = no_head_same c.args.self.now
+returns-then-not-can_read_server-clause-replies c = nothing_same c.args.self.now
 
 pub returns-clause-replies : goal.returns-clause-replies
 returns-clause-replies c =
-    server_no_head c.args.self.now c.in-Some.server c.read.new.self (asked.read c.args.bytes.now) _ (sym c.in-Some.ensures.value) c.in_ok-count.ensures.stands
-    (ap good_of c.in_ok-count.ensures.stands.says)
+    server_nothing_put c.args.self.now c.in-Some.server c.read.new.self (asked.read c.args.bytes.now) _ (sym c.in-Some.ensures.value) c.in_ok-count.ensures.stands
+    (ap handed_out c.in_ok-count.ensures.stands.says)

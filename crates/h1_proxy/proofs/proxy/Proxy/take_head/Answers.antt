@@ -8,7 +8,7 @@ use Rattle.h1_forward_sides.specs.Sides.{BringsNext}
 use Rattle.h1_forward_sides.specs.Leaves.{LeavesNext}
 use Rattle.h1_proxy.proofs.Served.{client_serves, head_opens, noted_serves}
 use Rattle.std.proofs.Common.{sym, []}
-use Rattle.h1_proxy.proofs.Replies.{head_replies, no_head_put, idle_cause, noted_client}
+use Rattle.h1_proxy.proofs.Replies.{head_replies, no_part_put, idle_cause, noted_client}
 use Rattle.h1_forward_sides.specs.Puts.{Puts, HandsNext}
 use Rattle.h1_proxy.proofs.proxy.Proxy.take_head.Goals as goal
 
@@ -64,16 +64,16 @@ returns-in_ok-open-in-Head-clause-replies c =
 
 pub returns-in_ok-note_fault-in-Fault-clause-replies : goal.returns-in_ok-note_fault-in-Fault-clause-replies
 returns-in_ok-note_fault-in-Fault-clause-replies c =
-    no_head_put c.args.self.now _ (idle_cause c.args.self.now _ c.requires.idle)
+    no_part_put c.args.self.now _ (idle_cause c.args.self.now _ c.requires.idle)
     (subst (Puts [] c.args.self.now.client) (sym (noted_client (record c.args.self.now { client = c.next_head.new.client }) _ c.in_ok-note_fault-in-Fault.ensures.noted))
     (subst (λ (n : NextHead). HandsNext n c.args.self.now.client c.next_head.new.client) c.in-Fault.is c.in_ok-item.ensures.hands))
 
 pub returns-in-Pending-clause-replies : goal.returns-in-Pending-clause-replies
 returns-in-Pending-clause-replies c =
-    no_head_put c.args.self.now (record c.args.self.now { client = c.next_head.new.client }) (idle_cause c.args.self.now _ c.requires.idle)
+    no_part_put c.args.self.now (record c.args.self.now { client = c.next_head.new.client }) (idle_cause c.args.self.now _ c.requires.idle)
     (subst (λ (n : NextHead). HandsNext n c.args.self.now.client c.next_head.new.client) c.in-Pending.is c.in_ok-item.ensures.hands)
 
 pub returns-in-Closed-clause-replies : goal.returns-in-Closed-clause-replies
 returns-in-Closed-clause-replies c =
-    no_head_put c.args.self.now (record c.args.self.now { client = c.next_head.new.client }) (idle_cause c.args.self.now _ c.requires.idle)
+    no_part_put c.args.self.now (record c.args.self.now { client = c.next_head.new.client }) (idle_cause c.args.self.now _ c.requires.idle)
     (subst (λ (n : NextHead). HandsNext n c.args.self.now.client c.next_head.new.client) c.in-Closed.is c.in_ok-item.ensures.hands)

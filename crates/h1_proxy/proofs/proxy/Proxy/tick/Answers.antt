@@ -7,7 +7,7 @@ use Rattle.h1_proxy.proofs.Work.{rests_by}
 use Rattle.h1_proxy.proofs.EventMoves.{ticks}
 use Rattle.h1_proxy.specs.declared.proxy.Proxy.{Proxy}
 use Rattle.h1_proxy.proofs.Served.{serves_by, with_moment, event_serves}
-use Rattle.h1_proxy.proofs.Replies.{replies_by, client_no_head, no_head_moment}
+use Rattle.h1_proxy.proofs.Replies.{replies_by, client_nothing_put, nothing_moment}
 use Rattle.std.proofs.Common.{refl}
 use Rattle.h1_proxy.proofs.proxy.Proxy.tick.Goals as goal
 
@@ -39,4 +39,4 @@ pub returns-clause-replies : goal.returns-clause-replies
 returns-clause-replies c =
     let q : Proxy = record c.args.self.now { client = c.tick.new.self } in
     replies_by c.args.self.now (record q { moment = Some c.args.moment }) c.settle.new.self
-    (no_head_moment c.args.self.now q (Some c.args.moment) (client_no_head c.args.self.now (on.tick c.args.moment) _ c.tick.new.self c.in_ok-expiry.ensures.stands refl)) c.in_ok-settle.ensures.replies
+    (nothing_moment c.args.self.now q (Some c.args.moment) (client_nothing_put c.args.self.now (on.tick c.args.moment) _ c.tick.new.self c.in_ok-expiry.ensures.stands (λ o. refl))) c.in_ok-settle.ensures.replies
