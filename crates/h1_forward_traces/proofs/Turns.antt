@@ -78,7 +78,11 @@ module _ (theirs ours : Setting) where
       closed nothing rs server links x = tt
       closed (waits q size whole) [] server links x = absurd x
       closed (waits q size whole) (r ∷ rs) server links x = (tt, x.1)
-      closed (is_sent whole) rs server links x = tt
+      closed (is_sent whole) [] None links x = absurd x
+      closed (is_sent whole) [] (Some k) links x = absurd x
+      closed (is_sent whole) (r ∷ rs) None links x = x
+      closed (is_sent whole) (r ∷ rs) (Some k) [] x = absurd x
+      closed (is_sent whole) (r ∷ rs) (Some k) (l ∷ links) x = (x.moment, x.at)
 
   -- it did something of its own: nothing was written towards it
   pub keeps_server : (k : ForwarderKept) (a b : ClientKept) → Stays ours a b

@@ -71,7 +71,8 @@ abbrev pub IsUnderWay : UnderWay → List Request → Option ClientKept → List
 IsUnderWay nothing rs server links = IsIdle server links
 IsUnderWay (waits q size whole) [] server links = ⊥
 IsUnderWay (waits q size whole) (r ∷ rs) server links = IsIdle server links × IsWaiting q size whole r
-IsUnderWay (is_sent whole) rs None links = ⊤
+IsUnderWay (is_sent whole) [] None links = ⊥
+IsUnderWay (is_sent whole) (r ∷ rs) None links = (moment : ℕ) × (r.sent_at ≡ Some moment)
 IsUnderWay (is_sent whole) (r ∷ rs) (Some k) (l ∷ links) = IsSentOn whole r l
 IsUnderWay (is_sent whole) [] (Some k) links = ⊥
 IsUnderWay (is_sent whole) (r ∷ rs) (Some k) [] = ⊥
