@@ -31,15 +31,17 @@ use Rattle.h1_proxy.specs.Replies.{no_head, broken_body, not_forwardable, no_ans
 -- ---- one after another
 
 pub then_most : (heads : List Put) (a b c : State) → Puts [] a b → AtMost heads b c → AtMost heads a c
-then_most heads a b c first (inl x) = inl (then_none [] a b c first x)
+then_most heads a b c first (inl x) =
+    inl (record { there = x.there; before = then_none [] a b x.there first x.before; may_not = x.may_not; after = x.after })
 then_most heads a b c first (inr x) = inr (none_then heads a b c first x)
 
 pub most_then : (heads : List Put) (a b c : State) → AtMost heads a b → Puts [] b c → AtMost heads a c
-most_then heads a b c (inl x) second = inl (then_none [] a b c x second)
+most_then heads a b c (inl x) second =
+    inl (record { there = x.there; before = x.before; may_not = x.may_not; after = then_none [] x.there b c x.after second })
 most_then heads a b c (inr x) second = inr (then_none heads a b c x second)
 
 pub may_put : (put : Put) (a b : State) → MayPut put a b → AtMost (put ∷ []) a b
-may_put put a b (inl x) = inl (subst (Puts [] a) (sym x.1) (puts_none a))
+may_put put a b (inl x) = inl (record { there = a; before = puts_none a; may_not = x.0; after = subst (Puts [] a) (sym x.1) (puts_none a) })
 may_put put a b (inr x) = inr x
 
 pub same_puts : (a b : State) → b ≡ a → Puts [] a b
@@ -139,17 +141,17 @@ pub still_replies : (p : Proxy) → TurnReplies p p
 still_replies p = (
   no_head,
   λ sent s x is. waits_as p sent s s x.runs x.unanswered is (hands_same s),
-  inl (puts_none p.client),
+  inr (puts_none p.client),
 )
 
 -- ---- a turn
 
 pub no_head_put : (p q : Proxy) → HasCause no_head p q → Puts [] p.client q.client → TurnReplies p q
-no_head_put p q cause puts = (no_head, cause, inl puts)
+no_head_put p q cause puts = (no_head, cause, inr puts)
 
 pub body_replies : (p q : Proxy) (sent : Sent) (server : servers.State) → Runs sent p → PassesBody sent server p.client q
     → TurnReplies (record p { server = Some server }) q
-body_replies p q sent server runs (inl x) = (no_head, waits_cause p q sent server runs x.1, inl x.0)
+body_replies p q sent server runs (inl x) = (no_head, waits_cause p q sent server runs x.1, inr x.0)
 body_replies p q sent server runs (inr x) = (
   broken_body,
   (sent, record { runs = record { unsent = runs.unsent; sent = runs.sent }; unanswered = x.0 }, x.1, x.2, x.3),
@@ -166,7 +168,7 @@ fails_replies p q sent o runs lacks fails = by_mark sent.is_answered refl fails
   where
     by_mark : (t : Bool) → sent.is_answered ≡ t → Fails t p.client q.client → TurnReplies (record p { server = o }) q
     by_mark true is fails =
-        (no_head, answered_cause (record p { server = o }) q sent (record { unsent = runs.unsent; sent = runs.sent }) is, inl fails)
+        (no_head, answered_cause (record p { server = o }) q sent (record { unsent = runs.unsent; sent = runs.sent }) is, inr fails)
     by_mark false is fails =
         (no_answer, (sent, record { runs = record { unsent = runs.unsent; sent = runs.sent }; unanswered = is }, lacks), fails)
 
@@ -183,12 +185,12 @@ answer_replies p q sent s t item runs unanswered (a, says, read, tells) takes = 
       no_head,
       waits_cause p q sent s runs
           (λ _. waits_before s t q (tells_none (asked.answer a) s t (ap (λ (b : Bool). if b then a ∷ [] else []) x.0) tells) x.2),
-      inl x.1,
+      inr x.1,
     )
     by_use (inr (inr x)) = (passed_on sent.is_head a, (sent, waits, refl, (x.0, read, t, tells)), x.1)
 
 pub head_replies : (p q : Proxy) (item : HeadItem) (c : State) → IsIdle p → HandsHead (SaysHead item) p.client c → Opens item c q.client → TurnReplies p q
-head_replies p q item c idle hands (inl x) = (no_head, idle_cause p q idle, inl (then_none [] p.client c q.client (head_puts (SaysHead item) p.client c hands) x))
+head_replies p q item c idle hands (inl x) = (no_head, idle_cause p q idle, inr (then_none [] p.client c q.client (head_puts (SaysHead item) p.client c hands) x))
 head_replies p q item c idle hands (inr x) = (
   not_forwardable,
   (idle, c, λ trace stands. let y = hands trace stands in (y.0, x.0 y.0 y.1, y.2)),
@@ -337,6 +339,11 @@ replies_by by outcome p mid q goes event turns = record { mid = mid; goes = goes
 
 -- no server connection is to be had
 pub refuses_by : (p a b mid q : Proxy) → GoesBy past.refused past.done p mid → a.client ≡ p.client → b.client ≡ a.client → AtMost (own 502 ∷ []) b.client mid.client
-    → HasReplied mid q → RepliesRefused p q
-refuses_by p a b mid q goes first second puts turns =
-    record { mid = mid; goes = goes; puts = subst (λ (s : State). AtMost (own 502 ∷ []) s mid.client) (second ∙ first) puts; turns = turns }
+    → IsIdle mid → HasReplied mid q → RepliesRefused p q
+refuses_by p a b mid q goes first second puts idle turns = record {
+  mid = mid;
+  goes = goes;
+  idle = idle;
+  puts = subst (λ (s : State). AtMost (own 502 ∷ []) s mid.client) (second ∙ first) puts;
+  turns = turns;
+}

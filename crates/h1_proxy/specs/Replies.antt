@@ -4,10 +4,12 @@ use Rattle.http_config.specs.Config.{Settings}
 use Rattle.h1_model.specs.Answer.{size_of}
 use Rattle.h1_model.specs.Event as on
 use Rattle.h1_model.specs.Request.{Head}
+use Rattle.h1_machine.specs.Local.{allowed_by}
 use Rattle.h1_decode.specs.HeadItem.{SaysHead}
 use Rattle.h1_decode.specs.ResponseItem.{SaysAnswer}
 use Rattle.h1_decode.specs.declared.decoder.HeadItem.{HeadItem}
 use Rattle.h1_decode.specs.declared.response.ResponseItem.{ResponseItem}
+use Rattle.h1_connection.specs.Meaning.{setting_of}
 use Rattle.h1_connection.specs.State.{State}
 use Rattle.h1_client_model.specs.AnswerReading.{Answer}
 use Rattle.h1_client_machine.specs.ClientEvent as asked
@@ -42,9 +44,21 @@ heads_of not_forwardable = own 501 ∷ []
 heads_of no_answer = own 502 ∷ []
 heads_of (passed_on is_head a) = passed is_head a ∷ []
 
--- at most these heads were put: none is where none may be
+-- the first of these heads may not be put
+abbrev pub MayNotPut : List Put → State → Type 0
+MayNotPut [] s = ⊤
+MayNotPut (put ∷ more) s = allowed_by (setting_of s.settings) s.kept (on.answer put.head put.size) ≡ false
+
+-- none of these heads was put, since the first may not be
+pub record PutsNone (heads : List Put) (old new : State) : Type 0 where
+  pub there : State
+  pub before : Puts [] old there
+  pub may_not : MayNotPut heads there
+  pub after : Puts [] there new
+
+-- at most these heads were put: none is only where none may be
 abbrev pub AtMost : List Put → State → State → Type 0
-AtMost heads old new = Puts [] old new ⊎ Puts heads old new
+AtMost heads old new = PutsNone heads old new ⊎ Puts heads old new
 
 -- ---- why
 
@@ -135,10 +149,11 @@ pub record Replies (by : event.ProxyEvent) (outcome : event.ProxyOutcome) (old n
   pub event : PutsNoHead by old mid
   pub turns : HasReplied mid new
 
--- a server connection is refused for a request that waits: it gets 502
+-- a server connection is refused for a request that waits: it gets 502, and is under way no more
 pub record RepliesRefused (old new : Proxy) : Type 0 where
   pub mid : Proxy
   pub goes : GoesBy event.refused event.done old mid
+  pub idle : IsIdle mid
   pub puts : AtMost (own 502 ∷ []) old.client mid.client
   pub turns : HasReplied mid new
 

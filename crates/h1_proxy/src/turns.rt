@@ -514,6 +514,7 @@ impl Proxy {
         ensures works { OnOk result (LeavesLess 0 self.old self.new) }
         ensures serves { OnOk result (IsIdle self.old → HasNoReply self.old → Serving self.new) }
         ensures replies { OnOk result (AtMost (own (status_of refusal) ∷ []) self.old.client self.new.client) }
+        ensures idle { OnOk result (IsIdle self.old → IsIdle self.new) }
     {
         leave_body(&mut self.client);
         let head = refusal.head(self.alloc);

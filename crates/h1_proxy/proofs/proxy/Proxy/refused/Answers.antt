@@ -55,4 +55,6 @@ returns-clause-replies c =
     (by_then event.refused done p c.note_unsent.new.self c.reply.new.self
     (by_then event.refused done p mid c.note_unsent.new.self (refuses p c.requires.wants_server) noted) c.in_ok-reply.ensures.goes)
     refl (noted_client a c.note_unsent.new.self c.note_unsent.ensures.noted)
-    c.in_ok-reply.ensures.replies c.in_ok-settle.ensures.replies
+    c.in_ok-reply.ensures.replies
+    (c.in_ok-reply.ensures.idle (noted_idle a _ c.note_unsent.ensures.noted (record { unsent = c.take-unsent.ensures.after; sent = refl })))
+    c.in_ok-settle.ensures.replies

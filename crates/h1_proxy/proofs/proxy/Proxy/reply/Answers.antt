@@ -2,7 +2,7 @@ use Rattle.std.proofs.Common.{refl}
 use Rattle.h1_proxy.proofs.Moves.{goes_then, client_done}
 use Rattle.h1_model.specs.Event as on
 use Rattle.h1_proxy.proofs.Work.{less_then, client_less, noted_less}
-use Rattle.h1_proxy.proofs.Served.{noted_serves, idle_serves, head_put}
+use Rattle.h1_proxy.proofs.Served.{noted_idle, noted_serves, idle_serves, head_put}
 use Rattle.std.proofs.Common.{subst}
 use Rattle.h1_proxy.proofs.Replies.{then_most, may_put, most_as, noted_client}
 use Rattle.h1_proxy.specs.Replies.{own}
@@ -38,3 +38,8 @@ returns-clause-replies c =
     (then_most _ c.args.self.now.client c.leave_body.new.client c.put_head.new.client c.leave_body.ensures.puts
     (may_put (own (status_of c.args.refusal)) c.leave_body.new.client c.put_head.new.client
     (subst (λ (h : AnswerHead). MayPut (record { head = h; size = size_of 0 }) c.leave_body.new.client c.put_head.new.client) c.head-head.ensures c.in_ok-put_head.ensures.puts)))
+
+pub returns-clause-idle : goal.returns-clause-idle
+returns-clause-idle c = λ idle.
+    noted_idle (record c.args.self.now { client = c.put_head.new.client }) _ c.in_ok-note_reply.ensures.noted
+    (record { unsent = idle.unsent; sent = idle.sent })
