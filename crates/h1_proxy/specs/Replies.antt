@@ -42,7 +42,7 @@ heads_of not_forwardable = own 501 ∷ []
 heads_of no_answer = own 502 ∷ []
 heads_of (passed_on is_head a) = passed is_head a ∷ []
 
--- at most these heads were put: none is where none may be
+-- these heads were put, or none was
 abbrev pub AtMost : List Put → State → State → Type 0
 AtMost heads old new = Puts [] old new ⊎ Puts heads old new
 
