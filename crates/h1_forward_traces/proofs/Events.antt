@@ -153,15 +153,15 @@ module _ (theirs ours : Setting) where
       under : (u : UnderWay) (rs : List Request) (l : Link) (links : List Link) → IsUnderWay u rs (Some s) (l ∷ links)
           → IsUnderWay u rs (Some t) (stepped l ∷ links)
       under nothing rs l links y = y
-      under (waits q size whole) [] l links y = absurd y
-      under (waits q size whole) (r ∷ rs) l links y = y
-      under (is_sent whole) [] l links y = absurd y
-      under (is_sent whole) (r ∷ rs) l links y = record {
+      under (waits q size whole broken) [] l links y = absurd y
+      under (waits q size whole broken) (r ∷ rs) l links y = y
+      under (is_sent whole broken) [] l links y = absurd y
+      under (is_sent whole broken) (r ∷ rs) l links y = record {
         moment = y.moment;
         at = y.at;
         before = y.before;
         sent = y.sent;
-        whole = y.whole;
+        marked = y.marked;
         body = λ body is. y.body body (sym (adds.sending (sending_of l.happened)) ∙ is);
       }
 
@@ -208,10 +208,10 @@ module _ (theirs ours : Setting) where
 
   -- ---- a new connection to a server
 
-  pub by_connected : (q : ClientRequest) (size : BodySize) (whole : Bool) (kept : Kept)
-      → KeepsBy theirs ours connected done (record { client = kept; server = None; under_way = waits q size whole })
-      (record { client = kept; server = Some fresh_client; under_way = waits q size whole })
-  by_connected q size whole kept = λ history all x.
+  pub by_connected : (q : ClientRequest) (size : BodySize) (whole broken : Bool) (kept : Kept)
+      → KeepsBy theirs ours connected done (record { client = kept; server = None; under_way = waits q size whole broken })
+      (record { client = kept; server = Some fresh_client; under_way = waits q size whole broken })
+  by_connected q size whole broken kept = λ history all x.
       let l : Link = record { happened = []; sent = [] } in
       let new : Happenings = record all { links = l ∷ all.links } in (
         new,
@@ -232,8 +232,8 @@ module _ (theirs ours : Setting) where
         },
       )
     where
-      under : (rs : List Request) (links : List Link) → IsUnderWay (waits q size whole) rs None links
-          → IsUnderWay (waits q size whole) rs (Some fresh_client) (record { happened = []; sent = [] } ∷ links)
+      under : (rs : List Request) (links : List Link) → IsUnderWay (waits q size whole broken) rs None links
+          → IsUnderWay (waits q size whole broken) rs (Some fresh_client) (record { happened = []; sent = [] } ∷ links)
       under [] links y = absurd y
       under (r ∷ rs) links y = (tt, y.1)
 

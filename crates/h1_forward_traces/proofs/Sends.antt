@@ -117,16 +117,16 @@ module _ (theirs ours : Setting) where
   still : (trace : List Step) → HasBrought on.done trace trace
   still trace = record { taken = refl; written = refl; moment = refl; pulled = sym (nothing_more on.done done_brings_nothing (pulled trace)) }
 
-  pub keeps_asked : (q : ClientRequest) (size : BodySize) (whole : Bool) (client : Kept) (s t : ClientKept)
+  pub keeps_asked : (q : ClientRequest) (size : BodySize) (whole broken : Bool) (client : Kept) (s t : ClientKept)
       → IsTrue (client_allows ours s (asked.ask q size)) → IsClientStep ours s (asked.ask q size) asked.done t
-      → Keeps theirs ours (record { client = client; server = Some s; under_way = waits q size whole })
-      (record { client = client; server = Some t; under_way = is_sent whole })
-  keeps_asked q size whole client s t allowed step = λ history all x. sends history all all.requests all.links refl refl x x.server x.under_way
+      → Keeps theirs ours (record { client = client; server = Some s; under_way = waits q size whole broken })
+      (record { client = client; server = Some t; under_way = is_sent whole broken })
+  keeps_asked q size whole broken client s t allowed step = λ history all x. sends history all all.requests all.links refl refl x x.server x.under_way
     where
       sends : (history : List ProxyStep) (all : Happenings) (rs : List Request) (links : List Link) → all.requests ≡ rs → all.links ≡ links
-          → Carries theirs ours (record { client = client; server = Some s; under_way = waits q size whole }) history all
-          → IsServer ours (Some s) links → IsUnderWay (waits q size whole) rs (Some s) links
-          → (after : Happenings) × Carries theirs ours (record { client = client; server = Some t; under_way = is_sent whole }) history after
+          → Carries theirs ours (record { client = client; server = Some s; under_way = waits q size whole broken }) history all
+          → IsServer ours (Some s) links → IsUnderWay (waits q size whole broken) rs (Some s) links
+          → (after : Happenings) × Carries theirs ours (record { client = client; server = Some t; under_way = is_sent whole broken }) history after
       sends history all [] links rs_are links_are x server under = absurd under
       sends history all (r ∷ rs) [] rs_are links_are x server under = absurd server
       sends history all (r ∷ rs) (l ∷ links) rs_are links_are x server (idle, w) =
@@ -136,7 +136,7 @@ module _ (theirs ours : Setting) where
           let link = (subst (AllByRecursion (IsLink ours)) links_are x.forwarded.sent.links).0 in
           let none : r.pulled.pieces ≡ [] = ap (λ (p : Pulled). p.pieces) w.untaken in
           let is_ended : r.pulled.is_ended ≡ not (has_body r.pulled.head.body) = ap (λ (p : Pulled). p.is_ended) w.untaken in
-          changed theirs ours on.done client client s t (waits q size whole) (is_sent whole) r r' rs l m links history all all.client rs_are links_are x x.stands
+          changed theirs ours on.done client client s t (waits q size whole broken) (is_sent whole broken) r r' rs l m links history all all.client rs_are links_are x x.stands
           (still all.client) refl refl
           (quiet_server l (asked.ask q size) asked.done (sent_of r.pulled moment ∷ l.sent) refl refl refl)
           (ap (λ (ss : List Sent). sent_of r.pulled moment ∷ ss)
@@ -152,7 +152,7 @@ module _ (theirs ours : Setting) where
             at = refl;
             before = l.sent;
             sent = refl;
-            whole = λ is. is_ended ∙ sym w.whole ∙ is;
+            marked = record { whole = w.whole ∙ sym is_ended; broken = w.unbroken ∙ sym (ap (λ (p : Pulled). p.is_broken) w.untaken) };
             body = λ body is.
                 let b = begun r.pulled.head.body body (sym (ap begun_body w.sized) ∙ is) in
                 record {
@@ -168,15 +168,15 @@ module _ (theirs ours : Setting) where
   -- ---- more of it
 
   -- what was taken of its body is put behind it
-  pub keeps_piece : (bytes : List ℕ) (whole : Bool) (a b : Kept) (s t : ClientKept) → Brings theirs (on.bytes bytes) a b
+  pub keeps_piece : (bytes : List ℕ) (whole broken : Bool) (a b : Kept) (s t : ClientKept) → Brings theirs (on.bytes bytes) a b
       → IsTrue (client_allows ours s (asked.chunk bytes)) → IsClientStep ours s (asked.chunk bytes) asked.done t
-      → Keeps theirs ours (record { client = a; server = Some s; under_way = is_sent whole }) (record { client = b; server = Some t; under_way = is_sent whole })
-  keeps_piece bytes whole a b s t brings allowed step = λ history all x. sends history all all.requests all.links refl refl x x.server x.under_way
+      → Keeps theirs ours (record { client = a; server = Some s; under_way = is_sent whole broken }) (record { client = b; server = Some t; under_way = is_sent whole broken })
+  keeps_piece bytes whole broken a b s t brings allowed step = λ history all x. sends history all all.requests all.links refl refl x x.server x.under_way
     where
       sends : (history : List ProxyStep) (all : Happenings) (rs : List Request) (links : List Link) → all.requests ≡ rs → all.links ≡ links
-          → Carries theirs ours (record { client = a; server = Some s; under_way = is_sent whole }) history all
-          → IsServer ours (Some s) links → IsUnderWay (is_sent whole) rs (Some s) links
-          → (after : Happenings) × Carries theirs ours (record { client = b; server = Some t; under_way = is_sent whole }) history after
+          → Carries theirs ours (record { client = a; server = Some s; under_way = is_sent whole broken }) history all
+          → IsServer ours (Some s) links → IsUnderWay (is_sent whole broken) rs (Some s) links
+          → (after : Happenings) × Carries theirs ours (record { client = b; server = Some t; under_way = is_sent whole broken }) history after
       sends history all [] links rs_are links_are x server under = absurd under
       sends history all (r ∷ rs) [] rs_are links_are x server under = absurd server
       sends history all (r ∷ rs) (l ∷ links) rs_are links_are x server u =
@@ -188,7 +188,7 @@ module _ (theirs ours : Setting) where
           let sending = chunk_sends ours s bytes allowed in
           let is_sending : sending_of l.happened ≡ Some sending.0 = sym (is_text ours l.happened s server).sending ∙ sending.1 in
           let body = u.body sending.0 is_sending in
-          changed theirs ours (on.bytes bytes) a b s t (is_sent whole) (is_sent whole) r r' rs l m links history all did.0 rs_are links_are x did.1
+          changed theirs ours (on.bytes bytes) a b s t (is_sent whole broken) (is_sent whole broken) r r' rs l m links history all did.0 rs_are links_are x did.1
           did.2 refl refl
           (quiet_server l (asked.chunk bytes) asked.done (sent_of p u.moment ∷ u.before) refl refl refl)
           (resent r.pulled p r.sent_at u.moment (all_sent rs) l.sent u.before (flat_map (λ (l : Link). l.sent) links) u.at u.sent
@@ -208,7 +208,7 @@ module _ (theirs ours : Setting) where
             at = u.at;
             before = u.before;
             sent = refl;
-            whole = u.whole;
+            marked = record { whole = u.marked.whole; broken = u.marked.broken };
             body = λ next is.
                 let after : Some (record sending.0 { missing = sending.0.missing - length bytes }) ≡ Some next =
                 sym (ap (body_after bytes) is_sending) ∙ is in
@@ -223,15 +223,15 @@ module _ (theirs ours : Setting) where
           })
 
   -- its body has ended
-  pub keeps_end : (whole : Bool) (a b : Kept) (s t : ClientKept) → Brings theirs on.body_ended a b
+  pub keeps_end : (whole broken : Bool) (a b : Kept) (s t : ClientKept) → Brings theirs on.body_ended a b
       → IsTrue (client_allows ours s asked.body_end) → IsClientStep ours s asked.body_end asked.done t
-      → Keeps theirs ours (record { client = a; server = Some s; under_way = is_sent whole }) (record { client = b; server = Some t; under_way = is_sent true })
-  keeps_end whole a b s t brings allowed step = λ history all x. sends history all all.requests all.links refl refl x x.server x.under_way
+      → Keeps theirs ours (record { client = a; server = Some s; under_way = is_sent whole broken }) (record { client = b; server = Some t; under_way = is_sent true broken })
+  keeps_end whole broken a b s t brings allowed step = λ history all x. sends history all all.requests all.links refl refl x x.server x.under_way
     where
       sends : (history : List ProxyStep) (all : Happenings) (rs : List Request) (links : List Link) → all.requests ≡ rs → all.links ≡ links
-          → Carries theirs ours (record { client = a; server = Some s; under_way = is_sent whole }) history all
-          → IsServer ours (Some s) links → IsUnderWay (is_sent whole) rs (Some s) links
-          → (after : Happenings) × Carries theirs ours (record { client = b; server = Some t; under_way = is_sent true }) history after
+          → Carries theirs ours (record { client = a; server = Some s; under_way = is_sent whole broken }) history all
+          → IsServer ours (Some s) links → IsUnderWay (is_sent whole broken) rs (Some s) links
+          → (after : Happenings) × Carries theirs ours (record { client = b; server = Some t; under_way = is_sent true broken }) history after
       sends history all [] links rs_are links_are x server under = absurd under
       sends history all (r ∷ rs) [] rs_are links_are x server under = absurd server
       sends history all (r ∷ rs) (l ∷ links) rs_are links_are x server u =
@@ -243,7 +243,7 @@ module _ (theirs ours : Setting) where
           let sending = end_sends ours s allowed in
           let is_sending : sending_of l.happened ≡ Some sending.0 = sym (is_text ours l.happened s server).sending ∙ sending.1 in
           let body = u.body sending.0 is_sending in
-          changed theirs ours on.body_ended a b s t (is_sent whole) (is_sent true) r r' rs l m links history all did.0 rs_are links_are x did.1
+          changed theirs ours on.body_ended a b s t (is_sent whole broken) (is_sent true broken) r r' rs l m links history all did.0 rs_are links_are x did.1
           did.2 refl refl
           (quiet_server l asked.body_end asked.done (sent_of p u.moment ∷ u.before) refl refl refl)
           (resent r.pulled p r.sent_at u.moment (all_sent rs) l.sent u.before (flat_map (λ (l : Link). l.sent) links) u.at u.sent
@@ -262,19 +262,19 @@ module _ (theirs ours : Setting) where
             at = u.at;
             before = u.before;
             sent = refl;
-            whole = λ is. refl;
+            marked = record { whole = refl; broken = u.marked.broken };
             body = λ next is. let none : None ≡ Some next = is in cc;
           })
 
   -- its body broke, or was cut
-  pub keeps_broken : (fault : on.BodyFault) (whole : Bool) (a b : Kept) (s : ClientKept) → Brings theirs (on.broken_by fault) a b
-      → Keeps theirs ours (record { client = a; server = Some s; under_way = is_sent whole }) (record { client = b; server = Some s; under_way = is_sent whole })
-  keeps_broken fault whole a b s brings = λ history all x. breaks history all all.requests all.links refl refl x x.server x.under_way
+  pub keeps_broken : (fault : on.BodyFault) (whole broken : Bool) (a b : Kept) (s : ClientKept) → Brings theirs (on.broken_by fault) a b
+      → Keeps theirs ours (record { client = a; server = Some s; under_way = is_sent whole broken }) (record { client = b; server = Some s; under_way = is_sent whole true })
+  keeps_broken fault whole broken a b s brings = λ history all x. breaks history all all.requests all.links refl refl x x.server x.under_way
     where
       breaks : (history : List ProxyStep) (all : Happenings) (rs : List Request) (links : List Link) → all.requests ≡ rs → all.links ≡ links
-          → Carries theirs ours (record { client = a; server = Some s; under_way = is_sent whole }) history all
-          → IsServer ours (Some s) links → IsUnderWay (is_sent whole) rs (Some s) links
-          → (after : Happenings) × Carries theirs ours (record { client = b; server = Some s; under_way = is_sent whole }) history after
+          → Carries theirs ours (record { client = a; server = Some s; under_way = is_sent whole broken }) history all
+          → IsServer ours (Some s) links → IsUnderWay (is_sent whole broken) rs (Some s) links
+          → (after : Happenings) × Carries theirs ours (record { client = b; server = Some s; under_way = is_sent whole true }) history after
       breaks history all [] links rs_are links_are x server under = absurd under
       breaks history all (r ∷ rs) [] rs_are links_are x server under = absurd server
       breaks history all (r ∷ rs) (l ∷ links) rs_are links_are x server u =
@@ -283,7 +283,7 @@ module _ (theirs ours : Setting) where
           let r' : Request = record { pulled = p; sent_at = r.sent_at } in
           let m : Link = record { happened = l.happened; sent = sent_of p u.moment ∷ u.before } in
           let link = (subst (AllByRecursion (IsLink ours)) links_are x.forwarded.sent.links).0 in
-          changed theirs ours (on.broken_by fault) a b s s (is_sent whole) (is_sent whole) r r' rs l m links history all did.0 rs_are links_are x did.1
+          changed theirs ours (on.broken_by fault) a b s s (is_sent whole broken) (is_sent whole true) r r' rs l m links history all did.0 rs_are links_are x did.1
           did.2 refl refl
           refl
           (resent r.pulled p r.sent_at u.moment (all_sent rs) l.sent u.before (flat_map (λ (l : Link). l.sent) links) u.at u.sent
@@ -299,6 +299,6 @@ module _ (theirs ours : Setting) where
             at = u.at;
             before = u.before;
             sent = refl;
-            whole = u.whole;
+            marked = record { whole = u.marked.whole; broken = refl };
             body = λ next is. let y = u.body next is in record { unended = y.unended; shape = y.shape; missing = y.missing };
           })

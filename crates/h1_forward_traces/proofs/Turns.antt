@@ -1,5 +1,5 @@
 -- What a forwarder keeps stays that of all that happened, whatever it does between two events.
-use Rattle.std.proofs.Common.{◌≡◌, ℕ, Bool, true, not, List, [], ◌∷◌, map, flat_map, Option, Some, None, refl, sym, ap, ◌∙◌, subst}
+use Rattle.std.proofs.Common.{◌≡◌, ℕ, Bool, true, false, not, List, [], ◌∷◌, map, flat_map, Option, Some, None, refl, sym, ap, ◌∙◌, subst}
 use Rattle.std.specs.List.{AllByRecursion}
 use Rattle.h1_model.specs.Setting.{Setting}
 use Rattle.h1_model.specs.Request.{Head, has_body}
@@ -76,9 +76,13 @@ module _ (theirs ours : Setting) where
     where
       closed : (u : UnderWay) (rs : List Request) (server : Option ClientKept) (links : List Link) → IsUnderWay u rs server links → IsUnderWay u rs None links
       closed nothing rs server links x = tt
-      closed (waits q size whole) [] server links x = absurd x
-      closed (waits q size whole) (r ∷ rs) server links x = (tt, x.1)
-      closed (is_sent whole) rs server links x = tt
+      closed (waits q size whole broken) [] server links x = absurd x
+      closed (waits q size whole broken) (r ∷ rs) server links x = (tt, x.1)
+      closed (is_sent whole broken) [] None links x = absurd x
+      closed (is_sent whole broken) [] (Some k) links x = absurd x
+      closed (is_sent whole broken) (r ∷ rs) None links x = x
+      closed (is_sent whole broken) (r ∷ rs) (Some k) [] x = absurd x
+      closed (is_sent whole broken) (r ∷ rs) (Some k) (l ∷ links) x = (x.moment, x.at, x.marked)
 
   -- it did something of its own: nothing was written towards it
   pub keeps_server : (k : ForwarderKept) (a b : ClientKept) → Stays ours a b
@@ -133,15 +137,15 @@ module _ (theirs ours : Setting) where
           under : (u : UnderWay) (rs : List Request) → IsUnderWay u rs (Some a) (l ∷ links)
               → IsUnderWay u rs (Some b) (changed l (stays l.happened (subst (IsServer ours (Some a)) is x.server)).0 ∷ links)
           under nothing rs y = y
-          under (waits q size whole) [] y = absurd y
-          under (waits q size whole) (r ∷ rs) y = y
-          under (is_sent whole) [] y = absurd y
-          under (is_sent whole) (r ∷ rs) y = record {
+          under (waits q size whole broken) [] y = absurd y
+          under (waits q size whole broken) (r ∷ rs) y = y
+          under (is_sent whole broken) [] y = absurd y
+          under (is_sent whole broken) (r ∷ rs) y = record {
             moment = y.moment;
             at = y.at;
             before = y.before;
             sent = y.sent;
-            whole = y.whole;
+            marked = y.marked;
             body = λ body says. y.body body (sym (stays l.happened (subst (IsServer ours (Some a)) is x.server)).2.sending ∙ says);
           }
 
@@ -177,17 +181,18 @@ module _ (theirs ours : Setting) where
       none_pulled (p ∷ ps) = refl
 
   -- it waits to be sent on
-  pub keeps_waiting : (h : Head) (q : ClientRequest) (size : BodySize) (whole : Bool) (client : Kept) (server : Option ClientKept) → is_forwardable h ≡ true
+  pub keeps_waiting : (h : Head) (q : ClientRequest) (size : BodySize) (whole broken : Bool) (client : Kept) (server : Option ClientKept) → is_forwardable h ≡ true
       → q.head.method ≡ h.method
       → whole ≡ not (has_body h.body)
+      → broken ≡ false
       → size ≡ forwarded_size h.body
       → ((moment : ℕ) → request_text q.head (asked_shape size) size q.connection moment ≡ given_request_text (forwarded (sent_of (unpulled h) moment)))
       → (history : List ProxyStep) (all : Happenings) → Carries theirs ours (record { client = client; server = server; under_way = nothing }) history all
-      → IsNewest h all → Carries theirs ours (record { client = client; server = server; under_way = waits q size whole }) history all
-  keeps_waiting h q size whole client server may method is_whole sized text history all x newest = record {
+      → IsNewest h all → Carries theirs ours (record { client = client; server = server; under_way = waits q size whole broken }) history all
+  keeps_waiting h q size whole broken client server may method is_whole unbroken sized text history all x newest = record {
     stands = x.stands;
     server = x.server;
-    under_way = subst (λ (rs : List Request). IsUnderWay (waits q size whole) rs server all.links) (sym newest.are) (
+    under_way = subst (λ (rs : List Request). IsUnderWay (waits q size whole broken) rs server all.links) (sym newest.are) (
       x.under_way,
       record {
         unsent = newest.unsent;
@@ -195,6 +200,7 @@ module _ (theirs ours : Setting) where
         forwardable = ap (λ (p : Pulled). is_forwardable p.head) newest.pulled ∙ may;
         method = method ∙ sym (ap (λ (p : Pulled). p.head.method) newest.pulled);
         whole = is_whole ∙ sym (ap (λ (p : Pulled). not (has_body p.head.body)) newest.pulled);
+        unbroken = unbroken;
         sized = sized ∙ sym (ap (λ (p : Pulled). forwarded_size p.head.body) newest.pulled);
         text = λ moment. text moment ∙ sym (ap (λ (p : Pulled). given_request_text (forwarded (sent_of p moment))) newest.pulled);
       },
@@ -203,29 +209,29 @@ module _ (theirs ours : Setting) where
   }
 
   -- it isn't waited for any more
-  pub keeps_refused : (q : ClientRequest) (size : BodySize) (whole : Bool) (client : Kept) (server : Option ClientKept)
-      → Keeps theirs ours (record { client = client; server = server; under_way = waits q size whole }) (record { client = client; server = server; under_way = nothing })
-  keeps_refused q size whole client server = λ history all x. (
+  pub keeps_refused : (q : ClientRequest) (size : BodySize) (whole broken : Bool) (client : Kept) (server : Option ClientKept)
+      → Keeps theirs ours (record { client = client; server = server; under_way = waits q size whole broken }) (record { client = client; server = server; under_way = nothing })
+  keeps_refused q size whole broken client server = λ history all x. (
     all,
     record { stands = x.stands; server = x.server; under_way = idle all.links all.requests x.under_way; forwarded = x.forwarded },
   )
     where
-      idle : (links : List Link) (rs : List Request) → IsUnderWay (waits q size whole) rs server links → IsIdle server links
+      idle : (links : List Link) (rs : List Request) → IsUnderWay (waits q size whole broken) rs server links → IsIdle server links
       idle links [] y = absurd y
       idle links (r ∷ rs) y = y.0
 
   -- its server connection is closed
-  pub keeps_left : (whole : Bool) (client : Kept)
-      → Keeps theirs ours (record { client = client; server = None; under_way = is_sent whole }) (record { client = client; server = None; under_way = nothing })
-  keeps_left whole client = λ history all x. (
+  pub keeps_left : (whole broken : Bool) (client : Kept)
+      → Keeps theirs ours (record { client = client; server = None; under_way = is_sent whole broken }) (record { client = client; server = None; under_way = nothing })
+  keeps_left whole broken client = λ history all x. (
     all,
     record { stands = x.stands; server = tt; under_way = tt; forwarded = x.forwarded },
   )
 
   -- it is whole, and its answer
-  pub keeps_whole : (client : Kept) (server : Option ClientKept)
-      → Keeps theirs ours (record { client = client; server = server; under_way = is_sent true }) (record { client = client; server = server; under_way = nothing })
-  keeps_whole client server = λ history all x. (
+  pub keeps_whole : (broken : Bool) (client : Kept) (server : Option ClientKept)
+      → Keeps theirs ours (record { client = client; server = server; under_way = is_sent true broken }) (record { client = client; server = server; under_way = nothing })
+  keeps_whole broken client server = λ history all x. (
     all,
     record {
       stands = x.stands;
@@ -235,13 +241,13 @@ module _ (theirs ours : Setting) where
     },
   )
     where
-      idle : (server : Option ClientKept) (rs : List Request) (links : List Link) → IsUnderWay (is_sent true) rs server links → AllByRecursion (IsLink ours) links
+      idle : (server : Option ClientKept) (rs : List Request) (links : List Link) → IsUnderWay (is_sent true broken) rs server links → AllByRecursion (IsLink ours) links
           → IsIdle server links
       idle None rs links y all = tt
       idle (Some k) [] links y all = absurd y
       idle (Some k) (r ∷ rs) [] y all = absurd y
       idle (Some k) (r ∷ rs) (l ∷ links) y all =
-          subst AreWhole (sym y.sent) (y.whole refl, subst AreWholeBehind y.sent all.0.whole)
+          subst AreWhole (sym y.sent) (sym y.marked.whole, subst AreWholeBehind y.sent all.0.whole)
 
   -- ---- the newest request and the connection that is there, together
 

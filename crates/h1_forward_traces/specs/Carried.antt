@@ -16,11 +16,11 @@ use Rattle.h1_forward_model.specs.Exchange.{Pulled, unpulled}
 use Rattle.h1_forward_traces.specs.Happenings.{Request, Link, Happenings, sent_of, AreWhole, IsForwardedBy}
 
 -- The newest request of the client: there is none that is under way; it waits to be sent on as this request, with a body of this size,
--- and whether it is whole without one; or it was sent on, and whether the end of its body was.
+-- whether it is whole, since it has none, and whether its body broke; or it was sent on, whether the end of its body was, and whether that broke.
 pub data UnderWay : Type 0 where
   nothing : UnderWay
-  waits : ClientRequest → BodySize → Bool → UnderWay
-  is_sent : Bool → UnderWay
+  waits : ClientRequest → BodySize → Bool → Bool → UnderWay
+  is_sent : Bool → Bool → UnderWay
 
 -- The client's connection, the one to a server, if there is one, and the request that is under way.
 pub record ForwarderKept : Type 0 where
@@ -43,12 +43,13 @@ IsIdle (Some k) [] = ⊥
 IsIdle (Some k) (l ∷ links) = AreWhole l.sent
 
 -- The text of this request is that of what is to be sent on for the client's, of which nothing was taken or sent.
-pub record IsWaiting (q : ClientRequest) (size : BodySize) (is_whole : Bool) (r : Request) : Type 0 where
+pub record IsWaiting (q : ClientRequest) (size : BodySize) (is_whole is_broken : Bool) (r : Request) : Type 0 where
   pub unsent : r.sent_at ≡ None
   pub untaken : r.pulled ≡ unpulled r.pulled.head
   pub forwardable : is_forwardable r.pulled.head ≡ true
   pub method : q.head.method ≡ r.pulled.head.method
   pub whole : is_whole ≡ not (has_body r.pulled.head.body)
+  pub unbroken : is_broken ≡ false
   pub sized : size ≡ forwarded_size r.pulled.head.body
   pub text : (moment : ℕ) → request_text q.head (asked_shape size) size q.connection moment ≡ given_request_text (forwarded (sent_of r.pulled moment))
 
@@ -58,25 +59,31 @@ pub record IsSending (p : Pulled) (body : SendingBody) : Type 0 where
   pub shape : body.shape ≡ asked_shape (forwarded_size p.head.body)
   pub missing : body.missing ≡ stated (asked_shape (forwarded_size p.head.body)) - length (joined p.pieces)
 
+-- the marks say of the body what was taken of it: its end, and that it broke or was cut
+pub record IsMarked (is_whole is_broken : Bool) (p : Pulled) : Type 0 where
+  pub whole : is_whole ≡ p.is_ended
+  pub broken : is_broken ≡ p.is_broken
+
 -- the newest request was sent on as the newest of this connection
-pub record IsSentOn (is_whole : Bool) (r : Request) (l : Link) : Type 0 where
+pub record IsSentOn (is_whole is_broken : Bool) (r : Request) (l : Link) : Type 0 where
   pub moment : ℕ
   pub at : r.sent_at ≡ Some moment
   pub before : List Sent
   pub sent : l.sent ≡ sent_of r.pulled moment ∷ before
-  pub whole : is_whole ≡ true → r.pulled.is_ended ≡ true
+  pub marked : IsMarked is_whole is_broken r.pulled
   pub body : (body : SendingBody) → sending_of l.happened ≡ Some body → IsSending r.pulled body
 
 abbrev pub IsUnderWay : UnderWay → List Request → Option ClientKept → List Link → Type 0
 IsUnderWay nothing rs server links = IsIdle server links
-IsUnderWay (waits q size whole) [] server links = ⊥
-IsUnderWay (waits q size whole) (r ∷ rs) server links = IsIdle server links × IsWaiting q size whole r
-IsUnderWay (is_sent whole) rs None links = ⊤
-IsUnderWay (is_sent whole) (r ∷ rs) (Some k) (l ∷ links) = IsSentOn whole r l
-IsUnderWay (is_sent whole) [] (Some k) links = ⊥
-IsUnderWay (is_sent whole) (r ∷ rs) (Some k) [] = ⊥
+IsUnderWay (waits q size whole broken) [] server links = ⊥
+IsUnderWay (waits q size whole broken) (r ∷ rs) server links = IsIdle server links × IsWaiting q size whole broken r
+IsUnderWay (is_sent whole broken) [] None links = ⊥
+IsUnderWay (is_sent whole broken) (r ∷ rs) None links = (moment : ℕ) × (r.sent_at ≡ Some moment) × IsMarked whole broken r.pulled
+IsUnderWay (is_sent whole broken) (r ∷ rs) (Some k) (l ∷ links) = IsSentOn whole broken r l
+IsUnderWay (is_sent whole broken) [] (Some k) links = ⊥
+IsUnderWay (is_sent whole broken) (r ∷ rs) (Some k) [] = ⊥
 
--- What a forwarder keeps is what is left of all that happened behind these events.
+-- What a forwarder keeps is what is left of all that happened by these events.
 pub record Carries (theirs ours : Setting) (k : ForwarderKept) (history : List ProxyStep) (all : Happenings) : Type 0 where
   pub stands : StandsFor theirs k.client all.client
   pub server : IsServer ours k.server all.links

@@ -107,7 +107,7 @@ pub record AreSent (setting : Setting) (all : Happenings) : Type 0 where
   pub rightly : AllByRecursion (λ r. IsRightlySent r.pulled r.sent_at) all.requests
   pub links : AllByRecursion (IsLink setting) all.links
 
--- All this happened behind these events of a forwarder: the client's connection did what its tables say, and what went towards each
+-- All this happened by these events of a forwarder: the client's connection did what its tables say, and what went towards each
 -- server is the text of the requests that were sent on it.
 pub record IsForwardedBy (client server : Setting) (history : List ProxyStep) (all : Happenings) : Type 0 where
   pub traced : IsTrace client all.client
