@@ -1,15 +1,15 @@
 -- What each call of the client's connection leaves to do.
 use Rattle.std.proofs.Common.{◌≡◌, ℕ, ◌+◌, ◌*◌, ◌<◌, ◌≤◌, Bool, true, false, not, ◌&&◌, cond, List, [], ◌∷◌, ◌++◌, length, drop, Option, Some, None, refl, sym, ap, ◌∙◌, subst, subst₂, arith, length-append, length-drop}
-use Rattle.std.specs.Prelude.{◌-◌, min, nat_lt, ⊤, IsTrue, is_some, nat_le, if◌then◌else◌, ◌==◌, slice_range}
+use Rattle.std.specs.Prelude.{◌-◌, ◌||◌, min, nat_lt, ⊤, is_some, nat_le, if◌then◌else◌, ◌==◌, slice_range}
 use Rattle.std.specs.Option.{option_or}
 use Rattle.std.proofs.lemmas.List.{length-take}
-use Rattle.std.proofs.lemmas.Bool.{false≢true, true≢false, leb-false}
+use Rattle.std.proofs.lemmas.Bool.{false≢true, true≢false, leb-false, eqb-false}
 use Rattle.std.proofs.lemmas.Option.{none-some, same_Some}
 use Rattle.httparse.specs.Ascii.{line_feed}
 use Rattle.httparse.specs.Grammar.{print_end}
 use Rattle.h1_model.specs.HeadPiece.{IsHeadPiece}
 use Rattle.h1_model.specs.Request.{ConnectionType, BodyKind, no_body, fixed_body, chunked_body, raw_body, Head, too_large, Reading, head_is, faulty}
-use Rattle.h1_model.specs.Answer.{AnswerHead, BodySize, is_at_once, Shape}
+use Rattle.h1_model.specs.Answer.{AnswerHead, BodySize, is_at_once}
 use Rattle.h1_model.specs.AnswerText.{interim_text}
 use Rattle.h1_model.specs.Setting.{Setting}
 use Rattle.h1_model.specs.Parse.{Message}
@@ -20,18 +20,20 @@ use Rattle.h1_model.specs.Past.{ParsedStep, steps, current, passed}
 use Rattle.h1_model.proofs.PastLemmas.{legal_of}
 use Rattle.h1_machine.specs.Kept.{Rest, no_rest, raw_rest, fixed_rest, chunks_rest, Reply, unanswered, sending, answered, Exchange, Kept, Change, is_free, is_frames, is_upgraded, whole_rest, rest_in}
 use Rattle.h1_machine.specs.Local.{closing_by, allowed_by, has_body_left, is_answering, has_room}
-use Rattle.h1_machine.specs.Body.{passing, pass_rest}
-use Rattle.h1_machine.specs.Change.{behind_head, without_head, IsUpcoming, IsNext, pulled_from, IsPulling, IsChange, IsComing, noting_since, IsStep, doing_with}
+use Rattle.h1_machine.specs.Body.{passing}
+use Rattle.h1_machine.specs.Change.{behind_head, IsUpcoming, IsNext, pulled_from, IsPulling, IsChange, IsComing, noting_since, IsStep, doing_with}
 use Rattle.h1_machine.specs.Reply.{completing, answering, sending_piece, ending_body}
 use Rattle.h1_machine.specs.Pull.{Pulled, IsPull}
-use Rattle.h1_machine.specs.KeptOf.{is_passed, raw_left, fixed_left, chunks_left, rest_of, exchange_of}
+use Rattle.h1_machine.specs.KeptOf.{is_passed, raw_left, rest_of, exchange_of}
 use Rattle.h1_machine.specs.StandsFor.{StandsFor}
 use Rattle.h1_machine.proofs.Kernel.{coming_of}
+use Rattle.h1_machine.proofs.KeptBounds.{unread_bounded}
 use Rattle.h1_machine.proofs.OneStep.{coming_one}
 use Rattle.h1_machine.proofs.Stands.{table_steps}
 use Rattle.h1_client_laws.proofs.Told.{IsSound}
-use Rattle.h1_forward_left.specs.Left.{left_of_rest, bytes_left, request_left, client_left, AsksNothing, LeavesAfterNext, TakesNoMorePieces, LeavesAfterPull}
+use Rattle.h1_forward_left.specs.Left.{bytes_left, request_left, client_left, AsksNothing, LeavesAfterNext, LacksBody, TakesNoMorePieces, LeavesAfterPull}
 use Rattle.h1_forward_left.proofs.Pulls.{at_most_one, LeavesSo, pull_leaves, pass_leaves}
+use Rattle.h1_forward_left.proofs.Pending.{GoesOn, LacksSo, pull_lacks, lacks_still}
 
 -- a head has bytes
 pub piece_some : (bytes : List ℕ) (start end : ℕ) → IsHeadPiece bytes start end → 0 < end
@@ -60,19 +62,20 @@ module _ (setting : Setting) where
   NextSo k (on.head h) m = client_left m + 15 ≤ client_left k
   NextSo k (on.fault f) m = (is_some m.failed ≡ true) × (client_left m ≤ client_left k)
   NextSo k (on.closed end) m = (m.is_over ≡ true) × (client_left m ≤ client_left k)
-  NextSo k on.pending m = (k.is_coming ≡ false) × (m ≡ k)
+  NextSo k on.pending m = (k.is_coming ≡ false) × (m ≡ k) × (length k.unread < setting.hold_size)
   NextSo k o m = ⊤
 
   abbrev OfChange : Kept → Change → Type 0
   OfChange k c = NextSo k c.outcome c.kept
 
-  upcoming : (k : Kept) (coming : Bool) (c : Change) → k.is_coming ≡ coming → IsUpcoming setting k coming c → OfChange k c
-  upcoming k false c none x = subst (OfChange k) (sym x) (without (length k.unread == setting.hold_size))
+  upcoming : (k : Kept) (coming : Bool) (c : Change) → length k.unread ≤ setting.hold_size → k.is_coming ≡ coming → IsUpcoming setting k coming c → OfChange k c
+  upcoming k false c fits none x = subst (OfChange k) (sym x) (without (length k.unread == setting.hold_size) refl)
     where
-      without : (full : Bool) → OfChange k (if full then behind_head k 0 (faulty too_large) else record { outcome = on.pending; kept = k })
-      without true = (refl, omega arith)
-      without false = (none, refl)
-  upcoming k true c there (start, end, what, piece, reading, is) = subst (OfChange k) (sym is) (by_what what)
+      without : (full : Bool) → (length k.unread == setting.hold_size) ≡ full
+          → OfChange k (if full then behind_head k 0 (faulty too_large) else record { outcome = on.pending; kept = k })
+      without true is = (refl, omega arith)
+      without false is = let other = eqb-false (length k.unread) setting.hold_size is in (none, refl, omega (arith, fits, other))
+  upcoming k true c fits there (start, end, what, piece, reading, is) = subst (OfChange k) (sym is) (by_what what)
     where
       by_what : (what : Reading) → OfChange k (behind_head k end what)
       by_what (faulty f) = (refl, omega arith)
@@ -86,9 +89,10 @@ module _ (setting : Setting) where
             at_most_one (rest_in k.has_ended unread (whole_rest h.body)),
           )
 
-  next_case : (k : Kept) (closing : Option End) (c : Change) → closing_by setting k ≡ closing → IsNext setting k closing c → OfChange k c
-  next_case k (Some end) c is x = subst (OfChange k) (sym x) (refl, omega arith)
-  next_case k None c is x = upcoming k k.is_coming c refl x
+  next_case : (k : Kept) (closing : Option End) (c : Change) → length k.unread ≤ setting.hold_size → closing_by setting k ≡ closing → IsNext setting k closing c
+      → OfChange k c
+  next_case k (Some end) c fits is x = subst (OfChange k) (sym x) (refl, omega arith)
+  next_case k None c fits is x = upcoming k k.is_coming c fits refl x
 
   noted : (k m next : Kept) (coming : Bool) (o : on.Outcome) → next ≡ noting_since setting (record m { is_coming = coming })
       → IsComing (is_free m) m.unread coming → IsComing (is_free k) k.unread k.is_coming → NextSo k o m → LeavesAfterNext setting o k next
@@ -104,15 +108,16 @@ module _ (setting : Setting) where
       let here = subst (λ (m : Kept). IsComing (is_free m) m.unread coming) x.1 comes in (
         ap (λ (n : Kept). n.is_coming) is ∙ coming_one (is_free k) k.unread coming k.is_coming here known ∙ x.0,
         subst (λ (n : Kept). client_left n ≤ client_left k) (sym is) (subst (λ (m : Kept). client_left m ≤ client_left k) (sym x.1) (omega arith)),
+        subst (λ (n : Kept). length n.unread < setting.hold_size) (sym is) (subst (λ (m : Kept). length m.unread < setting.hold_size) (sym x.1) x.2),
       )
   noted k m next coming o is comes known x = tt
 
-  next_step : (k next : Kept) (o : on.Outcome) → IsComing (is_free k) k.unread k.is_coming → IsStep setting k on.next o next
+  next_step : (k next : Kept) (o : on.Outcome) → length k.unread ≤ setting.hold_size → IsComing (is_free k) k.unread k.is_coming → IsStep setting k on.next o next
       → LeavesAfterNext setting o k next
-  next_step k next o known step =
+  next_step k next o fits known step =
       let c = step.change in
       subst (λ (o : on.Outcome). LeavesAfterNext setting o k next) (sym step.answers)
-      (noted k c.kept next step.coming c.outcome step.keeps step.comes known (next_case k (closing_by setting k) c refl step.changes))
+      (noted k c.kept next step.coming c.outcome step.keeps step.comes known (next_case k (closing_by setting k) c fits refl step.changes))
 
   known_coming : (k : Kept) (trace : List Step) → StandsFor setting k trace → IsComing (is_free k) k.unread k.is_coming
   known_coming k trace x =
@@ -122,7 +127,7 @@ module _ (setting : Setting) where
   pub next_leaves : (k next : Kept) (trace : List Step) (o : on.Outcome) → StandsFor setting k trace
       → StandsFor setting next (record { event = on.next; outcome = o } ∷ trace) → LeavesAfterNext setting o k next
   next_leaves k next trace o x y =
-      next_step k next o (known_coming k trace x) (machine_step setting k next trace (record { event = on.next; outcome = o }) x y)
+      next_step k next o (unread_bounded setting k trace x) (known_coming k trace x) (machine_step setting k next trace (record { event = on.next; outcome = o }) x y)
 
 -- ---- more of a body
 
@@ -168,23 +173,40 @@ module _ (setting : Setting) where
   unfolding allowed_by
   droppable k is = third k.is_over (is_some (closing_by setting k)) (is_upgraded k) (has_body_left k) is
 
+  -- what a pull that gave nothing left of the body
+  record IsLeft (m : Kept) : Type 0 where
+    pub body : Exchange
+    pub exchange : m.exchange ≡ Some body
+    pub rest : GoesOn body.rest
+    pub unread : m.unread ≡ []
+    pub going : m.has_ended ≡ false
+
   -- the same of what is kept before whether a head is coming is noted
   abbrev PulledSo : on.Outcome → Kept → Kept → Type 0
   PulledSo (on.bytes bytes) k m = client_left m + 15 ≤ client_left k
   PulledSo (on.trailers lines) k m = client_left m < client_left k
   PulledSo on.body_ended k m = client_left m ≤ client_left k
   PulledSo (on.broken_by fault) k m = client_left m ≤ client_left k
-  PulledSo on.pending k m = (m.unread ≡ []) × (client_left m ≤ client_left k)
+  PulledSo on.pending k m = IsLeft m × (client_left m ≤ client_left k)
   PulledSo o k m = ⊤
 
-  pulled_so : (k m : Kept) (n : ℕ) (o : on.Outcome) (p : Pulled) → client_left k ≡ n → client_left m ≡ bytes_left p.unread p.rest → m.unread ≡ p.unread
-      → LeavesSo o n p → PulledSo o k m
-  pulled_so k m n (on.bytes given) p old new unread x = omega (arith, old, new, x)
-  pulled_so k m n (on.trailers lines) p old new unread x = omega (arith, old, new, x)
-  pulled_so k m n on.body_ended p old new unread x = omega (arith, old, new, x)
-  pulled_so k m n (on.broken_by fault) p old new unread x = omega (arith, old, new, x)
-  pulled_so k m n on.pending p old new unread x = (unread ∙ x.0, let less = x.1 in omega (arith, old, new, less))
-  pulled_so k m n o p old new unread x = tt
+  pulled_so : (k m : Kept) (n : ℕ) (o : on.Outcome) (p : Pulled) (x : Exchange) → client_left k ≡ n → client_left m ≡ bytes_left p.unread p.rest
+      → m ≡ pulled_from x p k → LeavesSo o n p → LacksSo o k.has_ended p → PulledSo o k m
+  pulled_so k m n (on.bytes given) p e old new is x lacks = omega (arith, old, new, x)
+  pulled_so k m n (on.trailers lines) p e old new is x lacks = omega (arith, old, new, x)
+  pulled_so k m n on.body_ended p e old new is x lacks = omega (arith, old, new, x)
+  pulled_so k m n (on.broken_by fault) p e old new is x lacks = omega (arith, old, new, x)
+  pulled_so k m n on.pending p e old new is x lacks = (
+    record {
+      body = record e { rest = p.rest; was_pulled = true; body_is_done = e.body_is_done || p.is_done };
+      exchange = ap (λ (m : Kept). m.exchange) is;
+      rest = lacks.rest;
+      unread = ap (λ (m : Kept). m.unread) is ∙ lacks.unread;
+      going = ap (λ (m : Kept). m.has_ended) is ∙ lacks.going;
+    },
+    let less = x.1 in omega (arith, old, new, less),
+  )
+  pulled_so k m n o p e old new is x lacks = tt
 
   -- a pull leaves what is said of an answer
   pub record SameAnswer (k m : Kept) : Type 0 where
@@ -198,8 +220,8 @@ module _ (setting : Setting) where
   pull_case k None c is sound plain left x = absurd (false≢true left)
   pull_case k (Some x) c is sound plain left (p, pull, same) =
       subst (λ (c : Change). PulledSo c.outcome k c.kept × SameAnswer (record k { exchange = Some x }) c.kept) (sym same) (
-        pulled_so k (pulled_from x p k) (bytes_left k.unread x.rest) p.outcome p (ap (λ (e : Option Exchange). 16 * length k.unread + request_left e) is) refl refl
-            (pull_leaves k.has_ended x.rest k.unread p (sound x refl plain) pull),
+        pulled_so k (pulled_from x p k) (bytes_left k.unread x.rest) p.outcome p x (ap (λ (e : Option Exchange). 16 * length k.unread + request_left e) is) refl refl
+            (pull_leaves k.has_ended x.rest k.unread p (sound x refl plain) pull) (pull_lacks k.has_ended x.rest k.unread p (sound x refl plain) pull),
         record { over = refl; answering = refl; buffered = refl },
       )
 
@@ -233,6 +255,23 @@ module _ (setting : Setting) where
       (subst (λ (b : List ℕ). (not next.is_over && (is_answering next && nat_lt (length b) setting.write_buffer)) ≡ true) same.buffered
       (piece_weaker next.is_over (is_some (closing_by setting next)) (is_answering next && has_room setting next) is)))
 
+  -- a further pull gives nothing
+  further : (n : Kept) (x : Exchange) (ex : Option Exchange) (c : Change) → ex ≡ Some x → GoesOn x.rest → n.unread ≡ [] → n.has_ended ≡ false → IsPulling n ex c
+      → c.outcome ≡ on.pending
+  further n x (Some y) c is goes none going (p, pull, same) =
+      ap (λ (c : Change). c.outcome) same
+      ∙ lacks_still x.rest p goes
+      (subst (λ (y : Exchange). IsPull false y.rest [] p) (same_Some y x is)
+      (subst₂ (λ (t : Bool) (bytes : List ℕ). IsPull t y.rest bytes p) going none pull))
+  further n x None c is goes none going pull = absurd (none-some x is)
+
+  lacks_body : (n : Kept) → IsLeft n → LacksBody setting n
+  lacks_body n x = record {
+    unread = x.unread;
+    going = x.going;
+    pending = λ o next step. step.answers ∙ further n x.body n.exchange step.change x.exchange x.rest x.unread x.going step.changes;
+  }
+
   noted_pull : (k m next : Kept) (coming : Bool) (o : on.Outcome) → next ≡ noting_since setting (record m { is_coming = coming })
       → is_some (closing_by setting k) ≡ false → SameAnswer k m → PulledSo o k m → LeavesAfterPull setting o k next
   noted_pull k m next coming o is runs same x = subst (LeavesAfterPull setting o k) (sym is) (as_noted o x)
@@ -245,8 +284,11 @@ module _ (setting : Setting) where
       as_noted (on.trailers lines) x = x
       as_noted on.body_ended x = x
       as_noted (on.broken_by fault) x = x
-      as_noted on.pending x =
-          (x.0, x.1, no_more_pieces k n runs (record { over = same.over; answering = same.answering; buffered = same.buffered }))
+      as_noted on.pending x = (
+        lacks_body n (record { body = x.0.body; exchange = x.0.exchange; rest = x.0.rest; unread = x.0.unread; going = x.0.going }),
+        x.1,
+        no_more_pieces k n runs (record { over = same.over; answering = same.answering; buffered = same.buffered }),
+      )
       as_noted o x = tt
 
   pub pull_of_client : (k next : Kept) (trace : List Step) (o : on.Outcome) → StandsFor setting k trace

@@ -1,4 +1,5 @@
 pub mod Pulls
+pub mod Pending
 pub mod Client
 pub mod Server
 pub mod Wants

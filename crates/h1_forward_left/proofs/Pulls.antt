@@ -1,8 +1,8 @@
 -- What a pull leaves of a body.
-use Rattle.std.proofs.Common.{◌≡◌, ℕ, ◌+◌, ◌*◌, ◌-◌, ◌<◌, ◌≤◌, Bool, true, false, cond, List, [], ◌∷◌, ◌++◌, length, drop, take, refl, sym, ap, ◌∙◌, subst, arith, length-append, length-drop}
-use Rattle.std.specs.Prelude.{⊤, nat_le, nat_lt, if◌then◌else◌}
+use Rattle.std.proofs.Common.{◌≡◌, ℕ, ◌+◌, ◌-◌, ◌<◌, ◌≤◌, Bool, true, false, cond, List, [], ◌∷◌, ◌++◌, length, drop, take, refl, sym, ap, ◌∙◌, subst, arith, length-append, length-drop}
+use Rattle.std.specs.Prelude.{⊤, nat_le, nat_lt}
 use Rattle.h1_chunks.specs.Place.{InLine, Place, in_bytes, bytes_end, in_section, done, broken, step, after}
-use Rattle.h1_chunks.specs.Reading.{Reading, Ending, goes_on, is_broken, ends_before, read, with_bytes}
+use Rattle.h1_chunks.specs.Reading.{Reading, Ending, goes_on, is_broken, ends_before, read}
 use Rattle.h1_chunks.specs.TakeNext.{Next, chunk, waits, ended, breaks, Taken, noted_line, stops_at, take_next, says}
 use Rattle.h1_chunks.proofs.ReadSteps.{ending-noted}
 use Rattle.h1_chunks.proofs.TakenPlaces.{taken_chunk_leads}

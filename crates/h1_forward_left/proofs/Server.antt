@@ -1,23 +1,22 @@
 -- What each call of a server's connection leaves to do.
-use Rattle.std.proofs.Common.{◌≡◌, ℕ, ◌+◌, ◌*◌, ◌-◌, ◌<◌, ◌≤◌, min, Bool, true, false, not, ◌&&◌, ◌++◌, cond, List, [], ◌∷◌, length, drop, Option, Some, None, refl, sym, ap, ◌∙◌, subst, arith, length-append, length-drop, append-nil}
+use Rattle.std.proofs.Common.{◌≡◌, ℕ, ◌+◌, ◌*◌, ◌-◌, ◌≤◌, min, Bool, true, false, not, ◌&&◌, ◌++◌, cond, List, [], ◌∷◌, length, drop, Option, Some, None, refl, sym, ap, ◌∙◌, subst, arith, length-append, length-drop}
 use Rattle.std.specs.Prelude.{⊤, IsTrue, is_some, if◌then◌else◌, ◌==◌}
 use Rattle.std.proofs.lemmas.Bool.{false≢true, true≢false}
 use Rattle.std.proofs.lemmas.List.{length-take}
-use Rattle.httparse.specs.Ascii.{line_feed}
 use Rattle.h1_model.specs.HeadPiece.{IsHeadPiece}
 use Rattle.h1_model.specs.Request.{too_large}
 use Rattle.h1_model.specs.Setting.{Setting}
 use Rattle.h1_model.specs.Event as server
-use Rattle.h1_machine.specs.Kept.{Rest, whole_rest, rest_in}
+use Rattle.h1_machine.specs.Kept.{whole_rest, rest_in}
 use Rattle.h1_machine.specs.Change.{IsComing}
-use Rattle.h1_machine.specs.Pull.{Pulled, IsPull}
+use Rattle.h1_machine.specs.Pull.{Pulled}
 use Rattle.h1_client_model.specs.AnswerTable.{body_to}
 use Rattle.h1_client_model.specs.AnswerParse.{is_interim}
-use Rattle.h1_client_model.specs.AnswerReading.{Answer, AnswerReading, answer_is, refused}
+use Rattle.h1_client_model.specs.AnswerReading.{AnswerReading, answer_is, refused}
 use Rattle.h1_client_machine.specs.ClientEvent as on
 use Rattle.h1_client_machine.specs.ClientEvent.{ClientEvent, ClientEnd, ClientOutcome}
 use Rattle.h1_client_machine.specs.ClientKept.{Waiting, SendingBody, ReadingBody, ClientKept, is_free, is_free_of, is_dropped_of, is_waited_for, has_bytes, client_closing, client_allows}
-use Rattle.h1_client_machine.specs.ClientStep.{ClientChange, sending_piece, ending_body, outcome_of, pulled_from, IsPulling, behind_final, behind_answer, behind_head, without_head, IsUpcoming, IsNext, IsClientChange, IsClientStep, KnowsComing}
+use Rattle.h1_client_machine.specs.ClientStep.{ClientChange, sending_piece, ending_body, outcome_of, pulled_from, IsPulling, behind_final, behind_head, IsUpcoming, IsNext, IsClientChange, IsClientStep, KnowsComing}
 use Rattle.h1_client_machine.specs.ClientTrace.{Happened, IsClientTrace, taken_by, taken}
 use Rattle.h1_client_machine.proofs.Left.{step_leaves}
 use Rattle.h1_client_machine.proofs.OneStep.{coming_one}
@@ -27,7 +26,7 @@ use Rattle.h1_client_laws.proofs.Told.{IsSound}
 use Rattle.h1_client_laws.proofs.Holds.{waiting_methods, IsState, IsOpen, IsBody, IsBusy}
 use Rattle.h1_client_laws.proofs.NextAnswers.{fine_while, allowed_then, allowed_while}
 use Rattle.h1_client_laws.proofs.AllHappened.{both, not_true, going_for, known_of, holds_now}
-use Rattle.h1_forward_left.specs.Left.{left_of_rest, bytes_left, answer_left, server_left, LeavesAll, LeavesAfterAnswer, LeavesAfterPiece}
+use Rattle.h1_forward_left.specs.Left.{bytes_left, answer_left, server_left, LeavesAll, LeavesAfterAnswer, LeavesAfterPiece}
 use Rattle.h1_forward_left.proofs.Pulls.{at_most_one, LeavesSo, pull_leaves}
 use Rattle.h1_forward_left.proofs.Client.{piece_some}
 
@@ -46,7 +45,7 @@ closes_so None true false false false last is_free not_waited has is = false≢t
 closes_so None true false false true last is_free not_waited has is = cc is
 
 -- where a whole head stands there and nobody waits for it, the connection closes
-unasked_closes : (k : ClientKept) → k.waiting ≡ [] → has_bytes k.unread ≡ true → is_free k ≡ true → client_closing k ≡ None → ⊥
+pub unasked_closes : (k : ClientKept) → k.waiting ≡ [] → has_bytes k.unread ≡ true → is_free k ≡ true → client_closing k ≡ None → ⊥
 unasked_closes k none some free is =
     closes_so k.failed (is_free k) k.closes (is_waited_for k.waiting) (has_bytes k.unread) _ free (ap is_waited_for none) some is
 
@@ -54,7 +53,7 @@ bytes_some : (bytes : List ℕ) (start end : ℕ) → IsHeadPiece bytes start en
 bytes_some [] start end x = absurd (let some = piece_some [] start end x in let fits = x.in_range in omega (arith, some, fits))
 bytes_some (b ∷ bytes) start end x = refl
 
-comes_true : (free : Bool) (bytes : List ℕ) → IsComing free bytes true → (free ≡ true) × (has_bytes bytes ≡ true)
+pub comes_true : (free : Bool) (bytes : List ℕ) → IsComing free bytes true → (free ≡ true) × (has_bytes bytes ≡ true)
 comes_true true bytes (start, end, piece) = (refl, bytes_some bytes start end piece)
 comes_true false bytes x = absurd (true≢false x)
 

@@ -1,11 +1,13 @@
 -- How much is left to do with what came from either side of a forwarder: sixteen for each byte, and one where a body hasn't ended.
-use Rattle.std.specs.Prelude.{◌≡◌, ℕ, ◌+◌, ◌*◌, ◌<◌, ◌≤◌, false, true, List, [], length, Option, Some, None, is_some, ⊤}
+use Rattle.std.specs.Prelude.{◌≡◌, ℕ, ◌+◌, ◌*◌, ◌<◌, ◌≤◌, false, true, IsTrue, List, [], length, Option, Some, None, is_some, ⊤}
 use Rattle.h1_model.specs.Event as on
 use Rattle.h1_model.specs.Setting.{Setting}
 use Rattle.h1_machine.specs.Kept.{Rest, no_rest, Exchange, Kept}
 use Rattle.h1_machine.specs.Local.{closing_by, allowed_by}
+use Rattle.h1_machine.specs.Change.{IsStep}
 use Rattle.h1_client_machine.specs.ClientEvent as asked
-use Rattle.h1_client_machine.specs.ClientKept.{ReadingBody, ClientKept, client_closing}
+use Rattle.h1_client_machine.specs.ClientKept.{ReadingBody, ClientKept, client_allows}
+use Rattle.h1_client_machine.specs.ClientStep.{IsClientStep}
 
 -- something of a body is left
 abbrev pub left_of_rest : Rest → ℕ
@@ -24,26 +26,35 @@ request_left (Some x) = left_of_rest x.rest
 abbrev pub client_left : Kept → ℕ
 client_left k = 16 * length k.unread + request_left k.exchange
 
--- What an outcome of `next` leaves: after a head less, by the bytes of the head; after a fault the connection closes.
+-- What an outcome of `next` leaves: after a head less, by the bytes of the head; after a fault the connection closes; where none is there,
+-- there is room for more bytes of it.
 abbrev pub LeavesAfterNext : Setting → on.Outcome → Kept → Kept → Type 0
 LeavesAfterNext setting (on.head h) old new = client_left new + 15 ≤ client_left old
 LeavesAfterNext setting (on.fault f) old new = (is_some (closing_by setting new) ≡ true) × (client_left new ≤ client_left old)
 LeavesAfterNext setting (on.closed end) old new = (new.is_over ≡ true) × (client_left new ≤ client_left old)
-LeavesAfterNext setting on.pending old new = (new.is_coming ≡ false) × (client_left new ≤ client_left old)
+LeavesAfterNext setting on.pending old new =
+    (new.is_coming ≡ false) × (client_left new ≤ client_left old) × (length new.unread < setting.hold_size)
 LeavesAfterNext setting o old new = ⊤
 
--- What an outcome of `pull` leaves: after bytes less, by the bytes, and after trailers, which end the body; where nothing comes, all
--- bytes are passed.
+-- Nothing of a request's body is there: no byte is, and its input hasn't ended; and whatever a further pull does, it tells that nothing is
+-- there yet: no bytes, no trailers, no end and no fault.
+pub record LacksBody (setting : Setting) (k : Kept) : Type 0 where
+  pub unread : k.unread ≡ []
+  pub going : k.has_ended ≡ false
+  pub pending : (o : on.Outcome) (next : Kept) → IsStep setting k on.pull o next → o ≡ on.pending
+
 -- a piece of an answer may be handed in only where it might before
 abbrev pub TakesNoMorePieces : Setting → Kept → Kept → Type 0
 TakesNoMorePieces setting old new = (bytes : List ℕ) → allowed_by setting new (on.chunk bytes) ≡ true → allowed_by setting old (on.chunk bytes) ≡ true
 
+-- What an outcome of `pull` leaves: after bytes less, by the bytes, and after trailers, which end the body; where nothing comes, nothing of
+-- the body is there.
 abbrev pub LeavesAfterPull : Setting → on.Outcome → Kept → Kept → Type 0
 LeavesAfterPull setting (on.bytes bytes) old new = client_left new + 15 ≤ client_left old
 LeavesAfterPull setting (on.trailers lines) old new = client_left new < client_left old
 LeavesAfterPull setting on.body_ended old new = client_left new ≤ client_left old
 LeavesAfterPull setting (on.broken_by fault) old new = client_left new ≤ client_left old
-LeavesAfterPull setting on.pending old new = (new.unread ≡ []) × (client_left new ≤ client_left old) × TakesNoMorePieces setting old new
+LeavesAfterPull setting on.pending old new = LacksBody setting new × (client_left new ≤ client_left old) × TakesNoMorePieces setting old new
 LeavesAfterPull setting o old new = ⊤
 
 -- the event of a call that asks for nothing
@@ -79,6 +90,14 @@ LeavesAfterPiece asked.body_ended old new = server_left new ≤ server_left old
 LeavesAfterPiece (asked.broken_by fault) old new = server_left new ≤ server_left old
 LeavesAfterPiece asked.pending old new = (new.unread ≡ []) × (server_left new ≤ server_left old)
 LeavesAfterPiece o old new = ⊤
+
+-- Nothing of an answer's body is there: more of it may be asked for; no byte is there, and the input hasn't ended; and whatever a further
+-- pull does, it tells that nothing is there yet: no bytes, no trailers, no end and no fault.
+pub record LacksPiece (setting : Setting) (k : ClientKept) : Type 0 where
+  pub allowed : IsTrue (client_allows setting k asked.pull)
+  pub unread : k.unread ≡ []
+  pub going : k.has_ended ≡ false
+  pub pending : (o : asked.ClientOutcome) (next : ClientKept) → IsClientStep setting k asked.pull o next → o ≡ asked.pending
 
 -- the event of a call that sends a request, or tells the time
 abbrev pub LeavesAll : asked.ClientEvent → Type 0

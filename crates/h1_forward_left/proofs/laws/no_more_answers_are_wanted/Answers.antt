@@ -1,4 +1,4 @@
-use Rattle.h1_forward_left.proofs.Wants.{next_wants, pull_wants, answer_wants, end_wants, cut_wants, others_want}
+use Rattle.h1_forward_left.proofs.Wants.{next_wants, pull_wants, answer_wants, end_wants, cut_wants, others_want, continue_tells}
 use Rattle.h1_forward_left.proofs.laws.no_more_answers_are_wanted.Goals as goal
 
 pub returns : goal.returns
@@ -9,4 +9,5 @@ returns c = record {
   end = end_wants;
   cut = cut_wants;
   others = λ setting k next trace event o asks allowed x y. others_want setting k next trace event o asks allowed x y;
+  told = continue_tells;
 }
