@@ -1,6 +1,6 @@
 -- What a call of a connection brings.
-use Rattle.std.proofs.Common.{◌≡◌, ℕ, ◌+◌, ◌<◌, ◌≤◌, Bool, true, false, not, ◌&&◌, ◌||◌, List, [], ◌∷◌, length, Option, Some, None, refl, sym, ap, ◌∙◌, subst, arith}
-use Rattle.std.specs.Prelude.{IsTrue, is_some, ⊤, ◌==◌, if◌then◌else◌}
+use Rattle.std.proofs.Common.{◌≡◌, ℕ, ◌<◌, ◌≤◌, Bool, true, false, not, ◌&&◌, ◌||◌, List, [], ◌∷◌, length, Option, None, refl, sym, ap, ◌∙◌, subst, arith, inl, inr, subst₂}
+use Rattle.std.specs.Prelude.{IsTrue, is_some, ◌==◌, if◌then◌else◌}
 use Rattle.std.proofs.lemmas.Bool.{false≢true}
 use Rattle.http_config.specs.Config.{Settings}
 use Rattle.h1_model.specs.Event as on
@@ -17,9 +17,10 @@ use Rattle.h1_connection.specs.State.{State, Stands, GoesOn, Is}
 use Rattle.h1_connection.specs.declared.connection.heads.NextHead.{NextHead}
 use Rattle.h1_connection.specs.declared.connection.heads.NextHead.TheVariants as next
 use Rattle.h1_client_machine.specs.ClientEvent as asked
-use Rattle.h1_client_machine.specs.ClientTrace.{Happened, IsClientTrace, now_of, sending_of, sending_after, text_of_event, given, taken_by, asked_by}
+use Rattle.h1_client_machine.specs.ClientTrace.{Happened, IsClientTrace, now_of, now_after, sending_of, sending_after, text_of_event, given, taken_by, asked_by}
 use Rattle.h1_client_machine.specs.ClientKept.{ClientKept, SendingBody, client_allows, client_closing}
 use Rattle.h1_client_machine.specs.ClientStep.{IsClientStep}
+use Rattle.h1_client_machine.proofs.Written.{is_text}
 use Rattle.h1_client.specs.Answers as answers
 use Rattle.h1_client.specs.Bodies as bodies
 use Rattle.h1_client.specs.Meaning as asking
@@ -29,16 +30,16 @@ use Rattle.h1_client.specs.declared.event.NextAnswer.TheVariants as answered
 use Rattle.h1_machine.specs.Kept.{Kept, is_open}
 use Rattle.h1_machine.specs.Local.{closing_by, allowed_by}
 use Rattle.h1_connection.specs.Given.{next_allowed}
-use Rattle.h1_forward_left.specs.Left.{client_left, AsksNothing, LeavesAfterNext, LeavesAfterPull, server_left, LeavesAfterAnswer, LeavesAfterPiece}
+use Rattle.h1_forward_left.specs.Left.{AsksNothing, LeavesAfterNext, LacksBody, LeavesAfterPull, server_left, LeavesAfterAnswer, LeavesAfterPiece, LacksPiece}
 use Rattle.h1_forward_left.proofs.Client.{next_leaves, pull_of_client, no_more}
 use Rattle.h1_forward_left.proofs.Server.{answer_leaves, piece_leaves, all_left}
-use Rattle.h1_forward_left.proofs.Waited.{pending_stays, piece_not_ended}
+use Rattle.h1_forward_left.proofs.Waited.{pending_stays, pending_lacks}
 use Rattle.h1_forward_traces.specs.Happenings.{is_eof}
 use Rattle.h1_forward_traces.specs.Moves.{HasBrought, Does, DoesAsked}
 use Rattle.h1_forward_model.specs.Exchange.{pulled as all_pulled}
 use Rattle.h1_forward_traces.proofs.Quiet.{brought, quiet, stays_same, BringsNothing, nothing_more, done_brings_nothing, pending_brings_nothing}
-use Rattle.h1_forward_sides.specs.Sides.{LeavesNoMore, ClientBrings, BringsNext, BringsPulled, ServerStays}
-use Rattle.h1_forward_sides.specs.Leaves.{LeavesNext, LeavesPulled, IsAwaited, LacksBytes, LeavesAnswer, LeavesPiece}
+use Rattle.h1_forward_sides.specs.Sides.{LeavesNoMore, ClientBrings, BringsNext, BringsPulled, ServerStays, KeepsTime, IsTold}
+use Rattle.h1_forward_sides.specs.Leaves.{LeavesNext, LeavesPulled, IsAwaited, LeavesAnswer, LeavesPiece}
 
 -- ---- the client's side
 
@@ -141,7 +142,8 @@ next_less (next.Head item) a b settings one = λ trace stands.
 next_less (next.Fault fault) a b settings one = λ trace stands.
     (next_outcome (next.Fault fault) a b trace _ (on.fault _) settings one stands (λ out is. is)).0
 next_less next.Pending a b settings one = λ trace stands allowed.
-    (next_outcome next.Pending a b trace _ on.pending settings one stands (λ out is. is)).0
+    let x = next_outcome next.Pending a b trace _ on.pending settings one stands (λ out is. is) in
+    (x.0, subst (λ (s : Settings). length b.kept.unread < s.h1_hold_size) (sym settings) x.2)
 next_less (next.Closed end) a b settings one = λ trace stands allowed.
     absurd (over_asks_nothing (setting_of b.settings) b.kept (next_outcome (next.Closed end) a b trace _ (on.closed _) settings one stands (λ out is. is)).0 allowed)
 
@@ -184,7 +186,7 @@ pull_less pulled.End a b settings may one = tt
 pull_less (pulled.Broken fault) a b settings may one = tt
 pull_less pulled.Pending a b settings may one = λ trace stands.
     let x = pulled_outcome a b trace _ on.pending settings may one stands (λ out is. is) in (
-      λ allowed. x.0,
+      λ allowed. subst (λ (s : Settings). LacksBody (setting_of s) b.kept) (sym settings) x.0,
       λ bytes is. x.2 bytes (subst (λ (s : Settings). allowed_by (setting_of s) b.kept (on.chunk bytes) ≡ true) settings is),
     )
 
@@ -273,22 +275,24 @@ answer_outcome a b Says o one is trace stands =
     (answer_leaves (asking.setting_of a.settings) a.kept b.kept trace one.outcome stands one.step)
 
 -- where none is there yet, all is as it was
-awaited : (a b : servers.State) → servers.IsAllowed a asked.next → (one : servers.GoesOn a asked.next (servers.Is asked.pending) b)
+awaited : (a b : servers.State) → b.settings ≡ a.settings → servers.IsAllowed a asked.next → (one : servers.GoesOn a asked.next (servers.Is asked.pending) b)
     → (trace : List Happened) → servers.Stands a trace → IsAwaited b
-awaited a b may one trace stands =
+awaited a b settings may one trace stands =
     let step = subst (λ (o : asked.ClientOutcome). IsClientStep (asking.setting_of a.settings) a.kept asked.next o b.kept) one.says one.step in
     let x = pending_stays (asking.setting_of a.settings) a.kept b.kept trace stands step in
     record {
       allowed = subst (λ (k : ClientKept). IsTrue (client_allows (asking.setting_of b.settings) k asked.next)) (sym x.0) may;
       coming = (answer_outcome a b _ asked.pending one one.says trace stands).0;
       going = ap client_closing x.0 ∙ x.1;
+      room = subst₂ (λ (k : ClientKept) (s : Settings). length k.unread < s.h1_hold_size) (sym x.0) (sym settings) x.2;
     }
 
-pub answer_less : (n : NextAnswer) (a b : servers.State) → servers.IsAllowed a asked.next → servers.GoesOn a asked.next (answers.SaysNext n) b → LeavesAnswer n a b
-answer_less (answered.Answer item) a b may one = answer_outcome a b _ (asked.answer one.says.0) one one.says.2
-answer_less (answered.Fault fault) a b may one = tt
-answer_less answered.Pending a b may one = awaited a b may one
-answer_less (answered.Closed end) a b may one = tt
+pub answer_less : (n : NextAnswer) (a b : servers.State) → b.settings ≡ a.settings → servers.IsAllowed a asked.next
+    → servers.GoesOn a asked.next (answers.SaysNext n) b → LeavesAnswer n a b
+answer_less (answered.Answer item) a b settings may one = answer_outcome a b _ (asked.answer one.says.0) one one.says.2
+answer_less (answered.Fault fault) a b settings may one = tt
+answer_less answered.Pending a b settings may one = awaited a b settings may one
+answer_less (answered.Closed end) a b settings may one = tt
 
 answer_left : (n : NextAnswer) (a b : servers.State) → servers.GoesOn a asked.next (answers.SaysNext n) b → (trace : List Happened) → servers.Stands a trace
     → server_left b.kept ≤ server_left a.kept
@@ -308,17 +312,16 @@ piece_outcome a b Says o may one is trace stands =
     subst (λ (o : asked.ClientOutcome). LeavesAfterPiece o a.kept b.kept) is
     (piece_leaves (asking.setting_of a.settings) a.kept b.kept trace one.outcome stands may one.step)
 
-pub piece_less : (n : Pulled) (a b : servers.State) → servers.IsAllowed a asked.pull → servers.GoesOn a asked.pull (bodies.SaysPulled n) b → LeavesPiece n a b
-piece_less (pulled.Bytes bytes) a b may one = piece_outcome a b _ (asked.bytes bytes) may one one.says
-piece_less (pulled.Trailers entries) a b may one = piece_outcome a b _ (asked.trailers one.says.0) may one one.says.1
-piece_less pulled.End a b may one = tt
-piece_less (pulled.Broken fault) a b may one = tt
-piece_less pulled.Pending a b may one = λ trace stands.
+pub piece_less : (n : Pulled) (a b : servers.State) → b.settings ≡ a.settings → servers.IsAllowed a asked.pull
+    → servers.GoesOn a asked.pull (bodies.SaysPulled n) b → LeavesPiece n a b
+piece_less (pulled.Bytes bytes) a b settings may one = piece_outcome a b _ (asked.bytes bytes) may one one.says
+piece_less (pulled.Trailers entries) a b settings may one = piece_outcome a b _ (asked.trailers one.says.0) may one one.says.1
+piece_less pulled.End a b settings may one = tt
+piece_less (pulled.Broken fault) a b settings may one = tt
+piece_less pulled.Pending a b settings may one = λ trace stands.
     let step = subst (λ (o : asked.ClientOutcome). IsClientStep (asking.setting_of a.settings) a.kept asked.pull o b.kept) one.says one.step in
-    record {
-      unread = (piece_outcome a b _ asked.pending may one one.says trace stands).0;
-      going = piece_not_ended (asking.setting_of a.settings) a.kept b.kept trace stands may step;
-    }
+    subst (λ (s : Settings). LacksPiece (asking.setting_of s) b.kept) (sym settings)
+    (pending_lacks (asking.setting_of a.settings) a.kept b.kept trace stands may step)
 
 piece_left : (n : Pulled) (a b : servers.State) → servers.IsAllowed a asked.pull → servers.GoesOn a asked.pull (bodies.SaysPulled n) b → (trace : List Happened)
     → servers.Stands a trace → server_left b.kept ≤ server_left a.kept
@@ -339,3 +342,26 @@ pub tick_stays : (ms : ℕ) (a b : servers.State) → b.settings ≡ a.settings 
 tick_stays ms a b settings one =
     server_one a (asked.tick ms) _ b settings one refl (ap given one.says) refl (λ n body. refl) (λ body. refl) refl
     (λ trace stands. let same = all_left (asking.setting_of a.settings) a.kept b.kept (asked.tick ms) one.outcome tt one.step in omega (arith, same))
+
+-- it was told the moment, or couldn't be
+pub tick_told : (ms : ℕ) (a b : servers.State) → b.settings ≡ a.settings → servers.IsAllowed a (asked.tick ms)
+    → servers.GoesOn a (asked.tick ms) (servers.Is asked.done) b → IsTold ms a b
+tick_told ms a b settings allowed one = inl (record {
+  settings = settings;
+  allowed = allowed;
+  step = subst (λ (o : asked.ClientOutcome). IsClientStep (asking.setting_of a.settings) a.kept (asked.tick ms) o b.kept) one.says one.step;
+})
+
+pub not_told : (ms : ℕ) (a : servers.State) → client_allows (asking.setting_of a.settings) a.kept (asked.tick ms) ≡ false → IsTold ms a a
+not_told ms a refused = inr (record { refused = refused; same = refl })
+
+-- an event other than a tick
+pub time_stays : (a : servers.State) (event : asked.ClientEvent) (Says : asked.ClientOutcome → Type 0) (b : servers.State) → b.settings ≡ a.settings
+    → servers.GoesOn a event Says b → ((n : ℕ) → now_after event n ≡ n) → KeepsTime a b
+time_stays a event Says b settings one same = λ trace stands.
+    let old = is_text (asking.setting_of a.settings) trace a.kept stands in
+    let new = is_text (asking.setting_of a.settings) (record { event = event; outcome = one.outcome } ∷ trace) b.kept (asked_step a b event one.outcome trace settings (one.stands trace stands)) in
+    new.now ∙ same (now_of trace) ∙ sym old.now
+
+pub time_same : (a : servers.State) → KeepsTime a a
+time_same a = λ trace stands. refl

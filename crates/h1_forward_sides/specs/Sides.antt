@@ -1,5 +1,5 @@
 -- What the calls of the two connections do.
-use Rattle.std.specs.Prelude.{◌≡◌, ℕ, ◌≤◌, Bool, true, false, IsTrue, List, ⊤}
+use Rattle.std.specs.Prelude.{◌≡◌, ◌⊎◌, ℕ, ◌≤◌, Bool, true, false, IsTrue, List}
 use Rattle.h1_model.specs.Request.{Head}
 use Rattle.h1_model.specs.Event as on
 use Rattle.h1_model.specs.Sums as sums
@@ -66,16 +66,29 @@ pub record ServerStays (old new : servers.State) : Type 0 where
   pub stays : Stays (asking.setting_of old.settings) old.kept new.kept
   pub left : (trace : List Happened) → servers.Stands old trace → server_left new.kept ≤ server_left old.kept
 
+-- the moment that it was told last stays
+abbrev pub KeepsTime : servers.State → servers.State → Type 0
+KeepsTime old new = (trace : List Happened) → servers.Stands old trace → new.kept.now ≡ old.kept.now
+
 -- the event was allowed, and is done
 pub record ServerDid (event : asked.ClientEvent) (old new : servers.State) : Type 0 where
   pub settings : new.settings ≡ old.settings
   pub allowed : IsTrue (client_allows (asking.setting_of old.settings) old.kept event)
   pub step : IsClientStep (asking.setting_of old.settings) old.kept event asked.done new.kept
 
+-- the event isn't allowed, and nothing was done
+pub record ServerDidNot (event : asked.ClientEvent) (old new : servers.State) : Type 0 where
+  pub refused : client_allows (asking.setting_of old.settings) old.kept event ≡ false
+  pub same : new ≡ old
+
 -- a request was asked, or it can't be
 abbrev pub MayAsk : Bool → ClientRequest → BodySize → servers.State → servers.State → Type 0
 MayAsk true request size old new = ServerDid (asked.ask request size) old new
-MayAsk false request size old new = ⊤
+MayAsk false request size old new = ServerDidNot (asked.ask request size) old new
+
+-- it was told this moment, or the moment may not come
+abbrev pub IsTold : ℕ → servers.State → servers.State → Type 0
+IsTold moment old new = ServerDid (asked.tick moment) old new ⊎ ServerDidNot (asked.tick moment) old new
 
 -- a piece of the body that is sent may come, and its end
 pub record SendsBody (s : servers.State) : Type 0 where

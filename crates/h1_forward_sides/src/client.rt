@@ -6,8 +6,8 @@ ghost use Rattle.h1_model.specs.Event as on;
 ghost use Rattle.h1_forward_sides.specs.Sides.{ClientBrings, BringsNext, BringsPulled};
 ghost use Rattle.h1_codec.specs.Meaning.{answer_of, size_of};
 ghost use Rattle.h1_forward_sides.specs.Leaves.{LeavesNext, LeavesPulled};
-ghost use Rattle.h1_forward_sides.specs.Wants.{Wants, WantsTheSame, WantsNext, HasHead, HasEnd};
-ghost use Rattle.h1_forward_sides.specs.Puts.{Puts, MayPut, HandsNext, HandsPulled};
+ghost use Rattle.h1_forward_sides.specs.Wants.{Wants, WantsTheSame, WantsNext, HasHead, HasEnd, TellsToGoOn};
+ghost use Rattle.h1_forward_sides.specs.Puts.{MayLeave, begins, continues, ends, breaks_off, Puts, MayPut, HandsNext, HandsPulled};
 
 use h1_connection::{BodySize, Bytes, Connection, NextHead, NoMemory, Pulled, ResponseHead};
 
@@ -43,7 +43,7 @@ pub fn next_bytes(client: &mut Connection) -> Result<Pulled, NoMemory>
 pub fn leave_body(client: &mut Connection)
     ensures brings { ClientBrings on.done client.old client.new }
     ensures wants { Wants WantsTheSame client.old client.new }
-    ensures puts { Puts [] client.old client.new }
+    ensures puts { MayLeave client.old client.new }
 {
     if !client.can_pull() {
         return;
@@ -55,6 +55,7 @@ pub fn leave_body(client: &mut Connection)
 pub fn tell_to_go_on(client: &mut Connection) -> Result<(), NoMemory>
     ensures brings { OnOk result (ClientBrings on.done client.old client.new) }
     ensures wants { OnOk result (Wants WantsTheSame client.old client.new) }
+    ensures told { OnOk result (Wants TellsToGoOn client.old client.new) }
     ensures puts { OnOk result (Puts [] client.old client.new) }
 {
     if !client.can_continue() {
@@ -72,7 +73,7 @@ pub fn put_head(
 ) -> Result<(), NoMemory>
     ensures brings { OnOk result (ClientBrings on.done client.old client.new) }
     ensures wants { OnOk result (Wants (HasHead (size_of size)) client.old client.new) }
-    ensures puts { OnOk result (MayPut (record { head = answer_of head.now; size = size_of size }) client.old client.new) }
+    ensures puts { OnOk result (MayPut (begins (record { head = answer_of head.now; size = size_of size })) client.old client.new) }
 {
     if !client.can_answer() {
         return Ok(());
@@ -85,7 +86,7 @@ pub fn put_head(
 pub fn put_piece(client: &mut Connection, bytes: Bytes) -> Result<(), NoMemory>
     ensures brings { OnOk result (ClientBrings on.done client.old client.new) }
     ensures wants { OnOk result (Wants WantsTheSame client.old client.new) }
-    ensures puts { OnOk result (Puts [] client.old client.new) }
+    ensures puts { OnOk result (MayPut (continues bytes) client.old client.new) }
 {
     if !client.can_chunk() {
         return Ok(());
@@ -98,7 +99,7 @@ pub fn put_piece(client: &mut Connection, bytes: Bytes) -> Result<(), NoMemory>
 pub fn put_end(client: &mut Connection) -> Result<(), NoMemory>
     ensures brings { OnOk result (ClientBrings on.done client.old client.new) }
     ensures wants { OnOk result (Wants HasEnd client.old client.new) }
-    ensures puts { OnOk result (Puts [] client.old client.new) }
+    ensures puts { OnOk result (MayPut ends client.old client.new) }
 {
     if !client.can_end_answer() {
         return Ok(());
@@ -111,7 +112,7 @@ pub fn put_end(client: &mut Connection) -> Result<(), NoMemory>
 pub fn cut_reply(client: &mut Connection)
     ensures brings { ClientBrings on.done client.old client.new }
     ensures wants { Wants HasEnd client.old client.new }
-    ensures puts { Puts [] client.old client.new }
+    ensures puts { MayPut breaks_off client.old client.new }
 {
     if !client.can_end_answer() {
         return;

@@ -1,8 +1,9 @@
-use Rattle.std.proofs.Common.{refl, sym, ◌∙◌, []}
+use Rattle.std.proofs.Common.{refl, sym, ◌∙◌, inl, inr, [], ◌∷◌}
 use Rattle.h1_model.specs.Event as on
 use Rattle.h1_forward_sides.proofs.Sides.{client_plain}
 use Rattle.h1_forward_sides.proofs.Wants.{was_cut, end_not_wanted}
-use Rattle.h1_forward_sides.proofs.Puts.{one_puts, puts_none}
+use Rattle.h1_forward_sides.proofs.Puts.{one_puts}
+use Rattle.h1_forward_sides.specs.Puts.{breaks_off}
 use Rattle.h1_forward_sides.proofs.client.cut_reply.Goals as goal
 
 pub returns-then-not-can_end_answer-clause-wants : goal.returns-then-not-can_end_answer-clause-wants
@@ -16,7 +17,7 @@ pub returns-clause-wants : goal.returns-clause-wants
 returns-clause-wants c = was_cut c.args.client.now c.fail_answer.new.self c.fail_answer.ensures.settings c.fail_answer.ensures.stands
 
 pub returns-then-not-can_end_answer-clause-puts : goal.returns-then-not-can_end_answer-clause-puts
-returns-then-not-can_end_answer-clause-puts c = puts_none c.args.client.now
+returns-then-not-can_end_answer-clause-puts c = inl (sym c.can_end_answer.ensures.fails ∙ c.if-not-can_end_answer.true, refl)
 
 pub returns-clause-puts : goal.returns-clause-puts
-returns-clause-puts c = one_puts c.args.client.now on.body_error _ c.fail_answer.new.self [] c.fail_answer.ensures.stands refl
+returns-clause-puts c = inr (one_puts c.args.client.now on.body_error _ c.fail_answer.new.self (breaks_off ∷ []) c.fail_answer.ensures.stands (λ o says. refl))

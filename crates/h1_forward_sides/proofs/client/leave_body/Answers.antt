@@ -1,8 +1,9 @@
-use Rattle.std.proofs.Common.{refl, sym, ◌∙◌, []}
+use Rattle.std.proofs.Common.{inl, inr, refl, sym, ◌∙◌, [], ◌∷◌}
 use Rattle.h1_model.specs.Event as on
-use Rattle.h1_forward_sides.proofs.Sides.{client_same, client_plain}
+use Rattle.h1_forward_sides.proofs.Sides.{client_plain}
 use Rattle.h1_forward_sides.proofs.Wants.{wants_same, client_wants}
-use Rattle.h1_forward_sides.proofs.Puts.{one_puts, puts_none}
+use Rattle.h1_forward_sides.specs.Puts.{leaves_rest}
+use Rattle.h1_forward_sides.proofs.Puts.{one_puts}
 use Rattle.h1_forward_sides.proofs.client.leave_body.Goals as goal
 
 pub returns-then-not-can_pull-clause-wants : goal.returns-then-not-can_pull-clause-wants
@@ -17,7 +18,7 @@ returns-clause-wants c =
     (sym c.can_pull.ensures.value ∙ c.if-not-can_pull.false)
 
 pub returns-then-not-can_pull-clause-puts : goal.returns-then-not-can_pull-clause-puts
-returns-then-not-can_pull-clause-puts c = puts_none c.args.client.now
+returns-then-not-can_pull-clause-puts c = inl (refl, sym c.can_pull.ensures.value ∙ c.if-not-can_pull.true)
 
 pub returns-clause-puts : goal.returns-clause-puts
-returns-clause-puts c = one_puts c.args.client.now on.drop_body _ c.drop_body.new.self [] c.drop_body.ensures.stands refl
+returns-clause-puts c = inr (one_puts c.args.client.now on.drop_body _ c.drop_body.new.self (leaves_rest ∷ []) c.drop_body.ensures.stands (λ o says. refl))

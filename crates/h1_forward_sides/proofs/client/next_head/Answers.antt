@@ -1,6 +1,6 @@
 use Rattle.std.proofs.Common.{sym, ◌∙◌}
 use Rattle.std.proofs.lemmas.Bool.{false≢true}
-use Rattle.h1_forward_sides.proofs.Sides.{client_same, next_brings, next_less}
+use Rattle.h1_forward_sides.proofs.Sides.{next_brings, next_less}
 use Rattle.h1_forward_sides.proofs.Wants.{wants_same, head_wants}
 use Rattle.h1_forward_sides.proofs.Puts.{next_hands, puts_none}
 use Rattle.h1_forward_sides.proofs.client.next_head.Goals as goal
@@ -23,7 +23,7 @@ pub returns-then-not-can_next-clause-wants : goal.returns-then-not-can_next-clau
 returns-then-not-can_next-clause-wants c = λ trace stands. wants_same c.args.client.now
 
 pub returns-clause-hands : goal.returns-clause-hands
-returns-clause-hands c = next_hands c.in_ok-next.next c.args.client.now c.next.new.self c.in_ok-next.ensures.stands
+returns-clause-hands c = next_hands c.in_ok-next.next c.args.client.now c.next.new.self c.next.ensures.settings c.in_ok-next.ensures.stands
 
 pub returns-then-not-can_next-clause-hands : goal.returns-then-not-can_next-clause-hands
 returns-then-not-can_next-clause-hands c = puts_none c.args.client.now

@@ -1,8 +1,9 @@
-use Rattle.std.proofs.Common.{refl, sym, ◌∙◌, []}
+use Rattle.std.proofs.Common.{refl, sym, ◌∙◌, inl, inr, [], ◌∷◌}
 use Rattle.h1_model.specs.Event as on
 use Rattle.h1_forward_sides.proofs.Sides.{client_plain}
 use Rattle.h1_forward_sides.proofs.Wants.{has_end, end_not_wanted}
-use Rattle.h1_forward_sides.proofs.Puts.{one_puts, puts_none}
+use Rattle.h1_forward_sides.proofs.Puts.{one_puts}
+use Rattle.h1_forward_sides.specs.Puts.{ends}
 use Rattle.h1_forward_sides.proofs.client.put_end.Goals as goal
 
 pub returns-then-not-can_end_answer-clause-wants : goal.returns-then-not-can_end_answer-clause-wants
@@ -18,7 +19,7 @@ returns-clause-wants c =
     (sym c.can_end_answer.ensures.ends ∙ c.if-not-can_end_answer.false)
 
 pub returns-then-not-can_end_answer-clause-puts : goal.returns-then-not-can_end_answer-clause-puts
-returns-then-not-can_end_answer-clause-puts c = puts_none c.args.client.now
+returns-then-not-can_end_answer-clause-puts c = inl (sym c.can_end_answer.ensures.ends ∙ c.if-not-can_end_answer.true, refl)
 
 pub returns-clause-puts : goal.returns-clause-puts
-returns-clause-puts c = one_puts c.args.client.now on.body_end _ c.end_answer.new.self [] c.in_ok-end_answer.ensures.stands refl
+returns-clause-puts c = inr (one_puts c.args.client.now on.body_end _ c.end_answer.new.self (ends ∷ []) c.in_ok-end_answer.ensures.stands (λ o says. refl))

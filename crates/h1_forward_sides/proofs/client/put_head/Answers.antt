@@ -3,6 +3,7 @@ use Rattle.h1_model.specs.Event as on
 use Rattle.h1_codec.specs.Meaning.{answer_of, size_of}
 use Rattle.h1_forward_sides.proofs.Sides.{client_plain}
 use Rattle.h1_forward_sides.proofs.Wants.{has_head, head_not_wanted}
+use Rattle.h1_forward_sides.specs.Puts.{begins}
 use Rattle.h1_forward_sides.proofs.Puts.{one_puts}
 use Rattle.h1_forward_sides.proofs.client.put_head.Goals as goal
 
@@ -26,4 +27,4 @@ returns-then-not-can_answer-clause-puts c =
 pub returns-clause-puts : goal.returns-clause-puts
 returns-clause-puts c =
     inr (one_puts c.args.client.now (on.answer (answer_of c.args.head.now) (size_of c.args.size)) _ c.answer.new.self
-    (record { head = answer_of c.args.head.now; size = size_of c.args.size } ∷ []) c.in_ok-answer.ensures.stands refl)
+    (begins (record { head = answer_of c.args.head.now; size = size_of c.args.size }) ∷ []) c.in_ok-answer.ensures.stands (λ o says. refl))

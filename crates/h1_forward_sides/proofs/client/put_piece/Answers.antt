@@ -1,8 +1,9 @@
-use Rattle.std.proofs.Common.{refl, sym, ◌∙◌, []}
+use Rattle.std.proofs.Common.{refl, sym, ◌∙◌, inl, inr, [], ◌∷◌}
 use Rattle.h1_model.specs.Event as on
-use Rattle.h1_forward_sides.proofs.Sides.{client_same, client_plain}
+use Rattle.h1_forward_sides.proofs.Sides.{client_plain}
 use Rattle.h1_forward_sides.proofs.Wants.{wants_same, client_wants}
-use Rattle.h1_forward_sides.proofs.Puts.{one_puts, puts_none}
+use Rattle.h1_forward_sides.proofs.Puts.{one_puts}
+use Rattle.h1_forward_sides.specs.Puts.{continues}
 use Rattle.h1_forward_sides.proofs.client.put_piece.Goals as goal
 
 pub returns-then-not-can_chunk-clause-wants : goal.returns-then-not-can_chunk-clause-wants
@@ -17,7 +18,7 @@ returns-clause-wants c =
     (sym (c.can_chunk.ensures c.args.bytes) ∙ c.if-not-can_chunk.false)
 
 pub returns-then-not-can_chunk-clause-puts : goal.returns-then-not-can_chunk-clause-puts
-returns-then-not-can_chunk-clause-puts c = puts_none c.args.client.now
+returns-then-not-can_chunk-clause-puts c = inl (sym (c.can_chunk.ensures c.args.bytes) ∙ c.if-not-can_chunk.true, refl)
 
 pub returns-clause-puts : goal.returns-clause-puts
-returns-clause-puts c = one_puts c.args.client.now (on.chunk c.args.bytes) _ c.chunk_bytes.new.self [] c.in_ok-chunk_bytes.ensures.stands refl
+returns-clause-puts c = inr (one_puts c.args.client.now (on.chunk c.args.bytes) _ c.chunk_bytes.new.self (continues c.args.bytes ∷ []) c.in_ok-chunk_bytes.ensures.stands (λ o says. refl))
