@@ -11,11 +11,11 @@ pub begins : (p : Proxy) → Forwards p [] nothing_happened → HasHistory p
 begins p stands = record { history = []; all = nothing_happened; stands = stands }
 
 pub goes_on : (old new : Proxy) → HasHistory old → Goes old new → HasHistory new
-goes_on old new x goes = let y = goes x.history x.all x.stands in record { history = x.history; all = y.0; stands = y.1 }
+goes_on old new x goes = let y = goes.1 x.history x.all x.stands in record { history = x.history; all = y.0; stands = y.1 }
 
 pub goes_by : (event : ProxyEvent) (outcome : ProxyOutcome) (old new : Proxy) → HasHistory old → GoesBy event outcome old new → HasHistory new
 goes_by event outcome old new x goes =
-    let y = goes x.history x.all x.stands in
+    let y = goes.1 x.history x.all x.stands in
     record { history = record { event = event; outcome = outcome } ∷ x.history; all = y.0; stands = y.1 }
 
 -- the same of the forwarder as it is seen

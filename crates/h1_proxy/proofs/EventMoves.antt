@@ -13,15 +13,16 @@ use Rattle.h1_connection.specs.declared.connection.ticks.Expiry.{Expiry}
 use Rattle.h1_connection.specs.declared.connection.ticks.Expiry.TheVariants as expiry
 use Rattle.h1_machine.proofs.Stands.{fresh_stands}
 use Rattle.h1_forward_model.specs.Exchange.{pulled}
-use Rattle.h1_forward_model.specs.Past.{ProxyEvent, ProxyOutcome, client, server, client_eof, server_eof, connected, refused, to_client, to_server, tick, took, gave, done}
+use Rattle.h1_forward_model.specs.Past.{ProxyStep, ProxyEvent, ProxyOutcome, tick_of, client, server, client_eof, server_eof, connected, refused, to_client, to_server, tick, took, gave, done}
 use Rattle.h1_forward_model.specs.Past as past
-use Rattle.h1_forward_traces.specs.Happenings.{nothing_happened}
+use Rattle.h1_forward_traces.specs.Happenings.{Happenings, nothing_happened}
 use Rattle.h1_forward_traces.proofs.Quiet.{BringsNothing, done_brings_nothing}
 use Rattle.h1_forward_traces.proofs.Events.{client_leaves, client_eof_leaves, to_client_leaves, tick_leaves, refused_leaves, server_none_leaves, read_changes, eof_changes, write_changes, read_adds, eof_adds, write_adds}
 use Rattle.h1_forward_sides.proofs.Sides.{client_does, server_does}
 use Rattle.h1_proxy.specs.declared.proxy.Proxy.{Proxy}
 use Rattle.h1_proxy.specs.declared.proxy.Unsent.{Unsent}
-use Rattle.h1_proxy.specs.Kept.{Forwards, Goes, GoesBy, is_closing, wants_server, server_allows, server_text}
+use Rattle.h1_proxy.specs.Kept.{Forwards, IsTimed, GoesBy, client_takes, is_closing, wants_server, server_allows, server_text}
+use Rattle.h1_proxy.proofs.Times.{quiet_time, tick_time, no_time}
 use Rattle.h1_proxy.proofs.Moves.{nothing_by, client_by, server_by, of_server_by, by_then, connected_by, refused_moves}
 
 -- ---- nothing happens
@@ -51,6 +52,10 @@ of_none_by event outcome p o none now x = subst (λ (s : Option servers.State). 
 
 -- ---- the client's connection
 
+quiet_by : (event : ProxyEvent) (outcome : ProxyOutcome) (p : Proxy) → tick_of event ≡ None → (history : List ProxyStep) (all : Happenings)
+    → Forwards p history all → IsTimed p.moment p.server (record { event = event; outcome = outcome } ∷ history)
+quiet_by event outcome p none history all f = quiet_time event outcome p.moment p.server history none f.time
+
 took_brings_nothing : (n : ℕ) → BringsNothing (on.took n)
 took_brings_nothing n = record { head = refl; more = λ p. refl }
 
@@ -60,13 +65,13 @@ gave_brings_nothing bytes = record { head = refl; more = λ p. refl }
 pub client_reads : (bytes : List ℕ) (n : ℕ) (p : Proxy) (c : State) → c.settings ≡ p.client.settings → GoesOn p.client (on.read bytes) (Is (on.took n)) c
     → GoesBy (client bytes) (took n) p (record p { client = c })
 client_reads bytes n p c settings one =
-    client_by (on.read bytes) (on.took n) (client bytes) (took n) p c (took_brings_nothing n) refl refl refl (client_leaves bytes (took n)) settings
+    client_by (on.read bytes) (on.took n) (client bytes) (took n) p c p.moment (quiet_by (client bytes) (took n) p refl) (took_brings_nothing n) refl refl refl (client_leaves bytes (took n)) settings
     (client_does p.client (on.read bytes) (on.took n) c settings one)
 
 pub client_ends : (p : Proxy) (c : State) → c.settings ≡ p.client.settings → GoesOn p.client on.eof (Is on.done) c
     → GoesBy client_eof done p (record p { client = c })
 client_ends p c settings one =
-    client_by on.eof on.done client_eof done p c done_brings_nothing refl refl refl (client_eof_leaves done) settings
+    client_by on.eof on.done client_eof done p c p.moment (quiet_by client_eof done p refl) done_brings_nothing refl refl refl (client_eof_leaves done) settings
     (client_does p.client on.eof on.done c settings one)
 
 pub client_writes : (n : ℕ) (p : Proxy) (c : State) → c.settings ≡ p.client.settings
@@ -74,27 +79,24 @@ pub client_writes : (n : ℕ) (p : Proxy) (c : State) → c.settings ≡ p.clien
     → GoesBy (to_client n) (gave (take n p.client.kept.buffered)) p (record p { client = c })
 client_writes n p c settings one =
     let bytes = take n p.client.kept.buffered in
-    client_by (on.write n) (on.gave bytes) (to_client n) (gave bytes) p c (gave_brings_nothing bytes) refl refl refl (to_client_leaves n (gave bytes)) settings
+    client_by (on.write n) (on.gave bytes) (to_client n) (gave bytes) p c p.moment (quiet_by (to_client n) (gave bytes) p refl) (gave_brings_nothing bytes) refl refl refl (to_client_leaves n (gave bytes)) settings
     (client_does p.client (on.write n) (on.gave bytes) c settings one)
 
 -- a moment comes, and is kept
-pub ticks : (ms : ℕ) (e : Expiry) (p : Proxy) (c : State) (m : Option ℕ) → c.settings ≡ p.client.settings
-    → GoesOn p.client (on.tick ms) (Is (expiry_of e)) c → GoesBy (tick ms) done p (record p { client = c; moment = m })
-ticks ms e p c m settings one = by_then (tick ms) done p (record p { client = c }) (record p { client = c; moment = m }) (ticks_by e one) (keeps_moment (record p { client = c }) m)
+pub ticks : (ms : ℕ) (e : Expiry) (p : Proxy) (c : State) → IsTrue (client_takes p (on.tick ms)) → c.settings ≡ p.client.settings
+    → GoesOn p.client (on.tick ms) (Is (expiry_of e)) c → GoesBy (tick ms) done p (record p { client = c; moment = Some ms })
+ticks ms e p c may settings one = ticks_by e one
   where
-    keeps_moment : (p : Proxy) (m : Option ℕ) → Goes p (record p { moment = m })
-    keeps_moment p m = λ history all f. (all, record { client = f.client; server = f.server; carries = f.carries })
-
-    ticks_by : (e : Expiry) → GoesOn p.client (on.tick ms) (Is (expiry_of e)) c → GoesBy (tick ms) done p (record p { client = c })
+    ticks_by : (e : Expiry) → GoesOn p.client (on.tick ms) (Is (expiry_of e)) c → GoesBy (tick ms) done p (record p { client = c; moment = Some ms })
     ticks_by expiry.None one =
-        client_by (on.tick ms) on.done (tick ms) done p c done_brings_nothing refl refl refl (tick_leaves ms done) settings
+        client_by (on.tick ms) on.done (tick ms) done p c (Some ms) (tick_time ms done (tick ms) p refl may) done_brings_nothing refl refl refl (tick_leaves ms done) settings
         (client_does p.client (on.tick ms) on.done c settings one)
     ticks_by (expiry.Expired end) one =
         let o = expiry_of (expiry.Expired end) in
-        client_by (on.tick ms) o (tick ms) done p c (record { head = refl; more = λ p. refl }) refl refl refl (tick_leaves ms done) settings
+        client_by (on.tick ms) o (tick ms) done p c (Some ms) (tick_time ms done (tick ms) p refl may) (record { head = refl; more = λ p. refl }) refl refl refl (tick_leaves ms done) settings
         (client_does p.client (on.tick ms) o c settings one)
     ticks_by expiry.Abandoned one =
-        client_by (on.tick ms) on.abandoned (tick ms) done p c (record { head = refl; more = λ p. refl }) refl refl refl (tick_leaves ms done) settings
+        client_by (on.tick ms) on.abandoned (tick ms) done p c (Some ms) (tick_time ms done (tick ms) p refl may) (record { head = refl; more = λ p. refl }) refl refl refl (tick_leaves ms done) settings
         (client_does p.client (on.tick ms) on.abandoned c settings one)
 
 -- ---- a server's connection
@@ -103,14 +105,14 @@ pub server_reads : (bytes : List ℕ) (n : ℕ) (p : Proxy) (a b : servers.State
     → servers.GoesOn a (asked.read bytes) (servers.Is (asked.took n)) b → GoesBy (server bytes) (took n) p (record p { server = Some b })
 server_reads bytes n p a b is settings one =
     of_server_by (server bytes) (took n) p (record p { server = Some b }) a is
-    (server_by (asked.read bytes) (asked.took n) (server bytes) (took n) p a b (read_adds bytes) (record { taken = refl; written = refl; moment = refl })
+    (server_by (asked.read bytes) (asked.took n) (server bytes) (took n) p a b (read_adds bytes) (λ n. refl) (record { taken = refl; written = refl; moment = refl })
     (read_changes bytes n) settings (server_does a (asked.read bytes) (asked.took n) b settings one))
 
 pub server_ends : (p : Proxy) (a b : servers.State) → p.server ≡ Some a → b.settings ≡ a.settings
     → servers.GoesOn a asked.eof (servers.Is asked.done) b → GoesBy server_eof done p (record p { server = Some b })
 server_ends p a b is settings one =
     of_server_by server_eof done p (record p { server = Some b }) a is
-    (server_by asked.eof asked.done server_eof done p a b eof_adds (record { taken = refl; written = refl; moment = refl })
+    (server_by asked.eof asked.done server_eof done p a b eof_adds (λ n. refl) (record { taken = refl; written = refl; moment = refl })
     eof_changes settings (server_does a asked.eof asked.done b settings one))
 
 pub server_writes : (n : ℕ) (p : Proxy) (a b : servers.State) → p.server ≡ Some a → b.settings ≡ a.settings
@@ -120,16 +122,16 @@ server_writes n p a b is settings one =
     let bytes = take n a.kept.buffered in
     let made : GoesBy (to_server n) (gave bytes) p (record p { server = Some b }) =
     of_server_by (to_server n) (gave bytes) p (record p { server = Some b }) a is
-    (server_by (asked.write n) (asked.gave bytes) (to_server n) (gave bytes) p a b (write_adds n) (record { taken = refl; written = refl; moment = refl })
+    (server_by (asked.write n) (asked.gave bytes) (to_server n) (gave bytes) p a b (write_adds n) (λ n. refl) (record { taken = refl; written = refl; moment = refl })
     (write_changes n bytes) settings (server_does a (asked.write n) (asked.gave bytes) b settings one)) in
     subst (λ (o : Option servers.State). GoesBy (to_server n) (gave (take n (server_text o))) p (record p { server = Some b })) (sym is) made
 
 -- ---- a new forwarder
 
-pub new_forwards : (p : Proxy) (c : State) → c ≡ fresh_state p.config → Forwards (record p { client = c; server = None; unsent = None; sent = None }) [] nothing_happened
+pub new_forwards : (p : Proxy) (c : State) → c ≡ fresh_state p.config → Forwards (record p { client = c; server = None; unsent = None; sent = None; moment = None }) [] nothing_happened
 unfolding sums.taken sums.written sums.last_tick pulled past.client_taken past.client_given past.last_tick past.servers
 new_forwards p c is =
-    subst (λ (c : State). Forwards (record p { client = c; server = None; unsent = None; sent = None }) [] nothing_happened) (sym is) (record {
+    subst (λ (c : State). Forwards (record p { client = c; server = None; unsent = None; sent = None; moment = None }) [] nothing_happened) (sym is) (record {
       client = refl;
       server = tt;
       carries = record {
@@ -142,6 +144,7 @@ new_forwards p c is =
           sent = record { requests = refl; sent = refl; rightly = tt; links = tt };
         };
       };
+      time = no_time;
     })
 
 -- ---- a server connection that is wanted

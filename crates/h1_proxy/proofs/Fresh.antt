@@ -1,5 +1,5 @@
 -- Where all that came from a server was read, and a turn begins.
-use Rattle.std.proofs.Common.{◌≡◌, ℕ, Bool, true, false, not, ◌&&◌, List, [], ◌∷◌, ◌++◌, length, Option, Some, None, refl, sym, ap, ◌∙◌, subst, append_assoc, append-nil}
+use Rattle.std.proofs.Common.{◌≡◌, ℕ, Bool, true, false, not, ◌&&◌, ◌||◌, inl, inr, List, [], ◌∷◌, ◌++◌, length, Option, Some, None, refl, sym, ap, ◌∙◌, subst, append_assoc, append-nil}
 use Rattle.std.specs.Prelude.{is_some, option_map, if◌then◌else◌}
 use Rattle.std.proofs.lemmas.Bool.{false≢true, true≢false}
 use Rattle.std.proofs.lemmas.List.{nil_from_length}
@@ -14,11 +14,14 @@ use Rattle.h1_client_machine.proofs.OneStep.{one_state}
 use Rattle.h1_client_machine.proofs.Left.{step_leaves}
 use Rattle.h1_client_machine.proofs.Answered.{answered}
 use Rattle.h1_client.specs.Meaning as asking
+use Rattle.h1_client.specs.Meaning.{request_of}
 use Rattle.h1_client.specs.State as servers
+use Rattle.h1_codec.specs.Meaning.{size_of}
+use Rattle.h1_forward_sides.specs.Sides.{MayAsk}
 use Rattle.h1_proxy.specs.declared.proxy.Proxy.{Proxy}
 use Rattle.h1_proxy.specs.declared.proxy.Unsent.{Unsent}
 use Rattle.h1_proxy.specs.Rests.{may_turn}
-use Rattle.h1_proxy.specs.Fresh.{HasReadAll, SendsAfterAll, IsReadFrom}
+use Rattle.h1_proxy.specs.Fresh.{HasReadAll, is_used, is_server_used, IsToldTime, CannotSend, WaitsOn, SendsOrWaits, SendsWhereItCan, IsReadFrom}
 
 -- ---- a turn
 
@@ -30,15 +33,42 @@ pub may_of : (still : Bool) (p : Proxy) → still ≡ not (may_turn p) → still
 may_of still p is now = not_false (may_turn p) (sym is ∙ now)
 
 -- none waited
-pub idle_sends : (p q : Proxy) → p.unsent ≡ None → SendsAfterAll p q
-idle_sends p q none = λ u is _. let no : ◌≡◌ {A = Option Unsent} None (Some u) = sym none ∙ is in absurd (cc no)
+pub idle_sends : (p q : Proxy) → p.unsent ≡ None → SendsWhereItCan p q
+idle_sends p q none = λ u is. let no : ◌≡◌ {A = Option Unsent} None (Some u) = sym none ∙ is in absurd (cc no)
 
--- it still waits
-pub waits_sends : (p q : Proxy) (u : Unsent) → q.unsent ≡ Some u → SendsAfterAll p q
-waits_sends p q u there = λ v is none. let no : ◌≡◌ {A = Option Unsent} (Some u) None = sym there ∙ none in absurd (cc no)
+-- no turn may be made
+pub still_sends : (p : Proxy) → may_turn p ≡ false → SendsWhereItCan p p
+still_sends p still = λ u is. inl (still, refl)
 
-pub still_sends : (p : Proxy) → SendsAfterAll p p
-still_sends p = λ u is none. let no : ◌≡◌ {A = Option Unsent} (Some u) None = sym is ∙ none in absurd (cc no)
+-- one waits, and was taken out
+pub sends_of_unsent : (p q : Proxy) (u : Unsent) → p.unsent ≡ Some u → SendsOrWaits u (record p { unsent = Some u }) q → SendsWhereItCan p q
+sends_of_unsent p q u is x = λ v waits.
+    let both : ◌≡◌ {A = Option Unsent} (Some u) (Some v) = sym is ∙ waits in
+    let same : u ≡ v = cc both in
+    inr (subst (λ (w : Unsent). SendsOrWaits w p q) same (subst (λ (o : Option Unsent). SendsOrWaits u (record p { unsent = o }) q) (sym is) x))
+
+-- ---- a request waits on
+
+pub used_some : (s : Option servers.State) → is_server_used s ≡ true → is_some s ≡ true
+used_some (Some s) used = refl
+used_some None used = absurd (false≢true used)
+
+pub cannot_used : (u : Unsent) (moment : Option ℕ) (s : Option servers.State) → is_server_used s ≡ true → CannotSend u moment s
+cannot_used u moment (Some s) used = inl used
+cannot_used u moment None used = absurd (false≢true used)
+
+pub cannot_none : (u : Unsent) (moment : Option ℕ) (s : Option servers.State) → s ≡ None → CannotSend u moment s
+cannot_none u moment s none = subst (λ (s : Option servers.State). CannotSend u moment s) (sym none) tt
+
+pub cannot_refused : (u : Unsent) (moment : Option ℕ) (s : Option servers.State) (a told after : servers.State) (asked_it : Bool) → s ≡ Some a
+    → IsToldTime moment a told → MayAsk asked_it (request_of u.head) (size_of u.size) told after → asked_it ≡ false → CannotSend u moment s
+cannot_refused u moment s a told after asked_it is tells may not_asked =
+    let refused = subst (λ (b : Bool). MayAsk b (request_of u.head) (size_of u.size) told after) not_asked may in
+    subst (λ (s : Option servers.State). CannotSend u moment s) (sym is) (inr (told, tells, refused.refused))
+
+-- the server connection was taken out
+pub waits_as : (u : Unsent) (p : Proxy) (o : Option servers.State) → o ≡ None → CannotSend u p.moment p.server → WaitsOn u p (record p { server = o })
+waits_as u p o is cannot = record { cannot = cannot; waits = ap (λ (o : Option servers.State). record p { server = o }) is }
 
 -- ---- all was read
 
@@ -65,15 +95,47 @@ free_of true free closing none is = absurd (false≢true is)
 free_of false free (Some e) none is = let no : ◌≡◌ {A = Option ClientEnd} (Some e) None = none in absurd (cc no)
 free_of false free None none is = is
 
-pub none_mapped : {A B : Type 0} → (f : A → B) → (o : Option A) → is_some o ≡ false → option_map f o ≡ None
-none_mapped f None is = refl
-none_mapped f (Some a) is = absurd (true≢false is)
+pub some_mapped : {A B : Type 0} → (f : A → B) → (o : Option A) → is_some (option_map f o) ≡ is_some o
+some_mapped f None = refl
+some_mapped f (Some a) = refl
 
-pub read_all : (s : servers.State) → client_closing s.kept ≡ None → length s.kept.waiting ≡ 0 → client_allows (asking.setting_of s.settings) s.kept asked.next ≡ true
-    → HasReadAll s
-read_all s none few may =
+none_of : {A : Type 0} → (o : Option A) → is_some o ≡ false → o ≡ None
+none_of None is = refl
+none_of (Some a) is = absurd (true≢false is)
+
+nobody : (waiting : List Waiting) → is_waited_for waiting ≡ false → waiting ≡ []
+nobody [] is = refl
+nobody (w ∷ ws) is = absurd (true≢false is)
+
+-- what tells that it is not used
+pub unused : (closes waits may : Bool) → (closes || waits || not may) ≡ false → (closes ≡ false) × (waits ≡ false) × (may ≡ true)
+unused false false true is = (refl, refl, refl)
+unused true waits may is = absurd (true≢false is)
+unused false true may is = absurd (true≢false is)
+unused false false false is = absurd (true≢false is)
+
+pub used_closes : (closes waits may : Bool) → closes ≡ true → false ≡ not (closes || waits || not may)
+used_closes true waits may is = refl
+used_closes false waits may is = absurd (false≢true is)
+
+pub used_waits : (closes : Bool) (waiting : List Waiting) (may : Bool) → (length waiting ≡ 0 → ⊥) → false ≡ not (closes || is_waited_for waiting || not may)
+used_waits true waiting may some = refl
+used_waits false (w ∷ ws) may some = refl
+used_waits false [] may some = absurd (some refl)
+
+pub used_next : (closes : Bool) (waiting : List Waiting) (may : Bool) → closes ≡ false → length waiting ≡ 0 → may ≡ not (closes || is_waited_for waiting || not may)
+used_next false [] true goes few = refl
+used_next false [] false goes few = refl
+used_next true waiting may goes few = absurd (true≢false goes)
+used_next false (w ∷ ws) may goes few = let no : ◌≡◌ {A = List Waiting} (w ∷ ws) [] = nil_from_length (w ∷ ws) few in absurd (cc no)
+
+pub read_all : (s : servers.State) → is_used s ≡ false → HasReadAll s
+read_all s is =
     let k = s.kept in
-    let waiting = nil_from_length k.waiting few in
+    let x = unused (is_some (client_closing k)) (is_waited_for k.waiting) (client_allows (asking.setting_of s.settings) k asked.next) is in
+    let none = none_of (client_closing k) x.0 in
+    let waiting = nobody k.waiting x.1 in
+    let may = x.2 in
     let free = free_of k.is_over (is_free k) (client_closing k) none may in
     let quiet = none_unasked k.failed (is_free k) k.closes (not (is_waited_for k.waiting) && has_bytes k.unread)
     (if k.has_ended && not k.is_coming then Some asked.input_ended else None) free none in

@@ -11,7 +11,7 @@ use Rattle.h1_machine.specs.Local.{closing_by}
 use Rattle.h1_machine.specs.StandsFor.{StandsFor}
 use Rattle.h1_decode.specs.declared.decoder.HeadItem.{HeadItem}
 use Rattle.h1_connection.specs.Meaning.{setting_of}
-use Rattle.h1_connection.specs.State.{State, Stands, IsAllowed, IsNextAllowed}
+use Rattle.h1_connection.specs.State.{State, Stands, IsAllowed}
 use Rattle.h1_client_machine.specs.ClientEvent as asked
 use Rattle.h1_client_machine.specs.ClientKept.{ReadingBody}
 use Rattle.h1_client_machine.specs.ClientTrace.{Happened, IsClientTrace}
@@ -23,7 +23,7 @@ use Rattle.h1_forward_left.specs.Left.{request_left as rest_left, client_left, a
 use Rattle.h1_forward_left.proofs.Pulls.{at_most_one}
 use Rattle.h1_forward_left.proofs.Server.{all_left, held_fits}
 use Rattle.h1_forward_sides.specs.Sides.{ClientBrings, ClientBringsHead, ServerStays, ServerDid, SendsBody}
-use Rattle.h1_forward_sides.specs.Leaves.{IsAwaited, LacksBytes}
+use Rattle.h1_forward_sides.specs.Leaves.{LacksHead, LacksMore, IsAwaited, LacksBytes}
 use Rattle.h1_forward_model.specs.Past.{ProxyStep, ProxyEvent, ProxyOutcome}
 use Rattle.h1_forward_traces.specs.Happenings.{Happenings, Link}
 use Rattle.h1_forward_traces.specs.Carried.{IsServer}
@@ -35,7 +35,7 @@ use Rattle.h1_forward_model.specs.Rests.{MAX_WAITING}
 use Rattle.h1_proxy.specs.declared.notes.Notes.{Notes}
 use Rattle.h1_proxy.specs.Replies.{HasReplied}
 use Rattle.h1_proxy.specs.Served.{GoesOnServing}
-use Rattle.h1_proxy.specs.Rests.{may_begin, may_turn, RestsBy, Rests, Settles, mark, sent_left, request_left, side_left, going_on, work, ServerTold, Told, LeavesLess, IsNoted, LeavesMore, Works, Turns, BodyRests, WorksBody}
+use Rattle.h1_proxy.specs.Rests.{may_begin, may_turn, IsNotToEnd, RestsBy, Rests, Settles, mark, sent_left, request_left, side_left, going_on, work, ServerTold, Told, LeavesLess, IsNoted, LeavesMore, Works, Turns, BodyRests, WorksBody}
 
 -- ---- one after another
 
@@ -135,10 +135,11 @@ fault_works o p c x closes = λ told.
 
 -- no head is there
 pub idle_rests : (o : on.Outcome) (p : Proxy) (c : State) → IsIdle p → ClientBrings o p.client c
-    → ((trace : List sums.Step) → Stands p.client trace → IsNextAllowed c → c.kept.is_coming ≡ false) → Works false p (record p { client = c })
-idle_rests o p c idle x none = λ told. (
+    → ((trace : List sums.Step) → Stands p.client trace → LacksHead c) → IsNotToEnd p.server → Works false p (record p { client = c })
+idle_rests o p c idle x none kept = λ told. (
   client_told o p c x told,
-  subst₂ (λ (u : Option Unsent) (s : Option Sent). RestsBy u s c p.server) (sym idle.unsent) (sym idle.sent) (none told.trace told.stands),
+  subst₂ (λ (u : Option Unsent) (s : Option Sent). RestsBy u s c p.server) (sym idle.unsent) (sym idle.sent)
+      (record { head = none told.trace told.stands; kept = kept }),
 )
 
 -- ---- a server's side
@@ -316,7 +317,7 @@ body_same s server p runs never = λ told. (
 -- no byte of it is there
 pub body_waits : (s : Sent) (server : servers.State) (p : Proxy) (c : State) → Runs s p → ClientBrings on.done p.client c
     → ((trace : List sums.Step) → Stands p.client trace
-    → (IsAllowed c on.drop_body → c.kept.unread ≡ []) × ((bytes : List ℕ) → IsAllowed c (on.chunk bytes) → IsAllowed p.client (on.chunk bytes)))
+    → LacksMore c × ((bytes : List ℕ) → IsAllowed c (on.chunk bytes) → IsAllowed p.client (on.chunk bytes)))
     → WorksBody s server false p (record p { server = Some server; client = c })
 body_waits s server p c runs x none = λ told.
     let two = none told.trace told.stands in (
@@ -461,4 +462,4 @@ too_many n p q turned many = λ history all f.
 
 -- nothing is left behind what settles
 pub rests_by : (event : ProxyEvent) (outcome : ProxyOutcome) (a b c : Proxy) → GoesBy event outcome a b → Settles b c → Settles a c
-rests_by event outcome a b c first second = λ history all f. let y = first history all f in second (record { event = event; outcome = outcome } ∷ history) y.0 y.1
+rests_by event outcome a b c first second = λ history all f. let y = first.1 history all f in second (record { event = event; outcome = outcome } ∷ history) y.0 y.1

@@ -1,6 +1,7 @@
 -- A forwarder as its contracts see it, and how it goes on.
-use Rattle.std.specs.Prelude.{◌≡◌, ℕ, ◌-◌, Bool, false, not, ◌&&◌, ◌||◌, List, [], ◌∷◌, length, min, nat_le, if◌then◌else◌, Option, Some, None, is_some, is_none, option_map, ⊤}
+use Rattle.std.specs.Prelude.{◌≡◌, ℕ, ◌-◌, ◌<◌, ◌≤◌, Bool, false, not, ◌&&◌, ◌||◌, List, [], ◌∷◌, length, min, nat_le, if◌then◌else◌, Option, Some, None, is_some, is_none, option_map, unwrap_or, ⊤, true}
 use Rattle.http_config.specs.Config.{Settings}
+use Rattle.h1_model.specs.Limits.{MAX_MOMENT}
 use Rattle.h1_model.specs.Request.{Head, has_body}
 use Rattle.h1_model.specs.Event as on
 use Rattle.h1_machine.specs.Local.{closing_by, allowed_by}
@@ -16,7 +17,7 @@ use Rattle.h1_client.specs.State as servers
 use Rattle.h1_connection.specs.Meaning.{setting_of}
 use Rattle.h1_connection.specs.State.{State}
 use Rattle.h1_forward_model.specs.Forward.{forwarded, forwarded_size}
-use Rattle.h1_forward_model.specs.Past.{ProxyStep, ProxyEvent, ProxyOutcome}
+use Rattle.h1_forward_model.specs.Past.{ProxyStep, ProxyEvent, ProxyOutcome, last_tick}
 use Rattle.h1_forward_model.specs.Exchange.{unpulled}
 use Rattle.h1_forward_model.specs.Rests.{MAX_WAITING}
 use Rattle.h1_forward_traces.specs.Happenings.{Happenings, sent_of}
@@ -35,8 +36,8 @@ abbrev pub server_of : Proxy → Option servers.State
 server_of proxy = proxy.server
 
 abbrev pub under_way_of : Option Unsent → Option Sent → UnderWay
-under_way_of (Some u) sent = waits (request_of u.head) (size_of u.size) u.sent.is_whole
-under_way_of None (Some s) = is_sent s.is_whole
+under_way_of (Some u) sent = waits (request_of u.head) (size_of u.size) u.sent.is_whole u.sent.is_broken
+under_way_of None (Some s) = is_sent s.is_whole s.is_broken
 under_way_of None None = nothing
 
 abbrev pub kept_of : Proxy → ForwarderKept
@@ -50,23 +51,38 @@ abbrev pub HasSettings : Settings → Option servers.State → Type 0
 HasSettings settings None = ⊤
 HasSettings settings (Some s) = s.settings ≡ settings
 
+-- the moment that a server connection was told last, 0 before the first
+abbrev pub time_of : Option servers.State → ℕ
+time_of None = 0
+time_of (Some s) = s.kept.now
+
+-- The moment is that of the last tick, and the server connection was told no later one.
+pub record IsTimed (moment : Option ℕ) (server : Option servers.State) (history : List ProxyStep) : Type 0 where
+  pub last : moment ≡ last_tick history
+  pub below : unwrap_or moment 0 < MAX_MOMENT
+  pub told : time_of server ≤ unwrap_or moment 0
+
 -- What a forwarder keeps is what is left of all that happened after these events.
 pub record Forwards (p : Proxy) (history : List ProxyStep) (all : Happenings) : Type 0 where
   pub client : p.client.settings ≡ p.config
   pub server : HasSettings p.config p.server
   pub carries : Carries (setting_of p.config) (asking.setting_of p.config) (kept_of p) history all
+  pub time : IsTimed p.moment p.server history
 
 -- ---- how it goes on
 
--- without an event of its own
+-- without an event of its own; its settings stay
 abbrev pub Goes : Proxy → Proxy → Type 0
-Goes old new = (history : List ProxyStep) (all : Happenings) → Forwards old history all → (after : Happenings) × Forwards new history after
+Goes old new =
+    (new.config ≡ old.config)
+    × ((history : List ProxyStep) (all : Happenings) → Forwards old history all → (after : Happenings) × Forwards new history after)
 
--- by this event, with this outcome
+-- by this event, with this outcome; its settings stay
 abbrev pub GoesBy : ProxyEvent → ProxyOutcome → Proxy → Proxy → Type 0
 GoesBy event outcome old new =
-    (history : List ProxyStep) (all : Happenings) → Forwards old history all
-    → (after : Happenings) × Forwards new (record { event = event; outcome = outcome } ∷ history) after
+    (new.config ≡ old.config)
+    × ((history : List ProxyStep) (all : Happenings) → Forwards old history all
+    → (after : Happenings) × Forwards new (record { event = event; outcome = outcome } ∷ history) after)
 
 -- where this is the connection to a server
 abbrev pub GoesWith : servers.State → Proxy → Proxy → Type 0
@@ -76,11 +92,16 @@ GoesWith server old new = Goes (record old { server = Some server }) new
 abbrev pub GoesUnsent : Unsent → Proxy → Proxy → Type 0
 GoesUnsent unsent old new = Goes (record old { unsent = Some unsent }) new
 
+-- where this one was sent on, on this connection, and its body is broken
+abbrev pub GoesBroken : Sent → servers.State → Proxy → Proxy → Type 0
+GoesBroken sent server old new = Goes (record old { server = Some server; sent = Some (record sent { is_broken = true }) }) new
+
 -- by the newest request, which this item says
 abbrev pub GoesFrom : HeadItem → Proxy → Proxy → Type 0
 GoesFrom item old new =
-    (history : List ProxyStep) (all : Happenings) (h : Head) → SaysHead item h → Forwards old history all
-    → IsNewest h all → (after : Happenings) × Forwards new history after
+    (new.config ≡ old.config)
+    × ((history : List ProxyStep) (all : Happenings) (h : Head) → SaysHead item h → Forwards old history all
+    → IsNewest h all → (after : Happenings) × Forwards new history after)
 
 -- no request is under way
 pub record IsIdle (p : Proxy) : Type 0 where
@@ -96,6 +117,7 @@ pub record Runs (this : Sent) (p : Proxy) : Type 0 where
 pub record IsUnsent (u : Unsent) (h : Head) : Type 0 where
   pub method : (request_of u.head).head.method ≡ h.method
   pub whole : u.sent.is_whole ≡ not (has_body h.body)
+  pub unbroken : u.sent.is_broken ≡ false
   pub sized : size_of u.size ≡ forwarded_size h.body
   pub text : (moment : ℕ) → request_text (request_of u.head).head (asked_shape (size_of u.size)) (size_of u.size) (request_of u.head).connection moment
       ≡ given_request_text (forwarded (sent_of (unpulled h) moment))

@@ -1,14 +1,15 @@
 -- How much is left for a forwarder to do, and when nothing is.
-use Rattle.std.specs.Prelude.{◌≡◌, ℕ, ◌+◌, ◌<◌, ◌≤◌, Bool, true, false, not, ◌&&◌, ◌||◌, List, [], length, nat_lt, if◌then◌else◌, Option, Some, None, ⊤}
+use Rattle.std.specs.Prelude.{◌≡◌, ℕ, ◌+◌, ◌<◌, ◌≤◌, Bool, true, false, not, ◌&&◌, ◌||◌, List, length, nat_lt, if◌then◌else◌, Option, Some, None, ⊤}
 use Rattle.h1_model.specs.Event as on
 use Rattle.h1_model.specs.Sums as sums
-use Rattle.h1_connection.specs.State.{State, Stands, IsAllowed, IsNextAllowed}
+use Rattle.h1_connection.specs.State.{State, Stands, IsAllowed}
 use Rattle.h1_client.specs.State as servers
+use Rattle.h1_client_machine.specs.ClientKept.{client_closing}
 use Rattle.h1_client_machine.specs.ClientTrace.{Happened}
 use Rattle.h1_forward_model.specs.Rests.{MAX_WAITING}
 use Rattle.h1_forward_left.specs.Left.{client_left, server_left}
 use Rattle.h1_forward_sides.specs.Sides.{SendsBody}
-use Rattle.h1_forward_sides.specs.Leaves.{IsAwaited, LacksBytes}
+use Rattle.h1_forward_sides.specs.Leaves.{LacksHead, LacksMore, IsAwaited, LacksBytes}
 use Rattle.h1_proxy.specs.declared.proxy.Proxy.{Proxy}
 use Rattle.h1_proxy.specs.declared.notes.Notes.{Notes}
 use Rattle.h1_proxy.specs.declared.proxy.Unsent.{Unsent}
@@ -28,24 +29,34 @@ may_begin None server = nat_lt (length (server_text server)) MAX_WAITING
 abbrev pub may_turn : Proxy → Bool
 may_turn p = nat_lt (length p.client.kept.buffered) MAX_WAITING && may_begin p.sent p.server && not (is_closing p)
 
--- Of a request that was sent on: no head of its answer is there whole, and the server connection may bring it yet, since it isn't to end;
--- once it was passed on, no byte of the answer's body is there, where there is room for one, and the server's input hasn't ended; and no
--- byte of the request's body is, where one may be sent and fewer than 32768 wait towards the server.
+-- Of a request that was sent on: no head of its answer is there whole, and the server connection may bring it yet, since it isn't to end and
+-- has room for more; once it was passed on, nothing of the answer's body is there, where there is room for a piece: no byte and no end, and
+-- the server's input hasn't ended; and nothing of the request's body is, where a piece may be sent and fewer than 32768 bytes wait towards
+-- the server.
 pub record RestsSent (s : Sent) (client : State) (server : servers.State) : Type 0 where
   pub answer : s.is_answered ≡ false → IsAwaited server
   pub piece : s.is_answered ≡ true → ((bytes : List ℕ) → IsAllowed client (on.chunk bytes)) → LacksBytes server
-  pub body : s.is_whole ≡ false → s.is_broken ≡ false → length server.kept.buffered < MAX_WAITING → SendsBody server → IsAllowed client on.drop_body
-      → client.kept.unread ≡ []
+  pub body : s.is_whole ≡ false → s.is_broken ≡ false → length server.kept.buffered < MAX_WAITING → SendsBody server → LacksMore client
 
 abbrev pub RestsOn : Sent → State → Option servers.State → Type 0
 RestsOn s client None = ⊥
 RestsOn s client (Some server) = RestsSent s client server
 
--- A request that waits lacks a server connection; where none is under way, no whole head of one is there.
+-- a server connection that is there isn't to end
+abbrev pub IsNotToEnd : Option servers.State → Type 0
+IsNotToEnd server = (s : servers.State) → server ≡ Some s → client_closing s.kept ≡ None
+
+-- No request is under way: no whole head of one is there, and there is room for more bytes of it; and no server connection is kept that is to
+-- end.
+pub record RestsIdle (client : State) (server : Option servers.State) : Type 0 where
+  pub head : LacksHead client
+  pub kept : IsNotToEnd server
+
+-- A request that waits lacks a server connection; where none is under way, none is there to begin.
 abbrev pub RestsBy : Option Unsent → Option Sent → State → Option servers.State → Type 0
 RestsBy (Some u) sent client server = server ≡ None
 RestsBy None (Some s) client server = RestsOn s client server
-RestsBy None None client server = IsNextAllowed client → client.kept.is_coming ≡ false
+RestsBy None None client server = RestsIdle client server
 
 abbrev pub Rests : Proxy → Type 0
 Rests p = RestsBy p.unsent p.sent p.client p.server
@@ -127,7 +138,7 @@ pub record BodyRests (sent : Sent) (server : servers.State) (old new : Proxy) : 
   pub server_is : new.server ≡ Some server
   pub pieces : (bytes : List ℕ) → IsAllowed new.client (on.chunk bytes) → IsAllowed old.client (on.chunk bytes)
   pub body : sent.is_whole ≡ false → sent.is_broken ≡ false → length server.kept.buffered < MAX_WAITING → SendsBody server
-      → IsAllowed new.client on.drop_body → new.client.kept.unread ≡ []
+      → LacksMore new.client
 
 abbrev pub WorksBody : Sent → servers.State → Bool → Proxy → Proxy → Type 0
 WorksBody sent server true old new = Works true (record old { server = Some server }) new

@@ -4,10 +4,12 @@
 ghost use Rattle.std.specs.Prelude.{◌≡◌, ◌≤◌, length, take, None, Some, IsTrue, IfOk, OnOk};
 ghost use Rattle.h1_model.specs.Event as on;
 ghost use Rattle.h1_client_machine.specs.ClientEvent as asked;
+ghost use Rattle.h1_connection.specs.State.{State, GoesOn, Is};
+ghost use Rattle.h1_connection.specs.Ticks.{expiry_of};
 ghost use Rattle.h1_forward_model.specs.Past.{took, gave, done};
 ghost use Rattle.h1_forward_model.specs.Past as event;
 ghost use Rattle.h1_proxy.specs.Rests.{Settles};
-ghost use Rattle.h1_proxy.specs.Replies.{PutsNoHead, Replies, RepliesRefused};
+ghost use Rattle.h1_proxy.specs.Replies.{PutsNothing, Replies, RepliesRefused};
 ghost use Rattle.h1_proxy.specs.Served.{Serves, GoesOnServing};
 ghost use Rattle.h1_proxy.specs.Kept.{client_of, server_of, wants_server, server_text, server_allows, client_takes, client_room, server_room, TakesAll, Goes, GoesBy};
 
@@ -34,7 +36,7 @@ impl Proxy {
         ensures goes { IfOk result (λ count. GoesBy (event.client bytes.now) (took count) self.old self.new) }
         ensures took { IfOk result (λ count. TakesAll count bytes.now (client_room self.old) self.old) }
         ensures serves { OnOk result (GoesOnServing self.old self.new) }
-        ensures replies { OnOk result (PutsNoHead (event.client bytes.now) self.old self.new) }
+        ensures replies { OnOk result (PutsNothing (event.client bytes.now) self.old self.new) }
     {
         if self.client_room() == 0 {
             return Ok(0);
@@ -63,7 +65,7 @@ impl Proxy {
         ensures goes { IfOk result (λ count. GoesBy (event.server bytes.now) (took count) self.old self.new) }
         ensures took { IfOk result (λ count. TakesAll count bytes.now (server_room self.old) self.old) }
         ensures serves { OnOk result (GoesOnServing self.old self.new) }
-        ensures replies { OnOk result (PutsNoHead (event.server bytes.now) self.old self.new) }
+        ensures replies { OnOk result (PutsNothing (event.server bytes.now) self.old self.new) }
     {
         if self.server_room() == 0 {
             return Ok(0);
@@ -94,7 +96,7 @@ impl Proxy {
     fn end_client(&mut self)
         ensures goes { GoesBy event.client_eof done self.old self.new }
         ensures serves { GoesOnServing self.old self.new }
-        ensures replies { PutsNoHead event.client_eof self.old self.new }
+        ensures replies { PutsNothing event.client_eof self.old self.new }
     {
         if !self.client.can_read() {
             return;
@@ -119,7 +121,7 @@ impl Proxy {
         requires can_read_server { IsTrue (server_allows (server_of self.old) asked.eof) }
         ensures goes { GoesBy event.server_eof done self.old self.new }
         ensures serves { GoesOnServing self.old self.new }
-        ensures replies { PutsNoHead event.server_eof self.old self.new }
+        ensures replies { PutsNothing event.server_eof self.old self.new }
     {
         let Some(mut server) = self.server.take() else {
             return;
@@ -190,7 +192,7 @@ impl Proxy {
         requires fits { count ≤ length (server_text (server_of self.old)) }
         ensures goes { GoesBy (event.to_server count) (gave (take count (server_text (server_of self.old)))) self.old self.new }
         ensures serves { GoesOnServing self.old self.new }
-        ensures replies { PutsNoHead (event.to_server count) self.old self.new }
+        ensures replies { PutsNothing (event.to_server count) self.old self.new }
     {
         let Some(mut server) = self.server.take() else {
             return;
@@ -207,6 +209,7 @@ impl Proxy {
         ensures rests { OnOk result (Settles self.old self.new) }
         ensures serves { OnOk result (Serves self.old self.new) }
         ensures replies { OnOk result (Replies (event.tick moment) done self.old self.new) }
+        ensures expiry { IfOk result (λ expiry. (c : State) × GoesOn (client_of self.old) (on.tick moment) (Is (expiry_of expiry)) c) }
     {
         let expiry = self.client.tick(moment)?;
         self.moment = Some(moment);

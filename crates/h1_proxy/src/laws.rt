@@ -3,7 +3,7 @@ ghost use Rattle.std.specs.Prelude.{◌≡◌, ◌⊎◌, ◌≤◌, ◌++◌, �
 ghost use Rattle.h1_model.specs.Setting.{Setting};
 ghost use Rattle.h1_model.specs.Event as on;
 ghost use Rattle.h1_machine.specs.Local.{waits_for_answer, is_answering};
-ghost use Rattle.h1_connection.specs.State.{IsAllowed, IsNextAllowed};
+ghost use Rattle.h1_connection.specs.State.{IsAllowed};
 ghost use Rattle.h1_client_model.specs.AnswerReading.{Answer};
 ghost use Rattle.h1_client_machine.specs.ClientEvent as asked;
 ghost use Rattle.h1_client_machine.specs.ClientKept.{ClientKept};
@@ -12,15 +12,17 @@ ghost use Rattle.h1_client_machine.specs.ClientTrace.{Happened, IsClientTrace, t
 ghost use Rattle.h1_client.specs.State as servers;
 ghost use Rattle.h1_forward_model.specs.Past.{ProxyStep};
 ghost use Rattle.h1_forward_traces.specs.Happenings.{Happenings};
-ghost use Rattle.h1_forward_sides.specs.Leaves.{IsAwaited, LacksBytes};
+ghost use Rattle.h1_forward_sides.specs.Leaves.{LacksHead, IsAwaited, LacksBytes};
 ghost use Rattle.h1_proxy.specs.declared.proxy.Proxy.{Proxy};
-ghost use Rattle.h1_proxy.specs.Kept.{client_of, server_of, wants_server, Forwards};
+ghost use Rattle.h1_proxy.specs.Kept.{client_of, server_of, wants_server, client_takes, Forwards};
 ghost use Rattle.h1_proxy.specs.Fresh.{IsReadFrom};
 ghost use Rattle.h1_proxy.specs.Rests.{may_turn, RestsWhereItMay};
-ghost use Rattle.h1_proxy.specs.Served.{IsServed};
+ghost use Rattle.h1_proxy.specs.Served.{IsServed, IsUnderWay, IsNewestBy};
+ghost use Rattle.h1_proxy.specs.declared.proxy.Sent.{Sent};
+ghost use Rattle.h1_proxy.specs.Replies.{WasAnswered, marks_of, HasReplied, IsCarried};
 
-/// Of what came from either side, and wasn't passed on yet, no more is held than may be: the hold size of the config. So nobody makes a
-/// forwarder keep more by what it sends.
+/// Of what came from either side, and wasn't passed on yet, no more is held than may be: the hold size of the config. So no peer
+/// makes a forwarder hold more unread bytes.
 pub fn no_more_is_held()
     ensures client { (p : Proxy) (history : List ProxyStep) (all : Happenings) → Forwards p history all
         → length (client_of p).kept.unread ≤ (client_of p).settings.h1_hold_size }
@@ -29,9 +31,9 @@ pub fn no_more_is_held()
 {}
 
 /// No client waits in vain. After an event, while turns may be made and the client's connection isn't given up: a request that waits for
-/// its answer waits for a server connection that is wanted, or for the answer of one that is there, which isn't to end and whose next
-/// answer hasn't come; and an answer that isn't complete has a server connection that lacks bytes of it where there is room for them, and
-/// whose input hasn't ended.
+/// its answer waits for a server connection that is wanted, or for the answer of one that is there, which isn't to end, has room for more
+/// bytes, and whose next answer hasn't come; and an answer that isn't complete has a server connection whose input hasn't ended and from
+/// which a further pull would give nothing, neither bytes nor the answer's end, where there is room for a piece.
 pub fn no_client_waits_in_vain()
     ensures answer { (p : Proxy) → IsServed p → RestsWhereItMay p → may_turn p ≡ true → (client_of p).kept.is_over ≡ false
         → waits_for_answer (client_of p).kept ≡ true → (wants_server p ≡ true) ⊎ ((s : servers.State) × (server_of p ≡ Some s) × IsAwaited s) }
@@ -41,17 +43,39 @@ pub fn no_client_waits_in_vain()
 {}
 
 /// No request is left behind one whose reply is complete. After an event, while turns may be made and the client's connection isn't given up:
-/// where no request waits for its answer, and no answer is under way, no whole head of a further request is there.
+/// where no request waits for its answer, no answer is under way, and the next head may be asked for, no whole head of a further request is
+/// there, and there is room for more bytes of it.
 pub fn no_request_is_left_behind()
     ensures { (p : Proxy) → IsServed p → RestsWhereItMay p → may_turn p ≡ true → (client_of p).kept.is_over ≡ false
-        → waits_for_answer (client_of p).kept ≡ false → is_answering (client_of p).kept ≡ false → IsNextAllowed (client_of p)
-        → (client_of p).kept.is_coming ≡ false }
+        → waits_for_answer (client_of p).kept ≡ false → is_answering (client_of p).kept ≡ false
+        → LacksHead (client_of p) }
+{}
+
+/// No client waits to be told to go on. After an event no 100 may be sent: a request that is under way has a client that doesn't wait for it,
+/// or was told, while its connection goes on; and no other request waits for its answer.
+pub fn no_client_waits_to_be_told()
+    ensures { (p : Proxy) → IsServed p → client_takes p on.send_continue ≡ false }
+{}
+
+/// A request counts as one of HEAD where its method is HEAD, and nowhere else. What is kept of the one under way, that it is one of HEAD or
+/// isn't, is so of the newest head that the client's connection handed out, also once that is over.
+pub fn a_request_counts_by_its_method()
+    ensures { (p : Proxy) (history : List ProxyStep) (all : Happenings) (sent : Sent) → Forwards p history all → IsServed p → IsUnderWay sent p
+        → IsNewestBy sent.is_head all.requests }
 {}
 
 /// No answer is read from bytes that came before its request was sent. A request is sent on only where all that came before on its server
-/// connection was read (`SendsAfterAll`): and any answer that is handed out after that is read from bytes that were taken after it.
+/// connection was read (`IsSentOn`): and any answer that is handed out after that is read from bytes that were taken after it.
 pub fn no_answer_comes_before_its_request()
     ensures { (setting : Setting) (before more : List Happened) (k m next : ClientKept) (a : Answer) → IsClientTrace setting before k
         → k.unread ≡ [] → IsClientTrace setting (more ++ before) m → IsClientStep setting m asked.next (asked.answer a) next
         → (later : List ℕ) × (taken (more ++ before) ≡ taken before ++ later) × IsReadFrom setting later a }
+{}
+
+/// The parts of a reply are those of its answer. While a reply is under way whose head was passed on, turns put each piece that the server's
+/// connection hands out of that answer's body, in order, and no other part; up to where its end was handed out, and the reply ends, or a fault
+/// was, and the reply is cut.
+pub fn a_reply_is_its_answer()
+    ensures { (old new : Proxy) (sent : Sent) (s : servers.State) → HasReplied old new → WasAnswered sent old → server_of old ≡ Some s
+        → IsCarried (marks_of sent) s old new }
 {}

@@ -2,6 +2,7 @@
 ghost use Rattle.std.specs.Prelude.{◌≡◌, ◌≤◌, ◌++◌, ℕ, List, [], length, true, false, None, is_some, option_map};
 ghost use Rattle.h1_model.specs.Event as on;
 ghost use Rattle.h1_model.specs.Request.{Head};
+ghost use Rattle.h1_model.specs.Answer.{asked_of};
 ghost use Rattle.h1_decode.specs.HeadItem.{SaysHead};
 ghost use Rattle.h1_forward_model.specs.Forward.{is_forwardable};
 ghost use Rattle.h1_client_machine.specs.ClientEvent as asked;
@@ -80,6 +81,7 @@ impl Unsent {
     pub(crate) fn new(item: HeadItem) -> Unsent
         ensures unsent { (h : Head) → SaysHead item h → is_forwardable h ≡ true → IsUnsent result h }
         ensures unanswered { result.sent.is_answered ≡ false }
+        ensures asked { (h : Head) → SaysHead item h → result.sent.is_head ≡ (asked_of h).is_head }
     {
         let sent = Sent {
             is_head: item.is_head(),

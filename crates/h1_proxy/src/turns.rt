@@ -1,18 +1,23 @@
 //! What a forwarder does of its own between two events, turn by turn.
 #![tactic(auto)]
 
-ghost use Rattle.std.specs.Prelude.{◌≡◌, ◌<◌, ◌+◌, ◌*◌, [], ◌∷◌, IsTrue, None, Some, true, false, not, is_some, length, OnOk, IfOk};
+ghost use Rattle.std.specs.Prelude.{◌≡◌, ◌<◌, ◌+◌, ◌*◌, [], IsTrue, None, Some, true, false, not, is_some, length, OnOk, IfOk};
 ghost use Rattle.h1_model.specs.Event as on;
+ghost use Rattle.h1_model.specs.Request.{Head};
+ghost use Rattle.h1_model.specs.Answer.{asked_of};
+ghost use Rattle.h1_decode.specs.HeadItem.{SaysHead};
 ghost use Rattle.h1_forward_sides.specs.Sides.{ServerStays, SendsBody};
+ghost use Rattle.h1_forward_sides.specs.Wants.{IsTold};
 ghost use Rattle.h1_forward_model.specs.Rests.{MAX_WAITING};
-ghost use Rattle.h1_proxy.specs.Kept.{Goes, GoesWith, GoesUnsent, GoesFrom, IsIdle, Runs};
-ghost use Rattle.h1_proxy.specs.Served.{Serving, GoesOnServing, HasNoReply};
+ghost use Rattle.h1_proxy.specs.Kept.{Goes, GoesWith, GoesUnsent, GoesFrom, IsIdle, Runs, GoesBroken};
+ghost use Rattle.h1_proxy.specs.Served.{Serving, GoesOnServing, HasNoReply, HasNoReplyTo};
 ghost use Rattle.h1_forward_heads.specs.Meaning.{status_of};
 ghost use Rattle.h1_client.specs.State as servers;
-ghost use Rattle.h1_forward_sides.specs.Puts.{Puts};
-ghost use Rattle.h1_proxy.specs.Fresh.{HasReadAll, SendsAfterAll, BeginsWhereItMay};
-ghost use Rattle.h1_proxy.specs.Replies.{own, AtMost, TurnReplies, HasReplied, Fails, Breaks, PassesBody, PassesHead, TakesAnswer, Opens};
-ghost use Rattle.h1_proxy.specs.Rests.{may_turn, Settles, LeavesLess, LeavesMore, Works, WorksBody, Turns};
+ghost use Rattle.h1_client_machine.specs.ClientKept.{client_closing};
+ghost use Rattle.h1_forward_sides.specs.Puts.{ends};
+ghost use Rattle.h1_proxy.specs.Fresh.{is_used, is_server_used, IsToldTime, SendsOrWaits, SendsWhereItCan, BeginsWhereItMay};
+ghost use Rattle.h1_proxy.specs.Replies.{own, KeepsIdle, KeepsFor, may_keep, ReplyIsOver, marks_of, PutsLast, TurnReplies, HasReplied, Fails, Breaks, PassesBody, PassesHead, TakesAnswer, Opens};
+ghost use Rattle.h1_proxy.specs.Rests.{may_turn, Settles, LeavesLess, LeavesMore, Works, WorksBody, Turns, IsNotToEnd};
 
 use crate::proxy::{MAX_WAITING, Proxy, Sent, Unsent};
 use h1_client::{ClientConnection, NextAnswer, ResponseItem};
@@ -56,7 +61,8 @@ impl Proxy {
         ensures serves { OnOk result (GoesOnServing self.old self.new) }
         ensures replies { OnOk result (TurnReplies self.old self.new) }
         ensures begins { OnOk result (BeginsWhereItMay self.old self.new) }
-        ensures sends { OnOk result (SendsAfterAll self.old self.new) }
+        ensures sends { OnOk result (SendsWhereItCan self.old self.new) }
+        ensures keeps { OnOk result (KeepsIdle self.old self.new) }
     {
         if self.is_still() {
             return Ok(false);
@@ -93,7 +99,7 @@ impl Proxy {
         ensures works { IfOk result (λ more. Works more (record self.old { unsent = Some unsent }) self.new) }
         ensures serves { OnOk result (GoesOnServing (record self.old { unsent = Some unsent }) self.new) }
         ensures replies { OnOk result (TurnReplies (record self.old { unsent = Some unsent }) self.new) }
-        ensures sends { OnOk result (SendsAfterAll (record self.old { unsent = Some unsent }) self.new) }
+        ensures sends { OnOk result (SendsOrWaits unsent (record self.old { unsent = Some unsent }) self.new) }
     {
         if self.is_server_used() {
             self.server = None;
@@ -118,7 +124,9 @@ impl Proxy {
 
     // The server connection closes: it has ended, or bytes came that no request asked for.
     fn is_server_over(&self) -> bool
-        ensures { IsTrue result → is_some self.now.server ≡ true }
+        ensures some { IsTrue result → is_some self.now.server ≡ true }
+        ensures over { IsTrue result → (s : servers.State) × (self.now.server ≡ Some s) × (is_some (client_closing s.kept) ≡ true) }
+        ensures goes_on { result ≡ false → IsNotToEnd self.now.server }
     {
         match &self.server {
             Some(server) => server.closing().is_some(),
@@ -128,8 +136,7 @@ impl Proxy {
 
     // It closes, or something of an earlier answer is to come: then no request is sent on there.
     fn is_server_used(&self) -> bool
-        ensures some { IsTrue result → is_some self.now.server ≡ true }
-        ensures none { result ≡ false → (s : servers.State) → self.now.server ≡ Some s → HasReadAll s }
+        ensures { result ≡ is_server_used self.now.server }
     {
         match &self.server {
             Some(server) => !has_read_all(server),
@@ -138,7 +145,8 @@ impl Proxy {
     }
 
     fn tell_time(&self, server: &mut ClientConnection)
-        ensures { ServerStays server.old server.new }
+        ensures stays { ServerStays server.old server.new }
+        ensures told { IsToldTime self.now.moment server.old server.new }
     {
         if let Some(moment) = self.moment {
             tick_server(server, moment);
@@ -152,6 +160,7 @@ impl Proxy {
         ensures works { IfOk result (λ more. Works more self.old self.new) }
         ensures serves { OnOk result (GoesOnServing self.old self.new) }
         ensures replies { OnOk result (TurnReplies self.old self.new) }
+        ensures keeps { OnOk result (KeepsIdle self.old self.new) }
     {
         match self.sent {
             Some(sent) => {
@@ -172,6 +181,7 @@ impl Proxy {
         ensures works { IfOk result (λ more. Works more self.old self.new) }
         ensures serves { OnOk result (GoesOnServing self.old self.new) }
         ensures replies { OnOk result (TurnReplies self.old self.new) }
+        ensures keeps { OnOk result (KeepsIdle self.old self.new) }
     {
         if self.is_server_over() {
             self.server = None;
@@ -181,12 +191,15 @@ impl Proxy {
         Ok(more)
     }
 
+    // The next request's head; the server connection, if there is one, isn't to end.
     fn take_head(&mut self) -> Result<bool, NoMemory>
         requires idle { IsIdle self.old }
+        requires goes_on { IsNotToEnd self.old.server }
         ensures goes { OnOk result (Goes self.old self.new) }
         ensures works { IfOk result (λ more. Works more self.old self.new) }
         ensures serves { OnOk result (GoesOnServing self.old self.new) }
         ensures replies { OnOk result (TurnReplies self.old self.new) }
+        ensures keeps { OnOk result (KeepsIdle self.old self.new) }
     {
         match next_head(&mut self.client)? {
             NextHead::Head(item) => {
@@ -207,8 +220,9 @@ impl Proxy {
         requires idle { IsIdle self.old }
         ensures goes { OnOk result (GoesFrom item self.old self.new) }
         ensures works { OnOk result (LeavesMore 3 self.old self.new) }
-        ensures serves { OnOk result (HasNoReply self.old → Serving self.new) }
-        ensures replies { OnOk result (Opens item self.old.client self.new.client) }
+        ensures serves { OnOk result ((h : Head) → SaysHead item h → HasNoReplyTo (asked_of h).is_head self.old → Serving self.new) }
+        ensures replies { OnOk result (Opens item self.old.client self.new) }
+        ensures keeps { OnOk result (KeepsFor item self.old self.new) }
     {
         if !is_forwardable(&item) {
             self.server = None;
@@ -325,8 +339,8 @@ impl Proxy {
         requires runs { Runs sent self.old }
         ensures goes { OnOk result (GoesWith server self.old self.new) }
         ensures works { OnOk result (LeavesLess 0 (record self.old { server = Some server }) self.new) }
-        ensures serves { OnOk result (HasNoReply self.old → Serving self.new) }
-        ensures replies { OnOk result (PassesHead sent.is_head item self.old.client self.new.client) }
+        ensures serves { OnOk result (HasNoReplyTo sent.is_head self.old → IsTold self.old.client → Serving self.new) }
+        ensures replies { OnOk result (PassesHead sent server item self.old.client self.new) }
     {
         let status = status_of(&item);
         self.pass_head(sent, server, item)?;
@@ -343,8 +357,8 @@ impl Proxy {
         requires runs { Runs sent self.old }
         ensures goes { OnOk result (GoesWith server self.old self.new) }
         ensures works { OnOk result (LeavesLess 0 (record self.old { server = Some server }) self.new) }
-        ensures serves { OnOk result (HasNoReply self.old → Serving self.new) }
-        ensures replies { OnOk result (PassesHead sent.is_head item self.old.client self.new.client) }
+        ensures serves { OnOk result (HasNoReplyTo sent.is_head self.old → IsTold self.old.client → Serving self.new) }
+        ensures replies { OnOk result (PassesHead sent server item self.old.client self.new) }
     {
         let size = reply_size(sent.is_head, &item);
         let sent = answered(sent, says_close(&item));
@@ -367,7 +381,7 @@ impl Proxy {
         ensures goes { OnOk result (GoesWith server self.old self.new) }
         ensures works { IfOk result (λ more. sent.is_answered ≡ true → Works more (record self.old { server = Some server }) self.new) }
         ensures serves { OnOk result (sent.is_answered ≡ true → GoesOnServing self.old self.new) }
-        ensures replies { OnOk result (sent.is_answered ≡ true → Puts [] self.old.client self.new.client) }
+        ensures replies { OnOk result (sent.is_answered ≡ true → TurnReplies (record self.old { server = Some server }) self.new) }
     {
         if !self.client.can_chunk() {
             let moved = self.pass_body(sent, server)?;
@@ -405,7 +419,8 @@ impl Proxy {
         ensures goes { OnOk result (GoesWith server self.old self.new) }
         ensures works { OnOk result (LeavesLess 0 (record self.old { server = Some server; sent = None }) self.new) }
         ensures serves { OnOk result (sent.is_answered ≡ true → GoesOnServing self.old self.new) }
-        ensures replies { OnOk result (Puts [] self.old.client self.new.client) }
+        ensures replies { OnOk result (PutsLast [] ends self.old.client self.new.client) }
+        ensures over { OnOk result (ReplyIsOver sent.is_whole sent.closes server self.new) }
     {
         leave_body(&mut self.client);
         put_end(&mut self.client)?;
@@ -420,6 +435,7 @@ impl Proxy {
         ensures works { LeavesLess 0 (record self.old { server = Some server; sent = None }) self.new }
         ensures serves { GoesOnServing (record self.old { sent = None }) self.new }
         ensures client { self.new.client ≡ self.old.client }
+        ensures over { ReplyIsOver sent.is_whole sent.closes server self.new }
     {
         self.sent = None;
         if may_keep(sent, &server) {
@@ -473,10 +489,10 @@ impl Proxy {
     // connection is closed.
     fn break_body(&mut self, sent: Sent, server: ClientConnection) -> Result<(), NoMemory>
         requires runs { Runs sent self.old }
-        ensures goes { OnOk result (GoesWith server self.old self.new) }
+        ensures goes { OnOk result (GoesBroken sent server self.old self.new) }
         ensures works { OnOk result (sent.is_whole ≡ false → sent.is_broken ≡ false → LeavesLess 1 (record self.old { server = Some server }) self.new) }
         ensures serves { OnOk result (GoesOnServing self.old self.new) }
-        ensures replies { OnOk result (Breaks sent.is_answered self.old.client self.new.client) }
+        ensures replies { OnOk result (Breaks sent.is_answered sent server self.old.client self.new) }
     {
         if sent.is_answered {
             self.server = Some(server);
@@ -496,7 +512,7 @@ impl Proxy {
         ensures goes { OnOk result (Goes (record self.old { server = None }) self.new) }
         ensures works { OnOk result (LeavesLess 0 (record self.old { server = None; sent = None }) self.new) }
         ensures serves { OnOk result (GoesOnServing (record self.old { sent = Some sent }) self.new) }
-        ensures replies { OnOk result (Fails sent.is_answered self.old.client self.new.client) }
+        ensures replies { OnOk result (Fails sent.is_answered self.old.client self.new) }
     {
         self.server = None;
         self.sent = None;
@@ -513,7 +529,9 @@ impl Proxy {
         ensures goes { OnOk result (Goes self.old self.new) }
         ensures works { OnOk result (LeavesLess 0 self.old self.new) }
         ensures serves { OnOk result (IsIdle self.old → HasNoReply self.old → Serving self.new) }
-        ensures replies { OnOk result (AtMost (own (status_of refusal) ∷ []) self.old.client self.new.client) }
+        ensures replies { OnOk result (PutsLast [] (own (status_of refusal)) self.old.client self.new.client) }
+        ensures idle { OnOk result (IsIdle self.old → IsIdle self.new) }
+        ensures server { OnOk result (self.new.server ≡ self.old.server) }
     {
         leave_body(&mut self.client);
         let head = refusal.head(self.alloc);
@@ -531,7 +549,7 @@ fn status_of(item: &ResponseItem) -> StatusCode {
 fn answered(sent: Sent, closes: bool) -> Sent
     ensures whole { result.is_whole ≡ sent.is_whole }
     ensures broken { result.is_broken ≡ sent.is_broken }
-    ensures answered { result.is_answered ≡ true }
+    ensures marks { marks_of result ≡ record { is_head = sent.is_head; is_answered = true; closes = closes } }
 {
     Sent {
         is_answered: true,
@@ -543,7 +561,8 @@ fn answered(sent: Sent, closes: bool) -> Sent
 // The end of its body was sent on.
 fn whole(sent: Sent) -> Sent
     ensures whole { result.is_whole ≡ true }
-    ensures answered { result.is_answered ≡ sent.is_answered }
+    ensures broken { result.is_broken ≡ sent.is_broken }
+    ensures marks { marks_of result ≡ marks_of sent }
 {
     Sent {
         is_whole: true,
@@ -555,7 +574,7 @@ fn whole(sent: Sent) -> Sent
 fn broken(sent: Sent) -> Sent
     ensures whole { result.is_whole ≡ sent.is_whole }
     ensures broken { result.is_broken ≡ true }
-    ensures answered { result.is_answered ≡ sent.is_answered }
+    ensures marks { marks_of result ≡ marks_of sent }
 {
     Sent {
         is_broken: true,
@@ -565,7 +584,8 @@ fn broken(sent: Sent) -> Sent
 
 // Whether the server connection may serve another request: both messages are whole, and it goes on.
 fn may_keep(sent: Sent, server: &ClientConnection) -> bool
-    ensures { IsTrue result → sent.is_whole ≡ true }
+    ensures whole { IsTrue result → sent.is_whole ≡ true }
+    ensures keeps { result ≡ may_keep sent.is_whole sent.closes server.now }
 {
     if !sent.is_whole {
         return false;
@@ -578,7 +598,7 @@ fn may_keep(sent: Sent, server: &ClientConnection) -> bool
 
 // Whether nothing of an earlier answer is to come, and no byte came that no request asked for.
 fn has_read_all(server: &ClientConnection) -> bool
-    ensures { IsTrue result → HasReadAll server.now }
+    ensures { result ≡ not (is_used server.now) }
 {
     if server.closing().is_some() {
         return false;

@@ -6,7 +6,7 @@ use Rattle.h1_proxy.proofs.Work.{rests_by}
 use Rattle.h1_proxy.proofs.EventMoves.{client_writes}
 use Rattle.h1_proxy.specs.declared.proxy.Proxy.{Proxy}
 use Rattle.h1_proxy.proofs.Served.{serves_by, event_serves}
-use Rattle.h1_proxy.proofs.Replies.{replies_by, client_no_head}
+use Rattle.h1_proxy.proofs.Replies.{replies_by, client_adds}
 use Rattle.std.proofs.Common.{refl}
 use Rattle.h1_proxy.proofs.proxy.Proxy.advance_client.Goals as goal
 
@@ -42,4 +42,4 @@ returns-clause-replies c =
     let mid : Proxy = record p { client = c.advance.new.self } in
     replies_by (to_client c.args.count) (gave bytes) p mid c.settle.new.self
     (client_writes c.args.count p c.advance.new.self c.advance.ensures.settings c.advance.ensures.stands)
-    (client_no_head (to_client c.args.count) p (on.write c.args.count) _ c.advance.new.self c.advance.ensures.stands refl refl) c.in_ok-settle.ensures.replies
+    (record { client = client_adds (on.write c.args.count) _ p.client c.advance.new.self c.advance.ensures.stands; server = refl; unsent = refl; sent = refl }) c.in_ok-settle.ensures.replies

@@ -6,7 +6,9 @@ use Rattle.h1_proxy.proofs.Work.{rests_by}
 use Rattle.h1_proxy.proofs.EventMoves.{connects}
 use Rattle.h1_proxy.specs.declared.proxy.Proxy.{Proxy}
 use Rattle.h1_proxy.proofs.Served.{serves_by, with_server}
-use Rattle.h1_proxy.proofs.Replies.{replies_by, connected_no_head, no_server_of}
+use Rattle.h1_proxy.proofs.Replies.{replies_by}
+use Rattle.std.proofs.Common.{refl, ap}
+use Rattle.h1_client.specs.State.{State}
 use Rattle.h1_proxy.proofs.proxy.Proxy.connected.Goals as goal
 
 pub returns-clause-goes : goal.returns-clause-goes
@@ -32,4 +34,4 @@ returns-clause-replies c =
     let p = c.args.self.now in
     let mid : Proxy = record p { server = Some c.new.result } in
     replies_by event.connected done p mid c.settle.new.self (connects p c.new.result c.requires.wants_server c.new.ensures.value)
-    (connected_no_head p c.new.result (no_server_of p c.requires.wants_server) c.new.ensures.value) c.in_ok-settle.ensures.replies
+    (record { client = refl; server = ap (λ (s : State). Some s) c.new.ensures.value; unsent = refl; sent = refl }) c.in_ok-settle.ensures.replies

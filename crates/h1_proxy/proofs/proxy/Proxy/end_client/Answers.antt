@@ -1,10 +1,9 @@
 use Rattle.std.proofs.Common.{sym, ◌∙◌}
 use Rattle.h1_model.specs.Event as on
-use Rattle.h1_forward_model.specs.Past.{client_eof}
 use Rattle.h1_proxy.proofs.EventMoves.{client_end_nothing, client_ends}
 use Rattle.h1_proxy.proofs.Served.{event_serves}
-use Rattle.h1_proxy.proofs.Replies.{no_head_same, client_no_head}
-use Rattle.std.proofs.Common.{refl}
+use Rattle.h1_proxy.proofs.Replies.{client_adds}
+use Rattle.std.proofs.Common.{refl, inl, inr}
 use Rattle.h1_proxy.proofs.proxy.Proxy.end_client.Goals as goal
 
 pub returns-then-not-can_read-clause-goes : goal.returns-then-not-can_read-clause-goes
@@ -21,7 +20,7 @@ returns-clause-serves c =
     event_serves on.eof on.done c.args.self.now c.eof.new.self c.eof.ensures.settings c.eof.ensures.stands tt (sym c.can_read.ensures.eof ∙ c.if-not-can_read.false)
 
 pub returns-then-not-can_read-clause-replies : goal.returns-then-not-can_read-clause-replies
-returns-then-not-can_read-clause-replies c = no_head_same client_eof c.args.self.now refl
+returns-then-not-can_read-clause-replies c = record { client = inl (refl, sym c.can_read.ensures.eof ∙ c.if-not-can_read.true); server = refl; unsent = refl; sent = refl }
 
 pub returns-clause-replies : goal.returns-clause-replies
-returns-clause-replies c = client_no_head client_eof c.args.self.now on.eof _ c.eof.new.self c.eof.ensures.stands refl refl
+returns-clause-replies c = record { client = inr (client_adds on.eof _ c.args.self.now.client c.eof.new.self c.eof.ensures.stands); server = refl; unsent = refl; sent = refl }

@@ -3,9 +3,9 @@ use Rattle.h1_proxy.proofs.Moves.{goes_then, client_done}
 use Rattle.h1_model.specs.Event as on
 use Rattle.h1_proxy.proofs.Work.{less_then, client_less}
 use Rattle.h1_proxy.proofs.Served.{told_by, answered_of, end_put, idle_serves}
-use Rattle.std.proofs.Common.{subst, sym, []}
-use Rattle.h1_forward_sides.proofs.Puts.{then_none}
-use Rattle.h1_forward_sides.specs.Puts.{Puts}
+use Rattle.std.proofs.Common.{[]}
+use Rattle.h1_forward_sides.specs.Puts.{ends}
+use Rattle.h1_proxy.proofs.Replies.{last_as, left_put}
 use Rattle.h1_proxy.proofs.proxy.Proxy.end_reply.Goals as goal
 
 pub part-requires : goal.part-requires
@@ -36,5 +36,5 @@ returns-clause-serves c = λ answered s.
 
 pub returns-clause-replies : goal.returns-clause-replies
 returns-clause-replies c =
-    let puts = then_none [] c.args.self.now.client c.leave_body.new.client c.put_end.new.client c.leave_body.ensures.puts c.in_ok-put_end.ensures.puts in
-    subst (Puts [] c.args.self.now.client) (sym c.part.ensures.client) puts
+    last_as [] ends c.args.self.now.client c.put_end.new.client _ c.part.ensures.client
+    (left_put ends c.args.self.now.client c.leave_body.new.client c.put_end.new.client c.leave_body.ensures.puts c.in_ok-put_end.ensures.puts)

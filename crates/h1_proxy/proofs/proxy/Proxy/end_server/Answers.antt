@@ -1,11 +1,9 @@
 use Rattle.std.proofs.Common.{Some, sym}
 use Rattle.h1_client_machine.specs.ClientEvent as asked
-use Rattle.h1_forward_model.specs.Past.{server_eof}
 use Rattle.h1_proxy.proofs.EventMoves.{allows_of, server_ends}
 use Rattle.h1_proxy.proofs.Served.{with_server}
-use Rattle.h1_proxy.proofs.Replies.{server_no_head}
-use Rattle.std.proofs.Common.{ap}
-use Rattle.h1_forward_sides.specs.Puts.{good_of}
+use Rattle.h1_proxy.proofs.Replies.{adds_to}
+use Rattle.std.proofs.Common.{refl}
 use Rattle.h1_proxy.proofs.proxy.Proxy.end_server.Goals as goal
 
 pub eof-requires : goal.eof-requires
@@ -20,4 +18,4 @@ returns-clause-serves c = with_server c.args.self.now (Some c.eof.new.self)
 
 pub returns-clause-replies : goal.returns-clause-replies
 returns-clause-replies c =
-    server_no_head server_eof c.args.self.now c.in-Some.server c.eof.new.self asked.eof _ (sym c.in-Some.ensures.value) c.eof.ensures.stands (ap good_of c.eof.ensures.stands.says) (λ x. x)
+    record { client = refl; server = adds_to asked.eof _ c.args.self.now.server c.in-Some.server c.eof.new.self (sym c.in-Some.ensures.value) c.eof.ensures.stands; unsent = refl; sent = refl }

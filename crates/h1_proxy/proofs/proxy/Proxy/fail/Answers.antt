@@ -4,7 +4,7 @@ use Rattle.h1_proxy.proofs.Moves.{goes_then, fails, client_done}
 use Rattle.h1_model.specs.Event as on
 use Rattle.h1_proxy.proofs.Work.{client_less}
 use Rattle.h1_proxy.proofs.Served.{idle_serves, end_put, answered_of, no_reply_of}
-use Rattle.h1_proxy.proofs.Replies.{cut_fails, own_fails}
+use Rattle.h1_proxy.proofs.Replies.{cut_fails, own_fails, dropped}
 use Rattle.h1_proxy.proofs.proxy.Proxy.fail.Goals as goal
 
 pub returns-then-sent-clause-goes : goal.returns-then-sent-clause-goes
@@ -36,7 +36,11 @@ returns-clause-serves c = λ s.
     c.in_ok-reply.ensures.serves (record { unsent = c.requires.unsent; sent = refl }) (record { told = x.told; complete = x.complete; waited = x.waited })
 
 pub returns-then-sent-clause-replies : goal.returns-then-sent-clause-replies
-returns-then-sent-clause-replies c = cut_fails c.args.sent.is_answered c.args.self.now.client _ c.if-sent.true c.cut_reply.ensures.puts
+returns-then-sent-clause-replies c =
+    cut_fails c.args.sent.is_answered c.args.self.now.client (record c.args.self.now { server = None; sent = None; client = c.cut_reply.new.client }) c.if-sent.true
+    c.cut_reply.ensures.puts (record { sent = refl; server = refl })
 
 pub returns-clause-replies : goal.returns-clause-replies
-returns-clause-replies c = own_fails c.args.sent.is_answered c.args.self.now.client _ c.if-sent.false c.in_ok-reply.ensures.replies
+returns-clause-replies c =
+    own_fails c.args.sent.is_answered c.args.self.now.client c.reply.new.self c.if-sent.false c.in_ok-reply.ensures.replies
+    (dropped (record c.args.self.now { server = None; sent = None }) c.reply.new.self c.requires.unsent refl refl c.in_ok-reply.ensures.idle c.in_ok-reply.ensures.server)

@@ -1,3 +1,4 @@
+use Rattle.h1_proxy.proofs.Replies.{busy_keeps}
 use Rattle.h1_proxy.proofs.proxy.Proxy.go_on.Goals as goal
 
 pub pass_on-requires : goal.pass_on-requires
@@ -5,3 +6,6 @@ pass_on-requires c = record { runs = record { unsent = c.requires.unsent; sent =
 
 pub begin-requires : goal.begin-requires
 begin-requires c = record { idle = record { unsent = c.requires.unsent; sent = c.in-None.is } }
+
+pub returns-in_ok-more-in-Some-clause-keeps : goal.returns-in_ok-more-in-Some-clause-keeps
+returns-in_ok-more-in-Some-clause-keeps c = busy_keeps c.args.self.now c.pass_on.new.self c.in-Some.sent c.in-Some.is

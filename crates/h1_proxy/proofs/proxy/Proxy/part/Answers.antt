@@ -1,13 +1,14 @@
-use Rattle.std.proofs.Common.{Some, None}
+use Rattle.std.proofs.Common.{Some, None, refl, sym, ◌∙◌}
 use Rattle.h1_proxy.proofs.Moves.{fails, is_over}
 use Rattle.h1_proxy.proofs.Work.{less_same, weaker, closed_less}
 use Rattle.h1_proxy.proofs.Served.{with_server}
+use Rattle.h1_proxy.proofs.Replies.{kept_over, closed_over}
 use Rattle.h1_proxy.proofs.proxy.Proxy.part.Goals as goal
 
 pub returns-then-may_keep-clause-goes : goal.returns-then-may_keep-clause-goes
 returns-then-may_keep-clause-goes c =
     is_over (record c.args.self.now { server = Some c.args.server }) c.args.sent (record { unsent = c.requires.runs.unsent; sent = c.requires.runs.sent })
-    (c.may_keep.ensures c.if-may_keep.true)
+    (c.may_keep.ensures.whole c.if-may_keep.true)
 
 pub returns-clause-goes : goal.returns-clause-goes
 returns-clause-goes c = fails (record c.args.self.now { server = Some c.args.server }) c.requires.runs.unsent
@@ -23,3 +24,9 @@ returns-then-may_keep-clause-serves c = with_server (record c.args.self.now { se
 
 pub returns-clause-serves : goal.returns-clause-serves
 returns-clause-serves c = with_server (record c.args.self.now { sent = None }) None
+
+pub returns-then-may_keep-clause-over : goal.returns-then-may_keep-clause-over
+returns-then-may_keep-clause-over c = record { sent = refl; server = kept_over _ c.args.server (sym c.may_keep.ensures.keeps ∙ c.if-may_keep.true) }
+
+pub returns-clause-over : goal.returns-clause-over
+returns-clause-over c = record { sent = refl; server = closed_over _ c.args.server (sym c.may_keep.ensures.keeps ∙ c.if-may_keep.false) }

@@ -1,5 +1,3 @@
-use Rattle.std.proofs.Common.{Some}
-use Rattle.h1_proxy.proofs.Replies.{no_head_put, answered_cause}
 use Rattle.h1_proxy.proofs.proxy.Proxy.pass.Goals as goal
 
 pub returns-then-sent-clause-works : goal.returns-then-sent-clause-works
@@ -16,9 +14,7 @@ returns-clause-serves c = c.in_ok-more.ensures.serves c.if-sent.false
 
 pub returns-then-sent-clause-replies : goal.returns-then-sent-clause-replies
 returns-then-sent-clause-replies c =
-    no_head_put (record c.args.self.now { server = Some c.args.server }) c.pass_piece.new.self
-    (answered_cause (record c.args.self.now { server = Some c.args.server }) c.pass_piece.new.self c.args.sent (record { unsent = c.requires.runs.unsent; sent = c.requires.runs.sent }) c.if-sent.true)
-    (c.in_ok-moved.ensures.replies c.if-sent.true)
+    c.in_ok-moved.ensures.replies c.if-sent.true
 
 pub returns-clause-replies : goal.returns-clause-replies
 returns-clause-replies c = c.in_ok-more.ensures.replies c.if-sent.false

@@ -9,7 +9,7 @@ use Rattle.h1_client.specs.declared.event.NextAnswer.{NextAnswer}
 use Rattle.h1_forward_sides.specs.Leaves.{LeavesAnswer}
 use Rattle.h1_proxy.proofs.Served.{serves_of_sent}
 use Rattle.std.proofs.Common.{inr}
-use Rattle.h1_proxy.proofs.Replies.{answer_replies, fails_replies, closed_lacks, body_replies, body_before}
+use Rattle.h1_proxy.proofs.Replies.{answer_replies, fails_replies, closed_lacks, body_replies, body_before, awaits_by}
 use Rattle.h1_forward_sides.specs.Puts.{HandsAnswer}
 use Rattle.h1_client_machine.specs.ClientEvent as asked
 use Rattle.h1_proxy.proofs.proxy.Proxy.pass_answer.Goals as goal
@@ -28,7 +28,7 @@ pass_body-requires c = c.requires
 
 pub returns-in_ok-take_answer-in-Answer-clause-goes : goal.returns-in_ok-take_answer-in-Answer-clause-goes
 returns-in_ok-take_answer-in-Answer-clause-goes c =
-    goes_then _ _ _ (server_moves c.args.self.now c.args.server c.next_answer.new.server c.in_ok-item.ensures.stays) c.in_ok-take_answer-in-Answer.ensures.goes
+    goes_then _ _ _ (server_moves c.args.self.now c.args.server c.next_answer.new.server c.in_ok-item.ensures.stays c.in_ok-item.ensures.time) c.in_ok-take_answer-in-Answer.ensures.goes
 
 pub returns-in_ok-fail-in-Fault-clause-goes : goal.returns-in_ok-fail-in-Fault-clause-goes
 returns-in_ok-fail-in-Fault-clause-goes c = goes_then _ _ _ (closes (record c.args.self.now { server = Some c.args.server })) c.in_ok-fail-in-Fault.ensures.goes
@@ -38,7 +38,7 @@ returns-in_ok-fail-in-Closed-clause-goes c = goes_then _ _ _ (closes (record c.a
 
 pub returns-in_ok-more-in-Pending-clause-goes : goal.returns-in_ok-more-in-Pending-clause-goes
 returns-in_ok-more-in-Pending-clause-goes c =
-    goes_then _ _ _ (server_moves c.args.self.now c.args.server c.next_answer.new.server c.in_ok-item.ensures.stays) c.in_ok-more-in-Pending.ensures.goes
+    goes_then _ _ _ (server_moves c.args.self.now c.args.server c.next_answer.new.server c.in_ok-item.ensures.stays c.in_ok-item.ensures.time) c.in_ok-more-in-Pending.ensures.goes
 
 pub returns-in_ok-take_answer-in-Answer-clause-works : goal.returns-in_ok-take_answer-in-Answer-clause-works
 returns-in_ok-take_answer-in-Answer-clause-works c = λ unanswered.
@@ -89,17 +89,22 @@ returns-in_ok-take_answer-in-Answer-clause-replies c = λ unanswered.
 pub returns-in_ok-fail-in-Fault-clause-replies : goal.returns-in_ok-fail-in-Fault-clause-replies
 returns-in_ok-fail-in-Fault-clause-replies c = λ unanswered.
     fails_replies c.args.self.now c.fail.new.self c.args.sent (Some c.args.server) c.requires.runs
-    (inr (asked.fault _, tt, c.next_answer.new.server, subst (λ (n : NextAnswer). HandsAnswer n c.args.server c.next_answer.new.server) c.in-Fault.is c.in_ok-item.ensures.hands))
+    (λ _. inr (asked.fault _, tt, c.next_answer.new.server, subst (λ (n : NextAnswer). HandsAnswer n c.args.server c.next_answer.new.server) c.in-Fault.is c.in_ok-item.ensures.hands))
+    (λ answered. absurd (false≢true (sym unanswered ∙ answered)))
     c.in_ok-fail-in-Fault.ensures.replies
 
 pub returns-in_ok-fail-in-Closed-clause-replies : goal.returns-in_ok-fail-in-Closed-clause-replies
 returns-in_ok-fail-in-Closed-clause-replies c = λ unanswered.
     fails_replies c.args.self.now c.fail-in-Closed.new.self c.args.sent (Some c.args.server) c.requires.runs
-    (closed_lacks c.args.server c.next_answer.new.server _ (subst (λ (n : NextAnswer). HandsAnswer n c.args.server c.next_answer.new.server) c.in-Closed.is c.in_ok-item.ensures.hands))
+    (λ _. closed_lacks c.args.server c.next_answer.new.server _ (subst (λ (n : NextAnswer). HandsAnswer n c.args.server c.next_answer.new.server) c.in-Closed.is c.in_ok-item.ensures.hands))
+    (λ answered. absurd (false≢true (sym unanswered ∙ answered)))
     c.in_ok-fail-in-Closed.ensures.replies
 
 pub returns-in_ok-more-in-Pending-clause-replies : goal.returns-in_ok-more-in-Pending-clause-replies
 returns-in_ok-more-in-Pending-clause-replies c = λ unanswered.
     body_replies c.args.self.now c.pass_body.new.self c.args.sent c.args.server c.requires.runs
-    (body_before c.args.self.now c.pass_body.new.self c.args.sent c.args.server c.next_answer.new.server
+    (λ _. awaits_by c.args.server c.next_answer.new.server
+    (subst (λ (n : NextAnswer). HandsAnswer n c.args.server c.next_answer.new.server) c.in-Pending.is c.in_ok-item.ensures.hands)
+    (subst (λ (n : NextAnswer). LeavesAnswer n c.args.server c.next_answer.new.server) c.in-Pending.is c.in_ok-item.ensures.leaves))
+    (body_before c.args.self.now.client c.pass_body.new.self c.args.sent c.args.server c.next_answer.new.server
     (subst (λ (n : NextAnswer). HandsAnswer n c.args.server c.next_answer.new.server) c.in-Pending.is c.in_ok-item.ensures.hands) c.in_ok-more-in-Pending.ensures.replies)

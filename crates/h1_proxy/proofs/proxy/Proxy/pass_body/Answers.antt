@@ -10,10 +10,11 @@ use Rattle.h1_payload.specs.declared.pulled.Pulled.{Pulled}
 use Rattle.h1_forward_sides.specs.Sides.{BringsPulled}
 use Rattle.h1_forward_sides.specs.Leaves.{LeavesPulled}
 use Rattle.h1_proxy.proofs.Served.{with_server, client_serves, resent_serves}
-use Rattle.std.proofs.Common.{inl, refl, ap, ◌∙◌}
-use Rattle.h1_proxy.proofs.Replies.{waits_as, body_breaks}
+use Rattle.std.proofs.Common.{inl, refl, []}
+use Rattle.h1_proxy.proofs.Replies.{goes_as, body_breaks}
+use Rattle.h1_proxy.specs.Replies.{marks_of}
 use Rattle.h1_forward_sides.proofs.Puts.{puts_none, hands_same, one_hands}
-use Rattle.h1_forward_sides.specs.Puts.{HandsPulled, good_of}
+use Rattle.h1_forward_sides.specs.Puts.{HandsPulled}
 use Rattle.h1_proxy.proofs.proxy.Proxy.pass_body.Goals as goal
 
 pub chunk-requires : goal.chunk-requires
@@ -40,7 +41,7 @@ returns-in-Trailers-clause-goes c = client_done (record c.args.self.now { server
 
 pub returns-in-End-clause-goes : goal.returns-in-End-clause-goes
 returns-in-End-clause-goes c =
-    ends c.args.self.now c.args.sent c.whole.result c.next_bytes.new.client c.args.server c.end_body.new.self c.requires.runs c.whole.ensures.whole (subst (λ (n : Pulled). BringsPulled n c.args.self.now.client c.next_bytes.new.client) c.in-End.is c.in_ok-bytes.ensures.brings)
+    ends c.args.self.now c.args.sent c.whole.result c.next_bytes.new.client c.args.server c.end_body.new.self c.requires.runs c.whole.ensures.whole c.whole.ensures.broken (subst (λ (n : Pulled). BringsPulled n c.args.self.now.client c.next_bytes.new.client) c.in-End.is c.in_ok-bytes.ensures.brings)
     (server_did asked.body_end c.args.server c.end_body.new.self c.end_body.ensures.settings (c.may_send.ensures.sends c.if-not-may_send.false).ends c.in_ok-end_body-in-End.ensures.stands)
 
 pub returns-in-Broken-clause-goes : goal.returns-in-Broken-clause-goes
@@ -108,7 +109,7 @@ pub returns-in-End-clause-serves : goal.returns-in-End-clause-serves
 returns-in-End-clause-serves c = λ s.
     let q = record c.args.self.now { client = c.next_bytes.new.client } in
     let r = record q { server = Some c.end_body.new.self } in
-    resent_serves r c.args.sent c.whole.result (record { unsent = c.requires.runs.unsent; sent = c.requires.runs.sent }) c.whole.ensures.answered
+    resent_serves r c.args.sent c.whole.result (record { unsent = c.requires.runs.unsent; sent = c.requires.runs.sent }) c.whole.ensures.marks
     (with_server q (Some c.end_body.new.self)
     (client_serves on.body_ended c.args.self.now c.next_bytes.new.client (subst (λ (n : Pulled). BringsPulled n c.args.self.now.client c.next_bytes.new.client) c.in-End.is c.in_ok-bytes.ensures.brings) c.in_ok-bytes.ensures.wants s))
 
@@ -125,43 +126,39 @@ pub returns-then-not-may_send-clause-replies : goal.returns-then-not-may_send-cl
 returns-then-not-may_send-clause-replies c =
     inl (
       puts_none c.args.self.now.client,
-      λ unanswered.
-          waits_as (record c.args.self.now { server = Some c.args.server }) c.args.sent c.args.server c.args.server
-          (record { unsent = c.requires.runs.unsent; sent = c.requires.runs.sent }) unanswered refl (hands_same c.args.server),
+      goes_as (record c.args.self.now { server = Some c.args.server }) c.args.sent c.args.server c.args.server (marks_of c.args.sent) []
+          (record { unsent = c.requires.runs.unsent; sent = c.requires.runs.sent }) refl refl (hands_same c.args.server),
     )
 
 pub returns-in-Bytes-clause-replies : goal.returns-in-Bytes-clause-replies
 returns-in-Bytes-clause-replies c =
     inl (
       subst (λ (n : Pulled). HandsPulled n c.args.self.now.client c.next_bytes.new.client) c.in-Bytes.is c.in_ok-bytes.ensures.hands,
-      λ unanswered.
-          waits_as (record c.args.self.now { client = c.next_bytes.new.client; server = Some c.chunk.new.self }) c.args.sent c.args.server c.chunk.new.self
-          (record { unsent = c.requires.runs.unsent; sent = c.requires.runs.sent }) unanswered refl
-          (one_hands c.args.server (asked.chunk c.as_slice.result.now) _ c.chunk.new.self c.in_ok-chunk-in-Bytes.ensures.stands (ap good_of c.in_ok-chunk-in-Bytes.ensures.stands.says)),
+      goes_as (record c.args.self.now { client = c.next_bytes.new.client; server = Some c.chunk.new.self }) c.args.sent c.args.server c.chunk.new.self (marks_of c.args.sent) []
+          (record { unsent = c.requires.runs.unsent; sent = c.requires.runs.sent }) refl refl
+          (one_hands c.args.server (asked.chunk c.as_slice.result.now) _ c.chunk.new.self c.in_ok-chunk-in-Bytes.ensures.stands refl),
     )
 
 pub returns-in-Trailers-clause-replies : goal.returns-in-Trailers-clause-replies
 returns-in-Trailers-clause-replies c =
     inl (
       subst (λ (n : Pulled). HandsPulled n c.args.self.now.client c.next_bytes.new.client) c.in-Trailers.is c.in_ok-bytes.ensures.hands,
-      λ unanswered.
-          waits_as (record c.args.self.now { client = c.next_bytes.new.client; server = Some c.args.server }) c.args.sent c.args.server c.args.server
-          (record { unsent = c.requires.runs.unsent; sent = c.requires.runs.sent }) unanswered refl (hands_same c.args.server),
+      goes_as (record c.args.self.now { client = c.next_bytes.new.client; server = Some c.args.server }) c.args.sent c.args.server c.args.server (marks_of c.args.sent) []
+          (record { unsent = c.requires.runs.unsent; sent = c.requires.runs.sent }) refl refl (hands_same c.args.server),
     )
 
 pub returns-in-End-clause-replies : goal.returns-in-End-clause-replies
 returns-in-End-clause-replies c =
     inl (
       subst (λ (n : Pulled). HandsPulled n c.args.self.now.client c.next_bytes.new.client) c.in-End.is c.in_ok-bytes.ensures.hands,
-      λ unanswered.
-          waits_as (record c.args.self.now { client = c.next_bytes.new.client; server = Some c.end_body.new.self; sent = Some c.whole.result }) c.whole.result c.args.server c.end_body.new.self
-          (record { unsent = c.requires.runs.unsent; sent = refl }) (c.whole.ensures.answered ∙ unanswered) refl
-          (one_hands c.args.server asked.body_end _ c.end_body.new.self c.in_ok-end_body-in-End.ensures.stands (ap good_of c.in_ok-end_body-in-End.ensures.stands.says)),
+      goes_as (record c.args.self.now { client = c.next_bytes.new.client; server = Some c.end_body.new.self; sent = Some c.whole.result }) c.whole.result c.args.server c.end_body.new.self (marks_of c.args.sent) []
+          (record { unsent = c.requires.runs.unsent; sent = refl }) c.whole.ensures.marks refl
+          (one_hands c.args.server asked.body_end _ c.end_body.new.self c.in_ok-end_body-in-End.ensures.stands refl),
     )
 
 pub returns-in-Broken-clause-replies : goal.returns-in-Broken-clause-replies
 returns-in-Broken-clause-replies c =
-    body_breaks _ c.args.sent c.args.server c.args.self.now.client c.next_bytes.new.client _
+    body_breaks c.break_body.new.self c.args.sent c.args.server c.args.self.now.client c.next_bytes.new.client _
     (subst (λ (n : Pulled). HandsPulled n c.args.self.now.client c.next_bytes.new.client) c.in-Broken.is c.in_ok-bytes.ensures.hands)
     c.in_ok-break_body-in-Broken.ensures.replies
 
@@ -169,7 +166,6 @@ pub returns-clause-replies : goal.returns-clause-replies
 returns-clause-replies c =
     inl (
       subst (λ (n : Pulled). HandsPulled n c.args.self.now.client c.next_bytes.new.client) c.in-Pending.is c.in_ok-bytes.ensures.hands,
-      λ unanswered.
-          waits_as (record c.args.self.now { client = c.next_bytes.new.client; server = Some c.args.server }) c.args.sent c.args.server c.args.server
-          (record { unsent = c.requires.runs.unsent; sent = c.requires.runs.sent }) unanswered refl (hands_same c.args.server),
+      goes_as (record c.args.self.now { client = c.next_bytes.new.client; server = Some c.args.server }) c.args.sent c.args.server c.args.server (marks_of c.args.sent) []
+          (record { unsent = c.requires.runs.unsent; sent = c.requires.runs.sent }) refl refl (hands_same c.args.server),
     )

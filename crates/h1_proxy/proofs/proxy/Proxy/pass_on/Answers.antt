@@ -42,4 +42,4 @@ returns-in_ok-more-in-Some-clause-replies c = replies_of_server c.args.self.now 
 pub returns-in_ok-fail-in-None-clause-replies : goal.returns-in_ok-fail-in-None-clause-replies
 returns-in_ok-fail-in-None-clause-replies c =
     replies_of_server c.args.self.now c.fail.new.self None (sym c.in-None.ensures.value)
-    (fails_replies c.args.self.now c.fail.new.self c.args.sent None c.requires.runs tt c.in_ok-fail-in-None.ensures.replies)
+    (fails_replies c.args.self.now c.fail.new.self c.args.sent None c.requires.runs (λ _. tt) (λ _. tt) c.in_ok-fail-in-None.ensures.replies)

@@ -8,9 +8,9 @@ use Rattle.std.proofs.Common.{subst}
 use Rattle.h1_payload.specs.declared.pulled.Pulled.{Pulled}
 use Rattle.h1_forward_sides.specs.Leaves.{LeavesPiece}
 use Rattle.h1_proxy.proofs.Served.{client_serves, with_server, serves_of_sent}
-use Rattle.h1_proxy.proofs.Replies.{body_puts}
-use Rattle.h1_forward_sides.proofs.Puts.{puts_none}
-use Rattle.h1_proxy.proofs.Replies.{fails_puts}
+use Rattle.std.proofs.Common.{refl}
+use Rattle.h1_proxy.proofs.Replies.{body_replies, body_before, piece_replies, trailers_reply, end_replies, fails_replies, broken_lacks}
+use Rattle.h1_forward_sides.specs.Puts.{HandsPiece}
 use Rattle.h1_proxy.proofs.proxy.Proxy.pass_piece.Goals as goal
 
 pub pass_body-requires : goal.pass_body-requires
@@ -27,22 +27,22 @@ pass_body-requires-in-Pending c = c.requires
 
 pub returns-in_ok-put_piece-in-Bytes-clause-goes : goal.returns-in_ok-put_piece-in-Bytes-clause-goes
 returns-in_ok-put_piece-in-Bytes-clause-goes c =
-    goes_then _ _ _ (server_moves c.args.self.now c.args.server c.next_piece.new.server c.in_ok-bytes.ensures.stays)
+    goes_then _ _ _ (server_moves c.args.self.now c.args.server c.next_piece.new.server c.in_ok-bytes.ensures.stays c.in_ok-bytes.ensures.time)
     (client_done (record c.args.self.now { server = Some c.next_piece.new.server }) c.put_piece.new.client c.in_ok-put_piece-in-Bytes.ensures.brings)
 
 pub returns-in-Trailers-clause-goes : goal.returns-in-Trailers-clause-goes
-returns-in-Trailers-clause-goes c = server_moves c.args.self.now c.args.server c.next_piece.new.server c.in_ok-bytes.ensures.stays
+returns-in-Trailers-clause-goes c = server_moves c.args.self.now c.args.server c.next_piece.new.server c.in_ok-bytes.ensures.stays c.in_ok-bytes.ensures.time
 
 pub returns-in_ok-end_reply-in-End-clause-goes : goal.returns-in_ok-end_reply-in-End-clause-goes
 returns-in_ok-end_reply-in-End-clause-goes c =
-    goes_then _ _ _ (server_moves c.args.self.now c.args.server c.next_piece.new.server c.in_ok-bytes.ensures.stays) c.in_ok-end_reply-in-End.ensures.goes
+    goes_then _ _ _ (server_moves c.args.self.now c.args.server c.next_piece.new.server c.in_ok-bytes.ensures.stays c.in_ok-bytes.ensures.time) c.in_ok-end_reply-in-End.ensures.goes
 
 pub returns-in_ok-fail-in-Broken-clause-goes : goal.returns-in_ok-fail-in-Broken-clause-goes
 returns-in_ok-fail-in-Broken-clause-goes c = goes_then _ _ _ (closes (record c.args.self.now { server = Some c.args.server })) c.in_ok-fail-in-Broken.ensures.goes
 
 pub returns-in_ok-more-in-Pending-clause-goes : goal.returns-in_ok-more-in-Pending-clause-goes
 returns-in_ok-more-in-Pending-clause-goes c =
-    goes_then _ _ _ (server_moves c.args.self.now c.args.server c.next_piece.new.server c.in_ok-bytes.ensures.stays) c.in_ok-more-in-Pending.ensures.goes
+    goes_then _ _ _ (server_moves c.args.self.now c.args.server c.next_piece.new.server c.in_ok-bytes.ensures.stays c.in_ok-bytes.ensures.time) c.in_ok-more-in-Pending.ensures.goes
 
 pub returns-then-not-can_chunk-clause-works : goal.returns-then-not-can_chunk-clause-works
 returns-then-not-can_chunk-clause-works c = λ answered.
@@ -110,21 +110,38 @@ returns-in_ok-more-in-Pending-clause-serves c = λ _. c.in_ok-more-in-Pending.en
 
 pub returns-then-not-can_chunk-clause-replies : goal.returns-then-not-can_chunk-clause-replies
 returns-then-not-can_chunk-clause-replies c = λ answered.
-    body_puts c.args.self.now.client c.pass_body.new.self c.args.sent c.args.server answered c.in_ok-moved.ensures.replies
+    body_replies c.args.self.now c.pass_body.new.self c.args.sent c.args.server c.requires.runs
+    (λ unanswered. absurd (false≢true (sym unanswered ∙ answered))) c.in_ok-moved.ensures.replies
 
 pub returns-in_ok-put_piece-in-Bytes-clause-replies : goal.returns-in_ok-put_piece-in-Bytes-clause-replies
-returns-in_ok-put_piece-in-Bytes-clause-replies c = λ answered. c.in_ok-put_piece-in-Bytes.ensures.puts
+returns-in_ok-put_piece-in-Bytes-clause-replies c = λ answered.
+    piece_replies c.args.self.now (record c.args.self.now { client = c.put_piece.new.client; server = Some c.next_piece.new.server }) c.args.sent c.args.server
+    c.next_piece.new.server c.in-Bytes.bytes c.requires.runs answered (subst (λ (n : Pulled). HandsPiece n c.args.server c.next_piece.new.server) c.in-Bytes.is c.in_ok-bytes.ensures.hands)
+    (record { unsent = c.requires.runs.unsent; sent = c.requires.runs.sent }) refl c.in_ok-put_piece-in-Bytes.ensures.puts
+    (λ refused. false≢true (sym refused ∙ sym (c.can_chunk.ensures c.in-Bytes.bytes) ∙ c.if-not-can_chunk.false))
 
 pub returns-in-Trailers-clause-replies : goal.returns-in-Trailers-clause-replies
-returns-in-Trailers-clause-replies c = λ answered. puts_none c.args.self.now.client
+returns-in-Trailers-clause-replies c = λ answered.
+    trailers_reply c.args.self.now (record c.args.self.now { server = Some c.next_piece.new.server }) c.args.sent c.args.server c.next_piece.new.server
+    c.requires.runs (subst (λ (n : Pulled). HandsPiece n c.args.server c.next_piece.new.server) c.in-Trailers.is c.in_ok-bytes.ensures.hands)
+    (record { unsent = c.requires.runs.unsent; sent = c.requires.runs.sent }) refl refl
 
 pub returns-in_ok-end_reply-in-End-clause-replies : goal.returns-in_ok-end_reply-in-End-clause-replies
-returns-in_ok-end_reply-in-End-clause-replies c = λ answered. c.in_ok-end_reply-in-End.ensures.replies
+returns-in_ok-end_reply-in-End-clause-replies c = λ answered.
+    end_replies c.args.self.now c.end_reply.new.self c.args.sent c.args.server c.next_piece.new.server c.requires.runs answered
+    (subst (λ (n : Pulled). HandsPiece n c.args.server c.next_piece.new.server) c.in-End.is c.in_ok-bytes.ensures.hands)
+    c.in_ok-end_reply-in-End.ensures.replies c.in_ok-end_reply-in-End.ensures.over
 
 pub returns-in_ok-fail-in-Broken-clause-replies : goal.returns-in_ok-fail-in-Broken-clause-replies
 returns-in_ok-fail-in-Broken-clause-replies c = λ answered.
-    fails_puts c.args.sent.is_answered c.args.self.now.client _ answered c.in_ok-fail-in-Broken.ensures.replies
+    fails_replies c.args.self.now c.fail.new.self c.args.sent (Some c.args.server) c.requires.runs
+    (λ unanswered. absurd (false≢true (sym unanswered ∙ answered)))
+    (λ _. broken_lacks c.args.server c.next_piece.new.server _ (subst (λ (n : Pulled). HandsPiece n c.args.server c.next_piece.new.server) c.in-Broken.is c.in_ok-bytes.ensures.hands))
+    c.in_ok-fail-in-Broken.ensures.replies
 
 pub returns-in_ok-more-in-Pending-clause-replies : goal.returns-in_ok-more-in-Pending-clause-replies
 returns-in_ok-more-in-Pending-clause-replies c = λ answered.
-    body_puts c.args.self.now.client c.pass_body-in-Pending.new.self c.args.sent c.next_piece.new.server answered c.in_ok-more-in-Pending.ensures.replies
+    body_replies c.args.self.now c.pass_body-in-Pending.new.self c.args.sent c.args.server c.requires.runs
+    (λ unanswered. absurd (false≢true (sym unanswered ∙ answered)))
+    (body_before c.args.self.now.client c.pass_body-in-Pending.new.self c.args.sent c.args.server c.next_piece.new.server
+    (subst (λ (n : Pulled). HandsPiece n c.args.server c.next_piece.new.server) c.in-Pending.is c.in_ok-bytes.ensures.hands) c.in_ok-more-in-Pending.ensures.replies)

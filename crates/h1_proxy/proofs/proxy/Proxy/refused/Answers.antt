@@ -1,4 +1,4 @@
-use Rattle.std.proofs.Common.{refl}
+use Rattle.std.proofs.Common.{refl, ◌∙◌}
 use Rattle.std.specs.Prelude.{Option, None}
 use Rattle.std.proofs.Common.{subst}
 use Rattle.h1_forward_model.specs.Past as event
@@ -10,7 +10,7 @@ use Rattle.h1_proxy.specs.Kept.{Goes}
 use Rattle.h1_proxy.specs.declared.proxy.Proxy.{Proxy}
 use Rattle.h1_proxy.specs.declared.proxy.Unsent.{Unsent}
 use Rattle.h1_proxy.proofs.Served.{serves_by, noted_idle, noted_no_reply, refused_no_reply}
-use Rattle.h1_proxy.proofs.Replies.{refuses_by, noted_client}
+use Rattle.h1_proxy.proofs.Replies.{refuses_by, noted_client, noted_server}
 use Rattle.h1_proxy.proofs.proxy.Proxy.refused.Goals as goal
 
 pub returns-clause-goes : goal.returns-clause-goes
@@ -54,5 +54,5 @@ returns-clause-replies c =
     refuses_by p a c.note_unsent.new.self c.reply.new.self c.settle.new.self
     (by_then event.refused done p c.note_unsent.new.self c.reply.new.self
     (by_then event.refused done p mid c.note_unsent.new.self (refuses p c.requires.wants_server) noted) c.in_ok-reply.ensures.goes)
-    refl (noted_client a c.note_unsent.new.self c.note_unsent.ensures.noted)
-    c.in_ok-reply.ensures.replies c.in_ok-settle.ensures.replies
+    (c.in_ok-reply.ensures.idle (noted_idle a _ c.note_unsent.ensures.noted (record { unsent = c.take-unsent.ensures.after; sent = refl })))
+    (c.in_ok-reply.ensures.server ∙ noted_server a _ c.note_unsent.ensures.noted) refl (noted_client a c.note_unsent.new.self c.note_unsent.ensures.noted) c.in_ok-reply.ensures.replies c.in_ok-settle.ensures.replies

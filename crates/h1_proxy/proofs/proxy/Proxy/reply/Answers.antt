@@ -1,14 +1,14 @@
-use Rattle.std.proofs.Common.{refl}
+use Rattle.std.proofs.Common.{refl, []}
 use Rattle.h1_proxy.proofs.Moves.{goes_then, client_done}
 use Rattle.h1_model.specs.Event as on
 use Rattle.h1_proxy.proofs.Work.{less_then, client_less, noted_less}
-use Rattle.h1_proxy.proofs.Served.{noted_serves, idle_serves, head_put}
+use Rattle.h1_proxy.proofs.Served.{noted_idle, noted_serves, idle_serves, head_put}
 use Rattle.std.proofs.Common.{subst}
-use Rattle.h1_proxy.proofs.Replies.{then_most, may_put, most_as, noted_client}
+use Rattle.h1_proxy.proofs.Replies.{left_put, last_as, noted_client, noted_server}
 use Rattle.h1_proxy.specs.Replies.{own}
 use Rattle.h1_forward_heads.specs.Meaning.{status_of}
 use Rattle.h1_model.specs.Answer.{AnswerHead, size_of}
-use Rattle.h1_forward_sides.specs.Puts.{MayPut}
+use Rattle.h1_forward_sides.specs.Puts.{begins, MayPut}
 use Rattle.h1_proxy.proofs.proxy.Proxy.reply.Goals as goal
 
 pub returns-clause-goes : goal.returns-clause-goes
@@ -34,7 +34,14 @@ returns-clause-serves c = λ idle x.
 
 pub returns-clause-replies : goal.returns-clause-replies
 returns-clause-replies c =
-    most_as _ c.args.self.now.client c.put_head.new.client _ (noted_client (record c.args.self.now { client = c.put_head.new.client }) c.note_reply.new.self c.in_ok-note_reply.ensures.noted)
-    (then_most _ c.args.self.now.client c.leave_body.new.client c.put_head.new.client c.leave_body.ensures.puts
-    (may_put (own (status_of c.args.refusal)) c.leave_body.new.client c.put_head.new.client
-    (subst (λ (h : AnswerHead). MayPut (record { head = h; size = size_of 0 }) c.leave_body.new.client c.put_head.new.client) c.head-head.ensures c.in_ok-put_head.ensures.puts)))
+    last_as [] _ c.args.self.now.client c.put_head.new.client _ (noted_client (record c.args.self.now { client = c.put_head.new.client }) c.note_reply.new.self c.in_ok-note_reply.ensures.noted)
+    (left_put (own (status_of c.args.refusal)) c.args.self.now.client c.leave_body.new.client c.put_head.new.client c.leave_body.ensures.puts
+    (subst (λ (h : AnswerHead). MayPut (begins (record { head = h; size = size_of 0 })) c.leave_body.new.client c.put_head.new.client) c.head-head.ensures c.in_ok-put_head.ensures.puts))
+
+pub returns-clause-idle : goal.returns-clause-idle
+returns-clause-idle c = λ idle.
+    noted_idle (record c.args.self.now { client = c.put_head.new.client }) _ c.in_ok-note_reply.ensures.noted
+    (record { unsent = idle.unsent; sent = idle.sent })
+
+pub returns-clause-server : goal.returns-clause-server
+returns-clause-server c = noted_server (record c.args.self.now { client = c.put_head.new.client }) _ c.in_ok-note_reply.ensures.noted

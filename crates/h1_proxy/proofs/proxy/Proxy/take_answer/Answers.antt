@@ -1,11 +1,12 @@
 use Rattle.std.proofs.Common.{Some, None, refl}
 use Rattle.h1_proxy.proofs.Moves.{goes_same, goes_then, closes}
 use Rattle.h1_proxy.proofs.Work.{less_same, less_then, weaker, closed_less, drop_sent}
-use Rattle.h1_proxy.proofs.Served.{serves_of_sent, with_server, no_reply_of}
-use Rattle.std.proofs.Common.{subst, inl, inr, ◌≡◌}
-use Rattle.h1_proxy.proofs.Replies.{is_refused_so, is_passed_over, is_passed_on, waits_as}
+use Rattle.h1_proxy.proofs.Served.{serves_of_sent, with_server, no_reply_to, told_to_go_on}
+use Rattle.std.proofs.Common.{subst, inl, inr, ◌≡◌, []}
+use Rattle.h1_proxy.proofs.Replies.{is_refused_so, is_passed_over, is_passed_on, goes_as}
 use Rattle.h1_forward_sides.proofs.Puts.{puts_none, hands_same}
-use Rattle.h1_proxy.proofs.Replies.{fails_most}
+use Rattle.h1_proxy.proofs.Replies.{fails_last}
+use Rattle.h1_proxy.specs.Replies.{marks_of}
 use Rattle.h1_forward_heads.specs.declared.replies.AnswerUse.{AnswerUse}
 use Rattle.h1_forward_heads.specs.Meaning.{found_as}
 use Rattle.h1_forward_model.specs.Answers.{found_by}
@@ -38,27 +39,34 @@ returns-in-PassOver-clause-serves c = λ _. with_server c.args.self.now (Some c.
 
 pub returns-in_ok-pass_noted-in-PassOn-clause-serves : goal.returns-in_ok-pass_noted-in-PassOn-clause-serves
 returns-in_ok-pass_noted-in-PassOn-clause-serves c = λ unanswered s.
-    c.in_ok-pass_noted-in-PassOn.ensures.serves (no_reply_of c.args.self.now c.args.sent c.requires.runs unanswered s)
+    c.in_ok-pass_noted-in-PassOn.ensures.serves (no_reply_to c.args.self.now c.args.sent c.requires.runs unanswered s)
+    (told_to_go_on c.args.self.now c.args.sent c.requires.runs s)
 
 pub returns-in_ok-fail-in-Refuse-clause-replies : goal.returns-in_ok-fail-in-Refuse-clause-replies
 returns-in_ok-fail-in-Refuse-clause-replies c = λ unanswered a read says.
+    let x = fails_last c.args.sent.is_answered c.args.self.now.client c.fail.new.self unanswered c.in_ok-fail-in-Refuse.ensures.replies in
     inl (
       is_refused_so a (λ r b later. subst (λ (u : AnswerUse). found_by r (answer_is a) b later ≡ found_as u r a b later) c.in-Refuse.is (c.answer_use.ensures a r b later says)),
-      fails_most c.args.sent.is_answered c.args.self.now.client _ unanswered c.in_ok-fail-in-Refuse.ensures.replies,
+      x.0,
+      x.1,
     )
 
 pub returns-in-PassOver-clause-replies : goal.returns-in-PassOver-clause-replies
 returns-in-PassOver-clause-replies c = λ unanswered a read says.
+    let over = is_passed_over a (λ r b later. subst (λ (u : AnswerUse). found_by r (answer_is a) b later ≡ found_as u r a b later) c.in-PassOver.is (c.answer_use.ensures a r b later says)) in
     inr (inl (
-      is_passed_over a (λ r b later. subst (λ (u : AnswerUse). found_by r (answer_is a) b later ≡ found_as u r a b later) c.in-PassOver.is (c.answer_use.ensures a r b later says)),
+      over.0,
+      over.1,
       puts_none c.args.self.now.client,
-      waits_as (record c.args.self.now { server = Some c.args.server }) c.args.sent c.args.server c.args.server
-          (record { unsent = c.requires.runs.unsent; sent = c.requires.runs.sent }) unanswered refl (hands_same c.args.server),
+      goes_as (record c.args.self.now { server = Some c.args.server }) c.args.sent c.args.server c.args.server (marks_of c.args.sent) []
+          (record { unsent = c.requires.runs.unsent; sent = c.requires.runs.sent }) refl refl (hands_same c.args.server),
     ))
 
 pub returns-in_ok-pass_noted-in-PassOn-clause-replies : goal.returns-in_ok-pass_noted-in-PassOn-clause-replies
 returns-in_ok-pass_noted-in-PassOn-clause-replies c = λ unanswered a read says.
+    let x = c.in_ok-pass_noted-in-PassOn.ensures.replies a read says in
     inr (inr (
       is_passed_on a (λ r b later. subst (λ (u : AnswerUse). found_by r (answer_is a) b later ≡ found_as u r a b later) c.in-PassOn.is (c.answer_use.ensures a r b later says)),
-      c.in_ok-pass_noted-in-PassOn.ensures.replies a read says,
+      x.0,
+      x.1,
     ))

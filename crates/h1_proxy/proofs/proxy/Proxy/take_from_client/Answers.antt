@@ -1,11 +1,10 @@
 use Rattle.std.proofs.Common.{ℕ, length, min, sym, ap, ◌∙◌}
 use Rattle.h1_model.specs.Event as on
-use Rattle.h1_forward_model.specs.Past.{client}
 use Rattle.h1_proxy.proofs.EventMoves.{client_nothing, client_reads}
 use Rattle.h1_proxy.proofs.Rooms.{client_count, client_has}
 use Rattle.h1_proxy.proofs.Served.{event_serves}
-use Rattle.h1_proxy.proofs.Replies.{no_head_same, client_no_head}
-use Rattle.std.proofs.Common.{refl}
+use Rattle.h1_proxy.proofs.Replies.{client_adds}
+use Rattle.std.proofs.Common.{refl, inl, inr}
 use Rattle.h1_proxy.proofs.proxy.Proxy.take_from_client.Goals as goal
 
 pub returns-then-client_room-eq0-clause-goes : goal.returns-then-client_room-eq0-clause-goes
@@ -36,10 +35,10 @@ returns-clause-took c = λ history all f.
     (sym (client_has c.args.self.now (λ none. c.if-client_room-eq0.false (c.client_room.ensures ∙ none))))
 
 pub returns-then-client_room-eq0-clause-replies : goal.returns-then-client_room-eq0-clause-replies
-returns-then-client_room-eq0-clause-replies c = no_head_same (client c.args.bytes.now) c.args.self.now refl
+returns-then-client_room-eq0-clause-replies c = record { client = inl refl; server = refl; unsent = refl; sent = refl }
 
 pub returns-then-not-can_read-clause-replies : goal.returns-then-not-can_read-clause-replies
-returns-then-not-can_read-clause-replies c = no_head_same (client c.args.bytes.now) c.args.self.now refl
+returns-then-not-can_read-clause-replies c = record { client = inl refl; server = refl; unsent = refl; sent = refl }
 
 pub returns-clause-replies : goal.returns-clause-replies
-returns-clause-replies c = client_no_head (client c.args.bytes.now) c.args.self.now (on.read c.args.bytes.now) _ c.read.new.self c.in_ok-count.ensures.stands refl refl
+returns-clause-replies c = record { client = inr (client_adds (on.read c.args.bytes.now) _ c.args.self.now.client c.read.new.self c.in_ok-count.ensures.stands); server = refl; unsent = refl; sent = refl }

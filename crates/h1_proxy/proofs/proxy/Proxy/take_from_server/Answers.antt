@@ -1,11 +1,9 @@
 use Rattle.std.proofs.Common.{Some, sym, ◌∙◌}
 use Rattle.h1_client_machine.specs.ClientEvent as asked
-use Rattle.h1_forward_model.specs.Past.{server}
 use Rattle.h1_proxy.proofs.EventMoves.{server_nothing, server_reads, allows_of}
 use Rattle.h1_proxy.proofs.Served.{with_server}
-use Rattle.h1_proxy.proofs.Replies.{no_head_same, server_same, server_no_head}
-use Rattle.std.proofs.Common.{ap}
-use Rattle.h1_forward_sides.specs.Puts.{good_of}
+use Rattle.h1_proxy.proofs.Replies.{adds_to}
+use Rattle.std.proofs.Common.{refl, inl, inr}
 use Rattle.h1_proxy.proofs.proxy.Proxy.take_from_server.Goals as goal
 
 pub returns-then-server_room-eq0-clause-goes : goal.returns-then-server_room-eq0-clause-goes
@@ -35,12 +33,11 @@ pub returns-clause-serves : goal.returns-clause-serves
 returns-clause-serves c = with_server c.args.self.now (Some c.read.new.self)
 
 pub returns-then-server_room-eq0-clause-replies : goal.returns-then-server_room-eq0-clause-replies
-returns-then-server_room-eq0-clause-replies c = no_head_same (server c.args.bytes.now) c.args.self.now (server_same c.args.self.now.server)
+returns-then-server_room-eq0-clause-replies c = record { client = refl; server = inl refl; unsent = refl; sent = refl }
 
 pub returns-then-not-can_read_server-clause-replies : goal.returns-then-not-can_read_server-clause-replies
-returns-then-not-can_read_server-clause-replies c = no_head_same (server c.args.bytes.now) c.args.self.now (server_same c.args.self.now.server)
+returns-then-not-can_read_server-clause-replies c = record { client = refl; server = inl refl; unsent = refl; sent = refl }
 
 pub returns-clause-replies : goal.returns-clause-replies
 returns-clause-replies c =
-    server_no_head (server c.args.bytes.now) c.args.self.now c.in-Some.server c.read.new.self (asked.read c.args.bytes.now) _ (sym c.in-Some.ensures.value) c.in_ok-count.ensures.stands
-    (ap good_of c.in_ok-count.ensures.stands.says) (λ x. x)
+    record { client = refl; server = inr (adds_to (asked.read c.args.bytes.now) _ c.args.self.now.server c.in-Some.server c.read.new.self (sym c.in-Some.ensures.value) c.in_ok-count.ensures.stands); unsent = refl; sent = refl }

@@ -7,8 +7,8 @@ use Rattle.h1_connection.specs.declared.connection.heads.NextHead.{NextHead}
 use Rattle.h1_forward_sides.specs.Sides.{BringsNext}
 use Rattle.h1_forward_sides.specs.Leaves.{LeavesNext}
 use Rattle.h1_proxy.proofs.Served.{client_serves, head_opens, noted_serves}
-use Rattle.std.proofs.Common.{sym, []}
-use Rattle.h1_proxy.proofs.Replies.{head_replies, no_head_put, idle_cause, noted_client}
+use Rattle.std.proofs.Common.{sym, [], refl, inl, ◌∙◌}
+use Rattle.h1_proxy.proofs.Replies.{head_replies, head_keeps, no_part_put, idle_cause, noted_client, noted_sent, noted_server, closed_replies}
 use Rattle.h1_forward_sides.specs.Puts.{Puts, HandsNext}
 use Rattle.h1_proxy.proofs.proxy.Proxy.take_head.Goals as goal
 
@@ -37,14 +37,16 @@ returns-in_ok-note_fault-in-Fault-clause-works c = works_noted _ _ _ (fault_work
 
 pub returns-in-Pending-clause-works : goal.returns-in-Pending-clause-works
 returns-in-Pending-clause-works c = idle_rests on.done c.args.self.now c.next_head.new.client c.requires.idle (subst (λ (n : NextHead). BringsNext n c.args.self.now.client c.next_head.new.client) c.in-Pending.is c.in_ok-item.ensures.brings) (subst (λ (n : NextHead). LeavesNext n c.args.self.now.client c.next_head.new.client) c.in-Pending.is c.in_ok-item.ensures.leaves)
+    c.requires.goes_on
 
 pub returns-in-Closed-clause-works : goal.returns-in-Closed-clause-works
 returns-in-Closed-clause-works c = idle_rests on.done c.args.self.now c.next_head.new.client c.requires.idle (subst (λ (n : NextHead). BringsNext n c.args.self.now.client c.next_head.new.client) c.in-Closed.is c.in_ok-item.ensures.brings) (subst (λ (n : NextHead). LeavesNext n c.args.self.now.client c.next_head.new.client) c.in-Closed.is c.in_ok-item.ensures.leaves)
+    c.requires.goes_on
 
 pub returns-in_ok-open-in-Head-clause-serves : goal.returns-in_ok-open-in-Head-clause-serves
 returns-in_ok-open-in-Head-clause-serves c = λ s.
-    c.in_ok-open-in-Head.ensures.serves
-    (head_opens c.in-Head.item c.args.self.now c.next_head.new.client (subst (λ (n : NextHead). BringsNext n c.args.self.now.client c.next_head.new.client) c.in-Head.is c.in_ok-item.ensures.brings) (subst (λ (n : NextHead). Wants (WantsNext n) c.args.self.now.client c.next_head.new.client) c.in-Head.is c.in_ok-item.ensures.wants) s)
+    let x = head_opens c.in-Head.item c.args.self.now c.next_head.new.client (subst (λ (n : NextHead). BringsNext n c.args.self.now.client c.next_head.new.client) c.in-Head.is c.in_ok-item.ensures.brings) (subst (λ (n : NextHead). Wants (WantsNext n) c.args.self.now.client c.next_head.new.client) c.in-Head.is c.in_ok-item.ensures.wants) s in
+    c.in_ok-open-in-Head.ensures.serves x.0 x.1 x.2
 
 pub returns-in_ok-note_fault-in-Fault-clause-serves : goal.returns-in_ok-note_fault-in-Fault-clause-serves
 returns-in_ok-note_fault-in-Fault-clause-serves c = λ s.
@@ -64,16 +66,33 @@ returns-in_ok-open-in-Head-clause-replies c =
 
 pub returns-in_ok-note_fault-in-Fault-clause-replies : goal.returns-in_ok-note_fault-in-Fault-clause-replies
 returns-in_ok-note_fault-in-Fault-clause-replies c =
-    no_head_put c.args.self.now _ (idle_cause c.args.self.now _ c.requires.idle)
+    no_part_put c.args.self.now _ (idle_cause c.args.self.now _ c.requires.idle)
     (subst (Puts [] c.args.self.now.client) (sym (noted_client (record c.args.self.now { client = c.next_head.new.client }) _ c.in_ok-note_fault-in-Fault.ensures.noted))
     (subst (λ (n : NextHead). HandsNext n c.args.self.now.client c.next_head.new.client) c.in-Fault.is c.in_ok-item.ensures.hands))
 
 pub returns-in-Pending-clause-replies : goal.returns-in-Pending-clause-replies
 returns-in-Pending-clause-replies c =
-    no_head_put c.args.self.now (record c.args.self.now { client = c.next_head.new.client }) (idle_cause c.args.self.now _ c.requires.idle)
+    no_part_put c.args.self.now (record c.args.self.now { client = c.next_head.new.client }) (idle_cause c.args.self.now _ c.requires.idle)
     (subst (λ (n : NextHead). HandsNext n c.args.self.now.client c.next_head.new.client) c.in-Pending.is c.in_ok-item.ensures.hands)
 
 pub returns-in-Closed-clause-replies : goal.returns-in-Closed-clause-replies
 returns-in-Closed-clause-replies c =
-    no_head_put c.args.self.now (record c.args.self.now { client = c.next_head.new.client }) (idle_cause c.args.self.now _ c.requires.idle)
-    (subst (λ (n : NextHead). HandsNext n c.args.self.now.client c.next_head.new.client) c.in-Closed.is c.in_ok-item.ensures.hands)
+    let x = subst (λ (n : NextHead). HandsNext n c.args.self.now.client c.next_head.new.client) c.in-Closed.is c.in_ok-item.ensures.hands in
+    closed_replies c.args.self.now c.next_head.new.client c.requires.idle x.0 x.1
+
+pub returns-in_ok-open-in-Head-clause-keeps : goal.returns-in_ok-open-in-Head-clause-keeps
+returns-in_ok-open-in-Head-clause-keeps c =
+    head_keeps c.args.self.now (record c.args.self.now { client = c.next_head.new.client }) c.open.new.self c.in-Head.item refl
+    (subst (λ (n : NextHead). HandsNext n c.args.self.now.client c.next_head.new.client) c.in-Head.is c.in_ok-item.ensures.hands) c.in_ok-open-in-Head.ensures.keeps
+
+pub returns-in_ok-note_fault-in-Fault-clause-keeps : goal.returns-in_ok-note_fault-in-Fault-clause-keeps
+returns-in_ok-note_fault-in-Fault-clause-keeps c = λ idle. (
+  noted_sent (record c.args.self.now { client = c.next_head.new.client }) _ c.in_ok-note_fault-in-Fault.ensures.noted ∙ idle.sent,
+  inl (noted_server (record c.args.self.now { client = c.next_head.new.client }) _ c.in_ok-note_fault-in-Fault.ensures.noted),
+)
+
+pub returns-in-Pending-clause-keeps : goal.returns-in-Pending-clause-keeps
+returns-in-Pending-clause-keeps c = λ idle. (idle.sent, inl refl)
+
+pub returns-in-Closed-clause-keeps : goal.returns-in-Closed-clause-keeps
+returns-in-Closed-clause-keeps c = λ idle. (idle.sent, inl refl)

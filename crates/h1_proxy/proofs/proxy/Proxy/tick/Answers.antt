@@ -7,7 +7,7 @@ use Rattle.h1_proxy.proofs.Work.{rests_by}
 use Rattle.h1_proxy.proofs.EventMoves.{ticks}
 use Rattle.h1_proxy.specs.declared.proxy.Proxy.{Proxy}
 use Rattle.h1_proxy.proofs.Served.{serves_by, with_moment, event_serves}
-use Rattle.h1_proxy.proofs.Replies.{replies_by, client_no_head, no_head_moment}
+use Rattle.h1_proxy.proofs.Replies.{replies_by, client_adds}
 use Rattle.std.proofs.Common.{refl}
 use Rattle.h1_proxy.proofs.proxy.Proxy.tick.Goals as goal
 
@@ -16,14 +16,14 @@ returns-clause-goes c =
     let p = c.args.self.now in
     let mid : Proxy = record p { client = c.tick.new.self; moment = Some c.args.moment } in
     by_then (tick c.args.moment) done p mid c.settle.new.self
-    (ticks c.args.moment c.in_ok-expiry.expiry p c.tick.new.self (Some c.args.moment) c.tick.ensures.settings c.in_ok-expiry.ensures.stands) c.in_ok-settle.ensures.goes
+    (ticks c.args.moment c.in_ok-expiry.expiry p c.tick.new.self c.requires.can_tick c.tick.ensures.settings c.in_ok-expiry.ensures.stands) c.in_ok-settle.ensures.goes
 
 pub returns-clause-rests : goal.returns-clause-rests
 returns-clause-rests c =
     let p = c.args.self.now in
     let mid : Proxy = record p { client = c.tick.new.self; moment = Some c.args.moment } in
     rests_by (tick c.args.moment) done p mid c.settle.new.self
-    (ticks c.args.moment c.in_ok-expiry.expiry p c.tick.new.self (Some c.args.moment) c.tick.ensures.settings c.in_ok-expiry.ensures.stands) c.in_ok-settle.ensures.rests
+    (ticks c.args.moment c.in_ok-expiry.expiry p c.tick.new.self c.requires.can_tick c.tick.ensures.settings c.in_ok-expiry.ensures.stands) c.in_ok-settle.ensures.rests
 
 pub returns-clause-serves : goal.returns-clause-serves
 returns-clause-serves c =
@@ -39,7 +39,9 @@ pub returns-clause-replies : goal.returns-clause-replies
 returns-clause-replies c =
     let q : Proxy = record c.args.self.now { client = c.tick.new.self } in
     replies_by (tick c.args.moment) done c.args.self.now (record q { moment = Some c.args.moment }) c.settle.new.self
-    (ticks c.args.moment c.in_ok-expiry.expiry c.args.self.now c.tick.new.self (Some c.args.moment) c.tick.ensures.settings c.in_ok-expiry.ensures.stands)
-    (no_head_moment (tick c.args.moment) c.args.self.now q (Some c.args.moment)
-    (client_no_head (tick c.args.moment) c.args.self.now (on.tick c.args.moment) _ c.tick.new.self c.in_ok-expiry.ensures.stands refl refl))
+    (ticks c.args.moment c.in_ok-expiry.expiry c.args.self.now c.tick.new.self c.requires.can_tick c.tick.ensures.settings c.in_ok-expiry.ensures.stands)
+    (record { client = client_adds (on.tick c.args.moment) _ c.args.self.now.client c.tick.new.self c.in_ok-expiry.ensures.stands; server = refl; unsent = refl; sent = refl })
     c.in_ok-settle.ensures.replies
+
+pub returns-clause-expiry : goal.returns-clause-expiry
+returns-clause-expiry c = (c.tick.new.self, c.in_ok-expiry.ensures.stands)

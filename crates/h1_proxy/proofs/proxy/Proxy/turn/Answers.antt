@@ -2,9 +2,9 @@ use Rattle.std.proofs.Common.{sym, ◌∙◌}
 use Rattle.h1_proxy.proofs.Moves.{goes_same, of_unsent, of_no_unsent}
 use Rattle.h1_proxy.proofs.Work.{turns, still_rests, works_of_unsent, not_still, runs_on}
 use Rattle.h1_proxy.proofs.Served.{serves_of_unsent}
-use Rattle.h1_proxy.proofs.Replies.{still_replies, replies_of_unsent}
+use Rattle.h1_proxy.proofs.Replies.{still_replies, replies_of_unsent, waiting_keeps, keeps_of_unsent}
 use Rattle.std.proofs.Common.{refl, inl, inr}
-use Rattle.h1_proxy.proofs.Fresh.{still_sends, may_of, idle_sends}
+use Rattle.h1_proxy.proofs.Fresh.{still_sends, may_of, idle_sends, sends_of_unsent}
 use Rattle.h1_proxy.proofs.proxy.Proxy.turn.Goals as goal
 
 pub returns-then-is_still-clause-goes : goal.returns-then-is_still-clause-goes
@@ -62,10 +62,20 @@ pub returns-in_ok-more-in-None-clause-begins : goal.returns-in_ok-more-in-None-c
 returns-in_ok-more-in-None-clause-begins c = inl (may_of c.is_still.result c.args.self.now c.is_still.ensures c.if-is_still.false)
 
 pub returns-then-is_still-clause-sends : goal.returns-then-is_still-clause-sends
-returns-then-is_still-clause-sends c = still_sends c.args.self.now
+returns-then-is_still-clause-sends c = still_sends c.args.self.now (not_still _ _ c.is_still.ensures c.if-is_still.true)
 
 pub returns-in_ok-more-in-Some-clause-sends : goal.returns-in_ok-more-in-Some-clause-sends
-returns-in_ok-more-in-Some-clause-sends c = λ u is none. c.in_ok-more-in-Some.ensures.sends c.in-Some.unsent refl none
+returns-in_ok-more-in-Some-clause-sends c = sends_of_unsent c.args.self.now c.send.new.self c.in-Some.unsent (sym c.in-Some.ensures.value) c.in_ok-more-in-Some.ensures.sends
 
 pub returns-in_ok-more-in-None-clause-sends : goal.returns-in_ok-more-in-None-clause-sends
 returns-in_ok-more-in-None-clause-sends c = idle_sends c.args.self.now c.go_on.new.self (sym c.in-None.ensures.value)
+
+pub returns-then-is_still-clause-keeps : goal.returns-then-is_still-clause-keeps
+returns-then-is_still-clause-keeps c = λ idle. (idle.sent, inl refl)
+
+pub returns-in_ok-more-in-Some-clause-keeps : goal.returns-in_ok-more-in-Some-clause-keeps
+returns-in_ok-more-in-Some-clause-keeps c = waiting_keeps c.args.self.now c.send.new.self c.in-Some.unsent (sym c.in-Some.ensures.value)
+
+pub returns-in_ok-more-in-None-clause-keeps : goal.returns-in_ok-more-in-None-clause-keeps
+returns-in_ok-more-in-None-clause-keeps c =
+    keeps_of_unsent c.args.self.now c.go_on.new.self _ (sym c.in-None.ensures.value ∙ sym c.take.ensures.after) c.in_ok-more-in-None.ensures.keeps

@@ -1,11 +1,9 @@
 use Rattle.std.proofs.Common.{Some, sym}
 use Rattle.h1_client_machine.specs.ClientEvent as asked
-use Rattle.h1_forward_model.specs.Past.{to_server}
 use Rattle.h1_proxy.proofs.EventMoves.{allows_of, text_of, server_writes}
 use Rattle.h1_proxy.proofs.Served.{with_server}
-use Rattle.h1_proxy.proofs.Replies.{server_no_head}
-use Rattle.std.proofs.Common.{ap}
-use Rattle.h1_forward_sides.specs.Puts.{good_of}
+use Rattle.h1_proxy.proofs.Replies.{adds_to}
+use Rattle.std.proofs.Common.{refl}
 use Rattle.h1_proxy.proofs.proxy.Proxy.write_server.Goals as goal
 
 pub advance-requires : goal.advance-requires
@@ -23,5 +21,4 @@ returns-clause-serves c = with_server c.args.self.now (Some c.advance.new.self)
 
 pub returns-clause-replies : goal.returns-clause-replies
 returns-clause-replies c =
-    server_no_head (to_server c.args.count) c.args.self.now c.in-Some.server c.advance.new.self (asked.write c.args.count) _ (sym c.in-Some.ensures.value) c.advance.ensures.stands
-    (ap good_of c.advance.ensures.stands.says) (λ x. x)
+    record { client = refl; server = adds_to (asked.write c.args.count) _ c.args.self.now.server c.in-Some.server c.advance.new.self (sym c.in-Some.ensures.value) c.advance.ensures.stands; unsent = refl; sent = refl }

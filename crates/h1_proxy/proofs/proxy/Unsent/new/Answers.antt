@@ -14,6 +14,7 @@ returns-clause-unsent c = λ h says can.
     let sized = c.forwarded_size-size.ensures ∙ ap (λ (k : BodyKind). forwarded_size k) says.body in record {
       method = ap (λ (r : AskedHead). r.method) (c.forwarded_head.ensures.says h says can);
       whole = ap not (c.has_body.ensures h says);
+      unbroken = refl;
       sized = sized;
       text = λ moment.
           waiting_text h c.forwarded_head.result (size_of c.forwarded_size-size.result) moment (forwarded (sent_of (unpulled h) moment)) sized (plain_keeps c.forwarded_head.result c.forwarded_head.ensures.flags c.forwarded_head.ensures.version)
