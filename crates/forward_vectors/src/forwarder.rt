@@ -1,4 +1,5 @@
 //! A forwarder that does what a script says.
+use crate::replies::put_replies;
 use h1_proxy::{NoMemory, Proxy, ServiceConfig};
 use std::alloc::Global;
 use vectors::{CaseError, Cursor, PiecePlayer, put_quoted, put_text, read_joined};
@@ -57,6 +58,7 @@ fn take(
             let bytes = read_joined(alloc, &mut cursor)?;
             Ok(read_server(proxy, bytes.as_slice(), size, found)?)
         }
+        b"replies" => Ok(replies(alloc, proxy, found)?),
         _ => plain(proxy, word, found),
     }
 }
@@ -72,6 +74,7 @@ fn plain(proxy: &mut Proxy, word: &[u8], found: &mut Vec<u8>) -> Result<(), Case
         b"sent" => Ok(sent(proxy, found)?),
         b"reply" => Ok(reply(proxy, found)?),
         b"state" => Ok(state(proxy, found)?),
+        b"note" => Ok(note(proxy, found)?),
         _ => Err(CaseError::Unreadable),
     }
 }
@@ -173,6 +176,18 @@ fn reply(proxy: &mut Proxy, found: &mut Vec<u8>) -> Result<(), NoMemory> {
         proxy.advance_client(len)?;
     }
     Ok(())
+}
+
+// `note`: from now on replies are noted.
+fn note(proxy: &mut Proxy, found: &mut Vec<u8>) -> Result<(), NoMemory> {
+    proxy.note_replies();
+    put_text(found, "done")
+}
+
+// `replies`: those that were noted since the last such line.
+fn replies(alloc: Global, proxy: &mut Proxy, found: &mut Vec<u8>) -> Result<(), NoMemory> {
+    let replies = proxy.take_replies();
+    put_replies(alloc, replies.as_slice(), found)
 }
 
 // `state`: whether a server connection is wanted, there, or there and idle; and whether the client's is to end.

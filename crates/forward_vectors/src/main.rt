@@ -6,6 +6,7 @@
 #![tactic(auto)]
 
 mod forwarder;
+mod replies;
 
 use crate::forwarder::Exchanges;
 use std::io;
