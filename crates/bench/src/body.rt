@@ -1,7 +1,6 @@
 //! Exchanges with bodies that are measured.
-use crate::error::BenchError;
-use crate::work::{MOMENT, Place, begin, give, repeated, take};
-use bench_support::Checksum;
+use crate::work::{MOMENT, Place, repeated};
+use bench_support::{BenchError, Checksum, begin, give, send, take};
 use bytes::Bytes;
 use h1_connection::{Connection, Pulled};
 use http_framing::BodySize;
@@ -17,7 +16,7 @@ const BODY: usize = 1000;
 const PIECE: usize = 250;
 
 /// A request without a body.
-pub const GET: &[u8] = b"GET / HTTP/1.1\r\nhost: a\r\n\r\n";
+const GET: &[u8] = b"GET / HTTP/1.1\r\nhost: a\r\n\r\n";
 
 /// The heads of requests with a body.
 const POST_OF_A_LENGTH: &[u8] = b"POST / HTTP/1.1\r\nhost: a\r\ncontent-length: 1000\r\n\r\n";
@@ -280,15 +279,6 @@ fn send_back(connection: &mut Connection) -> Result<(), BenchError> {
         Pulled::Trailers(_) | Pulled::End => {}
         Pulled::Pending | Pulled::Broken(_) => return Err(BenchError::NoBody),
     }
-    Ok(())
-}
-
-/// Hands in the next bytes of the answer's body.
-pub fn send(connection: &mut Connection, bytes: &[u8]) -> Result<(), BenchError> {
-    if !connection.can_chunk() {
-        return Err(BenchError::Misplaced);
-    }
-    connection.chunk(bytes)?;
     Ok(())
 }
 

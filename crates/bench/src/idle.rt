@@ -1,7 +1,5 @@
 //! Connections to which nothing comes, for a program that counts the bytes that they keep.
-use crate::error::BenchError;
-use crate::work::{ask, begin, give, take};
-use bench_support::{Checksum, HEADS};
+use bench_support::{BenchError, Checksum, HEADS, ask, begin, give, take};
 use h1_connection::Connection;
 use http_framing::BodySize;
 use http_types::{ResponseHead, ServiceConfigBuilder, StatusCode};

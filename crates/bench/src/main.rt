@@ -1,49 +1,30 @@
-//! Has the engine do the same work many times over, for a program that counts instructions: `bin/bench`.
+//! Has a connection do the same work many times over, for a program that counts instructions: `bin/bench`.
 //!
-//! The words are what is measured, with which head, and how many requests, as in `bench get curl 1000`; or `map`, what
-//! is done with a header map, the number of its names or the head that they are of, and how many times, as in
-//! `bench map find 32 1000`; or `body`, which exchange with bodies, how many at once, and how many, as in
-//! `bench body echo-length 16 1600`; or `frames`, how many bytes a frame's payload has, and how many frames are echoed, as in
-//! `bench frames 1024 1000`; or `upgraded`, the same through a connection that was upgraded; or `copied` or `shared`, how
-//! many bytes a piece of an answer's body has, and how many are sent, as in `bench shared 65536 1000`; or `part`, which part
-//! beside a connection (`stream` or `queue`), and how many times, as in `bench part queue 1000`; or `idle`, what came
-//! to connections before (`fresh` or `served`), and how many are kept at once, as in `bench idle served 100`. It prints
-//! a checksum of all that came, so that none of the work can be left out. Without words it does a little of each.
+//! The words are what is measured, with which head, and how many requests, as in `bench get curl 1000`; or `body`, which
+//! exchange with bodies, how many at once, and how many, as in `bench body echo-length 16 1600`; or `idle`, what came to
+//! connections before (`fresh` or `served`), and how many are kept at once, as in `bench idle served 100`. It prints a
+//! checksum of all that came, so that none of the work can be left out. Without words it does a little of each.
 #![tactic(auto)]
 
 mod body;
-mod error;
-mod frames;
 mod idle;
-mod map;
-mod parts;
-mod pieces;
-mod upgraded;
+mod usage;
 mod work;
 
 use anyhow::{Context, Result};
 use bench_support::{HEADS, NamedHead};
 use body::{EXCHANGES, Exchange};
-use error::BenchError;
-use frames::echo_frames;
 use idle::{IDLES, Idle};
-use map::{Lines, MAP_WORKS, MapWork};
-use parts::{PARTS, Part};
-use pieces::{HANDINGS, Handing};
-use std::alloc::{AllocGlobal, Global};
+use std::alloc::Global;
 use std::env;
-use std::random::RandomSource;
-use upgraded::echo_upgraded;
+use usage::Usage;
 use work::{WORKS, Work};
 
 /// How many requests each measurement takes where there are no words.
 const FEW: u64 = 32;
 
-/// How many names a map has where there are no words: more than stand in a list.
-const NAMES: usize = 40;
-
-/// How many bytes the payloads of frames and the pieces of bodies have where there are no words.
-const SIZES: [usize; 3] = [16, 1024, 65536];
+/// How many idle connections there are where there are no words.
+const IDLE: usize = 40;
 
 fn main(rt: HostRuntime) -> Result<()> {
     let alloc = rt.alloc();
@@ -57,9 +38,6 @@ fn main(rt: HostRuntime) -> Result<()> {
             second.as_str(),
             third.as_str(),
         ),
-        [word, work, names, times] if word.as_str() == "map" => {
-            ask_map(&rt, alloc, work.as_str(), names.as_str(), times.as_str())
-        }
         [word, exchange, depth, times] if word.as_str() == "body" => {
             ask_body(
                 &rt,
@@ -69,61 +47,20 @@ fn main(rt: HostRuntime) -> Result<()> {
                 times.as_str(),
             )
         }
-        _ => Err(BenchError::Usage.into()),
+        _ => Err(Usage.into()),
     }
 }
 
 // What three words ask for.
-fn ask_three<R: Print + RandomSource + AllocGlobal>(
-    rt: &R,
-    alloc: Global,
-    first: &str,
-    second: &str,
-    third: &str,
-) -> Result<()> {
+fn ask_three(rt: &impl Print, alloc: Global, first: &str, second: &str, third: &str) -> Result<()> {
     match first {
-        "frames" => ask_frames(rt, alloc, second, third),
-        "upgraded" => ask_upgraded(rt, alloc, second, third),
-        "copied" | "shared" => ask_pieces(rt, alloc, first, second, third),
-        "part" => ask_part(rt, second, third),
         "idle" => ask_idle(rt, alloc, second, third),
         _ => ask_requests(rt, alloc, first, second, third),
     }
 }
 
-fn ask_frames(rt: &impl Print, alloc: Global, size: &str, frames: &str) -> Result<()> {
-    let size = size.parse::<usize>().context("reading how many bytes")?;
-    let frames = frames.parse::<u64>().context("reading how many frames")?;
-    measure_frames(rt, alloc, size, frames)
-}
-
-fn ask_upgraded(rt: &impl Print, alloc: Global, size: &str, frames: &str) -> Result<()> {
-    let size = size.parse::<usize>().context("reading how many bytes")?;
-    let frames = frames.parse::<u64>().context("reading how many frames")?;
-    measure_upgraded(rt, alloc, size, frames)
-}
-
-fn ask_pieces(
-    rt: &impl Print,
-    alloc: Global,
-    handing: &str,
-    size: &str,
-    pieces: &str,
-) -> Result<()> {
-    let handing = Handing::named(handing).ok_or(BenchError::Usage)?;
-    let size = size.parse::<usize>().context("reading how many bytes")?;
-    let pieces = pieces.parse::<u64>().context("reading how many pieces")?;
-    measure_pieces(rt, alloc, handing, size, pieces)
-}
-
-fn ask_part<R: Print + RandomSource + AllocGlobal>(rt: &R, part: &str, times: &str) -> Result<()> {
-    let part = Part::named(part).ok_or(BenchError::Usage)?;
-    let times = times.parse::<u64>().context("reading how many times")?;
-    measure_part(rt, part, times)
-}
-
 fn ask_idle(rt: &impl Print, alloc: Global, kind: &str, count: &str) -> Result<()> {
-    let idle = Idle::named(kind).ok_or(BenchError::Usage)?;
+    let idle = Idle::named(kind).ok_or(Usage)?;
     let count = count.parse::<usize>().context("reading how many")?;
     measure_idle(rt, alloc, idle, count)
 }
@@ -135,19 +72,12 @@ fn ask_requests(
     head: &str,
     requests: &str,
 ) -> Result<()> {
-    let work = Work::named(work).ok_or(BenchError::Usage)?;
-    let head = NamedHead::named(head).ok_or(BenchError::Usage)?;
+    let work = Work::named(work).ok_or(Usage)?;
+    let head = NamedHead::named(head).ok_or(Usage)?;
     let requests = requests
         .parse::<u64>()
         .context("reading how many requests")?;
     measure(rt, alloc, work, head, requests)
-}
-
-fn ask_map(rt: &impl Print, alloc: Global, work: &str, names: &str, times: &str) -> Result<()> {
-    let work = MapWork::named(work).ok_or(BenchError::Usage)?;
-    let lines = lines_of(alloc, names)?;
-    let times = times.parse::<u64>().context("reading how many times")?;
-    measure_map(rt, alloc, work, &lines, times)
 }
 
 fn ask_body(
@@ -157,13 +87,13 @@ fn ask_body(
     depth: &str,
     times: &str,
 ) -> Result<()> {
-    let exchange = Exchange::named(exchange).ok_or(BenchError::Usage)?;
+    let exchange = Exchange::named(exchange).ok_or(Usage)?;
     let depth = depth.parse::<u64>().context("reading how many at once")?;
     let times = times.parse::<u64>().context("reading how many times")?;
     measure_body(rt, alloc, exchange, depth, times)
 }
 
-fn a_little_of_each<R: Print + RandomSource + AllocGlobal>(rt: &R, alloc: Global) -> Result<()> {
+fn a_little_of_each(rt: &impl Print, alloc: Global) -> Result<()> {
     for work in &WORKS {
         for head in &HEADS {
             measure(rt, alloc, *work, head, FEW)?;
@@ -172,35 +102,10 @@ fn a_little_of_each<R: Print + RandomSource + AllocGlobal>(rt: &R, alloc: Global
     for exchange in &EXCHANGES {
         measure_body(rt, alloc, *exchange, 1, FEW)?;
     }
-    let lines = Lines::numbered(alloc, NAMES)?;
-    for work in &MAP_WORKS {
-        measure_map(rt, alloc, *work, &lines, FEW)?;
-    }
-    for size in SIZES {
-        measure_frames(rt, alloc, size, FEW)?;
-        measure_upgraded(rt, alloc, size, FEW)?;
-        for handing in &HANDINGS {
-            measure_pieces(rt, alloc, *handing, size, FEW)?;
-        }
-    }
-    for part in &PARTS {
-        measure_part(rt, *part, FEW)?;
-    }
     for idle in &IDLES {
-        measure_idle(rt, alloc, *idle, NAMES)?;
+        measure_idle(rt, alloc, *idle, IDLE)?;
     }
     Ok(())
-}
-
-// The lines of the head of that name, or so many as the word says.
-fn lines_of(alloc: Global, word: &str) -> Result<Lines> {
-    match NamedHead::named(word) {
-        Some(head) => Ok(Lines::of_head(alloc, head)?),
-        None => {
-            let count = word.parse::<usize>().context("reading how many names")?;
-            Ok(Lines::numbered(alloc, count)?)
-        }
-    }
 }
 
 fn measure(
@@ -215,18 +120,6 @@ fn measure(
     Ok(())
 }
 
-fn measure_map(
-    rt: &impl Print,
-    alloc: Global,
-    work: MapWork,
-    lines: &Lines,
-    times: u64,
-) -> Result<()> {
-    let checksum = work.run(alloc, lines, times)?;
-    println!(rt; "map {} {checksum:016x}", work.name())?;
-    Ok(())
-}
-
 fn measure_body(
     rt: &impl Print,
     alloc: Global,
@@ -236,40 +129,6 @@ fn measure_body(
 ) -> Result<()> {
     let checksum = exchange.run(alloc, depth, times)?;
     println!(rt; "body {} {checksum:016x}", exchange.name())?;
-    Ok(())
-}
-
-fn measure_frames(rt: &impl Print, alloc: Global, size: usize, frames: u64) -> Result<()> {
-    let checksum = echo_frames(alloc, size, frames)?;
-    println!(rt; "frames {size} {checksum:016x}")?;
-    Ok(())
-}
-
-fn measure_upgraded(rt: &impl Print, alloc: Global, size: usize, frames: u64) -> Result<()> {
-    let checksum = echo_upgraded(alloc, size, frames)?;
-    println!(rt; "upgraded {size} {checksum:016x}")?;
-    Ok(())
-}
-
-fn measure_pieces(
-    rt: &impl Print,
-    alloc: Global,
-    handing: Handing,
-    size: usize,
-    pieces: u64,
-) -> Result<()> {
-    let checksum = handing.run(alloc, size, pieces)?;
-    println!(rt; "{} {size} {checksum:016x}", handing.name())?;
-    Ok(())
-}
-
-fn measure_part<R: Print + RandomSource + AllocGlobal>(
-    rt: &R,
-    part: Part,
-    times: u64,
-) -> Result<()> {
-    let checksum = part.run(rt, times)?;
-    println!(rt; "part {} {checksum:016x}", part.name())?;
     Ok(())
 }
 

@@ -1,8 +1,7 @@
 //! What is measured.
-use crate::error::BenchError;
-use bench_support::Checksum;
+use bench_support::{BenchError, Checksum, ask, begin, count_head, give, take};
 use bytes::Bytes;
-use h1_connection::{Boxed, Connection, Event, NextHead, NextKind, Outcome};
+use h1_connection::{Boxed, Connection, Event, NextKind, Outcome};
 use h1_decode::{HeadItem, HeadRoom, HeadScan, request_head, scan_head};
 use http_framing::BodySize;
 use http_types::{NoMemory, ResponseHead, ServiceConfigBuilder, StatusCode};
@@ -86,12 +85,6 @@ impl Work {
             Work::PipelinedGetsByEvents => steps(alloc, head, PIPELINED, requests / PIPELINED),
         }
     }
-}
-
-// Counts a head in: its target and the number of its header names.
-fn count_head(checksum: &mut Checksum, item: &HeadItem) {
-    checksum.add_bytes(item.target.as_slice());
-    checksum.add(item.head.headers.len_keys());
 }
 
 fn heads(alloc: Global, head: &[u8], requests: u64) -> Result<u64, BenchError> {
@@ -208,61 +201,6 @@ fn serve_fresh(
         begin(connection, answer, BodySize::ZERO)?;
     }
     give(connection, checksum)
-}
-
-/// Has the next head handed out by itself, and counts it in.
-pub fn ask(connection: &mut Connection, checksum: &mut Checksum) -> Result<(), BenchError> {
-    if !connection.can_next() {
-        return Err(BenchError::Misplaced);
-    }
-    match connection.next()? {
-        NextHead::Head(item) => count_head(checksum, &item),
-        _ => return Err(BenchError::NoHead),
-    }
-    Ok(())
-}
-
-/// Bytes come in one read.
-pub fn take(
-    connection: &mut Connection,
-    read: &[u8],
-    checksum: &mut Checksum,
-) -> Result<(), BenchError> {
-    if !connection.can_read() {
-        return Err(BenchError::Misplaced);
-    }
-    checksum.add(connection.read(read)?);
-    Ok(())
-}
-
-/// All that waits is written.
-pub fn give(connection: &mut Connection, checksum: &mut Checksum) -> Result<(), BenchError> {
-    for _ in 0..connection.buffered() {
-        if connection.buffered() == 0 {
-            break;
-        }
-        if !connection.can_write() {
-            return Err(BenchError::Misplaced);
-        }
-        let next = connection.stretch();
-        let written = next.len();
-        checksum.add_bytes(next);
-        connection.advance(written);
-    }
-    Ok(())
-}
-
-/// Answers the open request.
-pub fn begin(
-    connection: &mut Connection,
-    head: &ResponseHead,
-    size: BodySize,
-) -> Result<(), BenchError> {
-    if !connection.can_answer() {
-        return Err(BenchError::Misplaced);
-    }
-    connection.answer(head, size)?;
-    Ok(())
 }
 
 /// The same by events, which are made once.

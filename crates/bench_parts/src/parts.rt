@@ -1,7 +1,6 @@
 //! What the parts beside a connection cost: a stream's body, and the queue of a request's body.
 
-use crate::error::BenchError;
-use bench_support::Checksum;
+use bench_support::{BenchError, Checksum};
 use bytes::Bytes;
 use futures::task::{Context, Doorbell, Poll, Solo};
 use http_services::{BodyFault, BodyStream, Counted, MessageBody, PlainStream, h1};

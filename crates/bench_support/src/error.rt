@@ -8,10 +8,6 @@ use thiserror::Error;
 /// Why a measurement ended early.
 #[derive(Clone, Copy, Debug, PartialEq, Eq, Error)]
 pub enum BenchError {
-    /// The words name no measurement.
-    #[error("usage: bench [head|get|get16|next|next16|step|step16 minimal|curl|browser REQUESTS] or bench map WORK NAMES|minimal|curl|browser TIMES or bench body length|chunks|trailers|hi|stream|echo-length|echo-chunks DEPTH TIMES or bench frames|upgraded BYTES FRAMES or bench copied|shared BYTES PIECES or bench part stream|queue TIMES or bench idle fresh|served COUNT")]
-    Usage,
-
     /// A text that was to be a header line is none.
     #[error("a text is no header line")]
     NoLine,

@@ -1,6 +1,5 @@
 //! What WebSocket frames cost, by the number of their bytes.
-use crate::error::BenchError;
-use bench_support::Checksum;
+use bench_support::{BenchError, Checksum};
 use bytes::BytesMut;
 use std::alloc::Global;
 use ws_frames::{Codec, Frame, Message, NoWords, OpCode, Parser};

@@ -1,8 +1,5 @@
 //! What pieces of an answer's body cost.
-use crate::body::{GET, send};
-use crate::error::BenchError;
-use crate::work::{ask, begin, give, take};
-use bench_support::Checksum;
+use bench_support::{BenchError, Checksum, HEADS, ask, begin, give, send, take};
 use bytes::Bytes;
 use h1_connection::Connection;
 use http_framing::BodySize;
@@ -64,7 +61,7 @@ fn piece_of(alloc: Global, size: usize) -> Result<Bytes, NoMemory> {
 fn answering(alloc: Global, checksum: &mut Checksum) -> Result<Connection, BenchError> {
     let mut connection = Connection::new(alloc, ServiceConfigBuilder::new().build());
     let head = ResponseHead::new(alloc, StatusCode::OK);
-    take(&mut connection, GET, checksum)?;
+    take(&mut connection, HEADS[0].text, checksum)?;
     ask(&mut connection, checksum)?;
     begin(&mut connection, &head, BodySize::Stream)?;
     give(&mut connection, checksum)?;

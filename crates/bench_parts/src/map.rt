@@ -1,6 +1,5 @@
 //! What a header map costs, by what is done with it and with how many names.
-use crate::error::BenchError;
-use bench_support::{Checksum, NamedHead};
+use bench_support::{BenchError, Checksum, NamedHead};
 use http_map::{HeaderMap, HeaderName, HeaderValue, NoMemory, value_of_str};
 use std::alloc::Global;
 use std::str;

@@ -1,7 +1,6 @@
 //! What WebSocket frames cost through a connection that was upgraded.
-use crate::error::BenchError;
 use crate::frames::masked_frame;
-use bench_support::Checksum;
+use bench_support::{BenchError, Checksum};
 use h1_connection::{Accepted, Connection, NextHead, PulledFrame, Sent};
 use http_types::ServiceConfigBuilder;
 use std::alloc::Global;
