@@ -187,18 +187,18 @@ accept_of_changes : (setting : Setting) (before : List ParsedStep) (limit : ℕ)
 accept_of_changes setting before limit o parse l =
     let t = steps before in
     let test = allowed_open setting before (on.accept limit) refl l.1 in
-    let first = and_parts (is_unanswered t && asks_raw (request t)) (not (was_pulled t || was_dropped t)) (and_parts _ _ test).0 in
-    let parts = and_parts (is_unanswered t) (asks_raw (request t)) first.0 in
+    let parts = and_parts (is_unanswered t) (asks_raw (request t) && not (was_pulled t || was_dropped t)) (and_parts _ _ test).0 in
+    let asked = and_parts (asks_raw (request t)) (not (was_pulled t || was_dropped t)) parts.1 in
     let waits = and_parts (is_open t) (is_none (answered t)) (and_parts (is_open t && is_none (answered t)) (not (is_upgraded t)) parts.0).0 in
     let plain = not_upgraded t parts.0 in
-    let unpulled = (or_parts (was_pulled t) (was_dropped t) (not-true (was_pulled t || was_dropped t) first.1)).0 in
+    let unpulled = (or_parts (was_pulled t) (was_dropped t) (not-true (was_pulled t || was_dropped t) asked.1)).0 in
     elim (current_of setting before l.3) [
-      | inl n ↦ absurd (false≢true (sym (ap asks_raw n.request_is) ∙ parts.1))
+      | inl n ↦ absurd (false≢true (sym (ap asks_raw n.request_is) ∙ asked.0))
       | inr (m, h, c) ↦
           let w : Upgrades setting before limit o parse m h = record {
             legal = l;
             current = c;
-            raw = sym (ap asks_raw c.request_is) ∙ parts.1;
+            raw = sym (ap asks_raw c.request_is) ∙ asked.0;
             plain = plain;
             incomplete = open_incomplete t plain waits.0;
             unpulled = unpulled;

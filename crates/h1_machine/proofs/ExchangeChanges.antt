@@ -92,7 +92,7 @@ continue_made setting before parse l = elim (current_of setting before l.3) [
   | inl none ↦
       let t = steps before in
       let ok = allowed_open setting before on.send_continue refl l.1 in
-      let waits = (and_parts (is_unanswered t) (request_expects (request t)) (and_parts (is_unanswered t && request_expects (request t)) (not (had_continue t)) ok).0).0 in
+      let waits = (and_parts (is_unanswered t) (request_expects (request t) && not (had_continue t)) ok).0 in
       absurd (no_request t none.request_is (open_request t waits).0)
   | inr (m, h, c) ↦
       let t = steps before in

@@ -192,8 +192,7 @@ event_orderly setting before on.body_end o none ok x old =
     end_orderly (step on.body_end o) (steps before) none (λ d. refl) refl (allowed_open setting before on.body_end refl ok) old
 event_orderly setting before (on.accept limit) o none ok x old =
     let parts = and_parts _ _ (and_parts _ _ (allowed_open setting before (on.accept limit) refl ok)).0 in
-    let test = and_parts _ _ parts.0 in
-    accept_orderly (step (on.accept limit) o) (steps before) none (λ d. refl) refl test.0 test.1 old
+    accept_orderly (step (on.accept limit) o) (steps before) none (λ d. refl) refl parts.0 (and_parts _ _ parts.1).0 old
 event_orderly setting before e o none ok x old =
     calm_orderly (step e o) (steps before) (record { head = none; answer = λ d. refl; completes = refl; accepts = refl }) old
 

@@ -283,7 +283,7 @@ event_goes setting past on.drop_body es r ok sound spoken =
 event_goes setting past on.send_continue es r ok sound spoken =
     let test = and_parts _ _ (allowed_open setting past on.send_continue refl ok) in
     unrefused setting past on.send_continue on.done es r (stays_open setting past on.send_continue refl ok) spoken
-    (told_goes setting (steps past) es (and_parts _ _ test.0).0 (not-true _ test.1))
+    (told_goes setting (steps past) es test.0 (not-true _ (and_parts _ _ test.1).1))
 event_goes setting past (on.answer head size) es r ok sound spoken =
     unrefused setting past (on.answer head size) on.done es r (stays_open setting past (on.answer head size) refl ok) spoken
     (answer_goes setting (steps past) head size es (allowed_open setting past (on.answer head size) refl ok))
@@ -304,7 +304,7 @@ event_goes setting past on.drain es r ok sound spoken =
 event_goes setting past (on.accept limit) es r ok sound spoken =
     let parts = and_parts _ _ (and_parts _ _ (allowed_open setting past (on.accept limit) refl ok)).0 in
     unrefused setting past (on.accept limit) _ es r (stays_open setting past (on.accept limit) refl ok) spoken
-    (accept_goes setting (steps past) limit (option_and_then handshake_error (request (steps past))) es (and_parts _ _ parts.0).0)
+    (accept_goes setting (steps past) limit (option_and_then handshake_error (request (steps past))) es parts.0)
 event_goes setting past (on.send m) es r ok sound spoken =
     unrefused setting past (on.send m) _ es r (stays_open setting past (on.send m) refl ok) spoken
     (send_goes setting (steps past) m (send_error (is_sending (steps past)) m) es (and_parts _ _ (allowed_open setting past (on.send m) refl ok)).0)

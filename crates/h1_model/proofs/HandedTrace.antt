@@ -276,8 +276,8 @@ step_case setting before on.drain o ok x = other (still on.drain o on.done x ref
 step_case setting before (on.accept limit) o ok x =
     let test = allowed_open setting before (on.accept limit) refl ok in
     let parts = and_parts _ _ (and_parts _ _ test).0 in
-    let asked = and_parts _ _ parts.0 in
-    accept_case setting before limit o (option_and_then handshake_error (request (steps before))) x asked.0 asked.1 (not-true _ parts.1)
+    let asked = and_parts _ _ parts.1 in
+    accept_case setting before limit o (option_and_then handshake_error (request (steps before))) x parts.0 asked.0 (not-true _ asked.1)
 step_case setting before (on.send m) o ok x = other (still (on.send m) o _ x (send_silent _) refl refl refl refl)
 
 -- ---- steps of a connection that closes

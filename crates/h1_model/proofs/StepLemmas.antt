@@ -257,7 +257,7 @@ step_case setting before on.drain o ok x = silent setting before on.drain o on.d
 step_case setting before (on.accept limit) o ok x =
     let test = allowed_open setting before (on.accept limit) refl ok in
     let parts = and_parts _ _ (and_parts _ _ test).0 in
-    accept_case setting before limit o (option_and_then handshake_error (request (steps before))) x (and_parts _ _ parts.0).0 (not-true _ parts.1)
+    accept_case setting before limit o (option_and_then handshake_error (request (steps before))) x parts.0 (not-true _ (and_parts _ _ parts.1).1)
 step_case setting before (on.send m) o ok x = silent setting before (on.send m) o _ x (send_mute _) refl refl refl refl
 
 -- ---- the parse
