@@ -132,6 +132,26 @@ all_copied all was now then' own at from k c is here count put =
     let dropped = length-drop (k + length x) all in
     (omega (arith, last.at_is, last.within, size, dropped), last.bytes, last.rest)
 
+-- the room is full, so that no byte more is copied
+pub full_copied : (all was now then' own : List ℕ) (at from k c : ℕ) → IsCopied all was now at k → at ≡ length now
+    → c ≡ min (length now - at) (length (drop from own)) → then' ≡ take at now ++ (take c (drop from own) ++ drop (at + c) now)
+    → (at + c ≡ min (length was) (length all)) × (take (at + c) then' ≡ take (at + c) all) × (drop (at + c) then' ≡ drop (at + c) was)
+full_copied all was now then' own at from k c is full count put =
+    let none : c ≡ 0 = omega (arith, full, count) in
+    let sum : at + c ≡ at = omega (arith, none) in
+    let same : then' ≡ now = put ∙ (λ i. take at now ++ (take (none i) (drop from own) ++ drop (sum i) now)) ∙ take-append-drop at now in (
+      omega (arith, is.at_is, is.size, is.within, none, full),
+      ap (take (at + c)) same ∙ ap (λ n. take n now) sum ∙ is.bytes ∙ ap (λ n. take n all) (sym sum),
+      ap (drop (at + c)) same ∙ ap (λ n. drop n now) sum ∙ is.rest ∙ ap (λ n. drop n was) (sym sum),
+    )
+
+-- all pieces came by, or the room is full
+pub ends_copied : (all was now then' own : List ℕ) (at from k c : ℕ) → IsCopied all was now at k → (drop k all ≡ drop from own) ⊎ (at ≡ length now)
+    → c ≡ min (length now - at) (length (drop from own)) → then' ≡ take at now ++ (take c (drop from own) ++ drop (at + c) now)
+    → (at + c ≡ min (length was) (length all)) × (take (at + c) then' ≡ take (at + c) all) × (drop (at + c) then' ≡ drop (at + c) was)
+ends_copied all was now then' own at from k c is (inl here) count put = all_copied all was now then' own at from k c is here count put
+ends_copied all was now then' own at from k c is (inr full) count put = full_copied all was now then' own at from k c is full count put
+
 pub used_one : (one : Option Piece) (p : Piece) → one ≡ Some p → used (option_to_list one) ≡ p.before + own_len p.body
 unfolding used
 used_one one p is = ap (λ o. used (option_to_list o)) is ∙ (let e : p.before + own_len p.body + 0 ≡ p.before + own_len p.body = omega arith in e)

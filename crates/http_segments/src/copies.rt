@@ -1,5 +1,5 @@
 // Copies of the first bytes of a queue.
-ghost use Rattle.std.specs.Prelude.{◌≡◌, ◌≤◌, ◌+◌, ◌-◌, ◌++◌, ◌∷◌, ℕ, List, [], length, take, drop, min, option_to_list};
+ghost use Rattle.std.specs.Prelude.{◌≡◌, ◌≤◌, ◌+◌, ◌-◌, ◌++◌, ◌∷◌, ◌⊎◌, ℕ, List, [], length, take, drop, min, option_to_list};
 ghost use Rattle.http_segments.specs.Pieces.{in_row, used, laid, own_len, body_len, IsCopied, CopiesTo};
 
 use crate::piece::{Body, Piece};
@@ -28,17 +28,21 @@ pub fn copy_first(buf: &mut [u8], own: &[u8], first: &Option<Piece>) -> Place
     }
 }
 
-/// Copies the pieces, each with the framing in front of it, as far as there is room.
+/// Copies the pieces, each with the framing in front of it, until all came by or the room is full.
 pub fn copy_rest(buf: &mut [u8], own: &[u8], place: Place, rest: &VecDeque<Piece>) -> Place
     requires room { place.at ≤ length buf.old }
     requires there { place.from + used rest.now.items ≤ length own.now }
     ensures room { result.at ≤ length buf.new }
     ensures from { result.from ≤ length own.now }
-    ensures copied { CopiesTo buf.old place.at rest.now.items (drop place.from own.now) buf.new result.at [] (drop result.from own.now) }
+    ensures copied { (all was : List ℕ) (n : ℕ) → IsCopied all was buf.old place.at n → drop n all ≡ laid rest.now.items (drop place.from own.now)
+        → (k : ℕ) × IsCopied all was buf.new result.at k × ((drop k all ≡ drop result.from own.now) ⊎ (result.at ≡ length buf.new)) }
 {
     let mut place = place;
     let mut next = 0;
-    while let Some(piece) = rest.get(next) {
+    while place.at < buf.len() {
+        let Some(piece) = rest.get(next) else {
+            return place;
+        };
         place = copy_piece(buf, own, place, piece);
         next += 1;
     }

@@ -2,10 +2,10 @@ use Rattle.std.proofs.Common.{◌+◌, ◌-◌, ◌≤◌, length, drop}
 use Rattle.http_segments.specs.Pieces.{CopiesTo, used}
 use Rattle.http_segments.proofs.copies.copy_rest.Given as given
 
-abbrev pub invariant-loop-piece : given.invariant-loop-piece
-invariant-loop-piece l =
+abbrev pub invariant-loop-place : given.invariant-loop-place
+invariant-loop-place l =
     (l.place.at ≤ length l.buf) × (l.place.from + used (drop l.next l.rest.items) ≤ length l.own) × (l.next ≤ length l.rest.items)
     × CopiesTo l.fn.buf l.fn.place.at l.rest.items (drop l.fn.place.from l.own) l.buf l.place.at (drop l.next l.rest.items) (drop l.place.from l.own)
 
-abbrev pub decreases-loop-piece : given.decreases-loop-piece
-decreases-loop-piece l = length l.rest.items - l.next
+abbrev pub decreases-loop-place : given.decreases-loop-place
+decreases-loop-place l = length l.rest.items - l.next

@@ -2,7 +2,7 @@ use Rattle.std.proofs.Common.{◌≡◌, ◌+◌, ◌-◌, ◌++◌, length, tak
 use Rattle.std.specs.Prelude.{option_to_list}
 use Rattle.std.proofs.lemmas.List.{take_all, length-drop}
 use Rattle.http_segments.specs.Pieces.{in_row, laid}
-use Rattle.http_segments.proofs.CopyLemmas.{none_copied, used-append, all_copied, laid_none}
+use Rattle.http_segments.proofs.CopyLemmas.{none_copied, used-append, ends_copied}
 use Rattle.http_segments.proofs.queue.Segments.peek_into.Goals as goal
 
 pub copy_first-place-requires : goal.copy_first-place-requires
@@ -28,7 +28,7 @@ returns-clause-count c =
     let cut : take (length own - from) (drop from own) ≡ drop from own = take_all (length own - from) (drop from own) (omega (arith, length-drop from own)) in
     let count = c.copy_into.ensures.count ∙ ap (λ x. min (length now - at) (length x)) cut in
     let put = c.copy_into.ensures.bytes ∙ ap (λ x. take at now ++ (take c.copy_into.result x ++ drop (at + c.copy_into.result) now)) cut in
-    (all_copied all was now c.copy_into.new.buf own at from two.0 c.copy_into.result two.1 (two.2 ∙ laid_none (drop from own)) count put).0
+    (ends_copied all was now c.copy_into.new.buf own at from two.0 c.copy_into.result two.1 two.2 count put).0
 
 pub returns-clause-bytes : goal.returns-clause-bytes
 returns-clause-bytes c =
@@ -45,7 +45,7 @@ returns-clause-bytes c =
     let cut : take (length own - from) (drop from own) ≡ drop from own = take_all (length own - from) (drop from own) (omega (arith, length-drop from own)) in
     let count = c.copy_into.ensures.count ∙ ap (λ x. min (length now - at) (length x)) cut in
     let put = c.copy_into.ensures.bytes ∙ ap (λ x. take at now ++ (take c.copy_into.result x ++ drop (at + c.copy_into.result) now)) cut in
-    (all_copied all was now c.copy_into.new.buf own at from two.0 c.copy_into.result two.1 (two.2 ∙ laid_none (drop from own)) count put).1
+    (ends_copied all was now c.copy_into.new.buf own at from two.0 c.copy_into.result two.1 two.2 count put).1
 
 pub returns-clause-rest : goal.returns-clause-rest
 returns-clause-rest c =
@@ -62,4 +62,4 @@ returns-clause-rest c =
     let cut : take (length own - from) (drop from own) ≡ drop from own = take_all (length own - from) (drop from own) (omega (arith, length-drop from own)) in
     let count = c.copy_into.ensures.count ∙ ap (λ x. min (length now - at) (length x)) cut in
     let put = c.copy_into.ensures.bytes ∙ ap (λ x. take at now ++ (take c.copy_into.result x ++ drop (at + c.copy_into.result) now)) cut in
-    (all_copied all was now c.copy_into.new.buf own at from two.0 c.copy_into.result two.1 (two.2 ∙ laid_none (drop from own)) count put).2
+    (ends_copied all was now c.copy_into.new.buf own at from two.0 c.copy_into.result two.1 two.2 count put).2
