@@ -1,0 +1,214 @@
+"""The must-fail edits of a crate: how one is read, what rt's answer to it says of the contract, and the table of them."""
+import dataclasses
+import hashlib
+import os
+import re
+
+from repository import ROOT, files_of, sum_of
+
+TABLE = "docs/EDITS.md"
+# What a try comes to. Only the first shows that the contract refuses the edit.
+GOAL, ELSEWHERE, NAME, LIMIT, BAD, PROVED, UNTRIED = (
+    "goal", "elsewhere", "name", "limit", "can't be read", "still proved", "")
+WHAT_IT_MEANS = {
+    GOAL: "refused at a goal of the function that was changed",
+    ELSEWHERE: "refused, but rt names a goal of another function first",
+    NAME: "refused only because a proof names what the edit took away",
+    LIMIT: "no verdict: the prover came to a limit of its own",
+    BAD: "the edited text can't be read, so no contract was tried",
+    PROVED: "STILL PROVED: no contract refuses it",
+    UNTRIED: "not tried",
+}
+# A function's first line, below its attributes and comments.
+FUNCTION = re.compile(r"(\s*)(?:pub(?:\([^)]*\))?\s+)?(?:(?:const|unsafe|ghost|extern)\s+)*fn\s+(\w+)")
+ABOVE = re.compile(r"\s*(#\[|#!\[|//|\w.*\)\]$)")
+ANSWER = re.compile(r"must-fail ([a-z0-9_]+)/(\S+?)\.edit: (.*)")
+PLACE = re.compile(r"(?:note: )?(?:\./)?(\S+?):(\d+):\d+: ?(?:error: )?(.*)")
+
+
+@dataclasses.dataclass
+class Edit:
+    """An edit, why it can't be applied if it can't, and what came of it."""
+
+    crate: str
+    file: str
+    unfit: str = ""
+    # The functions that it changes, as their file, the numbers of their first and last line, and their name.
+    changed: list = dataclasses.field(default_factory=list)
+    outcome: str = UNTRIED
+    said: str = ""
+
+    @property
+    def name(self):
+        return os.path.basename(self.file).removesuffix(".md").removesuffix(".edit")
+
+    @property
+    def is_in_gate(self):
+        return self.file.endswith(".edit")
+
+
+def edits_of(crate, root=ROOT):
+    """A crate's edits of both kinds, in the order of their names."""
+    folder = f"{root}/crates/{crate}/must-fail"
+    names = os.listdir(folder) if os.path.isdir(folder) else []
+    found = [read(crate, f"{folder}/{it}") for it in names if it.endswith((".edit", ".edit.md"))]
+    return sorted(found, key=lambda it: it.name)
+
+
+def read(crate, file):
+    """Reads an edit as rt does: pairs of 'old:' and 'new:' lines, each applied to what the earlier ones made."""
+    edit = Edit(crate, file)
+    folder = os.path.dirname(os.path.dirname(file))
+    path = old = None
+    texts = {}
+    with open(file, encoding="utf-8") as lines:
+        for line in lines.read().split("\n"):
+            if line.startswith("file: "):
+                path = line.removeprefix("file: ").strip()
+            elif line.startswith("old: "):
+                old = line.removeprefix("old: ")
+            elif line.startswith("new:"):
+                edit.unfit = edit.unfit or apply(edit, folder, texts, path, old, line.removeprefix("new:").removeprefix(" "))
+                old = None
+            elif line.strip():
+                edit.unfit = edit.unfit or f"a line that isn't read: {line[:60]}"
+    if not texts and not edit.unfit:
+        edit.unfit = "it has no 'old:' and 'new:' pair"
+    return edit
+
+
+def apply(edit, folder, texts, path, old, new):
+    """Applies one pair and notes the function that it changes, or says why it can't."""
+    if not path or not old:
+        return "a 'new:' line with no 'file:' or 'old:' line before it"
+    if path not in texts:
+        if not os.path.isfile(f"{folder}/{path}"):
+            return f"there is no file {path}"
+        with open(f"{folder}/{path}", encoding="utf-8") as it:
+            texts[path] = it.read()
+    times = texts[path].count(old)
+    if times != 1:
+        return f"its 'old:' text stands {times} times in {path}, and not once: {old}"
+    line = texts[path][: texts[path].index(old)].count("\n") + 1
+    if path.startswith("src/"):
+        edit.changed.append((path, *function_at(texts[path].split("\n"), line)))
+    texts[path] = texts[path].replace(old, new)
+    return ""
+
+
+def function_at(lines, line):
+    """The first and last line of the function that holds a line, and its name: all lines and none where it is outside of one."""
+    for first in range(line - 1, -1, -1):
+        found = FUNCTION.match(lines[first])
+        last = found and next((at for at in range(first + 1, len(lines)) if lines[at].startswith(f"{found[1]}}}")), first)
+        if found and last >= line - 1:
+            while first > 0 and ABOVE.match(lines[first - 1]):
+                first -= 1
+            return first + 1, last + 1, found[2]
+    return 1, len(lines), ""
+
+
+def outcomes(edits, said):
+    """Gives each edit what rt said of it; also gives back what rt said in all."""
+    by_name = {it.name: it for it in edits}
+    for line in said.splitlines():
+        found = ANSWER.search(line)
+        if found and found[2] in by_name:
+            edit = by_name[found[2]]
+            edit.outcome, edit.said = judged(edit, found[3])
+    return edits, said
+
+
+def judged(edit, answer):
+    """What rt's answer to an edit shows of the contract, and the part of it that says so."""
+    if answer.startswith("NOT REFUSED"):
+        return PROVED, ""
+    if answer.startswith("BAD EDIT"):
+        return BAD, answer.removeprefix("BAD EDIT: ")
+    if not answer.startswith("refused, as it must be"):
+        return UNTRIED, answer
+    rest = answer.removeprefix("refused, as it must be")
+    if rest.startswith(" (only because a proof file names"):
+        return NAME, rest.partition("): ")[2]
+    if rest.startswith(" (only by a limit"):
+        return LIMIT, rest.partition("): ")[2]
+    place = PLACE.match(rest.removeprefix(": "))
+    is_own = place and any(is_at(it, place[1], int(place[2])) for it in edit.changed)
+    return (GOAL if is_own else ELSEWHERE), rest.removeprefix(": ")
+
+
+def is_at(changed, path, line):
+    """Whether a place is in a function, or in the folder of its proofs. What stands outside of functions, as a constant, means
+    something to each function of the crate."""
+    file, first, last, function = changed
+    if not function:
+        return path.startswith("src/")
+    if path.startswith("proofs/"):
+        return os.path.basename(os.path.dirname(path)) == function
+    return path == file and first <= line <= last
+
+
+def tell(edit):
+    goal = re.search(r"`[\w-]+`", edit.said)
+    place = PLACE.match(edit.said)
+    if edit.outcome == GOAL and place:
+        return f"{edit.name}: {place[1]}:{place[2]} {goal[0] if goal else place[3]}"
+    return f"{edit.name}: {WHAT_IT_MEANS[edit.outcome]}" + (f": {edit.said}" if edit.said else "")
+
+
+def text_of(crate, root=ROOT):
+    """A short sum of what an edit's meaning stands on in its crate: the code with its contracts, the definitions, and the edits
+    (by their names and texts, whether the gate tries them or not)."""
+    folder = f"{root}/crates/{crate}"
+    texts = sum_of(files_of(folder, ("src", "specs")), folder)
+    for edit in edits_of(crate, root):
+        texts += f" {edit.name} {sum_of([edit.file], edit.file)}"
+    return hashlib.sha256(texts.encode()).hexdigest()[:8]
+
+
+def read_rows(root=ROOT):
+    """The rows of crates whose edits were tried, by crate."""
+    found = {}
+    if os.path.isfile(f"{root}/{TABLE}"):
+        with open(f"{root}/{TABLE}", encoding="utf-8") as table:
+            for line in table:
+                cells = [it.strip() for it in line.strip().strip("|").split("|")]
+                if len(cells) == 5 and re.fullmatch(r"`\w+`", cells[0]) and cells[2] != "never":
+                    found[cells[0].strip("`")] = cells
+    return found
+
+
+def is_old(crate, row):
+    return row[4] != text_of(crate)
+
+
+HEAD = """# Edits
+
+An edit is a wrong body that the prover has to refuse (`crates/NAME/must-fail`). `bin/edits` tries those of the crates that it is
+given, or of all, and writes this table. The gate tries {gate} of the {all} (`*.edit`), and `bin/edits` all of them, also those that
+the gate has no time for (`*.edit.md`).
+
+An edit counts as refused at a goal where the first thing that the prover names is a goal of the function that was changed. The
+others are named with what came of them: `name`, refused only because a proof names what the edit took away; `elsewhere`, refused,
+but at a goal of another function first; `limit`, the prover came to a limit of its own. A row is written only by a run that tried
+all edits of its crate. The last column is a sum of the crate's code, contracts, definitions and edits: where it is another one by
+now, `bin/edits --look` says so, and they are to be tried again.
+
+| crate | edits | tried | refused at a goal | sum |
+|---|---|---|---|---|
+"""
+
+
+def write_table(crate, edits, day, root=ROOT):
+    """Writes the table anew, with this crate's row; the others stay."""
+    others = [f"`{it.name}`: {it.outcome}" for it in edits if it.outcome != GOAL]
+    good = len(edits) - len(others)
+    told = "all" if not others else f"{good}; " + ", ".join(others)
+    rows = {**read_rows(root), crate: [f"`{crate}`", str(len(edits)), day, told, text_of(crate, root)]}
+    every = {name: edits_of(name, root) for name in sorted(os.listdir(f"{root}/crates"))}
+    every = {name: its for name, its in every.items() if its}
+    lines = [rows.get(name, [f"`{name}`", str(len(its)), "never", "", ""]) for name, its in every.items()]
+    numbers = {"gate": sum(it.is_in_gate for its in every.values() for it in its), "all": sum(map(len, every.values()))}
+    with open(f"{root}/{TABLE}.new", "w", encoding="utf-8") as table:
+        table.write(HEAD.format(**numbers) + "".join(f"| {' | '.join(it)} |\n" for it in lines))
+    os.replace(f"{root}/{TABLE}.new", f"{root}/{TABLE}")
