@@ -153,9 +153,19 @@ def report_of_three(program):
 # ---- an event loop
 
 def looped_clients(address):
-    """The greeting and the echo of h1_looped."""
+    """The pages of h1_looped: a greeting, three lines in chunks, and an echo."""
     url = "http://%s:%d" % address
     body = bytes(range(256)) * 200
+
+    def statuses(name, wanted, *words):
+        def make():
+            done = run("curl", "-sS", "-m", "20", "-o", "/dev/null", "-w", "%{http_code} %{num_connects} ", *words)
+            return done.stderr.decode() or differs(done.stdout, wanted)
+        check("event loop, curl " + name, make)
+
+    def lines():
+        done = run("curl", "-sS", "-m", "20", f"{url}/lines", f"{url}/lines")
+        return done.stderr.decode() or differs(done.stdout, b"line\n" * 6)
 
     def echoed(name, *words):
         def make():
@@ -166,6 +176,11 @@ def looped_clients(address):
         echoed("51,200 bytes, which come back", "-H", "Expect:")
         echoed("the same in chunks", "-H", "Transfer-Encoding: chunked", "-H", "Expect:")
         echoed("the same with Expect: 100-continue", "-H", "Expect: 100-continue")
+        statuses("GET twice over one connection", b"404 1 200 0 ", f"{url}/nothing", "-o", "/dev/null", f"{url}/")
+        statuses("POST of a page", b"405 1 ", "-d", "abc", f"{url}/")
+        statuses("HEAD of a body in pieces, and of the first page after it", b"200 1 200 0 ", "-I", f"{url}/lines", "-o", "/dev/null",
+                 f"{url}/")
+        check("event loop, curl GET of a body in pieces, twice", lines)
     check("event loop, GET", lambda: differs(asked(address, "GET", "/"), (200, None, b"hello\n")))
     check("event loop, HEAD", lambda: differs(asked(address, "HEAD", "/"), (200, None, b"")))
     check("event loop, an unknown path", lambda: differs(asked(address, "GET", "/x")[0], 404))

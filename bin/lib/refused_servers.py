@@ -123,18 +123,18 @@ def files_judge():
     return judge
 
 
-def polled_run(program):
-    """A run of h1_polled: three connections, one after another."""
+def looped_run(program):
+    """A run of h1_looped, of one thread: three connections, one after another."""
     def run(environment):
-        server = Server([program, "PORT", "3"], environment, False)
-        answers = server.asked([b"GET /", b"GET /nothing", b"GET /"]) if server.listens() else []
+        server = Server([program, "PORT", "1"], environment, True)
+        answers = server.asked([b"GET /", b"GET /nothing", b"GET /lines"]) if server.listens() else []
         return server.end(), answers
     return run
 
 
-def polled_judge():
-    """What is wrong with such a run: it ends by itself, and an answer is whole or cut. With status 1 it told that no task or
-    no socket could be made."""
+def looped_judge():
+    """What is wrong with such a run: it ends once its input does, and an answer is whole or cut. With status 1 it told that a
+    loop or a thread couldn't be had."""
     whole = []
 
     def judge(seen, number):

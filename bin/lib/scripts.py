@@ -79,9 +79,9 @@ def connections():
     return found
 
 
-def examples():
-    """Each script of examples/: its name, its lines and its report."""
-    folder = f"{ROOT}/examples"
+def examples(kind=""):
+    """Each script of examples/, or of its folder of this kind: its name, its lines and its report."""
+    folder = f"{ROOT}/examples/{kind}"
     names = [it[:-4] for it in sorted(os.listdir(folder)) if it.endswith(".txt") and not it.endswith(".report.txt")]
     return [(it, lines_of(open(f"{folder}/{it}.txt").read()), open(f"{folder}/{it}.report.txt").read().splitlines())
             for it in names]

@@ -1,14 +1,14 @@
 -- What is sent on for a request's head.
-use Rattle.std.proofs.Common.{◌≡◌, ℕ, ◌<◌, Bool, true, false, not, ◌&&◌, ◌||◌, cond, if◌then◌else◌, eqb, List, [], ◌∷◌, ◌++◌, length, map, filter, flat_map, bytes_eq, codes, Some, None, is_some, unwrap_or, refl, sym, ap, ◌∙◌, subst, arith}
-use Rattle.std.specs.Prelude.{nat_eq, option_map}
+use Rattle.std.proofs.Common.{◌≡◌, ℕ, Bool, true, false, not, ◌&&◌, ◌||◌, cond, if◌then◌else◌, List, [], ◌∷◌, ◌++◌, map, filter, flat_map, bytes_eq, codes, Some, None, is_some, unwrap_or, refl, sym, ap, ◌∙◌, subst}
+use Rattle.std.specs.Prelude.{nat_eq}
 use Rattle.std.specs.List.{starts_with}
-use Rattle.std.proofs.lemmas.Bool.{false≢true, eqb-true, cond-false}
+use Rattle.std.proofs.lemmas.Bool.{false≢true}
 use Rattle.httparse.specs.Ascii.{space, crlf_bytes}
 use Rattle.httparse.specs.Grammar.{print_version}
 use Rattle.http.specs.declared.version.TheConstants.Version.{HTTP_11}
 use Rattle.http_uri.specs.declared.uri.Uri.{Uri}
 use Rattle.http_uri.specs.Uri.{Spells, uri_scheme, uri_authority, uri_data}
-use Rattle.http_uri.specs.Grammar.{IsUriText, without_fragment, or_slash}
+use Rattle.http_uri.specs.Grammar.{IsUriText, without_fragment, path_and_query_text}
 use Rattle.http_types.specs.declared.requests.head.RequestHead.{RequestHead}
 use Rattle.http_types.specs.Flags.{no_flags}
 use Rattle.http_types.specs.RequestHead.{request_flags}
@@ -26,7 +26,7 @@ use Rattle.h1_decode.specs.declared.decoder.HeadItem.{HeadItem}
 use Rattle.h1_decode.specs.HeadItem.{SaysHead}
 use Rattle.h1_request.specs.Meaning.{asked_head, asked_minor, target_of}
 use Rattle.h1_forward_model.specs.Forward.{is_forwardable, forwarded_lines, forwarded_head, forwarded_size, Sent, forwarded}
-use Rattle.h1_forward_model.proofs.Paths.{slashed, no_parts, some_cut}
+use Rattle.h1_forward_model.proofs.Paths.{slashed, no_parts, cut_cons}
 use Rattle.h1_forward_heads.specs.Meaning.{by_names}
 use Rattle.h1_forward_heads.proofs.MapLemmas.{map_lines}
 use Rattle.h1_forward_heads.proofs.LeftOut.{forwarded_by_name}
@@ -47,19 +47,18 @@ path_of_target text u begins spells =
     let parts = no_parts (uri_scheme u) (uri_authority u) (uri_data u) s.rest form in
     record { no_scheme = parts.0; no_authority = parts.1; kept = parts.2 ∙ ap without_fragment (sym s.is) }
 
--- it has a byte, so that no slash is put in its place
-not_empty : (text : List ℕ) → 0 < length text → or_slash text ≡ text
-not_empty text some = by_test (eqb (length text) 0) refl
-  where
-    by_test : (t : Bool) → eqb (length text) 0 ≡ t → or_slash text ≡ text
-    by_test true none = absurd (omega (arith, eqb-true (length text) 0 none, some))
-    by_test false is = cond-false (eqb (length text) 0) (codes "/") text is
+-- it begins with a slash, so that none is put before it
+stays : (text : List ℕ) → starts_with nat_eq text (codes "/") ≡ true → path_and_query_text (without_fragment text) ≡ without_fragment text
+stays text begins =
+    let s = slashed text begins in
+    let same : without_fragment text ≡ 47 ∷ without_fragment s.rest = ap without_fragment s.is ∙ cut_cons 47 s.rest refl in
+    ap path_and_query_text same ∙ sym same
 
 pub target_is : (text : List ℕ) (u : Uri) → starts_with nat_eq text (codes "/") ≡ true → Spells text u → target_of u ≡ without_fragment text
 target_is text u begins spells =
     let is = path_of_target text u begins spells in
-    (λ i. unwrap_or (option_map or_slash (if is_some (is.no_scheme i) || not (is_some (is.no_authority i)) then Some (is.kept i) else None)) (codes "/"))
-    ∙ not_empty (without_fragment text) (some_cut text begins)
+    (λ i. path_and_query_text (unwrap_or (if is_some (is.no_scheme i) || not (is_some (is.no_authority i)) then Some (is.kept i) else None) []))
+    ∙ stays text begins
 
 -- ---- the head
 

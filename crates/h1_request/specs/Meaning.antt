@@ -1,19 +1,19 @@
 -- What a request's head means in the model.
-use Rattle.std.specs.Prelude.{ℕ, Bool, List, codes, nat_le, option_map, unwrap_or}
+use Rattle.std.specs.Prelude.{ℕ, Bool, List, [], nat_le, unwrap_or}
 use Rattle.http.specs.declared.version.Http.{Http}
 use Rattle.http.specs.declared.version.Http.TheVariants.{Http09, Http10, Http11, H2, H3}
 use Rattle.http.specs.declared.version.Version.{Version}
 use Rattle.http_uri.specs.declared.uri.Uri.{Uri}
 use Rattle.http_uri.specs.Uri.{uri_path_and_query}
-use Rattle.http_uri.specs.Grammar.{or_slash}
+use Rattle.http_uri.specs.Grammar.{path_and_query_text}
 use Rattle.http_types.specs.declared.requests.head.RequestHead.{RequestHead}
 use Rattle.http_types.specs.RequestHead.{request_flags}
 use Rattle.h1_codec.specs.Meaning.{headers_of}
 use Rattle.h1_client_model.specs.RequestText.{AskedHead}
 
--- the path and the query, and a slash where there is none (RFC 7230, section 5.3.1)
+-- the path and the query, and a slash where there is no path, also before a query (RFC 9112, section 3.2.1)
 abbrev pub target_of : Uri → List ℕ
-target_of uri = unwrap_or (option_map or_slash (uri_path_and_query uri)) (codes "/")
+target_of uri = path_and_query_text (unwrap_or (uri_path_and_query uri) [])
 
 abbrev minor_in : Http → ℕ
 minor_in Http09 = 2

@@ -29,8 +29,8 @@ pub fn has_text(version: Version) -> bool
     minor_of(version) <= 1
 }
 
-/// Puts the head of a request after what `out` holds: the request line with the target's path and query, or a slash where
-/// there is none, the line that frames a body of this size, the connection line, the headers name by name, the date unless
+/// Puts the head of a request after what `out` holds: the request line with the target's path and query, and a slash where
+/// it has no path, the line that frames a body of this size, the connection line, the headers name by name, the date unless
 /// a header is one, and the empty line (RFC 7230, section 3). Headers that frame a body or speak of the connection are left
 /// out. A body whose size isn't known goes out in chunks. `now` is in milliseconds since the start of 1970, before the year
 /// 10000. Where memory is wanting, the only error, `out` holds what it held.

@@ -1,5 +1,6 @@
 //! The request line.
-ghost use Rattle.std.specs.Prelude.{◌≡◌, ◌++◌, ◌∷◌, ◌+◌, ◌≤◌, codes, [], OnOk, OnErr};
+ghost use Rattle.std.specs.Prelude.{◌≡◌, ◌++◌, ◌∷◌, ◌+◌, ◌≤◌, codes, [], length, OnOk, OnErr};
+ghost use Rattle.http_uri.specs.Grammar.{path_and_query_text};
 ghost use Rattle.h1_request.specs.Lines.{request_words};
 ghost use Rattle.h1_request.specs.Meaning.{asked_head, asked_minor, target_of};
 
@@ -19,24 +20,37 @@ pub(crate) fn put_request_words(out: &mut BytesMut, head: &RequestHead) -> Resul
     let Some(len) = method.len().checked_add(target.len()) else {
         return Err(AllocError);
     };
-    let Some(len) = len.checked_add(10) else {
+    let Some(len) = len.checked_add(11) else {
         return Err(AllocError);
     };
     out.reserve(len)?;
     out.extend_reserved(method);
     out.extend_reserved(b" ");
+    out.extend_reserved(missing_path(target));
     out.extend_reserved(target);
     out.extend_reserved(&version);
     Ok(())
 }
 
-// The path and the query, and a slash where there is none.
+// The path and the query as the URI has them.
+#[tactic(auto, using(crate::proofs::Slashes::once))]
 fn target(uri: &Uri) -> &[u8]
-    ensures { result.now ≡ target_of uri.now }
+    ensures { path_and_query_text result.now ≡ target_of uri.now }
 {
     match uri.path_and_query() {
         Some(text) => text.as_str().as_bytes(),
-        None => b"/",
+        None => b"",
+    }
+}
+
+// The slash that stands for an empty path before a query (RFC 9112, section 3.2.1).
+fn missing_path(target: &[u8]) -> &'static [u8]
+    ensures value { result.now ++ target.now ≡ path_and_query_text target.now }
+    ensures short { length result.now ≤ 1 }
+{
+    match target.first() {
+        Some(b'/' | b'*') => b"",
+        _ => b"/",
     }
 }
 

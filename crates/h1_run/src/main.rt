@@ -1,5 +1,10 @@
-//! Replays a script of connection events over the program's input and output.
+//! Replays scripts over the program's input and output: of a connection (`h1_replay`), of a hub of chat rooms
+//! (`ws_hub_replay`), or of a connection twice, each step that finds no memory tried once more.
 #![tactic(auto)]
+
+mod again;
+mod program;
+mod twice;
 
 use h1_replay::Reply;
 use http_types::{StdSink, StdSource};
@@ -10,16 +15,18 @@ use std::rt::Env;
 use std::{env, io};
 
 fn main(rt: HostRuntime) -> ExitCode {
-    let alloc = rt.alloc();
     let words = match words(&rt) {
         Ok(words) => words,
         Err(error) if error.kind() == ErrorKind::OutOfMemory => return no_memory(&rt),
         // Words that aren't text are wrong words.
-        Err(_) => Vec::new(alloc),
+        Err(_) => Vec::new(rt.alloc()),
     };
+    if is_again(&words) {
+        return again::replay_again(rt);
+    }
     let mut input = StdSource::new(rt.stdin());
     let mut output = StdSink::new(rt.stdout());
-    ExitCode::from(h1_replay::run(alloc, &words, &mut input, &mut output))
+    ExitCode::from(program::run(rt.alloc(), &words, &mut input, &mut output))
 }
 
 // The status says it also where it can't be written.
@@ -31,4 +38,11 @@ fn no_memory(rt: &impl Print) -> ExitCode {
 // The program's arguments, without its name.
 fn words(rt: &(impl Env + Alloc<A = Global>)) -> io::Result<Vec<String>> {
     Ok(env::args(rt)?.skip(1).collect(rt.alloc())?)
+}
+
+fn is_again(words: &[String]) -> bool {
+    match words {
+        [word] => word.as_str() == "again",
+        _ => false,
+    }
 }

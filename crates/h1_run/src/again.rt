@@ -1,12 +1,5 @@
-//! A step that found no memory, tried once more. The program replays the script of its input twice: as it comes, and then
-//! so that each step that finds no memory is tried again. It says whether both gave the same, and how many steps were tried
-//! again. With memory to spare none is: `bin/refuse` runs the program with one allocation refused.
-//!
-//! The status is 0 where both gave the same, 1 where they did not, 2 where the input is no script or can't be read, and 7
-//! where memory ran out elsewhere.
-#![tactic(auto)]
-
-mod twice;
+//! The script of the input, replayed twice: as it comes, and then so that each step that finds no memory is tried again.
+//! With memory to spare none is: `bin/refuse` runs the program with one allocation refused.
 
 use crate::twice::{Replayed, replayed_twice};
 use h1_replay::{ScriptError, read_script};
@@ -26,7 +19,8 @@ const NO_SCRIPT: u8 = 2;
 /// Memory ran out elsewhere.
 const NO_MEMORY: u8 = 7;
 
-fn main(rt: HostRuntime) -> ExitCode {
+/// Says whether both replays gave the same, and how many steps were tried again.
+pub fn replay_again(rt: HostRuntime) -> ExitCode {
     match replay_input(rt) {
         Ok(Some(replayed)) => told(&rt, replayed),
         Ok(None) => ExitCode::from(NO_SCRIPT),
