@@ -1,14 +1,12 @@
 //! Plays files of blocks, each of several lines.
-use crate::arguments::{FilePlayer, play_each};
 use crate::block::{Block, put_unreadable};
 use crate::case::CaseError;
 use crate::clear::Form;
 use crate::player::Tally;
+use crate::report::Report;
 use http_types::NoMemory;
 use std::alloc::{AllocError, Global};
-use std::process::ExitCode;
-use std::random::RandomSource;
-use std::rt::{Env, Files};
+use std::rt::Files;
 use std::{fs, io};
 
 /// What plays blocks.
@@ -20,38 +18,22 @@ pub trait BlockPlayer<R> {
     fn form(&self) -> Form;
 
     /// Whether a block goes as its lines say. What differs is written to `different`.
-    fn play_block(&self, rt: &R, block: &Block<'_>, different: &mut Vec<u8>) -> io::Result<bool>;
+    fn play_block(&self, rt: &R, block: &Block<'_>, different: &mut Report) -> io::Result<bool>;
 }
 
-/// Plays the files that the program's arguments name, prints what differs and how many blocks of each go as they have to, and
-/// fails unless all do. Lines before a file's first block are passed over.
-pub fn play_blocks<P: BlockPlayer<R>, R: Files + Print + Env + AllocGlobal>(
+/// Plays the blocks of the file of this name, prints what differs and how many go as they have to. Whether all do. Lines
+/// before the file's first block are passed over.
+pub fn play_blocks<P: BlockPlayer<R>, R: Files + Print + AllocGlobal>(
     player: &P,
     rt: &R,
-) -> io::Result<ExitCode> {
-    play_each(&Blocks { player }, rt)
-}
-
-// Plays files of blocks.
-#[derive(Drop)]
-struct Blocks<'a, P> {
-    player: &'a P,
-}
-
-impl<P: BlockPlayer<R>, R: Files + Print + AllocGlobal> FilePlayer<R> for Blocks<'_, P> {
-    fn play_file(&self, rt: &R, name: &str) -> io::Result<bool> {
-        let text = fs::read(rt, name)?;
-        let mut different = Vec::new(rt.alloc());
-        let tally = play_text(self.player, rt, text.as_slice(), &mut different)?;
-        rt.print(String::from_utf8_lossy(rt.alloc(), different.as_slice())?)?;
-        println!(rt;
-            "{name}: {} of {} {}",
-            tally.right,
-            tally.cases,
-            self.player.kind()
-        )?;
-        Ok(tally.right == tally.cases)
-    }
+    name: &str,
+) -> io::Result<bool> {
+    let text = fs::read(rt, name)?;
+    let mut different = Report::new(rt.alloc());
+    let tally = play_text(player, rt, text.as_slice(), &mut different)?;
+    rt.print(String::from_utf8_lossy(rt.alloc(), different.whole()?)?)?;
+    println!(rt; "{name}: {} of {} {}", tally.right, tally.cases, player.kind())?;
+    Ok(tally.right == tally.cases)
 }
 
 // Plays the blocks of a text.
@@ -59,7 +41,7 @@ fn play_text<P: BlockPlayer<R>, R: AllocGlobal>(
     player: &P,
     rt: &R,
     text: &[u8],
-    different: &mut Vec<u8>,
+    different: &mut Report,
 ) -> io::Result<Tally> {
     let mut tally = Tally::default();
     let mut lines: Vec<&[u8]> = Vec::new(rt.alloc());
@@ -82,7 +64,7 @@ fn end_block<P: BlockPlayer<R>, R: AllocGlobal>(
     rt: &R,
     lines: &[&[u8]],
     tally: &mut Tally,
-    different: &mut Vec<u8>,
+    different: &mut Report,
 ) -> io::Result<()> {
     if lines.is_empty() {
         return Ok(());
@@ -101,14 +83,14 @@ fn read_block<'a>(
     alloc: Global,
     lines: &[&'a [u8]],
     form: Form,
-    different: &mut Vec<u8>,
+    different: &mut Report,
 ) -> Result<Option<Block<'a>>, NoMemory> {
     match Block::read(alloc, lines, form) {
         Ok(block) => Ok(Some(block)),
         Err(CaseError::NoMemory) => Err(AllocError),
         Err(CaseError::Unreadable) => {
             if let Some(first) = lines.first() {
-                put_unreadable(first, different)?;
+                put_unreadable(first, different);
             }
             Ok(None)
         }
