@@ -30,31 +30,48 @@ pub fn play_blocks<P: BlockPlayer<R>, R: Files + Print + AllocGlobal>(
 ) -> io::Result<bool> {
     let text = fs::read(rt, name)?;
     let mut different = Report::new(rt.alloc());
-    let tally = play_text(player, rt, text.as_slice(), &mut different)?;
+    let tally = play_text(player, rt, name, text.as_slice(), &mut different)?;
     rt.print(String::from_utf8_lossy(rt.alloc(), different.whole()?)?)?;
-    println!(rt; "{name}: {} of {} {}", tally.right, tally.cases, player.kind())?;
+    println!(rt;
+        "{name}: {} of {} {}",
+        tally.right,
+        tally.cases,
+        player.kind()
+    )?;
     Ok(tally.right == tally.cases)
 }
 
-// Plays the blocks of a text.
+// Where a block begins.
+#[derive(Clone, Copy, Drop)]
+struct Place<'a> {
+    file: &'a str,
+    line: u32,
+}
+
+// Plays the blocks of a file's text.
 fn play_text<P: BlockPlayer<R>, R: AllocGlobal>(
     player: &P,
     rt: &R,
+    file: &str,
     text: &[u8],
     different: &mut Report,
 ) -> io::Result<Tally> {
     let mut tally = Tally::default();
     let mut lines: Vec<&[u8]> = Vec::new(rt.alloc());
+    let mut number = 0u32;
+    let mut place = Place { file, line: 0 };
     for line in text.split(|byte| *byte == b'\n') {
+        number = number.saturating_add(1);
         if line.starts_with(b"== ") {
-            end_block(player, rt, lines.as_slice(), &mut tally, different)?;
+            end_block(player, rt, place, lines.as_slice(), &mut tally, different)?;
             lines.clear();
+            place.line = number;
             lines.push(line)?;
         } else if !lines.is_empty() {
             lines.push(line)?;
         }
     }
-    end_block(player, rt, lines.as_slice(), &mut tally, different)?;
+    end_block(player, rt, place, lines.as_slice(), &mut tally, different)?;
     Ok(tally)
 }
 
@@ -62,6 +79,7 @@ fn play_text<P: BlockPlayer<R>, R: AllocGlobal>(
 fn end_block<P: BlockPlayer<R>, R: AllocGlobal>(
     player: &P,
     rt: &R,
+    place: Place<'_>,
     lines: &[&[u8]],
     tally: &mut Tally,
     different: &mut Report,
@@ -69,13 +87,35 @@ fn end_block<P: BlockPlayer<R>, R: AllocGlobal>(
     if lines.is_empty() {
         return Ok(());
     }
-    let right = match read_block(rt.alloc(), lines, player.form(), different)? {
-        Some(block) => player.play_block(rt, &block, different)?,
-        None => false,
-    };
+    let mut told = Report::new(rt.alloc());
+    let right = is_right(player, rt, lines, &mut told)?;
+    if !right {
+        put_place(place, different);
+        different.put_report(&told);
+    }
     tally.cases = tally.cases.saturating_add(1);
     tally.right = tally.right.saturating_add(u32::from(right));
     Ok(())
+}
+
+fn put_place(place: Place<'_>, different: &mut Report) {
+    different.put_text(place.file);
+    different.put_text(":");
+    different.put_decimal(u64::from(place.line));
+    different.put_text(": ");
+}
+
+// Whether the block of these lines goes as it has to. What differs is written to `told`.
+fn is_right<P: BlockPlayer<R>, R: AllocGlobal>(
+    player: &P,
+    rt: &R,
+    lines: &[&[u8]],
+    told: &mut Report,
+) -> io::Result<bool> {
+    match read_block(rt.alloc(), lines, player.form(), told)? {
+        Some(block) => player.play_block(rt, &block, told),
+        None => Ok(false),
+    }
 }
 
 // The block of these lines. None where one can't be read, which is written to `different`.

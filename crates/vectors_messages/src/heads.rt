@@ -10,8 +10,8 @@ use crate::heads::ends::{sink, source, sure_sink, sure_source};
 use crate::heads::errors::{
     cause, content_type_error, dispatch_error, error, http_error, parse_error, payload_error,
 };
-use crate::heads::marks::{asks, chunked, connection, media_type, reason};
 use crate::heads::maps::{drain, edit, find, pairs};
+use crate::heads::marks::{asks, chunked, connection, media_type, reason};
 use crate::heads::printed::map;
 use crate::heads::settings::{hold_size, keep_alive};
 use http_types::NoMemory;

@@ -118,7 +118,14 @@ impl Plan {
         different: &mut Report,
     ) -> io::Result<bool> {
         let mut found = Report::new(rt.alloc());
-        play(rt, &self.setup, self.steps.as_slice(), cut, recorder, &mut found)?;
+        play(
+            rt,
+            &self.setup,
+            self.steps.as_slice(),
+            cut,
+            recorder,
+            &mut found,
+        )?;
         Ok(block.is_met(&found, &Report::new(rt.alloc()), different)?)
     }
 }

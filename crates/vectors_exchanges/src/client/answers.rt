@@ -25,7 +25,11 @@ pub fn put_next(connection: &mut ClientConnection, found: &mut Report) {
 // The version, the status, the reason and the lines.
 fn put_answer(item: &ResponseItem, found: &mut Report) {
     let is_older = item.head.version < Version::HTTP_11;
-    found.put_text(if is_older { "answer 1.0 " } else { "answer 1.1 " });
+    found.put_text(if is_older {
+        "answer 1.0 "
+    } else {
+        "answer 1.1 "
+    });
     found.put_decimal(u64::from(item.head.status.as_u16()));
     found.put_text(" ");
     found.put_quoted(item.reason.as_slice());

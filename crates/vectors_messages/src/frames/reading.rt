@@ -36,12 +36,7 @@ pub fn frames(alloc: Global, case: &Case<'_>, found: &mut Report) -> Result<bool
     Ok(true)
 }
 
-fn read_all(
-    alloc: Global,
-    mut codec: Codec<NoWords>,
-    pieces: &[Vec<u8>],
-    found: &mut Report,
-) {
+fn read_all(alloc: Global, mut codec: Codec<NoWords>, pieces: &[Vec<u8>], found: &mut Report) {
     let mut src = BytesMut::new(alloc);
     for piece in pieces {
         if src.extend_from_slice(piece.as_slice()).is_err() {
@@ -54,12 +49,7 @@ fn read_all(
 }
 
 // Reads all frames that are there, or up to an error.
-fn read_on(
-    alloc: Global,
-    codec: &mut Codec<NoWords>,
-    src: &mut BytesMut,
-    found: &mut Report,
-) {
+fn read_on(alloc: Global, codec: &mut Codec<NoWords>, src: &mut BytesMut, found: &mut Report) {
     for _ in 0..=src.len() {
         if !read_one(alloc, codec, src, found) {
             break;

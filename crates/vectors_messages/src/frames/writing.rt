@@ -94,12 +94,7 @@ pub fn send(alloc: Global, case: &Case<'_>, found: &mut Report) -> Result<bool, 
     Ok(true)
 }
 
-fn send_one(
-    alloc: Global,
-    codec: &mut Codec<NoWords>,
-    message: Message,
-    found: &mut Report,
-) {
+fn send_one(alloc: Global, codec: &mut Codec<NoWords>, message: Message, found: &mut Report) {
     let mut text = BytesMut::new(alloc);
     if let Err(error) = codec.encode(alloc, message, &mut text) {
         put_error(alloc, error, found);

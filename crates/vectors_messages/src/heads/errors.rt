@@ -93,11 +93,7 @@ pub fn parse_error(alloc: Global, case: &Case<'_>, found: &mut Report) -> bool {
 }
 
 /// `payload-error NAME`: the text of why a payload could not be read.
-pub fn payload_error(
-    alloc: Global,
-    case: &Case<'_>,
-    found: &mut Report,
-) -> bool {
+pub fn payload_error(alloc: Global, case: &Case<'_>, found: &mut Report) -> bool {
     let error = match case.argument(0) {
         b"incomplete" => PayloadError::Incomplete,
         b"corrupted" => PayloadError::EncodingCorrupted,
@@ -111,11 +107,7 @@ pub fn payload_error(
 }
 
 /// `dispatch-error NAME`: the text of why requests are served no longer.
-pub fn dispatch_error(
-    alloc: Global,
-    case: &Case<'_>,
-    found: &mut Report,
-) -> bool {
+pub fn dispatch_error(alloc: Global, case: &Case<'_>, found: &mut Report) -> bool {
     match served_error(case.argument(0)) {
         Some(error) => put_error(alloc, &error, found),
         None => false,
@@ -157,11 +149,7 @@ pub fn cause(alloc: Global, case: &Case<'_>, found: &mut Report) -> bool {
 }
 
 /// `content-type-error NAME`: the text of why a media type could not be told.
-pub fn content_type_error(
-    alloc: Global,
-    case: &Case<'_>,
-    found: &mut Report,
-) -> bool {
+pub fn content_type_error(alloc: Global, case: &Case<'_>, found: &mut Report) -> bool {
     match case.argument(0) {
         b"parse" => put_error(alloc, &ContentTypeError::ParseError, found),
         b"unknown" => put_error(alloc, &ContentTypeError::UnknownEncoding, found),

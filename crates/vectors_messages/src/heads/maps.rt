@@ -155,10 +155,10 @@ pub fn find(alloc: Global, case: &Case<'_>, found: &mut Report) -> Result<bool, 
 
 fn put_found(map: &HeaderMap, name: &str, found: &mut Report) {
     found.put_text(if map.contains_key(name) {
-            "there "
-        } else {
-            "absent "
-        });
+        "there "
+    } else {
+        "absent "
+    });
     match map.get(name) {
         Some(value) => found.put_quoted(value.as_bytes()),
         None => found.put_text("none"),

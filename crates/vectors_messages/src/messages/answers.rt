@@ -81,12 +81,7 @@ fn put_header(
     Ok(true)
 }
 
-fn put_answer(
-    alloc: Global,
-    head: &ResponseHead,
-    case: &Case<'_>,
-    found: &mut Report,
-) -> bool {
+fn put_answer(alloc: Global, head: &ResponseHead, case: &Case<'_>, found: &mut Report) -> bool {
     let Some(size) = size_of(case) else {
         return false;
     };

@@ -45,12 +45,7 @@ pub fn raw(alloc: Global, case: &Case<'_>, found: &mut Report) -> Result<bool, N
     Ok(true)
 }
 
-fn read_all(
-    alloc: Global,
-    mut decoder: PayloadDecoder,
-    pieces: &[Vec<u8>],
-    found: &mut Report,
-) {
+fn read_all(alloc: Global, mut decoder: PayloadDecoder, pieces: &[Vec<u8>], found: &mut Report) {
     let mut src = BytesMut::new(alloc);
     for piece in pieces {
         if src.extend_from_slice(piece.as_slice()).is_err() {
@@ -66,11 +61,7 @@ fn read_all(
 }
 
 // Asks until there is no more for now.
-fn read_on(
-    decoder: &mut PayloadDecoder,
-    src: &mut BytesMut,
-    found: &mut Report,
-) {
+fn read_on(decoder: &mut PayloadDecoder, src: &mut BytesMut, found: &mut Report) {
     for _ in 0..MAX_ANSWERS {
         match decoder.decode(src) {
             Ok(Some(item)) => {

@@ -48,10 +48,10 @@ fn put_head(item: &HeadItem, found: &mut Report) {
     put_kind(item.body, found);
     found.put_text(connection_word(item.connection_type()));
     found.put_text(if item.expects_continue() {
-            " expects"
-        } else {
-            " -"
-        });
+        " expects"
+    } else {
+        " -"
+    });
     found.put_text(if item.minor() == 0 { " 1.0 " } else { " 1.1 " });
     found.put_quoted(item.target.as_slice());
     found.put_fields(item.head.headers());

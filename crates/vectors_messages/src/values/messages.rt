@@ -47,11 +47,7 @@ pub fn content_encoding(
 }
 
 /// `coding-header CODING`: the header that a content coding makes, and the value that it makes without a copy.
-pub fn coding_header(
-    alloc: Global,
-    case: &Case<'_>,
-    found: &mut Report,
-) -> Result<bool, NoMemory> {
+pub fn coding_header(alloc: Global, case: &Case<'_>, found: &mut Report) -> Result<bool, NoMemory> {
     let coding = match case.text(0) {
         Some("br") => ContentEncoding::Brotli,
         Some("gzip") => ContentEncoding::Gzip,

@@ -69,11 +69,7 @@ pub fn item(alloc: Global, case: &Case<'_>, found: &mut Report) -> Result<bool, 
     Ok(true)
 }
 
-fn put_item(
-    alloc: Global,
-    read: &QualityItem<String>,
-    found: &mut Report,
-) {
+fn put_item(alloc: Global, read: &QualityItem<String>, found: &mut Report) {
     found.put_quoted(read.item.as_bytes());
     found.put_text(" ");
     found.put_decimal(u64::from(read.quality.thousandths()));
@@ -224,12 +220,7 @@ pub fn media_type(alloc: Global, case: &Case<'_>, found: &mut Report) -> Result<
 }
 
 /// The parts of a media type.
-pub fn put_mime(
-    alloc: Global,
-    mime: &Mime,
-    name: &str,
-    found: &mut Report,
-) {
+pub fn put_mime(alloc: Global, mime: &Mime, name: &str, found: &mut Report) {
     found.put_quoted(mime.type_().as_bytes());
     found.put_text(" ");
     found.put_quoted(mime.subtype().as_bytes());

@@ -73,12 +73,7 @@ pub fn put_deadline(report: &mut Report, deadline: Option<u64>) {
 }
 
 /// Puts the request that was accepted, what waits to be written, and how many bytes are held behind it.
-pub fn put_upgraded(
-    report: &mut Report,
-    request: &Request<(), ()>,
-    waiting: &[u8],
-    held: usize,
-) {
+pub fn put_upgraded(report: &mut Report, request: &Request<(), ()>, waiting: &[u8], held: usize) {
     report.put_text("upgraded ");
     report.put_all(request.path().as_bytes());
     report.put_text(" ");
@@ -91,13 +86,13 @@ pub fn put_upgraded(
 /// Puts why an upgrade was refused.
 pub fn put_refused(report: &mut Report, error: HandshakeError) {
     report.put_text(match error {
-            HandshakeError::GetMethodRequired => "refused method\n",
-            HandshakeError::NoWebsocketUpgrade => "refused upgrade\n",
-            HandshakeError::NoConnectionUpgrade => "refused connection\n",
-            HandshakeError::NoVersionHeader => "refused no-version\n",
-            HandshakeError::UnsupportedVersion => "refused version\n",
-            HandshakeError::BadWebsocketKey => "refused key\n",
-        })
+        HandshakeError::GetMethodRequired => "refused method\n",
+        HandshakeError::NoWebsocketUpgrade => "refused upgrade\n",
+        HandshakeError::NoConnectionUpgrade => "refused connection\n",
+        HandshakeError::NoVersionHeader => "refused no-version\n",
+        HandshakeError::UnsupportedVersion => "refused version\n",
+        HandshakeError::BadWebsocketKey => "refused key\n",
+    })
 }
 
 /// Puts all that was sent, and whether the wire was shut down.

@@ -1,5 +1,5 @@
 use Rattle.std.proofs.Common.{rules, ◌≡◌, true, sym, ◌∙◌}
-use Rattle.vectors_exchanges.proofs.client.Client.write.Goals as goal
+use Rattle.vectors_exchanges.proofs.client.Client.write_out.Goals as goal
 
 pub advance-requires-clause-can_write : goal.advance-requires-clause-can_write
 advance-requires-clause-can_write c =
