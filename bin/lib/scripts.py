@@ -52,8 +52,8 @@ def unquoted(body):
 
 
 def exchanges():
-    """Each exchange of exchange_vectors: its name, its script and its report."""
-    folder = f"{ROOT}/crates/exchange_vectors/data"
+    """Each exchange of vectors_exchanges: its name, its script and its report."""
+    folder = f"{ROOT}/crates/vectors_exchanges/data/exchanges"
     found = []
     for name in sorted(os.listdir(folder)):
         for line in open(f"{folder}/{name}", encoding="latin-1").read().split("\n"):
@@ -67,8 +67,8 @@ def exchanges():
 
 
 def connections():
-    """Each connection of dispatch_vectors: its name and its lines. One that is played in many pieces is played once."""
-    folder = f"{ROOT}/crates/dispatch_vectors/data"
+    """Each connection of vectors_servers: its name and its lines. One that is played in many pieces is played once."""
+    folder = f"{ROOT}/crates/vectors_servers/data/dispatch"
     found = []
     for name in sorted(os.listdir(folder)):
         for line in open(f"{folder}/{name}", encoding="latin-1").read().split("\n"):

@@ -1,7 +1,7 @@
 //! Blocks: what is done, and what has to come of it.
 use crate::case::CaseError;
 use crate::clear::{Form, put_clear};
-use crate::written::{put_all, put_text};
+use crate::report::Report;
 use http_types::NoMemory;
 use std::alloc::Global;
 
@@ -16,7 +16,7 @@ pub struct Block<'a> {
 
     /// What has to come of it: the lines that begin with `< `, without that, their quoted bytes in one form, each with a
     /// line feed after it.
-    pub expected: Vec<u8>,
+    pub expected: Report,
 }
 
 impl<'a> Block<'a> {
@@ -33,12 +33,17 @@ impl<'a> Block<'a> {
         let mut block = Block {
             name,
             script: Vec::new(alloc),
-            expected: Vec::new(alloc),
+            expected: Report::new(alloc),
         };
-        for line in others {
-            block.take(alloc, line, form)?;
-        }
+        block.take_all(alloc, others, form)?;
         Ok(block)
+    }
+
+    fn take_all(&mut self, alloc: Global, lines: &[&'a [u8]], form: Form) -> Result<(), CaseError> {
+        for line in lines {
+            self.take(alloc, line, form)?;
+        }
+        Ok(())
     }
 
     // Takes a line of what is done, or of what has to come of it.
@@ -50,24 +55,26 @@ impl<'a> Block<'a> {
             return Ok(());
         };
         put_clear(alloc, expected, form, &mut self.expected)?;
-        Ok(put_all(&mut self.expected, b"\n")?)
+        self.expected.put(b'\n');
+        Ok(())
     }
 
     /// Whether this is what has to come of the block. Where it isn't, it is written to `different`, after the name and
     /// how it was found.
     pub fn is_met(
         &self,
-        found: &[u8],
-        how: &[u8],
-        different: &mut Vec<u8>,
+        found: &Report,
+        how: &Report,
+        different: &mut Report,
     ) -> Result<bool, NoMemory> {
-        if found == self.expected.as_slice() {
+        let bytes = found.whole()?;
+        if bytes == self.expected.whole()? {
             return Ok(true);
         }
-        put_all(different, self.name)?;
-        put_all(different, how)?;
-        put_text(different, ": found\n")?;
-        put_all(different, found)?;
+        different.put_all(self.name);
+        different.put_all(how.whole()?);
+        different.put_text(": found\n");
+        different.put_all(bytes);
         Ok(false)
     }
 }
@@ -77,7 +84,7 @@ fn keep<'a>(lines: &mut Vec<&'a [u8]>, line: &'a [u8]) -> Result<(), NoMemory> {
 }
 
 /// Writes to `different` that the block of this name has a line that can't be read.
-pub fn put_unreadable(name: &[u8], different: &mut Vec<u8>) -> Result<(), NoMemory> {
-    put_all(different, name)?;
-    put_text(different, ": a line that can't be read\n")
+pub fn put_unreadable(name: &[u8], different: &mut Report) {
+    different.put_all(name);
+    different.put_text(": a line that can't be read\n");
 }

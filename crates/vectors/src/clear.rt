@@ -1,8 +1,7 @@
 //! Clear text: what stands in double quotes, and what is repeated.
 use crate::case::{CaseError, read_joined};
 use crate::cursor::Cursor;
-use crate::quoted::{put, put_quoted};
-use crate::written::put_all;
+use crate::report::Report;
 use http_types::NoMemory;
 use std::alloc::Global;
 
@@ -22,7 +21,7 @@ pub fn put_clear(
     alloc: Global,
     line: &[u8],
     form: Form,
-    text: &mut Vec<u8>,
+    text: &mut Report,
 ) -> Result<(), CaseError> {
     let mut cursor = Cursor::new(line);
     for _ in 0..line.len() {
@@ -40,29 +39,31 @@ fn put_next(
     alloc: Global,
     cursor: &mut Cursor<'_>,
     form: Form,
-    text: &mut Vec<u8>,
+    text: &mut Report,
 ) -> Result<(), CaseError> {
     match cursor.peek() {
         None => Ok(()),
         Some(b'"') => {
             let bytes = read_joined(alloc, cursor)?;
-            Ok(put_bytes(alloc, bytes.as_slice(), form, text)?)
+            put_bytes(alloc, bytes.as_slice(), form, text);
+            Ok(())
         }
         Some(byte) => {
             cursor.next();
-            Ok(put(text, byte)?)
+            text.put(byte);
+            Ok(())
         }
     }
 }
 
-fn put_bytes(alloc: Global, bytes: &[u8], form: Form, text: &mut Vec<u8>) -> Result<(), NoMemory> {
+fn put_bytes(alloc: Global, bytes: &[u8], form: Form, text: &mut Report) {
     match form {
-        Form::Quoted => put_quoted(text, bytes),
-        Form::Hex if bytes.is_empty() => put(text, b'-'),
-        Form::Hex => {
-            let digits = hex::encode(alloc, bytes)?;
-            put_all(text, digits.as_bytes())
-        }
+        Form::Quoted => text.put_quoted(bytes),
+        Form::Hex if bytes.is_empty() => text.put(b'-'),
+        Form::Hex => match hex::encode(alloc, bytes) {
+            Ok(digits) => text.put_text(digits.as_str()),
+            Err(_) => text.lose(),
+        },
     }
 }
 
@@ -74,9 +75,9 @@ fn put_repeated(
     alloc: Global,
     cursor: &mut Cursor<'_>,
     form: Form,
-    text: &mut Vec<u8>,
+    text: &mut Report,
 ) -> Result<(), CaseError> {
-    let mut piece = Vec::new(alloc);
+    let mut piece = Report::new(alloc);
     for _ in 0..cursor.rest().len() {
         if cursor.passes(b']') {
             break;
@@ -87,8 +88,12 @@ fn put_repeated(
         return Err(CaseError::Unreadable);
     }
     let times = cursor.number().ok_or(CaseError::Unreadable)?;
-    for _ in 0..times.min(MAX_REPEATS) {
-        put_all(text, piece.as_slice())?;
-    }
+    put_times(piece.whole()?, times, text);
     Ok(())
+}
+
+fn put_times(piece: &[u8], times: usize, text: &mut Report) {
+    for _ in 0..times.min(MAX_REPEATS) {
+        text.put_all(piece);
+    }
 }

@@ -11,14 +11,14 @@
 //! An argument is a word, or texts in double quotes, each perhaps repeated by `*` and a number, joined by `+`. In quotes
 //! `\r`, `\n`, `\t`, `\\`, `\"` and `\xHH` stand for one byte each. What is expected is compared as text, with
 //! joined and repeated quotes put into one; there `[ a="b"]*3` repeats what stands in the brackets. Whoever plays a case
-//! writes its answer in the same form: [`put_quoted`] does so for bytes.
+//! writes its answer in the same form, into a [`Report`].
 //!
 //! # Example
 //!
-//! A program implements [`Player`] for its calls, and gives itself to [`play_arguments`], which prints what differs and
-//! counts. Adding a vector is adding a line. A program whose cases have several lines each implements [`BlockPlayer`] and gives
-//! itself to [`play_blocks`]; where they are to be played in pieces of many sizes too, [`PiecePlayer`] and
-//! [`play_in_pieces`].
+//! A program is a [`FilePlayer`] that finds by a file's folder ([`folder_of`]) how it is played, and gives itself to
+//! [`play_arguments`]. A file of cases goes to [`play_lines`] with a [`Player`], which knows calls by their names. Adding a
+//! vector is adding a line. A file whose cases have several lines each goes to [`play_blocks`] with a [`BlockPlayer`]; where
+//! they are to be played in pieces of many sizes too, to [`play_in_pieces`] with a [`PiecePlayer`].
 #![tactic(auto)]
 
 mod arguments;
@@ -31,15 +31,15 @@ mod files;
 mod pieces;
 mod player;
 mod quoted;
-mod written;
+mod report;
 
+pub use arguments::{FilePlayer, folder_of, play_arguments, refuse_file};
 pub use block::{Block, put_unreadable};
 pub use blocks::{BlockPlayer, play_blocks};
 pub use case::{Case, CaseError, read_case, read_joined};
 pub use clear::{Form, put_clear};
 pub use cursor::Cursor;
-pub use files::play_arguments;
+pub use files::play_lines;
 pub use pieces::{PiecePlayer, play_in_pieces};
 pub use player::{Player, Tally, play_cases};
-pub use quoted::put_quoted;
-pub use written::{put_all, put_decimal, put_text};
+pub use report::Report;

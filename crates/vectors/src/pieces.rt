@@ -3,12 +3,11 @@ use crate::block::{Block, put_unreadable};
 use crate::blocks::{BlockPlayer, play_blocks};
 use crate::case::CaseError;
 use crate::clear::Form;
-use crate::written::{put_decimal, put_text};
+use crate::report::Report;
 use http_types::NoMemory;
 use std::alloc::{AllocError, AllocGlobal, Global};
 use std::io;
-use std::process::ExitCode;
-use std::rt::{Env, Files};
+use std::rt::Files;
 
 /// What does what scripts say.
 pub trait PiecePlayer {
@@ -18,17 +17,24 @@ pub trait PiecePlayer {
     /// The longest pieces in which this script's bytes are brought, besides whole; 0 where they are brought whole alone.
     fn longest_piece(&self, script: &[&[u8]]) -> usize;
 
-    /// What the script's lines get, a line each. Bytes are brought in pieces of at most so many.
-    fn play(&self, alloc: Global, script: &[&[u8]], size: usize) -> Result<Vec<u8>, CaseError>;
+    /// Writes what the script's lines get, a line each. Bytes are brought in pieces of at most so many.
+    fn play(
+        &self,
+        alloc: Global,
+        script: &[&[u8]],
+        size: usize,
+        found: &mut Report,
+    ) -> Result<(), CaseError>;
 }
 
-/// Plays each block of the files that the program's arguments name, whole and in pieces of each size, and prints what
-/// differs and how many blocks of each file go as they have to. A failure unless all do.
-pub fn play_in_pieces<P: PiecePlayer, R: Files + Print + Env + AllocGlobal>(
+/// Plays each block of the file of this name, whole and in pieces of each size, and prints what differs and how many blocks
+/// go as they have to. Whether all do.
+pub fn play_in_pieces<P: PiecePlayer, R: Files + Print + AllocGlobal>(
     player: &P,
     rt: &R,
-) -> io::Result<ExitCode> {
-    play_blocks(&InPieces { player }, rt)
+    name: &str,
+) -> io::Result<bool> {
+    play_blocks(&InPieces { player }, rt, name)
 }
 
 // Plays blocks whole and in pieces.
@@ -46,7 +52,7 @@ impl<P: PiecePlayer, R: AllocGlobal> BlockPlayer<R> for InPieces<'_, P> {
         Form::Quoted
     }
 
-    fn play_block(&self, rt: &R, block: &Block<'_>, different: &mut Vec<u8>) -> io::Result<bool> {
+    fn play_block(&self, rt: &R, block: &Block<'_>, different: &mut Report) -> io::Result<bool> {
         Ok(play_sizes(self.player, rt.alloc(), block, different)?)
     }
 }
@@ -57,14 +63,15 @@ fn play_sizes<P: PiecePlayer>(
     player: &P,
     alloc: Global,
     block: &Block<'_>,
-    different: &mut Vec<u8>,
+    different: &mut Report,
 ) -> Result<bool, NoMemory> {
-    if !play_size(player, alloc, block, usize::MAX, b"", different)? {
+    let whole = Report::new(alloc);
+    if !play_size(player, alloc, block, usize::MAX, &whole, different)? {
         return Ok(false);
     }
     for size in 1..=player.longest_piece(block.script.as_slice()) {
-        let how = pieces_of(alloc, size)?;
-        if !play_size(player, alloc, block, size, how.as_slice(), different)? {
+        let how = pieces_of(alloc, size);
+        if !play_size(player, alloc, block, size, &how, different)? {
             return Ok(false);
         }
     }
@@ -77,23 +84,24 @@ fn play_size<P: PiecePlayer>(
     alloc: Global,
     block: &Block<'_>,
     size: usize,
-    how: &[u8],
-    different: &mut Vec<u8>,
+    how: &Report,
+    different: &mut Report,
 ) -> Result<bool, NoMemory> {
-    match player.play(alloc, block.script.as_slice(), size) {
-        Ok(found) => block.is_met(found.as_slice(), how, different),
+    let mut found = Report::new(alloc);
+    match player.play(alloc, block.script.as_slice(), size, &mut found) {
+        Ok(()) => block.is_met(&found, how, different),
         Err(CaseError::NoMemory) => Err(AllocError),
         Err(CaseError::Unreadable) => {
-            put_unreadable(block.name, different)?;
+            put_unreadable(block.name, different);
             Ok(false)
         }
     }
 }
 
 // In words, how bytes are brought in pieces of this size.
-fn pieces_of(alloc: Global, size: usize) -> Result<Vec<u8>, NoMemory> {
-    let mut how = Vec::new(alloc);
-    put_text(&mut how, ", in pieces of ")?;
-    put_decimal(&mut how, size as u64)?;
-    Ok(how)
+fn pieces_of(alloc: Global, size: usize) -> Report {
+    let mut how = Report::new(alloc);
+    how.put_text(", in pieces of ");
+    how.put_decimal(size as u64);
+    how
 }

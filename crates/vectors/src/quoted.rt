@@ -50,42 +50,6 @@ fn read_hex_digit(cursor: &mut Cursor<'_>) -> Result<u8, CaseError>
     }
 }
 
-/// Puts one byte after the text.
-pub fn put(text: &mut Vec<u8>, byte: u8) -> Result<(), NoMemory> {
-    Ok(text.push(byte)?)
-}
-
-/// Puts bytes in double quotes after the text, in the form in which vectors are written.
-pub fn put_quoted(text: &mut Vec<u8>, bytes: &[u8]) -> Result<(), NoMemory> {
-    put(text, b'"')?;
-    for byte in bytes {
-        put_byte(text, *byte)?;
-    }
-    put(text, b'"')
-}
-
-fn put_byte(text: &mut Vec<u8>, byte: u8) -> Result<(), NoMemory> {
-    match byte {
-        b'\r' => text.extend_from_slice(b"\\r"),
-        b'\n' => text.extend_from_slice(b"\\n"),
-        b'\t' => text.extend_from_slice(b"\\t"),
-        b'\\' => text.extend_from_slice(b"\\\\"),
-        b'"' => text.extend_from_slice(b"\\\""),
-        b' '..=b'~' => put(text, byte),
-        _ => {
-            text.extend_from_slice(b"\\x")?;
-            put(text, hex_digit(byte / 16))?;
-            put(text, hex_digit(byte % 16))
-        }
-    }
-}
-
-fn hex_digit(value: u8) -> u8
-    requires is_digit { value < 16 }
-{
-    if value < 10 {
-        b'0' + value
-    } else {
-        b'a' + (value - 10)
-    }
+fn put(bytes: &mut Vec<u8>, byte: u8) -> Result<(), NoMemory> {
+    Ok(bytes.push(byte)?)
 }

@@ -1,0 +1,79 @@
+//! What the headers of a message say.
+use crate::values::texts::put_mime;
+use http_types::header::CONTENT_TYPE;
+use http_types::header::names::CONTENT_ENCODING;
+use http_types::{ContentTypeError, HeaderName, NoMemory, ParseError, Request, RequestHead};
+use http_values::{ContentEncoding, Header, get_header, mime_type};
+use std::alloc::{AllocError, Global};
+use vectors::{Case, Report};
+
+// A request with headers of this name, in order; none where a value is refused.
+fn request_with(
+    alloc: Global,
+    name: HeaderName,
+    case: &Case<'_>,
+) -> Result<Option<Request<u8, ()>>, NoMemory> {
+    let mut head = RequestHead::new(alloc);
+    for argument in case.arguments.iter() {
+        match http_types::header::value_of_bytes(alloc, argument.as_slice()) {
+            Ok(value) => head.headers.append(name.clone()?, value)?,
+            Err(_) => return Ok(None),
+        }
+    }
+    Ok(Some(Request::new(head, ())))
+}
+
+/// `content-encoding VALUE ..`: the coding that a message with these values of Content-Encoding has, by both calls.
+pub fn content_encoding(
+    alloc: Global,
+    case: &Case<'_>,
+    found: &mut Report,
+) -> Result<bool, NoMemory> {
+    let Some(request) = request_with(alloc, CONTENT_ENCODING, case)? else {
+        return Ok(false);
+    };
+    let coding: Option<ContentEncoding> = get_header(alloc, &request)?;
+    match coding {
+        Some(coding) => found.quote_printed(alloc, &coding),
+        None => found.put_text("none"),
+    }
+    found.put_text(" ");
+    match ContentEncoding::parse(alloc, &request) {
+        Ok(coding) => found.quote_printed(alloc, &coding),
+        Err(ParseError::NoMemory) => found.lose(),
+        Err(_) => found.put_text("invalid"),
+    }
+    Ok(true)
+}
+
+/// `coding-header CODING`: the header that a content coding makes, and the value that it makes without a copy.
+pub fn coding_header(alloc: Global, case: &Case<'_>, found: &mut Report) -> Result<bool, NoMemory> {
+    let coding = match case.text(0) {
+        Some("br") => ContentEncoding::Brotli,
+        Some("gzip") => ContentEncoding::Gzip,
+        _ => return Ok(false),
+    };
+    let Ok((name, value)) = coding.into_pair(alloc) else {
+        return Err(AllocError);
+    };
+    found.put_quoted(name.as_str().as_bytes());
+    found.put_text(" ");
+    found.put_quoted(value.as_bytes());
+    found.put_text(" ");
+    found.put_quoted(coding.to_header_value().as_bytes());
+    Ok(true)
+}
+
+/// `content-type VALUE ..`: the media type of a message with these values of Content-Type, and its `charset`.
+pub fn content_type(alloc: Global, case: &Case<'_>, found: &mut Report) -> Result<bool, NoMemory> {
+    let Some(request) = request_with(alloc, CONTENT_TYPE, case)? else {
+        return Ok(false);
+    };
+    match mime_type(alloc, &request) {
+        Ok(Some(mime)) => put_mime(alloc, &mime, "charset", found),
+        Ok(None) => found.put_text("none"),
+        Err(ContentTypeError::NoMemory) => found.lose(),
+        Err(_) => found.put_text("invalid"),
+    }
+    Ok(true)
+}
