@@ -45,6 +45,18 @@ impl PlainService<u32> for Length {
     }
 }
 
+type Lengths = CountedService<Length>;
+
+/// Polls a call once.
+fn poll(
+    task: &MockTask,
+    service: &mut Lengths,
+    call: &mut usize,
+    queue: &mut h1::Payload,
+) -> Poll<Result<usize, PayloadError>> {
+    task.enter(|cx| service.poll_call(call, queue, cx))
+}
+
 #[test]
 fn a_service_reads_what_it_is_lent(rt: HostRuntime) -> Result<(), Fail> {
     let task = MockTask::new(&rt)?;
@@ -54,13 +66,13 @@ fn a_service_reads_what_it_is_lent(rt: HostRuntime) -> Result<(), Fail> {
     let mut call = service.call(1);
     assert!(rt;
         matches!(
-            task.enter(|cx| service.poll_call(&mut call, &mut queue, cx)),
+            poll(&task, &mut service, &mut call, &mut queue),
             Poll::Pending
         )
     );
     assert!(rt;
         matches!(
-            task.enter(|cx| service.poll_call(&mut call, &mut queue, cx)),
+            poll(&task, &mut service, &mut call, &mut queue),
             Poll::Ready(Ok(3))
         )
     );
