@@ -1,0 +1,3 @@
+//! The side of a client.
+mod heads;
+mod requests;

@@ -1,0 +1,3 @@
+//! The side of a server.
+mod ahead;
+mod calls;

@@ -1,0 +1,3 @@
+//! Heads that a forwarder passes on.
+mod answers;
+mod requests;

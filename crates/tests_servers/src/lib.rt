@@ -1,0 +1,10 @@
+//! Tests of dispatchers of frames over wires in memory, through what `ws_dispatch` makes public. These are also its only
+//! callers that are proved: they show that what its calls require can be met.
+#![tactic(auto)]
+
+#[cfg(test)]
+mod echo;
+#[cfg(test)]
+mod faults;
+#[cfg(test)]
+mod services;
