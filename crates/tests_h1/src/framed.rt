@@ -3,3 +3,23 @@ mod client;
 mod send;
 mod server;
 mod wire;
+
+use bytes::Bytes;
+use h1_framed::Codec;
+use http_types::ServiceConfig;
+use http_wires::{Framed, MemWire};
+use std::alloc::{AllocError, Global};
+
+/// A server's codec over a wire in memory. The clock of its settings stands at 0.
+type Server = Framed<MemWire, Codec>;
+
+/// Over a wire that gives these pieces, and takes so many bytes at a call, 0 as a wait, and then all.
+fn server(alloc: Global, pieces: Vec<Bytes>, room: &[usize]) -> Result<Server, AllocError> {
+    let wire = MemWire::new(alloc, pieces, room.to_vec(alloc)?, Vec::new(alloc));
+    Ok(Framed::new(alloc, wire, Codec::new(ServiceConfig::default())))
+}
+
+/// Whether these bytes were sent so far.
+fn has_sent(framed: &mut Server, text: &[u8]) -> bool {
+    framed.io_mut().sent() == text
+}

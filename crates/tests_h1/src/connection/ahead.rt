@@ -7,79 +7,118 @@ use std::test::Fail;
 
 const REQUEST: &[u8] = b"GET / HTTP/1.1\r\nhost: a\r\n\r\n";
 
-// Asks for the next head and answers it, where it is one, and notes how many heads are read ahead behind it. Whether there
-// was something is answered.
+// Writes out what waits.
+fn write(connection: &mut Connection) -> Result<(), NoMemory> {
+    if connection.can_write() {
+        let _ = connection.write(connection.buffered())?;
+    }
+    Ok(())
+}
+
+// Asks for the next head. None where there may be none.
+fn ask(connection: &mut Connection, item: &mut HeadItem) -> Result<Option<NextKind>, NoMemory> {
+    if !connection.can_next() {
+        return Ok(None);
+    }
+    let mut room = HeadRoom::new();
+    let next = connection.next_into(item, &mut room)?;
+    Ok(Some(next))
+}
+
+fn reply(connection: &mut Connection, answer: &ResponseHead) -> Result<(), NoMemory> {
+    if connection.can_answer() {
+        connection.answer(answer, BodySize::ZERO)?;
+    }
+    Ok(())
+}
+
+// Asks for the next head and answers it, where it is one: how many heads are read ahead behind it. None where there is no
+// head, and no fault either.
 fn count_next(
     connection: &mut Connection,
     item: &mut HeadItem,
     answer: &ResponseHead,
-    counts: &mut Vec<usize>,
-) -> Result<bool, NoMemory> {
-    if connection.can_write() {
-        let _ = connection.write(connection.buffered())?;
+) -> Result<Option<usize>, NoMemory> {
+    write(connection)?;
+    let next = ask(connection, item)?;
+    let ahead = connection.ahead();
+    match next {
+        Some(NextKind::Head) => reply(connection, answer)?,
+        Some(NextKind::Fault(_)) => {}
+        _ => return Ok(None),
     }
-    if !connection.can_next() {
-        return Ok(false);
-    }
-    let mut room = HeadRoom::new();
-    match connection.next_into(item, &mut room)? {
-        NextKind::Head => {}
-        NextKind::Fault(_) => {
-            counts.push(connection.ahead())?;
-            return Ok(true);
-        }
-        _ => return Ok(false),
-    }
-    counts.push(connection.ahead())?;
-    if connection.can_answer() {
-        connection.answer(answer, BodySize::ZERO)?;
-    }
-    Ok(true)
+    Ok(Some(ahead))
 }
 
-// How many heads are read ahead behind each call for the next head, where all of this is read at once.
-fn counts_of(alloc: Global, text: &[u8]) -> Result<Vec<usize>, NoMemory> {
-    let mut connection = Connection::new(alloc, ServiceConfigBuilder::new().build());
-    let mut counts = Vec::new(alloc);
-    if !connection.can_read() {
-        return Ok(counts);
-    }
-    let _ = connection.read(text)?;
-    let mut item = HeadItem::new(alloc);
-    let answer = ResponseHead::new(alloc, StatusCode::OK);
+// Notes for each head that is there how many are read ahead behind it.
+fn count_all(
+    connection: &mut Connection,
+    item: &mut HeadItem,
+    answer: &ResponseHead,
+    counts: &mut Vec<usize>,
+) -> Result<(), NoMemory> {
     for _ in 0..64 {
-        if !count_next(&mut connection, &mut item, &answer, &mut counts)? {
-            break;
+        match count_next(connection, item, answer)? {
+            Some(ahead) => counts.push(ahead)?,
+            None => break,
         }
     }
+    Ok(())
+}
+
+// A connection that has read all of this at once.
+fn with_text(alloc: Global, text: &[u8]) -> Result<Connection, NoMemory> {
+    let mut connection = Connection::new(alloc, ServiceConfigBuilder::new().build());
+    if connection.can_read() {
+        let _ = connection.read(text)?;
+    }
+    Ok(connection)
+}
+
+// How many heads are read ahead behind each call for the next head.
+fn counts_of(alloc: Global, text: &[u8]) -> Result<Vec<usize>, NoMemory> {
+    let mut connection = with_text(alloc, text)?;
+    let mut item = HeadItem::new(alloc);
+    let answer = ResponseHead::new(alloc, StatusCode::OK);
+    let mut counts = Vec::new(alloc);
+    count_all(&mut connection, &mut item, &answer, &mut counts)?;
     Ok(counts)
 }
 
-// So many requests.
-fn requests(alloc: Global, count: usize) -> Result<Vec<u8>, NoMemory> {
+// So many requests, and this text behind them.
+fn requests(alloc: Global, count: usize, rest: &[u8]) -> Result<Vec<u8>, NoMemory> {
     let mut text = Vec::new(alloc);
     for _ in 0..count {
         text.extend_from_slice(REQUEST)?;
     }
+    text.extend_from_slice(rest)?;
     Ok(text)
+}
+
+// Whether so many requests, and this text behind them, are counted so.
+fn is_counted(
+    alloc: Global,
+    count: usize,
+    rest: &[u8],
+    wanted: &[usize],
+) -> Result<bool, NoMemory> {
+    let text = requests(alloc, count, rest)?;
+    let counts = counts_of(alloc, &text)?;
+    Ok(counts.as_slice() == wanted)
 }
 
 #[test]
 fn a_head_that_is_refused_is_read_ahead_and_is_the_last(rt: HostRuntime) -> Result<(), Fail> {
-    let mut text = requests(rt.alloc(), 2)?;
-    text.extend_from_slice(b"GET\r\n\r\nGET / HTTP/1.1\r\n\r\n")?;
-    let counts = counts_of(rt.alloc(), &text)?;
-    assert!(rt; counts.as_slice() == [2, 1, 0].as_slice());
+    let refused = b"GET\r\n\r\nGET / HTTP/1.1\r\n\r\n";
+    assert!(rt; is_counted(rt.alloc(), 2, refused, &[2, 1, 0])?);
     Ok(())
 }
 
 #[test]
 fn at_most_sixteen_heads_are_read_ahead(rt: HostRuntime) -> Result<(), Fail> {
-    let text = requests(rt.alloc(), 20)?;
-    let counts = counts_of(rt.alloc(), &text)?;
     let wanted = [
         16, 15, 14, 13, 12, 11, 10, 9, 8, 7, 6, 5, 4, 3, 2, 1, 0, 2, 1, 0,
     ];
-    assert!(rt; counts.as_slice() == wanted.as_slice());
+    assert!(rt; is_counted(rt.alloc(), 20, b"", &wanted)?);
     Ok(())
 }

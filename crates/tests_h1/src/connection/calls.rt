@@ -57,26 +57,36 @@ fn is_written_in_parts(connection: &mut Connection) -> bool {
     begun == 8 && ended == 67 && first == *b"HTTP/1.1" && rest == *text
 }
 
+// Whether a request is taken, its answer begins as it has to, and is written into slices.
+fn is_served(connection: &mut Connection, head: &ResponseHead) -> Result<bool, NoMemory> {
+    let is_taken = is_taken(connection)?;
+    let is_answered = is_answered(connection, head, b"HTTP/1.1 200 OK\r\n")?;
+    Ok(is_taken && is_answered && is_written_in_parts(connection))
+}
+
 #[test]
 fn an_answer_is_written_into_slices(rt: HostRuntime) -> Result<(), Fail> {
     let mut connection = Connection::new(rt.alloc(), ServiceConfigBuilder::new().build());
-    assert!(rt; is_taken(&mut connection)?);
     let head = ResponseHead::new(rt.alloc(), StatusCode::OK);
-    assert!(rt; is_answered(&mut connection, &head, b"HTTP/1.1 200 OK\r\n")?);
-    assert!(rt; is_written_in_parts(&mut connection));
+    assert!(rt; is_served(&mut connection, &head)?);
     Ok(())
 }
 
-// Answers the open request with a body of two pieces, whose memory may be shared.
+// Sends a piece of the body, whose memory may be shared.
+fn send(connection: &mut Connection, piece: &'static [u8]) -> Result<(), NoMemory> {
+    if connection.can_chunk() {
+        connection.chunk_bytes(Bytes::from_static(piece))?;
+    }
+    Ok(())
+}
+
+// Answers the open request with a body of two pieces.
 fn answer_in_pieces(connection: &mut Connection, head: &ResponseHead) -> Result<(), NoMemory> {
     if connection.can_answer() {
         connection.answer(head, BodySize::Sized(3))?;
     }
-    for piece in [b"ab".as_slice(), b"c".as_slice()] {
-        if connection.can_chunk() {
-            connection.chunk_bytes(Bytes::from_static(piece))?;
-        }
-    }
+    send(connection, b"ab")?;
+    send(connection, b"c")?;
     if connection.can_end_answer() {
         connection.end_answer()?;
     }
@@ -93,17 +103,23 @@ fn is_followed_by(connection: &mut Connection, len: usize, next: &[u8]) -> bool 
     connection.front() == next
 }
 
+// Whether a request is taken, and the head of its answer and each piece of the body are segments of their own.
+fn has_segments(connection: &mut Connection, head: &ResponseHead) -> Result<bool, NoMemory> {
+    let is_taken = is_taken(connection)?;
+    answer_in_pieces(connection, head)?;
+    Ok(
+        is_taken
+            && is_followed_by(connection, 75, b"ab")
+            && is_followed_by(connection, 2, b"c")
+            && is_followed_by(connection, 1, b""),
+    )
+}
+
 #[test]
 fn a_head_and_each_piece_are_segments(rt: HostRuntime) -> Result<(), Fail> {
     let mut connection = Connection::new(rt.alloc(), ServiceConfigBuilder::new().build());
-    assert!(rt; is_taken(&mut connection)?);
-    answer_in_pieces(
-        &mut connection,
-        &ResponseHead::new(rt.alloc(), StatusCode::OK),
-    )?;
-    assert!(rt; is_followed_by(&mut connection, 75, b"ab"));
-    assert!(rt; is_followed_by(&mut connection, 2, b"c"));
-    assert!(rt; is_followed_by(&mut connection, 1, b""));
+    let head = ResponseHead::new(rt.alloc(), StatusCode::OK);
+    assert!(rt; has_segments(&mut connection, &head)?);
     Ok(())
 }
 

@@ -1,23 +1,20 @@
 //! The codec over a wire in memory: a request comes, and its answer leaves by short writes.
+use crate::framed::{Server, has_sent, server};
 use bytes::Bytes;
 use futures::task::Poll;
 use futures::test::MockTask;
-use h1_framed::{Codec, Message};
+use h1_framed::Message;
 use http_framing::BodySize;
-use http_types::{Response, ServiceConfig};
-use http_wires::{Framed, MemWire};
-use std::alloc::{AllocError, Global};
+use http_types::Response;
+use std::alloc::Global;
 use std::test::Fail;
 
-type Server = Framed<MemWire, Codec>;
-
-fn server(alloc: Global, texts: &[&'static [u8]], room: &[usize]) -> Result<Server, AllocError> {
-    let mut pieces = Vec::new(alloc);
-    for text in texts {
-        pieces.push(Bytes::from_static(text))?;
-    }
-    let wire = MemWire::new(alloc, pieces, room.to_vec(alloc)?, Vec::new(alloc));
-    Ok(Framed::new(alloc, wire, Codec::new(ServiceConfig::default())))
+// Whether the head of a request comes.
+fn is_asked(task: &MockTask, framed: &mut Server) -> bool {
+    matches!(
+        task.enter(|cx| framed.next_item(cx)),
+        Poll::Ready(Some(Ok(Message::Item(_))))
+    )
 }
 
 // Answers with a body of two bytes: whether all is taken.
@@ -30,21 +27,28 @@ fn is_answered(framed: &mut Server, alloc: Global) -> bool {
     is_begun && is_filled && is_ended
 }
 
+// Whether what is written waits for the wire.
+fn waits(task: &MockTask, framed: &mut Server) -> bool {
+    matches!(task.enter(|cx| framed.flush(cx)), Poll::Pending)
+}
+
+// Whether the wire takes the rest.
+fn leaves(task: &MockTask, framed: &mut Server) -> bool {
+    matches!(task.enter(|cx| framed.flush(cx)), Poll::Ready(Ok(())))
+}
+
+const ANSWER: &[u8] =
+    b"HTTP/1.1 200 OK\r\ncontent-length: 2\r\ndate: Thu, 01 Jan 1970 00:00:00 GMT\r\n\r\nhi";
+
 #[test]
 fn an_answer_leaves_by_short_writes(rt: HostRuntime) -> Result<(), Fail> {
     let task = MockTask::new(&rt)?;
-    let mut framed = server(rt.alloc(), &[b"GET /a HTTP/1.1\r\n\r\n"], &[5, 0, 40])?;
-    let item = task.enter(|cx| framed.next_item(cx));
-    assert!(rt; matches!(item, Poll::Ready(Some(Ok(Message::Item(_))))));
+    let mut pieces = Vec::new(rt.alloc());
+    pieces.push(Bytes::from_static(b"GET /a HTTP/1.1\r\n\r\n"))?;
+    let mut framed = server(rt.alloc(), pieces, &[5, 0, 40])?;
+    assert!(rt; is_asked(&task, &mut framed));
     assert!(rt; is_answered(&mut framed, rt.alloc()));
-    let first = task.enter(|cx| framed.flush(cx));
-    assert!(rt; matches!(first, Poll::Pending));
-    assert!(rt; framed.io_mut().sent() == b"HTTP/".as_slice());
-    let second = task.enter(|cx| framed.flush(cx));
-    assert!(rt; matches!(second, Poll::Ready(Ok(()))));
-    assert!(rt;
-        framed.io_mut().sent()
-            == b"HTTP/1.1 200 OK\r\ncontent-length: 2\r\ndate: Thu, 01 Jan 1970 00:00:00 GMT\r\n\r\nhi".as_slice()
-    );
+    assert!(rt; waits(&task, &mut framed) && has_sent(&mut framed, b"HTTP/"));
+    assert!(rt; leaves(&task, &mut framed) && has_sent(&mut framed, ANSWER));
     Ok(())
 }
