@@ -19,9 +19,8 @@ WHAT_IT_MEANS = {
     PROVED: "STILL PROVED: no contract refuses it",
     UNTRIED: "not tried",
 }
-# A function's first line, below its attributes and comments.
+# A function's first line.
 FUNCTION = re.compile(r"(\s*)(?:pub(?:\([^)]*\))?\s+)?(?:(?:const|unsafe|ghost|extern)\s+)*fn\s+(\w+)")
-ABOVE = re.compile(r"\s*(#\[|#!\[|//|\w.*\)\]$)")
 ANSWER = re.compile(r"must-fail ([a-z0-9_]+)/(\S+?)\.edit: (.*)")
 PLACE = re.compile(r"(?:note: )?(?:\./)?(\S+?):(\d+):\d+: ?(?:error: )?(.*)")
 
@@ -102,7 +101,8 @@ def function_at(lines, line):
         found = FUNCTION.match(lines[first])
         last = found and next((at for at in range(first + 1, len(lines)) if lines[at].startswith(f"{found[1]}}}")), first)
         if found and last >= line - 1:
-            while first > 0 and ABOVE.match(lines[first - 1]):
+            # Its attributes and comments stand right above it.
+            while first > 0 and lines[first - 1].strip() and not lines[first - 1].rstrip().endswith(("{", "}", ";")):
                 first -= 1
             return first + 1, last + 1, found[2]
     return 1, len(lines), ""

@@ -29,22 +29,27 @@ lines_of() {
         /:/ { crate = $1; sub(/:.*/, "", crate); if (crate in is_wanted) { sub(/ +$/, ""); print } }' "$root/crates.txt"
 }
 
-# The folders that the proof of a crate reads.
-sources() {
-    local crate part
-    for crate in $(below "$1"); do
+# Finds files among all that the proof of a crate reads in this repository.
+find_sources() (
+    cd -- "$root" || exit 70
+    mapfile -t crates < <(below "$1")
+    folders=()
+    for crate in "${crates[@]}"; do
         for part in src specs proofs; do
-            [ ! -d "$root/crates/$crate/$part" ] || printf '%s\0' "crates/$crate/$part"
+            [ ! -d "crates/$crate/$part" ] || folders+=("crates/$crate/$part")
         done
     done
-}
+    shift
+    find "${folders[@]}" "$@"
+)
 
 # A sum of all that the proof of a crate reads in this repository.
 sum_of_sources() (
     cd -- "$root" || exit 70
     {
-        lines_of $(below "$1")
-        sources "$1" | xargs -0 -I{} find {} -type f -print0 | LC_ALL=C sort -z | xargs -0 sha256sum
+        mapfile -t crates < <(below "$1")
+        lines_of "${crates[@]}"
+        find_sources "$1" -type f -print0 | LC_ALL=C sort -z | xargs -0 sha256sum
     } | sha256sum | cut -c1-64
 )
 
@@ -59,7 +64,7 @@ is_proved() {
     local out=$root/crates/$1/out
     [ -x "$out/$1" ] || return 1
     [ -f "$out/$1.proved" ] || [ -f "$out/$1.stamp" ] || [ -f "$out/stdout" ] || return 1
-    if [ -z "$(cd -- "$root" && { printf 'crates.txt\0'; sources "$1"; } | xargs -0 -I{} find {} -newer "$out/$1" -print -quit)" ]; then
+    if [ ! "$root/crates.txt" -nt "$out/$1" ] && [ -z "$(find_sources "$1" -newer "$out/$1" -print -quit)" ]; then
         [ -f "$out/$1.proved" ] || note_proved "$1" "$(sum_of_sources "$1")" 2>/dev/null || :
         return 0
     fi
