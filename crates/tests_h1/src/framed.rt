@@ -14,7 +14,7 @@ use std::alloc::{AllocError, Global};
 type Server = Framed<MemWire, Codec>;
 
 /// Over a wire that gives these pieces, and takes so many bytes at a call, 0 as a wait, and then all.
-fn server(alloc: Global, pieces: Vec<Bytes>, room: &[usize]) -> Result<Server, AllocError> {
+fn over_wire(alloc: Global, pieces: Vec<Bytes>, room: &[usize]) -> Result<Server, AllocError> {
     let wire = MemWire::new(alloc, pieces, room.to_vec(alloc)?, Vec::new(alloc));
     Ok(Framed::new(alloc, wire, Codec::new(ServiceConfig::default())))
 }

@@ -1,5 +1,5 @@
 //! An answer that is sent over a wire in memory.
-use crate::framed::{Server, has_sent, server};
+use crate::framed::{Server, has_sent, over_wire};
 use futures::task::Poll;
 use futures::test::MockTask;
 use h1_send::{SendResponse, send_response};
@@ -44,7 +44,7 @@ const ANSWER: &[u8] =
 #[test]
 fn an_answer_leaves_by_short_writes(rt: HostRuntime) -> Result<(), Fail> {
     let task = MockTask::new(&rt)?;
-    let framed = server(rt.alloc(), Vec::new(rt.alloc()), &[5, 0, 40])?;
+    let framed = over_wire(rt.alloc(), Vec::new(rt.alloc()), &[5, 0, 40])?;
     let answer = Response::ok(rt.alloc()).set_body("hi");
     let mut sending = send_response(rt.alloc(), framed, answer);
     assert!(rt; leaves_in_two(&task, &mut sending));

@@ -1,5 +1,5 @@
 //! The codec over a wire in memory: a request comes, and its answer leaves by short writes.
-use crate::framed::{Server, has_sent, server};
+use crate::framed::{Server, has_sent, over_wire};
 use bytes::Bytes;
 use futures::task::Poll;
 use futures::test::MockTask;
@@ -45,7 +45,7 @@ fn an_answer_leaves_by_short_writes(rt: HostRuntime) -> Result<(), Fail> {
     let task = MockTask::new(&rt)?;
     let mut pieces = Vec::new(rt.alloc());
     pieces.push(Bytes::from_static(b"GET /a HTTP/1.1\r\n\r\n"))?;
-    let mut framed = server(rt.alloc(), pieces, &[5, 0, 40])?;
+    let mut framed = over_wire(rt.alloc(), pieces, &[5, 0, 40])?;
     assert!(rt; is_asked(&task, &mut framed));
     assert!(rt; is_answered(&mut framed, rt.alloc()));
     assert!(rt; waits(&task, &mut framed) && has_sent(&mut framed, b"HTTP/"));
