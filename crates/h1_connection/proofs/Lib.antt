@@ -27,3 +27,4 @@ pub mod CutLemmas
 pub mod FrameLemmas
 pub mod NamedLemmas
 pub mod FrontLemmas
+pub mod HeldLemmas

@@ -1,5 +1,5 @@
 //! One connection: what it keeps between two events, and its answer to each.
-ghost use Rattle.std.specs.Prelude.{◌≡◌, ◌≢◌, ◌<◌, ◌≤◌, ◌↔◌, ◌++◌, ℕ, List, [], true, false, length, take, drop, min, option_map, unwrap_or, IsTrue, IfOk, IfErr, IsOk, OnOk, OnErr, IsErrOf};
+ghost use Rattle.std.specs.Prelude.{◌≡◌, ◌≢◌, ◌<◌, ◌≤◌, ◌-◌, ◌↔◌, ◌++◌, ℕ, List, [], true, false, length, take, drop, min, option_map, unwrap_or, IsTrue, IfOk, IfErr, IsOk, OnOk, OnErr, IsErrOf};
 ghost use Rattle.std.specs.Io.KnownBytes.{Consumes, Keeps, IsAtEnd};
 ghost use Rattle.http_config.specs.Causes.{Rose, counted, IsAsked};
 ghost use Rattle.h1_codec.specs.Meaning.{answer_of, size_of};
@@ -11,6 +11,7 @@ ghost use Rattle.h1_model.specs.Sums as sums;
 ghost use Rattle.h1_model.specs.Text.{buffered};
 ghost use Rattle.h1_model.specs.Trace as traces;
 ghost use Rattle.h1_model.specs.Event as on;
+ghost use Rattle.h1_machine.specs.Kept.{is_free};
 ghost use Rattle.h1_machine.specs.Local.{closing_by, allowed_by};
 ghost use Rattle.h1_ahead_model.specs.Ahead.{IsAhead};
 ghost use Rattle.h1_segment_model.specs.Runs.{first_segment, IsFirstSegment};
@@ -139,6 +140,18 @@ impl Connection {
         ensures limit { (trace : List sums.Step) → Stands self.now trace → result ≤ self.now.settings.h1_hold_size }
     {
         self.parts.input.len()
+    }
+
+    /// The bytes of the input that are held, from place `start` on, as many as lie together: who goes on behind the last of
+    /// them sees all. They lie together while something is left to do for the last request, unless heads were read ahead of
+    /// it: so what came behind a request that hands the connection over, by an upgrade or CONNECT, is one piece.
+    pub fn held_bytes(&self, start: usize) -> &[u8]
+        ensures first { (rest : List ℕ) × (result.now ++ rest ≡ drop start self.now.kept.unread) }
+        ensures some { start < length self.now.kept.unread → 0 < length result.now }
+        ensures fits { length result.now ≤ length self.now.kept.unread - start }
+        ensures whole { is_free self.now.kept ≡ false → self.now.ahead ≡ 0 → result.now ≡ drop start self.now.kept.unread }
+    {
+        self.parts.input.bytes_from(start)
     }
 
     /// How many heads were read ahead of the one that was handed out last: at most 16. They are handed out by the next

@@ -72,6 +72,13 @@ impl Input {
         self.bytes.len()
     }
 
+    /// The bytes that are held.
+    pub fn as_slice(&self) -> &[u8]
+        ensures { result.now ≡ self.now.unread }
+    {
+        self.bytes.as_slice()
+    }
+
     /// The places where the next head begins and ends, where a whole one is there.
     pub fn piece(&self) -> Option<(usize, usize)>
         ensures { result ≡ place_in self.now.piece }

@@ -101,6 +101,13 @@ impl ClientConnection {
         self.parts.waiting.len()
     }
 
+    /// The bytes of the input that are held: those that were taken and not passed.
+    pub fn held_bytes(&self) -> &[u8]
+        ensures { result.now ≡ self.now.kept.unread }
+    {
+        self.parts.input.as_slice()
+    }
+
     /// How many more bytes of the input may be held. A read takes no more.
     pub fn read_room(&self) -> usize
         ensures { result ≡ self.now.settings.h1_hold_size - length self.now.kept.unread }

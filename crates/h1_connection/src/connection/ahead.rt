@@ -1,5 +1,5 @@
 // Heads that were read before they are asked for.
-ghost use Rattle.std.specs.Prelude.{◌≡◌, ◌<◌, ◌≤◌, ◌+◌, ◌^◌, ◌++◌, ℕ, List, [], ◌∷◌, None, true, false, not, length, take, IfSome, IfNone, IfOk, IfErr, OnOk, OnErr};
+ghost use Rattle.std.specs.Prelude.{◌≡◌, ◌<◌, ◌≤◌, ◌+◌, ◌^◌, ◌++◌, ℕ, List, [], ◌∷◌, None, true, false, not, length, take, drop, IfSome, IfNone, IfOk, IfErr, OnOk, OnErr};
 ghost use Rattle.http_framing.specs.Kinds.{kind_of};
 ghost use Rattle.h1_decode.specs.Refusal.{UnlessNoMemory, fault_of};
 ghost use Rattle.h1_model.specs.HeadPiece.{IsHeadPiece};
@@ -190,6 +190,14 @@ impl Ahead {
         self.held
     }
 
+    /// Their bytes from place `start` on, as many as lie together.
+    pub fn bytes_from(&self, start: usize) -> &[u8]
+        ensures first { (rest : List ℕ) × (result.now ++ rest ≡ drop start (joined self.now)) }
+        ensures some { start < length (joined self.now) → 0 < length result.now }
+    {
+        bytes_from(&self.slots[self.passed..self.passed + self.count], start)
+    }
+
     /// Whether one more may be read behind them.
     pub fn may_go_on(&self) -> bool
         ensures value { result ≡ may_go_on self.now }
@@ -283,6 +291,23 @@ impl Ahead {
         self.count = 0;
         self.held = 0;
         piece
+    }
+}
+
+// The bytes of heads that stand one behind another, from place `start` on, as many as lie together.
+fn bytes_from(slots: &[Slot], start: usize) -> &[u8]
+    ensures first { (rest : List ℕ) × (result.now ++ rest ≡ drop start (joined slots.now)) }
+    ensures some { start < length (joined slots.now) → 0 < length result.now }
+{
+    match slots.split_first() {
+        None => &[],
+        Some((slot, more)) => {
+            let size = slot.piece.len();
+            if start < size {
+                return &slot.piece.as_slice()[start..];
+            }
+            bytes_from(more, start - size)
+        }
     }
 }
 

@@ -118,6 +118,20 @@ impl Input {
         self.head_bytes.len() + self.bytes.len()
     }
 
+    /// The bytes that are held, from place `start` on, as many as lie together.
+    pub fn bytes_from(&self, start: usize) -> &[u8]
+        ensures first { (rest : List ℕ) × (result.now ++ rest ≡ drop start self.now.unread) }
+        ensures some { start < length self.now.unread → 0 < length result.now }
+        ensures whole { self.now.piece ≡ None → result.now ≡ drop start self.now.unread }
+    {
+        let _ = &self.search;
+        let cut = self.head_bytes.len();
+        if start < cut {
+            return &self.head_bytes.as_slice()[start..];
+        }
+        behind(self.bytes.as_slice(), start - cut)
+    }
+
     /// Whether a whole head is there.
     pub fn is_coming(&self) -> bool
         ensures { result ≡ is_coming_in self.now.piece }
@@ -384,6 +398,17 @@ impl Input {
         if self.head_bytes.is_empty() {
             rest.end_input(&self.bytes);
         }
+    }
+}
+
+// The bytes behind the first `start`: none where there are no more.
+fn behind(bytes: &[u8], start: usize) -> &[u8]
+    ensures { result.now ≡ drop start bytes.now }
+{
+    if start < bytes.len() {
+        &bytes[start..]
+    } else {
+        &[]
     }
 }
 

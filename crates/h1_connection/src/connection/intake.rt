@@ -1,5 +1,5 @@
 // What a connection holds of its input, with the heads that were read ahead.
-ghost use Rattle.std.specs.Prelude.{◌≡◌, ◌≢◌, ◌≤◌, ◌<◌, ◌-◌, ◌^◌, ◌++◌, ◌↔◌, ℕ, Bool, List, [], Some, None, ◌∷◌, length, take, min, true, false, is_some, IfSome, IfNone, IfOk, IfErr, IsOk, OnOk, OnErr, IsErrOf};
+ghost use Rattle.std.specs.Prelude.{◌≡◌, ◌≢◌, ◌≤◌, ◌<◌, ◌-◌, ◌^◌, ◌++◌, ◌↔◌, ℕ, Bool, List, [], Some, None, ◌∷◌, length, take, drop, min, true, false, is_some, IfSome, IfNone, IfOk, IfErr, IsOk, OnOk, OnErr, IsErrOf};
 ghost use Rattle.std.specs.Io.KnownBytes.{Consumes, Keeps, IsAtEnd};
 ghost use Rattle.http_config.specs.Causes.{Rose, counted, IsAsked};
 ghost use Rattle.h1_decode.specs.HeadItem.{without_headers};
@@ -84,6 +84,21 @@ impl Intake {
         ensures { result ≡ length self.now.unread }
     {
         self.ahead.held() + self.input.len()
+    }
+
+    /// The bytes that are held, from place `start` on, as many as lie together: all of them where no head is searched for
+    /// and none was read ahead.
+    pub fn bytes_from(&self, start: usize) -> &[u8]
+        ensures first { (rest : List ℕ) × (result.now ++ rest ≡ drop start self.now.unread) }
+        ensures some { start < length self.now.unread → 0 < length result.now }
+        ensures whole { self.now.piece ≡ None → self.now.ahead ≡ 0 → result.now ≡ drop start self.now.unread }
+    {
+        let _ = &self.turn;
+        let ahead = self.ahead.held();
+        if start < ahead {
+            return self.ahead.bytes_from(start);
+        }
+        self.input.bytes_from(start - ahead)
     }
 
     /// How many heads were read ahead of the one that was handed out last.
