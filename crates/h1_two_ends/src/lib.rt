@@ -55,8 +55,8 @@
 //! - A refusal (400, 408, 431) isn't plain. It is no answer to a request; no plain request gets one, unless it comes too late.
 //! - Nothing is said of time, and not that bytes which were written ever come.
 //!
-//! What both do then is shown by worked talks alone: in `ends_vectors` a client and a server are played against each other over
-//! each cut of their bytes, with upgrades, bodies to the end of the input, HTTP/1.0, and bodies that fail.
+//! What both do then is shown by worked talks alone: in `vectors_exchanges` a client and a server are played against each
+//! other over each cut of their bytes, with upgrades, bodies to the end of the input, HTTP/1.0, and bodies that fail.
 //!
 //! These are plain, though they may not look so:
 //!

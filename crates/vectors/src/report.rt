@@ -1,4 +1,6 @@
 //! What a player writes.
+ghost use Rattle.std.specs.Prelude.{◌<◌};
+
 use http_types::{HeaderMap, NoMemory};
 use std::alloc::{AllocError, Global};
 use std::fmt::Display;

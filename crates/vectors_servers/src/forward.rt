@@ -77,7 +77,7 @@ fn take(
             let bytes = read_joined(alloc, &mut cursor)?;
             read_server(proxy, bytes.as_slice(), size, found);
         }
-        b"replies" => replies(alloc, proxy, found),
+        b"replies" => noted(alloc, proxy, found),
         _ => return plain(proxy, word, found),
     }
     Ok(())
@@ -190,7 +190,7 @@ fn note(proxy: &mut Proxy, found: &mut Report) {
 }
 
 // `replies`: those that were noted since the last such line.
-fn replies(alloc: Global, proxy: &mut Proxy, found: &mut Report) {
+fn noted(alloc: Global, proxy: &mut Proxy, found: &mut Report) {
     let replies = proxy.take_replies();
     put_replies(alloc, replies.as_slice(), found);
 }

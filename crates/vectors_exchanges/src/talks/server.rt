@@ -132,7 +132,8 @@ fn send(server: &mut Connection, bytes: &Bytes) -> Result<(), NoMemory> {
     if !server.can_send() {
         return Ok(());
     }
-    server.send(&message)
+    server.send(&message)?;
+    Ok(())
 }
 
 fn send_body(server: &mut Connection, body: &Body, handed: &mut Handed) {

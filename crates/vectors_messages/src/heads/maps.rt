@@ -52,13 +52,22 @@ pub fn edit(alloc: Global, case: &Case<'_>, found: &mut Report) -> Result<bool, 
     let Some(mut map) = map_of(alloc, case, 3)? else {
         return Ok(false);
     };
-    let Some(removed) = edited(alloc, case, &mut map)? else {
+    put_edit(alloc, case, &mut map, found)
+}
+
+fn put_edit(
+    alloc: Global,
+    case: &Case<'_>,
+    map: &mut HeaderMap,
+    found: &mut Report,
+) -> Result<bool, NoMemory> {
+    let Some(removed) = edited(alloc, case, map)? else {
         return Ok(false);
     };
     found.put_text("taken ");
     put_removed(removed, found);
     found.put_text(" left ");
-    put_map_twice(alloc, &map, found);
+    put_map_twice(alloc, map, found);
     Ok(true)
 }
 

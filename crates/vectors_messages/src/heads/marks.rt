@@ -5,7 +5,7 @@ use http_types::{
     ConnectionType, HttpMessage, Method, NoMemory, ParseError, Request, RequestHead, ResponseHead,
     StatusCode, Version,
 };
-use std::alloc::{AllocError, Global};
+use std::alloc::Global;
 use vectors::{Case, Report};
 
 /// `connection VERSION MARK ..`: what a head of this version with these marks makes of its connection.

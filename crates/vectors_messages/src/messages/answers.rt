@@ -38,22 +38,25 @@ fn head_of(alloc: Global, case: &Case<'_>) -> Result<Option<ResponseHead>, NoMem
         return Ok(None);
     };
     let mut head = ResponseHead::new(alloc, status);
-    let mut index = FIXED_ARGUMENTS;
-    for _ in 0..case.arguments.len() {
-        if index.saturating_add(1) >= case.arguments.len() {
-            break;
-        }
-        if !put_header(
-            alloc,
-            &mut head,
-            case.argument(index),
-            case.argument(index + 1),
-        )? {
-            return Ok(None);
-        }
-        index += 2;
+    if !put_headers(alloc, &mut head, case)? {
+        return Ok(None);
     }
     Ok(Some(head))
+}
+
+// Appends the headers that the arguments name, and says whether they are such.
+fn put_headers(alloc: Global, head: &mut ResponseHead, case: &Case<'_>) -> Result<bool, NoMemory> {
+    for header in case
+        .arguments
+        .get(FIXED_ARGUMENTS..)
+        .unwrap_or_default()
+        .chunks_exact(2)
+    {
+        if !put_header(alloc, head, header[0].as_slice(), header[1].as_slice())? {
+            return Ok(false);
+        }
+    }
+    Ok(true)
 }
 
 fn status_of(case: &Case<'_>) -> Option<StatusCode> {

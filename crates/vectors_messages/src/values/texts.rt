@@ -5,7 +5,7 @@ use http_values::{
     QualityItem, ReadError, fmt_comma_delimited, from_comma_delimited, from_one_raw_str,
     http_percent_encode, parse_extended_value, q,
 };
-use std::alloc::{AllocError, Global};
+use std::alloc::Global;
 use std::fmt::{self, Display};
 use vectors::{Case, Report};
 
