@@ -137,8 +137,9 @@ def main(names):
     processors = min(lanes, len(os.sched_getaffinity(0)))
     whole = sum(it.proof for it in costs.values())
     by = "by docs/DEVELOPING.md" if wanted <= set(known) else "by a rough rule"
-    print(f"prove: {len(costs)} crates, some {whole:.0f} processor minutes from nothing ({by}): about {minutes_on(processors, tasks_of(costs, on)):.0f} "
-          f"minutes on {processors} processors, less what rt ci has proved of the same files on this machine")
+    minutes = minutes_on(processors, tasks_of(costs, on))
+    print(f"prove: the proof of {len(costs)} crates takes some {max(whole, 1):.0f} processor minutes from nothing ({by}), about {max(minutes, 1):.0f} on "
+          f"{processors} processors, less what rt ci has proved of the same files on this machine")
 
 
 if __name__ == "__main__":
