@@ -204,7 +204,11 @@ def write_table(crate, edits, day, root=ROOT):
     others = [f"`{it.name}`: {it.outcome}" for it in edits if it.outcome != GOAL]
     good = len(edits) - len(others)
     told = "all" if not others else f"{good}; " + ", ".join(others)
-    rows = {**read_rows(root), crate: [f"`{crate}`", str(len(edits)), day, told, text_of(crate, root)]}
+    write_rows({**read_rows(root), crate: [f"`{crate}`", str(len(edits)), day, told, text_of(crate, root)]}, root)
+
+
+def write_rows(rows, root=ROOT):
+    """Writes the table with these rows, and one that says never for each other crate with edits."""
     every = {name: edits_of(name, root) for name in sorted(os.listdir(f"{root}/crates"))}
     every = {name: its for name, its in every.items() if its}
     lines = [rows.get(name, [f"`{name}`", str(len(its)), "never", "", ""]) for name, its in every.items()]
