@@ -87,7 +87,7 @@ def usage_clients(program):
             return differs(done.returncode, status) or (None if wanted in done.stdout + done.stderr else (done.stdout + done.stderr)[:200])
         check("forwarder, " + name, make)
     ends("--help", 0, b"h1_forward PORT SERVER", "--help")
-    ends("--version", 0, b"h1_forward ", "--version")
+    ends("--version", 0, b"h1_forward 0.1.0\n", "--version")
     ends("no words", 2, b"a port and a server are wanted")
     ends("a port that is none", 2, b"at most 65535", "70000", "80")
     ends("a server that is none", 2, b"127.0.0.1:8080", "0", "nowhere")
@@ -178,6 +178,23 @@ def socket_clients(forwarder, server):
         return differs(statuses_of(seen)[:1], [b"413"])
     check("forwarder, an answer before the body was sent", early)
 
+    def early_end():
+        # What waits towards the server depends on the system's buffers, so several sizes are tried.
+        for size in range(130_000, 260_001, 10_000):
+            with connect(address) as sock:
+                sock.settimeout(4)
+                sock.sendall(b"POST /early-end HTTP/1.1\r\nhost: a\r\ncontent-length: %d\r\n\r\n" % size + b"x" * size)
+                first = sock.recv(65536)
+                time.sleep(0.1)
+                try:
+                    sock.sendall(LAST % b"")
+                    second = read_all(sock)
+                except OSError as error:
+                    return f"after a body of {size}: {error}"
+            if (statuses_of(first), statuses_of(second)) != ([b"200"], [b"200"]):
+                return f"after a body of {size}: {first[:100]} {second[:100]}"
+    check("forwarder, a server that answers early, reads no more and ends, and the next request", early_end)
+
     def broken_body():
         seen = exchange(address, b"POST /echo HTTP/1.1\r\nhost: a\r\ntransfer-encoding: chunked\r\n\r\n5\r\nhello\r\nzz\r\n")
         return differs(statuses_of(seen), [b"400"])
@@ -256,7 +273,16 @@ def silent_clients(address):
         thread = threading.Thread(target=check, args=(f"forwarder, a server with {name} for 60 seconds", make))
         thread.start()
         return thread
-    return [waits("no answer", b"silent"), waits("interim answers", b"endless")]
+
+    def half():
+        start = time.monotonic()
+        seen = exchange(address, LAST % b"half-silent", 100)
+        return differs((statuses_of(seen), b"half" in seen, seen.endswith(b"0\r\n\r\n")), ([b"200"], True, False)) \
+            or differs(55 < time.monotonic() - start < 75, True)
+    name = "forwarder, a server that is silent within a body to the end for 60 seconds: the client gets no end"
+    thread = threading.Thread(target=check, args=(name, half))
+    thread.start()
+    return [waits("no answer", b"silent"), waits("interim answers", b"endless"), thread]
 
 
 # ---- what arrives

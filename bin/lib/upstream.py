@@ -86,6 +86,12 @@ class Conversation:
         if path == "early":
             self.say(b"HTTP/1.1 413 Too Large\r\ncontent-length: 0\r\nconnection: close\r\n\r\n")
             return False
+        if path == "early_end":
+            # It reads nothing of the body and sends no more, and its socket stays open.
+            self.say(b"HTTP/1.1 200 OK\r\ncontent-length: 2\r\n\r\nok")
+            self.sock.shutdown(socket.SHUT_WR)
+            time.sleep(5)
+            return False
         body = self.body(head)
         if body is None:
             return False
@@ -187,6 +193,12 @@ class Conversation:
         self.say(b"HTTP/1.1 200 OK\r\n\r\nhalf")
         time.sleep(0.3)
         self.sock.setsockopt(socket.SOL_SOCKET, socket.SO_LINGER, struct.pack("ii", 1, 0))
+        return False
+
+    def at_half_silent(self, method, head, body):
+        """Half of a body to the end, and then nothing."""
+        self.say(b"HTTP/1.1 200 OK\r\n\r\nhalf")
+        time.sleep(90)
         return False
 
     def at_silent(self, method, head, body):

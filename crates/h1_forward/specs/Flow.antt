@@ -20,7 +20,8 @@ FollowsClient came.End old now new = GoesBy event.client_eof done old new
 FollowsClient came.Failed old now new = new ≡ old
 FollowsClient came.Full old now new = new ≡ old
 
--- The connection to the server broke: where an answer is under way its client is let go, and else it is told that the server has ended.
+-- The connection to the server broke, or it is given up: where an answer is under way its client is let go, and else it is told that the server
+-- has ended.
 abbrev pub BreaksOff : Proxy → Stage → Proxy → Type 0
 BreaksOff old now new = ((is_answering old ≡ true) × (new ≡ old) × (now ≡ stage.Lost)) ⊎ ((is_answering old ≡ false) × EndsServer old new)
 

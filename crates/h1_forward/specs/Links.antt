@@ -1,7 +1,9 @@
 -- What is told of the socket to the server.
 use Rattle.std.specs.Prelude.{◌≡◌, Bool, true, false}
 use Rattle.h1_proxy.specs.declared.proxy.Proxy.{Proxy}
-use Rattle.h1_forward_loop.specs.History.{EndsServer, Connects, Refuses}
+use Rattle.h1_forward_loop.specs.History.{Connects, Refuses}
+use Rattle.h1_forward.specs.Flow.{BreaksOff}
+use Rattle.h1_forward.specs.declared.standing.Stage.{Stage}
 use Rattle.h1_forward.specs.declared.link.Link.{Link}
 use Rattle.h1_forward.specs.declared.link.Link.TheVariants as link
 
@@ -12,9 +14,10 @@ Finishes (link.Connecting stream) false old new = Refuses old new
 Finishes (link.Open stream) is_there old new = new ≡ old
 Finishes link.None is_there old new = new ≡ old
 
--- A server that isn't waited for any longer: where one doesn't connect, it is told that none can be had, and of another one that it has
--- ended, each where it may be told.
-abbrev pub GivesUp : Link → Proxy → Proxy → Type 0
-GivesUp (link.Connecting stream) old new = Refuses old new
-GivesUp (link.Open stream) old new = EndsServer old new
-GivesUp link.None old new = EndsServer old new
+-- A server that isn't waited for any longer. Where one doesn't connect, it is told that none can be had, where that may be told. Where an
+-- answer of another one is under way, its client is let go and nothing is told: so an answer that goes on until its server ends isn't taken
+-- for a whole one. Where none is, it is told that the server has ended, where that may be told.
+abbrev pub GivesUp : Link → Proxy → Stage → Proxy → Type 0
+GivesUp (link.Connecting stream) old now new = Refuses old new
+GivesUp (link.Open stream) old now new = BreaksOff old now new
+GivesUp link.None old now new = BreaksOff old now new

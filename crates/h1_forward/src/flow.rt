@@ -119,9 +119,9 @@ fn follow_server(
     }
 }
 
-// The connection to the server broke. Its end doesn't tell that an answer is whole, so the client is let go where one is under
-// way.
-fn break_off(forwarder: &mut Forwarder, standing: &mut Standing) -> Result<(), NoMemory>
+/// The connection to the server broke, or it was silent for too long. That doesn't tell that an answer is whole, so the client
+/// is let go where one is under way.
+pub fn break_off(forwarder: &mut Forwarder, standing: &mut Standing) -> Result<(), NoMemory>
     ensures { OnOk result (BreaksOff forwarder.old standing.new.stage forwarder.new) }
 {
     if forwarder.proxy().is_answering() {

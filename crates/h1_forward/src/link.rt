@@ -3,7 +3,7 @@ ghost use Rattle.std.specs.Prelude.{OnOk};
 ghost use Rattle.h1_forward.specs.Flow.{GivesBack};
 ghost use Rattle.h1_forward.specs.Links.{GivesUp, Finishes};
 
-use crate::flow::{hear_server, tell_server};
+use crate::flow::{break_off, hear_server, tell_server};
 use crate::slot::Shared;
 use crate::standing::{Ready, Standing};
 use crate::upstream::Begun;
@@ -136,15 +136,19 @@ impl Link {
         tell_server(forwarder, standing, &mut sink, uptime)
     }
 
-    /// The server isn't waited for any longer: the client gets 502, or a reply that is cut.
-    pub fn give_up(&mut self, forwarder: &mut Forwarder) -> Result<(), NoMemory>
-        ensures { OnOk result (GivesUp self.old forwarder.old forwarder.new) }
+    /// The server isn't waited for any longer: the client gets 502, or is let go where an answer is under way, which so is
+    /// never taken for a whole one.
+    pub fn give_up(
+        &mut self,
+        forwarder: &mut Forwarder,
+        standing: &mut Standing,
+    ) -> Result<(), NoMemory>
+        ensures { OnOk result (GivesUp self.old forwarder.old standing.new.stage forwarder.new) }
     {
         if let Link::Connecting(_) = self {
             return self.finish(forwarder, false);
         }
-        forwarder.server_eof()?;
-        Ok(())
+        break_off(forwarder, standing)
     }
 
     /// Gives a connection on which nothing is under way back. The forwarder is told that it has ended.

@@ -1,6 +1,6 @@
 -- Where all that came from a server was read, and a turn begins.
-use Rattle.std.proofs.Common.{◌≡◌, ℕ, Bool, true, false, not, ◌&&◌, ◌||◌, inl, inr, List, [], ◌∷◌, ◌++◌, length, Option, Some, None, refl, sym, ap, ◌∙◌, subst, append_assoc, append-nil}
-use Rattle.std.specs.Prelude.{is_some, option_map, if◌then◌else◌}
+use Rattle.std.proofs.Common.{◌≡◌, ℕ, Bool, true, false, not, ◌&&◌, ◌||◌, ◌⊎◌, inl, inr, List, [], ◌∷◌, ◌++◌, length, Option, Some, None, refl, sym, ap, ◌∙◌, subst, append_assoc, append-nil}
+use Rattle.std.specs.Prelude.{nat_lt, is_some, option_map, if◌then◌else◌}
 use Rattle.std.proofs.lemmas.Bool.{false≢true, true≢false}
 use Rattle.std.proofs.lemmas.List.{nil_from_length}
 use Rattle.h1_model.specs.Setting.{Setting}
@@ -20,10 +20,19 @@ use Rattle.h1_codec.specs.Meaning.{size_of}
 use Rattle.h1_forward_sides.specs.Sides.{MayAsk}
 use Rattle.h1_proxy.specs.declared.proxy.Proxy.{Proxy}
 use Rattle.h1_proxy.specs.declared.proxy.Unsent.{Unsent}
-use Rattle.h1_proxy.specs.Rests.{may_turn}
-use Rattle.h1_proxy.specs.Fresh.{HasReadAll, is_used, is_server_used, IsToldTime, CannotSend, WaitsOn, SendsOrWaits, SendsWhereItCan, IsReadFrom}
+use Rattle.h1_proxy.specs.declared.proxy.Sent.{Sent}
+use Rattle.h1_forward_model.specs.Rests.{MAX_WAITING}
+use Rattle.h1_proxy.specs.Kept.{is_closing}
+use Rattle.h1_proxy.specs.Rests.{may_begin, is_over, may_turn}
+use Rattle.h1_proxy.specs.Fresh.{HasReadAll, is_used, is_server_used, IsToldTime, CannotSend, WaitsOn, SendsOrWaits, SendsWhereItCan, ClosesOver, BeginsWhereItMay, IsReadFrom}
 
 -- ---- a turn
+
+second_true : (a b c : Bool) → (a && b && c) ≡ true → b ≡ true
+second_true true true c is = refl
+second_true true false c is = is
+second_true false true c is = refl
+second_true false false c is = is
 
 not_false : (b : Bool) → not b ≡ false → b ≡ true
 not_false true is = refl
@@ -31,6 +40,41 @@ not_false false is = absurd (true≢false is)
 
 pub may_of : (still : Bool) (p : Proxy) → still ≡ not (may_turn p) → still ≡ false → may_turn p ≡ true
 may_of still p is now = not_false (may_turn p) (sym is ∙ now)
+
+-- a turn that is made, by what it does where the server connection is to end
+pub begins_by : (p q : Proxy) → may_turn p ≡ true → ClosesOver p q → BeginsWhereItMay p q
+begins_by p q may closes = inr (may, by_sent p.sent refl)
+  where
+    only_over : (s : Option Sent) (room over : Bool) → (room || over) ≡ true → (over ≡ true → s ≡ None → q ≡ record p { server = None }) → s ≡ None
+        → (room ≡ true) ⊎ ((over ≡ true) × (q ≡ record p { server = None }))
+    only_over s true over is closes none = inl refl
+    only_over s false over is closes none = inr (is, closes is none)
+
+    by_sent : (s : Option Sent) → p.sent ≡ s → (may_begin p.sent p.server ≡ true) ⊎ ((is_over p.server ≡ true) × (q ≡ record p { server = None }))
+    by_sent (Some s) is = inl (ap (λ (t : Option Sent). may_begin t p.server) is)
+    by_sent None is =
+        only_over p.sent (may_begin p.sent p.server) (is_over p.server)
+        (second_true (nat_lt (length p.client.kept.buffered) MAX_WAITING) (may_begin p.sent p.server || is_over p.server) (not (is_closing p)) may) closes is
+
+-- the same where a request that waits was taken out
+pub closes_of_unsent : (p q : Proxy) (u : Option Unsent) → p.unsent ≡ u → ClosesOver (record p { unsent = u }) q → ClosesOver p q
+closes_of_unsent p q u is x = subst (λ (o : Option Unsent). ClosesOver (record p { unsent = o }) q) (sym is) x
+
+-- a server connection that goes on
+pub goes_on_closes : (p q : Proxy) → is_over p.server ≡ false → ClosesOver p q
+goes_on_closes p q goes = λ over none. absurd (false≢true (sym goes ∙ over))
+
+-- a request that was sent on
+pub sent_closes : (p q : Proxy) (s : Sent) → p.sent ≡ Some s → ClosesOver p q
+sent_closes p q s is = λ over none. let no : ◌≡◌ {A = Option Sent} (Some s) None = sym is ∙ none in absurd (cc no)
+
+-- one that waits isn't sent on over a connection that is to end
+pub over_used : (o : Option servers.State) → is_over o ≡ true → is_server_used o ≡ true
+over_used None over = absurd (false≢true over)
+over_used (Some s) over = ap (λ (b : Bool). b || is_waited_for s.kept.waiting || not (client_allows (asking.setting_of s.settings) s.kept asked.next)) over
+
+pub unused_closes : (p q : Proxy) → is_server_used p.server ≡ false → ClosesOver p q
+unused_closes p q unused = λ over none. absurd (false≢true (sym unused ∙ over_used p.server over))
 
 -- none waited
 pub idle_sends : (p q : Proxy) → p.unsent ≡ None → SendsWhereItCan p q

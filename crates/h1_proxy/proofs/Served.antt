@@ -1,10 +1,10 @@
 -- What a forwarder's moves make of what its client waits for.
-use Rattle.std.proofs.Common.{◌≡◌, ◌⊎◌, inl, inr, ℕ, Bool, true, false, not, ◌&&◌, List, ◌∷◌, Option, Some, None, refl, sym, ap, ap₂, ◌∙◌, subst, subst₂}
+use Rattle.std.proofs.Common.{◌≡◌, ◌⊎◌, inl, inr, ℕ, ◌≤◌, Bool, true, false, not, ◌&&◌, ◌||◌, List, ◌∷◌, Option, Some, None, refl, sym, ap, ap₂, ◌∙◌, subst, subst₂}
 use Rattle.std.specs.Prelude.{[], IsTrue, zero, suc, is_some, is_none, if◌then◌else◌, length, map, nat_lt}
 use Rattle.std.specs.Option.{option_or}
 use Rattle.std.proofs.lemmas.Option.{none-some, same_Some}
 use Rattle.std.proofs.Math.Dec.{eqb-suc-zero}
-use Rattle.std.proofs.lemmas.Bool.{false≢true, true≢false}
+use Rattle.std.proofs.lemmas.Bool.{false≢true, true≢false, ltb-false}
 use Rattle.http_config.specs.Config.{Settings}
 use Rattle.h1_model.specs.Event as on
 use Rattle.h1_model.specs.Answer.{asked_of, BodySize, is_at_once}
@@ -23,6 +23,8 @@ use Rattle.h1_decode.specs.declared.decoder.HeadItem.{HeadItem}
 use Rattle.h1_connection.specs.Meaning.{setting_of}
 use Rattle.h1_connection.specs.State.{State, GoesOn, Is, IsAllowed, fresh_state}
 use Rattle.h1_connection.specs.declared.connection.heads.NextHead.TheVariants as next
+use Rattle.h1_client_machine.specs.ClientEvent.{ClientEnd}
+use Rattle.h1_client_machine.specs.ClientKept.{client_closing}
 use Rattle.h1_client.specs.State as servers
 use Rattle.h1_forward_left.specs.Wants as wanted
 use Rattle.h1_forward_left.proofs.Wants.{asked_by}
@@ -38,10 +40,10 @@ use Rattle.h1_proxy.specs.declared.proxy.Sent.{Sent}
 use Rattle.h1_proxy.specs.Kept.{Forwards, Runs, IsIdle, is_closing, wants_server}
 use Rattle.h1_proxy.proofs.EventMoves.{three_parts, some_unsent}
 use Rattle.h1_forward_model.specs.Rests.{MAX_WAITING}
-use Rattle.h1_proxy.specs.Rests.{IsNoted, may_begin, may_turn, RestsBy, RestsWhereItMay}
+use Rattle.h1_proxy.specs.Rests.{IsNoted, may_begin, is_over, may_turn, IsFull, IsHeldUp, RestsBy, RestsWhereItMay}
 use Rattle.h1_proxy.specs.Served.{FitsAnswer, Fits, IsServed, Serves, HasTrace, Serving, GoesOnServing, HasNoReply, HasNoReplyTo, WantsNothing, IsKeptAs, IsNewestBy}
 use Rattle.h1_proxy.specs.Replies.{Marks, marks_of}
-use Rattle.h1_proxy.proofs.Work.{told_of, third_true}
+use Rattle.h1_proxy.proofs.Work.{told_of, third_true, not_false}
 
 -- ---- the client's connection
 
@@ -272,7 +274,7 @@ module _ (client : State) (runs : is_running (setting_of client.settings) client
   next_left None None o fits rests waits going allowed = rests.head allowed
 
 not_closing : (p : Proxy) → may_turn p ≡ true → is_closing p ≡ false
-not_closing p may = third_true (nat_lt (length p.client.kept.buffered) MAX_WAITING) (may_begin p.sent p.server) (is_closing p) may
+not_closing p may = third_true (nat_lt (length p.client.kept.buffered) MAX_WAITING) (may_begin p.sent p.server || is_over p.server) (is_closing p) may
 
 running_of : (p : Proxy) → may_turn p ≡ true → p.client.kept.is_over ≡ false → is_running (setting_of p.client.settings) p.client.kept ≡ true
 running_of p may over =
@@ -281,6 +283,33 @@ running_of p may over =
     none_of : (e : Option End) → is_some e ≡ false → is_none e ≡ true
     none_of None is = refl
     none_of (Some end) is = absurd (true≢false is)
+
+-- ---- where no turns are made
+
+held_up : (waits : ℕ) (sent : Option Sent) (o : Option servers.State) (closes : Bool) → (nat_lt waits MAX_WAITING && (may_begin sent o || is_over o) && not closes) ≡ false
+    → (MAX_WAITING ≤ waits) ⊎ (IsFull o ⊎ (closes ≡ true))
+held_up waits sent o closes none = by_room (nat_lt waits MAX_WAITING) refl
+  where
+    by_begin : (b : Bool) → (true && b && not closes) ≡ false → b ≡ true → closes ≡ true
+    by_begin true still is = not_false closes still
+    by_begin false still is = absurd (false≢true is)
+
+    by_server : (s : Option Sent) (o : Option servers.State) → (true && (may_begin s o || is_over o) && not closes) ≡ false → IsFull o ⊎ (closes ≡ true)
+    by_server (Some s) o still = inr (by_begin true still refl)
+    by_server None None still = inr (by_begin true still refl)
+    by_server None (Some s) still = by_full (nat_lt (length s.kept.buffered) MAX_WAITING) (client_closing s.kept) refl refl
+      where
+        by_full : (b : Bool) (e : Option ClientEnd) → nat_lt (length s.kept.buffered) MAX_WAITING ≡ b → client_closing s.kept ≡ e → IsFull (Some s) ⊎ (closes ≡ true)
+        by_full false None full over = inl (ltb-false (length s.kept.buffered) MAX_WAITING full, over)
+        by_full true e full over = inr (by_begin _ still (ap (λ (b : Bool). b || is_some (client_closing s.kept)) full))
+        by_full false (Some e) full over = inr (by_begin _ still (ap₂ (λ (b : Bool) (e : Option ClientEnd). b || is_some e) full over))
+
+    by_room : (b : Bool) → nat_lt waits MAX_WAITING ≡ b → (MAX_WAITING ≤ waits) ⊎ (IsFull o ⊎ (closes ≡ true))
+    by_room false is = inl (ltb-false waits MAX_WAITING is)
+    by_room true is = inr (by_server sent o (subst (λ (b : Bool). (b && (may_begin sent o || is_over o) && not closes) ≡ false) is none))
+
+pub none_turns : (p : Proxy) → may_turn p ≡ false → IsHeldUp p
+none_turns p none = held_up (length p.client.kept.buffered) p.sent p.server (is_closing p) none
 
 pub no_answer_in_vain : (p : Proxy) → IsServed p → RestsWhereItMay p → may_turn p ≡ true → p.client.kept.is_over ≡ false
     → waits_for_answer p.client.kept ≡ true

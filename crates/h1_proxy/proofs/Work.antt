@@ -35,7 +35,7 @@ use Rattle.h1_forward_model.specs.Rests.{MAX_WAITING}
 use Rattle.h1_proxy.specs.declared.notes.Notes.{Notes}
 use Rattle.h1_proxy.specs.Replies.{HasReplied}
 use Rattle.h1_proxy.specs.Served.{GoesOnServing}
-use Rattle.h1_proxy.specs.Rests.{may_begin, may_turn, IsNotToEnd, RestsBy, Rests, Settles, mark, sent_left, request_left, side_left, going_on, work, ServerTold, Told, LeavesLess, IsNoted, LeavesMore, Works, Turns, BodyRests, WorksBody}
+use Rattle.h1_proxy.specs.Rests.{may_begin, is_over, may_turn, IsNotToEnd, RestsBy, Rests, Settles, mark, sent_left, request_left, side_left, going_on, work, ServerTold, Told, LeavesLess, IsNoted, LeavesMore, Works, Turns, BodyRests, WorksBody}
 
 -- ---- one after another
 
@@ -357,7 +357,7 @@ not_false false is = absurd (true≢false is)
 
 pub runs_on : (still : Bool) (p : Proxy) → still ≡ not (may_turn p) → still ≡ false → is_closing p ≡ false
 runs_on still p is now =
-    third_true (nat_lt (length p.client.kept.buffered) MAX_WAITING) (may_begin p.sent p.server) (is_closing p) (not_false (may_turn p) (sym is ∙ now))
+    third_true (nat_lt (length p.client.kept.buffered) MAX_WAITING) (may_begin p.sent p.server || is_over p.server) (is_closing p) (not_false (may_turn p) (sym is ∙ now))
 
 pub turns : (more : Bool) (p q : Proxy) → is_closing p ≡ false → Works more p q → Turns more p q
 turns true p q runs x = λ told.

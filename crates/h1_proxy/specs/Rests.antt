@@ -1,5 +1,5 @@
 -- How much is left for a forwarder to do, and when nothing is.
-use Rattle.std.specs.Prelude.{◌≡◌, ℕ, ◌+◌, ◌<◌, ◌≤◌, Bool, true, false, not, ◌&&◌, ◌||◌, List, length, nat_lt, if◌then◌else◌, Option, Some, None, ⊤}
+use Rattle.std.specs.Prelude.{◌≡◌, ◌⊎◌, ℕ, ◌+◌, ◌<◌, ◌≤◌, Bool, true, false, not, ◌&&◌, ◌||◌, List, length, nat_lt, if◌then◌else◌, Option, Some, None, is_some, ⊤}
 use Rattle.h1_model.specs.Event as on
 use Rattle.h1_model.specs.Sums as sums
 use Rattle.h1_connection.specs.State.{State, Stands, IsAllowed}
@@ -25,9 +25,24 @@ abbrev pub may_begin : Option Sent → Option servers.State → Bool
 may_begin (Some s) server = true
 may_begin None server = nat_lt (length (server_text server)) MAX_WAITING
 
--- turns are made: fewer than 32768 bytes wait towards the client, and its connection isn't to end
+-- there is a server connection that is to end
+abbrev pub is_over : Option servers.State → Bool
+is_over None = false
+is_over (Some s) = is_some (client_closing s.kept)
+
+-- Turns are made: fewer than 32768 bytes wait towards the client, and its connection isn't to end. Whatever waits towards a server connection
+-- that is to end, that may be closed.
 abbrev pub may_turn : Proxy → Bool
-may_turn p = nat_lt (length p.client.kept.buffered) MAX_WAITING && may_begin p.sent p.server && not (is_closing p)
+may_turn p = nat_lt (length p.client.kept.buffered) MAX_WAITING && (may_begin p.sent p.server || is_over p.server) && not (is_closing p)
+
+-- No turns are made only while bytes wait for somebody to take them: towards the client, or towards a server connection that isn't to end; or
+-- where the client's connection is to end.
+abbrev pub IsFull : Option servers.State → Type 0
+IsFull None = ⊥
+IsFull (Some s) = (MAX_WAITING ≤ length s.kept.buffered) × (client_closing s.kept ≡ None)
+
+abbrev pub IsHeldUp : Proxy → Type 0
+IsHeldUp p = (MAX_WAITING ≤ length p.client.kept.buffered) ⊎ (IsFull p.server ⊎ (is_closing p ≡ true))
 
 -- Of a request that was sent on: no head of its answer is there whole, and the server connection may bring it yet, since it isn't to end and
 -- has room for more; once it was passed on, nothing of the answer's body is there, where there is room for a piece: no byte and no end, and

@@ -16,7 +16,7 @@ ghost use Rattle.h1_forward_sides.specs.Leaves.{LacksHead, IsAwaited, LacksBytes
 ghost use Rattle.h1_proxy.specs.declared.proxy.Proxy.{Proxy};
 ghost use Rattle.h1_proxy.specs.Kept.{client_of, server_of, wants_server, client_takes, Forwards};
 ghost use Rattle.h1_proxy.specs.Fresh.{IsReadFrom};
-ghost use Rattle.h1_proxy.specs.Rests.{may_turn, RestsWhereItMay};
+ghost use Rattle.h1_proxy.specs.Rests.{may_turn, IsHeldUp, RestsWhereItMay};
 ghost use Rattle.h1_proxy.specs.Served.{IsServed, IsUnderWay, IsNewestBy};
 ghost use Rattle.h1_proxy.specs.declared.proxy.Sent.{Sent};
 ghost use Rattle.h1_proxy.specs.Replies.{WasAnswered, marks_of, HasReplied, IsCarried};
@@ -33,13 +33,15 @@ pub fn no_more_is_held()
 /// No client waits in vain. After an event, while turns may be made and the client's connection isn't given up: a request that waits for
 /// its answer waits for a server connection that is wanted, or for the answer of one that is there, which isn't to end, has room for more
 /// bytes, and whose next answer hasn't come; and an answer that isn't complete has a server connection whose input hasn't ended and from
-/// which a further pull would give nothing, neither bytes nor the answer's end, where there is room for a piece.
+/// which a further pull would give nothing, neither bytes nor the answer's end, where there is room for a piece. And where the client's
+/// connection goes on, turns may be made unless 32768 bytes wait for the client to take them, or for a server whose connection isn't to end.
 pub fn no_client_waits_in_vain()
     ensures answer { (p : Proxy) → IsServed p → RestsWhereItMay p → may_turn p ≡ true → (client_of p).kept.is_over ≡ false
         → waits_for_answer (client_of p).kept ≡ true → (wants_server p ≡ true) ⊎ ((s : servers.State) × (server_of p ≡ Some s) × IsAwaited s) }
     ensures body { (p : Proxy) → IsServed p → RestsWhereItMay p → may_turn p ≡ true → (client_of p).kept.is_over ≡ false
         → is_answering (client_of p).kept ≡ true
         → (s : servers.State) × (server_of p ≡ Some s) × (((bytes : List ℕ) → IsAllowed (client_of p) (on.chunk bytes)) → LacksBytes s) }
+    ensures held_up { (p : Proxy) → may_turn p ≡ false → IsHeldUp p }
 {}
 
 /// No request is left behind one whose reply is complete. After an event, while turns may be made and the client's connection isn't given up:

@@ -1,7 +1,7 @@
 //! What a forwarder does of its own between two events, turn by turn.
 #![tactic(auto)]
 
-ghost use Rattle.std.specs.Prelude.{◌≡◌, ◌<◌, ◌+◌, ◌*◌, [], IsTrue, None, Some, true, false, not, is_some, length, OnOk, IfOk};
+ghost use Rattle.std.specs.Prelude.{◌≡◌, ◌<◌, ◌+◌, ◌*◌, ◌||◌, [], IsTrue, None, Some, true, false, not, is_some, length, OnOk, IfOk};
 ghost use Rattle.h1_model.specs.Event as on;
 ghost use Rattle.h1_model.specs.Request.{Head};
 ghost use Rattle.h1_model.specs.Answer.{asked_of};
@@ -15,9 +15,9 @@ ghost use Rattle.h1_forward_heads.specs.Meaning.{status_of};
 ghost use Rattle.h1_client.specs.State as servers;
 ghost use Rattle.h1_client_machine.specs.ClientKept.{client_closing};
 ghost use Rattle.h1_forward_sides.specs.Puts.{ends};
-ghost use Rattle.h1_proxy.specs.Fresh.{is_used, is_server_used, IsToldTime, SendsOrWaits, SendsWhereItCan, BeginsWhereItMay};
+ghost use Rattle.h1_proxy.specs.Fresh.{is_used, is_server_used, IsToldTime, SendsOrWaits, SendsWhereItCan, ClosesOver, BeginsWhereItMay};
 ghost use Rattle.h1_proxy.specs.Replies.{own, KeepsIdle, KeepsFor, may_keep, ReplyIsOver, marks_of, PutsLast, TurnReplies, HasReplied, Fails, Breaks, PassesBody, PassesHead, TakesAnswer, Opens};
-ghost use Rattle.h1_proxy.specs.Rests.{may_turn, Settles, LeavesLess, LeavesMore, Works, WorksBody, Turns, IsNotToEnd};
+ghost use Rattle.h1_proxy.specs.Rests.{may_begin, is_over, may_turn, Settles, LeavesLess, LeavesMore, Works, WorksBody, Turns, IsNotToEnd};
 
 use crate::proxy::{MAX_WAITING, Proxy, Sent, Unsent};
 use h1_client::{ClientConnection, NextAnswer, ResponseItem};
@@ -79,18 +79,32 @@ impl Proxy {
         }
     }
 
-    // No turn is possible: enough waits towards the client, or towards the server where no request is under way whose
-    // answer may come; or the client's connection is to end.
+    // No turn is possible: enough waits towards the client, or towards a server that goes on where no request is under way
+    // whose answer may come; or the client's connection is to end.
     fn is_still(&self) -> bool
         ensures { result ≡ not (may_turn self.now) }
     {
         if self.client.buffered() >= MAX_WAITING {
             return true;
         }
-        if self.sent.is_none() && self.server_front().len() >= MAX_WAITING {
+        if !self.may_begin() {
             return true;
         }
         self.is_closing()
+    }
+
+    // A request that is under way may be answered. Else one may be begun where there is room towards the server, and a
+    // server connection that is to end may be closed, whatever waits there.
+    fn may_begin(&self) -> bool
+        ensures { result ≡ (may_begin self.now.sent self.now.server || is_over self.now.server) }
+    {
+        if self.sent.is_some() {
+            return true;
+        }
+        match &self.server {
+            Some(server) => server.front().len() < MAX_WAITING || server.closing().is_some(),
+            None => true,
+        }
     }
 
     // Sends a request on, where there is a server connection.
@@ -100,6 +114,7 @@ impl Proxy {
         ensures serves { OnOk result (GoesOnServing (record self.old { unsent = Some unsent }) self.new) }
         ensures replies { OnOk result (TurnReplies (record self.old { unsent = Some unsent }) self.new) }
         ensures sends { OnOk result (SendsOrWaits unsent (record self.old { unsent = Some unsent }) self.new) }
+        ensures closes { OnOk result (ClosesOver (record self.old { unsent = Some unsent }) self.new) }
     {
         if self.is_server_used() {
             self.server = None;
@@ -126,6 +141,7 @@ impl Proxy {
     fn is_server_over(&self) -> bool
         ensures some { IsTrue result → is_some self.now.server ≡ true }
         ensures over { IsTrue result → (s : servers.State) × (self.now.server ≡ Some s) × (is_some (client_closing s.kept) ≡ true) }
+        ensures is { result ≡ is_over self.now.server }
         ensures goes_on { result ≡ false → IsNotToEnd self.now.server }
     {
         match &self.server {
@@ -161,6 +177,7 @@ impl Proxy {
         ensures serves { OnOk result (GoesOnServing self.old self.new) }
         ensures replies { OnOk result (TurnReplies self.old self.new) }
         ensures keeps { OnOk result (KeepsIdle self.old self.new) }
+        ensures closes { OnOk result (ClosesOver self.old self.new) }
     {
         match self.sent {
             Some(sent) => {
@@ -182,6 +199,7 @@ impl Proxy {
         ensures serves { OnOk result (GoesOnServing self.old self.new) }
         ensures replies { OnOk result (TurnReplies self.old self.new) }
         ensures keeps { OnOk result (KeepsIdle self.old self.new) }
+        ensures closes { OnOk result (ClosesOver self.old self.new) }
     {
         if self.is_server_over() {
             self.server = None;

@@ -1,4 +1,5 @@
-use Rattle.std.proofs.Common.{None}
+use Rattle.std.proofs.Common.{None, sym, ◌∙◌}
+use Rattle.h1_proxy.proofs.Fresh.{goes_on_closes}
 use Rattle.h1_proxy.proofs.Moves.{closes}
 use Rattle.std.proofs.Common.{arith, inl, inr, refl}
 use Rattle.h1_proxy.proofs.Work.{works, over_less}
@@ -28,3 +29,9 @@ returns-then-is_server_over-clause-keeps c = λ idle. let x = c.is_server_over.e
 
 pub returns-clause-keeps : goal.returns-clause-keeps
 returns-clause-keeps c = c.in_ok-more.ensures.keeps
+
+pub returns-then-is_server_over-clause-closes : goal.returns-then-is_server_over-clause-closes
+returns-then-is_server_over-clause-closes c = λ over none. refl
+
+pub returns-clause-closes : goal.returns-clause-closes
+returns-clause-closes c = goes_on_closes c.args.self.now c.take_head.new.self (sym c.is_server_over.ensures.is ∙ c.if-is_server_over.false)

@@ -1,4 +1,5 @@
 use Rattle.h1_proxy.proofs.Replies.{busy_keeps}
+use Rattle.h1_proxy.proofs.Fresh.{sent_closes}
 use Rattle.h1_proxy.proofs.proxy.Proxy.go_on.Goals as goal
 
 pub pass_on-requires : goal.pass_on-requires
@@ -9,3 +10,6 @@ begin-requires c = record { idle = record { unsent = c.requires.unsent; sent = c
 
 pub returns-in_ok-more-in-Some-clause-keeps : goal.returns-in_ok-more-in-Some-clause-keeps
 returns-in_ok-more-in-Some-clause-keeps c = busy_keeps c.args.self.now c.pass_on.new.self c.in-Some.sent c.in-Some.is
+
+pub returns-in_ok-more-in-Some-clause-closes : goal.returns-in_ok-more-in-Some-clause-closes
+returns-in_ok-more-in-Some-clause-closes c = sent_closes c.args.self.now c.pass_on.new.self c.in-Some.sent c.in-Some.is

@@ -8,7 +8,7 @@ use Rattle.h1_client.specs.Meaning.{request_of}
 use Rattle.h1_proxy.proofs.Served.{with_server, noted_serves, sent_serves}
 use Rattle.h1_proxy.proofs.Replies.{no_part_put, unsent_cause, same_puts, noted_client}
 use Rattle.h1_forward_sides.proofs.Puts.{puts_none}
-use Rattle.h1_proxy.proofs.Fresh.{read_all, waits_as, cannot_used, cannot_none, cannot_refused, used_some}
+use Rattle.h1_proxy.proofs.Fresh.{read_all, waits_as, cannot_used, cannot_none, cannot_refused, used_some, unused_closes}
 use Rattle.h1_proxy.specs.Fresh.{is_server_used}
 use Rattle.h1_proxy.proofs.Times.{dated}
 use Rattle.h1_proxy.proofs.proxy.Proxy.send.Goals as goal
@@ -121,3 +121,15 @@ returns-clause-sends c =
     inr (waits_as c.args.unsent (record c.args.self.now { unsent = Some c.args.unsent }) c.take.new.self c.take.ensures.after
     (cannot_refused c.args.unsent c.args.self.now.moment c.args.self.now.server c.in-Some.server c.tell_time.new.server c.ask.new.server _
     (sym c.in-Some.ensures.value) c.tell_time.ensures.told c.in_ok-ask.ensures c.if-branch.false))
+
+pub returns-then-is_server_used-clause-closes : goal.returns-then-is_server_used-clause-closes
+returns-then-is_server_used-clause-closes c = λ over none. refl
+
+pub returns-in_default-clause-closes : goal.returns-in_default-clause-closes
+returns-in_default-clause-closes c = unused_closes (record c.args.self.now { unsent = Some c.args.unsent }) _ (sym c.is_server_used.ensures ∙ c.if-is_server_used.false)
+
+pub returns-then-branch-clause-closes : goal.returns-then-branch-clause-closes
+returns-then-branch-clause-closes c = unused_closes (record c.args.self.now { unsent = Some c.args.unsent }) _ (sym c.is_server_used.ensures ∙ c.if-is_server_used.false)
+
+pub returns-clause-closes : goal.returns-clause-closes
+returns-clause-closes c = unused_closes (record c.args.self.now { unsent = Some c.args.unsent }) _ (sym c.is_server_used.ensures ∙ c.if-is_server_used.false)

@@ -3,8 +3,8 @@ use Rattle.h1_proxy.proofs.Moves.{goes_same, of_unsent, of_no_unsent}
 use Rattle.h1_proxy.proofs.Work.{turns, still_rests, works_of_unsent, not_still, runs_on}
 use Rattle.h1_proxy.proofs.Served.{serves_of_unsent}
 use Rattle.h1_proxy.proofs.Replies.{still_replies, replies_of_unsent, waiting_keeps, keeps_of_unsent}
-use Rattle.std.proofs.Common.{refl, inl, inr}
-use Rattle.h1_proxy.proofs.Fresh.{still_sends, may_of, idle_sends, sends_of_unsent}
+use Rattle.std.proofs.Common.{refl, inl}
+use Rattle.h1_proxy.proofs.Fresh.{still_sends, may_of, idle_sends, sends_of_unsent, begins_by, closes_of_unsent}
 use Rattle.h1_proxy.proofs.proxy.Proxy.turn.Goals as goal
 
 pub returns-then-is_still-clause-goes : goal.returns-then-is_still-clause-goes
@@ -53,13 +53,17 @@ returns-in_ok-more-in-None-clause-replies c =
     replies_of_unsent c.args.self.now c.go_on.new.self _ (sym c.in-None.ensures.value ∙ sym c.take.ensures.after) c.in_ok-more-in-None.ensures.replies
 
 pub returns-then-is_still-clause-begins : goal.returns-then-is_still-clause-begins
-returns-then-is_still-clause-begins c = inr refl
+returns-then-is_still-clause-begins c = inl refl
 
 pub returns-in_ok-more-in-Some-clause-begins : goal.returns-in_ok-more-in-Some-clause-begins
-returns-in_ok-more-in-Some-clause-begins c = inl (may_of c.is_still.result c.args.self.now c.is_still.ensures c.if-is_still.false)
+returns-in_ok-more-in-Some-clause-begins c =
+    begins_by c.args.self.now c.send.new.self (may_of c.is_still.result c.args.self.now c.is_still.ensures c.if-is_still.false)
+    (closes_of_unsent c.args.self.now c.send.new.self _ (sym c.in-Some.ensures.value) c.in_ok-more-in-Some.ensures.closes)
 
 pub returns-in_ok-more-in-None-clause-begins : goal.returns-in_ok-more-in-None-clause-begins
-returns-in_ok-more-in-None-clause-begins c = inl (may_of c.is_still.result c.args.self.now c.is_still.ensures c.if-is_still.false)
+returns-in_ok-more-in-None-clause-begins c =
+    begins_by c.args.self.now c.go_on.new.self (may_of c.is_still.result c.args.self.now c.is_still.ensures c.if-is_still.false)
+    (closes_of_unsent c.args.self.now c.go_on.new.self _ (sym c.in-None.ensures.value ∙ sym c.take.ensures.after) c.in_ok-more-in-None.ensures.closes)
 
 pub returns-then-is_still-clause-sends : goal.returns-then-is_still-clause-sends
 returns-then-is_still-clause-sends c = still_sends c.args.self.now (not_still _ _ c.is_still.ensures c.if-is_still.true)
