@@ -179,20 +179,27 @@ def socket_clients(forwarder, server):
     check("forwarder, an answer before the body was sent", early)
 
     def early_end():
-        # What waits towards the server depends on the system's buffers, so several sizes are tried.
-        for size in range(130_000, 260_001, 10_000):
+        # The body fills the system's buffers, and the head of the next request waits. How large those buffers are depends on the
+        # system, so several sizes are tried.
+        large = b"GET / HTTP/1.1\r\nhost: a\r\nx: " + b"x" * 100_000 + b"\r\n\r\n"
+        for size in range(100_000, 260_001, 10_000):
             with connect(address) as sock:
                 sock.settimeout(4)
                 sock.sendall(b"POST /early-end HTTP/1.1\r\nhost: a\r\ncontent-length: %d\r\n\r\n" % size + b"x" * size)
                 first = sock.recv(65536)
-                time.sleep(0.1)
                 try:
+                    sock.sendall(large)
+                    second = sock.recv(65536)
+                    if not second:
+                        # The rest of the body wasn't wanted, and the connection has ended.
+                        continue
+                    time.sleep(0.1)
                     sock.sendall(LAST % b"")
-                    second = read_all(sock)
+                    third = read_all(sock)
                 except OSError as error:
                     return f"after a body of {size}: {error}"
-            if (statuses_of(first), statuses_of(second)) != ([b"200"], [b"200"]):
-                return f"after a body of {size}: {first[:100]} {second[:100]}"
+            if [statuses_of(seen) for seen in (first, second, third)] != [[b"200"]] * 3:
+                return f"after a body of {size}: {first[:100]} {second[:100]} {third[:100]}"
     check("forwarder, a server that answers early, reads no more and ends, and the next request", early_end)
 
     def broken_body():

@@ -87,8 +87,10 @@ class Conversation:
             self.say(b"HTTP/1.1 413 Too Large\r\ncontent-length: 0\r\nconnection: close\r\n\r\n")
             return False
         if path == "early_end":
-            # It reads nothing of the body and sends no more, and its socket stays open.
-            self.say(b"HTTP/1.1 200 OK\r\ncontent-length: 2\r\n\r\nok")
+            # It reads no body, answers this request and the next one, and then sends no more; its socket stays open.
+            self.sized(b"ok")
+            time.sleep(0.5)
+            self.sized(b"ok")
             self.sock.shutdown(socket.SHUT_WR)
             time.sleep(5)
             return False

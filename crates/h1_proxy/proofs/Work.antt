@@ -351,7 +351,7 @@ third_true true true false is = refl
 third_true true false c is = absurd (false≢true is)
 third_true false b c is = absurd (false≢true is)
 
-not_false : (b : Bool) → not b ≡ false → b ≡ true
+pub not_false : (b : Bool) → not b ≡ false → b ≡ true
 not_false true is = refl
 not_false false is = absurd (true≢false is)
 
