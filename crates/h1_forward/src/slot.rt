@@ -97,8 +97,7 @@ impl Slot {
         self.standing.tick_client(waits, uptime);
         let is_awaited = self.link.is_awaited(self.forwarder.proxy());
         if self.standing.tick_server(is_awaited, uptime) {
-            self.link
-                .give_up(&mut self.forwarder, &mut self.standing)?;
+            self.link.give_up(&mut self.forwarder, &mut self.standing)?;
         }
         if uptime.saturating_sub(self.standing.asked) < KEPT {
             return Ok(());
