@@ -1,7 +1,7 @@
 //! The words that the program is started with.
 use thiserror::Error;
 
-pub const VERSION: &str = "h1_chat 1.0";
+pub const VERSION: &str = "h1_chat 0.1.0";
 
 pub const HELP: &str = "h1_chat PORT [OPTIONS]
 

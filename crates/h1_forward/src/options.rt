@@ -2,7 +2,7 @@
 use std::net::{IpAddr, Ipv4Addr, SocketAddr};
 use thiserror::Error;
 
-pub const VERSION: &str = "h1_forward 1.0";
+pub const VERSION: &str = "h1_forward 0.1.0";
 
 pub const HELP: &str = "h1_forward PORT SERVER [OPTIONS]
 

@@ -4,7 +4,7 @@ ghost use Rattle.std.specs.Prelude.{◌<◌};
 use std::alloc::Global;
 use thiserror::Error;
 
-pub const VERSION: &str = "h1_get 1.0";
+pub const VERSION: &str = "h1_get 0.1.0";
 
 pub const HELP: &str = "h1_get [OPTIONS] URL... [FILE]
 

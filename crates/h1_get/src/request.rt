@@ -61,7 +61,7 @@ fn headers_for(
         return Err(GetError::Url);
     };
     headers.append(HOST, host)?;
-    headers.append(USER_AGENT, HeaderValue::from_static("h1_get/1.0"))?;
+    headers.append(USER_AGENT, HeaderValue::from_static("h1_get/0.1.0"))?;
     headers.append(ACCEPT, HeaderValue::from_static("*/*"))?;
     if options.file.is_some() {
         headers.append(
