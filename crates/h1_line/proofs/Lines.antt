@@ -1,7 +1,7 @@
 -- A step of the connection is one of the line.
-use Rattle.std.proofs.Common.{inl, inr, ◌≡◌, ℕ, Bool, false, Result, Ok, Err, List, [], ◌∷◌, ◌++◌, take, reverse, Option, Some, None, refl, sym, ap, ◌∙◌, subst, subst₂}
+use Rattle.std.proofs.Common.{inl, inr, ◌≡◌, ℕ, Bool, true, false, Result, Ok, Err, List, [], ◌∷◌, ◌++◌, take, reverse, Option, Some, None, refl, sym, ap, ◌∙◌, subst, subst₂}
 use Rattle.std.proofs.lemmas.Grind.{reverse_onto}
-use Rattle.std.specs.Prelude.{OnOk, OnErr}
+use Rattle.std.specs.Prelude.{IfOk, OnOk, OnErr}
 use Rattle.http_bodies.specs.Told.{Grows}
 use Rattle.http_bodies.proofs.Histories.{grown-none}
 use Rattle.http_config.specs.Config.{Settings}
@@ -19,13 +19,15 @@ use Rattle.h1_connection.specs.Heads.{SaysNext}
 use Rattle.h1_connection.specs.Meaning.{setting_of, SaysOutcome}
 use Rattle.h1_connection.specs.declared.connection.heads.NextHead.{NextHead}
 use Rattle.h1_connection.specs.declared.connection.heads.NextHead.TheVariants as next
-use Rattle.h1_connection.specs.declared.event.Outcome.{Outcome}
+use Rattle.h1_connection.specs.declared.connection.ticks.Expiry.{Expiry}
+use Rattle.h1_connection.specs.declared.connection.ticks.Expiry.TheVariants as expiry
+use Rattle.h1_connection.specs.Ticks.{expiry_of}
 use Rattle.h1_connection.specs.Run.{SaysStep, SaySteps}
 use Rattle.h1_connection.specs.State.{State, fresh_state, Stands, GoesOn, Is}
 use Rattle.h1_connection.specs.Steps.{Pair}
 use Rattle.h1_connection.specs.declared.event.Event.TheVariants.{Write}
 use Rattle.h1_connection.specs.declared.event.Outcome.TheVariants.{Gave}
-use Rattle.h1_line.specs.Outcomes.{next_outcome, pulled_outcome}
+use Rattle.h1_line.specs.Outcomes.{next_outcome, pulled_outcome, tick_outcome}
 use Rattle.h1_line.specs.Line.{SaysNoted, LineStands, Notes, Stepped, LineSteps, LineFails}
 
 -- ---- the empty trace
@@ -105,24 +107,23 @@ give_steps old new was now n bytes goes same grows = λ trace stands.
 
 -- ---- what was answered, as an outcome
 
-next_says : (n : NextHead) (o : on.Outcome) → SaysNext n o → SaysOutcome (next_outcome n) o
+pub next_says : (n : NextHead) (o : on.Outcome) → SaysNext n o → SaysOutcome (next_outcome n) o
 next_says (next.Head item) o says = says
 next_says (next.Fault fault) o says = says
 next_says next.Pending o says = says
 next_says (next.Closed end) o says = says
 
-pub next_says_by : (n : NextHead) (outcome : Outcome) (o : on.Outcome) → outcome ≡ next_outcome n → SaysNext n o → SaysOutcome outcome o
-next_says_by n outcome o is says = subst (λ (u : Outcome). SaysOutcome u o) (sym is) (next_says n o says)
-
-pull_says : (p : Pulled) (o : on.Outcome) → SaysPulled p o → SaysOutcome (pulled_outcome p) o
+pub pull_says : (p : Pulled) (o : on.Outcome) → SaysPulled p o → SaysOutcome (pulled_outcome p) o
 pull_says (pulled.Bytes bytes) o says = says
 pull_says (pulled.Trailers trailers) o says = (says.0, says.2, says.1)
 pull_says pulled.End o says = says
 pull_says (pulled.Broken fault) o says = says
 pull_says pulled.Pending o says = says
 
-pub pull_says_by : (p : Pulled) (outcome : Outcome) (o : on.Outcome) → outcome ≡ pulled_outcome p → SaysPulled p o → SaysOutcome outcome o
-pull_says_by p outcome o is says = subst (λ (u : Outcome). SaysOutcome u o) (sym is) (pull_says p o says)
+pub tick_says : (e : Expiry) (o : on.Outcome) → Is (expiry_of e) o → SaysOutcome (tick_outcome e) o
+tick_says expiry.None o says = says
+tick_says (expiry.Expired end) o says = says
+tick_says expiry.Abandoned o says = says
 
 -- ---- results
 
@@ -134,6 +135,11 @@ pub when_err : {A E : Type 0} {P Q : Type 0} (r : Result A E) → OnErr r P → 
 when_err (Ok x) p f = tt
 when_err (Err e) p f = f p
 
+-- where what is handed on was given before
+pub ok_given : {A E : Type 0} {Q : Type 0} (r : Result A E) (x : A) (P : A → Type 0) → IfOk r (λ given. given ≡ x) → OnOk r Q → (Q → P x) → IfOk r P
+ok_given (Ok y) x P same q f = subst P (sym same) (f q)
+ok_given (Err e) x P same q f = tt
+
 pub any_err : {A E : Type 0} {P : Type 0} (r : Result A E) → P → OnErr r P
 any_err (Ok x) p = tt
 any_err (Err e) p = p
@@ -141,6 +147,16 @@ any_err (Err e) p = p
 -- nobody listens
 pub unheard : (listens is_listening : Bool) (noted : Option (List Pair)) → listens ≡ is_listening → listens ≡ false → (is_listening ≡ false → noted ≡ None) → noted ≡ None
 unheard listens is_listening noted same not says = says (sym same ∙ not)
+
+-- what isn't known isn't known to grow
+pub grows_unheard : (listens is_listening : Bool) (noted : Option (List Pair)) (p : Pair) → listens ≡ is_listening → listens ≡ false → (is_listening ≡ false → noted ≡ None)
+    → Grows noted noted (p ∷ [])
+grows_unheard listens is_listening noted p same not says =
+    subst (λ (n : Option (List Pair)). Grows n n (p ∷ [])) (sym (unheard listens is_listening noted same not says)) refl
+
+-- somebody does
+pub heard : {A : Type 0} (listens is_listening : Bool) → listens ≡ is_listening → listens ≡ true → is_listening ≡ false → A
+heard listens is_listening same is not = let never : true ≡ false = sym is ∙ (same ∙ not) in absurd (cc never)
 
 -- ---- memory runs out
 
@@ -156,7 +172,3 @@ fails_after old new was now event Says goes grows = record {
   noted = grows;
   connection = inr (λ trace stands. let g = goes trace stands in (g.0, tt, g.2, g.3, g.4, g.5));
 }
-
-pub fails_unnoted : (old new : State) (was : Option (List Pair)) (event : on.Event) (Says : on.Outcome → Type 0) → GoesOn old event Says new
-    → LineFails (record { state = old; noted = was }) event (record { state = new; noted = was })
-fails_unnoted old new was event Says goes = fails_after old new was was event Says goes (grown-none was)

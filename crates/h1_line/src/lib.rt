@@ -28,6 +28,7 @@
 #![tactic(auto)]
 
 mod line;
+mod notes;
 mod outcomes;
 mod recorder;
 

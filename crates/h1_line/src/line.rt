@@ -12,7 +12,7 @@ ghost use Rattle.h1_connection.specs.Unsent.{SendsNoPiece, SendsNoEnd};
 ghost use Rattle.h1_line.specs.Line.{line_of, LineStands, LineSteps, LineFails};
 
 use crate::Recorder;
-use crate::outcomes::{outcome_of_next, outcome_of_tick};
+use crate::notes::{Bare, note_bare, note_made, note_next, note_read, note_step, note_tick};
 use h1_connection::{
     BodySize, Boxed, Bytes, Connection, Event, Expiry, NextHead, NoMemory, Outcome, Pulled,
     ResponseHead, ServiceConfig,
@@ -99,11 +99,7 @@ impl<L: Recorder> Line<L> {
         ensures no_memory_needed { L.is_listening self.old.recorder ≡ false → TakesNoMemory self.old.connection (event_of event.now) → IsOk result }
     {
         let outcome = self.connection.step(event)?;
-        if !self.recorder.listens() {
-            return Ok(outcome);
-        }
-        self.recorder.note(event, &outcome)?;
-        Ok(outcome)
+        note_step(&mut self.recorder, event, outcome)
     }
 
     /// Takes bytes that were read from the peer, from the first on, and says how many there was room for. They are copied
@@ -116,11 +112,7 @@ impl<L: Recorder> Line<L> {
         ensures listening { L.is_listening self.new.recorder ≡ L.is_listening self.old.recorder }
     {
         let count = self.connection.read(bytes)?;
-        if !self.recorder.listens() {
-            return Ok(count);
-        }
-        let event = Event::Read(Bytes::copy_from_slice(self.alloc, bytes)?);
-        self.recorder.note(&event, &Outcome::Took(count))?;
+        note_read(&mut self.recorder, self.alloc, bytes, count)?;
         Ok(count)
     }
 
@@ -134,10 +126,7 @@ impl<L: Recorder> Line<L> {
         ensures no_memory_needed { L.is_listening self.old.recorder ≡ false → IsOk result }
     {
         self.connection.eof();
-        if !self.recorder.listens() {
-            return Ok(());
-        }
-        self.recorder.note(&Event::Eof, &Outcome::Done)
+        note_bare(&mut self.recorder, Bare::Eof)
     }
 
     /// Hands out the next request's head, or that the connection has ended. A head is copied for a recorder that listens.
@@ -149,13 +138,8 @@ impl<L: Recorder> Line<L> {
         ensures listening { L.is_listening self.new.recorder ≡ L.is_listening self.old.recorder }
         ensures no_memory_needed { L.is_listening self.old.recorder ≡ false → NeedsNoMemory (setting_of self.old.connection.settings) self.old.connection.kept → IsOk result }
     {
-        if !self.recorder.listens() {
-            return self.connection.next();
-        }
         let next = self.connection.next()?;
-        let outcome = outcome_of_next(&next)?;
-        self.recorder.note(&Event::Next, &outcome)?;
-        Ok(next)
+        note_next(&mut self.recorder, next)
     }
 
     /// The first bytes that wait were written to the peer. They are copied for a recorder that listens.
@@ -183,8 +167,11 @@ impl<L: Recorder> Line<L> {
         ensures listening { L.is_listening self.new.recorder ≡ L.is_listening self.old.recorder }
     {
         let bytes = self.connection.write(count)?;
-        self.recorder
-            .note(&Event::Write(count), &Outcome::Gave(bytes))
+        note_made(
+            &mut self.recorder,
+            Event::Write(count),
+            Outcome::Gave(bytes),
+        )
     }
 
     /// A moment has come, in milliseconds after the start of 1970.
@@ -197,11 +184,7 @@ impl<L: Recorder> Line<L> {
         ensures no_memory_needed { L.is_listening self.old.recorder ≡ false → IsQuietTick (setting_of self.old.connection.settings) self.old.connection.kept moment → IsOk result }
     {
         let expiry = self.connection.tick(moment)?;
-        if !self.recorder.listens() {
-            return Ok(expiry);
-        }
-        self.recorder
-            .note(&Event::Tick(moment), &outcome_of_tick(expiry))?;
+        note_tick(&mut self.recorder, moment, expiry)?;
         Ok(expiry)
     }
 
@@ -215,9 +198,6 @@ impl<L: Recorder> Line<L> {
         ensures no_memory_needed { L.is_listening self.old.recorder ≡ false → IsOk result }
     {
         self.connection.drain();
-        if !self.recorder.listens() {
-            return Ok(());
-        }
-        self.recorder.note(&Event::Drain, &Outcome::Done)
+        note_bare(&mut self.recorder, Bare::Drain)
     }
 }

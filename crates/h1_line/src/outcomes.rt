@@ -1,9 +1,6 @@
 // What the calls of a connection answer, as outcomes.
 ghost use Rattle.std.specs.Prelude.{◌≡◌, IfOk};
-ghost use Rattle.h1_model.specs.Event as on;
-ghost use Rattle.h1_connection.specs.Meaning.{SaysOutcome};
-ghost use Rattle.h1_connection.specs.Ticks.{expiry_of};
-ghost use Rattle.h1_line.specs.Outcomes.{next_outcome, pulled_outcome};
+ghost use Rattle.h1_line.specs.Outcomes.{next_outcome, pulled_outcome, tick_outcome};
 
 use h1_connection::{Expiry, NextHead, NoMemory, Outcome, Pulled};
 
@@ -34,7 +31,7 @@ pub(crate) fn outcome_of_pull(pulled: &Pulled) -> Result<Outcome, NoMemory>
 
 /// What a tick told.
 pub(crate) fn outcome_of_tick(expiry: Expiry) -> Outcome
-    ensures { (out : on.Outcome) → out ≡ expiry_of expiry → SaysOutcome result out }
+    ensures { result ≡ tick_outcome expiry }
 {
     match expiry {
         Expiry::None => Outcome::Done,

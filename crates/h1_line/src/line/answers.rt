@@ -8,7 +8,8 @@ ghost use Rattle.h1_line.specs.Line.{line_of, LineSteps, LineFails};
 
 use crate::Recorder;
 use crate::line::Line;
-use h1_connection::{BodySize, Boxed, Bytes, Event, NoMemory, Outcome, ResponseHead};
+use crate::notes::{Bare, note_answer, note_bare, note_made};
+use h1_connection::{BodySize, Bytes, Event, NoMemory, Outcome, ResponseHead};
 use std::alloc::Global;
 
 impl<L: Recorder> Line<L> {
@@ -22,11 +23,7 @@ impl<L: Recorder> Line<L> {
         ensures listening { L.is_listening self.new.recorder ≡ L.is_listening self.old.recorder }
     {
         self.connection.answer(head, size)?;
-        if !self.recorder.listens() {
-            return Ok(());
-        }
-        let event = Event::Answer(Boxed::new(self.alloc, head.copy()?)?, size);
-        self.recorder.note(&event, &Outcome::Done)
+        note_answer(&mut self.recorder, self.alloc, head, size)
     }
 
     /// The next bytes of the answer's body.
@@ -38,12 +35,22 @@ impl<L: Recorder> Line<L> {
         ensures listening { L.is_listening self.new.recorder ≡ L.is_listening self.old.recorder }
         ensures no_memory_needed { L.is_listening self.old.recorder ≡ false → SendsNoPiece self.old.connection.kept bytes → IsOk result }
     {
-        if !self.recorder.listens() {
-            return self.connection.chunk_bytes(bytes);
+        if self.recorder.listens() {
+            return self.chunk_noted(bytes);
         }
+        self.connection.chunk_bytes(bytes)
+    }
+
+    fn chunk_noted(&mut self, bytes: Bytes) -> Result<(), NoMemory>
+        requires can_chunk { IsAllowed self.old.connection (on.chunk bytes) }
+        ensures stands { OnOk result (LineSteps (line_of L.noted self.old) (on.chunk bytes) (Is on.done) (line_of L.noted self.new)) }
+        ensures settings { self.new.connection.settings ≡ self.old.connection.settings }
+        ensures err { OnErr result (LineFails (line_of L.noted self.old) (on.chunk bytes) (line_of L.noted self.new)) }
+        ensures listening { L.is_listening self.new.recorder ≡ L.is_listening self.old.recorder }
+    {
         let noted = bytes.clone()?;
         self.connection.chunk_bytes(bytes)?;
-        self.recorder.note(&Event::Chunk(noted), &Outcome::Done)
+        note_made(&mut self.recorder, Event::Chunk(noted), Outcome::Done)
     }
 
     /// The answer's body is whole.
@@ -56,10 +63,7 @@ impl<L: Recorder> Line<L> {
         ensures no_memory_needed { L.is_listening self.old.recorder ≡ false → SendsNoEnd self.old.connection.kept → IsOk result }
     {
         self.connection.end_answer()?;
-        if !self.recorder.listens() {
-            return Ok(());
-        }
-        self.recorder.note(&Event::BodyEnd, &Outcome::Done)
+        note_bare(&mut self.recorder, Bare::BodyEnd)
     }
 
     /// The answer's body can't be completed: the connection closes.
@@ -72,9 +76,6 @@ impl<L: Recorder> Line<L> {
         ensures no_memory_needed { L.is_listening self.old.recorder ≡ false → IsOk result }
     {
         self.connection.fail_answer();
-        if !self.recorder.listens() {
-            return Ok(());
-        }
-        self.recorder.note(&Event::BodyError, &Outcome::Done)
+        note_bare(&mut self.recorder, Bare::BodyError)
     }
 }

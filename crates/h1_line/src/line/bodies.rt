@@ -8,8 +8,8 @@ ghost use Rattle.h1_line.specs.Line.{line_of, LineSteps, LineFails};
 
 use crate::Recorder;
 use crate::line::Line;
-use crate::outcomes::outcome_of_pull;
-use h1_connection::{Event, NoMemory, Outcome, Pulled};
+use crate::notes::{Bare, note_bare, note_pull};
+use h1_connection::{NoMemory, Pulled};
 use std::alloc::Global;
 
 impl<L: Recorder> Line<L> {
@@ -23,12 +23,7 @@ impl<L: Recorder> Line<L> {
         ensures no_memory_needed { L.is_listening self.old.recorder ≡ false → IsLightPull self.old.connection.kept → IsOk result }
     {
         let pulled = self.connection.pull()?;
-        if !self.recorder.listens() {
-            return Ok(pulled);
-        }
-        let outcome = outcome_of_pull(&pulled)?;
-        self.recorder.note(&Event::Pull, &outcome)?;
-        Ok(pulled)
+        note_pull(&mut self.recorder, pulled)
     }
 
     /// The rest of the open request's body isn't wanted.
@@ -41,10 +36,7 @@ impl<L: Recorder> Line<L> {
         ensures no_memory_needed { L.is_listening self.old.recorder ≡ false → IsOk result }
     {
         self.connection.drop_body();
-        if !self.recorder.listens() {
-            return Ok(());
-        }
-        self.recorder.note(&Event::DropBody, &Outcome::Done)
+        note_bare(&mut self.recorder, Bare::DropBody)
     }
 
     /// Tells the client of the open request to go on, which waits for leave to send its body (RFC 7231, section 5.1.1).
@@ -56,9 +48,6 @@ impl<L: Recorder> Line<L> {
         ensures listening { L.is_listening self.new.recorder ≡ L.is_listening self.old.recorder }
     {
         self.connection.send_continue()?;
-        if !self.recorder.listens() {
-            return Ok(());
-        }
-        self.recorder.note(&Event::Continue, &Outcome::Done)
+        note_bare(&mut self.recorder, Bare::Continue)
     }
 }

@@ -6,12 +6,12 @@ use Rattle.h1_line.proofs.line.Line.give.Goals as goal
 
 pub returns-clause-stands : goal.returns-clause-stands
 returns-clause-stands g c =
-    rw (sym c.self.view_is) (when_ok c.note.result c.note.ensures.ok
+    rw (sym c.self.view_is) (when_ok c.note_made.result c.note_made.ensures.ok
     (λ grows. give_steps c.self.inside.connection c.write.new.self _ _ c.args.count c.in_ok-bytes.bytes c.in_ok-bytes.ensures.stands c.in_ok-bytes.ensures.settings grows))
 
 pub returns-clause-err : goal.returns-clause-err
 returns-clause-err g c =
-    rw (sym c.self.view_is) (when_err c.note.result c.note.ensures.err
+    rw (sym c.self.view_is) (when_err c.note_made.result c.note_made.ensures.err
     (λ grows. fails_after c.self.inside.connection c.write.new.self _ _ (on.write c.args.count) (Is (on.gave c.in_ok-bytes.bytes)) c.in_ok-bytes.ensures.stands grows))
 
 pub returns-in_err-bytes-clause-err : goal.returns-in_err-bytes-clause-err

@@ -1,28 +1,19 @@
-use Rattle.std.proofs.Common.{sym, refl}
+use Rattle.std.proofs.Common.{refl, sym}
 use Rattle.h1_model.specs.Event as on
 use Rattle.h1_payload.specs.Rests.{SaysPulled}
 use Rattle.h1_connection.specs.declared.event.Event.TheVariants.{Pull}
-use Rattle.h1_line.proofs.Lines.{any_err, unheard, pull_says_by, line_steps, line_steps_unheard, fails_before, fails_after, fails_unnoted}
+use Rattle.h1_line.specs.Outcomes.{pulled_outcome}
+use Rattle.h1_line.proofs.Lines.{any_err, ok_given, pull_says, when_err, line_steps, fails_before, fails_after}
 use Rattle.h1_line.proofs.line.Line.pull.Goals as goal
-
-pub returns-then-not-listens-clause-stands : goal.returns-then-not-listens-clause-stands
-returns-then-not-listens-clause-stands g c =
-    rw (sym c.self.view_is) (line_steps_unheard c.self.inside.connection c.pull.new.self _ on.pull (SaysPulled c.in_ok-pulled.pulled) c.in_ok-pulled.ensures.stands c.in_ok-pulled.ensures.settings
-    (unheard _ _ _ c.listens.ensures.value c.if-not-listens.true c.listens.ensures.unheard))
 
 pub returns-clause-stands : goal.returns-clause-stands
 returns-clause-stands g c =
-    rw (sym c.self.view_is) (line_steps c.self.inside.connection c.pull.new.self _ _ (record { event = Pull; outcome = c.in_ok-outcome.outcome }) on.pull (SaysPulled c.in_ok-pulled.pulled)
-    c.in_ok-pulled.ensures.stands c.in_ok-pulled.ensures.settings c.in_ok-note.ensures.ok
-    (λ out says. record { event = refl; outcome = pull_says_by c.in_ok-pulled.pulled c.in_ok-outcome.outcome out c.in_ok-outcome.ensures says }))
+    rw (sym c.self.view_is) (ok_given c.note_pull.result c.in_ok-pulled.pulled _ c.note_pull.ensures.same c.note_pull.ensures.ok
+    (λ grows. line_steps c.self.inside.connection c.pull.new.self _ _ (record { event = Pull; outcome = pulled_outcome c.in_ok-pulled.pulled }) on.pull (SaysPulled c.in_ok-pulled.pulled) c.in_ok-pulled.ensures.stands c.in_ok-pulled.ensures.settings grows (λ out says. record { event = refl; outcome = pull_says c.in_ok-pulled.pulled out says })))
 
-pub returns-in_err-note-clause-err : goal.returns-in_err-note-clause-err
-returns-in_err-note-clause-err g c =
-    rw (sym c.self.view_is) (any_err _ (fails_after c.self.inside.connection c.pull.new.self _ _ on.pull (SaysPulled c.in_ok-pulled.pulled) c.in_ok-pulled.ensures.stands c.in_err-note.ensures.err))
-
-pub returns-in_err-outcome-clause-err : goal.returns-in_err-outcome-clause-err
-returns-in_err-outcome-clause-err g c =
-    rw (sym c.self.view_is) (any_err _ (fails_unnoted c.self.inside.connection c.pull.new.self _ on.pull (SaysPulled c.in_ok-pulled.pulled) c.in_ok-pulled.ensures.stands))
+pub returns-clause-err : goal.returns-clause-err
+returns-clause-err g c =
+    rw (sym c.self.view_is) (when_err c.note_pull.result c.note_pull.ensures.err (λ grows. fails_after c.self.inside.connection c.pull.new.self _ _ on.pull (SaysPulled c.in_ok-pulled.pulled) c.in_ok-pulled.ensures.stands grows))
 
 pub returns-in_err-pulled-clause-err : goal.returns-in_err-pulled-clause-err
 returns-in_err-pulled-clause-err g c =
