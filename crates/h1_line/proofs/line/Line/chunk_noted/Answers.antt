@@ -20,4 +20,4 @@ returns-in_err-chunk_bytes-clause-err g c =
     rw (sym c.self.view_is) (any_err _ (fails_before c.self.inside.connection c.chunk_bytes.new.self _ (on.chunk c.args.bytes) c.in_err-chunk_bytes.ensures.err))
 
 pub returns-in_err-noted-clause-err : goal.returns-in_err-noted-clause-err
-returns-in_err-noted-clause-err g c = rw (sym c.self.view_is) (any_err _ (fails_before c.self.inside.connection c.self.inside.connection _ (on.chunk c.args.bytes) refl))
+returns-in_err-noted-clause-err g c = any_err _ (fails_before c.args.self.now.connection c.args.self.now.connection _ (on.chunk c.args.bytes) refl)
