@@ -1,0 +1,3 @@
+mod ServedLemmas
+mod AskedLemmas
+mod CalledLemmas

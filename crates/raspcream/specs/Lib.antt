@@ -1,0 +1,4 @@
+pub mod Numbers
+pub mod Served
+pub mod Asked
+pub mod Calls

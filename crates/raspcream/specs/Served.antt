@@ -1,0 +1,132 @@
+-- What a server's side has done at a call.
+use Rattle.std.specs.Prelude.{◌≡◌, ◌%◌, ℕ, List, take, Some, None}
+use Rattle.h1_model.specs.Answer as answers
+use Rattle.h1_model.specs.Event as on
+use Rattle.h1_model.specs.Frame.{CloseReason, Frame, Message, text, binary, first_text, first_binary, continuation, last, ping, pong, close, frame, nop}
+use Rattle.h1_model.specs.FrameText.{description_of}
+use Rattle.h1_decode.specs.declared.decoder.HeadItem.{HeadItem}
+use Rattle.ws_frames.specs.Protocol.{close_number, close_code}
+use Rattle.h1_payload.specs.Rests.{SaysPulled}
+use Rattle.h1_payload.specs.declared.pulled.Pulled.{Pulled}
+use Rattle.h1_connection.specs.Frames.{accepted_of, SaysFrame, SaysSent}
+use Rattle.h1_connection.specs.Heads.{SaysNext, with_head}
+use Rattle.h1_connection.specs.State.{State, GoesOn, Is}
+use Rattle.h1_connection.specs.Ticks.{expiry_of}
+use Rattle.h1_connection.specs.declared.connection.frames.Accepted.{Accepted}
+use Rattle.h1_connection.specs.declared.connection.frames.PulledFrame.{PulledFrame}
+use Rattle.h1_connection.specs.declared.connection.frames.Sent.{Sent}
+use Rattle.h1_connection.specs.declared.connection.heads.NextKind.{NextKind}
+use Rattle.h1_connection.specs.declared.connection.ticks.Expiry.{Expiry}
+use Rattle.raspcream.specs.Numbers.{size_said, kind_of, pulled_kind, expiry_kind, accepted_kind, frame_kind, sent_kind}
+use Rattle.raspcream.specs.declared.op.Op.{Op}
+use Rattle.raspcream.specs.declared.op.Op.TheVariants as asks
+use Rattle.raspcream.specs.declared.reply.Reply.{Reply}
+
+-- the event's step, whose outcome says no more
+pub record HasMade (event : on.Event) (before after : State) : Type 0 where
+  pub stands : GoesOn before event (Is on.done) after
+
+-- a read's: so many of the bytes were taken as the reply says
+pub record HasRead (input : List ℕ) (reply : Reply) (before after : State) : Type 0 where
+  pub count : ℕ
+  pub told : reply.number ≡ count
+  pub stands : GoesOn before (on.read input) (Is (on.took count)) after
+
+-- that of a next head: its outcome is of the kind that the reply says, a head, a fault, nothing yet or an end
+pub record HasNext (reply : Reply) (before after : State) : Type 0 where
+  pub item : HeadItem
+  pub kind : NextKind
+  pub told : reply.kind ≡ kind_of kind
+  pub stands : GoesOn before on.next (SaysNext (with_head item kind)) after
+
+-- that of a body
+pub record HasPulled (reply : Reply) (before after : State) : Type 0 where
+  pub answer : Pulled
+  pub told : reply.kind ≡ pulled_kind answer
+  pub stands : GoesOn before on.pull (SaysPulled answer) after
+
+-- an answer's, with a head of the status that is named, and with the size that the number names
+pub record HasAnswered (arg number : ℕ) (before after : State) : Type 0 where
+  pub head : answers.AnswerHead
+  pub named : head.status ≡ arg % 1024
+  pub size : answers.BodySize
+  pub said : size ≡ size_said number
+  pub stands : GoesOn before (on.answer head size) (Is on.done) after
+
+-- a write's: the bytes in front were written
+pub record HasWritten (number : ℕ) (before after : State) : Type 0 where
+  pub count : ℕ
+  pub said : count ≡ number
+  pub stands : GoesOn before (on.write count) (Is (on.gave (take count before.kept.buffered))) after
+
+-- a moment's: the reply says whether a time ran out
+pub record HasTicked (moment : ℕ) (reply : Reply) (before after : State) : Type 0 where
+  pub expiry : Expiry
+  pub told : reply.kind ≡ expiry_kind expiry
+  pub stands : GoesOn before (on.tick moment) (Is (expiry_of expiry)) after
+
+-- that of an upgrade to WebSocket
+pub record HasAccepted (number : ℕ) (reply : Reply) (before after : State) : Type 0 where
+  pub limit : ℕ
+  pub said : limit ≡ number
+  pub answer : Accepted
+  pub told : reply.kind ≡ accepted_kind answer
+  pub stands : GoesOn before (on.accept limit) (Is (accepted_of answer)) after
+
+-- a frame's
+pub record HasFramed (reply : Reply) (before after : State) : Type 0 where
+  pub answer : PulledFrame
+  pub told : reply.kind ≡ frame_kind answer
+  pub stands : GoesOn before on.pull (SaysFrame answer) after
+
+-- the reason of a Close, by its code and its text
+pub record IsReasonOf (code : ℕ) (input : List ℕ) (reason : CloseReason) : Type 0 where
+  pub number : reason.code ≡ close_number (close_code code)
+  pub words : reason.description ≡ description_of input
+
+-- the message that an opcode, a Close's code and bytes name
+abbrev pub IsFrameOf : ℕ → ℕ → List ℕ → Frame → Type 0
+IsFrameOf opcode code input (text payload) = (opcode ≡ 1) × (payload ≡ input)
+IsFrameOf opcode code input (binary payload) = (opcode ≡ 2) × (payload ≡ input)
+IsFrameOf opcode code input (first_text payload) = (opcode ≡ 17) × (payload ≡ input)
+IsFrameOf opcode code input (first_binary payload) = (opcode ≡ 18) × (payload ≡ input)
+IsFrameOf opcode code input (continuation payload) = (opcode ≡ 16) × (payload ≡ input)
+IsFrameOf opcode code input (last payload) = (opcode ≡ 0) × (payload ≡ input)
+IsFrameOf opcode code input (ping payload) = (opcode ≡ 9) × (payload ≡ input)
+IsFrameOf opcode code input (pong payload) = (opcode ≡ 10) × (payload ≡ input)
+IsFrameOf opcode code input (close None) = (opcode ≡ 8) × (code ≡ 0)
+IsFrameOf opcode code input (close (Some reason)) = (opcode ≡ 8) × IsReasonOf code input reason
+
+abbrev pub IsMessageOf : ℕ → ℕ → List ℕ → Message → Type 0
+IsMessageOf opcode code input (frame f) = IsFrameOf opcode code input f
+IsMessageOf opcode code input nop = ⊥
+
+-- that of a message, which is the one that is named
+pub record HasSent (arg number : ℕ) (input : List ℕ) (reply : Reply) (before after : State) : Type 0 where
+  pub message : Message
+  pub named : IsMessageOf arg number input message
+  pub answer : Sent
+  pub told : reply.kind ≡ sent_kind answer
+  pub stands : GoesOn before (on.send message) (SaysSent answer) after
+
+-- Each call's. A question changes nothing.
+abbrev pub HasServed : Op → ℕ → ℕ → List ℕ → Reply → State → State → Type 0
+HasServed asks.Read arg number input reply before after = HasRead input reply before after
+HasServed asks.Eof arg number input reply before after = HasMade on.eof before after
+HasServed asks.Next arg number input reply before after = HasNext reply before after
+HasServed asks.Pull arg number input reply before after = HasPulled reply before after
+HasServed asks.DropBody arg number input reply before after = HasMade on.drop_body before after
+HasServed asks.Continue arg number input reply before after = HasMade on.send_continue before after
+HasServed asks.Head arg number input reply before after = HasAnswered arg number before after
+HasServed asks.Chunk arg number input reply before after = HasMade (on.chunk input) before after
+HasServed asks.End arg number input reply before after = HasMade on.body_end before after
+HasServed asks.Fail arg number input reply before after = HasMade on.body_error before after
+HasServed asks.Front arg number input reply before after = after ≡ before
+HasServed asks.Advance arg number input reply before after = HasWritten number before after
+HasServed asks.Tick arg number input reply before after = HasTicked number reply before after
+HasServed asks.Drain arg number input reply before after = HasMade on.drain before after
+HasServed asks.Accept arg number input reply before after = HasAccepted number reply before after
+HasServed asks.Frame arg number input reply before after = HasFramed reply before after
+HasServed asks.Send arg number input reply before after = HasSent arg number input reply before after
+HasServed asks.State arg number input reply before after = after ≡ before
+HasServed asks.Held arg number input reply before after = after ≡ before

@@ -1,0 +1,307 @@
+//! A client's side.
+ghost use Rattle.std.specs.Prelude.{◌≡◌, OnOk, OnErr};
+ghost use Rattle.h1_client_machine.specs.ClientEvent as on;
+ghost use Rattle.raspcream.specs.Numbers.{answer_kind};
+ghost use Rattle.raspcream.specs.Asked.{HasRead, HasNext, HasRequested, HasMade, HasWritten, HasPulled};
+
+use crate::handed::Handed;
+use crate::pointers::span_of;
+use crate::reply::{
+    CLOSED, DONE, FAULT, Failure, GIVES, HEAD, HOLDS, Numbers, PENDING, Reply, STATE, TOOK, bit,
+    size_of_number, tell, tell_body, tell_bytes, tell_fields, tell_number,
+};
+use crate::request::request_head_of;
+use h1_client::{AnswerFault, ClientConnection, ClientEnd, NextAnswer, ResponseItem};
+use http_types::{ServiceConfig, Version};
+use std::alloc::Global;
+use std::marker::Model;
+
+/// A connection, and what it handed out last: C's spans lie in there. A clause sees the connection alone.
+#[derive(Drop)]
+pub struct Client {
+    pub alloc: Global,
+    pub connection: ClientConnection,
+    pub answer: Option<ResponseItem>,
+    pub handed: Handed,
+}
+
+impl Model for Client {
+    ghost use Rattle.h1_client.specs.State.{State};
+
+    ghost Value = { State };
+
+    ghost view = { λ it. it.connection };
+}
+
+/// Why it ends, as a number from 1 on.
+fn end_number(end: ClientEnd) -> u32 {
+    match end {
+        ClientEnd::BadAnswer => 1,
+        ClientEnd::LargeAnswer => 2,
+        ClientEnd::BrokenAnswer => 9,
+        ClientEnd::FailedRequest => 6,
+        ClientEnd::Asked => 8,
+        ClientEnd::Unasked => 14,
+        ClientEnd::InputEnded => 13,
+    }
+}
+
+/// What a head says.
+fn tell_answer(item: &ResponseItem, out: &mut Reply) {
+    out.reason = u32::from(item.head.status.as_u16());
+    out.method = span_of(item.reason.as_slice());
+    out.minor = if item.head.version == Version::HTTP_10 {
+        0
+    } else {
+        1
+    };
+    tell_body(item.body, out);
+    tell_fields(&item.head.headers, out);
+}
+
+// Spans are taken once the head lies where it stays: short texts lie inside it.
+fn keep_answer(place: &mut Option<ResponseItem>, item: ResponseItem, out: &mut Reply)
+    ensures { out.new.kind ≡ 2 }
+{
+    *place = Some(item);
+    if let Some(item) = place {
+        tell_answer(item, out);
+    }
+    out.kind = HEAD;
+}
+
+// Keeps what came, and tells it.
+fn keep_next(place: &mut Option<ResponseItem>, next: NextAnswer, out: &mut Reply)
+    ensures { out.new.kind ≡ answer_kind next }
+{
+    match next {
+        NextAnswer::Answer(item) => keep_answer(place, item, out),
+        NextAnswer::Fault(AnswerFault::Malformed) => tell(out, FAULT, 1),
+        NextAnswer::Fault(AnswerFault::TooLarge) => tell(out, FAULT, 2),
+        NextAnswer::Pending => tell(out, PENDING, 0),
+        NextAnswer::Closed(end) => tell(out, CLOSED, end_number(end)),
+    }
+}
+
+impl Client {
+    /// A fresh one.
+    pub fn new(alloc: Global, config: ServiceConfig) -> Client {
+        Client {
+            alloc,
+            connection: ClientConnection::new(alloc, config),
+            answer: None,
+            handed: Handed::new(),
+        }
+    }
+
+    /// A request's head.
+    pub fn ask(&mut self, arg: u32, size: u64, text: &[u8], out: &mut Reply) -> Result<(), Failure>
+        ensures stands { OnOk result (HasRequested size self.old self.new) }
+        ensures kept { OnErr result (self.new ≡ self.old) }
+    {
+        let head = request_head_of(self.alloc, arg, text)?;
+        let size = size_of_number(size);
+        if !self.connection.can_ask(&head, size) {
+            return Err(Failure::Misplaced);
+        }
+        let Ok(()) = self.connection.ask(&head, size) else {
+            return Err(Failure::NoMemory);
+        };
+        tell(out, DONE, 0);
+        Ok(())
+    }
+
+    /// A piece of the request's body.
+    pub fn chunk(&mut self, input: &[u8], out: &mut Reply) -> Result<(), Failure>
+        ensures stands { OnOk result (HasMade (on.chunk input.now) self.old self.new) }
+        ensures kept { OnErr result (self.new ≡ self.old) }
+    {
+        if !self.connection.can_chunk() {
+            return Err(Failure::Misplaced);
+        }
+        let Ok(()) = self.connection.chunk(input) else {
+            return Err(Failure::NoMemory);
+        };
+        tell(out, DONE, 0);
+        Ok(())
+    }
+
+    /// The request's body is whole.
+    pub fn end(&mut self, out: &mut Reply) -> Result<(), Failure>
+        ensures stands { OnOk result (HasMade on.body_end self.old self.new) }
+        ensures kept { OnErr result (self.new ≡ self.old) }
+    {
+        if !self.connection.can_end_body() {
+            return Err(Failure::Misplaced);
+        }
+        let Ok(()) = self.connection.end_body() else {
+            return Err(Failure::NoMemory);
+        };
+        tell(out, DONE, 0);
+        Ok(())
+    }
+
+    /// The request's body failed.
+    pub fn fail(&mut self, out: &mut Reply) -> Result<(), Failure>
+        ensures stands { OnOk result (HasMade on.body_error self.old self.new) }
+        ensures kept { OnErr result (self.new ≡ self.old) }
+    {
+        if !self.connection.can_end_body() {
+            return Err(Failure::Misplaced);
+        }
+        self.connection.fail_body();
+        tell(out, DONE, 0);
+        Ok(())
+    }
+
+    /// Bytes that were read.
+    pub fn read(&mut self, input: &[u8], out: &mut Reply) -> Result<(), Failure>
+        ensures stands { OnOk result (HasRead input.now out.new self.old self.new) }
+        ensures kept { OnErr result (self.new ≡ self.old) }
+    {
+        if !self.connection.can_read() {
+            return Err(Failure::Misplaced);
+        }
+        let Ok(count) = self.connection.read(input) else {
+            return Err(Failure::NoMemory);
+        };
+        tell_number(out, TOOK, count);
+        Ok(())
+    }
+
+    /// The input's end.
+    pub fn eof(&mut self, out: &mut Reply) -> Result<(), Failure>
+        ensures stands { OnOk result (HasMade on.eof self.old self.new) }
+        ensures kept { OnErr result (self.new ≡ self.old) }
+    {
+        if !self.connection.can_read() {
+            return Err(Failure::Misplaced);
+        }
+        self.connection.eof();
+        tell(out, DONE, 0);
+        Ok(())
+    }
+
+    /// The next answer's head.
+    pub fn next(&mut self, out: &mut Reply) -> Result<(), Failure>
+        ensures stands { OnOk result (HasNext out.new self.old self.new) }
+        ensures kept { OnErr result (self.new ≡ self.old) }
+    {
+        if !self.connection.can_next() {
+            return Err(Failure::Misplaced);
+        }
+        let Ok(next) = self.connection.next() else {
+            return Err(Failure::NoMemory);
+        };
+        keep_next(&mut self.answer, next, out);
+        Ok(())
+    }
+
+    /// More of the body.
+    pub fn pull(&mut self, out: &mut Reply) -> Result<(), Failure>
+        ensures stands { OnOk result (HasPulled out.new self.old self.new) }
+        ensures kept { OnErr result (self.new ≡ self.old) }
+    {
+        if !self.connection.can_pull() {
+            return Err(Failure::Misplaced);
+        }
+        let Ok(pulled) = self.connection.pull() else {
+            return Err(Failure::NoMemory);
+        };
+        self.handed.keep(pulled, out);
+        Ok(())
+    }
+
+    /// The rest of the body isn't wanted.
+    pub fn drop_body(&mut self, out: &mut Reply) -> Result<(), Failure>
+        ensures stands { OnOk result (HasMade on.drop_body self.old self.new) }
+        ensures kept { OnErr result (self.new ≡ self.old) }
+    {
+        if !self.connection.can_drop_body() {
+            return Err(Failure::Misplaced);
+        }
+        self.connection.drop_body();
+        tell(out, DONE, 0);
+        Ok(())
+    }
+
+    /// What is to be written next, where it lies.
+    pub fn front(&self, out: &mut Reply) -> Result<(), Failure> {
+        tell_bytes(out, GIVES, self.connection.front());
+        Ok(())
+    }
+
+    /// So many of these bytes were written.
+    pub fn advance(&mut self, count: u64, out: &mut Reply) -> Result<(), Failure>
+        ensures stands { OnOk result (HasWritten count self.old self.new) }
+        ensures kept { OnErr result (self.new ≡ self.old) }
+    {
+        let Ok(length) = usize::try_from(count) else {
+            return Err(Failure::Invalid);
+        };
+        if length > self.connection.front().len() {
+            return Err(Failure::Invalid);
+        }
+        if !self.connection.can_write() {
+            return Err(Failure::Misplaced);
+        }
+        self.connection.advance(length);
+        tell(out, DONE, 0);
+        Ok(())
+    }
+
+    /// The time.
+    pub fn tick(&mut self, moment: u64, out: &mut Reply) -> Result<(), Failure>
+        ensures stands { OnOk result (HasMade (on.tick moment) self.old self.new) }
+        ensures kept { OnErr result (self.new ≡ self.old) }
+    {
+        if !self.connection.can_tick(moment) {
+            return Err(Failure::Misplaced);
+        }
+        self.connection.tick(moment);
+        tell(out, DONE, 0);
+        Ok(())
+    }
+
+    /// The bytes that are held, from place `start` on.
+    pub fn held(&self, start: u64, out: &mut Reply) -> Result<(), Failure> {
+        let Ok(start) = usize::try_from(start) else {
+            return Err(Failure::Invalid);
+        };
+        let held = self.connection.held_bytes();
+        tell_bytes(out, HOLDS, &held[start.min(held.len())..]);
+        Ok(())
+    }
+
+    /// What may come next, why it ends, and its numbers.
+    pub fn state(&self, out: &mut Reply) -> Result<(), Failure> {
+        let it = &self.connection;
+        out.kind = STATE;
+        out.reason = match it.closing() {
+            Some(end) => end_number(end),
+            None => 0,
+        };
+        out.state = Numbers {
+            can: calls_of(it),
+            waiting: u32::try_from(it.waiting()).unwrap_or(u32::MAX),
+            buffered: it.front().len() as u64,
+            write_room: it.write_room() as u64,
+            held: it.held_bytes().len() as u64,
+            read_room: it.read_room() as u64,
+            deadline: u64::MAX,
+        };
+        Ok(())
+    }
+}
+
+// What may come next, a bit for each call: a request is asked for by `ask` itself.
+fn calls_of(it: &ClientConnection) -> u32 {
+    bit(it.can_read(), 1)
+        | bit(it.can_next(), 2)
+        | bit(it.can_pull(), 4)
+        | bit(it.can_drop_body(), 8)
+        | bit(it.can_chunk(), 64)
+        | bit(it.can_end_body(), 128)
+        | bit(it.can_write(), 256)
+        | bit(it.is_reusable(), 8192)
+}

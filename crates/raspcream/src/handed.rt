@@ -1,0 +1,60 @@
+//! What was handed out of a body.
+ghost use Rattle.std.specs.Prelude.{◌≡◌};
+ghost use Rattle.raspcream.specs.Numbers.{pulled_kind};
+
+use crate::reply::{
+    BROKEN, END, PENDING, PIECE, Reply, TRAILERS, fault_number, tell, tell_bytes, tell_fields,
+};
+use bytes::Bytes;
+use h1_connection::{HeaderMap, Pulled};
+
+/// The last piece of a body, and its trailers: C's spans lie in there.
+#[derive(Drop)]
+pub struct Handed {
+    piece: Option<Bytes>,
+    trailers: Option<HeaderMap>,
+}
+
+impl Handed {
+    /// Nothing.
+    pub fn new() -> Handed {
+        Handed {
+            piece: None,
+            trailers: None,
+        }
+    }
+
+    /// Keeps what came, and tells it.
+    pub fn keep(&mut self, pulled: Pulled, out: &mut Reply)
+        ensures { out.new.kind ≡ pulled_kind pulled }
+    {
+        match pulled {
+            Pulled::Bytes(bytes) => self.keep_piece(bytes, out),
+            Pulled::Trailers(trailers) => self.keep_trailers(trailers, out),
+            Pulled::End => tell(out, END, 0),
+            Pulled::Broken(fault) => tell(out, BROKEN, fault_number(fault)),
+            Pulled::Pending => tell(out, PENDING, 0),
+        }
+    }
+
+    // Spans are taken once what they are of lies where it stays.
+    fn keep_piece(&mut self, bytes: Bytes, out: &mut Reply)
+        ensures { out.new.kind ≡ 6 }
+    {
+        self.piece = Some(bytes);
+        if let Some(bytes) = &self.piece {
+            tell_bytes(out, PIECE, bytes.as_slice());
+        }
+        out.kind = PIECE;
+    }
+
+    fn keep_trailers(&mut self, trailers: HeaderMap, out: &mut Reply)
+        ensures { out.new.kind ≡ 7 }
+    {
+        self.trailers = Some(trailers);
+        if let Some(trailers) = &self.trailers {
+            tell_fields(trailers, out);
+        }
+        out.kind = TRAILERS;
+    }
+}
