@@ -1,0 +1,22 @@
+"""Builds the extension over libraspcream.a: the one in RASPCREAM_LIB_DIR, or else the one that `make` in bindings/c leaves."""
+import os
+
+from setuptools import Extension, setup
+
+here = os.path.dirname(os.path.abspath(__file__))
+library = os.environ.get("RASPCREAM_LIB_DIR", os.path.join(here, "..", "c", "out"))
+header = os.environ.get("RASPCREAM_INCLUDE_DIR", os.path.join(here, "..", "..", "include"))
+
+setup(
+    ext_modules=[
+        Extension(
+            "raspcream._conn",
+            ["raspcream/_conn.c"],
+            include_dirs=[header],
+            extra_objects=[os.path.join(library, "libraspcream.a")],
+            extra_compile_args=["-O2"],
+            py_limited_api=True,
+        )
+    ],
+    options={"bdist_wheel": {"py_limited_api": "cp311"}},
+)

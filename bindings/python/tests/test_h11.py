@@ -1,0 +1,93 @@
+"""The names of h11. Each test runs by pytest, and by unittest too."""
+import unittest
+
+import raspcream.h11 as h11
+
+
+def server():
+    return h11.Connection(h11.SERVER, now=lambda: 1700000000.0)
+
+
+class Server(unittest.TestCase):
+    def test_a_request_and_the_next_one(self):
+        conn = server()
+        conn.receive_data(b"POST /x HTTP/1.1\r\nHost: a\r\nContent-Length: 3\r\n\r\nabcGET /y HTTP/1.1\r\nHost: a\r\n\r\n")
+        headers = [(b"host", b"a"), (b"content-length", b"3")]
+        self.assertEqual(conn.next_event(), h11.Request(method=b"POST", target=b"/x", headers=headers))
+        self.assertEqual((conn.our_state, conn.their_state), (h11.SEND_RESPONSE, h11.SEND_BODY))
+        self.assertEqual([conn.next_event() for _ in range(3)], [h11.Data(data=b"abc"), h11.EndOfMessage(), h11.PAUSED])
+        text = conn.send(h11.Response(status_code=200, headers=[("Content-Length", "2")]))
+        self.assertEqual(text, b"HTTP/1.1 200 OK\r\ncontent-length: 2\r\ndate: Tue, 14 Nov 2023 22:13:20 GMT\r\n\r\n")
+        self.assertEqual((conn.send(h11.Data(data=b"hi")), conn.send(h11.EndOfMessage())), (b"hi", b""))
+        self.assertEqual(conn.states, {h11.SERVER: h11.DONE, h11.CLIENT: h11.DONE})
+        conn.start_next_cycle()
+        self.assertIs(type(conn.next_event()), h11.Request)
+        self.assertEqual([conn.next_event(), conn.next_event()], [h11.EndOfMessage(), h11.NEED_DATA])
+
+    def test_a_large_body_goes_through_the_hold(self):
+        conn = server()
+        conn.receive_data(b"POST / HTTP/1.1\r\nHost: a\r\nContent-Length: 1000000\r\n\r\n" + b"x" * 1000000)
+        event, size = conn.next_event(), 0
+        while type(event) is not h11.EndOfMessage:
+            self.assertIsNot(event, h11.NEED_DATA)
+            size += len(event.data) if type(event) is h11.Data else 0
+            event = conn.next_event()
+        self.assertEqual(size, 1000000)
+
+    def test_faults(self):
+        conn = server()
+        conn.receive_data(b"GET / HTTP/1.1\r\nbad line\r\n\r\n")
+        with self.assertRaises(h11.RemoteProtocolError) as raised:
+            conn.next_event()
+        self.assertEqual(raised.exception.error_status_hint, 400)
+        self.assertTrue(conn.bytes_to_send().startswith(b"HTTP/1.1 400 "))
+        with self.assertRaises(h11.LocalProtocolError):
+            server().send(h11.Response(status_code=200))
+        conn = server()
+        conn.receive_data(b"GET / HTTP/1.1\r\nHost: a\r\n\r\n")
+        conn.next_event()
+        with self.assertRaises(h11.LocalProtocolError):
+            conn.send(h11.Response(status_code=200, headers=[(b"x", b"a\r\nb: c")]))
+        self.assertIs(conn.our_state, h11.ERROR)
+
+    def test_a_client_that_waits_is_told_to_go_on(self):
+        conn = server()
+        conn.receive_data(b"POST / HTTP/1.1\r\nHost: a\r\nExpect: 100-continue\r\nContent-Length: 2\r\n\r\n")
+        conn.next_event()
+        self.assertTrue(conn.they_are_waiting_for_100_continue)
+        self.assertEqual(conn.send(h11.InformationalResponse(status_code=100)), b"HTTP/1.1 100 Continue\r\n\r\n")
+        self.assertFalse(conn.they_are_waiting_for_100_continue)
+
+    def test_what_is_behind_connect_is_trailing(self):
+        conn = server()
+        conn.receive_data(b"CONNECT a:1 HTTP/1.1\r\nHost: a:1\r\n\r\nmore")
+        self.assertEqual(conn.next_event().method, b"CONNECT")
+        self.assertEqual(conn.next_event(), h11.EndOfMessage())
+        self.assertIs(conn.next_event(), h11.PAUSED)
+        self.assertEqual(conn.trailing_data, (b"more", False))
+
+
+class TwoEnds(unittest.TestCase):
+    def test_exchanges(self):
+        server, client = h11.Connection(h11.SERVER), h11.Connection(h11.CLIENT)
+        for turn in range(20):
+            request = h11.Request(method="POST", target=f"/{turn}", headers=[("host", "a"), ("transfer-encoding", "chunked")])
+            text = client.send(request) + client.send(h11.Data(data=b"ab")) + client.send(h11.EndOfMessage())
+            server.receive_data(text)
+            self.assertEqual(server.next_event().target, b"/%d" % turn)
+            self.assertEqual([server.next_event(), server.next_event()], [h11.Data(data=b"ab"), h11.EndOfMessage()])
+            text = server.send(h11.Response(status_code=404)) + server.send(h11.Data(data=b"no")) + server.send(h11.EndOfMessage())
+            client.receive_data(text)
+            self.assertEqual(client.next_event().status_code, 404)
+            self.assertEqual([client.next_event(), client.next_event()], [h11.Data(data=b"no"), h11.EndOfMessage()])
+            server.start_next_cycle()
+            client.start_next_cycle()
+
+    def test_an_end_of_input(self):
+        conn = h11.Connection(h11.SERVER)
+        conn.receive_data(b"")
+        self.assertEqual(conn.next_event(), h11.ConnectionClosed())
+
+
+if __name__ == "__main__":
+    unittest.main()
