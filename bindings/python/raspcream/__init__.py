@@ -1,7 +1,7 @@
 """HTTP/1.1 and WebSocket connections without input or output, by a proved engine.
 
-`Conn` is one side of a connection, a server's or a client's, as fast as it gets. `raspcream.h11` has the names of h11, for
-programs that are written for it, and `raspcream.uvicorn` a protocol for uvicorn.
+`Conn` is one side of a connection, a server's or a client's. `raspcream.h11` has the names of h11, for programs that are
+written for it.
 
     conn = Conn()
     conn.tick(int(time.time() * 1000))
