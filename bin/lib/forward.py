@@ -1,4 +1,4 @@
-"""Clients of h1_forward, before servers that answer well and badly."""
+"""Clients of app_proxy, before servers that answer well and badly."""
 import os, re, socket, subprocess, tempfile, threading, time
 
 from checks import check, connect, differs, free_port, has, read_all, run, statuses_of, wait_for
@@ -57,7 +57,7 @@ def send_all(sock, data):
 
 
 def forward_clients(program, quick, files=None):
-    """Without an h1_files the browser is passed over."""
+    """Without an app_files the browser is passed over."""
     server = Upstream()
     usage_clients(program)
     with Forwarder(program, server.address) as forwarder:
@@ -86,8 +86,8 @@ def usage_clients(program):
             done = run(program, *words)
             return differs(done.returncode, status) or (None if wanted in done.stdout + done.stderr else (done.stdout + done.stderr)[:200])
         check("forwarder, " + name, make)
-    ends("--help", 0, b"h1_forward PORT SERVER", "--help")
-    ends("--version", 0, b"h1_forward 0.1.0\n", "--version")
+    ends("--help", 0, b"app_proxy PORT SERVER", "--help")
+    ends("--version", 0, b"app_proxy 0.1.0\n", "--version")
     ends("no words", 2, b"a port and a server are wanted")
     ends("a port that is none", 2, b"at most 65535", "70000", "80")
     ends("a server that is none", 2, b"127.0.0.1:8080", "0", "nowhere")
@@ -376,7 +376,7 @@ def browser_clients(program, files):
                        "--dump-dom", "http://%s:%d/page/" % forwarder.address, seconds=120)
             text = done.stdout.decode()
             return None if "4 pictures, all there" in text else text[:300]
-    check("forwarder, chromium, a page of h1_files with pictures and a script", make)
+    check("forwarder, chromium, a page of app_files with pictures and a script", make)
 
 
 # ---- nginx

@@ -1,4 +1,4 @@
-"""The program h1_get against servers: h1_files, h1_hello, Python's http.server, nginx, and servers that say by heart what
+"""The program app_get against servers: app_files, app_hello, Python's http.server, nginx, and servers that say by heart what
 they were told."""
 import os, socket, subprocess, sys, tempfile, threading
 
@@ -50,18 +50,18 @@ def get_clients(program, files, hello, folder):
             done = run(program, *words)
             return differs((done.returncode, done.stdout), (status, wanted))
         return make
-    check("h1_get of a small file", get(0, small, f"{url}/a.txt"))
-    check("h1_get of 3,000,000 bytes", get(0, big, f"{url}/big.bin"))
-    check("h1_get of three files, one after another", get(0, small + big + small, f"{url}/a.txt", f"{url}/big.bin", f"{url}/a.txt"))
-    check("h1_get by a host's name", get(0, small, url.replace("127.0.0.1", "localhost") + "/a.txt"))
-    check("h1_get of a file that isn't there, and of one that is", get_missing(program, url, small))
-    check("h1_get POST by length", get(0, big, echo, f"{folder}/big.bin"))
-    check("h1_get POST in chunks", get(0, big, "--chunked", echo, f"{folder}/big.bin"))
-    check("h1_get POST to a file, which isn't wanted", lambda: differs(run(program, f"{url}/a.txt", f"{folder}/big.bin").returncode, 8))
-    check("h1_get HEAD", get_head(program, f"{url}/big.bin"))
-    check("h1_get where nobody listens", lambda: differs(run(program, "http://127.0.0.1:%d/" % free_port()).returncode, 4))
-    check("h1_get of no file to send", lambda: differs(run(program, echo, f"{folder}/nothing").returncode, 3))
-    check("h1_get of no URL", lambda: differs(run(program, "--head").returncode, 2))
+    check("app_get of a small file", get(0, small, f"{url}/a.txt"))
+    check("app_get of 3,000,000 bytes", get(0, big, f"{url}/big.bin"))
+    check("app_get of three files, one after another", get(0, small + big + small, f"{url}/a.txt", f"{url}/big.bin", f"{url}/a.txt"))
+    check("app_get by a host's name", get(0, small, url.replace("127.0.0.1", "localhost") + "/a.txt"))
+    check("app_get of a file that isn't there, and of one that is", get_missing(program, url, small))
+    check("app_get POST by length", get(0, big, echo, f"{folder}/big.bin"))
+    check("app_get POST in chunks", get(0, big, "--chunked", echo, f"{folder}/big.bin"))
+    check("app_get POST to a file, which isn't wanted", lambda: differs(run(program, f"{url}/a.txt", f"{folder}/big.bin").returncode, 8))
+    check("app_get HEAD", get_head(program, f"{url}/big.bin"))
+    check("app_get where nobody listens", lambda: differs(run(program, "http://127.0.0.1:%d/" % free_port()).returncode, 4))
+    check("app_get of no file to send", lambda: differs(run(program, echo, f"{folder}/nothing").returncode, 3))
+    check("app_get of no URL", lambda: differs(run(program, "--head").returncode, 2))
     parrot_clients(program, folder, get)
     python_server(program, folder, get, small, big)
     nginx_server(program, folder, get, small, big)
@@ -94,7 +94,7 @@ def parrot_clients(program, folder, get):
             if heads is not None and len(parrot.heads) != heads:
                 return f"{len(parrot.heads)} requests"
             return differs((done.returncode, done.stdout), (status, wanted))
-        check("h1_get, " + name, make)
+        check("app_get, " + name, make)
     said("an interim answer first", 0, b"hi", [[b"HTTP/1.1 103 Early Hints\r\nlink: x\r\n\r\n" + ok]], "URL/")
     said("three answers over one connection", 0, b"hihihi", [[ok, ok, ok]], "URL/", "URL/a", "URL/b", count=1, heads=3)
     said("no body after a 304 or a 204", 0, b"hi", [[b"HTTP/1.1 304 Not Modified\r\ncontent-length: 5\r\n\r\n",
@@ -126,8 +126,8 @@ def python_server(program, folder, get, small, big):
     try:
         wait_for(("127.0.0.1", port))
         url = "http://127.0.0.1:%d" % port
-        check("h1_get of http.server, two files", get(0, small + big, f"{url}/a.txt", f"{url}/big.bin"))
-        check("h1_get of http.server, no such file", lambda: differs(b"status 404" in run(program, f"{url}/nothing").stderr, True))
+        check("app_get of http.server, two files", get(0, small + big, f"{url}/a.txt", f"{url}/big.bin"))
+        check("app_get of http.server, no such file", lambda: differs(b"status 404" in run(program, f"{url}/nothing").stderr, True))
     finally:
         server.terminate()
         server.wait()
@@ -155,12 +155,12 @@ def nginx_server(program, folder, get, small, big):
         try:
             wait_for(("127.0.0.1", port))
             url = "http://127.0.0.1:%d" % port
-            check("h1_get of nginx, three files", get(0, small + big + small, f"{url}/a.txt", f"{url}/big.bin", f"{url}/a.txt"))
-            check("h1_get of nginx, all of them over one connection",
+            check("app_get of nginx, three files", get(0, small + big + small, f"{url}/a.txt", f"{url}/big.bin", f"{url}/a.txt"))
+            check("app_get of nginx, all of them over one connection",
                   lambda: differs(len(set(open(f"{place}/access.log").read().split())), 1))
-            check("h1_get POST to nginx by length", get(0, b"taken", f"{url}/post", f"{folder}/big.bin"))
-            check("h1_get POST to nginx in chunks", get(0, b"taken", "--chunked", f"{url}/post", f"{folder}/big.bin"))
-            check("h1_get of nginx, no such file", lambda: differs(b"status 404" in run(program, f"{url}/nothing").stderr, True))
+            check("app_get POST to nginx by length", get(0, b"taken", f"{url}/post", f"{folder}/big.bin"))
+            check("app_get POST to nginx in chunks", get(0, b"taken", "--chunked", f"{url}/post", f"{folder}/big.bin"))
+            check("app_get of nginx, no such file", lambda: differs(b"status 404" in run(program, f"{url}/nothing").stderr, True))
         finally:
             server.terminate()
             server.wait()

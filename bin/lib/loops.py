@@ -1,4 +1,4 @@
-"""Clients of the servers over a dispatcher: h1_serve, a thread for each connection over one board of counters, and h1_looped,
+"""Clients of the servers over a dispatcher: app_counters, a thread for each connection over one board of counters, and app_site,
 an event loop."""
 import http.client, os, re, secrets, socket, subprocess, tempfile, threading
 
@@ -82,7 +82,7 @@ def deaf(address, name, path):
 # ---- a thread for each connection
 
 def counting_clients(address, program):
-    """The counters of h1_serve. Each check has a counter of its own, which no one has added to."""
+    """The counters of app_counters. Each check has a counter of its own, which no one has added to."""
     new = "/" + secrets.token_hex(8)
     if has("curl"):
         url = "http://%s:%d%s" % (*address, new)
@@ -153,7 +153,7 @@ def report_of_three(program):
 # ---- an event loop
 
 def looped_clients(address):
-    """The pages of h1_looped: a greeting, three lines in chunks, and an echo."""
+    """The pages of app_site: a greeting, three lines in chunks, and an echo."""
     url = "http://%s:%d" % address
     body = bytes(range(256)) * 200
 

@@ -5,7 +5,7 @@ from checks import connect, free_port, wait_for
 HELLO, LONG = b"hello\n", b"0123456789" * 20_000
 CLOSES = b" HTTP/1.1\r\nhost: a\r\nconnection: close\r\n\r\n"
 
-# What h1_files says of itself: memory that ran out, and a thread that couldn't be started.
+# What app_files says of itself: memory that ran out, and a thread that couldn't be started.
 NO_MEMORY, NO_THREAD = 5, 6
 
 # So long has a server for its end, in seconds.
@@ -85,7 +85,7 @@ class Server:
 
 
 def files_run(program, folder):
-    """A run of h1_files: each kind of answer, and then the same request until it is answered whole, at most twice."""
+    """A run of app_files: each kind of answer, and then the same request until it is answered whole, at most twice."""
     requests = [b"GET /a.txt", b"HEAD /a.txt", b"GET /long.bin", b"GET /", b"GET /sub/", b"GET /sub", b"GET /nothing", b"POST /a.txt",
                 b"NO HTTP\r\n\r\n"]
 
@@ -124,7 +124,7 @@ def files_judge():
 
 
 def looped_run(program):
-    """A run of h1_looped, of one thread: three connections, one after another."""
+    """A run of app_site, of one thread: three connections, one after another."""
     def run(environment):
         server = Server([program, "PORT", "1"], environment, True)
         answers = server.asked([b"GET /", b"GET /nothing", b"GET /lines"]) if server.listens() else []

@@ -1,4 +1,4 @@
-"""Members of the rooms of h1_chat: python's websockets, sockets by hand, and two browsers."""
+"""Members of the rooms of app_chat: python's websockets, sockets by hand, and two browsers."""
 import asyncio, base64, json, os, socket, subprocess, sys, tempfile, time, urllib.request
 
 sys.path.append("/usr/lib/python3/dist-packages")

@@ -1,4 +1,4 @@
-"""Scripts of h1_run: seeds, their lines as lists of words, and the program that replays them."""
+"""Scripts of app_replay: seeds, their lines as lists of words, and the program that replays them."""
 import os, re, signal, subprocess, tempfile
 
 ROOT = os.path.dirname(os.path.dirname(os.path.dirname(os.path.realpath(__file__))))
@@ -96,7 +96,7 @@ def seeds():
 
 def proved_program():
     """The proved program, where bin/prove or rt ci has made it on this machine."""
-    return program_of("h1_run")
+    return program_of("app_replay")
 
 
 def program_of(name, folder=None):
@@ -138,7 +138,7 @@ class Checked:
                 open(f"{folder}/cases/{number:05}", "wb").write(text_of(script).encode("latin-1"))
             with open(f"{folder}/out", "wb") as out, open(f"{folder}/said", "wb") as said:
                 process = subprocess.Popen(["rt", "try", "--cases", f"{folder}/cases", "--", "replay"], stdout=out,
-                                           stderr=said, stdin=subprocess.DEVNULL, cwd=f"{ROOT}/crates/h1_run")
+                                           stderr=said, stdin=subprocess.DEVNULL, cwd=f"{ROOT}/crates/app_replay")
                 try:
                     process.wait()
                 except BaseException:

@@ -1,4 +1,4 @@
-# What the launchers of scripts share (h1_run and ws_hub): their words, and a checked build that takes its input whole.
+# What the launchers of scripts share (app_replay and rooms): their words, and a checked build that takes its input whole.
 
 # What the program says of its words, by the sources of this crate.
 usage_of() { sed -n 's/.*b"\(usage: .*\)\\n".*/\1/p' "$root/crates/$1/src/reply.rt"; }

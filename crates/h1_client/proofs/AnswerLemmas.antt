@@ -2,26 +2,26 @@
 use Rattle.std.proofs.Common.{◌≡◌, ℕ, ◌<◌, ◌≤◌, Bool, true, false, not, ◌&&◌, ◌||◌, List, [], ◌∷◌, length, drop, Option, Some, None, inl, inr, refl, sym, ap, ◌∙◌, subst}
 use Rattle.std.specs.Prelude.{◌⊎◌, option_map, is_some, slice_range, bytes_eq, codes, ◌==◌, if◌then◌else◌, IsSome}
 use Rattle.std.specs.List.{list_any}
-use Rattle.h1_model.specs.HeadPiece.{IsHeadPiece}
-use Rattle.h1_model.specs.Request as model
-use Rattle.h1_model.specs.Request.{Fault, too_large, has_body}
-use Rattle.h1_model.specs.Setting.{Setting}
-use Rattle.h1_machine.specs.Kept.{rest_in, whole_rest}
+use Rattle.model_h1.specs.HeadPiece.{IsHeadPiece}
+use Rattle.model_h1.specs.Request as model
+use Rattle.model_h1.specs.Request.{Fault, too_large, has_body}
+use Rattle.model_h1.specs.Setting.{Setting}
+use Rattle.model_state.specs.Kept.{rest_in, whole_rest}
 use Rattle.h1_payload.specs.Fitting.{Fits}
 use Rattle.h1_payload.proofs.Fitting.{whole_fits}
-use Rattle.h1_decode.specs.ResponseItem.{SaysAnswer}
-use Rattle.h1_decode.specs.declared.response.ResponseItem.{ResponseItem}
-use Rattle.h1_decode.specs.declared.scan.HeadScan.{HeadScan}
-use Rattle.h1_decode.specs.declared.scan.HeadScan.TheVariants.{Open, Piece}
-use Rattle.h1_client_heads.specs.Meaning.{fault_of}
-use Rattle.h1_client_heads.specs.declared.heads.AnswerFault.{AnswerFault}
-use Rattle.h1_client_model.specs.AnswerTable.{body_to}
-use Rattle.h1_client_model.specs.AnswerParse.{is_interim}
-use Rattle.h1_client_model.specs.AnswerReading.{Answer, AnswerReading, answer_is, refused, IsAnswerReading, IsAnswerReadingWithin}
-use Rattle.h1_client_machine.specs.ClientEvent as on
-use Rattle.h1_client_machine.specs.ClientEvent.{ClientEnd}
-use Rattle.h1_client_machine.specs.ClientKept.{Waiting, ClientKept, client_closing, is_free, is_last}
-use Rattle.h1_client_machine.specs.ClientStep.{ClientChange, IsClientChange, IsNext, IsUpcoming, behind_head, behind_answer, behind_final, without_head, fault_end, is_closed_after, new_body}
+use Rattle.h1_decoder.specs.ResponseItem.{SaysAnswer}
+use Rattle.h1_decoder.specs.declared.response.ResponseItem.{ResponseItem}
+use Rattle.h1_decoder.specs.declared.scan.HeadScan.{HeadScan}
+use Rattle.h1_decoder.specs.declared.scan.HeadScan.TheVariants.{Open, Piece}
+use Rattle.h1_client.specs.HeadMeaning.{fault_of}
+use Rattle.h1_client.specs.declared.heads.AnswerFault.{AnswerFault}
+use Rattle.model_client.specs.AnswerTable.{body_to}
+use Rattle.model_client.specs.AnswerParse.{is_interim}
+use Rattle.model_client.specs.AnswerReading.{Answer, AnswerReading, answer_is, refused, IsAnswerReading, IsAnswerReadingWithin}
+use Rattle.model_client.specs.ClientEvent as on
+use Rattle.model_client.specs.ClientEvent.{ClientEnd}
+use Rattle.model_client.specs.ClientKept.{Waiting, ClientKept, client_closing, is_free, is_last}
+use Rattle.model_client.specs.ClientStep.{ClientChange, IsClientChange, IsNext, IsUpcoming, behind_head, behind_answer, behind_final, without_head, fault_end, is_closed_after, new_body}
 use Rattle.h1_client.specs.Answers.{SaysNext, IsNexted, IsAnswered, IsBegun, NeedsNoMemory}
 use Rattle.h1_client.specs.Incoming.{Incoming, is_coming_in, IsFound, IsFoundIn, place_in}
 use Rattle.h1_client.specs.Meaning.{end_of}

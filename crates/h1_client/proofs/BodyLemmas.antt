@@ -2,15 +2,15 @@
 use Rattle.std.proofs.Common.{◌≡◌, ℕ, ◌-◌, ◌<◌, Bool, true, false, not, ◌&&◌, ◌||◌, List, [], ◌∷◌, ◌++◌, length, take, Option, Some, None, refl, sym, ap, ◌∙◌, subst}
 use Rattle.std.specs.Prelude.{is_some, option_map, min, if◌then◌else◌}
 use Rattle.std.specs.Option.{option_or}
-use Rattle.h1_model.specs.Limits.{MAX_MOMENT}
-use Rattle.h1_model.specs.Setting.{Setting}
-use Rattle.h1_decode.specs.declared.scan.HeadScan.{HeadScan}
-use Rattle.h1_machine.specs.Kept.{Rest, no_rest, raw_rest, fixed_rest, chunks_rest, frames_rest, rest_in, is_nothing}
-use Rattle.h1_machine.specs.Body.{Passed, pass_rest}
+use Rattle.model_h1.specs.Limits.{MAX_MOMENT}
+use Rattle.model_h1.specs.Setting.{Setting}
+use Rattle.h1_decoder.specs.declared.scan.HeadScan.{HeadScan}
+use Rattle.model_state.specs.Kept.{Rest, no_rest, raw_rest, fixed_rest, chunks_rest, frames_rest, rest_in, is_nothing}
+use Rattle.model_state.specs.Body.{Passed, pass_rest}
 use Rattle.h1_payload.specs.Fitting.{Fits}
-use Rattle.h1_client_machine.specs.ClientEvent as on
-use Rattle.h1_client_machine.specs.ClientKept.{ReadingBody, ClientKept, is_free, is_last}
-use Rattle.h1_client_machine.specs.ClientStep.{is_broken, passed_body, passing, pass, dropping, body_at_end, ending_input, doing, IsClientChange}
+use Rattle.model_client.specs.ClientEvent as on
+use Rattle.model_client.specs.ClientKept.{ReadingBody, ClientKept, is_free, is_last}
+use Rattle.model_client.specs.ClientStep.{is_broken, passed_body, passing, pass, dropping, body_at_end, ending_input, doing, IsClientChange}
 use Rattle.h1_client.specs.Incoming.{Incoming, is_coming_in}
 use Rattle.h1_client.specs.Meaning.{end_of}
 use Rattle.h1_client.specs.Bodies.{dropped_reading, ended_reading, failing, passed_is_done, passed_breaks, IsPassedBody}

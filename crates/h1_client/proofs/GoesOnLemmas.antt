@@ -5,13 +5,13 @@ use Rattle.std.specs.Prelude.{IsTrue, OnOk, OnErr, IfOk, option_map, is_some, na
 use Rattle.http_config.specs.Config.{Settings}
 use Rattle.http_framing.specs.declared.body.size.BodySize.{BodySize}
 use Rattle.http_types.specs.declared.requests.head.RequestHead.{RequestHead}
-use Rattle.h1_codec.specs.Meaning.{size_of}
-use Rattle.h1_model.specs.Limits.{MAX_MOMENT}
-use Rattle.h1_model.specs.Setting.{Setting}
-use Rattle.h1_client_machine.specs.ClientEvent as on
-use Rattle.h1_client_machine.specs.ClientKept.{ClientKept, client_allows}
-use Rattle.h1_client_machine.specs.ClientTrace.{Happened}
-use Rattle.h1_request.specs.Meaning.{has_text}
+use Rattle.h1_encoder.specs.Meaning.{size_of}
+use Rattle.model_h1.specs.Limits.{MAX_MOMENT}
+use Rattle.model_h1.specs.Setting.{Setting}
+use Rattle.model_client.specs.ClientEvent as on
+use Rattle.model_client.specs.ClientKept.{ClientKept, client_allows}
+use Rattle.model_client.specs.ClientTrace.{Happened}
+use Rattle.h1_encoder.specs.RequestMeaning.{has_text}
 use Rattle.h1_client.specs.Bodies.{is_dropped_in, SaysPulled, IsPulledIn}
 use Rattle.h1_client.specs.Answers.{SaysNext, IsNexted}
 use Rattle.h1_client.specs.Meaning.{setting_of, request_of}

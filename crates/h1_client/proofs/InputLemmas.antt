@@ -1,13 +1,13 @@
 -- The search for a head in the bytes that are held.
 use Rattle.std.proofs.Common.{◌≡◌, ℕ, Bool, true, false, List, [], ◌++◌, Option, Some, None, refl, sym, ap, ◌∙◌, subst}
 use Rattle.std.specs.Prelude.{is_some}
-use Rattle.h1_model.specs.HeadPiece.{IsHeadPiece}
-use Rattle.h1_model.proofs.HeadPieceLemmas.{head_piece_append}
-use Rattle.h1_decode.specs.declared.scan.HeadScan.{HeadScan}
-use Rattle.h1_decode.specs.declared.scan.HeadScan.TheVariants.{Open, Piece}
-use Rattle.h1_decode.specs.HeadPosition.{HeadPosition, HasScanned}
-use Rattle.h1_decode.specs.HeadScan.{AnswersScan}
-use Rattle.h1_decode.proofs.HeadPieceLemmas.{HasScanned-append}
+use Rattle.model_h1.specs.HeadPiece.{IsHeadPiece}
+use Rattle.model_h1.proofs.HeadPieceLemmas.{head_piece_append}
+use Rattle.h1_decoder.specs.declared.scan.HeadScan.{HeadScan}
+use Rattle.h1_decoder.specs.declared.scan.HeadScan.TheVariants.{Open, Piece}
+use Rattle.h1_decoder.specs.HeadPosition.{HeadPosition, HasScanned}
+use Rattle.h1_decoder.specs.HeadScan.{AnswersScan}
+use Rattle.h1_decoder.proofs.HeadPieceLemmas.{HasScanned-append}
 use Rattle.h1_client.specs.Incoming.{Incoming, incoming, IsFound, IsFoundIn, IsSearchedTo, IsSearched, CanScan, CanGoOn, place_in}
 use Rattle.h1_client.specs.declared.connection.input.Scan.{Scan}
 

@@ -1,3 +1,5 @@
+pub mod ValueLemmas
+pub mod AfterLemmas
 pub mod StepLemmas
 pub mod InputLemmas
 pub mod BodyLemmas

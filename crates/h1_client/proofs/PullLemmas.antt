@@ -2,22 +2,22 @@
 use Rattle.std.proofs.Common.{◌≡◌, ℕ, ◌<◌, Bool, true, false, not, ◌&&◌, ◌||◌, List, [], ◌∷◌, ◌++◌, Option, Some, None, refl, sym, ap, ◌∙◌, subst}
 use Rattle.std.specs.Prelude.{is_some, option_map, if◌then◌else◌}
 use Rattle.std.specs.Option.{option_or}
-use Rattle.h1_chunks.specs.Place.{Place}
-use Rattle.h1_chunks.specs.TakeNext.{Next, chunk, waits, ended, breaks, take_next}
-use Rattle.h1_model.specs.Setting.{Setting}
-use Rattle.h1_model.specs.Event as server
-use Rattle.h1_decode.specs.declared.scan.HeadScan.{HeadScan}
-use Rattle.h1_machine.specs.Kept.{Rest, no_rest, raw_rest, fixed_rest, chunks_rest, frames_rest}
-use Rattle.h1_machine.specs.Pull.{Pulled, lacking, pull_fixed, pull_raw, EndsWith, IsPullOfChunks, IsPull}
+use Rattle.model_h1.specs.Place.{Place}
+use Rattle.model_h1.specs.TakeNext.{Next, chunk, waits, ended, breaks, take_next}
+use Rattle.model_h1.specs.Setting.{Setting}
+use Rattle.model_h1.specs.Event as server
+use Rattle.h1_decoder.specs.declared.scan.HeadScan.{HeadScan}
+use Rattle.model_state.specs.Kept.{Rest, no_rest, raw_rest, fixed_rest, chunks_rest, frames_rest}
+use Rattle.model_state.specs.Pull.{Pulled, lacking, pull_fixed, pull_raw, EndsWith, IsPullOfChunks, IsPull}
 use Rattle.h1_payload.specs.Fitting.{Fits}
 use Rattle.h1_payload.specs.Rests as payload
 use Rattle.h1_payload.specs.declared.pulled.Pulled.{Pulled as Answer}
 use Rattle.h1_payload.specs.declared.pulled.Pulled.TheVariants as answers
 use Rattle.h1_payload.proofs.Fitting.{a_pull, still_fits}
-use Rattle.h1_client_machine.specs.ClientEvent as on
-use Rattle.h1_client_machine.specs.ClientEvent.{ClientEnd}
-use Rattle.h1_client_machine.specs.ClientKept.{ClientKept, ReadingBody, is_free}
-use Rattle.h1_client_machine.specs.ClientStep.{outcome_of, end_of, pulled_from, IsPulling, IsClientChange}
+use Rattle.model_client.specs.ClientEvent as on
+use Rattle.model_client.specs.ClientEvent.{ClientEnd}
+use Rattle.model_client.specs.ClientKept.{ClientKept, ReadingBody, is_free}
+use Rattle.model_client.specs.ClientStep.{outcome_of, end_of, pulled_from, IsPulling, IsClientChange}
 use Rattle.h1_client.specs.Incoming.{Incoming, is_coming_in}
 use Rattle.h1_client.specs.Meaning as meaning
 use Rattle.h1_client.specs.Bodies.{SaysPulled, tells_done, breaks_body, failing, is_dropped_in, IsPulledFrom, IsPulledIn, IsLightPull}

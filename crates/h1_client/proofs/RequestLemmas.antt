@@ -3,16 +3,16 @@ use Rattle.std.proofs.Common.{◌≡◌, ℕ, ◌-◌, ◌+◌, Bool, true, fals
 use Rattle.std.specs.Prelude.{is_some, option_map, nat_lt, if◌then◌else◌}
 use Rattle.std.specs.List.{list_any}
 use Rattle.std.specs.Option.{option_or}
-use Rattle.h1_model.specs.Answer as answers
-use Rattle.h1_model.specs.AnswerText.{piece_text, end_text}
-use Rattle.h1_model.specs.Setting.{Setting}
-use Rattle.h1_codec.specs.Meaning.{model_shape, size_of}
+use Rattle.model_h1.specs.Answer as answers
+use Rattle.model_h1.specs.AnswerText.{piece_text, end_text}
+use Rattle.model_h1.specs.Setting.{Setting}
+use Rattle.h1_encoder.specs.Meaning.{model_shape, size_of}
 use Rattle.http_framing.specs.declared.body.size.BodySize.{BodySize}
 use Rattle.http_types.specs.declared.requests.head.RequestHead.{RequestHead}
-use Rattle.h1_client_model.specs.RequestText.{request_text, asked_shape}
-use Rattle.h1_client_machine.specs.ClientEvent as on
-use Rattle.h1_client_machine.specs.ClientKept.{Waiting, SendingBody, ClientKept, waiting_of, is_last}
-use Rattle.h1_client_machine.specs.ClientStep.{begun_body, asking, piece_of, sending_piece, ending_body, doing}
+use Rattle.model_client.specs.RequestText.{request_text, asked_shape}
+use Rattle.model_client.specs.ClientEvent as on
+use Rattle.model_client.specs.ClientKept.{Waiting, SendingBody, ClientKept, waiting_of, is_last}
+use Rattle.model_client.specs.ClientStep.{begun_body, asking, piece_of, sending_piece, ending_body, doing}
 use Rattle.h1_client.specs.Meaning.{request_of, end_of}
 use Rattle.h1_client.specs.Bodies.{failing}
 use Rattle.h1_client.specs.Requests.{SendsNoPiece, SendsNoEnd}

@@ -2,14 +2,14 @@
 use Rattle.std.proofs.Common.{◌≡◌, ℕ, ◌<◌, Bool, true, false, List, [], Option, Some, None, refl, sym, ap, ◌∙◌, subst, lit<}
 use Rattle.std.specs.Prelude.{is_some, option_map, if◌then◌else◌}
 use Rattle.std.specs.Option.{option_or}
-use Rattle.h1_model.specs.Limits.{MAX_MOMENT}
-use Rattle.h1_model.specs.Setting.{Setting}
-use Rattle.h1_machine.specs.Change.{IsComing}
-use Rattle.h1_decode.specs.declared.scan.HeadScan.{HeadScan}
-use Rattle.h1_decode.specs.declared.scan.HeadScan.TheVariants.{Open, Piece}
-use Rattle.h1_client_machine.specs.ClientEvent as on
-use Rattle.h1_client_machine.specs.ClientKept.{ClientKept, is_free, is_last}
-use Rattle.h1_client_machine.specs.ClientStep.{ClientChange, IsClientChange}
+use Rattle.model_h1.specs.Limits.{MAX_MOMENT}
+use Rattle.model_h1.specs.Setting.{Setting}
+use Rattle.model_state.specs.Change.{IsComing}
+use Rattle.h1_decoder.specs.declared.scan.HeadScan.{HeadScan}
+use Rattle.h1_decoder.specs.declared.scan.HeadScan.TheVariants.{Open, Piece}
+use Rattle.model_client.specs.ClientEvent as on
+use Rattle.model_client.specs.ClientKept.{ClientKept, is_free, is_last}
+use Rattle.model_client.specs.ClientStep.{ClientChange, IsClientChange}
 use Rattle.h1_client.specs.Incoming.{Incoming, is_coming_in, IsFoundIn, IsFound}
 use Rattle.h1_client.specs.Meaning.{end_of}
 use Rattle.h1_client.specs.Bodies.{failing}

@@ -5,10 +5,10 @@ use Rattle.std.proofs.lemmas.Bool.{ne_eqb}
 use Rattle.http_header.specs.FieldValue.{FieldValue}
 use Rattle.http_map.specs.HeaderMap.{Entries, get_all, IsHeaderMap}
 use Rattle.http_map.proofs.CallerLemmas.{same_bytes, bytes_eq-itself}
-use Rattle.h1_model.specs.Request.{Header}
-use Rattle.h1_model.specs.LengthTable.{values_of, is_there}
-use Rattle.h1_codec.specs.Meaning.{headers_of, lines_of}
-use Rattle.h1_codec.proofs.ByName.{AreFilled, all_filled}
+use Rattle.model_h1.specs.Request.{Header}
+use Rattle.model_h1.specs.LengthTable.{values_of, is_there}
+use Rattle.h1_encoder.specs.Meaning.{headers_of, lines_of}
+use Rattle.h1_encoder.proofs.ByName.{AreFilled, all_filled}
 
 -- the lines of another name add nothing
 other_values : (name key : List ℕ) (values : List FieldValue) (rest : List Header) → bytes_eq key name ≡ false

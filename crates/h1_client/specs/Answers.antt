@@ -1,18 +1,18 @@
 -- What comes where the next answer is asked for.
 use Rattle.std.specs.Prelude.{◌≡◌, ℕ, Bool, true, false, not, ◌||◌, ◌⊎◌, List, codes, bytes_eq, drop, Option, Some, IsSome}
-use Rattle.h1_model.specs.Request as model
-use Rattle.h1_model.specs.Request.{has_body}
-use Rattle.h1_model.specs.Setting.{Setting}
-use Rattle.h1_machine.specs.Kept.{whole_rest, rest_in}
-use Rattle.h1_decode.specs.ResponseItem.{SaysAnswer}
-use Rattle.h1_decode.specs.declared.response.ResponseItem.{ResponseItem}
-use Rattle.h1_client_heads.specs.Meaning.{fault_of}
-use Rattle.h1_client_model.specs.AnswerTable.{body_to}
-use Rattle.h1_client_model.specs.AnswerParse.{is_interim}
-use Rattle.h1_client_model.specs.AnswerReading.{Answer, answer_is, IsAnswerReading}
-use Rattle.h1_client_machine.specs.ClientEvent as on
-use Rattle.h1_client_machine.specs.ClientKept.{Waiting, ClientKept, client_closing}
-use Rattle.h1_client_machine.specs.ClientStep.{is_closed_after}
+use Rattle.model_h1.specs.Request as model
+use Rattle.model_h1.specs.Request.{has_body}
+use Rattle.model_h1.specs.Setting.{Setting}
+use Rattle.model_state.specs.Kept.{whole_rest, rest_in}
+use Rattle.h1_decoder.specs.ResponseItem.{SaysAnswer}
+use Rattle.h1_decoder.specs.declared.response.ResponseItem.{ResponseItem}
+use Rattle.h1_client.specs.HeadMeaning.{fault_of}
+use Rattle.model_client.specs.AnswerTable.{body_to}
+use Rattle.model_client.specs.AnswerParse.{is_interim}
+use Rattle.model_client.specs.AnswerReading.{Answer, answer_is, IsAnswerReading}
+use Rattle.model_client.specs.ClientEvent as on
+use Rattle.model_client.specs.ClientKept.{Waiting, ClientKept, client_closing}
+use Rattle.model_client.specs.ClientStep.{is_closed_after}
 use Rattle.h1_client.specs.Meaning.{end_of}
 use Rattle.h1_client.specs.Parts.{IsFirst, Steps}
 use Rattle.h1_client.specs.declared.connection.parts.Parts.{Parts}

@@ -1,19 +1,19 @@
 -- What is done with the body of the last answer.
 use Rattle.std.specs.Prelude.{◌≡◌, ℕ, Bool, true, false, not, ◌&&◌, ◌||◌, if◌then◌else◌, List, Option, Some, None, ⊤}
 use Rattle.std.specs.Option.{option_or}
-use Rattle.h1_model.specs.Request.{Header}
-use Rattle.h1_model.specs.Setting.{Setting}
-use Rattle.h1_machine.specs.Kept.{Rest, is_nothing, rest_in}
-use Rattle.h1_machine.specs.Pull as pulls
-use Rattle.h1_machine.specs.Pull.{IsPull}
-use Rattle.http_lines.specs.HeaderLines.{header_map}
+use Rattle.model_h1.specs.Request.{Header}
+use Rattle.model_h1.specs.Setting.{Setting}
+use Rattle.model_state.specs.Kept.{Rest, is_nothing, rest_in}
+use Rattle.model_state.specs.Pull as pulls
+use Rattle.model_state.specs.Pull.{IsPull}
+use Rattle.http_framing.specs.HeaderLines.{header_map}
 use Rattle.h1_payload.specs.Rests.{fault_of, IsLight}
 use Rattle.h1_payload.specs.Rests as server
 use Rattle.h1_payload.specs.declared.pulled.Pulled.{Pulled}
 use Rattle.h1_payload.specs.declared.pulled.Pulled.TheVariants as pulled
-use Rattle.h1_client_machine.specs.ClientEvent as on
-use Rattle.h1_client_machine.specs.ClientKept.{ReadingBody, ClientKept}
-use Rattle.h1_client_machine.specs.ClientStep.{is_broken, pass}
+use Rattle.model_client.specs.ClientEvent as on
+use Rattle.model_client.specs.ClientKept.{ReadingBody, ClientKept}
+use Rattle.model_client.specs.ClientStep.{is_broken, pass}
 use Rattle.h1_client.specs.Incoming.{Incoming}
 use Rattle.h1_client.specs.Parts.{kept_of, FitsIn, Steps}
 use Rattle.h1_client.specs.declared.connection.bodies.Reading.{Reading}

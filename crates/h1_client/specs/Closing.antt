@@ -1,7 +1,7 @@
 -- Why a connection closes on which nothing has failed and no answer is read.
 use Rattle.std.specs.Prelude.{not, ◌&&◌, if◌then◌else◌, Option, Some, None}
-use Rattle.h1_client_machine.specs.ClientEvent.{ClientEnd, asked, unasked, input_ended}
-use Rattle.h1_client_machine.specs.ClientKept.{ClientKept, is_waited_for, has_bytes}
+use Rattle.model_client.specs.ClientEvent.{ClientEnd, asked, unasked, input_ended}
+use Rattle.model_client.specs.ClientKept.{ClientKept, is_waited_for, has_bytes}
 
 abbrev pub closing_if_free : ClientKept → Option ClientEnd
 closing_if_free k =

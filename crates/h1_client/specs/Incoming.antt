@@ -1,10 +1,10 @@
 -- What a client connection holds of its input: the bytes that were taken and not passed, and what was found of a head.
 use Rattle.std.specs.Prelude.{◌≡◌, ℕ, Bool, true, false, List, Option, Some, None, option_map, ⊤}
-use Rattle.h1_model.specs.HeadPiece.{IsHeadPiece, HasNoHeadPiece}
-use Rattle.h1_decode.specs.declared.scan.HeadScan.{HeadScan}
-use Rattle.h1_decode.specs.declared.scan.HeadScan.TheVariants.{Open, Piece}
-use Rattle.h1_decode.specs.HeadPosition.{HeadPosition, HasScanned}
-use Rattle.h1_decode.specs.HeadScan.{AnswersScan}
+use Rattle.model_h1.specs.HeadPiece.{IsHeadPiece, HasNoHeadPiece}
+use Rattle.h1_decoder.specs.declared.scan.HeadScan.{HeadScan}
+use Rattle.h1_decoder.specs.declared.scan.HeadScan.TheVariants.{Open, Piece}
+use Rattle.h1_decoder.specs.HeadPosition.{HeadPosition, HasScanned}
+use Rattle.h1_decoder.specs.HeadScan.{AnswersScan}
 use Rattle.h1_client.specs.declared.connection.input.Scan.{Scan}
 
 -- The bytes, and where the first head stands among them, where one is searched for.

@@ -1,3 +1,4 @@
+pub mod HeadMeaning
 pub mod Meaning
 pub mod Incoming
 pub mod Parts

@@ -8,11 +8,11 @@ use Rattle.http_types.specs.Flags.{type_of_flags}
 use Rattle.http_types.specs.RequestHead.{request_flags}
 use Rattle.http_types.specs.declared.message.ConnectionType.{ConnectionType}
 use Rattle.http_types.specs.declared.requests.head.RequestHead.{RequestHead}
-use Rattle.h1_model.specs.Setting.{Setting, KeepAlive, timeout, by_system, disabled}
-use Rattle.h1_codec.specs.Meaning.{model_type}
-use Rattle.h1_request.specs.Meaning.{asked_head}
-use Rattle.h1_client_machine.specs.ClientEvent as on
-use Rattle.h1_client_machine.specs.ClientEvent.{ClientRequest}
+use Rattle.model_h1.specs.Setting.{Setting, KeepAlive, timeout, by_system, disabled}
+use Rattle.h1_encoder.specs.Meaning.{model_type}
+use Rattle.h1_encoder.specs.RequestMeaning.{asked_head}
+use Rattle.model_client.specs.ClientEvent as on
+use Rattle.model_client.specs.ClientEvent.{ClientRequest}
 use Rattle.h1_client.specs.declared.event.ClientEnd.{ClientEnd}
 use Rattle.h1_client.specs.declared.event.ClientEnd.TheVariants.{BadAnswer, LargeAnswer, BrokenAnswer, FailedRequest, Asked, Unasked, InputEnded}
 

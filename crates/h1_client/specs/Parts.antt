@@ -1,12 +1,12 @@
 -- What a client connection's fields mean: what the machine keeps.
 use Rattle.std.specs.Prelude.{◌≡◌, ◌<◌, Bool, true, false, List, [], ◌∷◌, codes, bytes_eq, Option, Some, None, option_map, is_some, ⊤}
-use Rattle.h1_model.specs.Limits.{MAX_MOMENT}
-use Rattle.h1_model.specs.Setting.{Setting}
-use Rattle.h1_codec.specs.Meaning.{model_shape}
+use Rattle.model_h1.specs.Limits.{MAX_MOMENT}
+use Rattle.model_h1.specs.Setting.{Setting}
+use Rattle.h1_encoder.specs.Meaning.{model_shape}
 use Rattle.h1_payload.specs.Fitting.{Fits}
-use Rattle.h1_client_machine.specs.ClientEvent as on
-use Rattle.h1_client_machine.specs.ClientKept.{Waiting, SendingBody, ReadingBody, ClientKept, is_free, is_last}
-use Rattle.h1_client_machine.specs.ClientStep.{IsClientStep}
+use Rattle.model_client.specs.ClientEvent as on
+use Rattle.model_client.specs.ClientKept.{Waiting, SendingBody, ReadingBody, ClientKept, is_free, is_last}
+use Rattle.model_client.specs.ClientStep.{IsClientStep}
 use Rattle.h1_client.specs.Incoming.{is_coming_in, IsFound}
 use Rattle.h1_client.specs.Meaning.{end_of}
 use Rattle.h1_client.specs.declared.connection.bodies.Reading.{Reading}

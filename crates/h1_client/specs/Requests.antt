@@ -1,8 +1,8 @@
 -- Of which calls for a request's body nothing goes out.
 use Rattle.std.specs.Prelude.{◌≡◌, ℕ, List, [], Option, Some, None, ⊤}
-use Rattle.h1_model.specs.AnswerText.{end_text}
-use Rattle.h1_client_machine.specs.ClientKept.{SendingBody}
-use Rattle.h1_client_machine.specs.ClientStep.{piece_of}
+use Rattle.model_h1.specs.AnswerText.{end_text}
+use Rattle.model_client.specs.ClientKept.{SendingBody}
+use Rattle.model_client.specs.ClientStep.{piece_of}
 
 -- nothing of the piece goes out
 abbrev pub SendsNoPiece : Option SendingBody → List ℕ → Type 0

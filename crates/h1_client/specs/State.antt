@@ -1,10 +1,10 @@
 -- A client's connection as its contracts see it: its settings, and what the machine keeps.
 use Rattle.std.specs.Prelude.{◌≡◌, ◌<◌, List, [], ◌∷◌, length, IsTrue}
 use Rattle.http_config.specs.Config.{Settings}
-use Rattle.h1_client_machine.specs.ClientEvent as on
-use Rattle.h1_client_machine.specs.ClientKept.{ClientKept, fresh_client, client_allows}
-use Rattle.h1_client_machine.specs.ClientStep.{IsClientStep}
-use Rattle.h1_client_machine.specs.ClientTrace.{Happened, IsClientTrace}
+use Rattle.model_client.specs.ClientEvent as on
+use Rattle.model_client.specs.ClientKept.{ClientKept, fresh_client, client_allows}
+use Rattle.model_client.specs.ClientStep.{IsClientStep}
+use Rattle.model_client.specs.ClientTrace.{Happened, IsClientTrace}
 use Rattle.h1_client.specs.Meaning.{setting_of}
 
 pub record State : Type 0 where

@@ -1,9 +1,9 @@
 //! The client's side of a connection: what it keeps between two events, and its answer to each.
 ghost use Rattle.std.specs.Prelude.{◌≡◌, ◌≤◌, ◌-◌, ℕ, List, [], false, length, take, option_map, IfOk, IsOk, OnOk, OnErr};
-ghost use Rattle.h1_codec.specs.Meaning.{size_of};
-ghost use Rattle.h1_model.specs.Answer.{is_at_once};
-ghost use Rattle.h1_client_machine.specs.ClientEvent as on;
-ghost use Rattle.h1_client_machine.specs.ClientKept.{client_closing, is_reusable};
+ghost use Rattle.h1_encoder.specs.Meaning.{size_of};
+ghost use Rattle.model_h1.specs.Answer.{is_at_once};
+ghost use Rattle.model_client.specs.ClientEvent as on;
+ghost use Rattle.model_client.specs.ClientKept.{client_closing, is_reusable};
 ghost use Rattle.h1_client.specs.Answers.{SaysNext, NeedsNoMemory};
 ghost use Rattle.h1_client.specs.Bodies.{SaysPulled, IsLightPull};
 ghost use Rattle.h1_client.specs.Meaning.{request_of, end_of};

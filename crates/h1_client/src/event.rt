@@ -1,5 +1,5 @@
 //! What a client's side of a connection answers.
-use h1_client_heads::{AnswerFault, ResponseItem};
+use crate::{AnswerFault, ResponseItem};
 
 /// Why a connection ends.
 #[derive(Clone, Copy, Debug, PartialEq, Eq)]

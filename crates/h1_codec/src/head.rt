@@ -1,247 +1,64 @@
-//! The head of an answer.
-ghost use Rattle.std.specs.Prelude.{◌≡◌, ℕ, [], ◌++◌, ◌/◌, ◌<◌, ◌≤◌, ◌+◌, ◌∷◌, length, codes, decimal, OnOk, OnErr, IsTrue, true, if◌then◌else◌};
-ghost use Rattle.http.specs.StatusCode.{code_digits};
-ghost use Rattle.httparse.specs.Ascii.{crlf_bytes};
-ghost use Rattle.h1_model.specs.Limits.{MAX_MOMENT};
-ghost use Rattle.h1_model.specs.Answer as answers;
-ghost use Rattle.h1_model.specs.AnswerText as texts;
-ghost use Rattle.h1_model.specs.AnswerText.{content_length_line, date_line, head_text};
-ghost use Rattle.h1_codec.specs.Meaning.{answer_of, size_of, model_type, model_shape};
-ghost use Rattle.h1_codec.specs.Lines.{Grows, status_words};
+//! The next head of an answer.
+ghost use Rattle.std.specs.Prelude.{◌≡◌, ◌≢◌, OnErr, Err};
+ghost use Rattle.http_types.specs.declared.error.ParseError.TheVariants as errors;
+ghost use Rattle.h1_encoder.specs.Light.{NeedsNoMemory};
+ghost use Rattle.http_types.specs.Flags.{type_of_flags};
+ghost use Rattle.h1_encoder.specs.ClientState.{answered, passes_on, client_standing};
+ghost use Rattle.h1_encoder.specs.ClientAnswers.{IsHeaded, IsHeadStep};
 
-use crate::Asked;
-use crate::date::DateLine;
-use crate::headers::put_headers;
-use crate::shape::{Shape, is_bodiless, shape_of};
+use crate::ClientError;
+use crate::client::Client;
 use bytes::BytesMut;
-use http_framing::BodySize;
-use http_types::{ConnectionType, NoMemory, ResponseHead, StatusCode};
+use h1_decoder::ResponseItem;
+use crate::next_head;
+use http_types::{ConnectionType, ResponseHead};
 
-// What a head has beside its own headers and a reason of its own, but for rare lengths of its body.
-const USUAL_LEN: usize = 160;
-
-// What a header line has in the mean.
-const USUAL_LINE_LEN: usize = 40;
-
-/// Puts the head of an answer behind what `out` holds: the status line in the request's version, the line that
-/// frames the body, the connection line, the headers name by name, the date unless a header is one, and the
-/// empty line (RFC 7230, section 3). `now` is in milliseconds since the start of 1970, before the year 10000.
-/// Where memory is wanting `out` holds what it held.
-pub fn put_answer_head(
-    out: &mut BytesMut,
-    asked: Asked,
-    head: &ResponseHead,
-    size: BodySize,
-    connection: ConnectionType,
-    date: &mut DateLine,
-    now: u64,
-) -> Result<(), NoMemory>
-    requires { now < MAX_MOMENT }
-    ensures ok { OnOk result (out.new.items ≡ out.old.items ++ head_text asked.minor (answer_of head.now)
-        (answers.shape_of asked (answer_of head.now) (size_of size)) (size_of size) (model_type connection) now) }
-    ensures err { OnErr result (out.new.items ≡ out.old.items) }
-{
-    let shape = shape_of(asked, head, size);
-    date.set(now);
-    let before = out.len();
-    match put_head(out, asked, head, shape, size, connection, date) {
-        Ok(()) => Ok(()),
-        Err(error) => {
-            out.truncate(before);
-            Err(error)
+impl Client {
+    /// The next head, where no body is open. Its body is then open.
+    pub(crate) fn decode_head(
+        &mut self,
+        src: &mut BytesMut,
+    ) -> Result<Option<ResponseItem>, ClientError>
+        ensures headed { IsHeaded self.old src.old.items result self.new src.new.items }
+        ensures step { IsHeadStep self.old src.old.items result self.new src.new.items }
+        ensures no_memory_needed { NeedsNoMemory (client_standing self.old) src.old.items → result ≢ Err (ClientError.Parse errors.NoMemory) }
+    {
+        if self.body.is_some() {
+            return Err(ClientError::Misplaced);
+        }
+        match next_head(
+            &mut self.heads,
+            &mut self.body,
+            &mut self.trailers,
+            self.is_head,
+            src,
+        ) {
+            Ok(Some(item)) => {
+                self.connection = answered(item.head.conn_type(), self.connection);
+                self.passes_on = passes_on(&item.head);
+                Ok(Some(item))
+            }
+            Ok(None) => Ok(None),
+            Err(error) => Err(ClientError::Parse(error)),
         }
     }
 }
 
-fn put_head(
-    out: &mut BytesMut,
-    asked: Asked,
-    head: &ResponseHead,
-    shape: Shape,
-    size: BodySize,
-    connection: ConnectionType,
-    date: &DateLine,
-) -> Result<(), NoMemory>
-    ensures ok { OnOk result ((now : ℕ) → now / 1000 ≡ date.now → out.new.items ≡ out.old.items ++ head_text asked.minor (answer_of head.now)
-        (model_shape shape) (size_of size) (model_type connection) now) }
-    ensures err { OnErr result (Grows out.old.items out.new.items) }
+/// What becomes of the connection: what the answer says, unless it only keeps it.
+fn answered(said: Option<ConnectionType>, asked: ConnectionType) -> ConnectionType
+    ensures { result ≡ answered said asked }
 {
-    let camel = head.camel_case_headers();
-    let lines = head.headers.len().saturating_mul(USUAL_LINE_LEN);
-    out.reserve(lines.saturating_add(USUAL_LEN))?;
-    put_status(out, asked, head)?;
-    put_framing(out, camel, head.status, shape, size)?;
-    put_connection(out, asked, camel, connection)?;
-    let has_date = put_headers(out, head, shape, camel)?;
-    put_end_of_head(out, camel, has_date, date)
-}
-
-// The status line, without its line end. The most common one is there as a whole.
-fn put_status(out: &mut BytesMut, asked: Asked, head: &ResponseHead) -> Result<(), NoMemory>
-    ensures ok { OnOk result (out.new.items ≡ out.old.items ++ status_words asked.minor (answer_of head.now)) }
-    ensures err { OnErr result (out.new.items ≡ out.old.items) }
-{
-    if is_plain_ok(asked, head) {
-        return out.extend_from_slice(b"HTTP/1.1 200 OK");
-    }
-    let start = status_start(asked.minor(), head.status);
-    let reason = head.reason().as_bytes();
-    out.reserve(start.len() + reason.len())?;
-    out.extend_reserved(&start);
-    out.extend_reserved(reason);
-    Ok(())
-}
-
-// Whether it is that one.
-fn is_plain_ok(asked: Asked, head: &ResponseHead) -> bool
-    ensures { IsTrue result → codes "HTTP/1.1 200 OK" ≡ status_words asked.minor (answer_of head.now) }
-{
-    asked.minor() == 1 && head.status == StatusCode::OK && !head.has_own_reason()
-}
-
-// What the status line has before its reason.
-fn status_start(minor: u8, status: StatusCode) -> [u8; 13]
-    requires { minor ≤ 1 }
-    ensures { result ≡ codes "HTTP/1." ++ ((48 + minor) ∷ (codes " " ++ (code_digits status ++ codes " "))) }
-{
-    let code = status.as_u16();
-    [
-        b'H',
-        b'T',
-        b'T',
-        b'P',
-        b'/',
-        b'1',
-        b'.',
-        b'0' + minor,
-        b' ',
-        b'0' + (code / 100) as u8,
-        b'0' + (code / 10 % 10) as u8,
-        b'0' + (code % 10) as u8,
-        b' ',
-    ]
-}
-
-// The line end of the status line, and the line that frames the body, if there is one.
-fn put_framing(
-    out: &mut BytesMut,
-    camel: bool,
-    status: StatusCode,
-    shape: Shape,
-    size: BodySize,
-) -> Result<(), NoMemory>
-    ensures ok { OnOk result (out.new.items ≡ out.old.items ++ (crlf_bytes
-        ++ (if answers.is_bodiless status then [] else texts.size_line camel (model_shape shape) (size_of size)))) }
-    ensures err { OnErr result (out.new.items ≡ out.old.items) }
-{
-    if is_bodiless(status) {
-        return out.extend_from_slice(b"\r\n");
-    }
-    match size {
-        BodySize::Sized(0) if !camel => out.extend_from_slice(b"\r\ncontent-length: 0\r\n"),
-        BodySize::Sized(length) => write_content_length(length, out, camel),
-        BodySize::Stream if shape == Shape::Chunked => out.extend_from_slice(chunked_line(camel)),
-        BodySize::None | BodySize::Stream => out.extend_from_slice(b"\r\n"),
+    match said {
+        Some(ConnectionType::Close) => ConnectionType::Close,
+        Some(ConnectionType::Upgrade) => ConnectionType::Upgrade,
+        Some(ConnectionType::KeepAlive) => asked,
+        None => asked,
     }
 }
 
-fn chunked_line(camel: bool) -> &'static [u8]
-    ensures { result.now ≡ crlf_bytes ++ texts.stream_line camel answers.shape_chunked }
+/// Whether the connection passes on to another protocol (RFC 7230, section 6.7).
+fn passes_on(head: &ResponseHead) -> bool
+    ensures { result ≡ passes_on head.now }
 {
-    if camel {
-        b"\r\nTransfer-Encoding: chunked\r\n"
-    } else {
-        b"\r\ntransfer-encoding: chunked\r\n"
-    }
-}
-
-/// Puts a line end and the line that states a body's length in bytes (RFC 7230, section 3.3.2). Where memory
-/// is wanting `out` holds what it held.
-pub fn write_content_length(n: u64, out: &mut BytesMut, camel_case: bool) -> Result<(), NoMemory>
-    ensures ok { OnOk result (out.new.items ≡ out.old.items ++ (crlf_bytes ++ content_length_line camel_case n)) }
-    ensures err { OnErr result (out.new.items ≡ out.old.items) }
-{
-    let mut digits = itoa::Buffer::new();
-    let digits = digits.format(n).as_bytes();
-    let name = length_name(camel_case);
-    out.reserve(20 + digits.len())?;
-    out.extend_reserved(name);
-    out.extend_reserved(digits);
-    out.extend_reserved(b"\r\n");
-    Ok(())
-}
-
-fn length_name(camel: bool) -> &'static [u8; 18]
-    ensures { result.now ≡ crlf_bytes ++ (texts.name_text camel (codes "content-length") ++ codes ": ") }
-{
-    if camel {
-        b"\r\nContent-Length: "
-    } else {
-        b"\r\ncontent-length: "
-    }
-}
-
-// The line that says what becomes of the connection, if there is one.
-fn put_connection(
-    out: &mut BytesMut,
-    asked: Asked,
-    camel: bool,
-    connection: ConnectionType,
-) -> Result<(), NoMemory>
-    ensures ok { OnOk result (out.new.items ≡ out.old.items ++ texts.connection_line asked.minor camel (model_type connection)) }
-    ensures err { OnErr result (out.new.items ≡ out.old.items) }
-{
-    let line = connection_line(asked, camel, connection);
-    if line.is_empty() {
-        return Ok(());
-    }
-    out.extend_from_slice(line)
-}
-
-// That line, where the version alone doesn't say it.
-fn connection_line(asked: Asked, camel: bool, connection: ConnectionType) -> &'static [u8]
-    ensures { result.now ≡ texts.connection_line asked.minor camel (model_type connection) }
-{
-    match connection {
-        ConnectionType::Upgrade if camel => b"Connection: Upgrade\r\n",
-        ConnectionType::Upgrade => b"connection: upgrade\r\n",
-        ConnectionType::KeepAlive if asked.minor() != 0 => b"",
-        ConnectionType::KeepAlive if camel => b"Connection: keep-alive\r\n",
-        ConnectionType::KeepAlive => b"connection: keep-alive\r\n",
-        ConnectionType::Close if asked.minor() == 0 => b"",
-        ConnectionType::Close if camel => b"Connection: close\r\n",
-        ConnectionType::Close => b"connection: close\r\n",
-    }
-}
-
-// The date line, unless there is one, and the empty line.
-fn put_end_of_head(
-    out: &mut BytesMut,
-    camel: bool,
-    has_date: bool,
-    date: &DateLine,
-) -> Result<(), NoMemory>
-    ensures ok { OnOk result ((now : ℕ) → now / 1000 ≡ date.now → out.new.items ≡ out.old.items
-        ++ ((if has_date then [] else date_line camel now) ++ crlf_bytes)) }
-    ensures err { OnErr result (out.new.items ≡ out.old.items) }
-{
-    if has_date {
-        return out.extend_from_slice(b"\r\n");
-    }
-    if camel {
-        put_camel_date(out, date)
-    } else {
-        out.extend_from_slice(date.as_bytes())
-    }
-}
-
-fn put_camel_date(out: &mut BytesMut, date: &DateLine) -> Result<(), NoMemory>
-    ensures ok { OnOk result ((now : ℕ) → now / 1000 ≡ date.now → out.new.items ≡ out.old.items ++ (date_line true now ++ crlf_bytes)) }
-    ensures err { OnErr result (out.new.items ≡ out.old.items) }
-{
-    let line = date.as_bytes();
-    out.reserve(line.len())?;
-    out.extend_reserved(b"Date");
-    out.extend_reserved(&line[4..]);
-    Ok(())
+    head.status.as_u16() == 101
 }

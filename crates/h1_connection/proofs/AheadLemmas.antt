@@ -5,12 +5,12 @@ use Rattle.std.specs.Prelude.{slice_range, ◌&&◌, ◌⊎◌, nat_lt, ⊤}
 use Rattle.std.proofs.lemmas.Bool.{false≢true, ltb-false}
 use Rattle.httparse.proofs.RunLemmas.{length-slice_range}
 use Rattle.http_types.specs.declared.error.ParseError.{ParseError}
-use Rattle.h1_model.specs.HeadPiece.{IsHeadPiece, HasNoHeadPiece}
-use Rattle.h1_model.specs.Request.{BodyKind, has_body, Reading, head_is, faulty}
-use Rattle.h1_model.specs.RequestHead.{IsReading, IsReadingWithin}
-use Rattle.h1_model.proofs.HeadPieceLemmas.{head_piece_append, slice_range-append}
-use Rattle.h1_ahead_model.specs.Ahead.{is_bodiless, AreAhead}
-use Rattle.h1_decode.specs.declared.decoder.HeadItem.{HeadItem}
+use Rattle.model_h1.specs.HeadPiece.{IsHeadPiece, HasNoHeadPiece}
+use Rattle.model_h1.specs.Request.{BodyKind, has_body, Reading, head_is, faulty}
+use Rattle.model_h1.specs.RequestHead.{IsReading, IsReadingWithin}
+use Rattle.model_h1.proofs.HeadPieceLemmas.{head_piece_append, slice_range-append}
+use Rattle.model_state.specs.Ahead.{is_bodiless, AreAhead}
+use Rattle.h1_decoder.specs.declared.decoder.HeadItem.{HeadItem}
 use Rattle.h1_connection.specs.Ahead.{joined, SaysRead, IsRead, AreRead, bare_by, has_no_body, last_has_none, may_go_on}
 use Rattle.h1_connection.specs.declared.connection.ahead.Slot.{Slot}
 

@@ -1,10 +1,10 @@
 -- Which events may come next, by tests of the parts.
 use Rattle.std.proofs.Common.{◌≡◌, Bool, true, false, not, ◌&&◌, ◌||◌, Option, Some, None, refl, ap, ◌∙◌}
 use Rattle.std.specs.Prelude.{is_some, is_none, option_map, if◌then◌else◌}
-use Rattle.h1_model.specs.Event as on
-use Rattle.h1_model.specs.Setting.{Setting}
-use Rattle.h1_machine.specs.Kept.{Rest, Kept, is_frames, is_upgraded}
-use Rattle.h1_machine.specs.Local.{closing_by, allowed_by, has_body_left}
+use Rattle.model_h1.specs.Event as on
+use Rattle.model_h1.specs.Setting.{Setting}
+use Rattle.model_state.specs.Kept.{Rest, Kept, is_frames, is_upgraded}
+use Rattle.model_state.specs.Local.{closing_by, allowed_by, has_body_left}
 use Rattle.h1_connection.specs.Given.{frame_allowed}
 use Rattle.h1_payload.specs.Kinds.{IsKind}
 use Rattle.h1_payload.specs.declared.rest.RestKind.{RestKind}

@@ -4,22 +4,22 @@ use Rattle.std.specs.Prelude.{option_map, is_some, if◌then◌else◌}
 use Rattle.std.specs.Option.{option_or}
 use Rattle.http_config.specs.Config.{Settings}
 use Rattle.http_types.specs.declared.message.ConnectionType.{ConnectionType}
-use Rattle.h1_codec.specs.Meaning.{model_type, model_shape}
-use Rattle.h1_model.specs.Limits.{MAX_MOMENT}
-use Rattle.h1_model.specs.Request as model
-use Rattle.h1_model.specs.Setting.{Setting}
-use Rattle.h1_model.specs.Answer.{AnswerHead, BodySize, Asked, Shape, shape_of, type_of, is_at_once}
-use Rattle.h1_model.specs.AnswerText.{head_text, sent_end}
-use Rattle.h1_model.specs.Text.{answer_head_text}
-use Rattle.h1_model.specs.Event as on
-use Rattle.h1_machine.specs.Kept as machine
-use Rattle.h1_machine.specs.Kept.{Kept, Change, is_frames, is_free, is_nothing, is_unanswered, is_answered, now, answered}
-use Rattle.h1_machine.specs.Local.{closing_by, waits_for_answer}
-use Rattle.h1_machine.specs.Body.{passing}
-use Rattle.h1_machine.specs.Reply.{stated, completing, piece_sent, short_end}
-use Rattle.h1_machine.specs.Change.{IsChange}
-use Rattle.h1_decode.specs.declared.scan.HeadScan.{HeadScan}
-use Rattle.http_segments.specs.Queued.{Queued}
+use Rattle.h1_encoder.specs.Meaning.{model_type, model_shape}
+use Rattle.model_h1.specs.Limits.{MAX_MOMENT}
+use Rattle.model_h1.specs.Request as model
+use Rattle.model_h1.specs.Setting.{Setting}
+use Rattle.model_h1.specs.Answer.{AnswerHead, BodySize, Asked, Shape, shape_of, type_of, is_at_once}
+use Rattle.model_h1.specs.AnswerText.{head_text, sent_end}
+use Rattle.model_h1.specs.Text.{answer_head_text}
+use Rattle.model_h1.specs.Event as on
+use Rattle.model_state.specs.Kept as machine
+use Rattle.model_state.specs.Kept.{Kept, Change, is_frames, is_free, is_nothing, is_unanswered, is_answered, now, answered}
+use Rattle.model_state.specs.Local.{closing_by, waits_for_answer}
+use Rattle.model_state.specs.Body.{passing}
+use Rattle.model_state.specs.Reply.{stated, completing, piece_sent, short_end}
+use Rattle.model_state.specs.Change.{IsChange}
+use Rattle.h1_decoder.specs.declared.scan.HeadScan.{HeadScan}
+use Rattle.h1_output.specs.Queued.{Queued}
 use Rattle.h1_connection.specs.Meaning.{setting_of, end_of}
 use Rattle.h1_connection.specs.Parts.{kept_of, exchange_of, reply_of, asked_in, sending_in, sending_by, replied, completed, HasNoneBehind, MayBeSearched, IsSettled, IsSound, Steps}
 use Rattle.h1_connection.specs.Unsent.{NoPieceBy, NoPieceOf, SendsNoPiece, NoEndBy, NoEndOf, SendsNoEnd}

@@ -2,10 +2,10 @@
 use Rattle.std.proofs.Common.{◌≡◌, Bool, true, false, Option, Some, None, refl, sym, ap, ◌∙◌}
 use Rattle.std.specs.Prelude.{is_some}
 use Rattle.std.specs.Option.{option_or}
-use Rattle.h1_model.specs.End as ends
-use Rattle.h1_model.specs.Setting.{Setting}
-use Rattle.h1_machine.specs.Kept.{Kept, is_open, is_upgraded}
-use Rattle.h1_machine.specs.Local.{drained_end, input_end, closing_by, answered_end}
+use Rattle.model_h1.specs.End as ends
+use Rattle.model_h1.specs.Setting.{Setting}
+use Rattle.model_state.specs.Kept.{Kept, is_open, is_upgraded}
+use Rattle.model_state.specs.Local.{drained_end, input_end, closing_by, answered_end}
 use Rattle.h1_connection.specs.Meaning.{end_of}
 use Rattle.h1_connection.specs.Parts.{kept_of, IsNoted}
 use Rattle.h1_connection.specs.declared.connection.parts.Parts.{Parts}

@@ -1,15 +1,15 @@
 -- How the number of heads that are read ahead goes on.
 use Rattle.std.proofs.Common.{◌≡◌, ◌≢◌, ℕ, suc, List, ◌∷◌, length, sym, refl}
-use Rattle.h1_model.specs.Request.{Head, Fault, Reading, head_is}
-use Rattle.h1_model.specs.Setting.{Setting}
-use Rattle.h1_model.specs.Event.{Outcome}
-use Rattle.h1_model.specs.Event as on
-use Rattle.h1_model.specs.Sums.{Step}
-use Rattle.h1_machine.specs.Kept.{Kept}
-use Rattle.h1_machine.specs.StandsFor.{StandsFor}
-use Rattle.h1_ahead_model.specs.Ahead.{MAX_AHEAD, is_bodiless, AreAhead, decoded_behind, IsAhead}
-use Rattle.h1_ahead_model.proofs.Counts.{next_decodes}
-use Rattle.h1_ahead_model.proofs.Numbers.{other_event, other_outcome, goes_on}
+use Rattle.model_h1.specs.Request.{Head, Fault, Reading, head_is}
+use Rattle.model_h1.specs.Setting.{Setting}
+use Rattle.model_h1.specs.Event.{Outcome}
+use Rattle.model_h1.specs.Event as on
+use Rattle.model_h1.specs.Sums.{Step}
+use Rattle.model_state.specs.Kept.{Kept}
+use Rattle.model_state.specs.StandsFor.{StandsFor}
+use Rattle.model_state.specs.Ahead.{MAX_AHEAD, is_bodiless, AreAhead, decoded_behind, IsAhead}
+use Rattle.model_state.proofs.Counts.{next_decodes}
+use Rattle.model_state.proofs.Numbers.{other_event, other_outcome, goes_on}
 
 -- behind a head where none was read ahead
 pub decodes : (setting : Setting) (k : Kept) (trace : List Step) (h : Head) (readings : List Reading) → IsAhead setting trace 0

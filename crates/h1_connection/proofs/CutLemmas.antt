@@ -3,14 +3,14 @@ use Rattle.std.proofs.Math.Seq.{take-append_seam, drop-append_seam}
 use Rattle.std.proofs.lemmas.Slice.{between_is}
 use Rattle.std.proofs.Common.{◌≡◌, ◌≢◌, ℕ, true, List, [], ◌++◌, length, take, drop, Some, inl, inr, refl, sym, ap, ◌∙◌, subst}
 use Rattle.std.specs.Prelude.{slice_range, ◌⊎◌}
-use Rattle.h1_model.specs.HeadPiece.{IsHeadPiece}
+use Rattle.model_h1.specs.HeadPiece.{IsHeadPiece}
 use Rattle.http_framing.specs.Kinds.{kind_of}
-use Rattle.h1_model.specs.Request.{has_body}
-use Rattle.h1_decode.specs.declared.decoder.FrontHead.{FrontHead}
-use Rattle.h1_decode.specs.declared.decoder.FrontHead.TheVariants.{Missing, Read, Left}
-use Rattle.h1_decode.specs.declared.decoder.HeadItem.{HeadItem}
-use Rattle.h1_decode.specs.declared.scan.HeadScan.{HeadScan}
-use Rattle.h1_decode.specs.declared.scan.HeadScan.TheVariants.{Piece}
+use Rattle.model_h1.specs.Request.{has_body}
+use Rattle.h1_decoder.specs.declared.decoder.FrontHead.{FrontHead}
+use Rattle.h1_decoder.specs.declared.decoder.FrontHead.TheVariants.{Missing, Read, Left}
+use Rattle.h1_decoder.specs.declared.decoder.HeadItem.{HeadItem}
+use Rattle.h1_decoder.specs.declared.scan.HeadScan.{HeadScan}
+use Rattle.h1_decoder.specs.declared.scan.HeadScan.TheVariants.{Piece}
 use Rattle.h1_connection.specs.Scan.{scan_of}
 use Rattle.h1_connection.specs.Incoming.{Incoming, incoming, due_in, is_coming_in, IsHeadIn, IsHeadOf, IsWhole, IsSearchedTo, IsSearched, HasSearched, IsCutNoted, IsAlone, IsAloneIn}
 use Rattle.h1_connection.specs.declared.connection.input.Search.{Search}

@@ -3,14 +3,14 @@ use Rattle.std.proofs.Common.{◌≡◌, ℕ, ◌+◌, ◌^◌, Bool, true, fals
 use Rattle.std.proofs.lemmas.Bool.{ltb-false, le-ltb}
 use Rattle.std.specs.Prelude.{nat_lt, ◌==◌, if◌then◌else◌}
 use Rattle.http_config.specs.Deadline.{deadline_of}
-use Rattle.h1_model.specs.Limits.{MAX_MOMENT}
-use Rattle.h1_model.specs.Setting.{Setting}
-use Rattle.h1_model.specs.Deadline.{timeout_at, still_comes, IsDeadline}
-use Rattle.h1_model.specs.Sums as sums
-use Rattle.h1_machine.specs.Kept.{Kept, now}
-use Rattle.h1_machine.specs.Local.{closing_by}
-use Rattle.h1_machine.proofs.DeadlineLemmas.{deadline_of_trace}
-use Rattle.h1_machine.specs.Deadline.{times_out_at, deadline_by}
+use Rattle.model_h1.specs.Limits.{MAX_MOMENT}
+use Rattle.model_h1.specs.Setting.{Setting}
+use Rattle.model_h1.specs.Deadline.{timeout_at, still_comes, IsDeadline}
+use Rattle.model_h1.specs.Sums as sums
+use Rattle.model_state.specs.Kept.{Kept, now}
+use Rattle.model_state.specs.Local.{closing_by}
+use Rattle.model_state.proofs.DeadlineLemmas.{deadline_of_trace}
+use Rattle.model_state.specs.Deadline.{times_out_at, deadline_by}
 use Rattle.h1_connection.specs.Meaning.{setting_of}
 use Rattle.h1_connection.specs.State.{State, Stands}
 use Rattle.h1_connection.specs.Ticks.{clipped}

@@ -3,16 +3,16 @@ use Rattle.std.proofs.Math.Seq.{take-length}
 use Rattle.std.proofs.Common.{◌≡◌, ◌≢◌, ℕ, ◌-◌, ◌<◌, ◌≤◌, Bool, true, false, ◌&&◌, List, [], ◌∷◌, ◌++◌, length, take, drop, Option, Some, None, refl, sym, ap, ◌∙◌, subst, arith}
 use Rattle.std.specs.Prelude.{option_map, is_some, min, not, ◌||◌}
 use Rattle.http_config.specs.Config.{Settings}
-use Rattle.h1_model.specs.Limits.{MAX_MOMENT}
-use Rattle.h1_model.specs.AnswerText.{interim_text}
-use Rattle.h1_model.specs.Setting.{Setting}
-use Rattle.h1_model.specs.Event as on
-use Rattle.h1_machine.specs.Kept as machine
-use Rattle.h1_machine.specs.Kept.{Kept, Change, Rest, no_rest, raw_rest, fixed_rest, chunks_rest, frames_rest, is_nothing, is_free, is_answered, rest_in, now}
-use Rattle.h1_machine.specs.Local.{closing_by}
-use Rattle.h1_machine.specs.Body.{passing}
-use Rattle.h1_machine.specs.Change.{IsChange, noting_since, ending_input, exchange_at_end}
-use Rattle.http_segments.specs.Queued.{Queued}
+use Rattle.model_h1.specs.Limits.{MAX_MOMENT}
+use Rattle.model_h1.specs.AnswerText.{interim_text}
+use Rattle.model_h1.specs.Setting.{Setting}
+use Rattle.model_h1.specs.Event as on
+use Rattle.model_state.specs.Kept as machine
+use Rattle.model_state.specs.Kept.{Kept, Change, Rest, no_rest, raw_rest, fixed_rest, chunks_rest, frames_rest, is_nothing, is_free, is_answered, rest_in, now}
+use Rattle.model_state.specs.Local.{closing_by}
+use Rattle.model_state.specs.Body.{passing}
+use Rattle.model_state.specs.Change.{IsChange, noting_since, ending_input, exchange_at_end}
+use Rattle.h1_output.specs.Queued.{Queued}
 use Rattle.h1_connection.specs.Incoming.{is_coming_in}
 use Rattle.h1_connection.specs.Stock.{Stock, IsFoundOf}
 use Rattle.h1_connection.specs.Meaning.{setting_of}

@@ -3,20 +3,20 @@ use Rattle.std.proofs.Common.{◌≡◌, ℕ, Bool, true, false, not, ◌&&◌, 
 use Rattle.std.specs.Prelude.{option_map, is_some}
 use Rattle.std.specs.Option.{option_or}
 use Rattle.http_config.specs.Config.{Settings}
-use Rattle.h1_model.specs.Answer.{size_stream}
-use Rattle.h1_model.specs.End as ends
-use Rattle.h1_model.specs.Event as on
-use Rattle.h1_model.specs.Frame.{Message, frame, nop, ProtocolError as Rule}
-use Rattle.h1_model.specs.FrameText.{send_error}
-use Rattle.h1_model.specs.Handshake.{accepting_head}
-use Rattle.h1_model.specs.Setting.{Setting}
-use Rattle.h1_model.specs.Sums.{under_way_behind}
-use Rattle.h1_model.specs.Text.{answer_head_text, message_text}
-use Rattle.h1_machine.specs.Change.{IsChange, accepting, sending_message, noting_since}
-use Rattle.h1_machine.specs.Kept.{Kept, Rest, no_rest, raw_rest, fixed_rest, chunks_rest, frames_rest, is_frames, is_nothing, is_free, is_answered, is_upgraded, now}
-use Rattle.h1_machine.specs.Local.{closing_by, waits_for_answer}
-use Rattle.h1_decode.specs.declared.scan.HeadScan.{HeadScan}
-use Rattle.http_segments.specs.Queued.{Queued}
+use Rattle.model_h1.specs.Answer.{size_stream}
+use Rattle.model_h1.specs.End as ends
+use Rattle.model_h1.specs.Event as on
+use Rattle.model_h1.specs.Frame.{Message, frame, nop, ProtocolError as Rule}
+use Rattle.model_h1.specs.FrameText.{send_error}
+use Rattle.model_h1.specs.Handshake.{accepting_head}
+use Rattle.model_h1.specs.Setting.{Setting}
+use Rattle.model_h1.specs.Sums.{under_way_behind}
+use Rattle.model_h1.specs.Text.{answer_head_text, message_text}
+use Rattle.model_state.specs.Change.{IsChange, accepting, sending_message, noting_since}
+use Rattle.model_state.specs.Kept.{Kept, Rest, no_rest, raw_rest, fixed_rest, chunks_rest, frames_rest, is_frames, is_nothing, is_free, is_answered, is_upgraded, now}
+use Rattle.model_state.specs.Local.{closing_by, waits_for_answer}
+use Rattle.h1_decoder.specs.declared.scan.HeadScan.{HeadScan}
+use Rattle.h1_output.specs.Queued.{Queued}
 use Rattle.ws_frames.specs.Refusal.{refusal}
 use Rattle.ws_frames.specs.Sent.{sending_after}
 use Rattle.ws_frames.specs.declared.error.ProtocolError.{ProtocolError}

@@ -1,13 +1,13 @@
 -- What is taken of the frames in front of the bytes that are held.
 use Rattle.std.proofs.Common.{◌≡◌, ℕ, Bool, true, List, [], ◌++◌, drop, Some, None, Ok, Err, refl, sym, ap, ◌∙◌, subst}
-use Rattle.h1_model.specs.Frame as frames
-use Rattle.h1_model.specs.Frame.{ProtocolError as Rule}
-use Rattle.h1_model.specs.FrameText.{Front, partial, whole, breaks, front_frame}
-use Rattle.h1_model.specs.Parse.{connection_reader}
-use Rattle.h1_machine.specs.Kept.{frames_rest}
-use Rattle.h1_machine.specs.Local as local
-use Rattle.h1_machine.specs.Pull as pulls
-use Rattle.h1_machine.specs.Pull.{pull_front}
+use Rattle.model_h1.specs.Frame as frames
+use Rattle.model_h1.specs.Frame.{ProtocolError as Rule}
+use Rattle.model_h1.specs.FrameText.{Front, partial, whole, breaks, front_frame}
+use Rattle.model_h1.specs.Parse.{connection_reader}
+use Rattle.model_state.specs.Kept.{frames_rest}
+use Rattle.model_state.specs.Local as local
+use Rattle.model_state.specs.Pull as pulls
+use Rattle.model_state.specs.Pull.{pull_front}
 use Rattle.h1_payload.specs.Rests.{IsLight}
 use Rattle.ws_frames.specs.Codec.{frame_says, IsNamed}
 use Rattle.ws_frames.specs.Fronts as fronts

@@ -3,17 +3,17 @@ use Rattle.std.proofs.Common.{◌≡◌, ℕ, ◌-◌, Bool, true, false, not, �
 use Rattle.std.proofs.lemmas.Bool.{lt-ltb, eqb-true}
 use Rattle.std.specs.Prelude.{IsTrue, is_some, ◌==◌, if◌then◌else◌}
 use Rattle.http_config.specs.Config.{Settings}
-use Rattle.h1_model.specs.Request.{ConnectionType}
-use Rattle.h1_model.specs.Setting.{Setting}
-use Rattle.h1_model.specs.Answer.{AnswerHead, BodySize, Shape, shape_of, type_of, is_at_once}
-use Rattle.h1_model.specs.AnswerText.{interim_text}
-use Rattle.h1_model.specs.Text.{answer_head_text}
-use Rattle.h1_model.specs.Event as on
-use Rattle.h1_model.specs.End.{End}
-use Rattle.h1_machine.specs.Kept.{Rest, no_rest, raw_rest, fixed_rest, chunks_rest, frames_rest, Reply, unanswered, sending, answered, Exchange, Kept, Change, is_frames, is_unanswered, is_sending_body, is_upgraded, now}
-use Rattle.h1_machine.specs.Local.{closing_by, allowed_by, has_body_left, is_answering, is_allowed_running, is_allowed_closing}
-use Rattle.h1_machine.specs.Reply.{stated, answering, completing, piece_sent, sending_piece}
-use Rattle.h1_machine.specs.Change.{IsStep, IsChange, noting_since, doing_with}
+use Rattle.model_h1.specs.Request.{ConnectionType}
+use Rattle.model_h1.specs.Setting.{Setting}
+use Rattle.model_h1.specs.Answer.{AnswerHead, BodySize, Shape, shape_of, type_of, is_at_once}
+use Rattle.model_h1.specs.AnswerText.{interim_text}
+use Rattle.model_h1.specs.Text.{answer_head_text}
+use Rattle.model_h1.specs.Event as on
+use Rattle.model_h1.specs.End.{End}
+use Rattle.model_state.specs.Kept.{Rest, no_rest, raw_rest, fixed_rest, chunks_rest, frames_rest, Reply, unanswered, sending, answered, Exchange, Kept, Change, is_frames, is_unanswered, is_sending_body, is_upgraded, now}
+use Rattle.model_state.specs.Local.{closing_by, allowed_by, has_body_left, is_answering, is_allowed_running, is_allowed_closing}
+use Rattle.model_state.specs.Reply.{stated, answering, completing, piece_sent, sending_piece}
+use Rattle.model_state.specs.Change.{IsStep, IsChange, noting_since, doing_with}
 use Rattle.h1_connection.specs.Meaning.{setting_of}
 use Rattle.h1_connection.specs.Parts.{kept_of, Steps}
 use Rattle.h1_connection.specs.Given.{frame_allowed, HasOpened}

@@ -2,42 +2,42 @@
 use Rattle.std.proofs.Common.{◌≡◌, ◌≢◌, ℕ, zero, suc, arith, ◌+◌, ◌<◌, ◌≤◌, Bool, true, false, not, ◌&&◌, ◌||◌, List, [], ◌∷◌, length, Option, Some, None, Result, Ok, Err, refl, sym, ap, ◌∙◌, subst, length-drop}
 use Rattle.std.specs.Prelude.{IsTrue, OnOk, OnErr, is_some, nat_lt, nat_le, ◌↔◌, if◌then◌else◌}
 use Rattle.http_config.specs.Config.{Settings}
-use Rattle.h1_model.specs.Setting.{Setting}
-use Rattle.h1_model.specs.Event as on
-use Rattle.h1_model.specs.Sums as sums
-use Rattle.h1_model.specs.Past.{ParsedStep, steps, passed, held}
-use Rattle.h1_model.specs.Sums.{taken}
-use Rattle.h1_model.proofs.PastLemmas.{past_of_unique}
-use Rattle.h1_model.specs.Text.{buffered}
-use Rattle.h1_model.specs.Closing.{closing}
-use Rattle.h1_model.specs.Trace as traces
-use Rattle.h1_model.specs.Trace.{IsPastOf, IsOutcome}
-use Rattle.h1_machine.specs.Kept.{Kept, Change, Exchange, is_open, is_upgraded}
-use Rattle.h1_machine.specs.Local.{closing_by, allowed_by, has_body_left, waits_for_answer}
-use Rattle.h1_machine.specs.Change.{IsPulling}
-use Rattle.h1_machine.specs.Pull.{Pulled}
-use Rattle.h1_machine.proofs.Stands.{closing_of_trace, allowed_of_trace, a_step_is_there, step_outcome, step_state}
-use Rattle.h1_machine.proofs.KeptBounds.{unread_bounded}
-use Rattle.h1_chunks.specs.Runs.{Run}
-use Rattle.h1_segment_model.specs.Runs.{first_segment}
-use Rattle.h1_segment_model.specs.Marks.{front_of}
-use Rattle.h1_segment_model.specs.After.{marks_after}
-use Rattle.h1_segment_model.proofs.Goes.{marks_go}
+use Rattle.model_h1.specs.Setting.{Setting}
+use Rattle.model_h1.specs.Event as on
+use Rattle.model_h1.specs.Sums as sums
+use Rattle.model_h1.specs.Past.{ParsedStep, steps, passed, held}
+use Rattle.model_h1.specs.Sums.{taken}
+use Rattle.model_h1.proofs.PastLemmas.{past_of_unique}
+use Rattle.model_h1.specs.Text.{buffered}
+use Rattle.model_h1.specs.Closing.{closing}
+use Rattle.model_h1.specs.Trace as traces
+use Rattle.model_h1.specs.Trace.{IsPastOf, IsOutcome}
+use Rattle.model_state.specs.Kept.{Kept, Change, Exchange, is_open, is_upgraded}
+use Rattle.model_state.specs.Local.{closing_by, allowed_by, has_body_left, waits_for_answer}
+use Rattle.model_state.specs.Change.{IsPulling}
+use Rattle.model_state.specs.Pull.{Pulled}
+use Rattle.model_state.proofs.Stands.{closing_of_trace, allowed_of_trace, a_step_is_there, step_outcome, step_state}
+use Rattle.model_state.proofs.KeptBounds.{unread_bounded}
+use Rattle.model_h1.specs.Runs.{Run}
+use Rattle.model_state.specs.Runs.{first_segment}
+use Rattle.model_state.specs.Marks.{front_of}
+use Rattle.model_state.specs.After.{marks_after}
+use Rattle.model_state.proofs.Goes.{marks_go}
 use Rattle.h1_payload.specs.Rests.{SaysPulled}
 use Rattle.h1_payload.specs.declared.pulled.Pulled.{Pulled as Answer}
 use Rattle.std.proofs.lemmas.Bool.{ltb-true}
-use Rattle.h1_model.specs.Answer.{AnswerHead, BodySize}
-use Rattle.h1_model.specs.Limits.{MAX_FRAME_HEAD, MAX_MOMENT}
+use Rattle.model_h1.specs.Answer.{AnswerHead, BodySize}
+use Rattle.model_h1.specs.Limits.{MAX_FRAME_HEAD, MAX_MOMENT}
 use Rattle.h1_connection.specs.Meaning.{setting_of, end_of, fault_of}
 use Rattle.h1_connection.specs.Parts.{kept_of, IsSound, Steps, StepsIn}
 use Rattle.h1_connection.specs.Frames.{is_raw_request}
 use Rattle.h1_connection.specs.Pulls.{IsPullFrom, IsPullOf}
 use Rattle.h1_connection.specs.Heads.{IsHeld, IsNexted, MayAsk, NumberGoes, SaysNext}
 use Rattle.h1_connection.specs.Stock.{is_bare, CountsOn}
-use Rattle.h1_ahead_model.specs.Ahead.{is_bodiless, AreAhead, IsAhead}
-use Rattle.h1_decode.specs.HeadItem.{SaysHead}
-use Rattle.h1_decode.specs.declared.decoder.HeadItem.{HeadItem}
-use Rattle.h1_model.specs.Request.{BodyKind, Head, Fault, has_body, head_is}
+use Rattle.model_state.specs.Ahead.{is_bodiless, AreAhead, IsAhead}
+use Rattle.h1_decoder.specs.HeadItem.{SaysHead}
+use Rattle.h1_decoder.specs.declared.decoder.HeadItem.{HeadItem}
+use Rattle.model_h1.specs.Request.{BodyKind, Head, Fault, has_body, head_is}
 use Rattle.h1_connection.specs.State.{State, IsAllowed, IsFrameAllowed, Stands, IsMarked, IsCounted, GoesOn, ReadsIn, Is}
 use Rattle.h1_connection.specs.declared.connection.heads.NextHead.{NextHead}
 use Rattle.h1_connection.specs.declared.connection.heads.NextHead.TheVariants as next

@@ -3,31 +3,31 @@ use Rattle.std.proofs.lemmas.List.{length-take, length-drop}
 use Rattle.std.proofs.Common.{◌≡◌, ℕ, zero, suc, ◌-◌, ◌≤◌, Bool, true, false, ◌&&◌, List, [], ◌∷◌, length, drop, Option, Some, None, Result, Ok, Err, ◌<◌, inl, refl, sym, ap, ◌∙◌, subst, arith}
 use Rattle.std.specs.Prelude.{option_map, is_some, slice_range, ◌==◌, ◌||◌, not, IfOk, OnOk, if◌then◌else◌}
 use Rattle.http_config.specs.Config.{Settings}
-use Rattle.h1_model.specs.HeadPiece.{IsHeadPiece}
-use Rattle.h1_model.specs.Request as model
-use Rattle.h1_model.specs.Request.{Head, Reading, head_is, faulty, too_large, is_raw_kind}
-use Rattle.h1_model.specs.RequestHead.{IsReading, IsReadingWithin}
-use Rattle.h1_model.specs.Setting.{Setting}
-use Rattle.h1_model.specs.Handshake as checks
-use Rattle.h1_model.specs.Handshake.{handshake_error, accept_key_of}
+use Rattle.model_h1.specs.HeadPiece.{IsHeadPiece}
+use Rattle.model_h1.specs.Request as model
+use Rattle.model_h1.specs.Request.{Head, Reading, head_is, faulty, too_large, is_raw_kind}
+use Rattle.model_h1.specs.RequestHead.{IsReading, IsReadingWithin}
+use Rattle.model_h1.specs.Setting.{Setting}
+use Rattle.model_h1.specs.Handshake as checks
+use Rattle.model_h1.specs.Handshake.{handshake_error, accept_key_of}
 use Rattle.http_map.specs.HeaderMap.{Entries, get_all}
 use Rattle.ws_session.specs.Upgrade.{SaysUpgrade, FailsWith, error_of, value_bytes}
 use Rattle.ws_session.specs.declared.verify.HandshakeError.{HandshakeError}
 use Rattle.ws_session.proofs.ValueLemmas.{head_values}
-use Rattle.h1_model.specs.Event as on
-use Rattle.h1_model.specs.End as ends
-use Rattle.h1_machine.specs.Kept as machine
-use Rattle.h1_machine.specs.Kept.{Kept, Change, is_free, is_frames, is_nothing, is_open, is_answered, is_unanswered, now, rest_in, whole_rest, new_exchange, refusal_of, key_answer_of}
-use Rattle.h1_machine.specs.Local.{closing_by, answered_end_of}
-use Rattle.h1_machine.specs.Change.{IsStep, IsChange, IsNext, IsUpcoming, noting_since, behind_head, without_head}
-use Rattle.h1_decode.specs.HeadItem.{SaysHead, version_of, connection_type_of}
+use Rattle.model_h1.specs.Event as on
+use Rattle.model_h1.specs.End as ends
+use Rattle.model_state.specs.Kept as machine
+use Rattle.model_state.specs.Kept.{Kept, Change, is_free, is_frames, is_nothing, is_open, is_answered, is_unanswered, now, rest_in, whole_rest, new_exchange, refusal_of, key_answer_of}
+use Rattle.model_state.specs.Local.{closing_by, answered_end_of}
+use Rattle.model_state.specs.Change.{IsStep, IsChange, IsNext, IsUpcoming, noting_since, behind_head, without_head}
+use Rattle.h1_decoder.specs.HeadItem.{SaysHead, version_of, connection_type_of}
 use Rattle.http_framing.specs.Kinds.{kind_of}
-use Rattle.h1_codec.specs.Meaning.{minor_of, model_type}
-use Rattle.h1_model.specs.Answer.{Asked, asked_of}
+use Rattle.h1_encoder.specs.Meaning.{minor_of, model_type}
+use Rattle.model_h1.specs.Answer.{Asked, asked_of}
 use Rattle.http_types.specs.declared.message.ConnectionType.{ConnectionType}
-use Rattle.h1_decode.specs.declared.decoder.HeadItem.{HeadItem}
-use Rattle.h1_decode.specs.declared.scan.HeadScan.{HeadScan}
-use Rattle.h1_decode.specs.declared.scan.HeadScan.TheVariants.{Open, Piece}
+use Rattle.h1_decoder.specs.declared.decoder.HeadItem.{HeadItem}
+use Rattle.h1_decoder.specs.declared.scan.HeadScan.{HeadScan}
+use Rattle.h1_decoder.specs.declared.scan.HeadScan.TheVariants.{Open, Piece}
 use Rattle.h1_connection.specs.Incoming.{Incoming, is_coming_in, IsFoundIn, IsHeadIn, IsHeadOf}
 use Rattle.h1_connection.specs.Stock.{Stock, incoming_of, is_bare, IsHeadAhead, IsPassedTo, HandsOut}
 use Rattle.h1_connection.specs.Meaning.{setting_of, end_of, fault_of, failing_of}

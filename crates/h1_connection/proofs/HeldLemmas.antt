@@ -4,7 +4,7 @@ use Rattle.std.proofs.lemmas.List.{drop-append-le, take_rest}
 use Rattle.std.proofs.Math.Seq.{drop-append-add}
 use Rattle.std.specs.Prelude.{false, None}
 use Rattle.http_config.specs.Config.{Settings}
-use Rattle.h1_machine.specs.Kept.{Kept, is_free}
+use Rattle.model_state.specs.Kept.{Kept, is_free}
 use Rattle.h1_connection.specs.Ahead.{joined}
 use Rattle.h1_connection.specs.Incoming.{Incoming, incoming, IsSearched}
 use Rattle.h1_connection.specs.Parts.{kept_of, IsSound}

@@ -4,14 +4,14 @@ use Rattle.std.proofs.lemmas.Grind.{common_steps}
 use Rattle.std.proofs.lemmas.List.{take_all}
 use Rattle.std.proofs.Common.{◌≡◌, ℕ, zero, suc, ◌≤◌, ◌-◌, true, false, List, [], ◌∷◌, ◌++◌, length, take, drop, Option, Some, None, inl, inr, refl, sym, ap, ◌∙◌, subst, arith, append-nil, append_assoc}
 use Rattle.std.specs.Prelude.{is_some, slice_range, ◌⊎◌, IsTrue}
-use Rattle.h1_model.specs.HeadPiece.{IsHeadPiece, HasNoHeadPiece}
+use Rattle.model_h1.specs.HeadPiece.{IsHeadPiece, HasNoHeadPiece}
 use Rattle.bytes.proofs.Ranges.{slice_range_front}
-use Rattle.h1_model.proofs.HeadPieceLemmas.{head_piece_append}
-use Rattle.h1_decode.specs.declared.scan.HeadScan.{HeadScan}
-use Rattle.h1_decode.specs.declared.scan.HeadScan.TheVariants.{Open, Piece}
-use Rattle.h1_decode.specs.HeadPosition.{HeadPosition, HasScanned}
-use Rattle.h1_decode.specs.HeadScan.{AnswersScan}
-use Rattle.h1_decode.proofs.HeadPieceLemmas.{HasScanned-append, AnswersScan-found}
+use Rattle.model_h1.proofs.HeadPieceLemmas.{head_piece_append}
+use Rattle.h1_decoder.specs.declared.scan.HeadScan.{HeadScan}
+use Rattle.h1_decoder.specs.declared.scan.HeadScan.TheVariants.{Open, Piece}
+use Rattle.h1_decoder.specs.HeadPosition.{HeadPosition, HasScanned}
+use Rattle.h1_decoder.specs.HeadScan.{AnswersScan}
+use Rattle.h1_decoder.proofs.HeadPieceLemmas.{HasScanned-append, AnswersScan-found}
 use Rattle.h1_connection.specs.Scan.{scan_of}
 use Rattle.h1_connection.specs.Incoming.{Incoming, piece_of, incoming, IsFoundIn, IsHeadIn, IsHeadOf, IsPieceOf, IsSearchedTo, IsSearched, CanScan, CanGoOn, HasSearched, GoesOnTo, GoesOnIn, IsCaughtUp, IsWhole, IsPassedIn, IsPassedHead, IsTakenIn, IsTakenHead, is_coming_in}
 use Rattle.h1_connection.specs.declared.connection.input.Scan.{Scan}

@@ -3,17 +3,17 @@ use Rattle.std.proofs.Common.{◌≡◌, ℕ, ◌+◌, ◌<◌, ◌≤◌, ◌^�
 use Rattle.std.specs.Prelude.{is_some, IsOk, ◌⊎◌}
 use Rattle.std.proofs.lemmas.Bool.{cases_Bool}
 use Rattle.std.proofs.lemmas.List.{take-append-drop}
-use Rattle.h1_model.specs.HeadPiece.{HasNoHeadPiece}
-use Rattle.h1_model.specs.Request.{Fault}
-use Rattle.h1_machine.specs.Kept.{Rest, no_rest, raw_rest, fixed_rest, chunks_rest, frames_rest, is_nothing}
-use Rattle.h1_machine.specs.Pull.{Pulled, finishes, IsPull}
-use Rattle.h1_model.specs.Event as on
+use Rattle.model_h1.specs.HeadPiece.{HasNoHeadPiece}
+use Rattle.model_h1.specs.Request.{Fault}
+use Rattle.model_state.specs.Kept.{Rest, no_rest, raw_rest, fixed_rest, chunks_rest, frames_rest, is_nothing}
+use Rattle.model_state.specs.Pull.{Pulled, finishes, IsPull}
+use Rattle.model_h1.specs.Event as on
 use Rattle.h1_payload.specs.Rests.{SaysPulled, IsPulled, IsLight}
 use Rattle.h1_payload.specs.declared.pulled.Pulled.{Pulled as Answer}
-use Rattle.h1_decode.specs.Refusal.{fault_of}
-use Rattle.h1_decode.specs.declared.decoder.HeadItem.{HeadItem}
-use Rattle.h1_decode.specs.declared.scan.HeadScan.{HeadScan}
-use Rattle.h1_decode.specs.declared.scan.HeadScan.TheVariants.{Open, Piece}
+use Rattle.h1_decoder.specs.Refusal.{fault_of}
+use Rattle.h1_decoder.specs.declared.decoder.HeadItem.{HeadItem}
+use Rattle.h1_decoder.specs.declared.scan.HeadScan.{HeadScan}
+use Rattle.h1_decoder.specs.declared.scan.HeadScan.TheVariants.{Open, Piece}
 use Rattle.http_types.specs.declared.error.ParseError.{ParseError}
 use Rattle.h1_connection.specs.Ahead.{joined, AreRead, FirstIsHead, may_go_on, turn_behind, IsReadNext, IsFilled, IsFilling, IsFillingOn}
 use Rattle.h1_connection.specs.Incoming.{Incoming, is_coming_in, IsFound, IsFoundIn, IsWhole, IsHeadIn, IsHeadOf, IsNextHead, IsNextFault, IsPassedHead, IsPassedIn, IsAlone, IsTakenIn}

@@ -5,11 +5,11 @@ use Rattle.std.proofs.lemmas.List.{reverse-reverse, map-append, take-map}
 use Rattle.std.proofs.lemmas.Option.{slice_get-map}
 use Rattle.std.proofs.lemmas.Grind.{reverse_onto}
 use Rattle.http_config.specs.Config.{Settings}
-use Rattle.h1_model.specs.Event as on
-use Rattle.h1_model.specs.Sums as sums
-use Rattle.h1_model.specs.Laws.Runs as runs
-use Rattle.h1_model.proofs.EventLemmas.{same_events}
-use Rattle.h1_model.proofs.EventRuns.{one_stop, whole_or_stopped}
+use Rattle.model_h1.specs.Event as on
+use Rattle.model_h1.specs.Sums as sums
+use Rattle.model_h1.specs.Laws.Runs as runs
+use Rattle.model_h1.proofs.EventLemmas.{same_events}
+use Rattle.model_h1.proofs.EventRuns.{one_stop, whole_or_stopped}
 use Rattle.h1_connection.specs.Meaning.{setting_of, event_of}
 use Rattle.h1_connection.specs.Run.{SaySteps, IsDriven, IsWhole, IsMisplaced, AreAllowed, IsFirstRefused}
 use Rattle.h1_connection.specs.declared.event.Event.{Event}

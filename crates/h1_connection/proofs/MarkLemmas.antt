@@ -2,13 +2,13 @@
 use Rattle.std.proofs.Common.{◌≡◌, ℕ, ◌<◌, ◌≤◌, List, [], ◌∷◌, ◌++◌, length, take, drop, Option, Some, None, refl, sym, ap, ◌∙◌, append-nil, take-append-drop, arith}
 use Rattle.std.specs.Prelude.{min}
 use Rattle.std.proofs.lemmas.List.{length-take, length-take-le, take_min, drop_min}
-use Rattle.h1_chunks.specs.Runs.{Run}
-use Rattle.h1_model.specs.Answer.{Asked}
-use Rattle.h1_model.specs.Event as on
-use Rattle.h1_codec.specs.Meaning.{model_shape}
-use Rattle.h1_segment_model.specs.Runs.{runs_behind}
-use Rattle.h1_segment_model.specs.After.{added, after_outcome, marks_after, run_sent}
-use Rattle.http_segments.specs.Queued.{Queued, behind, IsStretch}
+use Rattle.model_h1.specs.Runs.{Run}
+use Rattle.model_h1.specs.Answer.{Asked}
+use Rattle.model_h1.specs.Event as on
+use Rattle.h1_encoder.specs.Meaning.{model_shape}
+use Rattle.model_state.specs.Runs.{runs_behind}
+use Rattle.model_state.specs.After.{added, after_outcome, marks_after, run_sent}
+use Rattle.h1_output.specs.Queued.{Queued, behind, IsStretch}
 use Rattle.h1_payload.specs.Rests.{SaysPulled}
 use Rattle.h1_payload.specs.declared.pulled.Pulled.{Pulled as Answer}
 use Rattle.h1_payload.specs.declared.pulled.Pulled.TheVariants as pulled

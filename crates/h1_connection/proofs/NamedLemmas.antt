@@ -1,6 +1,6 @@
 -- The names of the codes of Close frames.
 use Rattle.std.proofs.Common.{◌≡◌, Option, None, Some, sym, subst}
-use Rattle.h1_model.specs.Event as on
+use Rattle.model_h1.specs.Event as on
 use Rattle.ws_frames.specs.declared.message.Frame.{Frame}
 use Rattle.ws_frames.specs.declared.message.Frame.TheVariants as frames
 use Rattle.ws_frames.specs.declared.proto.CloseCode.{CloseCode}

@@ -5,13 +5,13 @@ use Rattle.std.specs.Fmt.{digits}
 use Rattle.std.proofs.lemmas.List.{append_cancel_left}
 use Rattle.std.proofs.lemmas.Bool.Decides.{nat_tests}
 use Rattle.httparse.specs.Ascii.{crlf_bytes}
-use Rattle.h1_model.specs.Answer.{Asked, Shape, shape_none, shape_length, shape_chunked, shape_raw}
-use Rattle.h1_model.specs.AnswerText.{chunk_text}
-use Rattle.h1_model.specs.Parse.{run_between}
-use Rattle.h1_machine.specs.Reply.{piece_sent}
-use Rattle.h1_segment_model.specs.Marks.{framing_len}
-use Rattle.http_segments.specs.Queued.{Queued, with_text, with_piece}
-use Rattle.h1_codec.proofs.Pieces.{not_empty}
+use Rattle.model_h1.specs.Answer.{Asked, Shape, shape_none, shape_length, shape_chunked, shape_raw}
+use Rattle.model_h1.specs.AnswerText.{chunk_text}
+use Rattle.model_h1.specs.Parse.{run_between}
+use Rattle.model_state.specs.Reply.{piece_sent}
+use Rattle.model_state.specs.Marks.{framing_len}
+use Rattle.h1_output.specs.Queued.{Queued, with_text, with_piece}
+use Rattle.h1_encoder.proofs.Pieces.{not_empty}
 use Rattle.h1_connection.specs.Sent.{with_sent, with_chunk}
 
 pub no_bytes : (l : List ℕ) → length l ≡ 0 → l ≡ []

@@ -1,12 +1,12 @@
 -- A body that is passed over leaves the rest of what the machine keeps.
 use Rattle.std.proofs.Common.{◌≡◌, ℕ, ◌-◌, Bool, true, false, List, [], length, drop, Option, Some, None, Result, Ok, Err, refl, ap, ◌∙◌}
 use Rattle.std.specs.Prelude.{if◌then◌else◌, nat_le, IfOk, OnErr}
-use Rattle.h1_chunks.specs.Place.{Place}
-use Rattle.h1_chunks.specs.Reading.{Ending, ends_before, goes_on, is_broken, read}
-use Rattle.h1_machine.specs.Kept.{Rest, no_rest, raw_rest, fixed_rest, chunks_rest, frames_rest, Reply, unanswered, sending, answered, Exchange, Kept, is_frames, is_nothing, is_free, is_upgraded}
-use Rattle.h1_machine.specs.Body.{Passed, pass_chunks, pass_rest, passing}
-use Rattle.h1_machine.specs.Pull.{Pulled, finishes, IsPull}
-use Rattle.h1_model.specs.Event as on
+use Rattle.model_h1.specs.Place.{Place}
+use Rattle.model_h1.specs.Reading.{Ending, ends_before, goes_on, is_broken, read}
+use Rattle.model_state.specs.Kept.{Rest, no_rest, raw_rest, fixed_rest, chunks_rest, frames_rest, Reply, unanswered, sending, answered, Exchange, Kept, is_frames, is_nothing, is_free, is_upgraded}
+use Rattle.model_state.specs.Body.{Passed, pass_chunks, pass_rest, passing}
+use Rattle.model_state.specs.Pull.{Pulled, finishes, IsPull}
+use Rattle.model_h1.specs.Event as on
 use Rattle.h1_payload.specs.Rests.{IsPulled}
 use Rattle.h1_payload.specs.declared.pulled.Pulled.{Pulled as Answer}
 

@@ -3,19 +3,19 @@ use Rattle.std.proofs.Common.{◌≡◌, ℕ, Bool, true, false, not, ◌&&◌, 
 use Rattle.std.specs.Prelude.{is_some}
 use Rattle.std.specs.Option.{option_or}
 use Rattle.http_config.specs.Config.{Settings}
-use Rattle.h1_chunks.specs.Place.{Place}
-use Rattle.h1_chunks.specs.TakeNext.{Next, chunk, waits, ended, breaks, take_next}
-use Rattle.h1_model.specs.Setting.{Setting}
-use Rattle.h1_model.specs.Event as on
-use Rattle.h1_model.specs.End.{End}
-use Rattle.h1_machine.specs.Kept.{Rest, no_rest, raw_rest, fixed_rest, chunks_rest, frames_rest, Kept, is_frames, is_nothing, is_free, is_open, is_answered}
-use Rattle.h1_machine.specs.Local.{closing_by}
-use Rattle.h1_machine.specs.Pull.{Pulled, lacking, pull_fixed, pull_raw, EndsWith, IsPullOfChunks, IsPull}
-use Rattle.h1_machine.specs.Change.{IsChange}
+use Rattle.model_h1.specs.Place.{Place}
+use Rattle.model_h1.specs.TakeNext.{Next, chunk, waits, ended, breaks, take_next}
+use Rattle.model_h1.specs.Setting.{Setting}
+use Rattle.model_h1.specs.Event as on
+use Rattle.model_h1.specs.End.{End}
+use Rattle.model_state.specs.Kept.{Rest, no_rest, raw_rest, fixed_rest, chunks_rest, frames_rest, Kept, is_frames, is_nothing, is_free, is_open, is_answered}
+use Rattle.model_state.specs.Local.{closing_by}
+use Rattle.model_state.specs.Pull.{Pulled, lacking, pull_fixed, pull_raw, EndsWith, IsPullOfChunks, IsPull}
+use Rattle.model_state.specs.Change.{IsChange}
 use Rattle.h1_payload.specs.Rests.{SaysPulled}
 use Rattle.h1_payload.specs.declared.pulled.Pulled.{Pulled as Answer}
 use Rattle.h1_payload.specs.declared.pulled.Pulled.TheVariants as answers
-use Rattle.h1_decode.specs.declared.scan.HeadScan.{HeadScan}
+use Rattle.h1_decoder.specs.declared.scan.HeadScan.{HeadScan}
 use Rattle.h1_connection.specs.Incoming.{IsFoundIn}
 use Rattle.h1_connection.specs.Stock.{Stock}
 use Rattle.h1_connection.specs.Meaning.{setting_of}

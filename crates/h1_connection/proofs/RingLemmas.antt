@@ -10,14 +10,14 @@ use Rattle.http_framing.specs.declared.body.kind.BodyKind.{BodyKind}
 use Rattle.http_framing.specs.declared.body.kind.BodyKind.TheVariants as kind
 use Rattle.http_types.specs.declared.error.ParseError.{ParseError}
 use Rattle.http_types.specs.declared.error.ParseError.TheVariants.{NoMemory}
-use Rattle.h1_model.specs.HeadPiece.{AreBlankLines, EndsBlank, IsHeadPiece}
-use Rattle.h1_model.specs.Request.{Reading, head_is, faulty, has_body}
-use Rattle.h1_model.specs.RequestHead.{IsReading}
-use Rattle.h1_model.proofs.HeadPieceLemmas.{slice_range-append}
-use Rattle.h1_decode.specs.Refusal.{fault_of}
-use Rattle.h1_decode.specs.declared.decoder.HeadItem.{HeadItem}
-use Rattle.h1_decode.specs.declared.scan.HeadScan.{HeadScan}
-use Rattle.h1_decode.specs.declared.scan.HeadScan.TheVariants.{Open, Piece}
+use Rattle.model_h1.specs.HeadPiece.{AreBlankLines, EndsBlank, IsHeadPiece}
+use Rattle.model_h1.specs.Request.{Reading, head_is, faulty, has_body}
+use Rattle.model_h1.specs.RequestHead.{IsReading}
+use Rattle.model_h1.proofs.HeadPieceLemmas.{slice_range-append}
+use Rattle.h1_decoder.specs.Refusal.{fault_of}
+use Rattle.h1_decoder.specs.declared.decoder.HeadItem.{HeadItem}
+use Rattle.h1_decoder.specs.declared.scan.HeadScan.{HeadScan}
+use Rattle.h1_decoder.specs.declared.scan.HeadScan.TheVariants.{Open, Piece}
 use Rattle.h1_connection.specs.Ahead.{taken, joined, SaysRead, IsRead, AreRead, has_no_body, last_has_none, may_go_on, AreKept, FirstIsHead, IsReadInto, IsReadNext}
 use Rattle.h1_connection.specs.Incoming.{Incoming, IsFound, IsHeadIn, IsNextHead, IsNextFault, IsTakenIn, IsTakenHead}
 use Rattle.h1_connection.specs.declared.connection.ahead.Slot.{Slot}

@@ -4,16 +4,16 @@ use Rattle.std.proofs.lemmas.List.{map-append, take_more, take_all}
 use Rattle.std.proofs.lemmas.Grind.{reverse_onto}
 use Rattle.std.specs.Prelude.{option_map, slice_get}
 use Rattle.http_config.specs.Config.{Settings}
-use Rattle.h1_model.specs.Event as on
-use Rattle.h1_model.specs.Sums as sums
-use Rattle.h1_model.specs.Sums.{written}
-use Rattle.h1_model.proofs.WrittenLemmas.{written_buffered}
-use Rattle.h1_model.proofs.HandedParsed.{handed_prefix}
-use Rattle.h1_machine.specs.Local.{closing_by, allowed_by}
-use Rattle.h1_model.specs.Trace as traces
-use Rattle.h1_machine.proofs.Stands.{fresh_stands, misplaced_of_trace}
-use Rattle.h1_segment_model.specs.Runs.{runs_behind}
-use Rattle.h1_segment_model.specs.Marks.{body_runs}
+use Rattle.model_h1.specs.Event as on
+use Rattle.model_h1.specs.Sums as sums
+use Rattle.model_h1.specs.Sums.{written}
+use Rattle.model_h1.proofs.WrittenLemmas.{written_buffered}
+use Rattle.model_h1.proofs.HandedParsed.{handed_prefix}
+use Rattle.model_state.specs.Local.{closing_by, allowed_by}
+use Rattle.model_h1.specs.Trace as traces
+use Rattle.model_state.proofs.Stands.{fresh_stands, misplaced_of_trace}
+use Rattle.model_state.specs.Runs.{runs_behind}
+use Rattle.model_state.specs.Marks.{body_runs}
 use Rattle.h1_connection.proofs.GoesOnLemmas.{buffered_traced, closing_traced}
 use Rattle.h1_connection.specs.Meaning.{setting_of, event_of, end_of, SaysOutcome}
 use Rattle.h1_connection.specs.State.{State, fresh_state, Stands, IsMarked, GoesOn}

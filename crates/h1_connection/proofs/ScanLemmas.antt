@@ -5,10 +5,10 @@ use Rattle.std.proofs.lemmas.Bool.{cases_Bool, and_parts, and_from, false≢true
 use Rattle.std.proofs.lemmas.List.{take-append-drop, length-take, take_at, drop_at}
 use Rattle.std.specs.Prelude.{nat_lt, option_map}
 use Rattle.httparse.specs.Grammar.{LineEnd, crlf, lf, print_end, print_blank}
-use Rattle.h1_model.specs.HeadPiece.{AreBlankLines, BeginsBlank, EndsBlank, IsHeadPiece, HasNoHeadPiece}
-use Rattle.h1_model.proofs.BlankLemmas.{blank_front, ends_blank_long}
-use Rattle.h1_model.proofs.HeadPieceLemmas.{start_unique}
-use Rattle.h1_decode.specs.HeadScan.{AnswersScan}
+use Rattle.model_h1.specs.HeadPiece.{AreBlankLines, BeginsBlank, EndsBlank, IsHeadPiece, HasNoHeadPiece}
+use Rattle.model_h1.proofs.BlankLemmas.{blank_front, ends_blank_long}
+use Rattle.model_h1.proofs.HeadPieceLemmas.{start_unique}
+use Rattle.h1_decoder.specs.HeadScan.{AnswersScan}
 use Rattle.h1_connection.specs.Scan.{begins_lf, line_end_length, begins_line_end, start_of, length_of, piece_from, scan_of}
 
 -- ---- a line end in front

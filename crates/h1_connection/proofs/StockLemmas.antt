@@ -5,17 +5,17 @@ use Rattle.std.specs.Prelude.{is_some, slice_range, IsTrue, ◌⊎◌}
 use Rattle.std.proofs.lemmas.Bool.{false≢true}
 use Rattle.http_framing.specs.Kinds.{kind_of}
 use Rattle.http_types.specs.declared.error.ParseError.{ParseError}
-use Rattle.h1_model.specs.HeadPiece.{IsHeadPiece, HasNoHeadPiece}
-use Rattle.h1_model.specs.Request.{Head, has_body, Reading, head_is, faulty}
-use Rattle.h1_model.specs.RequestHead.{IsReading}
-use Rattle.h1_model.proofs.ExampleLemmas.{nothing_behind}
-use Rattle.h1_model.proofs.HeadPieceLemmas.{head_piece_append, slice_range-append}
-use Rattle.h1_ahead_model.specs.Ahead.{is_bodiless, AreAhead}
-use Rattle.h1_decode.specs.HeadItem.{SaysHead}
-use Rattle.h1_decode.specs.Refusal.{fault_of}
-use Rattle.h1_decode.specs.declared.decoder.HeadItem.{HeadItem}
-use Rattle.h1_decode.specs.declared.scan.HeadScan.{HeadScan}
-use Rattle.h1_decode.specs.declared.scan.HeadScan.TheVariants.{Open, Piece}
+use Rattle.model_h1.specs.HeadPiece.{IsHeadPiece, HasNoHeadPiece}
+use Rattle.model_h1.specs.Request.{Head, has_body, Reading, head_is, faulty}
+use Rattle.model_h1.specs.RequestHead.{IsReading}
+use Rattle.model_h1.proofs.ExampleLemmas.{nothing_behind}
+use Rattle.model_h1.proofs.HeadPieceLemmas.{head_piece_append, slice_range-append}
+use Rattle.model_state.specs.Ahead.{is_bodiless, AreAhead}
+use Rattle.h1_decoder.specs.HeadItem.{SaysHead}
+use Rattle.h1_decoder.specs.Refusal.{fault_of}
+use Rattle.h1_decoder.specs.declared.decoder.HeadItem.{HeadItem}
+use Rattle.h1_decoder.specs.declared.scan.HeadScan.{HeadScan}
+use Rattle.h1_decoder.specs.declared.scan.HeadScan.TheVariants.{Open, Piece}
 use Rattle.h1_connection.specs.Ahead.{joined, SaysRead, AreRead, bare_by, has_no_body, may_go_on, turn_behind}
 use Rattle.h1_connection.specs.Incoming.{Incoming, is_coming_in, IsFound, IsHeadIn, IsNextHead, IsPassedHead, IsPassedIn, IsAlone, IsAloneIn}
 use Rattle.h1_connection.specs.Scan.{scan_of}

@@ -5,16 +5,16 @@ use Rattle.std.specs.Prelude.{option_map, is_some, unwrap_or, nat_lt, nat_le, â—
 use Rattle.std.specs.Option.{option_or}
 use Rattle.http_config.specs.Config.{Settings}
 use Rattle.http_config.specs.Deadline.{deadline_of}
-use Rattle.h1_model.specs.Limits.{MAX_MOMENT}
-use Rattle.h1_model.specs.OutcomeTable.{counted_from, has_run_out}
-use Rattle.h1_model.specs.Event as on
-use Rattle.h1_model.specs.End as ends
+use Rattle.model_h1.specs.Limits.{MAX_MOMENT}
+use Rattle.model_h1.specs.OutcomeTable.{counted_from, has_run_out}
+use Rattle.model_h1.specs.Event as on
+use Rattle.model_h1.specs.End as ends
 use Rattle.h1_connection.specs.declared.event.End.{End}
-use Rattle.h1_model.specs.Deadline.{is_due}
-use Rattle.h1_machine.specs.Kept.{Change, is_free}
-use Rattle.h1_machine.specs.Local.{closing_by}
-use Rattle.h1_machine.specs.Clock.{expiring, at_moment}
-use Rattle.h1_machine.specs.Change.{noting_since}
+use Rattle.model_h1.specs.Deadline.{is_due}
+use Rattle.model_state.specs.Kept.{Change, is_free}
+use Rattle.model_state.specs.Local.{closing_by}
+use Rattle.model_state.specs.Clock.{expiring, at_moment}
+use Rattle.model_state.specs.Change.{noting_since}
 use Rattle.h1_connection.specs.Stock.{Stock, IsFoundOf}
 use Rattle.h1_connection.specs.Meaning.{setting_of, end_of}
 use Rattle.h1_connection.specs.Parts.{kept_of, leaves_body, HasNoneBehind, MayBeSearched, IsSound, Steps}

@@ -3,13 +3,13 @@ use Rattle.std.specs.Prelude.{◌≡◌, ◌≢◌, ℕ, ◌<◌, ◌≤◌, ◌
 use Rattle.http_framing.specs.Kinds.{kind_of}
 use Rattle.http_types.specs.declared.error.ParseError.{ParseError}
 use Rattle.http_types.specs.declared.error.ParseError.TheVariants.{NoMemory}
-use Rattle.h1_model.specs.HeadPiece.{IsHeadPiece, HasNoHeadPiece}
-use Rattle.h1_model.specs.Request.{Reading, head_is, faulty, has_body}
-use Rattle.h1_model.specs.RequestHead.{IsReading}
-use Rattle.h1_ahead_model.specs.Ahead.{is_bodiless}
-use Rattle.h1_decode.specs.HeadItem.{SaysHead}
-use Rattle.h1_decode.specs.Refusal.{fault_of}
-use Rattle.h1_decode.specs.declared.decoder.HeadItem.{HeadItem}
+use Rattle.model_h1.specs.HeadPiece.{IsHeadPiece, HasNoHeadPiece}
+use Rattle.model_h1.specs.Request.{Reading, head_is, faulty, has_body}
+use Rattle.model_h1.specs.RequestHead.{IsReading}
+use Rattle.model_state.specs.Ahead.{is_bodiless}
+use Rattle.h1_decoder.specs.HeadItem.{SaysHead}
+use Rattle.h1_decoder.specs.Refusal.{fault_of}
+use Rattle.h1_decoder.specs.declared.decoder.HeadItem.{HeadItem}
 use Rattle.h1_connection.specs.Incoming.{Incoming, IsFound, IsTakenHead}
 use Rattle.h1_connection.specs.declared.connection.ahead.Slot.{Slot}
 use Rattle.h1_connection.specs.declared.connection.intake.Turn.{Turn}

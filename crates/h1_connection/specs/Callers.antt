@@ -1,6 +1,6 @@
 -- What a caller's own functions say of a connection, by this library's names alone.
-use Rattle.h1_model.specs.Answer.{AnswerHead, BodySize}
-use Rattle.h1_model.specs.Event as on
+use Rattle.model_h1.specs.Answer.{AnswerHead, BodySize}
+use Rattle.model_h1.specs.Event as on
 use Rattle.h1_connection.specs.State.{State, IsAllowed}
 
 -- the open request may be answered, by whatever head and body

@@ -1,13 +1,13 @@
 -- What a WebSocket gives, and what is sent on it.
 use Rattle.std.specs.Prelude.{◌≡◌, ℕ, Bool, true, false, ◌||◌, List, Option, Some, None, is_some, ⊤}
-use Rattle.h1_model.specs.Frame.{Message, frame, nop}
-use Rattle.h1_model.specs.FrameText.{send_error}
-use Rattle.h1_model.specs.End as ends
-use Rattle.h1_model.specs.Event as on
-use Rattle.h1_machine.specs.Kept as machine
-use Rattle.h1_machine.specs.Kept.{Kept, frames_rest, is_frames, of_exchange}
-use Rattle.h1_machine.specs.Pull as pulls
-use Rattle.h1_machine.specs.Pull.{IsPull}
+use Rattle.model_h1.specs.Frame.{Message, frame, nop}
+use Rattle.model_h1.specs.FrameText.{send_error}
+use Rattle.model_h1.specs.End as ends
+use Rattle.model_h1.specs.Event as on
+use Rattle.model_state.specs.Kept as machine
+use Rattle.model_state.specs.Kept.{Kept, frames_rest, is_frames, of_exchange}
+use Rattle.model_state.specs.Pull as pulls
+use Rattle.model_state.specs.Pull.{IsPull}
 use Rattle.h1_payload.specs.Rests.{IsLight}
 use Rattle.ws_frames.specs.Codec.{frame_says, IsNamed}
 use Rattle.h1_connection.specs.Stock.{Stock}

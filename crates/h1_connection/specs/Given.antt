@@ -1,9 +1,9 @@
 -- What a call gives of the next one's condition, so that it needn't be asked for again.
 use Rattle.std.specs.Prelude.{◌≡◌, Bool, true, false, not, ◌&&◌, ◌||◌, ◌==◌, length, None, is_some}
-use Rattle.h1_model.specs.Setting.{Setting}
-use Rattle.h1_model.specs.Event as on
-use Rattle.h1_machine.specs.Kept.{Kept, is_upgraded}
-use Rattle.h1_machine.specs.Local.{closing_by, allowed_by, waits_for_answer}
+use Rattle.model_h1.specs.Setting.{Setting}
+use Rattle.model_h1.specs.Event as on
+use Rattle.model_state.specs.Kept.{Kept, is_upgraded}
+use Rattle.model_state.specs.Local.{closing_by, allowed_by, waits_for_answer}
 use Rattle.h1_connection.specs.declared.connection.heads.NextHead.{NextHead}
 use Rattle.h1_connection.specs.declared.connection.heads.NextHead.TheVariants as next
 use Rattle.h1_connection.specs.declared.connection.heads.NextKind.{NextKind}

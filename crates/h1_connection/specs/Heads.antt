@@ -2,16 +2,16 @@
 use Rattle.std.specs.Prelude.{◌≡◌, ℕ, ◌≤◌, ◌==◌, ◌⊎◌, Bool, true, false, not, ◌||◌, is_some, if◌then◌else◌, List, length, drop, Some, IsSome, option_map, ⊤}
 use Rattle.http_config.specs.Config.{Settings}
 use Rattle.http_framing.specs.Kinds.{kind_of}
-use Rattle.h1_model.specs.Request.{Head, head_is, has_body, faulty}
-use Rattle.h1_model.specs.RequestHead.{IsReading}
-use Rattle.h1_model.specs.Setting.{Setting}
-use Rattle.h1_model.specs.Answer.{asked_of}
-use Rattle.h1_model.specs.Event as on
-use Rattle.h1_machine.specs.Kept.{Kept, is_open, new_exchange, rest_in, whole_rest, refusal_of, key_answer_of}
-use Rattle.h1_machine.specs.Local.{closing_by}
-use Rattle.h1_machine.specs.Change.{behind_head}
-use Rattle.h1_decode.specs.HeadItem.{SaysHead, without_headers}
-use Rattle.h1_decode.specs.declared.decoder.HeadItem.{HeadItem}
+use Rattle.model_h1.specs.Request.{Head, head_is, has_body, faulty}
+use Rattle.model_h1.specs.RequestHead.{IsReading}
+use Rattle.model_h1.specs.Setting.{Setting}
+use Rattle.model_h1.specs.Answer.{asked_of}
+use Rattle.model_h1.specs.Event as on
+use Rattle.model_state.specs.Kept.{Kept, is_open, new_exchange, rest_in, whole_rest, refusal_of, key_answer_of}
+use Rattle.model_state.specs.Local.{closing_by}
+use Rattle.model_state.specs.Change.{behind_head}
+use Rattle.h1_decoder.specs.HeadItem.{SaysHead, without_headers}
+use Rattle.h1_decoder.specs.declared.decoder.HeadItem.{HeadItem}
 use Rattle.h1_connection.specs.Meaning.{end_of, fault_of, failing_of}
 use Rattle.h1_connection.specs.Parts.{key_bytes, Steps}
 use Rattle.h1_connection.specs.Stock.{CountsOn}

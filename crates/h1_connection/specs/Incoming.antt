@@ -1,15 +1,15 @@
 -- What a connection holds of its input: the bytes that were taken and not passed, and what was found of a head.
 use Rattle.std.specs.Prelude.{◌≡◌, ℕ, Bool, true, false, ◌⊎◌, List, [], ◌++◌, length, take, drop, slice_range, IsTrue, Option, Some, None, ⊤}
-use Rattle.h1_model.specs.HeadPiece.{IsHeadPiece, HasNoHeadPiece}
-use Rattle.h1_decode.specs.declared.scan.HeadScan.{HeadScan}
-use Rattle.h1_decode.specs.declared.scan.HeadScan.TheVariants.{Open, Piece}
+use Rattle.model_h1.specs.HeadPiece.{IsHeadPiece, HasNoHeadPiece}
+use Rattle.h1_decoder.specs.declared.scan.HeadScan.{HeadScan}
+use Rattle.h1_decoder.specs.declared.scan.HeadScan.TheVariants.{Open, Piece}
 use Rattle.http_framing.specs.Kinds.{kind_of}
-use Rattle.h1_model.specs.Request.{Head, Fault, head_is, faulty, has_body}
-use Rattle.h1_model.specs.RequestHead.{IsReading}
-use Rattle.h1_decode.specs.HeadItem.{SaysHead}
-use Rattle.h1_decode.specs.declared.decoder.HeadItem.{HeadItem}
-use Rattle.h1_decode.specs.HeadPosition.{HeadPosition, HasScanned}
-use Rattle.h1_decode.specs.HeadScan.{AnswersScan}
+use Rattle.model_h1.specs.Request.{Head, Fault, head_is, faulty, has_body}
+use Rattle.model_h1.specs.RequestHead.{IsReading}
+use Rattle.h1_decoder.specs.HeadItem.{SaysHead}
+use Rattle.h1_decoder.specs.declared.decoder.HeadItem.{HeadItem}
+use Rattle.h1_decoder.specs.HeadPosition.{HeadPosition, HasScanned}
+use Rattle.h1_decoder.specs.HeadScan.{AnswersScan}
 use Rattle.h1_connection.specs.Scan.{scan_of}
 use Rattle.h1_connection.specs.declared.connection.input.Scan.{Scan}
 use Rattle.h1_connection.specs.declared.connection.input.Search.{Search}

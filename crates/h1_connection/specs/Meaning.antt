@@ -3,20 +3,20 @@ use Rattle.std.specs.Prelude.{◌≡◌, List}
 use Rattle.http_config.specs.Config.{Settings}
 use Rattle.http_config.specs.declared.keep_alive.KeepAlive.{KeepAlive as Policy}
 use Rattle.http_config.specs.declared.keep_alive.KeepAlive.TheVariants.{Timeout, Os, Disabled}
-use Rattle.h1_model.specs.Request as model
-use Rattle.h1_model.specs.Setting.{Setting, KeepAlive, timeout, by_system, disabled}
-use Rattle.h1_model.specs.End as ends
-use Rattle.h1_model.specs.Event as on
-use Rattle.h1_model.specs.Frame.{ProtocolError as Rule}
-use Rattle.h1_model.specs.Handshake as checks
+use Rattle.model_h1.specs.Request as model
+use Rattle.model_h1.specs.Setting.{Setting, KeepAlive, timeout, by_system, disabled}
+use Rattle.model_h1.specs.End as ends
+use Rattle.model_h1.specs.Event as on
+use Rattle.model_h1.specs.Frame.{ProtocolError as Rule}
+use Rattle.model_h1.specs.Handshake as checks
 use Rattle.ws_frames.specs.Refusal.{refusal}
 use Rattle.ws_frames.specs.declared.error.ProtocolError.{ProtocolError}
 use Rattle.ws_session.specs.declared.verify.HandshakeError.{HandshakeError}
 use Rattle.ws_session.specs.declared.verify.HandshakeError.TheVariants as handshake
-use Rattle.h1_codec.specs.Meaning.{size_of, answer_of}
-use Rattle.h1_decode.specs.HeadItem.{SaysHead}
+use Rattle.h1_encoder.specs.Meaning.{size_of, answer_of}
+use Rattle.h1_decoder.specs.HeadItem.{SaysHead}
 use Rattle.h1_payload.specs.Rests.{fault_of as body_fault_of}
-use Rattle.http_lines.specs.HeaderLines.{header_map}
+use Rattle.http_framing.specs.HeaderLines.{header_map}
 use Rattle.h1_connection.specs.declared.event.End.{End}
 use Rattle.h1_connection.specs.declared.event.End.TheVariants.{Malformed, TooLarge, SlowRequestTimeout, KeepAliveExpired, Protocol, Body, BodyShort, Asked, BrokenBody, UnreadBody, Drained, HalfClosed, InputEnded}
 use Rattle.h1_connection.specs.declared.event.HeadFault.{HeadFault}

@@ -2,16 +2,16 @@
 use Rattle.std.specs.Prelude.{◌≡◌, ℕ, ◌<◌, Bool, true, false, not, ◌&&◌, ◌||◌, List, [], ◌∷◌, length, replicate, Option, Some, None, option_map, is_some, if◌then◌else◌}
 use Rattle.http_types.specs.declared.message.ConnectionType.{ConnectionType}
 use Rattle.http_config.specs.Config.{Settings}
-use Rattle.h1_model.specs.Limits.{MAX_MOMENT}
-use Rattle.h1_model.specs.Setting.{Setting}
-use Rattle.h1_model.specs.Event as on
-use Rattle.h1_model.specs.Answer.{Asked}
-use Rattle.h1_codec.specs.Meaning.{model_type, model_shape}
-use Rattle.h1_machine.specs.Kept as machine
-use Rattle.h1_machine.specs.Kept.{Kept, is_free, is_nothing, is_answered, of_exchange, now, rest_in, unanswered, sending, answered}
-use Rattle.h1_machine.specs.Local.{closing_by}
-use Rattle.h1_machine.specs.Body.{Passed, pass_rest}
-use Rattle.h1_machine.specs.Change.{noting_since, IsStep}
+use Rattle.model_h1.specs.Limits.{MAX_MOMENT}
+use Rattle.model_h1.specs.Setting.{Setting}
+use Rattle.model_h1.specs.Event as on
+use Rattle.model_h1.specs.Answer.{Asked}
+use Rattle.h1_encoder.specs.Meaning.{model_type, model_shape}
+use Rattle.model_state.specs.Kept as machine
+use Rattle.model_state.specs.Kept.{Kept, is_free, is_nothing, is_answered, of_exchange, now, rest_in, unanswered, sending, answered}
+use Rattle.model_state.specs.Local.{closing_by}
+use Rattle.model_state.specs.Body.{Passed, pass_rest}
+use Rattle.model_state.specs.Change.{noting_since, IsStep}
 use Rattle.h1_connection.specs.Incoming.{is_coming_in}
 use Rattle.h1_connection.specs.Stock.{IsFoundOf}
 use Rattle.h1_connection.specs.Meaning.{setting_of, end_of, failing_of}

@@ -1,9 +1,9 @@
 -- What a pull gives.
 use Rattle.std.specs.Prelude.{◌≡◌, Bool, true, false, ◌||◌, Option, Some, None}
-use Rattle.h1_machine.specs.Kept as machine
-use Rattle.h1_machine.specs.Kept.{Kept}
-use Rattle.h1_machine.specs.Pull as pulls
-use Rattle.h1_machine.specs.Pull.{IsPull}
+use Rattle.model_state.specs.Kept as machine
+use Rattle.model_state.specs.Kept.{Kept}
+use Rattle.model_state.specs.Pull as pulls
+use Rattle.model_state.specs.Pull.{IsPull}
 use Rattle.h1_payload.specs.Rests.{SaysPulled, IsLight}
 use Rattle.h1_payload.specs.declared.pulled.Pulled.{Pulled}
 use Rattle.h1_payload.specs.declared.pulled.Pulled.TheVariants.{End, Broken}

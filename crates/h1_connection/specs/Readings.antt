@@ -1,5 +1,5 @@
 -- What the bytes after a head are read as.
-use Rattle.h1_machine.specs.Kept as machine
+use Rattle.model_state.specs.Kept as machine
 use Rattle.h1_connection.specs.declared.connection.reading.Form.{Form}
 use Rattle.h1_connection.specs.declared.connection.reading.Form.TheVariants.{Body, Frames}
 

@@ -1,17 +1,17 @@
 -- What a list of events gives: the one trace of a connection, in the model's terms.
 use Rattle.std.specs.Prelude.{◌≡◌, ℕ, List, [], ◌∷◌, ◌++◌, map, reverse, take, slice_get, Some, option_map, Result, Ok, Err, ⊤}
 use Rattle.http_config.specs.Config.{Settings}
-use Rattle.h1_model.specs.Parse as parsed
-use Rattle.h1_model.specs.Parse.{IsParse}
-use Rattle.h1_model.specs.Sums as sums
-use Rattle.h1_model.specs.Sums.{written}
-use Rattle.h1_model.specs.Past.{ParsedStep, input_of}
-use Rattle.h1_model.specs.Handed.{HandsOutPrefix}
-use Rattle.h1_model.specs.Text.{text}
-use Rattle.h1_model.specs.Closing.{closing}
-use Rattle.h1_model.specs.Trace as traces
-use Rattle.h1_model.specs.Trace.{IsTrace, IsPastOf}
-use Rattle.h1_model.specs.Laws.Runs as runs
+use Rattle.model_h1.specs.Parse as parsed
+use Rattle.model_h1.specs.Parse.{IsParse}
+use Rattle.model_h1.specs.Sums as sums
+use Rattle.model_h1.specs.Sums.{written}
+use Rattle.model_h1.specs.Past.{ParsedStep, input_of}
+use Rattle.model_h1.specs.Handed.{HandsOutPrefix}
+use Rattle.model_h1.specs.Text.{text}
+use Rattle.model_h1.specs.Closing.{closing}
+use Rattle.model_h1.specs.Trace as traces
+use Rattle.model_h1.specs.Trace.{IsTrace, IsPastOf}
+use Rattle.model_h1.specs.Laws.Runs as runs
 use Rattle.h1_connection.specs.Meaning.{setting_of, event_of, end_of, SaysOutcome}
 use Rattle.h1_connection.specs.declared.error.DriveError.{DriveError}
 use Rattle.h1_connection.specs.declared.error.DriveError.TheVariants.{Misplaced, NoMemory}

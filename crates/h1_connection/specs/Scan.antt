@@ -2,8 +2,8 @@
 -- empty line after a line feed (RFC 7230, sections 3 and 3.5). A line ends in CR LF or in LF alone.
 use Rattle.std.specs.Prelude.{ℕ, suc, ◌+◌, Bool, false, ◌&&◌, List, [], ◌∷◌, drop, Option, Some, None, option_map, if◌then◌else◌, ◌==◌, nat_lt}
 use Rattle.httparse.specs.Ascii.{line_feed, carriage_return}
-use Rattle.h1_decode.specs.declared.scan.HeadScan.{HeadScan}
-use Rattle.h1_decode.specs.declared.scan.HeadScan.TheVariants.{Open, Piece}
+use Rattle.h1_decoder.specs.declared.scan.HeadScan.{HeadScan}
+use Rattle.h1_decoder.specs.declared.scan.HeadScan.TheVariants.{Open, Piece}
 
 -- the text begins with a line feed
 abbrev pub begins_lf : List ℕ → Bool

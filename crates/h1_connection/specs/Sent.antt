@@ -1,14 +1,14 @@
 -- What is put behind what waits: pieces of an answer's body, with the places of their bytes, and the head of an upgrade.
 use Rattle.std.specs.Prelude.{ℕ, ◌+◌, List, ◌++◌, length}
-use Rattle.h1_model.specs.Answer.{Asked, Shape, shape_chunked, shape_raw, size_stream}
-use Rattle.h1_model.specs.AnswerText.{chunk_text, head_text}
-use Rattle.h1_model.specs.Handshake.{accepting_head}
-use Rattle.h1_model.specs.Parse.{run_between}
-use Rattle.h1_model.specs.Request.{upgrade}
-use Rattle.h1_machine.specs.Reply.{piece_sent}
-use Rattle.h1_segment_model.specs.Marks.{framing_len}
-use Rattle.h1_segment_model.specs.After.{run_sent}
-use Rattle.http_segments.specs.Queued.{Queued}
+use Rattle.model_h1.specs.Answer.{Asked, Shape, shape_chunked, shape_raw, size_stream}
+use Rattle.model_h1.specs.AnswerText.{chunk_text, head_text}
+use Rattle.model_h1.specs.Handshake.{accepting_head}
+use Rattle.model_h1.specs.Parse.{run_between}
+use Rattle.model_h1.specs.Request.{upgrade}
+use Rattle.model_state.specs.Reply.{piece_sent}
+use Rattle.model_state.specs.Marks.{framing_len}
+use Rattle.model_state.specs.After.{run_sent}
+use Rattle.h1_output.specs.Queued.{Queued}
 
 abbrev pub with_sent : Asked → Shape → ℕ → List ℕ → Queued → Queued
 with_sent asked shape missing bytes q =

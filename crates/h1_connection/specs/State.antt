@@ -1,15 +1,15 @@
 -- A connection as its contracts see it: its settings, what the machine keeps, and which of the bytes that wait are body bytes.
 use Rattle.std.specs.Prelude.{◌≡◌, ◌<◌, ℕ, List, [], ◌∷◌, length, take, true, IsTrue, ⊤}
 use Rattle.http_config.specs.Config.{Settings}
-use Rattle.h1_chunks.specs.Runs.{Run}
-use Rattle.h1_model.specs.Event as on
-use Rattle.h1_model.specs.Sums as sums
-use Rattle.h1_model.specs.Trace.{IsOutcome}
-use Rattle.h1_machine.specs.Kept.{Kept, fresh}
-use Rattle.h1_machine.specs.Local.{allowed_by}
-use Rattle.h1_machine.specs.StandsFor.{StandsFor}
-use Rattle.h1_segment_model.specs.Marks.{buffered_runs}
-use Rattle.h1_ahead_model.specs.Ahead.{IsAhead}
+use Rattle.model_h1.specs.Runs.{Run}
+use Rattle.model_h1.specs.Event as on
+use Rattle.model_h1.specs.Sums as sums
+use Rattle.model_h1.specs.Trace.{IsOutcome}
+use Rattle.model_state.specs.Kept.{Kept, fresh}
+use Rattle.model_state.specs.Local.{allowed_by}
+use Rattle.model_state.specs.StandsFor.{StandsFor}
+use Rattle.model_state.specs.Marks.{buffered_runs}
+use Rattle.model_state.specs.Ahead.{IsAhead}
 use Rattle.h1_connection.specs.Meaning.{setting_of}
 use Rattle.h1_connection.specs.Heads.{NeedsNoMemory}
 use Rattle.h1_connection.specs.Given.{next_allowed, frame_allowed}

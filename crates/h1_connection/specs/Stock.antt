@@ -1,13 +1,13 @@
 -- What a connection holds of its input, and how many heads of it were read ahead.
 use Rattle.std.specs.Prelude.{◌≡◌, ℕ, suc, ◌<◌, ◌≤◌, ◌^◌, Bool, true, not, List, [], ◌∷◌, ◌++◌, length, drop, is_some, IsTrue, Option, Some, None, ⊤}
 use Rattle.http_framing.specs.Kinds.{kind_of}
-use Rattle.h1_model.specs.Request.{Head, Fault, Reading, head_is, faulty, has_body}
-use Rattle.h1_model.specs.RequestHead.{IsReading}
-use Rattle.h1_ahead_model.specs.Ahead.{AreAhead}
-use Rattle.h1_decode.specs.HeadItem.{SaysHead}
-use Rattle.h1_decode.specs.declared.decoder.HeadItem.{HeadItem}
-use Rattle.h1_decode.specs.declared.scan.HeadScan.{HeadScan}
-use Rattle.h1_decode.specs.declared.scan.HeadScan.TheVariants.{Open, Piece}
+use Rattle.model_h1.specs.Request.{Head, Fault, Reading, head_is, faulty, has_body}
+use Rattle.model_h1.specs.RequestHead.{IsReading}
+use Rattle.model_state.specs.Ahead.{AreAhead}
+use Rattle.h1_decoder.specs.HeadItem.{SaysHead}
+use Rattle.h1_decoder.specs.declared.decoder.HeadItem.{HeadItem}
+use Rattle.h1_decoder.specs.declared.scan.HeadScan.{HeadScan}
+use Rattle.h1_decoder.specs.declared.scan.HeadScan.TheVariants.{Open, Piece}
 use Rattle.h1_connection.specs.Ahead.{joined, may_go_on, AreRead, FirstIsHead}
 use Rattle.h1_connection.specs.Incoming.{Incoming, is_coming_in, IsFoundIn, IsHeadIn}
 use Rattle.h1_connection.specs.Scan.{scan_of}

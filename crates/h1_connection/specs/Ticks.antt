@@ -1,10 +1,10 @@
 -- What a tick answers.
 use Rattle.std.specs.Prelude.{◌≡◌, ℕ, ◌^◌, ◌⊎◌, false, nat_lt, if◌then◌else◌, Option, Some, None, IsSome, unwrap_or}
-use Rattle.h1_model.specs.Setting.{Setting}
-use Rattle.h1_model.specs.Event as on
-use Rattle.h1_machine.specs.Kept.{Kept}
-use Rattle.h1_machine.specs.Local.{closing_by}
-use Rattle.h1_machine.specs.Clock.{is_slow}
+use Rattle.model_h1.specs.Setting.{Setting}
+use Rattle.model_h1.specs.Event as on
+use Rattle.model_state.specs.Kept.{Kept}
+use Rattle.model_state.specs.Local.{closing_by}
+use Rattle.model_state.specs.Clock.{is_slow}
 use Rattle.h1_connection.specs.Meaning.{end_of}
 use Rattle.h1_connection.specs.declared.connection.ticks.Expiry.{Expiry}
 use Rattle.h1_connection.specs.declared.connection.ticks.Expiry.TheVariants as expiry

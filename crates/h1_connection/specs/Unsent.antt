@@ -1,8 +1,8 @@
 -- Pieces and ends of an answer's body of which nothing goes out: they take no memory.
 use Rattle.std.specs.Prelude.{◌≡◌, ℕ, List, [], Option, Some, None, ⊤}
-use Rattle.h1_model.specs.AnswerText.{sent_end}
-use Rattle.h1_machine.specs.Kept.{Reply, sending, Exchange, Kept}
-use Rattle.h1_machine.specs.Reply.{piece_sent}
+use Rattle.model_h1.specs.AnswerText.{sent_end}
+use Rattle.model_state.specs.Kept.{Reply, sending, Exchange, Kept}
+use Rattle.model_state.specs.Reply.{piece_sent}
 
 -- a piece
 abbrev pub NoPieceBy : Exchange → Reply → List ℕ → Type 0

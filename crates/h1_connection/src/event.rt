@@ -3,7 +3,7 @@ ghost use Rattle.std.specs.Prelude.{◌≡◌, IfOk};
 
 use crate::{Boxed, ReceivedFrame, SentMessage};
 use bytes::Bytes;
-use h1_decode::HeadItem;
+use h1_decoder::HeadItem;
 use h1_payload::BodyFault;
 use http_framing::BodySize;
 use http_types::{HeaderMap, NoMemory, ResponseHead};

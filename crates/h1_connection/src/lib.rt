@@ -52,7 +52,7 @@ pub use connection::{
 pub use driver::drive;
 pub use error::{DriveError, ReadFromError};
 pub use event::{End, Event, HeadFault, Outcome};
-pub use h1_decode::{HeadItem, HeadRoom};
+pub use h1_decoder::{HeadItem, HeadRoom};
 pub use h1_payload::{BodyFault, Pulled};
 pub use http_framing::{BodyKind, BodySize};
 pub use http_types::{

@@ -4,7 +4,7 @@ ghost use Rattle.h1_connection.specs.Steps.{outcome_of};
 
 use crate::{Boxed, End, HeadFault, Outcome, ReceivedFrame};
 use bytes::Bytes;
-use h1_decode::HeadItem;
+use h1_decoder::HeadItem;
 use h1_payload::BodyFault;
 use http_types::{HeaderMap, NoMemory};
 use std::alloc::Global;

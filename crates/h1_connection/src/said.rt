@@ -14,7 +14,7 @@ pub struct SentMessage {
 }
 
 impl Model for SentMessage {
-    ghost use Rattle.h1_model.specs.Frame.{Message as Said};
+    ghost use Rattle.model_h1.specs.Frame.{Message as Said};
     ghost use Rattle.ws_frames.specs.Sent.{message_says};
 
     ghost Value = { Said };
@@ -53,7 +53,7 @@ pub struct ReceivedFrame {
 }
 
 impl Model for ReceivedFrame {
-    ghost use Rattle.h1_model.specs.Frame.{Frame as Said};
+    ghost use Rattle.model_h1.specs.Frame.{Frame as Said};
     ghost use Rattle.ws_frames.specs.Codec.{frame_says, IsNamed};
 
     ghost Value = { Said };

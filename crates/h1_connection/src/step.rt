@@ -1,6 +1,6 @@
 // Events as values: each is taken in by the call of its kind.
 ghost use Rattle.std.specs.Prelude.{◌≡◌, IfOk, IsOk, OnErr};
-ghost use Rattle.h1_model.specs.Event as on;
+ghost use Rattle.model_h1.specs.Event as on;
 ghost use Rattle.h1_payload.specs.Rests.{SaysPulled};
 ghost use Rattle.h1_connection.specs.Meaning.{event_of, SaysOutcome};
 ghost use Rattle.h1_connection.specs.Frames.{accepted_of, SaysFrame, IsPulledNamed, SaysSent};

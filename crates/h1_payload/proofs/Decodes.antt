@@ -2,10 +2,10 @@
 use Rattle.std.proofs.Common.{◌≡◌, ℕ, Bool, false, List, ◌++◌, refl, sym, ap, ◌∙◌, subst, subst₂, ◌<◌, length}
 use Rattle.std.specs.Prelude.{Option, Some, None, Result, Ok, Err, IfOk}
 use Rattle.http_map.specs.HeaderMap.{Entries}
-use Rattle.h1_model.specs.Event.{Outcome}
-use Rattle.h1_machine.specs.Kept.{Rest}
-use Rattle.h1_machine.specs.Pull as pulls
-use Rattle.h1_machine.specs.Pull.{IsPull}
+use Rattle.model_h1.specs.Event.{Outcome}
+use Rattle.model_state.specs.Kept.{Rest}
+use Rattle.model_state.specs.Pull as pulls
+use Rattle.model_state.specs.Pull.{IsPull}
 use Rattle.http_framing.specs.AnyPieces.{GoesOn, in_front}
 use Rattle.h1_payload.specs.Answers.{is_fault}
 use Rattle.h1_payload.specs.Fitting.{Fits, GivesSome}

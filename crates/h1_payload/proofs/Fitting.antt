@@ -3,22 +3,22 @@ use Rattle.std.proofs.Common.{◌≡◌, ℕ, zero, suc, ◌-◌, ◌<◌, leb, 
 use Rattle.std.specs.List.{AllByRecursion}
 use Rattle.std.proofs.lemmas.Bool.{cond_both, cond-false, leb-false, ne_eqb}
 use Rattle.std.proofs.lemmas.List.{append_cancel_right}
-use Rattle.h1_chunks.specs.ChunkedText.{Trailer, IsTrailer, content, section_text}
-use Rattle.h1_chunks.specs.Place.{Place, start, broken, after}
-use Rattle.h1_chunks.specs.Reading.{Reading, ends_before, read}
-use Rattle.h1_chunks.specs.TakeNext.{Next, chunk, waits, ended, breaks, take_next, says}
-use Rattle.h1_chunks.proofs.Complete.{text_read}
-use Rattle.h1_chunks.proofs.Sound.{ended_is_text}
-use Rattle.h1_chunks.proofs.ReadAfter.{read-append}
-use Rattle.h1_chunks.proofs.TakenReads.{taken_is_read}
-use Rattle.h1_chunks.proofs.TakenPlaces.{waiting_leads, taken_chunk_leads}
-use Rattle.h1_model.specs.Parse.{trailer_header}
-use Rattle.h1_model.specs.Request.{BodyKind, no_body, fixed_body, chunked_body, raw_body}
-use Rattle.h1_model.specs.Event.{corrupted, incomplete}
-use Rattle.h1_model.specs.Event as on
-use Rattle.h1_machine.specs.Kept.{Rest, no_rest, raw_rest, fixed_rest, chunks_rest, frames_rest, whole_rest}
-use Rattle.h1_machine.specs.Pull as pulls
-use Rattle.h1_machine.specs.Pull.{gives, finishes, pull_fixed, pull_raw, EndsWith, IsPullOfChunks, IsPull}
+use Rattle.model_h1.specs.ChunkedText.{Trailer, IsTrailer, content, section_text}
+use Rattle.model_h1.specs.Place.{Place, start, broken, after}
+use Rattle.model_h1.specs.Reading.{Reading, ends_before, read}
+use Rattle.model_h1.specs.TakeNext.{Next, chunk, waits, ended, breaks, take_next, says}
+use Rattle.model_h1.proofs.Complete.{text_read}
+use Rattle.model_h1.proofs.Sound.{ended_is_text}
+use Rattle.model_h1.proofs.ReadAfter.{read-append}
+use Rattle.model_h1.proofs.TakenReads.{taken_is_read}
+use Rattle.model_h1.proofs.TakenPlaces.{waiting_leads, taken_chunk_leads}
+use Rattle.model_h1.specs.Parse.{trailer_header}
+use Rattle.model_h1.specs.Request.{BodyKind, no_body, fixed_body, chunked_body, raw_body}
+use Rattle.model_h1.specs.Event.{corrupted, incomplete}
+use Rattle.model_h1.specs.Event as on
+use Rattle.model_state.specs.Kept.{Rest, no_rest, raw_rest, fixed_rest, chunks_rest, frames_rest, whole_rest}
+use Rattle.model_state.specs.Pull as pulls
+use Rattle.model_state.specs.Pull.{gives, finishes, pull_fixed, pull_raw, EndsWith, IsPullOfChunks, IsPull}
 use Rattle.h1_payload.specs.Fitting.{HasLines, Fits}
 use Rattle.h1_payload.proofs.Rooms.{IsUnbroken, unbroken, waiting_notes, ended_notes}
 

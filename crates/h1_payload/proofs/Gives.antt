@@ -2,17 +2,17 @@
 use Rattle.std.proofs.Common.{◌≡◌, ℕ, ◌<◌, Bool, true, false, cond, List, [], ◌∷◌, ◌++◌, length, map, fold, refl, sym, subst, arith, length-take}
 use Rattle.std.specs.Prelude.{bytes_eq}
 use Rattle.http_header.specs.FieldValue.{FieldValue, plain_value}
-use Rattle.h1_chunks.specs.ChunkedText.{Trailer, section_text}
-use Rattle.h1_chunks.specs.Place.{Place}
-use Rattle.h1_chunks.specs.TakeNext.{Next, chunk, waits, ended, breaks, take_next}
-use Rattle.h1_chunks.proofs.TakenPlaces.{taken_chunk_leads}
+use Rattle.model_h1.specs.ChunkedText.{Trailer, section_text}
+use Rattle.model_h1.specs.Place.{Place}
+use Rattle.model_h1.specs.TakeNext.{Next, chunk, waits, ended, breaks, take_next}
+use Rattle.model_h1.proofs.TakenPlaces.{taken_chunk_leads}
 use Rattle.http_map.specs.HeaderMap.{Entries, append}
-use Rattle.h1_model.specs.Parse.{trailer_header}
-use Rattle.h1_model.specs.Request.{Header}
-use Rattle.h1_machine.specs.Kept.{Rest, no_rest, raw_rest, fixed_rest, chunks_rest, frames_rest}
-use Rattle.h1_machine.specs.Pull as pulls
-use Rattle.h1_machine.specs.Pull.{pull_fixed, pull_raw, EndsWith, IsPullOfChunks, IsPull}
-use Rattle.http_lines.specs.HeaderLines.{header_map}
+use Rattle.model_h1.specs.Parse.{trailer_header}
+use Rattle.model_h1.specs.Request.{Header}
+use Rattle.model_state.specs.Kept.{Rest, no_rest, raw_rest, fixed_rest, chunks_rest, frames_rest}
+use Rattle.model_state.specs.Pull as pulls
+use Rattle.model_state.specs.Pull.{pull_fixed, pull_raw, EndsWith, IsPullOfChunks, IsPull}
+use Rattle.http_framing.specs.HeaderLines.{header_map}
 use Rattle.h1_payload.specs.Fitting.{Fits, GivesSome}
 
 raw_some : (is_ended : Bool) (bytes : List ℕ) → GivesSome (pull_raw is_ended bytes).outcome

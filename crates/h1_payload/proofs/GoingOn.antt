@@ -4,20 +4,20 @@ use Rattle.std.specs.List.{AllByRecursion}
 use Rattle.std.proofs.Math.Seq.{take-append-add, drop-append-add}
 use Rattle.std.proofs.lemmas.Bool.{cond_both, cond-true, cond-false, le-leb, lt-leb, leb-true, leb-false, cases_lt}
 use Rattle.std.proofs.lemmas.List.{take_all, drop_all, take-append-le, drop-append-le}
-use Rattle.h1_chunks.specs.ChunkedText.{Trailer, IsTrailer, trailer_text, section_text}
-use Rattle.h1_chunks.specs.Place.{Place}
-use Rattle.h1_chunks.specs.Reading.{Ending, Reading, goes_on, ends_before, only, with_trailers}
-use Rattle.h1_chunks.specs.TakeNext.{Next, chunk, waits, ended, breaks, take_next, says}
-use Rattle.h1_chunks.proofs.ReadSteps.{with_trailers-append}
-use Rattle.h1_chunks.proofs.TakenReads.{taken_is_read}
+use Rattle.model_h1.specs.ChunkedText.{Trailer, IsTrailer, trailer_text, section_text}
+use Rattle.model_h1.specs.Place.{Place}
+use Rattle.model_h1.specs.Reading.{Ending, Reading, goes_on, ends_before, only, with_trailers}
+use Rattle.model_h1.specs.TakeNext.{Next, chunk, waits, ended, breaks, take_next, says}
+use Rattle.model_h1.proofs.ReadSteps.{with_trailers-append}
+use Rattle.model_h1.proofs.TakenReads.{taken_is_read}
 use Rattle.http_map.specs.HeaderMap.{Entries}
-use Rattle.h1_model.specs.Parse.{trailer_header}
-use Rattle.h1_model.specs.Event.{Outcome}
-use Rattle.h1_model.specs.Event as on
-use Rattle.h1_machine.specs.Kept.{Rest, no_rest, raw_rest, fixed_rest, chunks_rest, frames_rest}
-use Rattle.h1_machine.specs.Pull as pulls
-use Rattle.h1_machine.specs.Pull.{pull_fixed, pull_raw, EndsWith, IsPullOfChunks, IsPull}
-use Rattle.http_lines.specs.HeaderLines.{header_map}
+use Rattle.model_h1.specs.Parse.{trailer_header}
+use Rattle.model_h1.specs.Event.{Outcome}
+use Rattle.model_h1.specs.Event as on
+use Rattle.model_state.specs.Kept.{Rest, no_rest, raw_rest, fixed_rest, chunks_rest, frames_rest}
+use Rattle.model_state.specs.Pull as pulls
+use Rattle.model_state.specs.Pull.{pull_fixed, pull_raw, EndsWith, IsPullOfChunks, IsPull}
+use Rattle.http_framing.specs.HeaderLines.{header_map}
 use Rattle.h1_payload.specs.Fitting.{Fits}
 use Rattle.h1_payload.specs.Decoding.{Payload, reading_of, AreTrailers, HasTrailers, IsReadAs}
 

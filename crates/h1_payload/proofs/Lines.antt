@@ -11,10 +11,10 @@ use Rattle.httparse.specs.Grammar.{is_value_byte, is_token_byte, crlf, Field, Is
 use Rattle.httparse.specs.Spans.{name_and_value, header_bytes, IsHeaderWithin, IsSectionWithin, IsSectionAt}
 use Rattle.httparse.specs.declared.spans.HeaderSpan.{HeaderSpan}
 use Rattle.httparse.proofs.TrimLemmas.{AllPass-trim_ows}
-use Rattle.h1_chunks.specs.ChunkedText.{Trailer, IsTrailer, trailer_text, section_text}
-use Rattle.h1_model.specs.Request.{Header}
-use Rattle.h1_model.specs.Parse.{trailer_header}
-use Rattle.http_lines.specs.HeaderLines.{IsLine, line_header}
+use Rattle.model_h1.specs.ChunkedText.{Trailer, IsTrailer, trailer_text, section_text}
+use Rattle.model_h1.specs.Request.{Header}
+use Rattle.model_h1.specs.Parse.{trailer_header}
+use Rattle.http_framing.specs.HeaderLines.{IsLine, line_header}
 use Rattle.h1_payload.specs.HeaderMaps.{IsLinesAt}
 
 -- ---- trailers as fields

@@ -3,11 +3,11 @@ use Rattle.std.proofs.Common.{◌≡◌, ℕ, suc, ◌+◌, ◌-◌, ◌<◌, �
 use Rattle.std.specs.Prelude.{◌⊎◌}
 use Rattle.std.proofs.Math.Seq.{drop-cons, drop-length}
 use Rattle.std.proofs.lemmas.List.{drop-drop}
-use Rattle.h1_chunks.specs.Place.{Place, in_bytes, bytes_end, done, broken, step, after}
-use Rattle.h1_chunks.specs.Reading.{Reading, at_end, read}
-use Rattle.h1_chunks.proofs.ReadSteps.{HasNext, read-nil, read_done, read_broken, ending-cons}
-use Rattle.h1_chunks.proofs.ReadAfter.{after-nil, after-cons, after-append, after-broken, read-append}
-use Rattle.h1_chunks.proofs.TakenPlaces.{after_all, after_some}
+use Rattle.model_h1.specs.Place.{Place, in_bytes, bytes_end, done, broken, step, after}
+use Rattle.model_h1.specs.Reading.{Reading, at_end, read}
+use Rattle.model_h1.proofs.ReadSteps.{HasNext, read-nil, read_done, read_broken, ending-cons}
+use Rattle.model_h1.proofs.ReadAfter.{after-nil, after-cons, after-append, after-broken, read-append}
+use Rattle.model_h1.proofs.TakenPlaces.{after_all, after_some}
 use Rattle.h1_payload.specs.declared.place.Place as declared
 use Rattle.h1_payload.specs.declared.place.Place.TheVariants as place
 use Rattle.h1_payload.specs.Passing.{LeadsTo, IsAllPassed}

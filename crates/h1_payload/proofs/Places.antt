@@ -5,8 +5,8 @@ use Rattle.std.proofs.Math.Nat.{sub_self}
 use Rattle.std.proofs.Math.Seq.{drop-cons, drop-length}
 use Rattle.std.proofs.lemmas.Bool.{cond-true, cond-false, lt-ltb, le-ltb, eq-eqb, ne_eqb}
 use Rattle.std.proofs.lemmas.List.{drop-drop, drop-take, take_rest}
-use Rattle.h1_chunks.specs.Place.{Place, in_bytes, bytes_end, in_section, end_cr, done, broken, step}
-use Rattle.h1_chunks.specs.TakeNext.{Next, chunk, waits, ended, breaks, nothing_noted, of_chunk, stops_at, take_next}
+use Rattle.model_h1.specs.Place.{Place, in_bytes, bytes_end, in_section, end_cr, done, broken, step}
+use Rattle.model_h1.specs.TakeNext.{Next, chunk, waits, ended, breaks, nothing_noted, of_chunk, stops_at, take_next}
 use Rattle.h1_payload.specs.declared.place.Line.{Line}
 use Rattle.h1_payload.specs.declared.place.Place as declared
 use Rattle.h1_payload.specs.declared.place.Place.TheVariants as place

@@ -1,11 +1,11 @@
 -- A pull that needs no memory takes something that needs none.
 use Rattle.std.proofs.Common.{◌≡◌, ℕ, Bool, true, false, List, [], ◌∷◌, ◌++◌, length, refl, ap, subst, inl, inr, arith, length-append}
 use Rattle.std.proofs.lemmas.List.{nil_from_length}
-use Rattle.h1_chunks.specs.Place.{Place}
-use Rattle.h1_chunks.specs.TakeNext.{Next, chunk, waits, ended, breaks}
-use Rattle.h1_machine.specs.Kept.{Rest, chunks_rest}
-use Rattle.h1_machine.specs.Pull as pulls
-use Rattle.h1_machine.specs.Pull.{gives, finishes, lacking, pull_fixed, pull_raw, EndsWith, IsPullOfChunks, IsPull}
+use Rattle.model_h1.specs.Place.{Place}
+use Rattle.model_h1.specs.TakeNext.{Next, chunk, waits, ended, breaks}
+use Rattle.model_state.specs.Kept.{Rest, chunks_rest}
+use Rattle.model_state.specs.Pull as pulls
+use Rattle.model_state.specs.Pull.{gives, finishes, lacking, pull_fixed, pull_raw, EndsWith, IsPullOfChunks, IsPull}
 use Rattle.h1_payload.specs.Readers.{TakesNone}
 use Rattle.h1_payload.specs.Rests.{IsLight}
 

@@ -2,10 +2,10 @@
 use Rattle.std.proofs.Common.{◌≡◌, ℕ, ◌+◌, ◌*◌, ◌^◌, ◌<◌, ◌≤◌, ltb, cond, true, List, length, get_or, drop, refl, sym, ap, ◌∙◌, subst, arith}
 use Rattle.std.specs.Char.{digit_value}
 use Rattle.std.proofs.lemmas.Bool.{cond-true, lt-ltb}
-use Rattle.h1_chunks.specs.Place.{Place, in_size, size_cr, bytes_end, bytes_cr, done, broken, after_digits, after_line, step, after}
-use Rattle.h1_chunks.specs.TakeNext.{take_next}
-use Rattle.h1_chunks.specs.Reading.{read}
-use Rattle.h1_chunks.proofs.ReadSteps.{HasNext}
+use Rattle.model_h1.specs.Place.{Place, in_size, size_cr, bytes_end, bytes_cr, done, broken, after_digits, after_line, step, after}
+use Rattle.model_h1.specs.TakeNext.{take_next}
+use Rattle.model_h1.specs.Reading.{read}
+use Rattle.model_h1.proofs.ReadSteps.{HasNext}
 use Rattle.h1_payload.specs.Places.{is_quiet}
 use Rattle.h1_payload.specs.QuietWays.{LeadsQuietly, HasLineEnd}
 use Rattle.h1_payload.proofs.PassLemmas.{one_leads}

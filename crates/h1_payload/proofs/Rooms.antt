@@ -2,14 +2,14 @@
 use Rattle.std.proofs.Common.{◌≡◌, ℕ, ◌+◌, ◌-◌, ◌≤◌, ltb, List, [], ◌∷◌, ◌++◌, length, take, drop, refl, sym, ap, ◌∙◌, subst, inl, inr, arith, append-nil, length-append}
 use Rattle.std.specs.Prelude.{◌⊎◌, ⊤}
 use Rattle.std.proofs.lemmas.Bool.{cond_both}
-use Rattle.h1_chunks.specs.Place.{InLine, Place, start, in_bytes, bytes_end, in_section, done, broken, step, after}
-use Rattle.h1_chunks.specs.Reading.{Reading, read}
-use Rattle.h1_chunks.specs.TakeNext.{Next, chunk, waits, ended, breaks, Taken, of_chunk, noted_line, stops_at, take_next, says}
-use Rattle.h1_chunks.proofs.ReadSteps.{read-nil, read_broken}
-use Rattle.h1_chunks.proofs.ReadAfter.{read-append}
-use Rattle.h1_chunks.proofs.TrailerRoom.{trailers_fit}
-use Rattle.h1_chunks.proofs.TakenReads.{taken_is_read}
-use Rattle.h1_chunks.proofs.TakenPlaces.{waiting_leads, taken_chunk_leads}
+use Rattle.model_h1.specs.Place.{InLine, Place, start, in_bytes, bytes_end, in_section, done, broken, step, after}
+use Rattle.model_h1.specs.Reading.{Reading, read}
+use Rattle.model_h1.specs.TakeNext.{Next, chunk, waits, ended, breaks, Taken, of_chunk, noted_line, stops_at, take_next, says}
+use Rattle.model_h1.proofs.ReadSteps.{read-nil, read_broken}
+use Rattle.model_h1.proofs.ReadAfter.{read-append}
+use Rattle.model_h1.proofs.TrailerRoom.{trailers_fit}
+use Rattle.model_h1.proofs.TakenReads.{taken_is_read}
+use Rattle.model_h1.proofs.TakenPlaces.{waiting_leads, taken_chunk_leads}
 use Rattle.h1_payload.specs.Readers.{HasRoom}
 
 -- ---- what comes next leads to no broken place

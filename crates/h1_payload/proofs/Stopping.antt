@@ -3,15 +3,15 @@ use Rattle.std.proofs.Common.{◌≡◌, ℕ, ◌+◌, ◌-◌, ◌<◌, ltb, le
 use Rattle.std.specs.Prelude.{⊤}
 use Rattle.std.proofs.lemmas.Bool.{cond_both, cond-false, lt-leb}
 use Rattle.std.proofs.lemmas.List.{take_all}
-use Rattle.h1_chunks.specs.Place.{Place, in_bytes, bytes_end, in_section, done, broken, step}
-use Rattle.h1_chunks.specs.Reading.{Ending, goes_on, is_broken, ends_before, only, at_end, with_trailers}
-use Rattle.h1_chunks.specs.TakeNext.{Next, chunk, waits, ended, breaks, of_chunk, stops_at, take_next}
-use Rattle.h1_chunks.proofs.ReadSteps.{read-nil}
-use Rattle.h1_model.specs.Event.{Outcome}
-use Rattle.h1_model.specs.Event as on
-use Rattle.h1_machine.specs.Kept.{Rest, no_rest, raw_rest, fixed_rest, chunks_rest, frames_rest}
-use Rattle.h1_machine.specs.Pull as pulls
-use Rattle.h1_machine.specs.Pull.{pull_fixed, pull_raw, EndsWith, IsPullOfChunks, IsPull}
+use Rattle.model_h1.specs.Place.{Place, in_bytes, bytes_end, in_section, done, broken, step}
+use Rattle.model_h1.specs.Reading.{Ending, goes_on, is_broken, ends_before, only, at_end, with_trailers}
+use Rattle.model_h1.specs.TakeNext.{Next, chunk, waits, ended, breaks, of_chunk, stops_at, take_next}
+use Rattle.model_h1.proofs.ReadSteps.{read-nil}
+use Rattle.model_h1.specs.Event.{Outcome}
+use Rattle.model_h1.specs.Event as on
+use Rattle.model_state.specs.Kept.{Rest, no_rest, raw_rest, fixed_rest, chunks_rest, frames_rest}
+use Rattle.model_state.specs.Pull as pulls
+use Rattle.model_state.specs.Pull.{pull_fixed, pull_raw, EndsWith, IsPullOfChunks, IsPull}
 use Rattle.h1_payload.specs.Fitting.{Fits}
 use Rattle.h1_payload.specs.Decoding.{Payload, no_payload, reading_of, HasTrailers, IsReadAs}
 use Rattle.h1_payload.proofs.GoingOn.{taken_reading}

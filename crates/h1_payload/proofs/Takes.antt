@@ -1,7 +1,7 @@
 -- What a reader takes, by what its scan tells.
 use Rattle.std.proofs.Common.{◌≡◌, ℕ, ◌≤◌, Bool, true, List, ◌++◌, length, refl, ap, ◌∙◌, subst, subst₂}
 use Rattle.std.specs.Prelude.{slice_range}
-use Rattle.h1_chunks.specs.TakeNext.{Taken, take_next}
+use Rattle.model_h1.specs.TakeNext.{Taken, take_next}
 use Rattle.h1_payload.specs.declared.place.Place as declared
 use Rattle.h1_payload.specs.declared.pulled.Pulled.TheVariants as pulled
 use Rattle.h1_payload.specs.declared.pulled.BodyFault.TheVariants.{Incomplete}

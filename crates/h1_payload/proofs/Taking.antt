@@ -5,8 +5,8 @@ use Rattle.std.proofs.Math.Seq.{drop-cons}
 use Rattle.std.proofs.lemmas.List.{take_more}
 use Rattle.httparse.specs.Grammar.{is_value_byte, is_token_byte}
 use Rattle.httparse.specs.Ascii.{line_feed, carriage_return, colon}
-use Rattle.h1_chunks.specs.Place.{InLine, line_start, in_name, in_value, line_cr, Place, in_bytes, in_section, end_cr, done, broken, needs, with_room, section_step, step}
-use Rattle.h1_chunks.specs.TakeNext.{ended, breaks, Taken, nothing_noted, of_chunk, noted_line, stops_at, take_next}
+use Rattle.model_h1.specs.Place.{InLine, line_start, in_name, in_value, line_cr, Place, in_bytes, in_section, end_cr, done, broken, needs, with_room, section_step, step}
+use Rattle.model_h1.specs.TakeNext.{ended, breaks, Taken, nothing_noted, of_chunk, noted_line, stops_at, take_next}
 use Rattle.h1_payload.specs.Places.{is_quiet, is_section}
 use Rattle.h1_payload.specs.Scans.{noting}
 

@@ -2,18 +2,18 @@
 use Rattle.std.proofs.Common.{◌≡◌, ℕ, zero, suc, leb, cond, Bool, true, false, List, [], ◌++◌, length, drop, map, refl, sym, ap, ◌∙◌, subst, arith, ◌==◌}
 use Rattle.std.proofs.lemmas.Bool.{cond-true, cond-false, le-leb, ne_eqb}
 use Rattle.std.specs.List.{AllByRecursion}
-use Rattle.h1_chunks.specs.ChunkedText.{Trailer, IsTrailer, ChunkedText, IsChunkedText, chunked_text, section_text}
-use Rattle.h1_chunks.specs.Place.{start}
-use Rattle.h1_chunks.specs.Reading.{Ending, Reading, goes_on, is_broken, ends_before}
-use Rattle.h1_chunks.proofs.Complete.{text_read}
-use Rattle.h1_chunks.proofs.Trailers.{section_tells}
+use Rattle.model_h1.specs.ChunkedText.{Trailer, IsTrailer, ChunkedText, IsChunkedText, chunked_text, section_text}
+use Rattle.model_h1.specs.Place.{start}
+use Rattle.model_h1.specs.Reading.{Ending, Reading, goes_on, is_broken, ends_before}
+use Rattle.model_h1.proofs.Complete.{text_read}
+use Rattle.model_h1.proofs.Trailers.{section_tells}
 use Rattle.http_map.specs.HeaderMap.{Entries}
-use Rattle.h1_model.specs.Parse.{trailer_header}
-use Rattle.h1_model.specs.Request.{fixed_body}
-use Rattle.h1_machine.specs.Kept.{Rest, no_rest, raw_rest, fixed_rest, chunks_rest, frames_rest, whole_rest}
+use Rattle.model_h1.specs.Parse.{trailer_header}
+use Rattle.model_h1.specs.Request.{fixed_body}
+use Rattle.model_state.specs.Kept.{Rest, no_rest, raw_rest, fixed_rest, chunks_rest, frames_rest, whole_rest}
 use Rattle.http_framing.specs.AnyPieces.{Fed, AreFed, LastReads, all_told, all_came}
 use Rattle.http_framing.proofs.AnyPieces.{pieces_are_whole}
-use Rattle.http_lines.specs.HeaderLines.{header_map}
+use Rattle.http_framing.specs.HeaderLines.{header_map}
 use Rattle.h1_payload.specs.Fitting.{Fits}
 use Rattle.h1_payload.specs.Decoding.{Decoding, Payload, no_payload, reading_of, AreTrailers, HasTrailers, IsReadAs, Reads, ReadsBy, given, chunked_payload, length_payload}
 use Rattle.h1_payload.specs.declared.item.PayloadItem.{PayloadItem}

@@ -1,15 +1,15 @@
 -- What a payload decoder reads and answers.
 use Rattle.std.specs.Prelude.{◌≡◌, ℕ, ◌<◌, ⊤, Bool, true, false, List, [], ◌++◌, length, take, drop, map, nat_le, if◌then◌else◌, Option, Some, None, Result, Ok, Err}
 use Rattle.std.specs.List.{AllByRecursion}
-use Rattle.h1_chunks.specs.ChunkedText.{Trailer, IsTrailer, ChunkedText, content, section_text}
-use Rattle.h1_chunks.specs.Reading.{Ending, Reading, goes_on, is_broken, ends_before, only, with_trailers, read}
+use Rattle.model_h1.specs.ChunkedText.{Trailer, IsTrailer, ChunkedText, content, section_text}
+use Rattle.model_h1.specs.Reading.{Ending, Reading, goes_on, is_broken, ends_before, only, with_trailers, read}
 use Rattle.http_map.specs.HeaderMap.{Entries}
-use Rattle.h1_model.specs.Parse.{trailer_header}
-use Rattle.h1_machine.specs.Kept as machine
-use Rattle.h1_machine.specs.Kept.{no_rest, raw_rest, fixed_rest, chunks_rest, frames_rest}
-use Rattle.h1_machine.specs.Pull as pulls
-use Rattle.h1_machine.specs.Pull.{IsPull}
-use Rattle.http_lines.specs.HeaderLines.{header_map}
+use Rattle.model_h1.specs.Parse.{trailer_header}
+use Rattle.model_state.specs.Kept as machine
+use Rattle.model_state.specs.Kept.{no_rest, raw_rest, fixed_rest, chunks_rest, frames_rest}
+use Rattle.model_state.specs.Pull as pulls
+use Rattle.model_state.specs.Pull.{IsPull}
+use Rattle.http_framing.specs.HeaderLines.{header_map}
 use Rattle.h1_payload.specs.declared.item.DecodeError.{DecodeError}
 use Rattle.h1_payload.specs.declared.item.DecodeError.TheVariants.{Invalid, NoMemory}
 use Rattle.h1_payload.specs.declared.item.PayloadItem.{PayloadItem}

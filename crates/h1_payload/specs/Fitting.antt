@@ -1,12 +1,12 @@
 -- What is left of a body whose trailer section has all its text so far, and that pulls give some.
 use Rattle.std.specs.Prelude.{◌≡◌, ℕ, ◌<◌, List, ◌++◌, length, ⊤}
 use Rattle.std.specs.List.{AllByRecursion}
-use Rattle.h1_chunks.specs.ChunkedText.{Trailer, IsTrailer, section_text}
-use Rattle.h1_chunks.specs.Place.{Place}
-use Rattle.h1_chunks.specs.Reading.{ends_before, read}
-use Rattle.h1_model.specs.Event.{Outcome}
-use Rattle.h1_model.specs.Event as on
-use Rattle.h1_machine.specs.Kept.{Rest, no_rest, raw_rest, fixed_rest, chunks_rest, frames_rest}
+use Rattle.model_h1.specs.ChunkedText.{Trailer, IsTrailer, section_text}
+use Rattle.model_h1.specs.Place.{Place}
+use Rattle.model_h1.specs.Reading.{ends_before, read}
+use Rattle.model_h1.specs.Event.{Outcome}
+use Rattle.model_h1.specs.Event as on
+use Rattle.model_state.specs.Kept.{Rest, no_rest, raw_rest, fixed_rest, chunks_rest, frames_rest}
 
 -- whatever follows, where the body ends with it, this text and what is read of the section are trailer lines
 abbrev pub HasLines : Place → List ℕ → Type 0

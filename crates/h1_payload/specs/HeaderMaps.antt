@@ -5,9 +5,9 @@ use Rattle.httparse.specs.Ascii.{crlf_bytes}
 use Rattle.httparse.specs.Spans.{IsHeaderWithin, header_bytes}
 use Rattle.httparse.specs.declared.spans.HeaderSpan.{HeaderSpan}
 use Rattle.http_map.specs.HeaderMap.{Entries}
-use Rattle.http_lines.specs.HeaderLines.{IsLine, line_header, header_map}
-use Rattle.h1_chunks.specs.ChunkedText.{Trailer, IsTrailer, section_text}
-use Rattle.h1_model.specs.Parse.{trailer_header}
+use Rattle.http_framing.specs.HeaderLines.{IsLine, line_header, header_map}
+use Rattle.model_h1.specs.ChunkedText.{Trailer, IsTrailer, section_text}
+use Rattle.model_h1.specs.Parse.{trailer_header}
 
 -- the map has the lines of the section of which this is the text, with the empty line behind it
 abbrev pub IsMapOf : List ℕ → Entries → Type 0

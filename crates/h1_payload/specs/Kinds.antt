@@ -1,7 +1,7 @@
 -- What kind of body is left.
 use Rattle.std.specs.Prelude.{◌≡◌, ℕ, Bool, true, false, List}
-use Rattle.h1_chunks.specs.Place.{Place, broken}
-use Rattle.h1_machine.specs.Kept.{Rest, no_rest, raw_rest, fixed_rest, chunks_rest}
+use Rattle.model_h1.specs.Place.{Place, broken}
+use Rattle.model_state.specs.Kept.{Rest, no_rest, raw_rest, fixed_rest, chunks_rest}
 use Rattle.h1_payload.specs.declared.rest.RestKind.{RestKind}
 use Rattle.h1_payload.specs.declared.rest.RestKind.TheVariants as kind
 

@@ -1,7 +1,7 @@
 -- What passing over a body in chunks says.
 use Rattle.std.specs.Prelude.{◌≡◌, ◌⊎◌, ℕ, ◌<◌, ◌≤◌, List, [], length, drop}
-use Rattle.h1_chunks.specs.Place.{Place, done, after}
-use Rattle.h1_chunks.specs.Reading.{read}
+use Rattle.model_h1.specs.Place.{Place, done, after}
+use Rattle.model_h1.specs.Reading.{read}
 
 -- from a place, some bytes of the list lead on to another, which reads the rest to the same end
 pub record LeadsTo (place : Place) (bytes : List ℕ) (at next_at : ℕ) (next : Place) : Type 0 where

@@ -1,6 +1,6 @@
 -- What a reader's place means.
 use Rattle.std.specs.Prelude.{Bool, true, false}
-use Rattle.h1_chunks.specs.Place as model
+use Rattle.model_h1.specs.Place as model
 use Rattle.h1_payload.specs.declared.place.Line.{Line}
 use Rattle.h1_payload.specs.declared.place.Line.TheVariants as at
 use Rattle.h1_payload.specs.declared.place.Place.{Place}

@@ -1,8 +1,8 @@
 -- Where the bytes between two chunks lead.
 use Rattle.std.specs.Prelude.{◌≡◌, ℕ, ◌+◌, ◌≤◌, List, length, get_or, drop}
-use Rattle.h1_chunks.specs.Place.{Place, after}
-use Rattle.h1_chunks.specs.Reading.{read}
-use Rattle.h1_chunks.specs.TakeNext.{take_next}
+use Rattle.model_h1.specs.Place.{Place, after}
+use Rattle.model_h1.specs.Reading.{read}
+use Rattle.model_h1.specs.TakeNext.{take_next}
 
 -- the bytes from an index up to another are none of a chunk or of a trailer line, and lead on to a place from which all
 -- goes on as before: what comes next, how the body ends, and where all bytes lead

@@ -1,10 +1,10 @@
 -- What a reader of bodies in chunks keeps, and what it takes.
 use Rattle.std.specs.Prelude.{◌≡◌, ℕ, ◌+◌, ◌<◌, ◌≤◌, ◌⊎◌, Bool, true, false, List, [], ◌++◌, length, ⊤}
 use Rattle.httparse.specs.Ascii.{crlf_bytes}
-use Rattle.h1_chunks.specs.ChunkedText.{MAX_TRAILER_BYTES}
-use Rattle.h1_chunks.specs.Place.{Place, done, after}
-use Rattle.h1_chunks.specs.Reading.{ends_before, at_end, read}
-use Rattle.h1_chunks.specs.TakeNext.{Next, chunk, waits, ended, breaks, take_next}
+use Rattle.model_h1.specs.ChunkedText.{MAX_TRAILER_BYTES}
+use Rattle.model_h1.specs.Place.{Place, done, after}
+use Rattle.model_h1.specs.Reading.{ends_before, at_end, read}
+use Rattle.model_h1.specs.TakeNext.{Next, chunk, waits, ended, breaks, take_next}
 use Rattle.h1_payload.specs.HeaderMaps.{IsMapOf}
 use Rattle.h1_payload.specs.declared.pulled.BodyFault.TheVariants.{Corrupted, Incomplete}
 use Rattle.h1_payload.specs.declared.pulled.Pulled.{Pulled}

@@ -1,11 +1,11 @@
 -- What is left of a body, and what a pull answers.
 use Rattle.std.specs.Prelude.{◌≡◌, ℕ, List, [], ⊤}
-use Rattle.h1_model.specs.Request.{Header}
-use Rattle.h1_model.specs.Event.{Outcome, corrupted, incomplete}
-use Rattle.h1_model.specs.Event as on
-use Rattle.h1_machine.specs.Kept as machine
-use Rattle.h1_machine.specs.Pull as pulls
-use Rattle.http_lines.specs.HeaderLines.{header_map}
+use Rattle.model_h1.specs.Request.{Header}
+use Rattle.model_h1.specs.Event.{Outcome, corrupted, incomplete}
+use Rattle.model_h1.specs.Event as on
+use Rattle.model_state.specs.Kept as machine
+use Rattle.model_state.specs.Pull as pulls
+use Rattle.http_framing.specs.HeaderLines.{header_map}
 use Rattle.h1_payload.specs.declared.pulled.BodyFault.{BodyFault}
 use Rattle.h1_payload.specs.declared.pulled.BodyFault.TheVariants.{Corrupted, Incomplete}
 use Rattle.h1_payload.specs.declared.pulled.Pulled.{Pulled}

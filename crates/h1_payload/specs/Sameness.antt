@@ -2,9 +2,9 @@
 use Rattle.std.specs.Prelude.{ℕ, Bool, true, false, List, [], ◌∷◌, nat_eq}
 use Rattle.std.specs.Cmp.Lexicographic.{pointwise}
 use Rattle.std.specs.Ordering.{on, eq_of_both}
-use Rattle.h1_chunks.specs.Place.{InLine, line_start, in_name, in_value, line_cr, Place, in_size, in_blanks, in_extension, size_cr, in_bytes, bytes_end, bytes_cr, in_section, end_cr, done, broken}
-use Rattle.h1_machine.specs.Kept as machine
-use Rattle.h1_machine.specs.Kept.{no_rest, raw_rest, fixed_rest, chunks_rest, frames_rest}
+use Rattle.model_h1.specs.Place.{InLine, line_start, in_name, in_value, line_cr, Place, in_size, in_blanks, in_extension, size_cr, in_bytes, bytes_end, bytes_cr, in_section, end_cr, done, broken}
+use Rattle.model_state.specs.Kept as machine
+use Rattle.model_state.specs.Kept.{no_rest, raw_rest, fixed_rest, chunks_rest, frames_rest}
 use Rattle.h1_payload.specs.Decoding.{Decoding}
 use Rattle.h1_payload.specs.Rests.{section_of}
 

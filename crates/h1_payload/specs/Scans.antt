@@ -1,7 +1,7 @@
 -- What a scan of the bytes of a body in chunks says.
 use Rattle.std.specs.Prelude.{◌≡◌, ◌⊎◌, ℕ, ◌≤◌, true, false, List, [], ◌∷◌, ◌++◌, length, take, drop, slice_range, ⊤}
-use Rattle.h1_chunks.specs.Place as model
-use Rattle.h1_chunks.specs.TakeNext.{Next, chunk, waits, ended, breaks, Taken, take_next}
+use Rattle.model_h1.specs.Place as model
+use Rattle.model_h1.specs.TakeNext.{Next, chunk, waits, ended, breaks, Taken, take_next}
 use Rattle.h1_payload.specs.declared.place.Place.{Place}
 use Rattle.h1_payload.specs.declared.scan.Found.{Found}
 use Rattle.h1_payload.specs.declared.scan.Found.TheVariants as found

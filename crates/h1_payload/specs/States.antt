@@ -3,8 +3,8 @@ use Rattle.std.specs.Prelude.{◌≡◌, ◌≢◌, ℕ, ◌-◌, ◌<◌, ◌==
 use Rattle.futures.specs.declared.task.Poll.{Poll}
 use Rattle.futures.specs.declared.task.Poll.TheVariants.{Ready, Pending}
 use Rattle.httparse.specs.Ascii.{carriage_return}
-use Rattle.h1_chunks.specs.Place as place
-use Rattle.h1_chunks.specs.Place.{section_start, step}
+use Rattle.model_h1.specs.Place as place
+use Rattle.model_h1.specs.Place.{section_start, step}
 use Rattle.h1_payload.specs.declared.chunked_state.ChunkedState.{ChunkedState}
 use Rattle.h1_payload.specs.declared.chunked_state.ChunkedState.TheVariants as state
 use Rattle.h1_payload.specs.declared.item.DecodeError.{DecodeError}

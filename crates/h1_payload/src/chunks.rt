@@ -1,8 +1,8 @@
 //! A reader of bodies in chunks.
 ghost use Rattle.std.specs.Prelude.{◌≡◌, ◌≤◌, ◌++◌, [], length, drop, slice_range, IfOk, IsOk, OnOk, OnErr};
 ghost use Rattle.std.specs.Bool.{OnTrue, OnFalse};
-ghost use Rattle.h1_chunks.specs.Place.{start};
-ghost use Rattle.h1_chunks.specs.TakeNext.{take_next};
+ghost use Rattle.model_h1.specs.Place.{start};
+ghost use Rattle.model_h1.specs.TakeNext.{take_next};
 ghost use Rattle.h1_payload.specs.Kinds.{is_broken_place};
 ghost use Rattle.h1_payload.specs.Places.{place_of};
 ghost use Rattle.h1_payload.specs.Readers.{HasRoom, IsTaken, NeedsNoMemory, IsEndTaken, IsPassedBy, IsNotPassedBy};

@@ -1,9 +1,9 @@
 //! The decoder of a message's body.
 ghost use Rattle.std.specs.Prelude.{◌≡◌, ◌≢◌, ◌==◌, true, false, [], ◌∷◌, Ok, Err, None, IfOk, if◌then◌else◌};
-ghost use Rattle.h1_chunks.specs.Place.{start};
-ghost use Rattle.h1_machine.specs.Pull.{IsPull};
-ghost use Rattle.h1_machine.specs.Pull as pulls;
-ghost use Rattle.h1_machine.specs.Kept.{no_rest, raw_rest, fixed_rest, chunks_rest, whole_rest};
+ghost use Rattle.model_h1.specs.Place.{start};
+ghost use Rattle.model_state.specs.Pull.{IsPull};
+ghost use Rattle.model_state.specs.Pull as pulls;
+ghost use Rattle.model_state.specs.Kept.{no_rest, raw_rest, fixed_rest, chunks_rest, whole_rest};
 ghost use Rattle.http_framing.specs.AnyPieces.{GoesOn, in_front};
 ghost use Rattle.h1_payload.specs.Decoding.{Payload, Reads, given, item_of, HasSome, IsDecoded, IsWaiting, IsRefused};
 ghost use Rattle.http_framing.specs.Kinds.{kind_of};

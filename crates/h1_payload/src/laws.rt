@@ -1,12 +1,12 @@
 //! Laws of bodies that are read in pieces.
 ghost use Rattle.std.specs.Prelude.{◌≡◌, ℕ, Bool, false, List, [], ◌++◌};
-ghost use Rattle.h1_model.specs.Request.{BodyKind, fixed_body};
-ghost use Rattle.h1_machine.specs.Kept.{Rest, whole_rest};
-ghost use Rattle.h1_machine.specs.Pull as pulls;
-ghost use Rattle.h1_machine.specs.Pull.{IsPull};
-ghost use Rattle.h1_chunks.specs.ChunkedText.{ChunkedText, IsChunkedText, chunked_text};
-ghost use Rattle.h1_chunks.specs.Place.{start};
-ghost use Rattle.h1_machine.specs.Kept.{chunks_rest};
+ghost use Rattle.model_h1.specs.Request.{BodyKind, fixed_body};
+ghost use Rattle.model_state.specs.Kept.{Rest, whole_rest};
+ghost use Rattle.model_state.specs.Pull as pulls;
+ghost use Rattle.model_state.specs.Pull.{IsPull};
+ghost use Rattle.model_h1.specs.ChunkedText.{ChunkedText, IsChunkedText, chunked_text};
+ghost use Rattle.model_h1.specs.Place.{start};
+ghost use Rattle.model_state.specs.Kept.{chunks_rest};
 ghost use Rattle.http_framing.specs.AnyPieces.{Fed, AreFed, LastReads, all_told, all_came};
 ghost use Rattle.h1_payload.specs.Decoding.{Decoding, Payload, Reads, given, chunked_payload, length_payload};
 ghost use Rattle.h1_payload.specs.declared.item.PayloadItem.{PayloadItem};

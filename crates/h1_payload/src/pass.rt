@@ -1,6 +1,6 @@
 //! Passing over a body in chunks, without its bytes.
 ghost use Rattle.std.specs.Prelude.{◌≡◌, ◌≢◌, ◌<◌, ◌⊎◌, length, drop, IfSome, IfNone};
-ghost use Rattle.h1_chunks.specs.Place.{in_bytes, done, broken};
+ghost use Rattle.model_h1.specs.Place.{in_bytes, done, broken};
 ghost use Rattle.h1_payload.specs.Places.{place_of};
 ghost use Rattle.h1_payload.specs.Passing.{LeadsTo, IsAllPassed};
 

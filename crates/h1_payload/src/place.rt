@@ -1,6 +1,6 @@
 //! Where a reader stands in a body in chunks (RFC 7230, section 4.1), and where one more byte leads.
 ghost use Rattle.std.specs.Prelude.{◌≡◌};
-ghost use Rattle.h1_chunks.specs.Place.{line_start, in_name, in_value, line_cr, expect, after_digits, size_step, extension_step, after_line, bytes_step, needs, with_room, section_step, step};
+ghost use Rattle.model_h1.specs.Place.{line_start, in_name, in_value, line_cr, expect, after_digits, size_step, extension_step, after_line, bytes_step, needs, with_room, section_step, step};
 ghost use Rattle.h1_payload.specs.Places.{line_of, place_of, is_quiet, is_section};
 ghost use Rattle.h1_payload.specs.Sameness.{section_numbers, place_numbers};
 

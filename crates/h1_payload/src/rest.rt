@@ -1,9 +1,9 @@
 //! What is left of a request's body.
 ghost use Rattle.std.specs.Prelude.{◌≡◌, true, false, [], IfOk, IsOk, OnErr, if◌then◌else◌};
-ghost use Rattle.h1_machine.specs.Body.{pass_rest};
-ghost use Rattle.h1_machine.specs.Kept.{no_rest, raw_rest, fixed_rest, chunks_rest, whole_rest, rest_in, is_nothing};
-ghost use Rattle.h1_machine.specs.Pull.{pull_fixed, pull_raw, IsPull};
-ghost use Rattle.h1_machine.specs.Pull as pulls;
+ghost use Rattle.model_state.specs.Body.{pass_rest};
+ghost use Rattle.model_state.specs.Kept.{no_rest, raw_rest, fixed_rest, chunks_rest, whole_rest, rest_in, is_nothing};
+ghost use Rattle.model_state.specs.Pull.{pull_fixed, pull_raw, IsPull};
+ghost use Rattle.model_state.specs.Pull as pulls;
 ghost use Rattle.http_framing.specs.Kinds.{kind_of};
 ghost use Rattle.h1_payload.specs.Kinds.{IsKind};
 ghost use Rattle.h1_payload.specs.Rests.{rest_of, section_of, IsPulled, IsLight};
@@ -61,7 +61,7 @@ pub struct Rest {
 }
 
 impl Model for Rest {
-    ghost use Rattle.h1_machine.specs.Kept as machine;
+    ghost use Rattle.model_state.specs.Kept as machine;
 
     ghost Value = { machine.Rest };
 

@@ -1,8 +1,8 @@
 //! What comes next in the bytes of a body in chunks.
 ghost use Rattle.std.specs.Prelude.{◌≡◌, ◌≤◌, true, length, drop};
-ghost use Rattle.h1_chunks.specs.TakeNext.{nothing_noted, take_next};
+ghost use Rattle.model_h1.specs.TakeNext.{nothing_noted, take_next};
 ghost use Rattle.h1_payload.specs.Places.{line_of, place_of, is_section};
-ghost use Rattle.h1_chunks.specs.Place.{in_bytes, in_section, end_cr};
+ghost use Rattle.model_h1.specs.Place.{in_bytes, in_section, end_cr};
 ghost use Rattle.h1_payload.specs.Scans.{IsPassed, IsLinesPassed, EndsLines, told, next_of, IsFoundWithin, IsNoChunk, IsWithin};
 
 use crate::place::{Line, Place};

@@ -2,7 +2,7 @@
 //! little here, where no place is kept between two of them.
 ghost use Rattle.std.specs.Prelude.{◌≤◌, length};
 ghost use Rattle.std.specs.Bool.{OnTrue};
-ghost use Rattle.h1_chunks.specs.Place.{in_size};
+ghost use Rattle.model_h1.specs.Place.{in_size};
 ghost use Rattle.h1_payload.specs.Places.{place_of};
 ghost use Rattle.h1_payload.specs.QuietWays.{LeadsQuietly, HasLineEnd};
 

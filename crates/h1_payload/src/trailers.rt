@@ -4,11 +4,11 @@ ghost use Rattle.http_header.specs.FieldName.{IsFieldName};
 ghost use Rattle.http_header.specs.FieldValue.{plain_value};
 ghost use Rattle.http_header.specs.Token.{lowercase};
 ghost use Rattle.httparse.specs.Spans.{IsHeaderWithin, header_bytes, span_bytes};
-ghost use Rattle.http_lines.specs.HeaderLines.{header_map, IsLine, line_header};
+ghost use Rattle.http_framing.specs.HeaderLines.{header_map, IsLine, line_header};
 ghost use Rattle.h1_payload.specs.HeaderMaps.{IsMapOf, IsLinesAt, FindsLines};
 
 use bytes::Bytes;
-use http_lines::known_value;
+use http_framing::known_value;
 use http_map::{HeaderMap, HeaderName, HeaderValue, NoMemory};
 use httparse::Status;
 use httparse::spans::{EMPTY_HEADER_SPAN, HeaderSpan, parse_headers};

@@ -1,7 +1,7 @@
 -- From a reply to what the program answers.
 use Rattle.std.proofs.Common.{◌≡◌, ◌<◌, ◌≤◌, ◌↔◌, ◌⊎◌, ℕ, Bool, true, false, not, List, [], ◌∷◌, length, get_or, map, codes, Option, None, Some, inl, inr, refl, sym, ap, ◌∙◌, subst₂, arith, IsTrue}
 use Rattle.std.specs.Prelude.{IfSome}
-use Rattle.h1_gen_model.proofs.Runs.{allowed}
+use Rattle.h1_generated.proofs.Runs.{allowed}
 use Rattle.std.specs.Str.{bytes_eq}
 use Rattle.std.proofs.lemmas.Slice.Eq.{bytes_eq-Decides}
 use Rattle.h1_replay.proofs.Reading.{given_quiet, whole_quiet, unfinished_quiet}

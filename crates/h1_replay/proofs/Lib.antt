@@ -7,3 +7,7 @@ pub mod Reading
 pub mod ReportLines
 pub mod Writing
 pub mod Words
+pub mod HubAnswering
+pub mod HubCompleteness
+pub mod HubEventLines
+pub mod HubReportLines

@@ -1,7 +1,7 @@
 -- The lines of a report, step by step.
 use Rattle.std.proofs.Common.{◌≡◌, ℕ, List, [], ◌∷◌, ◌++◌, codes, refl, sym, ap, ◌∙◌, subst, append_assoc, append-nil}
 use Rattle.http_map.specs.HeaderMap.{pairs}
-use Rattle.h1_decode.specs.declared.decoder.HeadItem.{HeadItem}
+use Rattle.h1_decoder.specs.declared.decoder.HeadItem.{HeadItem}
 use Rattle.h1_connection.specs.declared.event.Outcome.{Outcome}
 use Rattle.h1_connection.specs.declared.trace.Step.{Step}
 use Rattle.h1_replay.specs.Report.{IsRequestPart, IsBodyPart, pair_words, IsHeadLine, IsOutcomeLine, AreStepLines}

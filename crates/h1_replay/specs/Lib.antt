@@ -12,3 +12,8 @@ pub mod Script
 pub mod Text
 pub mod WebSocket
 pub mod Word
+pub mod HubReading
+pub mod HubReply
+pub mod HubReport
+pub mod HubRun
+pub mod HubScript

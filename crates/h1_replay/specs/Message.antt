@@ -1,7 +1,7 @@
 -- The line of a message that is sent.
 use Rattle.std.specs.Prelude.{ℕ, nat_le, List, [], ◌∷◌, Option, Some, None, option_map, codes, if◌then◌else◌}
 use Rattle.std.specs.Str.{bytes_eq}
-use Rattle.h1_model.specs.Frame.{CloseReason, Message, frame, nop, text, binary, first_text, first_binary, continuation, last, ping, pong, close}
+use Rattle.model_h1.specs.Frame.{CloseReason, Message, frame, nop, text, binary, first_text, first_binary, continuation, last, ping, pong, close}
 use Rattle.h1_connection.specs.declared.event.Event.{Event}
 use Rattle.h1_connection.specs.declared.event.Event.TheVariants.{Send}
 use Rattle.h1_replay.specs.Pieces.{only_of}

@@ -2,7 +2,7 @@
 use Rattle.std.specs.Prelude.{ℕ, ◌≡◌, ⊤, List, Vec, String, string_bytes, Option, Some, None, Result, Ok, Err}
 use Rattle.std.specs.declared.alloc.Global.{Global}
 use Rattle.http_config.specs.Config.{Settings}
-use Rattle.h1_model.specs.Frame as model
+use Rattle.model_h1.specs.Frame as model
 use Rattle.ws_frames.specs.Close.{reason_says}
 use Rattle.ws_frames.specs.Sent.{message_says}
 use Rattle.ws_frames.specs.declared.message.Message.{Message}

@@ -1,7 +1,7 @@
 -- A reply as its status and its text.
 use Rattle.std.specs.Prelude.{ℕ, ⊤, List, codes}
 use Rattle.h1_connection.specs.Run.{IsMisplaced}
-use Rattle.h1_gen.specs.Run.{IsSummary}
+use Rattle.h1_generated.specs.Run.{IsSummary}
 use Rattle.h1_replay.specs.Run.{IsDone, IsBadLine, IsStopped, usage_text, read_fault_text, too_long_text, no_memory_text}
 use Rattle.h1_replay.specs.declared.reply.Reply.{Reply}
 use Rattle.h1_replay.specs.declared.reply.Reply.TheVariants.{Done, Usage, BadLine, Misplaced, ReadFault, TooLong, NoMemory}

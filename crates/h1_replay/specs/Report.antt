@@ -9,7 +9,7 @@ use Rattle.http_types.specs.declared.message.ConnectionType.{ConnectionType}
 use Rattle.http_types.specs.declared.message.ConnectionType.TheVariants.{Close, KeepAlive, Upgrade}
 use Rattle.http_framing.specs.declared.body.kind.BodyKind.{BodyKind}
 use Rattle.http_framing.specs.declared.body.kind.BodyKind.TheVariants as body
-use Rattle.h1_decode.specs.declared.decoder.HeadItem.{HeadItem}
+use Rattle.h1_decoder.specs.declared.decoder.HeadItem.{HeadItem}
 use Rattle.h1_payload.specs.declared.pulled.BodyFault.{BodyFault}
 use Rattle.h1_payload.specs.declared.pulled.BodyFault.TheVariants.{Corrupted, Incomplete}
 use Rattle.h1_connection.specs.declared.event.End.{End}

@@ -3,10 +3,10 @@ use Rattle.std.specs.Prelude.{ℕ, ◌≡◌, ◌++◌, ◌≤◌, ◌⊎◌, Li
 use Rattle.std.specs.Io.KnownBytes.{Appends}
 use Rattle.http_config.specs.Causes.{Rose}
 use Rattle.http_config.specs.Config.{Settings}
-use Rattle.h1_model.specs.Sums as sums
-use Rattle.h1_model.specs.Laws.Runs as runs
-use Rattle.h1_gen_model.specs.Generated.{setting, generated}
-use Rattle.h1_gen.specs.Run.{IsSummary}
+use Rattle.model_h1.specs.Sums as sums
+use Rattle.model_h1.specs.Laws.Runs as runs
+use Rattle.h1_generated.specs.Generated.{setting, generated}
+use Rattle.h1_generated.specs.Run.{IsSummary}
 use Rattle.h1_connection.specs.Run.{IsWhole, IsMisplaced, AreAllowed, IsFirstRefused}
 use Rattle.h1_connection.specs.declared.event.Event.{Event}
 use Rattle.h1_connection.specs.declared.trace.Trace.{Trace}
@@ -39,7 +39,7 @@ pub record IsOther (words : List (List ℕ)) : Type 0 where
 
 -- the texts that nothing but the status decides
 abbrev pub usage_text : List ℕ
-usage_text = codes "usage: h1_run replay | h1_run gen SEED COUNT\n"
+usage_text = codes "usage: app_replay replay | app_replay gen SEED COUNT\n"
 
 abbrev pub read_fault_text : List ℕ
 read_fault_text = codes "read fault\n"

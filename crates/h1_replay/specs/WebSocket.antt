@@ -1,6 +1,6 @@
 -- The lines of a report that speak of a WebSocket.
 use Rattle.std.specs.Prelude.{ℕ, List, ◌++◌, [], Option, Some, None, codes, decimal, unwrap_or}
-use Rattle.h1_model.specs.Frame as model
+use Rattle.model_h1.specs.Frame as model
 use Rattle.ws_frames.specs.Protocol.{opcode_text}
 use Rattle.ws_frames.specs.declared.error.ProtocolError.{ProtocolError}
 use Rattle.ws_frames.specs.declared.error.ProtocolError.TheVariants as errors

@@ -10,7 +10,7 @@ use crate::input::{InputError, read_input};
 use crate::output::write_all;
 use crate::reply::{Reply, WRITE_FAULT, replay};
 use crate::word::number;
-use h1_gen::{MAX_COUNT, summary_of};
+use h1_generated::{MAX_COUNT, summary_of};
 use http_types::{Sink, Source};
 use std::alloc::Global;
 

@@ -9,7 +9,7 @@ ghost use Rattle.h1_replay.specs.Text.{Adds};
 use crate::text::{put_hex, put_number};
 use crate::websocket::{check_word, put_frame, put_rule};
 use h1_connection::{BodyFault, End, HeadFault, Noted, Steps, Trace};
-use h1_decode::{BodyKind, HeadItem};
+use h1_decoder::{BodyKind, HeadItem};
 use http_types::{ConnectionType, HeaderMap, NoMemory, Version};
 use std::alloc::Global;
 

@@ -1,1 +1,2 @@
 pub mod AnyPieces
+pub mod HeaderLines

@@ -1,6 +1,6 @@
 -- What a body's kind means.
-use Rattle.h1_model.specs.Request.{no_body, fixed_body, chunked_body, raw_body}
-use Rattle.h1_model.specs.Request as model
+use Rattle.model_h1.specs.Request.{no_body, fixed_body, chunked_body, raw_body}
+use Rattle.model_h1.specs.Request as model
 use Rattle.http_framing.specs.declared.body.kind.BodyKind.{BodyKind}
 use Rattle.http_framing.specs.declared.body.kind.BodyKind.TheVariants as kind
 

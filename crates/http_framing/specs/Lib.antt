@@ -1,2 +1,3 @@
 pub mod AnyPieces
 pub mod Kinds
+pub mod HeaderLines

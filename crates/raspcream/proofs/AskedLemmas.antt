@@ -1,8 +1,8 @@
 -- A step of a client's connection is one of what a clause sees.
 use Rattle.std.proofs.Common.{◌≡◌, ℕ, List, take, subst}
-use Rattle.h1_model.specs.Answer as answers
-use Rattle.h1_client_machine.specs.ClientEvent as on
-use Rattle.h1_client_machine.specs.ClientEvent.{ClientRequest}
+use Rattle.model_h1.specs.Answer as answers
+use Rattle.model_client.specs.ClientEvent as on
+use Rattle.model_client.specs.ClientEvent.{ClientRequest}
 use Rattle.h1_payload.specs.declared.pulled.Pulled.{Pulled}
 use Rattle.h1_client.specs.Answers.{SaysNext}
 use Rattle.h1_client.specs.Bodies.{SaysPulled}

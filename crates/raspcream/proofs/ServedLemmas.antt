@@ -1,9 +1,9 @@
 -- A step of a server's connection is one of what a clause sees.
 use Rattle.std.proofs.Common.{◌≡◌, ◌%◌, ℕ, List, take, subst}
-use Rattle.h1_model.specs.Answer as answers
-use Rattle.h1_model.specs.Event as on
-use Rattle.h1_model.specs.Frame.{Message}
-use Rattle.h1_decode.specs.declared.decoder.HeadItem.{HeadItem}
+use Rattle.model_h1.specs.Answer as answers
+use Rattle.model_h1.specs.Event as on
+use Rattle.model_h1.specs.Frame.{Message}
+use Rattle.h1_decoder.specs.declared.decoder.HeadItem.{HeadItem}
 use Rattle.h1_payload.specs.Rests.{SaysPulled}
 use Rattle.h1_payload.specs.declared.pulled.Pulled.{Pulled}
 use Rattle.h1_connection.specs.Frames.{accepted_of, SaysFrame, SaysSent}

@@ -1,8 +1,8 @@
 -- What a client's side has done at a call.
 use Rattle.std.specs.Prelude.{◌≡◌, ℕ, List, take}
-use Rattle.h1_model.specs.Answer as answers
-use Rattle.h1_client_machine.specs.ClientEvent as on
-use Rattle.h1_client_machine.specs.ClientEvent.{ClientRequest}
+use Rattle.model_h1.specs.Answer as answers
+use Rattle.model_client.specs.ClientEvent as on
+use Rattle.model_client.specs.ClientEvent.{ClientRequest}
 use Rattle.h1_payload.specs.declared.pulled.Pulled.{Pulled}
 use Rattle.h1_client.specs.Answers.{SaysNext}
 use Rattle.h1_client.specs.Bodies.{SaysPulled}

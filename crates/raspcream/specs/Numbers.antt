@@ -1,6 +1,6 @@
 -- The numbers by which C names what is asked, and is told what came.
 use Rattle.std.specs.Prelude.{ℕ, ◌==◌, if◌then◌else◌}
-use Rattle.h1_model.specs.Answer as answers
+use Rattle.model_h1.specs.Answer as answers
 use Rattle.h1_payload.specs.declared.pulled.Pulled.{Pulled}
 use Rattle.h1_payload.specs.declared.pulled.Pulled.TheVariants as pulled
 use Rattle.h1_client.specs.declared.event.NextAnswer.{NextAnswer}

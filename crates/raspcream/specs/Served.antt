@@ -1,10 +1,10 @@
 -- What a server's side has done at a call.
 use Rattle.std.specs.Prelude.{◌≡◌, ◌%◌, ℕ, List, take, Some, None}
-use Rattle.h1_model.specs.Answer as answers
-use Rattle.h1_model.specs.Event as on
-use Rattle.h1_model.specs.Frame.{CloseReason, Frame, Message, text, binary, first_text, first_binary, continuation, last, ping, pong, close, frame, nop}
-use Rattle.h1_model.specs.FrameText.{description_of}
-use Rattle.h1_decode.specs.declared.decoder.HeadItem.{HeadItem}
+use Rattle.model_h1.specs.Answer as answers
+use Rattle.model_h1.specs.Event as on
+use Rattle.model_h1.specs.Frame.{CloseReason, Frame, Message, text, binary, first_text, first_binary, continuation, last, ping, pong, close, frame, nop}
+use Rattle.model_h1.specs.FrameText.{description_of}
+use Rattle.h1_decoder.specs.declared.decoder.HeadItem.{HeadItem}
 use Rattle.ws_frames.specs.Protocol.{close_number, close_code}
 use Rattle.h1_payload.specs.Rests.{SaysPulled}
 use Rattle.h1_payload.specs.declared.pulled.Pulled.{Pulled}

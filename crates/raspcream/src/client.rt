@@ -1,6 +1,6 @@
 //! A client's side.
 ghost use Rattle.std.specs.Prelude.{◌≡◌, OnOk, OnErr};
-ghost use Rattle.h1_client_machine.specs.ClientEvent as on;
+ghost use Rattle.model_client.specs.ClientEvent as on;
 ghost use Rattle.raspcream.specs.Numbers.{answer_kind};
 ghost use Rattle.raspcream.specs.Asked.{HasRead, HasNext, HasRequested, HasMade, HasWritten, HasPulled};
 

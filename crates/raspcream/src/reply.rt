@@ -1,6 +1,6 @@
 //! What a call tells C.
 ghost use Rattle.std.specs.Prelude.{◌≡◌, ◌↔◌, IsOk};
-ghost use Rattle.h1_codec.specs.Meaning.{size_of};
+ghost use Rattle.h1_encoder.specs.Meaning.{size_of};
 ghost use Rattle.raspcream.specs.Numbers.{size_said};
 
 use crate::pointers::{Header, Span, span_of};

@@ -1,7 +1,7 @@
 //! A server's side.
 ghost use Rattle.std.specs.Prelude.{◌≡◌, ◌%◌, IfOk, OnOk, OnErr};
-ghost use Rattle.h1_codec.specs.Meaning.{answer_of};
-ghost use Rattle.h1_model.specs.Event as on;
+ghost use Rattle.h1_encoder.specs.Meaning.{answer_of};
+ghost use Rattle.model_h1.specs.Event as on;
 ghost use Rattle.raspcream.specs.Numbers.{kind_of, expiry_kind};
 ghost use Rattle.raspcream.specs.Served.{HasRead, HasNext, HasAnswered, HasMade, HasWritten, HasTicked, HasPulled};
 

@@ -5,9 +5,9 @@ mod server;
 mod wire;
 
 use bytes::Bytes;
-use h1_framed::Codec;
+use h1_encoder::Codec;
 use http_types::ServiceConfig;
-use http_wires::{Framed, MemWire};
+use http_transport::{Framed, MemWire};
 use std::alloc::{AllocError, Global};
 
 /// A server's codec over a wire in memory. The clock of its settings stands at 0.

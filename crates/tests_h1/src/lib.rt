@@ -1,7 +1,7 @@
 //! Tests of the two sides of a connection and of what stands on them, through what these crates make public: a
-//! connection's calls (`h1_connection`), the codecs for a framed wire and an answer that is sent (`h1_framed`,
-//! `h1_client_framed`, `h1_send`), a client's requests and what answers to HEAD mean (`h1_request`, `h1_client_heads`), heads
-//! that a forwarder passes on (`h1_forward_heads`), a body's decoder and its copy (`h1_payload`), scripts (`h1_replay`), and
+//! connection's calls (`h1_connection`), the codecs for a framed wire and an answer that is sent (`h1_codec`,
+//! `h1_codec`, `h1_codec`), a client's requests and what answers to HEAD mean (`h1_encoder`, `h1_client`), heads
+//! that a forwarder passes on (`proxy_heads`), a body's decoder and its copy (`h1_payload`), scripts (`h1_replay`), and
 //! sessions of WebSocket (`ws_session`).
 //!
 //! A contract holds for every call, so nothing that a clause says is tested again. A test stands here for what no clause

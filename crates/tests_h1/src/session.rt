@@ -1,6 +1,6 @@
 //! A session, and the answer to a request for an upgrade.
 use bytes::Bytes;
-use h1_decode::request_head;
+use h1_decoder::request_head;
 use http_types::{RequestHead, ResponseHead};
 use std::alloc::Global;
 use std::test::Fail;

@@ -1,12 +1,12 @@
 //! Echoes, by short writes, and a Close that was queued.
-ghost use Rattle.ws_dispatch.specs.Polls.{MayBePolled};
+ghost use Rattle.ws_dispatcher.specs.Polls.{MayBePolled};
 ghost use Rattle.tests_servers.specs.Calls.{answers_once};
 
 use crate::services::{Ends, Served, sent, serve_text};
 use futures::task::Poll;
 use futures::test::MockTask;
 use std::test::Fail;
-use ws_dispatch::inner;
+use ws_dispatcher::inner;
 
 /// A Ping of `p`, the text `Hello` and the two bytes 1, 2, as a client sends them: under the masks of RFC 6455, section
 /// 5.7, and of zeros.

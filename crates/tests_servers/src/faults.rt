@@ -1,12 +1,12 @@
 //! Wires that fail.
-ghost use Rattle.ws_dispatch.specs.Polls.{MayBePolled};
+ghost use Rattle.ws_dispatcher.specs.Polls.{MayBePolled};
 ghost use Rattle.tests_servers.specs.Calls.{answers_once};
 
 use crate::services::{Ends, Served, sent, serve_text};
 use futures::task::Poll;
 use futures::test::MockTask;
 use std::test::Fail;
-use ws_dispatch::DispatcherError;
+use ws_dispatcher::DispatcherError;
 use ws_frames::ProtocolError;
 
 /// A Ping of `p`.

@@ -1,14 +1,14 @@
 //! A service of frames, over a wire in memory.
 ghost use Rattle.std.specs.Prelude.{IfOk};
-ghost use Rattle.ws_dispatch.specs.Polls.{MayBePolled};
+ghost use Rattle.ws_dispatcher.specs.Polls.{MayBePolled};
 ghost use Rattle.tests_servers.specs.Calls.{answers_once};
 
 use bytes::Bytes;
 use http_services::{FnService, Handler};
-use http_wires::{Framed, MemWire};
+use http_transport::{Framed, MemWire};
 use std::alloc::{AllocError, Global};
 use std::test::Fail;
-use ws_dispatch::{DispatcherError, inner, ws};
+use ws_dispatcher::{DispatcherError, inner, ws};
 use ws_frames::{Codec, Frame, Message, NoWords};
 
 /// Sends back each payload, and closes where the peer does.

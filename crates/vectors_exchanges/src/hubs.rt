@@ -6,10 +6,10 @@ use crate::hubs::events::read_events;
 use bytes::Bytes;
 use std::alloc::Global;
 use vectors::{Case, Player, Report};
-use ws_hub::{HubError, HubEvent, NoMemory, ServiceConfigBuilder, drive_hub};
-use ws_hub_replay::replay;
+use rooms::{HubError, HubEvent, NoMemory, ServiceConfigBuilder, drive_hub};
+use h1_replay::replay;
 
-/// The calls of `ws_hub` and `ws_hub_replay`.
+/// The calls of `rooms` and `h1_replay`.
 pub struct Hubs;
 
 impl Player for Hubs {

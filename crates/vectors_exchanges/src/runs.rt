@@ -1,10 +1,10 @@
 //! Generated runs: what a new connection takes, hands out and writes where it is brought the events of a seed.
-use h1_gen::{MAX_COUNT, summary_of};
+use h1_generated::{MAX_COUNT, summary_of};
 use http_types::NoMemory;
 use std::alloc::Global;
 use vectors::{Case, Player, Report};
 
-/// Runs of `h1_gen`.
+/// Runs of `h1_generated`.
 pub struct Runs;
 
 impl Player for Runs {

@@ -1,7 +1,7 @@
 //! Vectors of judgements: heads, each with the doubt that comes first of it.
 use bytes::Bytes;
-use h1_decode::{HeadItem, request_head};
-use h1_judge::{HeadDoubt, check_head};
+use h1_decoder::{HeadItem, request_head};
+use h1_strict::{HeadDoubt, check_head};
 use http_types::{NoMemory, ParseError};
 use std::alloc::Global;
 use vectors::{Case, Player, Report};

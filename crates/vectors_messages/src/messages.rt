@@ -14,7 +14,7 @@ use http_types::NoMemory;
 use std::alloc::Global;
 use vectors::{Case, Player, Report};
 
-/// The calls of `h1_decode`, `h1_payload`, `h1_messages` and `h1_codec`.
+/// The calls of `h1_decoder`, `h1_payload`, `h1_codec` and `h1_encoder`.
 pub struct Messages;
 
 impl Player for Messages {

@@ -13,7 +13,7 @@ mod wire;
 use crate::dispatch::play::play;
 use crate::dispatch::setup::{Cut, Setup, keep};
 use crate::dispatch::step::{Step, step_of};
-use h1_line::{NoRecord, Recorder, VecRecorder};
+use h1_traced::{NoRecord, Recorder, VecRecorder};
 use std::alloc::{AllocError, AllocGlobal, Global};
 use std::io;
 use std::random::RandomSource;

@@ -3,7 +3,7 @@
 mod replies;
 
 use crate::forward::replies::put_replies;
-use h1_proxy::{Proxy, ServiceConfig};
+use proxy::{Proxy, ServiceConfig};
 use std::alloc::Global;
 use vectors::{CaseError, Cursor, PiecePlayer, Report, read_joined};
 

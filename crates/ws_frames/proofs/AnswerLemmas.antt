@@ -2,8 +2,8 @@
 use Rattle.std.proofs.Common.{◌≡◌, ℕ, Bool, List, [], ◌∷◌, Option, Some, None, Result, Ok, Err, refl, sym, ap, ◌∙◌, subst}
 use Rattle.std.specs.Prelude.{IfErr, ⊤}
 use Rattle.http_framing.specs.AnyPieces.{OnlySays}
-use Rattle.h1_model.specs.Frame as model
-use Rattle.h1_model.specs.FrameText.{Reader, Front, front_frame, whole, partial, breaks, StopsWith}
+use Rattle.model_h1.specs.Frame as model
+use Rattle.model_h1.specs.FrameText.{Reader, Front, front_frame, whole, partial, breaks, StopsWith}
 use Rattle.ws_frames.specs.declared.error.ProtocolError.{ProtocolError}
 use Rattle.ws_frames.specs.declared.error.ProtocolError.TheVariants as errors
 use Rattle.ws_frames.specs.declared.message.Frame.{Frame}

@@ -3,8 +3,8 @@ use Rattle.std.proofs.Common.{◌≡◌, ℕ, ◌+◌, ◌*◌, ◌<◌, ◌≤�
 use Rattle.std.proofs.lemmas.Bool.{eqb-true}
 use Rattle.std.specs.Str.{IsUtf8, is_utf8}
 use Rattle.std.proofs.lemmas.Str.{IsUtf8-from_is_utf8, is_utf8-from_IsUtf8}
-use Rattle.h1_model.specs.Frame as frames
-use Rattle.h1_model.specs.FrameText.{is_close_code, description_of, close_frame}
+use Rattle.model_h1.specs.Frame as frames
+use Rattle.model_h1.specs.FrameText.{is_close_code, description_of, close_frame}
 use Rattle.ws_frames.specs.declared.proto.CloseCode.{CloseCode}
 use Rattle.ws_frames.specs.Protocol.{close_number, close_code}
 use Rattle.ws_frames.specs.Close.{reason_frame}

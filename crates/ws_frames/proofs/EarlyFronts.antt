@@ -1,10 +1,10 @@
 -- What is taken from the front of bytes, its size judged at its length, is the front of the definitions.
 use Rattle.std.proofs.Common.{◌≡◌, ℕ, suc, ◌+◌, ◌<◌, ◌≤◌, Bool, true, false, cond, List, [], ◌∷◌, length, drop, nat_lt, nat_eq, Option, Some, None, Result, Ok, Err, refl, sym, ap, ◌∙◌, arith, length-drop, ltb-false, le-ltb}
 use Rattle.std.proofs.lemmas.Bool.{lt-ltb}
-use Rattle.h1_model.specs.Frame.{Frame, ProtocolError, overflow}
-use Rattle.h1_model.specs.FrameText.{FrameStart, frame_start, start_error, length_bytes, mask_bytes, FrameHeader, frame_header, payload_of, judged_frame, partial, breaks, unless_broken, front_of_judged, front_of_body, front_of_header, front_of_start, front_frame}
-use Rattle.h1_model.specs.Limits.{MAX_FRAME}
-use Rattle.h1_model.specs.Laws.FrameSize.{frame_length}
+use Rattle.model_h1.specs.Frame.{Frame, ProtocolError, overflow}
+use Rattle.model_h1.specs.FrameText.{FrameStart, frame_start, start_error, length_bytes, mask_bytes, FrameHeader, frame_header, payload_of, judged_frame, partial, breaks, unless_broken, front_of_judged, front_of_body, front_of_header, front_of_start, front_frame}
+use Rattle.model_h1.specs.Limits.{MAX_FRAME}
+use Rattle.model_h1.specs.Laws.FrameSize.{frame_length}
 use Rattle.ws_frames.specs.Parsed.{late_reader, short as too_few, known, head_behind, waits, refuses, parsed_body, parsed_header}
 use Rattle.ws_frames.specs.Header.{IsReadable}
 use Rattle.ws_frames.specs.Fronts.{early_reader, is_partial, early_header, early_head, early}

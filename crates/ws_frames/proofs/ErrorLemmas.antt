@@ -1,7 +1,7 @@
 -- Errors of a frame that is one, or breaks a rule.
 use Rattle.std.proofs.Common.{◌≡◌, ◌≢◌, ℕ, List, drop, Result, Ok, Err, refl, sym, ap, ◌∙◌}
-use Rattle.h1_model.specs.Frame as frames
-use Rattle.h1_model.specs.FrameText.{front_of_judged}
+use Rattle.model_h1.specs.Frame as frames
+use Rattle.model_h1.specs.FrameText.{front_of_judged}
 use Rattle.ws_frames.specs.declared.error.ProtocolError.{ProtocolError}
 use Rattle.ws_frames.specs.declared.error.ProtocolError.TheVariants as errors
 use Rattle.ws_frames.specs.declared.kind.Kind.{Kind}

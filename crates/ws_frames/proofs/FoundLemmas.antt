@@ -1,10 +1,10 @@
 -- What is found of a frame whose header is known is what the definitions say is taken.
 use Rattle.std.proofs.Common.{◌⊎◌, inl, inr, ◌≡◌, ℕ, ◌+◌, ◌-◌, ◌<◌, ◌≤◌, Bool, true, false, cond, ◌&&◌, List, [], length, take, drop, nat_lt, ◌≢◌, None, refl, sym, ap, ◌∙◌, arith, drop-drop, le-ltb}
 use Rattle.std.proofs.lemmas.Bool.{lt-ltb}
-use Rattle.h1_model.specs.Frame.{overflow, invalid_length}
-use Rattle.h1_model.specs.FrameText.{Opcode, opcode_error, continuation_opcode, text_opcode, binary_opcode, close_opcode, ping_opcode, pong_opcode, unknown_opcode, length_bytes, mask_bytes, FrameHeader, unmask, payload_of, is_control}
-use Rattle.h1_model.specs.Limits.{MAX_FRAME, MAX_CONTROL_PAYLOAD}
-use Rattle.h1_model.specs.Laws.FrameSize.{frame_length}
+use Rattle.model_h1.specs.Frame.{overflow, invalid_length}
+use Rattle.model_h1.specs.FrameText.{Opcode, opcode_error, continuation_opcode, text_opcode, binary_opcode, close_opcode, ping_opcode, pong_opcode, unknown_opcode, length_bytes, mask_bytes, FrameHeader, unmask, payload_of, is_control}
+use Rattle.model_h1.specs.Limits.{MAX_FRAME, MAX_CONTROL_PAYLOAD}
+use Rattle.model_h1.specs.Laws.FrameSize.{frame_length}
 use Rattle.ws_frames.specs.declared.proto.OpCode.{OpCode}
 use Rattle.ws_frames.specs.declared.proto.OpCode.TheVariants as codes
 use Rattle.ws_frames.specs.declared.error.ProtocolError.TheVariants as errors

@@ -1,9 +1,9 @@
 -- What is read of a header is what the definitions say of it.
 use Rattle.std.proofs.Common.{◌≡◌, ℕ, ◌+◌, ◌≤◌, Bool, true, false, cond, not, List, [], ◌∷◌, length, drop, get_or, nat_lt, nat_eq, ◌/◌, ◌%◌, Option, Some, None, Result, Ok, Err, refl, ap, subst, arith}
 use Rattle.std.specs.Option.{option_or}
-use Rattle.h1_model.specs.Frame as frames
-use Rattle.h1_model.specs.Frame.{unmasked_frame, masked_frame, invalid_reserved_bits, overflow, invalid_length}
-use Rattle.h1_model.specs.FrameText.{Reader, Opcode, opcode_error, FrameStart, frame_start, start_error, length_bytes, mask_bytes, FrameHeader, frame_header}
+use Rattle.model_h1.specs.Frame as frames
+use Rattle.model_h1.specs.Frame.{unmasked_frame, masked_frame, invalid_reserved_bits, overflow, invalid_length}
+use Rattle.model_h1.specs.FrameText.{Reader, Opcode, opcode_error, FrameStart, frame_start, start_error, length_bytes, mask_bytes, FrameHeader, frame_header}
 use Rattle.ws_frames.specs.declared.proto.OpCode.{OpCode}
 use Rattle.ws_frames.specs.declared.error.ProtocolError.{ProtocolError}
 use Rattle.ws_frames.specs.declared.frame.header.Header.{Header}

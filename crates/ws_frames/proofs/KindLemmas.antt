@@ -4,8 +4,8 @@ use Rattle.ws_frames.specs.declared.error.ProtocolError.{ProtocolError}
 use Rattle.ws_frames.specs.declared.error.ProtocolError.TheVariants as errors
 use Rattle.ws_frames.specs.declared.kind.Kind.{Kind}
 use Rattle.ws_frames.specs.Refusal.{refusal}
-use Rattle.h1_model.specs.Frame as frames
-use Rattle.h1_model.specs.FrameText.{Opcode, continuation_opcode, text_opcode, binary_opcode, close_opcode, ping_opcode, pong_opcode, unknown_opcode}
+use Rattle.model_h1.specs.Frame as frames
+use Rattle.model_h1.specs.FrameText.{Opcode, continuation_opcode, text_opcode, binary_opcode, close_opcode, ping_opcode, pong_opcode, unknown_opcode}
 use Rattle.ws_frames.specs.Judged.{judged_taken}
 use Rattle.ws_frames.specs.Codec.{kind_judged, kind_frame}
 

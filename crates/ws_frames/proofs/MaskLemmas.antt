@@ -5,7 +5,7 @@ use lib.Lanes.{zip2, chunk, put_chunk}
 use Rattle.std.proofs.lemmas.Simd.{put_chunk_is}
 use Rattle.std.proofs.lemmas.List.{length-take-le, set_at, get_or-drop, append-nil}
 use Rattle.std.proofs.Math.Seq.{take-append_seam, drop-append_seam, take-add, take-length, drop-length}
-use Rattle.h1_model.specs.FrameText.{unmask}
+use Rattle.model_h1.specs.FrameText.{unmask}
 use Rattle.ws_frames.specs.MaskLanes.{IsMaskedUpTo, lanes_of}
 
 -- masked bytes are as many

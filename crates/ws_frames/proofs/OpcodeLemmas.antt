@@ -1,7 +1,7 @@
 -- Opcodes and their numbers.
 use Rattle.std.proofs.Common.{◌≡◌, ◌≢◌, ℕ, Bool, true, false, cond, nat_eq, None, refl, sym, ap, ◌∙◌}
 use Rattle.std.proofs.lemmas.Bool.{eqb-true}
-use Rattle.h1_model.specs.FrameText.{Opcode, continuation_opcode, text_opcode, binary_opcode, close_opcode, ping_opcode, pong_opcode, unknown_opcode, opcode_error, opcode_of, opcode_number}
+use Rattle.model_h1.specs.FrameText.{Opcode, continuation_opcode, text_opcode, binary_opcode, close_opcode, ping_opcode, pong_opcode, unknown_opcode, opcode_error, opcode_of, opcode_number}
 use Rattle.ws_frames.specs.declared.proto.OpCode.{OpCode}
 use Rattle.ws_frames.specs.declared.proto.OpCode.TheVariants as codes
 use Rattle.ws_frames.specs.Protocol.{code_of, opcode_written}

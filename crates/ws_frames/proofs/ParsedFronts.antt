@@ -2,10 +2,10 @@
 use Rattle.std.proofs.Common.{◌≡◌, ℕ, suc, ◌+◌, ◌<◌, ◌≤◌, Bool, true, false, cond, ◌&&◌, List, [], ◌∷◌, length, drop, take, nat_lt, Option, Some, None, refl, sym, ap, ◌∙◌, subst, arith, length-drop, ltb-false, ltb-true, le-ltb}
 use Rattle.std.proofs.lemmas.Bool.{lt-ltb}
 use Rattle.std.proofs.lemmas.List.{length-take-le}
-use Rattle.h1_model.specs.Frame.{ProtocolError, overflow}
-use Rattle.h1_model.specs.FrameText.{Opcode, continuation_opcode, text_opcode, binary_opcode, close_opcode, ping_opcode, pong_opcode, unknown_opcode, FrameStart, frame_start, start_error, length_bytes, mask_bytes, FrameHeader, frame_header, unmask, payload_of, is_control, long_control_frame, judged_frame, finished_frame, unfinished_frame, Front, partial, breaks, unless_broken, front_of_judged, is_never_whole, front_of_body, front_of_header, front_of_start, front_frame}
-use Rattle.h1_model.specs.Limits.{MAX_CONTROL_PAYLOAD}
-use Rattle.h1_model.specs.Laws.FrameSize.{frame_length}
+use Rattle.model_h1.specs.Frame.{ProtocolError, overflow}
+use Rattle.model_h1.specs.FrameText.{Opcode, continuation_opcode, text_opcode, binary_opcode, close_opcode, ping_opcode, pong_opcode, unknown_opcode, FrameStart, frame_start, start_error, length_bytes, mask_bytes, FrameHeader, frame_header, unmask, payload_of, is_control, long_control_frame, judged_frame, finished_frame, unfinished_frame, Front, partial, breaks, unless_broken, front_of_judged, is_never_whole, front_of_body, front_of_header, front_of_start, front_frame}
+use Rattle.model_h1.specs.Limits.{MAX_CONTROL_PAYLOAD}
+use Rattle.model_h1.specs.Laws.FrameSize.{frame_length}
 use Rattle.ws_frames.specs.Parsed.{Parsed, late_reader, short as too_few, known, head_behind, waits, refuses, takes, parsed_long, parsed_body, parsed_head, parsed}
 use Rattle.ws_frames.specs.Judged.{judged_taken}
 use Rattle.ws_frames.proofs.MaskLemmas.{length_unmask}

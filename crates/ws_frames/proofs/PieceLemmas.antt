@@ -2,8 +2,8 @@
 use Rattle.std.proofs.Common.{◌≡◌, ℕ, Bool, List, ◌++◌, drop, Option, Some, None, Result, Ok, Err, IfOk, sym, ap, ◌∙◌, subst}
 use Rattle.std.proofs.lemmas.List.{drop-append-le}
 use Rattle.http_framing.specs.AnyPieces.{GoesOn, in_front}
-use Rattle.h1_model.specs.FrameText.{is_under_way}
-use Rattle.h1_model.proofs.FrameLemmas.{whole_stays, whole_fits}
+use Rattle.model_h1.specs.FrameText.{is_under_way}
+use Rattle.model_h1.proofs.FrameLemmas.{whole_stays, whole_fits}
 use Rattle.ws_frames.specs.declared.error.ProtocolError.{ProtocolError}
 use Rattle.ws_frames.specs.declared.message.Frame.{Frame}
 use Rattle.ws_frames.specs.declared.codec.Codec.{Codec}

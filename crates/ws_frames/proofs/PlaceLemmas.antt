@@ -1,8 +1,8 @@
 -- Frames with the places behind them, and without.
 use Rattle.std.proofs.Common.{◌≡◌, ℕ, ◌+◌, Bool, List, [], ◌∷◌, drop, Option, refl, sym, ap, ◌∙◌, subst, drop-drop}
-use Rattle.h1_model.specs.Frame.{Frame, ProtocolError}
-use Rattle.h1_model.specs.FrameText.{Reader, is_under_way, PlacedFrame, ReadsFrames}
-use Rattle.h1_model.proofs.FrameLemmas.{frames_unique, frames_read}
+use Rattle.model_h1.specs.Frame.{Frame, ProtocolError}
+use Rattle.model_h1.specs.FrameText.{Reader, is_under_way, PlacedFrame, ReadsFrames}
+use Rattle.model_h1.proofs.FrameLemmas.{frames_unique, frames_read}
 use Rattle.ws_frames.specs.Pieces.{AreFrames, frames_of}
 
 -- frames that were read from a place on are those of the bytes behind it

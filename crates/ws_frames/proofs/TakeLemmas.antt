@@ -2,8 +2,8 @@
 use Rattle.std.proofs.Common.{◌≡◌, ℕ, ◌+◌, ◌-◌, ◌≤◌, Bool, true, false, List, ◌++◌, length, take, drop, refl, sym, ap, ◌∙◌, arith, length-append, length-drop, drop-drop}
 use Rattle.std.proofs.lemmas.List.{length-take-le, take-append-drop, drop-take}
 use Rattle.std.proofs.Math.Seq.{take-append_seam, drop-append_seam}
-use Rattle.h1_model.specs.FrameText.{unmask}
-use Rattle.h1_model.proofs.FrameWritten.{masked_twice}
+use Rattle.model_h1.specs.FrameText.{unmask}
+use Rattle.model_h1.proofs.FrameWritten.{masked_twice}
 use Rattle.ws_frames.specs.Header.{payload_at}
 use Rattle.ws_frames.specs.Codec.{with_payload}
 use Rattle.ws_frames.proofs.MaskLemmas.{length_unmask}

@@ -2,7 +2,7 @@
 use Rattle.std.proofs.Common.{◌≡◌, ℕ, ◌+◌, ◌<◌, ◌≤◌, Bool, false, cond, [], ◌∷◌, nat_lt, ap, arith, le-ltb}
 use Rattle.std.proofs.lemmas.Bool.{lt-ltb}
 use Rattle.std.specs.Int.{w16, w64, to_be_bytes}
-use Rattle.h1_model.specs.FrameText.{length_field}
+use Rattle.model_h1.specs.FrameText.{length_field}
 use Rattle.ws_frames.specs.Written.{masked_field}
 
 -- below 126

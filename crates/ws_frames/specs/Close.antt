@@ -2,8 +2,8 @@
 use Rattle.std.specs.Prelude.{◌≡◌, ℕ, ◌&&◌, List, [], ◌∷◌, if◌then◌else◌, string_bytes, Option, Some, None, option_map, Result, Ok, Err}
 use Rattle.std.specs.Str.{is_utf8}
 use Rattle.std.specs.Str.Lossy.{utf8_lossy}
-use Rattle.h1_model.specs.Frame as model
-use Rattle.h1_model.specs.FrameText.{big_endian, is_close_code, description_of}
+use Rattle.model_h1.specs.Frame as model
+use Rattle.model_h1.specs.FrameText.{big_endian, is_close_code, description_of}
 use Rattle.ws_frames.specs.declared.error.ProtocolError.{ProtocolError}
 use Rattle.ws_frames.specs.declared.proto.CloseReason.{CloseReason}
 use Rattle.ws_frames.specs.Protocol.{close_number, close_code}

@@ -1,7 +1,7 @@
 -- What a codec reads.
 use Rattle.std.specs.Prelude.{◌≡◌, ℕ, ◌+◌, Bool, true, false, List, ◌++◌, take, drop, if◌then◌else◌, Option, Some, None, option_map, Result, Ok, Err}
-use Rattle.h1_model.specs.Frame as model
-use Rattle.h1_model.specs.FrameText.{close_frame, Opcode, continuation_opcode, text_opcode, binary_opcode, close_opcode, ping_opcode, pong_opcode, unknown_opcode, opcode_of, opcode_number}
+use Rattle.model_h1.specs.Frame as model
+use Rattle.model_h1.specs.FrameText.{close_frame, Opcode, continuation_opcode, text_opcode, binary_opcode, close_opcode, ping_opcode, pong_opcode, unknown_opcode, opcode_of, opcode_number}
 use Rattle.ws_frames.specs.Protocol.{code_of}
 use Rattle.ws_frames.specs.declared.error.ProtocolError.{ProtocolError}
 use Rattle.ws_frames.specs.declared.error.ProtocolError.TheVariants as errors

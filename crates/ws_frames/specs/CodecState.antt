@@ -1,7 +1,7 @@
 -- The state of a codec, and what it reads.
 use Rattle.std.specs.Prelude.{◌≡◌, ℕ, Bool, List, drop, Option, Some, None, Result, Ok, Err}
-use Rattle.h1_model.specs.Frame as model
-use Rattle.h1_model.specs.FrameText.{Front, front_frame, partial, whole, breaks, is_under_way}
+use Rattle.model_h1.specs.Frame as model
+use Rattle.model_h1.specs.FrameText.{Front, front_frame, partial, whole, breaks, is_under_way}
 use Rattle.ws_frames.specs.declared.error.ProtocolError.{ProtocolError}
 use Rattle.ws_frames.specs.declared.error.ProtocolError.TheVariants as errors
 use Rattle.ws_frames.specs.declared.message.Frame.{Frame}

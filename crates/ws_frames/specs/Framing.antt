@@ -3,8 +3,8 @@ use Rattle.std.specs.Prelude.{◌≡◌, ℕ, List, [], ◌∷◌, Option, Some,
 use Rattle.std.proofs.Common.{refl, sym, subst, ◌∙◌}
 use Rattle.std.proofs.lemmas.Bool.{false≢true}
 use Rattle.rand_core.specs.Stream.{Stream}
-use Rattle.h1_model.specs.Frame as model
-use Rattle.h1_model.specs.FrameText.{front_frame, send_error}
+use Rattle.model_h1.specs.Frame as model
+use Rattle.model_h1.specs.FrameText.{front_frame, send_error}
 use Rattle.ws_frames.specs.declared.error.ProtocolError.{ProtocolError}
 use Rattle.ws_frames.specs.declared.message.Frame.{Frame}
 use Rattle.ws_frames.specs.declared.message.Message.{Message}

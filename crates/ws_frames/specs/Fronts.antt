@@ -1,8 +1,8 @@
 -- A frame at the front of bytes that stay where they are until it is taken, its size judged as soon as its length is there.
 use Rattle.std.specs.Prelude.{◌≡◌, ℕ, ◌+◌, Bool, true, false, List, length, drop, nat_lt, if◌then◌else◌, Option, Some, None, Result, Ok, Err}
-use Rattle.h1_model.specs.Frame.{overflow}
-use Rattle.h1_model.specs.FrameText.{Reader, at_length, length_bytes, FrameHeader, Front, partial, whole, breaks, front_frame, is_under_way}
-use Rattle.h1_model.specs.Laws.FrameSize.{frame_length}
+use Rattle.model_h1.specs.Frame.{overflow}
+use Rattle.model_h1.specs.FrameText.{Reader, at_length, length_bytes, FrameHeader, Front, partial, whole, breaks, front_frame, is_under_way}
+use Rattle.model_h1.specs.Laws.FrameSize.{frame_length}
 use Rattle.ws_frames.specs.declared.error.ProtocolError.{ProtocolError}
 use Rattle.ws_frames.specs.declared.error.ProtocolError.TheVariants as errors
 use Rattle.ws_frames.specs.declared.message.Frame.{Frame}

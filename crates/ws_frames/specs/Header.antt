@@ -1,7 +1,7 @@
 -- What the functions that read a frame's header answer.
 use Rattle.std.specs.Prelude.{◌≡◌, ◌≢◌, ℕ, ◌+◌, ◌-◌, ◌*◌, ◌≤◌, Bool, true, List, length, take, drop, nat_lt, slice_index, if◌then◌else◌, Option, Some, None, Result, Ok, Err}
-use Rattle.h1_model.specs.Frame as model
-use Rattle.h1_model.specs.FrameText.{Opcode, opcode_error, FrameStart, FrameHeader, length_bytes, mask_bytes, payload_length_of, unmask}
+use Rattle.model_h1.specs.Frame as model
+use Rattle.model_h1.specs.FrameText.{Opcode, opcode_error, FrameStart, FrameHeader, length_bytes, mask_bytes, payload_length_of, unmask}
 use Rattle.ws_frames.specs.declared.error.ProtocolError.{ProtocolError}
 use Rattle.ws_frames.specs.declared.proto.OpCode.{OpCode}
 use Rattle.ws_frames.specs.declared.proto.OpCode.TheVariants as codes

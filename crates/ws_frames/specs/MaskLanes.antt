@@ -1,6 +1,6 @@
 -- How far a payload is masked.
 use Rattle.std.specs.Prelude.{◌≡◌, ℕ, ◌≤◌, List, ◌++◌, length, take, drop}
-use Rattle.h1_model.specs.FrameText.{unmask}
+use Rattle.model_h1.specs.FrameText.{unmask}
 
 -- the mask eight times
 abbrev pub lanes_of : List ℕ → List ℕ

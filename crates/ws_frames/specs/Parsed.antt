@@ -1,10 +1,10 @@
 -- A frame at the front of bytes, before its place among fragments and the payload of a Close are judged.
 use Rattle.std.specs.Prelude.{ℕ, ◌+◌, Bool, true, ◌&&◌, List, [], ◌∷◌, length, drop, nat_lt, if◌then◌else◌, Option, Some, None}
-use Rattle.h1_model.specs.Frame as model
-use Rattle.h1_model.specs.Frame.{overflow, invalid_length}
-use Rattle.h1_model.specs.FrameText.{Reader, when_whole, Opcode, close_opcode, FrameStart, frame_start, start_error, length_bytes, FrameHeader, frame_header, payload_of, is_control, is_never_whole}
-use Rattle.h1_model.specs.Limits.{MAX_CONTROL_PAYLOAD}
-use Rattle.h1_model.specs.Laws.FrameSize.{frame_length}
+use Rattle.model_h1.specs.Frame as model
+use Rattle.model_h1.specs.Frame.{overflow, invalid_length}
+use Rattle.model_h1.specs.FrameText.{Reader, when_whole, Opcode, close_opcode, FrameStart, frame_start, start_error, length_bytes, FrameHeader, frame_header, payload_of, is_control, is_never_whole}
+use Rattle.model_h1.specs.Limits.{MAX_CONTROL_PAYLOAD}
+use Rattle.model_h1.specs.Laws.FrameSize.{frame_length}
 
 -- who reads: a server or a client, and the most bytes of a payload, which is judged once the frame is whole
 abbrev pub late_reader : Bool → ℕ → Reader

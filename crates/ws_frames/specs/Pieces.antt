@@ -1,7 +1,7 @@
 -- The frames of bytes that may come in pieces.
 use Rattle.std.specs.Prelude.{◌≡◌, ℕ, Bool, List, [], ◌∷◌, drop, map, Option}
-use Rattle.h1_model.specs.Frame.{Frame, ProtocolError}
-use Rattle.h1_model.specs.FrameText.{Reader, front_frame, whole, StopsWith, is_under_way, PlacedFrame}
+use Rattle.model_h1.specs.Frame.{Frame, ProtocolError}
+use Rattle.model_h1.specs.FrameText.{Reader, front_frame, whole, StopsWith, is_under_way, PlacedFrame}
 
 -- the bytes are these frames; behind them stands no further whole frame, and the rest breaks the rule fail, or none
 abbrev pub AreFrames : Reader → Bool → List ℕ → List Frame → Option ProtocolError → Type 0

@@ -1,6 +1,6 @@
 -- What opcodes, close codes and broken rules stand for.
 use Rattle.std.specs.Prelude.{ℕ, ◌==◌, List, codes, if◌then◌else◌}
-use Rattle.h1_model.specs.FrameText as model
+use Rattle.model_h1.specs.FrameText as model
 use Rattle.ws_frames.specs.declared.proto.OpCode.{OpCode}
 use Rattle.ws_frames.specs.declared.proto.OpCode.TheVariants.{Continue, Text, Binary, Close, Ping, Pong, Bad}
 use Rattle.ws_frames.specs.declared.proto.CloseCode.{CloseCode}

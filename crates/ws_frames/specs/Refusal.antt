@@ -1,7 +1,7 @@
 -- What the errors of reading say.
 use Rattle.std.specs.Prelude.{Option, Some, None, Result, Ok, Err}
-use Rattle.h1_model.specs.Frame as model
-use Rattle.h1_model.specs.FrameText.{opcode_of}
+use Rattle.model_h1.specs.Frame as model
+use Rattle.model_h1.specs.FrameText.{opcode_of}
 use Rattle.ws_frames.specs.declared.error.ProtocolError.{ProtocolError}
 use Rattle.ws_frames.specs.declared.error.ProtocolError.TheVariants as errors
 use Rattle.ws_frames.specs.Protocol.{code_of}

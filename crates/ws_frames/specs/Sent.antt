@@ -2,8 +2,8 @@
 use Rattle.std.specs.Prelude.{ℕ, Bool, true, false, List, [], string_bytes, if◌then◌else◌, Option, Some, None, option_map}
 use Rattle.std.specs.Int.{w32, to_le_bytes}
 use Rattle.rand_core.specs.Stream.{Stream, next_u32}
-use Rattle.h1_model.specs.Frame as model
-use Rattle.h1_model.specs.FrameText.{continuation_opcode, text_opcode, binary_opcode, close_opcode, ping_opcode, pong_opcode, close_payload, is_under_way}
+use Rattle.model_h1.specs.Frame as model
+use Rattle.model_h1.specs.FrameText.{continuation_opcode, text_opcode, binary_opcode, close_opcode, ping_opcode, pong_opcode, close_payload, is_under_way}
 use Rattle.ws_frames.specs.declared.message.Message.{Message}
 use Rattle.ws_frames.specs.declared.message.Message.TheVariants as messages
 use Rattle.ws_frames.specs.declared.codec.Codec.{Codec}

@@ -1,6 +1,6 @@
 -- The text of a frame that is written, with a mask or without (RFC 6455, sections 5.2 and 5.3).
 use Rattle.std.specs.Prelude.{ℕ, ◌+◌, Bool, List, [], ◌∷◌, ◌++◌, length, Option, Some, None}
-use Rattle.h1_model.specs.FrameText.{Opcode, first_byte, length_field, print_frame, unmask}
+use Rattle.model_h1.specs.FrameText.{Opcode, first_byte, length_field, print_frame, unmask}
 
 -- the length with the bit of the mask
 abbrev pub masked_field : List ℕ → List ℕ

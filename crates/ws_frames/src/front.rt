@@ -1,6 +1,6 @@
 //! A frame at the front of bytes that may still grow, taken by whoever keeps them: a session or a connection.
 ghost use Rattle.std.specs.Prelude.{◌≡◌, Bool, IfOk};
-ghost use Rattle.h1_model.specs.FrameText.{front_frame};
+ghost use Rattle.model_h1.specs.FrameText.{front_frame};
 ghost use Rattle.ws_frames.specs.Codec.{IsTakenNamed};
 ghost use Rattle.ws_frames.specs.Fronts.{early_reader, is_partial, FrontTaken};
 

@@ -1,6 +1,6 @@
 //! What opcodes, close codes and masks keep.
 ghost use Rattle.std.specs.Prelude.{◌≡◌, ◌≢◌, ℕ, ◌+◌, List, ◌++◌, length, None};
-ghost use Rattle.h1_model.specs.FrameText.{opcode_of, opcode_number, opcode_error, unmask};
+ghost use Rattle.model_h1.specs.FrameText.{opcode_of, opcode_number, opcode_error, unmask};
 ghost use Rattle.ws_frames.specs.Protocol.{code_of, opcode_written, close_number, close_code};
 
 use crate::proto::OpCode;

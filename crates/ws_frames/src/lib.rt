@@ -1,7 +1,7 @@
 //! WebSocket frames (RFC 6455): what they say, their texts, and the mask.
 //!
 //! [`Codec`] reads frames from a buffer that grows and writes messages into another one, as a server or as a client;
-//! [`Parser`] does the same frame by frame and keeps no state. Both answer what the definitions of `h1_model` say of all
+//! [`Parser`] does the same frame by frame and keeps no state. Both answer what the definitions of `model_h1` say of all
 //! bytes, in whatever pieces these come. A payload that is read shares the memory of the buffer, its mask taken off
 //! where it lies, and no memory is asked for because of a length that a peer declares. A codec is also a `Decoder` and an
 //! `Encoder<Message>` of `http_framing`. [`take_front`] takes one frame for whoever keeps the bytes and the place within a

@@ -1,6 +1,6 @@
 //! The mask that hides a payload (RFC 6455, section 5.3).
 ghost use Rattle.std.specs.Prelude.{◌≡◌, ℕ, ◌+◌, ◌%◌, ◌≤◌, List, length};
-ghost use Rattle.h1_model.specs.FrameText.{unmask};
+ghost use Rattle.model_h1.specs.FrameText.{unmask};
 ghost use Rattle.ws_frames.specs.MaskLanes.{IsMaskedUpTo, lanes_of};
 
 use std::simd::prelude::*;

@@ -1,6 +1,6 @@
 //! Frames read and written one by one, with no state.
 ghost use Rattle.std.specs.Prelude.{◌≡◌, ◌<◌, ℕ, ◌++◌, length, true, Err, IfOk, OnOk, OnErr, option_map};
-ghost use Rattle.h1_model.specs.FrameText.{close_frame, close_opcode, close_payload};
+ghost use Rattle.model_h1.specs.FrameText.{close_frame, close_opcode, close_payload};
 ghost use Rattle.ws_frames.specs.Close.{reason_says, CloseSays, HasName, lossy_reason};
 ghost use Rattle.ws_frames.specs.Header.{declared};
 ghost use Rattle.ws_frames.specs.ParserState.{ParseSays, IsPlain};

@@ -1,7 +1,7 @@
 //! Bytes that come in pieces are the frames of all bytes.
 ghost use Rattle.std.specs.Prelude.{◌≡◌, ℕ, Bool, List, [], ◌∷◌, ◌++◌, drop, Option, Some};
-ghost use Rattle.h1_model.specs.Frame.{Frame, ProtocolError};
-ghost use Rattle.h1_model.specs.FrameText.{Reader, front_frame, whole, breaks, is_under_way, PlacedFrame, ReadsFrames};
+ghost use Rattle.model_h1.specs.Frame.{Frame, ProtocolError};
+ghost use Rattle.model_h1.specs.FrameText.{Reader, front_frame, whole, breaks, is_under_way, PlacedFrame, ReadsFrames};
 ghost use Rattle.ws_frames.specs.Pieces.{AreFrames, frames_of};
 
 /// Whatever bytes follow: where a frame was given, the old bytes with these are that frame and then the frames of what is

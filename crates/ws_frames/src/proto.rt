@@ -1,7 +1,7 @@
 //! Opcodes, close codes, and the answer to a key.
 ghost use Rattle.std.specs.Prelude.{◌≡◌, Some, None, IfOk, option_map, string_bytes};
-ghost use Rattle.h1_model.specs.FrameText.{opcode_of, opcode_number};
-ghost use Rattle.h1_model.specs.Handshake.{accept_key, base64};
+ghost use Rattle.model_h1.specs.FrameText.{opcode_of, opcode_number};
+ghost use Rattle.model_h1.specs.Handshake.{accept_key, base64};
 ghost use Rattle.ws_frames.specs.Copies.{IsReasonCopy};
 ghost use Rattle.ws_frames.specs.Protocol.{code_of, opcode_written, opcode_text, close_number, close_code};
 

@@ -1,7 +1,7 @@
 //! Messages into bytes.
 ghost use Rattle.std.specs.Prelude.{◌≡◌, ◌++◌, None, Some, option_map, true, false, if◌then◌else◌, OnOk, OnErr, IsOk, IfOk, IfErr};
-ghost use Rattle.h1_model.specs.Frame.{frame, continuation_started, continuation_not_started};
-ghost use Rattle.h1_model.specs.FrameText.{close_payload, send_error};
+ghost use Rattle.model_h1.specs.Frame.{frame, continuation_started, continuation_not_started};
+ghost use Rattle.model_h1.specs.FrameText.{close_payload, send_error};
 ghost use Rattle.ws_frames.specs.Close.{reason_says};
 ghost use Rattle.ws_frames.specs.Codec.{item_says};
 ghost use Rattle.ws_frames.specs.CodecState.{codec_server, codec_sending, codec_words};

@@ -1,6 +1,6 @@
 //! Frames are taken from the front of a buffer; their payloads stay where they lie.
 ghost use Rattle.std.specs.Prelude.{◌≡◌, ◌+◌, ◌-◌, ◌≤◌, true, length, take, drop, IfOk, OnOk, OnErr};
-ghost use Rattle.h1_model.specs.FrameText.{close_frame};
+ghost use Rattle.model_h1.specs.FrameText.{close_frame};
 ghost use Rattle.ws_frames.specs.Codec.{kind_frame, with_payload, TakenFrame, IsNamed};
 ghost use Rattle.ws_frames.specs.CodecState.{JudgedTaken};
 ghost use Rattle.ws_frames.specs.Header.{payload_at};

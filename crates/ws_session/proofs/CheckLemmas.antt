@@ -4,10 +4,10 @@ use Rattle.std.specs.Option.{option_or}
 use Rattle.std.proofs.lemmas.List.Sums.{AllPass-from_list_all, list_all-from_AllPass}
 use Rattle.http_header.specs.FieldValue.{FieldValue, IsVisibleAscii, is_visible_text}
 use Rattle.http_header.specs.Token.{is_visible_or_blank}
-use Rattle.h1_model.specs.Request.{Head}
-use Rattle.h1_model.specs.LengthTable.{values_of}
-use Rattle.h1_model.specs.Handshake as model
-use Rattle.h1_model.specs.Handshake.{handshake_error, has_word, first_has_word, version_error, key_error, key_of}
+use Rattle.model_h1.specs.Request.{Head}
+use Rattle.model_h1.specs.LengthTable.{values_of}
+use Rattle.model_h1.specs.Handshake as model
+use Rattle.model_h1.specs.Handshake.{handshake_error, has_word, first_has_word, version_error, key_error, key_of}
 use Rattle.ws_session.specs.declared.verify.HandshakeError.{HandshakeError}
 use Rattle.ws_session.specs.Upgrade.{value_bytes, IsFirst, is_spoken, error_of, FailsWith}
 

@@ -7,8 +7,8 @@ use Rattle.http_header.specs.FieldValue.{FieldValue}
 use Rattle.http_map.specs.HeaderMap.{Entries, keys, get_all, IsHeaderMap}
 use Rattle.http_map.proofs.CallerLemmas.{same_bytes, bytes_eq-itself}
 use Rattle.http_types.specs.declared.requests.head.RequestHead.{RequestHead}
-use Rattle.h1_model.specs.Request.{Header}
-use Rattle.h1_model.specs.LengthTable.{values_of}
+use Rattle.model_h1.specs.Request.{Header}
+use Rattle.model_h1.specs.LengthTable.{values_of}
 use Rattle.ws_session.specs.Upgrade.{SaysUpgrade, value_bytes, lines_of, head_said}
 
 -- the lines of an entry are of its name, and stand in front of the others

@@ -1,9 +1,9 @@
 -- What a session has given of the bytes that were pushed.
 use Rattle.std.proofs.Common.{◌≡◌, ◌⊎◌, inl, inr, ℕ, false, List, [], ◌∷◌, ◌++◌, Option, Some, None, Result, Err, refl, sym, ap, ◌∙◌, subst, append_assoc}
 use Rattle.std.proofs.lemmas.List.{append-nil, drop-append-le}
-use Rattle.h1_model.specs.Frame as model
-use Rattle.h1_model.specs.FrameText.{Front, partial, whole, breaks, front_frame, is_under_way, StopsWith}
-use Rattle.h1_model.proofs.FrameLemmas.{whole_stays, whole_fits, breaks_stays}
+use Rattle.model_h1.specs.Frame as model
+use Rattle.model_h1.specs.FrameText.{Front, partial, whole, breaks, front_frame, is_under_way, StopsWith}
+use Rattle.model_h1.proofs.FrameLemmas.{whole_stays, whole_fits, breaks_stays}
 use Rattle.std.specs.Prelude.{Ok, OnOk, OnErr, IfErr}
 use Rattle.ws_frames.specs.declared.message.Frame.{Frame}
 use Rattle.ws_frames.specs.Codec.{frame_says}

@@ -4,9 +4,9 @@ use Rattle.std.proofs.lemmas.List.{map-append, append-nil}
 use Rattle.http_header.specs.FieldValue.{FieldValue, plain_value}
 use Rattle.http_map.specs.HeaderMap.{Entries, append, get_all}
 use Rattle.http_map.proofs.CallerLemmas.{same_bytes, bytes_eq-itself, get_all-append_same, get_all-append_other}
-use Rattle.h1_model.specs.Request.{Header}
-use Rattle.h1_model.specs.LengthTable.{values_of}
-use Rattle.http_lines.specs.HeaderLines.{header_map}
+use Rattle.model_h1.specs.Request.{Header}
+use Rattle.model_h1.specs.LengthTable.{values_of}
+use Rattle.http_framing.specs.HeaderLines.{header_map}
 use Rattle.ws_session.specs.Upgrade.{value_bytes}
 
 -- a map with the lines behind those that it has

@@ -3,7 +3,7 @@ use Rattle.std.proofs.Common.{◌≡◌, ℕ, Bool, true, false, ◌&&◌, ◌||
 use Rattle.std.specs.Char.{to_ascii_lowercase}
 use Rattle.http_header.specs.Token.{lowercase}
 use Rattle.http_types.specs.HttpMessage.{begins_with as http_begins, has_word as http_word}
-use Rattle.h1_model.specs.Handshake.{has_word}
+use Rattle.model_h1.specs.Handshake.{has_word}
 use Rattle.ws_session.specs.Upgrade.{IsFoundAlike}
 
 -- the text begins with the word, which is in lower case, whatever the case of the text

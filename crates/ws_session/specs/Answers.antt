@@ -5,7 +5,7 @@ use Rattle.http_types.specs.declared.message.ConnectionType.TheVariants.{Upgrade
 use Rattle.http_types.specs.Flags.{no_flags, with_type}
 use Rattle.http_types.specs.ResponseBuilder.{BuilderParts}
 use Rattle.http_types.specs.ResponseHead.{ResponseParts, fresh_response}
-use Rattle.h1_model.specs.Handshake as model
+use Rattle.model_h1.specs.Handshake as model
 use Rattle.ws_session.specs.declared.verify.HandshakeError.{HandshakeError}
 use Rattle.ws_session.specs.declared.verify.HandshakeError.TheVariants.{GetMethodRequired, NoWebsocketUpgrade, NoConnectionUpgrade, NoVersionHeader, UnsupportedVersion, BadWebsocketKey}
 use Rattle.ws_session.specs.declared.verify.HandshakeFault.{HandshakeFault}

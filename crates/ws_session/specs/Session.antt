@@ -1,7 +1,7 @@
 -- What a session keeps, and the frames that it gives of all bytes that were pushed (RFC 6455, sections 5.2 to 5.5).
 use Rattle.std.specs.Prelude.{◌≡◌, ◌⊎◌, ℕ, Bool, false, List, ◌∷◌, [], ◌++◌, drop, Option, Some, None, Result, Ok, Err}
-use Rattle.h1_model.specs.Frame as model
-use Rattle.h1_model.specs.FrameText.{Reader, Front, partial, whole, breaks, front_frame, is_under_way}
+use Rattle.model_h1.specs.Frame as model
+use Rattle.model_h1.specs.FrameText.{Reader, Front, partial, whole, breaks, front_frame, is_under_way}
 use Rattle.ws_frames.specs.declared.error.ProtocolError.{ProtocolError}
 use Rattle.ws_frames.specs.declared.error.ProtocolError.TheVariants as errors
 use Rattle.ws_frames.specs.declared.message.Frame.{Frame}

@@ -5,9 +5,9 @@ use Rattle.http_header.specs.FieldValue.{FieldValue}
 use Rattle.http_map.specs.HeaderMap.{Entry, get_all}
 use Rattle.http_types.specs.HttpMessage.{has_word}
 use Rattle.http_types.specs.declared.requests.head.RequestHead.{RequestHead}
-use Rattle.h1_model.specs.Request.{Header, Head, no_body, keep_alive}
-use Rattle.h1_model.specs.LengthTable.{values_of}
-use Rattle.h1_model.specs.Handshake as model
+use Rattle.model_h1.specs.Request.{Header, Head, no_body, keep_alive}
+use Rattle.model_h1.specs.LengthTable.{values_of}
+use Rattle.model_h1.specs.Handshake as model
 use Rattle.ws_session.specs.declared.verify.HandshakeError.{HandshakeError}
 use Rattle.ws_session.specs.declared.verify.HandshakeError.TheVariants.{GetMethodRequired, NoWebsocketUpgrade, NoConnectionUpgrade, NoVersionHeader, UnsupportedVersion, BadWebsocketKey}
 

@@ -3,8 +3,8 @@ ghost use Rattle.std.specs.Prelude.{◌≡◌, Some, IfOk, OnOk, codes};
 ghost use Rattle.http_header.specs.FieldValue.{plain_value};
 ghost use Rattle.http_map.specs.HeaderMap.{insert};
 ghost use Rattle.http_types.specs.Flags.{with_type};
-ghost use Rattle.h1_model.specs.Request.{Head};
-ghost use Rattle.h1_model.specs.Handshake.{handshake_error, accept_key_of};
+ghost use Rattle.model_h1.specs.Request.{Head};
+ghost use Rattle.model_h1.specs.Handshake.{handshake_error, accept_key_of};
 ghost use Rattle.ws_session.specs.Answers.{HandshakeSays, accepting_builder, method_refused, refused_because, refusing_parts};
 ghost use Rattle.ws_session.specs.Upgrade.{SaysUpgrade, head_said};
 

@@ -1,9 +1,9 @@
 //! What a head that was read says of an upgrade.
-ghost use Rattle.h1_model.specs.Request.{Head};
-ghost use Rattle.h1_decode.specs.HeadItem.{SaysHead};
+ghost use Rattle.model_h1.specs.Request.{Head};
+ghost use Rattle.h1_decoder.specs.HeadItem.{SaysHead};
 ghost use Rattle.ws_session.specs.Upgrade.{SaysUpgrade};
 
-use h1_decode::HeadItem;
+use h1_decoder::HeadItem;
 
 /// A request that was read says of an upgrade what its head says.
 pub fn heads_say_their_upgrade()

@@ -1,6 +1,6 @@
 //! The frames of bytes that come in pieces, without a connection.
 ghost use Rattle.std.specs.Prelude.{◌≡◌, ℕ, ◌⊎◌, not, false, List, [], ◌∷◌, ◌++◌, length, Err, IfOk, IfErr, OnOk, OnErr};
-ghost use Rattle.h1_model.specs.Frame.{Frame as ModelFrame, ProtocolError as Rule};
+ghost use Rattle.model_h1.specs.Frame.{Frame as ModelFrame, ProtocolError as Rule};
 ghost use Rattle.ws_frames.specs.declared.error.ProtocolError.TheVariants.{NoMemory as OutOfMemory};
 ghost use Rattle.ws_frames.specs.Codec.{IsNamedIfThere};
 ghost use Rattle.ws_frames.specs.Fronts.{is_partial};

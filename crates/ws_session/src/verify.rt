@@ -1,9 +1,9 @@
 //! The checks of a request for an upgrade, and the answer to its key.
 ghost use Rattle.std.specs.Prelude.{◌≡◌, codes};
 ghost use Rattle.http_header.specs.Token.{lowercase};
-ghost use Rattle.h1_model.specs.Request.{Head};
-ghost use Rattle.h1_model.specs.LengthTable.{values_of};
-ghost use Rattle.h1_model.specs.Handshake.{handshake_error, first_has_word, version_error, accept_key_of};
+ghost use Rattle.model_h1.specs.Request.{Head};
+ghost use Rattle.model_h1.specs.LengthTable.{values_of};
+ghost use Rattle.model_h1.specs.Handshake.{handshake_error, first_has_word, version_error, accept_key_of};
 ghost use Rattle.ws_session.specs.declared.verify.HandshakeFault.TheVariants as faults;
 ghost use Rattle.ws_session.specs.Upgrade.{SaysUpgrade, head_said, IsFirst, IsFoundAlike, Verified, is_spoken};
 

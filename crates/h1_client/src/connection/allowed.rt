@@ -1,16 +1,16 @@
 // Which events may come next.
 ghost use Rattle.std.specs.Prelude.{◌≡◌, ◌&&◌, not, bytes_eq, codes, is_none, ℕ, List};
-ghost use Rattle.h1_codec.specs.Meaning.{size_of};
-ghost use Rattle.h1_model.specs.Setting.{Setting};
-ghost use Rattle.h1_client_machine.specs.ClientEvent as on;
-ghost use Rattle.h1_client_machine.specs.ClientKept.{client_allows, client_closing, is_dropped, is_moment, can_be_sent, can_be_framed, lacks_length, states_length};
-ghost use Rattle.h1_client_model.specs.RequestText.{asked_shape};
-ghost use Rattle.h1_request.specs.Meaning.{asked_minor};
+ghost use Rattle.h1_encoder.specs.Meaning.{size_of};
+ghost use Rattle.model_h1.specs.Setting.{Setting};
+ghost use Rattle.model_client.specs.ClientEvent as on;
+ghost use Rattle.model_client.specs.ClientKept.{client_allows, client_closing, is_dropped, is_moment, can_be_sent, can_be_framed, lacks_length, states_length};
+ghost use Rattle.model_client.specs.RequestText.{asked_shape};
+ghost use Rattle.h1_encoder.specs.RequestMeaning.{asked_minor};
 ghost use Rattle.h1_client.specs.Meaning.{setting_of, request_of};
 ghost use Rattle.h1_client.specs.Parts.{kept_of, IsSound};
 
 use crate::connection::parts::Parts;
-use h1_request::has_text;
+use h1_encoder::has_text;
 use http_framing::BodySize;
 use http_types::{RequestHead, ServiceConfig, Version};
 

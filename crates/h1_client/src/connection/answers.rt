@@ -1,16 +1,16 @@
 // The next answer.
 ghost use Rattle.std.specs.Prelude.{◌≡◌, ◌≢◌, ◌∷◌, ◌||◌, ℕ, Bool, List, true, false, not, None, Some, bytes_eq, codes, drop, option_map, slice_range, IfOk, IsOk, OnOk, OnErr};
 ghost use Rattle.http_framing.specs.Kinds.{kind_of};
-ghost use Rattle.h1_model.specs.Request.{has_body};
-ghost use Rattle.h1_model.specs.Setting.{Setting};
-ghost use Rattle.h1_machine.specs.Kept.{rest_in, whole_rest};
-ghost use Rattle.h1_decode.specs.Refusal as decode;
-ghost use Rattle.h1_decode.specs.ResponseItem.{SaysAnswer};
-ghost use Rattle.h1_client_heads.specs.Meaning.{fault_of};
-ghost use Rattle.h1_client_model.specs.AnswerReading.{Answer, answer_is, refused, IsAnswerReading, IsAnswerReadingWithin};
-ghost use Rattle.h1_client_machine.specs.ClientEvent as on;
-ghost use Rattle.h1_client_machine.specs.ClientKept.{Waiting, client_closing, is_free};
-ghost use Rattle.h1_client_machine.specs.ClientStep.{behind_answer, behind_final, fault_end};
+ghost use Rattle.model_h1.specs.Request.{has_body};
+ghost use Rattle.model_h1.specs.Setting.{Setting};
+ghost use Rattle.model_state.specs.Kept.{rest_in, whole_rest};
+ghost use Rattle.h1_decoder.specs.Refusal as decode;
+ghost use Rattle.h1_decoder.specs.ResponseItem.{SaysAnswer};
+ghost use Rattle.h1_client.specs.HeadMeaning.{fault_of};
+ghost use Rattle.model_client.specs.AnswerReading.{Answer, answer_is, refused, IsAnswerReading, IsAnswerReadingWithin};
+ghost use Rattle.model_client.specs.ClientEvent as on;
+ghost use Rattle.model_client.specs.ClientKept.{Waiting, client_closing, is_free};
+ghost use Rattle.model_client.specs.ClientStep.{behind_answer, behind_final, fault_end};
 ghost use Rattle.h1_client.specs.Answers.{IsNexted, IsAnswered, IsBegun, NeedsNoMemory};
 ghost use Rattle.h1_client.specs.Incoming.{place_in};
 ghost use Rattle.h1_client.specs.Meaning.{setting_of, end_of};
@@ -20,7 +20,7 @@ use crate::connection::bodies::Reading;
 use crate::connection::parts::Parts;
 use crate::connection::queue::First;
 use crate::{ClientEnd, NextAnswer};
-use h1_client_heads::{
+use crate::{
     AnswerFault, BodyKind, ResponseItem, body_to, closes_after, fault_by, is_interim,
 };
 use h1_payload::Rest;

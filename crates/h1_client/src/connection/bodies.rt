@@ -1,16 +1,16 @@
 // The bodies of answers.
 ghost use Rattle.std.specs.Prelude.{◌≡◌, ◌&&◌, ◌||◌, not, true, false, None, Some, if◌then◌else◌, option_map, IfOk, IsOk, OnOk, OnErr};
 ghost use Rattle.std.specs.Option.{option_or};
-ghost use Rattle.h1_model.specs.Setting.{Setting};
-ghost use Rattle.h1_machine.specs.Body.{pass_rest};
-ghost use Rattle.h1_machine.specs.Kept.{is_nothing, rest_in};
-ghost use Rattle.h1_machine.specs.Pull.{IsPull};
-ghost use Rattle.h1_machine.specs.Pull as pulls;
+ghost use Rattle.model_h1.specs.Setting.{Setting};
+ghost use Rattle.model_state.specs.Body.{pass_rest};
+ghost use Rattle.model_state.specs.Kept.{is_nothing, rest_in};
+ghost use Rattle.model_state.specs.Pull.{IsPull};
+ghost use Rattle.model_state.specs.Pull as pulls;
 ghost use Rattle.h1_payload.specs.Fitting.{Fits};
 ghost use Rattle.h1_payload.specs.Rests.{IsPulled, IsLight};
-ghost use Rattle.h1_client_machine.specs.ClientEvent as on;
-ghost use Rattle.h1_client_machine.specs.ClientKept.{is_free};
-ghost use Rattle.h1_client_machine.specs.ClientStep.{dropping, is_broken, pass};
+ghost use Rattle.model_client.specs.ClientEvent as on;
+ghost use Rattle.model_client.specs.ClientKept.{is_free};
+ghost use Rattle.model_client.specs.ClientStep.{dropping, is_broken, pass};
 ghost use Rattle.h1_client.specs.Bodies.{ended_reading, dropped_reading, is_dropped_in, passed_is_done, passed_breaks, tells_done, breaks_body, failing, IsPassedBody, IsPulledFrom, IsPulledIn, IsLightPull};
 ghost use Rattle.h1_client.specs.Parts.{kept_of, reading_of, MayBeSearched, IsSound, Steps};
 

@@ -1,20 +1,20 @@
 // What a client connection holds of its input: the bytes that were read and not passed, and the search for a head among
 // them.
 ghost use Rattle.std.specs.Prelude.{◌≡◌, ◌≤◌, ◌-◌, ◌++◌, [], Some, None, length, take, drop, min, is_some, slice_range, true, IfOk, IfErr, IsOk, OnOk, OnErr, ℕ};
-ghost use Rattle.h1_client_model.specs.AnswerReading.{Answer, answer_is, refused, IsAnswerReadingWithin};
-ghost use Rattle.h1_decode.specs.HeadPosition.{HasScanned};
-ghost use Rattle.h1_decode.specs.Refusal.{UnlessNoMemory, fault_of};
-ghost use Rattle.h1_decode.specs.ResponseItem.{SaysAnswer};
-ghost use Rattle.h1_machine.specs.Kept.{rest_in};
-ghost use Rattle.h1_machine.specs.Body.{pass_rest};
-ghost use Rattle.h1_machine.specs.Pull.{IsPull};
-ghost use Rattle.h1_machine.specs.Pull as pulls;
+ghost use Rattle.model_client.specs.AnswerReading.{Answer, answer_is, refused, IsAnswerReadingWithin};
+ghost use Rattle.h1_decoder.specs.HeadPosition.{HasScanned};
+ghost use Rattle.h1_decoder.specs.Refusal.{UnlessNoMemory, fault_of};
+ghost use Rattle.h1_decoder.specs.ResponseItem.{SaysAnswer};
+ghost use Rattle.model_state.specs.Kept.{rest_in};
+ghost use Rattle.model_state.specs.Body.{pass_rest};
+ghost use Rattle.model_state.specs.Pull.{IsPull};
+ghost use Rattle.model_state.specs.Pull as pulls;
 ghost use Rattle.h1_payload.specs.Rests.{IsPulled, IsLight};
 ghost use Rattle.h1_client.specs.Incoming.{is_coming_in, IsFound, place_in, CanGoOn, IsSearched};
 
 use bytes::BytesMut;
-use h1_client_heads::read_answer;
-use h1_decode::{HeadScan, HeadScanner, ResponseItem};
+use crate::read_answer;
+use h1_decoder::{HeadScan, HeadScanner, ResponseItem};
 use h1_payload::{Pulled, Rest};
 use http_types::{NoMemory, ParseError};
 use std::alloc::Global;

@@ -1,16 +1,16 @@
 // What is to be written to the server.
 ghost use Rattle.std.specs.Prelude.{◌≡◌, ◌<◌, ◌≤◌, ◌++◌, [], IsTrue, false, length, take, drop, IsOk, OnOk, OnErr};
-ghost use Rattle.h1_codec.specs.Meaning.{size_of, model_type, model_shape};
-ghost use Rattle.h1_model.specs.AnswerText.{end_text};
-ghost use Rattle.h1_model.specs.Limits.{MAX_MOMENT};
-ghost use Rattle.h1_client_model.specs.RequestText.{request_text, asked_shape};
-ghost use Rattle.h1_client_machine.specs.ClientStep.{piece_of};
-ghost use Rattle.h1_request.specs.Meaning.{asked_head, has_text};
+ghost use Rattle.h1_encoder.specs.Meaning.{size_of, model_type, model_shape};
+ghost use Rattle.model_h1.specs.AnswerText.{end_text};
+ghost use Rattle.model_h1.specs.Limits.{MAX_MOMENT};
+ghost use Rattle.model_client.specs.RequestText.{request_text, asked_shape};
+ghost use Rattle.model_client.specs.ClientStep.{piece_of};
+ghost use Rattle.h1_encoder.specs.RequestMeaning.{asked_head, has_text};
 ghost use Rattle.h1_client.specs.Meaning.{marked_type};
 
 use bytes::BytesMut;
-use h1_codec::{Asked, Shape, put_end, put_piece};
-use h1_request::put_request_head;
+use h1_encoder::{Asked, Shape, put_end, put_piece};
+use h1_encoder::put_request_head;
 use http_framing::BodySize;
 use http_types::{ConnectionType, NoMemory, RequestHead, Version};
 use std::alloc::Global;

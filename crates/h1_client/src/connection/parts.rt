@@ -1,6 +1,6 @@
 // What a client connection keeps between two events, part by part.
 ghost use Rattle.std.specs.Prelude.{◌≡◌, false};
-ghost use Rattle.h1_client_machine.specs.ClientKept.{fresh_client, is_free};
+ghost use Rattle.model_client.specs.ClientKept.{fresh_client, is_free};
 ghost use Rattle.h1_client.specs.Parts.{kept_of, MayBeSearched, IsSettled, IsSound};
 
 use crate::ClientEnd;

@@ -1,8 +1,8 @@
 // The conditions of the calls, each asked for itself, and what else the connection says of itself.
 ghost use Rattle.std.specs.Prelude.{◌≡◌, ◌-◌, ℕ, List, length, option_map};
-ghost use Rattle.h1_codec.specs.Meaning.{size_of};
-ghost use Rattle.h1_client_machine.specs.ClientEvent as on;
-ghost use Rattle.h1_client_machine.specs.ClientKept.{client_allows, client_closing, is_reusable};
+ghost use Rattle.h1_encoder.specs.Meaning.{size_of};
+ghost use Rattle.model_client.specs.ClientEvent as on;
+ghost use Rattle.model_client.specs.ClientKept.{client_allows, client_closing, is_reusable};
 ghost use Rattle.h1_client.specs.Meaning.{setting_of, request_of, end_of};
 
 use crate::ClientEnd;

@@ -1,6 +1,6 @@
 // The requests that wait for their answers.
 ghost use Rattle.std.specs.Prelude.{◌≡◌, ◌∷◌, ◌++◌, [], drop, length, not, OnOk, OnErr};
-ghost use Rattle.h1_client_machine.specs.ClientKept.{is_waited_for};
+ghost use Rattle.model_client.specs.ClientKept.{is_waited_for};
 ghost use Rattle.h1_client.specs.Parts.{IsFirst, AreFirst};
 
 use http_types::{Method, NoMemory};
@@ -16,7 +16,7 @@ pub struct Waiting {
 }
 
 impl Model for Waiting {
-    ghost use Rattle.h1_client_machine.specs.ClientKept as machine;
+    ghost use Rattle.model_client.specs.ClientKept as machine;
 
     ghost Value = { machine.Waiting };
 
@@ -57,7 +57,7 @@ pub struct Queue {
 
 impl Model for Queue {
     ghost use Rattle.std.specs.Prelude.{List};
-    ghost use Rattle.h1_client_machine.specs.ClientKept as machine;
+    ghost use Rattle.model_client.specs.ClientKept as machine;
 
     ghost Value = { List machine.Waiting };
 

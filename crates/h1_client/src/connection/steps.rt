@@ -1,8 +1,8 @@
 // What bytes, the end of the input, writes and ticks do to the parts.
 ghost use Rattle.std.specs.Prelude.{◌≡◌, ◌≤◌, ◌<◌, length, take, IfOk, OnOk, OnErr};
-ghost use Rattle.h1_model.specs.Limits.{MAX_MOMENT};
-ghost use Rattle.h1_model.specs.Setting.{Setting};
-ghost use Rattle.h1_client_machine.specs.ClientEvent as on;
+ghost use Rattle.model_h1.specs.Limits.{MAX_MOMENT};
+ghost use Rattle.model_h1.specs.Setting.{Setting};
+ghost use Rattle.model_client.specs.ClientEvent as on;
 ghost use Rattle.h1_client.specs.Meaning.{setting_of};
 ghost use Rattle.h1_client.specs.Parts.{kept_of, IsSound, Steps};
 

@@ -1,15 +1,15 @@
 // Heads that were read before they are asked for.
 ghost use Rattle.std.specs.Prelude.{◌≡◌, ◌<◌, ◌≤◌, ◌+◌, ◌^◌, ◌++◌, ℕ, List, [], ◌∷◌, None, true, false, not, length, take, drop, IfSome, IfNone, IfOk, IfErr, OnOk, OnErr};
 ghost use Rattle.http_framing.specs.Kinds.{kind_of};
-ghost use Rattle.h1_decode.specs.Refusal.{UnlessNoMemory, fault_of};
-ghost use Rattle.h1_model.specs.HeadPiece.{IsHeadPiece};
-ghost use Rattle.h1_model.specs.Request.{has_body};
+ghost use Rattle.h1_decoder.specs.Refusal.{UnlessNoMemory, fault_of};
+ghost use Rattle.model_h1.specs.HeadPiece.{IsHeadPiece};
+ghost use Rattle.model_h1.specs.Request.{has_body};
 ghost use Rattle.h1_connection.specs.Ahead.{joined, has_no_body, may_go_on, AreRead, IsReadInto, IsReadNext};
 ghost use Rattle.h1_connection.specs.Incoming.{IsHeadOf, IsNextFault, IsTakenHead, IsWhole};
 
 use crate::connection::input::{Found, Input};
 use bytes::Bytes;
-use h1_decode::{BodyKind, HeadItem, HeadRoom};
+use h1_decoder::{BodyKind, HeadItem, HeadRoom};
 use http_types::{Method, NoMemory, ParseError, Uri, Version};
 use std::alloc::Global;
 use std::marker::Model;

@@ -1,11 +1,11 @@
 // Which events may come next.
 ghost use Rattle.std.specs.Prelude.{◌≡◌, ◌+◌, ◌&&◌, ◌||◌, not, nat_le, is_some, ℕ, List};
-ghost use Rattle.h1_model.specs.Answer.{AnswerHead, BodySize};
-ghost use Rattle.h1_model.specs.Event as on;
-ghost use Rattle.h1_model.specs.Frame.{Message};
-ghost use Rattle.h1_model.specs.Limits.{MAX_FRAME_HEAD};
-ghost use Rattle.h1_machine.specs.Kept.{of_exchange, is_frames, is_unanswered, is_answered, is_upgraded};
-ghost use Rattle.h1_machine.specs.Local.{closing_by, allowed_by, has_body_left, waits_for_answer, is_answering, is_moment};
+ghost use Rattle.model_h1.specs.Answer.{AnswerHead, BodySize};
+ghost use Rattle.model_h1.specs.Event as on;
+ghost use Rattle.model_h1.specs.Frame.{Message};
+ghost use Rattle.model_h1.specs.Limits.{MAX_FRAME_HEAD};
+ghost use Rattle.model_state.specs.Kept.{of_exchange, is_frames, is_unanswered, is_answered, is_upgraded};
+ghost use Rattle.model_state.specs.Local.{closing_by, allowed_by, has_body_left, waits_for_answer, is_answering, is_moment};
 ghost use Rattle.h1_connection.specs.Given.{next_allowed, frame_allowed};
 ghost use Rattle.h1_connection.specs.Meaning.{setting_of, event_of};
 ghost use Rattle.h1_connection.specs.Parts.{kept_of, reply_of, IsSound};
@@ -54,7 +54,7 @@ impl Parts {
         !self.is_over && self.noted_closing(config).is_none()
     }
 
-    #[tactic(auto, unfolding(h1_machine::specs::Local::allowed_by))]
+    #[tactic(auto, unfolding(model_state::specs::Local::allowed_by))]
     pub fn can_read(&self, config: &ServiceConfig) -> bool
         requires { IsSound config.now self.now }
         ensures read { (bytes : List ℕ) → result ≡ allowed_by (setting_of config.now) (kept_of self.now) (on.read bytes) }
@@ -63,7 +63,7 @@ impl Parts {
         self.is_running(config) && !self.has_ended
     }
 
-    #[tactic(auto, unfolding(h1_machine::specs::Local::allowed_by))]
+    #[tactic(auto, unfolding(model_state::specs::Local::allowed_by))]
     pub fn can_next(&self, config: &ServiceConfig) -> bool
         requires { IsSound config.now self.now }
         ensures { result ≡ allowed_by (setting_of config.now) (kept_of self.now) on.next }
@@ -83,7 +83,7 @@ impl Parts {
         self.can_next(config) && (!closes || is_written)
     }
 
-    #[tactic(auto, unfolding(h1_machine::specs::Local::allowed_by))]
+    #[tactic(auto, unfolding(model_state::specs::Local::allowed_by))]
     pub fn can_pull(&self, config: &ServiceConfig) -> bool
         requires { IsSound config.now self.now }
         ensures { result ≡ allowed_by (setting_of config.now) (kept_of self.now) on.drop_body }
@@ -93,7 +93,7 @@ impl Parts {
     }
 
     /// The same, of a frame.
-    #[tactic(auto, unfolding(h1_machine::specs::Local::allowed_by))]
+    #[tactic(auto, unfolding(model_state::specs::Local::allowed_by))]
     pub fn can_pull_frame(&self, config: &ServiceConfig) -> bool
         requires { IsSound config.now self.now }
         ensures { result ≡ frame_allowed (setting_of config.now) (kept_of self.now) }
@@ -113,7 +113,7 @@ impl Parts {
         self.can_pull_frame(config)
     }
 
-    #[tactic(auto, unfolding(h1_machine::specs::Local::allowed_by))]
+    #[tactic(auto, unfolding(model_state::specs::Local::allowed_by))]
     pub fn can_accept(&self, config: &ServiceConfig, limit: usize) -> bool
         requires { IsSound config.now self.now }
         ensures { result ≡ allowed_by (setting_of config.now) (kept_of self.now) (on.accept limit) }
@@ -122,7 +122,7 @@ impl Parts {
         self.is_running(config) && may_upgrade && holds_frame(config, limit)
     }
 
-    #[tactic(auto, unfolding(h1_machine::specs::Local::allowed_by))]
+    #[tactic(auto, unfolding(model_state::specs::Local::allowed_by))]
     pub fn can_send(&self, config: &ServiceConfig) -> bool
         requires { IsSound config.now self.now }
         ensures { (message : Message) → result ≡ allowed_by (setting_of config.now) (kept_of self.now) (on.send message) }
@@ -132,7 +132,7 @@ impl Parts {
         self.is_running(config) && is_upgraded && has_room
     }
 
-    #[tactic(auto, unfolding(h1_machine::specs::Local::allowed_by))]
+    #[tactic(auto, unfolding(model_state::specs::Local::allowed_by))]
     pub fn can_continue(&self, config: &ServiceConfig) -> bool
         requires { IsSound config.now self.now }
         ensures { result ≡ allowed_by (setting_of config.now) (kept_of self.now) on.send_continue }
@@ -141,7 +141,7 @@ impl Parts {
         self.is_running(config) && waits
     }
 
-    #[tactic(auto, unfolding(h1_machine::specs::Local::allowed_by))]
+    #[tactic(auto, unfolding(model_state::specs::Local::allowed_by))]
     pub fn can_answer(&self, config: &ServiceConfig) -> bool
         requires { IsSound config.now self.now }
         ensures { (head : AnswerHead) (size : BodySize) → result ≡ allowed_by (setting_of config.now) (kept_of self.now) (on.answer head size) }
@@ -150,7 +150,7 @@ impl Parts {
         self.is_running(config) && waits
     }
 
-    #[tactic(auto, unfolding(h1_machine::specs::Local::allowed_by))]
+    #[tactic(auto, unfolding(model_state::specs::Local::allowed_by))]
     pub fn can_chunk(&self, config: &ServiceConfig) -> bool
         requires { IsSound config.now self.now }
         ensures { (bytes : List ℕ) → result ≡ allowed_by (setting_of config.now) (kept_of self.now) (on.chunk bytes) }
@@ -160,7 +160,7 @@ impl Parts {
         self.is_running(config) && is_answering && has_room
     }
 
-    #[tactic(auto, unfolding(h1_machine::specs::Local::allowed_by))]
+    #[tactic(auto, unfolding(model_state::specs::Local::allowed_by))]
     pub fn can_end_answer(&self, config: &ServiceConfig) -> bool
         requires { IsSound config.now self.now }
         ensures ends { result ≡ allowed_by (setting_of config.now) (kept_of self.now) on.body_end }
@@ -171,7 +171,7 @@ impl Parts {
     }
 
     // `config` is named by the clause alone.
-    #[tactic(auto, unfolding(h1_machine::specs::Local::allowed_by))]
+    #[tactic(auto, unfolding(model_state::specs::Local::allowed_by))]
     pub fn can_write(&self, config: &ServiceConfig) -> bool
         ensures { (limit : ℕ) → result ≡ allowed_by (setting_of config.now) (kept_of self.now) (on.write limit) }
     {
@@ -180,7 +180,7 @@ impl Parts {
     }
 
     // The same, of a moment, which never goes back.
-    #[tactic(auto, unfolding(h1_machine::specs::Local::allowed_by))]
+    #[tactic(auto, unfolding(model_state::specs::Local::allowed_by))]
     pub fn can_tick(&self, config: &ServiceConfig, moment: u64) -> bool
         ensures { result ≡ allowed_by (setting_of config.now) (kept_of self.now) (on.tick moment) }
     {
@@ -188,7 +188,7 @@ impl Parts {
         !self.is_over && self.clock.now() <= moment && moment < MOMENTS_END
     }
 
-    #[tactic(auto, unfolding(h1_machine::specs::Local::allowed_by))]
+    #[tactic(auto, unfolding(model_state::specs::Local::allowed_by))]
     pub fn can_drain(&self, config: &ServiceConfig) -> bool
         requires { IsSound config.now self.now }
         ensures { result ≡ allowed_by (setting_of config.now) (kept_of self.now) on.drain }

@@ -1,16 +1,16 @@
 // What an answer, a piece of its body and its end do to the parts.
 ghost use Rattle.std.specs.Prelude.{◌≡◌, true, None, option_map, IsOk, OnOk, OnErr};
 ghost use Rattle.std.specs.Option.{option_or};
-ghost use Rattle.h1_codec.specs.Meaning.{answer_of, size_of, model_shape};
-ghost use Rattle.h1_model.specs.Setting.{keeps};
-ghost use Rattle.h1_model.specs.Answer as answers;
-ghost use Rattle.h1_model.specs.End as ends;
-ghost use Rattle.h1_model.specs.Event as on;
-ghost use Rattle.h1_model.specs.Closing.{end_where};
-ghost use Rattle.h1_machine.specs.Local.{waits_for_answer};
-ghost use Rattle.h1_machine.specs.Body.{passing};
-ghost use Rattle.h1_machine.specs.Reply.{stated, short_end};
-ghost use Rattle.h1_segment_model.specs.After.{marks_after};
+ghost use Rattle.h1_encoder.specs.Meaning.{answer_of, size_of, model_shape};
+ghost use Rattle.model_h1.specs.Setting.{keeps};
+ghost use Rattle.model_h1.specs.Answer as answers;
+ghost use Rattle.model_h1.specs.End as ends;
+ghost use Rattle.model_h1.specs.Event as on;
+ghost use Rattle.model_h1.specs.Closing.{end_where};
+ghost use Rattle.model_state.specs.Local.{waits_for_answer};
+ghost use Rattle.model_state.specs.Body.{passing};
+ghost use Rattle.model_state.specs.Reply.{stated, short_end};
+ghost use Rattle.model_state.specs.After.{marks_after};
 ghost use Rattle.h1_connection.specs.Meaning.{setting_of, end_of, keep_alive_of};
 ghost use Rattle.h1_connection.specs.Unsent.{SendsNoPiece, SendsNoEnd};
 ghost use Rattle.h1_connection.specs.Parts.{kept_of, HasNoneBehind, asked_in, sending_in, replied, completed, IsSettled, IsSound, Steps};
@@ -19,7 +19,7 @@ use crate::End;
 use crate::connection::exchange::{Reply, Sending};
 use crate::connection::parts::Parts;
 use bytes::Bytes;
-use h1_codec::{Asked, Shape, shape_of, type_of};
+use h1_encoder::{Asked, Shape, shape_of, type_of};
 use http_framing::BodySize;
 use http_types::{ConnectionType, KeepAlive, NoMemory, ResponseHead, ServiceConfig};
 

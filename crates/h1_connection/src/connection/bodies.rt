@@ -1,9 +1,9 @@
 // What a pull does to the parts.
 ghost use Rattle.std.specs.Prelude.{◌≡◌, ◌||◌, true, false, None, IfOk, IsOk, OnErr, OnOk};
-ghost use Rattle.h1_model.specs.Event as on;
-ghost use Rattle.h1_machine.specs.Kept.{is_frames, is_nothing, is_open, is_upgraded};
-ghost use Rattle.h1_machine.specs.Pull.{IsPull};
-ghost use Rattle.h1_machine.specs.Pull as pulls;
+ghost use Rattle.model_h1.specs.Event as on;
+ghost use Rattle.model_state.specs.Kept.{is_frames, is_nothing, is_open, is_upgraded};
+ghost use Rattle.model_state.specs.Pull.{IsPull};
+ghost use Rattle.model_state.specs.Pull as pulls;
 ghost use Rattle.h1_payload.specs.Rests.{SaysPulled, IsLight};
 ghost use Rattle.h1_connection.specs.Parts.{kept_of, IsSound, Steps};
 ghost use Rattle.h1_connection.specs.Pulls.{tells_done, IsPulledFrom, IsPullOf, IsLightPull};

@@ -1,7 +1,7 @@
 // The last request that was handed out, without its head, and what happened since.
 ghost use Rattle.std.specs.Prelude.{◌≡◌, ◌||◌, false, not, None, option_map};
-ghost use Rattle.h1_machine.specs.Kept.{is_frames, is_nothing, is_answered, is_unanswered, is_sending_body};
-ghost use Rattle.h1_machine.specs.Local.{answered_end_of};
+ghost use Rattle.model_state.specs.Kept.{is_frames, is_nothing, is_answered, is_unanswered, is_sending_body};
+ghost use Rattle.model_state.specs.Local.{answered_end_of};
 ghost use Rattle.h1_connection.specs.Meaning.{end_of};
 ghost use Rattle.h1_connection.specs.Parts.{reply_of, exchange_of, is_done, passed_by, sending_by};
 
@@ -9,7 +9,7 @@ use crate::End;
 use crate::connection::intake::Intake;
 use crate::connection::reading::Reading;
 use crate::connection::request::Request;
-use h1_codec::Shape;
+use h1_encoder::Shape;
 use http_types::ConnectionType;
 
 /// The body of an answer that is going out.

@@ -1,10 +1,10 @@
 // What an upgrade to WebSocket does to the parts, and then its frames and messages.
 ghost use Rattle.std.specs.Prelude.{◌≡◌, true, false, None, IfOk, IsOk, OnErr, OnOk, option_map};
 ghost use Rattle.std.specs.Option.{option_or};
-ghost use Rattle.h1_model.specs.FrameText.{send_error};
-ghost use Rattle.h1_model.specs.Event as on;
-ghost use Rattle.h1_machine.specs.Kept.{is_frames, is_upgraded};
-ghost use Rattle.h1_machine.specs.Local.{waits_for_answer};
+ghost use Rattle.model_h1.specs.FrameText.{send_error};
+ghost use Rattle.model_h1.specs.Event as on;
+ghost use Rattle.model_state.specs.Kept.{is_frames, is_upgraded};
+ghost use Rattle.model_state.specs.Local.{waits_for_answer};
 ghost use Rattle.ws_frames.specs.Refusal.{refusal};
 ghost use Rattle.ws_frames.specs.Sent.{message_says, sending_after};
 ghost use Rattle.h1_connection.specs.Meaning.{end_of};

@@ -3,21 +3,21 @@ ghost use Rattle.std.specs.Prelude.{◌≡◌, ◌≢◌, ◌<◌, ◌≤◌, �
 ghost use Rattle.std.specs.Io.KnownBytes.{Consumes, Keeps, IsAtEnd};
 ghost use Rattle.http_config.specs.Causes.{Rose, counted, IsAsked};
 ghost use Rattle.http_framing.specs.Kinds.{kind_of};
-ghost use Rattle.h1_decode.specs.HeadItem.{SaysHead, without_headers};
-ghost use Rattle.h1_decode.specs.Refusal.{UnlessNoMemory, fault_of};
-ghost use Rattle.h1_decode.specs.HeadPosition.{HasScanned};
-ghost use Rattle.h1_model.specs.HeadPiece.{IsHeadPiece};
-ghost use Rattle.h1_model.specs.FrameText.{front_frame};
-ghost use Rattle.h1_model.specs.Parse.{connection_reader};
-ghost use Rattle.h1_model.specs.Request.{Head, head_is, faulty, has_body};
-ghost use Rattle.h1_model.specs.RequestHead.{IsReading};
-ghost use Rattle.h1_machine.specs.Kept.{rest_in, is_nothing};
-ghost use Rattle.h1_machine.specs.Local.{is_partial};
+ghost use Rattle.h1_decoder.specs.HeadItem.{SaysHead, without_headers};
+ghost use Rattle.h1_decoder.specs.Refusal.{UnlessNoMemory, fault_of};
+ghost use Rattle.h1_decoder.specs.HeadPosition.{HasScanned};
+ghost use Rattle.model_h1.specs.HeadPiece.{IsHeadPiece};
+ghost use Rattle.model_h1.specs.FrameText.{front_frame};
+ghost use Rattle.model_h1.specs.Parse.{connection_reader};
+ghost use Rattle.model_h1.specs.Request.{Head, head_is, faulty, has_body};
+ghost use Rattle.model_h1.specs.RequestHead.{IsReading};
+ghost use Rattle.model_state.specs.Kept.{rest_in, is_nothing};
+ghost use Rattle.model_state.specs.Local.{is_partial};
 ghost use Rattle.ws_frames.specs.Codec.{IsTakenNamed};
 ghost use Rattle.ws_frames.specs.Fronts.{FrontTaken};
-ghost use Rattle.h1_machine.specs.Body.{pass_rest};
-ghost use Rattle.h1_machine.specs.Pull.{IsPull};
-ghost use Rattle.h1_machine.specs.Pull as pulls;
+ghost use Rattle.model_state.specs.Body.{pass_rest};
+ghost use Rattle.model_state.specs.Pull.{IsPull};
+ghost use Rattle.model_state.specs.Pull as pulls;
 ghost use Rattle.h1_payload.specs.Rests.{IsPulled, IsLight};
 ghost use Rattle.h1_connection.specs.Scan.{scan_of};
 ghost use Rattle.h1_connection.specs.Incoming.{is_coming_in, IsFound, IsWhole, IsHeadOf, IsNextHead, IsNextFault, IsAlone, IsPassedHead, IsTakenHead, IsSearched, IsCutNoted, incoming, due_in, CanGoOn, GoesOnIn, HasSearched, IsCaughtUp};
@@ -27,7 +27,7 @@ use crate::connection::READ_SIZE;
 use crate::connection::filling::{make_room, read_behind};
 use crate::connection::reading::Frames;
 use bytes::{Bytes, BytesMut};
-use h1_decode::{
+use h1_decoder::{
     FrontHead, HeadItem, HeadRoom, HeadScan, HeadScanner, cut_head_into, read_lone_head_into,
     scan_head,
 };

@@ -1,8 +1,8 @@
 // The bytes of the messages that a server sends: no mask is put on them (RFC 6455, section 5.1).
 ghost use Rattle.std.specs.Prelude.{◌≡◌, ◌++◌, true, Some, IfOk, OnErr, OnOk, IsOk, option_map};
-ghost use Rattle.h1_model.specs.Frame.{nop};
-ghost use Rattle.h1_model.specs.FrameText.{close_payload, print_frame, frame_text};
-ghost use Rattle.h1_model.specs.Text.{message_text};
+ghost use Rattle.model_h1.specs.Frame.{nop};
+ghost use Rattle.model_h1.specs.FrameText.{close_payload, print_frame, frame_text};
+ghost use Rattle.model_h1.specs.Text.{message_text};
 ghost use Rattle.ws_frames.specs.Close.{reason_says};
 ghost use Rattle.ws_frames.specs.Codec.{item_says};
 ghost use Rattle.ws_frames.specs.Protocol.{opcode_written};
@@ -14,7 +14,7 @@ use std::alloc::Global;
 use ws_frames::{CloseReason, Item, Message, OpCode, Parser};
 
 /// Puts a message behind the bytes. To put nothing takes no memory.
-#[tactic(auto, unfolding(h1_model::specs::FrameText::frame_text))]
+#[tactic(auto, unfolding(model_h1::specs::FrameText::frame_text))]
 pub fn put_message(out: &mut BytesMut, message: &Message) -> Result<(), NoMemory>
     ensures ok { OnOk result (out.new.items ≡ out.old.items ++ message_text (message_says message.now)) }
     ensures err { OnErr result (out.new.items ≡ out.old.items) }
@@ -43,7 +43,7 @@ fn put_frame(out: &mut BytesMut, payload: &[u8], op: OpCode) -> Result<(), NoMem
 }
 
 // A frame that is a part of a message (RFC 6455, section 5.4).
-#[tactic(auto, unfolding(h1_model::specs::FrameText::frame_text))]
+#[tactic(auto, unfolding(model_h1::specs::FrameText::frame_text))]
 fn put_fragment(out: &mut BytesMut, item: &Item) -> Result<(), NoMemory>
     ensures ok { OnOk result (out.new.items ≡ out.old.items ++ frame_text (item_says item.now)) }
     ensures err { OnErr result (out.new.items ≡ out.old.items) }

@@ -1,27 +1,27 @@
 // What is to be written to the peer.
 ghost use Rattle.std.specs.Prelude.{◌≡◌, ◌<◌, ◌≤◌, ◌==◌, ◌++◌, [], length, take, drop, min, IfOk, OnOk, OnErr, IsOk};
-ghost use Rattle.h1_codec.specs.Meaning.{answer_of, size_of, model_type, model_shape};
-ghost use Rattle.h1_model.specs.Limits.{MAX_MOMENT};
-ghost use Rattle.h1_model.specs.Answer as answers;
-ghost use Rattle.h1_model.specs.AnswerText.{head_text, sent_end, interim_text, timeout_text};
-ghost use Rattle.h1_model.specs.Frame.{nop};
-ghost use Rattle.h1_model.specs.Text.{fault_answer, message_text};
+ghost use Rattle.h1_encoder.specs.Meaning.{answer_of, size_of, model_type, model_shape};
+ghost use Rattle.model_h1.specs.Limits.{MAX_MOMENT};
+ghost use Rattle.model_h1.specs.Answer as answers;
+ghost use Rattle.model_h1.specs.AnswerText.{head_text, sent_end, interim_text, timeout_text};
+ghost use Rattle.model_h1.specs.Frame.{nop};
+ghost use Rattle.model_h1.specs.Text.{fault_answer, message_text};
 ghost use Rattle.ws_frames.specs.Sent.{message_says};
-ghost use Rattle.h1_machine.specs.Reply.{piece_sent};
-ghost use Rattle.h1_segment_model.specs.Runs.{IsFirstSegment};
-ghost use Rattle.http_segments.specs.Queued.{nothing, with_text, behind, front_of, IsStretch};
+ghost use Rattle.model_state.specs.Reply.{piece_sent};
+ghost use Rattle.model_state.specs.Runs.{IsFirstSegment};
+ghost use Rattle.h1_output.specs.Queued.{nothing, with_text, behind, front_of, IsStretch};
 ghost use Rattle.h1_connection.specs.Meaning.{fault_of};
 ghost use Rattle.h1_connection.specs.Sent.{with_sent, with_chunk, accepting_text};
 
 use crate::HeadFault;
 use crate::connection::messages::put_message;
 use bytes::{Bytes, BytesMut};
-use h1_codec::{
+use h1_encoder::{
     Asked, DateLine, Shape, SizeLine, first_bytes, put_accept, put_answer_head, put_bad_request,
     put_end, put_interim, put_timeout, put_too_large,
 };
 use http_framing::BodySize;
-use http_segments::Segments;
+use h1_output::Segments;
 use http_types::{ConnectionType, NoMemory, ResponseHead};
 use std::alloc::Global;
 use std::marker::Model;
@@ -37,7 +37,7 @@ pub struct Output {
 }
 
 impl Model for Output {
-    ghost use Rattle.http_segments.specs.Queued.{Queued};
+    ghost use Rattle.h1_output.specs.Queued.{Queued};
 
     ghost Value = { Queued };
 

@@ -1,9 +1,9 @@
 // What a connection keeps between two events, part by part.
 ghost use Rattle.std.specs.Prelude.{◌≡◌, false, []};
 ghost use Rattle.http_config.specs.Config.{Settings};
-ghost use Rattle.h1_machine.specs.Kept.{fresh, is_free, is_open, is_upgraded};
-ghost use Rattle.h1_machine.specs.Body.{passing};
-ghost use Rattle.h1_machine.specs.Change.{noting_since};
+ghost use Rattle.model_state.specs.Kept.{fresh, is_free, is_open, is_upgraded};
+ghost use Rattle.model_state.specs.Body.{passing};
+ghost use Rattle.model_state.specs.Change.{noting_since};
 ghost use Rattle.h1_connection.specs.Meaning.{setting_of};
 ghost use Rattle.h1_connection.specs.Parts.{kept_of, MayBeSearched, IsSearchedFor, IsSettled, IsSound};
 

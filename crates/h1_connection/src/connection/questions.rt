@@ -1,12 +1,12 @@
 // The conditions of the calls, each asked for itself.
 ghost use Rattle.std.specs.Prelude.{◌≡◌, ◌-◌, ℕ, List, length, true, is_some};
-ghost use Rattle.h1_model.specs.Answer.{AnswerHead, BodySize};
-ghost use Rattle.h1_model.specs.Deadline.{IsDeadline};
-ghost use Rattle.h1_model.specs.Sums as sums;
-ghost use Rattle.h1_model.specs.Event as on;
-ghost use Rattle.h1_model.specs.Frame.{Message};
-ghost use Rattle.h1_machine.specs.Local.{closing_by, allowed_by};
-ghost use Rattle.h1_machine.specs.Deadline.{deadline_by};
+ghost use Rattle.model_h1.specs.Answer.{AnswerHead, BodySize};
+ghost use Rattle.model_h1.specs.Deadline.{IsDeadline};
+ghost use Rattle.model_h1.specs.Sums as sums;
+ghost use Rattle.model_h1.specs.Event as on;
+ghost use Rattle.model_h1.specs.Frame.{Message};
+ghost use Rattle.model_state.specs.Local.{closing_by, allowed_by};
+ghost use Rattle.model_state.specs.Deadline.{deadline_by};
 ghost use Rattle.h1_connection.specs.Meaning.{setting_of};
 ghost use Rattle.h1_connection.specs.Given.{next_allowed, frame_allowed};
 ghost use Rattle.h1_connection.specs.State.{IsAllowed, Stands};

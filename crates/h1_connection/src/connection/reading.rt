@@ -1,10 +1,10 @@
 // How the bytes after a head are read: as the body of its request, or as the frames of a WebSocket.
 ghost use Rattle.std.specs.Prelude.{◌≡◌, true, false, None, option_map, OnOk, OnErr, IfOk, IsOk};
-ghost use Rattle.h1_machine.specs.Body.{pass_rest};
-ghost use Rattle.h1_machine.specs.Kept.{frames_rest, is_frames, is_nothing, rest_in};
-ghost use Rattle.h1_machine.specs.Local.{rest_end, has_no_frame};
-ghost use Rattle.h1_machine.specs.Pull.{IsPull};
-ghost use Rattle.h1_machine.specs.Pull as pulls;
+ghost use Rattle.model_state.specs.Body.{pass_rest};
+ghost use Rattle.model_state.specs.Kept.{frames_rest, is_frames, is_nothing, rest_in};
+ghost use Rattle.model_state.specs.Local.{rest_end, has_no_frame};
+ghost use Rattle.model_state.specs.Pull.{IsPull};
+ghost use Rattle.model_state.specs.Pull as pulls;
 ghost use Rattle.h1_payload.specs.Rests.{IsPulled, IsLight};
 ghost use Rattle.h1_connection.specs.Frames.{IsFramePulled, IsLightFrame};
 ghost use Rattle.h1_connection.specs.Meaning.{end_of};
@@ -66,7 +66,7 @@ pub struct Reading {
 }
 
 impl Model for Reading {
-    ghost use Rattle.h1_machine.specs.Kept as machine;
+    ghost use Rattle.model_state.specs.Kept as machine;
 
     ghost Value = { machine.Rest };
 

@@ -1,5 +1,5 @@
 // What a connection keeps of a request, which never changes.
-use h1_codec::Asked;
+use h1_encoder::Asked;
 use ws_session::HandshakeError;
 
 /// What is kept of a request.

@@ -2,9 +2,9 @@
 ghost use Rattle.std.specs.Prelude.{◌≡◌, ◌≢◌, ◌≤◌, ◌<◌, ◌↔◌, ℕ, List, false, length, IfOk, IfErr, OnOk, OnErr, IsOk, IsErrOf, take, drop, min};
 ghost use Rattle.std.specs.Io.KnownBytes.{Consumes, Keeps, IsAtEnd};
 ghost use Rattle.http_config.specs.Causes.{Rose, counted, IsAsked};
-ghost use Rattle.h1_model.specs.Event as on;
-ghost use Rattle.h1_machine.specs.Kept.{is_free};
-ghost use Rattle.h1_segment_model.specs.Runs.{runs_behind};
+ghost use Rattle.model_h1.specs.Event as on;
+ghost use Rattle.model_state.specs.Kept.{is_free};
+ghost use Rattle.model_state.specs.Runs.{runs_behind};
 ghost use Rattle.h1_connection.specs.Parts.{kept_of, ended_exchange, dropped, with_continue, IsSound, Steps, StepsIn};
 
 use crate::connection::READ_SIZE;

@@ -1,12 +1,12 @@
 // What a tick does to the parts.
 ghost use Rattle.std.specs.Prelude.{◌≡◌, ◌<◌, ◌&&◌, ◌⊎◌, false, Some, IsSome, IfOk, OnOk, OnErr, IsOk};
-ghost use Rattle.h1_model.specs.Deadline.{is_due};
-ghost use Rattle.h1_model.specs.Limits.{MAX_MOMENT};
-ghost use Rattle.h1_model.specs.End as ends;
-ghost use Rattle.h1_model.specs.Event as on;
-ghost use Rattle.h1_machine.specs.Kept.{is_answered, is_nothing, of_exchange};
-ghost use Rattle.h1_machine.specs.Local.{closing_by};
-ghost use Rattle.h1_machine.specs.Clock.{is_abandoned, is_slow, is_idle, expiring};
+ghost use Rattle.model_h1.specs.Deadline.{is_due};
+ghost use Rattle.model_h1.specs.Limits.{MAX_MOMENT};
+ghost use Rattle.model_h1.specs.End as ends;
+ghost use Rattle.model_h1.specs.Event as on;
+ghost use Rattle.model_state.specs.Kept.{is_answered, is_nothing, of_exchange};
+ghost use Rattle.model_state.specs.Local.{closing_by};
+ghost use Rattle.model_state.specs.Clock.{is_abandoned, is_slow, is_idle, expiring};
 ghost use Rattle.h1_connection.specs.Meaning.{setting_of};
 ghost use Rattle.h1_connection.specs.Parts.{kept_of, MayBeSearched, IsSound, Steps};
 ghost use Rattle.h1_connection.specs.Ticks.{expiry_of, IsQuietTick};

@@ -1,5 +1,5 @@
 //! What answers mean to a request by HEAD.
-use h1_client_heads::{BodyKind, body_to, closes_after, fault_by, is_interim, read_answer};
+use h1_client::{BodyKind, body_to, closes_after, fault_by, is_interim, read_answer};
 use http_types::NoMemory;
 use std::alloc::Global;
 use std::test::Fail;

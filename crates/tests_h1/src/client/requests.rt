@@ -1,6 +1,6 @@
 //! The text of a request.
 use bytes::BytesMut;
-use h1_request::{has_text, put_request_head};
+use h1_encoder::{has_text, put_request_head};
 use http_framing::BodySize;
 use http_types::header::{CONTENT_TYPE, HOST, HeaderValue};
 use http_types::{ConnectionType, NoMemory, RequestHead};

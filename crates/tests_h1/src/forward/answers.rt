@@ -1,7 +1,7 @@
 //! An answer, as a client gets it.
 use bytes::Bytes;
-use h1_decode::{ResponseItem, response_head};
-use h1_forward_heads::{reply_head, reply_size};
+use h1_decoder::{ResponseItem, response_head};
+use proxy_heads::{reply_head, reply_size};
 use http_framing::BodySize;
 use http_types::ResponseHead;
 use std::alloc::Global;

@@ -2,7 +2,7 @@
 use crate::hubs::words::Words;
 use bytes::Bytes;
 use std::alloc::Global;
-use ws_hub::{Event, HubEvent, NoMemory};
+use rooms::{Event, HubEvent, NoMemory};
 
 // A request for a WebSocket, before and after its target.
 const METHOD: &[u8] = b"GET ";

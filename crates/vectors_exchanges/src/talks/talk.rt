@@ -1,7 +1,7 @@
 //! What is asked and answered, as the lines of a block say it.
 use bytes::Bytes;
 use h1_connection::{BodySize, ConnectionType, HeadItem, NoMemory, ResponseHead, StatusCode};
-use h1_decode::request_head;
+use h1_decoder::request_head;
 use http_types::ParseError;
 use http_types::header::{HeaderName, value_of_bytes};
 use std::alloc::Global;

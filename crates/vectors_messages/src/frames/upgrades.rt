@@ -1,6 +1,6 @@
 //! Requests that ask for an upgrade to WebSocket.
 use bytes::Bytes;
-use h1_decode::{HeadItem, request_head};
+use h1_decoder::{HeadItem, request_head};
 use http_types::{NoMemory, ParseError, ResponseHead};
 use std::alloc::{AllocError, Global};
 use vectors::{Case, Report};

@@ -1,6 +1,6 @@
 //! Texts of answers.
 use bytes::BytesMut;
-use h1_codec::{
+use h1_encoder::{
     Asked, DateLine, EncodeError, Shape, TransferEncoding, put_answer_head, put_bad_request,
     put_end, put_interim, put_piece, put_timeout, put_too_large, shape_of, type_of,
 };

@@ -1,6 +1,6 @@
 //! Heads: where they begin and end, and what they say.
 use bytes::Bytes;
-use h1_decode::{BodyKind, HeadItem, HeadScan, request_head, scan_head};
+use h1_decoder::{BodyKind, HeadItem, HeadScan, request_head, scan_head};
 use http_types::{ConnectionType, NoMemory, ParseError};
 use std::alloc::Global;
 use vectors::{Case, Report};

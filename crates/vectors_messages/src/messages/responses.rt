@@ -1,7 +1,7 @@
 //! Heads of answers: what they say.
 use crate::messages::heads::{connection_word, put_error, put_kind};
 use bytes::Bytes;
-use h1_decode::{ResponseItem, response_head};
+use h1_decoder::{ResponseItem, response_head};
 use http_types::{NoMemory, Version};
 use std::alloc::Global;
 use vectors::{Case, Report};

@@ -1,6 +1,6 @@
 //! Plays a connection.
 ghost use Rattle.http_services.specs.Serving.{unknown_call};
-ghost use Rattle.h1_dispatch.specs.View.{MayBePolled};
+ghost use Rattle.h1_dispatcher.specs.View.{MayBePolled};
 
 use crate::dispatch::body::Page;
 use crate::dispatch::report::{
@@ -11,8 +11,8 @@ use crate::dispatch::setup::{Cut, Setup};
 use crate::dispatch::step::Step;
 use crate::dispatch::wire::Lingering;
 use futures::task::{Doorbell, Poll, Solo};
-use h1_dispatch::{Accepting, Dispatcher, Upgraded};
-use h1_line::Recorder;
+use h1_dispatcher::{Accepting, Dispatcher, Upgraded};
+use h1_traced::Recorder;
 use http_services::CountedService;
 use http_types::{DispatchError, StatusCode};
 use std::alloc::{AllocError, AllocGlobal, Global};

@@ -8,7 +8,7 @@ use bytes::Bytes;
 use http_config::{KeepAlive, ServiceConfig, ServiceConfigBuilder};
 use http_services::CountedService;
 use http_types::{NoMemory, StatusCode};
-use http_wires::MemWire;
+use http_transport::MemWire;
 use std::alloc::Global;
 use vectors::{CaseError, Cursor, Report, read_joined};
 

@@ -1,7 +1,7 @@
 //! A wire in memory whose shutdown takes its time.
 use futures::task::{Context, Poll};
 use http_config::Failed;
-use http_wires::{MemWire, Wire};
+use http_transport::{MemWire, Wire};
 
 /// A wire in memory. Its shutdown is pending so many times, and then that of the wire below.
 #[derive(Drop)]
@@ -35,7 +35,7 @@ impl Lingering {
 }
 
 impl Wire for Lingering {
-    ghost use Rattle.http_wires.specs.MemTold.{known};
+    ghost use Rattle.http_transport.specs.MemTold.{known};
 
     ghost wiring = { λ w. record (known w.wire) { shut_waits = w.waits } };
 

@@ -1,5 +1,5 @@
 //! Replies that were noted.
-use h1_proxy::{Reply, RequestHead};
+use proxy::{Reply, RequestHead};
 use std::alloc::Global;
 use vectors::Report;
 

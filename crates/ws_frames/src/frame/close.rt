@@ -1,7 +1,7 @@
 //! The payload of a Close (RFC 6455, sections 5.5.1 and 7.4).
 ghost use Rattle.std.specs.Prelude.{◌≡◌, ◌<◌, length, Err, IfOk, OnErr, option_map, string_bytes};
 ghost use Rattle.std.specs.Str.Lossy.{utf8_lossy};
-ghost use Rattle.h1_model.specs.FrameText.{is_close_code, description_of, close_frame};
+ghost use Rattle.model_h1.specs.FrameText.{is_close_code, description_of, close_frame};
 ghost use Rattle.ws_frames.specs.Close.{reason_says, CloseSays, HasName, reason_frame, lossy_reason};
 ghost use Rattle.ws_frames.specs.Protocol.{close_number, close_code};
 

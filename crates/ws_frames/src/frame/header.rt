@@ -1,6 +1,6 @@
 //! What stands in front of a payload (RFC 6455, section 5.2).
 ghost use Rattle.std.specs.Prelude.{◌≡◌, ℕ, ◌+◌, ◌%◌, ◌^◌, ◌<◌, ◌≤◌, Bool, length, IfSome};
-ghost use Rattle.h1_model.specs.FrameText.{opcode_of, opcode_error, frame_start, start_error};
+ghost use Rattle.model_h1.specs.FrameText.{opcode_of, opcode_error, frame_start, start_error};
 ghost use Rattle.ws_frames.specs.Fronts.{early, EarlySays};
 ghost use Rattle.ws_frames.specs.Header.{start_read, length_there, head_read, declared, FoundSays, HeaderSays, spelled_at};
 ghost use Rattle.ws_frames.specs.Parsed.{late_reader, head_front, parsed};

@@ -1,6 +1,6 @@
 //! The texts of frames (RFC 6455, sections 5.2 and 5.3).
 ghost use Rattle.std.specs.Prelude.{◌≡◌, ◌+◌, ◌^◌, ◌<◌, ◌≤◌, [], ◌∷◌, ◌++◌, length, take, drop, None, Some, true, OnOk, OnErr};
-ghost use Rattle.h1_model.specs.FrameText.{first_byte, length_field, unmask};
+ghost use Rattle.model_h1.specs.FrameText.{first_byte, length_field, unmask};
 ghost use Rattle.ws_frames.specs.Protocol.{opcode_written};
 ghost use Rattle.ws_frames.specs.Written.{masked_field, written};
 

@@ -1,6 +1,6 @@
 use Rattle.std.proofs.Common.{◌+◌, sym, subst}
-use Rattle.h1_chunks.specs.Place.{Place}
-use Rattle.h1_chunks.proofs.ReadSteps.{has_next}
+use Rattle.model_h1.specs.Place.{Place}
+use Rattle.model_h1.proofs.ReadSteps.{has_next}
 use Rattle.h1_payload.specs.Passing.{LeadsTo}
 use Rattle.h1_payload.specs.Places.{place_of}
 use Rattle.h1_payload.proofs.PassLemmas.{one_leads}

@@ -1,6 +1,6 @@
 use Rattle.std.proofs.Common.{◌≡◌, ◌-◌, ◌≤◌, length, drop}
-use Rattle.h1_chunks.specs.Place.{after}
-use Rattle.h1_chunks.specs.Reading.{read}
+use Rattle.model_h1.specs.Place.{after}
+use Rattle.model_h1.specs.Reading.{read}
 use Rattle.h1_payload.specs.Places.{place_of}
 use Rattle.h1_payload.proofs.pass.pass_body.Given as goal
 

@@ -1,7 +1,7 @@
 use Rattle.std.proofs.Common.{subst}
 use Rattle.std.proofs.lemmas.Bool.{false≢true}
-use Rattle.h1_chunks.specs.TakeNext.{take_next}
-use Rattle.h1_machine.specs.Pull.{IsPull}
+use Rattle.model_h1.specs.TakeNext.{take_next}
+use Rattle.model_state.specs.Pull.{IsPull}
 use Rattle.h1_payload.specs.Rests.{rest_of, IsLight}
 use Rattle.h1_payload.specs.declared.rest.Left.{Left}
 use Rattle.h1_payload.proofs.Pulls.{light_takes_none}

@@ -1,5 +1,5 @@
 use Rattle.std.proofs.Common.{◌+◌, ◌-◌, length, refl, arith}
-use Rattle.h1_chunks.specs.Place.{in_bytes}
+use Rattle.model_h1.specs.Place.{in_bytes}
 use Rattle.h1_payload.proofs.Places.{waits_at, chunk_all, chunk_some}
 use Rattle.h1_payload.proofs.scan.find_chunk.Goals as goal
 

@@ -1,5 +1,5 @@
 use Rattle.std.proofs.Common.{refl, arith}
-use Rattle.h1_chunks.specs.Place.{end_cr}
+use Rattle.model_h1.specs.Place.{end_cr}
 use Rattle.h1_payload.proofs.Places.{waits_at, end_at, no_end_at}
 use Rattle.h1_payload.proofs.scan.find_line_feed.Goals as goal
 

@@ -1,5 +1,5 @@
 use Rattle.std.proofs.Common.{◌≡◌, true, length, drop, sym, ap, ◌∙◌}
-use Rattle.h1_chunks.specs.TakeNext.{take_next}
+use Rattle.model_h1.specs.TakeNext.{take_next}
 use Rattle.h1_payload.specs.declared.scan.Found.TheVariants as found
 use Rattle.h1_payload.specs.Places.{place_of, is_quiet}
 use Rattle.h1_payload.specs.Scans.{told}

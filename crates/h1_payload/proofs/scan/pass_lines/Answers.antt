@@ -1,5 +1,5 @@
 use Rattle.std.proofs.Common.{◌≡◌, true, get_or, refl, sym, ◌∙◌}
-use Rattle.h1_chunks.specs.Place.{in_section}
+use Rattle.model_h1.specs.Place.{in_section}
 use Rattle.h1_payload.specs.Places.{line_of, place_of, is_section}
 use Rattle.h1_payload.proofs.Taking.{lines_more}
 use Rattle.h1_payload.proofs.scan.pass_lines.Goals as goal

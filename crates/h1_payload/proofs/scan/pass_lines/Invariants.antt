@@ -1,6 +1,6 @@
 use Rattle.std.proofs.Common.{◌≡◌, true, take, drop}
-use Rattle.h1_chunks.specs.Place.{in_section}
-use Rattle.h1_chunks.specs.TakeNext.{take_next}
+use Rattle.model_h1.specs.Place.{in_section}
+use Rattle.model_h1.specs.TakeNext.{take_next}
 use Rattle.h1_payload.specs.Places.{line_of, place_of, is_section}
 use Rattle.h1_payload.specs.Scans.{noting}
 use Rattle.h1_payload.proofs.scan.pass_lines.Given as goal

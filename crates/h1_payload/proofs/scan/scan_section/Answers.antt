@@ -1,6 +1,6 @@
 use Rattle.std.proofs.Common.{List, ℕ, refl, inr, subst, arith, length-drop}
 use Rattle.std.proofs.lemmas.List.{take_rest}
-use Rattle.h1_chunks.specs.Place.{in_section}
+use Rattle.model_h1.specs.Place.{in_section}
 use Rattle.h1_payload.specs.Places.{line_of, place_of}
 use Rattle.h1_payload.specs.Scans.{IsLinesPassed}
 use Rattle.h1_payload.proofs.Places.{lines_told}

@@ -1,4 +1,4 @@
-use Rattle.h1_chunks.specs.Place.{in_size}
+use Rattle.model_h1.specs.Place.{in_size}
 use Rattle.h1_payload.proofs.QuietWays.{digit_leads}
 use Rattle.h1_payload.proofs.size_line.pass_digits.Goals as goal
 

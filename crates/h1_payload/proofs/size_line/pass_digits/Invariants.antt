@@ -1,5 +1,5 @@
 use Rattle.std.proofs.Common.{◌-◌, length}
-use Rattle.h1_chunks.specs.Place.{in_size}
+use Rattle.model_h1.specs.Place.{in_size}
 use Rattle.h1_payload.specs.QuietWays.{LeadsQuietly}
 use Rattle.h1_payload.proofs.size_line.pass_digits.Given as goal
 

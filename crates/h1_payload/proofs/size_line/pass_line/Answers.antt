@@ -1,5 +1,5 @@
 use Rattle.std.proofs.Common.{◌+◌, sym, subst}
-use Rattle.h1_chunks.specs.Place.{Place, in_size}
+use Rattle.model_h1.specs.Place.{Place, in_size}
 use Rattle.h1_payload.specs.QuietWays.{LeadsQuietly}
 use Rattle.h1_payload.proofs.QuietWays.{line_leads}
 use Rattle.h1_payload.proofs.size_line.pass_line.Goals as goal

@@ -1,5 +1,5 @@
 use Rattle.std.proofs.Common.{◌+◌, sym, ap, subst}
-use Rattle.h1_chunks.specs.Place.{Place, in_size, bytes_end}
+use Rattle.model_h1.specs.Place.{Place, in_size, bytes_end}
 use Rattle.h1_payload.specs.Places.{place_of}
 use Rattle.h1_payload.specs.QuietWays.{LeadsQuietly}
 use Rattle.h1_payload.proofs.QuietWays.{then_leads, chunk_end_leads}

@@ -1,6 +1,6 @@
 use Rattle.std.proofs.Common.{◌≤◌, [], length, map, ap, ◌∙◌, arith}
 use Rattle.httparse.specs.Grammar.{crlf}
-use Rattle.http_lines.specs.HeaderLines.{line_header}
+use Rattle.http_framing.specs.HeaderLines.{line_header}
 use Rattle.h1_payload.proofs.Lines.{field_of, reads_lines, headers_of_lines, lines_fit, lines_at}
 use Rattle.h1_payload.proofs.trailers.find_lines.Goals as goal
 

@@ -1,5 +1,5 @@
-use Rattle.http_lines.specs.HeaderLines.{IsLine}
-use Rattle.http_lines.proofs.HeaderLines.{no_span, line_at}
+use Rattle.http_framing.specs.HeaderLines.{IsLine}
+use Rattle.http_framing.proofs.HeaderLines.{no_span, line_at}
 use Rattle.h1_payload.proofs.trailers.read_lines.Goals as goal
 
 pub read_line-requires-clause-line : goal.read_line-requires-clause-line

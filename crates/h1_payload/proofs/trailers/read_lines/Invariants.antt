@@ -1,6 +1,6 @@
 use Rattle.std.proofs.Common.{◌≡◌, map, take}
 use Rattle.httparse.specs.Spans.{header_bytes}
-use Rattle.http_lines.specs.HeaderLines.{header_map, line_header}
+use Rattle.http_framing.specs.HeaderLines.{header_map, line_header}
 use Rattle.h1_payload.proofs.trailers.read_lines.Given as goal
 
 -- the map has the lines so far

@@ -1,4 +1,4 @@
-use Rattle.ws_dispatch.specs.Polls.{MayBePolled}
+use Rattle.ws_dispatcher.specs.Polls.{MayBePolled}
 use Rattle.tests_servers.specs.Calls.{answers_once}
 use Rattle.tests_servers.proofs.echo.end_of.Given as goal
 

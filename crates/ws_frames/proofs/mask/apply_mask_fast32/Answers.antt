@@ -1,7 +1,7 @@
 -- Nothing is masked at first.
 use Rattle.std.proofs.Common.{refl, ap, ◌∙◌}
-use Rattle.h1_model.specs.FrameText.{unmask}
-use Rattle.h1_model.proofs.FrameWritten.{masked_twice}
+use Rattle.model_h1.specs.FrameText.{unmask}
+use Rattle.model_h1.proofs.FrameWritten.{masked_twice}
 use Rattle.ws_frames.proofs.MaskLemmas.{none_masked}
 use Rattle.ws_frames.proofs.mask.apply_mask_fast32.Goals as goal
 

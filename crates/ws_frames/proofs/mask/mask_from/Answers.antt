@@ -1,7 +1,7 @@
 -- The mask is turned to the place.
 use Rattle.std.proofs.Common.{◌≡◌, ℕ, List, ap, ◌∙◌, sym, arith}
-use Rattle.h1_model.specs.FrameText.{unmask}
-use Rattle.h1_model.proofs.FrameWritten.{masked_twice}
+use Rattle.model_h1.specs.FrameText.{unmask}
+use Rattle.model_h1.proofs.FrameWritten.{masked_twice}
 use Rattle.ws_frames.proofs.MaskLemmas.{turned_unmask, unmask_congruent}
 use Rattle.ws_frames.proofs.mask.mask_from.Goals.{in-0, in-1, in-2, in_default}
 use Rattle.ws_frames.proofs.mask.mask_from.Goals as goal

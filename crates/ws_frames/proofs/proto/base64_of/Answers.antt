@@ -2,7 +2,7 @@
 use Rattle.std.proofs.Common.{◌≡◌, ℕ, ◌+◌, ◌≤◌, length, List, [], ◌++◌, drop, replicate, ap, ◌∙◌, sym, subst, arith}
 use Rattle.std.proofs.lemmas.List.{append-nil}
 use Rattle.base64.specs.Rfc4648.{unpadded_len, padding_len}
-use Rattle.h1_model.specs.Handshake.{base64}
+use Rattle.model_h1.specs.Handshake.{base64}
 use Rattle.ws_frames.proofs.proto.base64_of.Goals as goal
 
 pub returns : goal.returns

@@ -1,6 +1,6 @@
 -- The digest is that of the key and the fixed text.
 use Rattle.std.proofs.Common.{ap, ◌∙◌}
-use Rattle.h1_model.specs.Handshake.{base64}
+use Rattle.model_h1.specs.Handshake.{base64}
 use Rattle.ws_frames.proofs.proto.hash_key.Goals as goal
 
 pub returns : goal.returns

@@ -1,6 +1,6 @@
 -- The payload is read where it lies.
 use Rattle.std.proofs.Common.{ℕ, List, sym, ap, ◌∙◌}
-use Rattle.h1_model.specs.FrameText.{close_frame}
+use Rattle.model_h1.specs.FrameText.{close_frame}
 use Rattle.ws_frames.specs.Refusal.{error_of}
 use Rattle.ws_frames.proofs.TakeLemmas.{toggled_twice, payload_shown, rest_shown}
 use Rattle.ws_frames.proofs.take.take_close.Goals as goal

@@ -1,6 +1,6 @@
 -- The first key is hashed, or none.
 use Rattle.std.proofs.Common.{ℕ, List, sym, ap, ◌∙◌}
-use Rattle.h1_model.specs.Handshake.{accept_key, key_of}
+use Rattle.model_h1.specs.Handshake.{accept_key, key_of}
 use Rattle.ws_session.proofs.verify.answer_key.Goals as goal
 
 pub returns-in-Some : goal.returns-in-Some

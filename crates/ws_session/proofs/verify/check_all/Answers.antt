@@ -1,8 +1,8 @@
 -- Check by check, in order.
 use Rattle.std.proofs.Common.{◌≡◌, true, false, refl, sym, ap, ◌∙◌, Option}
 use Rattle.std.specs.Option.{option_or}
-use Rattle.h1_model.specs.Handshake as model
-use Rattle.h1_model.specs.Handshake.{key_error}
+use Rattle.model_h1.specs.Handshake as model
+use Rattle.model_h1.specs.Handshake.{key_error}
 use Rattle.ws_session.proofs.CheckLemmas.{is_get, has_websocket, has_upgrade, keys, wrong_method, wrong_upgrade, wrong_connection, right_so_far, wrong_version, fails, same_method, other_method}
 use Rattle.ws_session.proofs.WordLemmas.{websocket_alike, upgrade_alike}
 use Rattle.ws_session.proofs.verify.check_all.Goals as goal

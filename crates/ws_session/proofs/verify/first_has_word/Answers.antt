@@ -1,6 +1,6 @@
 -- The first value is text, and has the word or not.
 use Rattle.std.proofs.Common.{refl, ap, ◌∙◌}
-use Rattle.h1_model.specs.Handshake.{has_word}
+use Rattle.model_h1.specs.Handshake.{has_word}
 use Rattle.ws_session.proofs.CheckLemmas.{has_first}
 use Rattle.ws_session.proofs.verify.first_has_word.Goals as goal
 

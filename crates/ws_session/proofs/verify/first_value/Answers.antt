@@ -2,7 +2,7 @@
 use Rattle.std.proofs.Common.{ℕ, List, ap, ◌∙◌}
 use Rattle.http_header.specs.Token.{lowercase}
 use Rattle.http_map.specs.HeaderMap.{get_all}
-use Rattle.h1_model.specs.LengthTable.{values_of}
+use Rattle.model_h1.specs.LengthTable.{values_of}
 use Rattle.ws_session.proofs.CheckLemmas.{first_of}
 use Rattle.ws_session.proofs.verify.first_value.Goals as goal
 

@@ -1,7 +1,7 @@
 -- The first version, if there is one, is spoken or isn't.
 use Rattle.std.proofs.Common.{refl, sym, ap, ◌∙◌}
-use Rattle.h1_model.specs.Handshake as model
-use Rattle.h1_model.specs.Handshake.{version_error}
+use Rattle.model_h1.specs.Handshake as model
+use Rattle.model_h1.specs.Handshake.{version_error}
 use Rattle.ws_session.specs.Upgrade.{is_spoken}
 use Rattle.ws_session.proofs.CheckLemmas.{spoken, unspoken, fails}
 use Rattle.ws_session.proofs.verify.verify_version.Goals as goal

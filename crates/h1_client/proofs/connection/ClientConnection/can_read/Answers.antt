@@ -1,6 +1,6 @@
 use Rattle.std.proofs.Common.{ap, ◌∙◌}
-use Rattle.h1_client_machine.specs.ClientEvent as on
-use Rattle.h1_client_machine.specs.ClientKept.{client_allows}
+use Rattle.model_client.specs.ClientEvent as on
+use Rattle.model_client.specs.ClientKept.{client_allows}
 use Rattle.h1_client.specs.Meaning.{setting_of}
 use Rattle.h1_client.specs.State.{State}
 use Rattle.h1_client.proofs.connection.ClientConnection.can_read.Goals as goal

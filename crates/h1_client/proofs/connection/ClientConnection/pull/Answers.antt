@@ -1,4 +1,4 @@
-use Rattle.h1_client_machine.specs.ClientEvent as on
+use Rattle.model_client.specs.ClientEvent as on
 use Rattle.h1_client.specs.Bodies.{SaysPulled}
 use Rattle.h1_client.specs.Meaning.{setting_of}
 use Rattle.h1_client.proofs.GoesOnLemmas.{ok_map, goes_on}

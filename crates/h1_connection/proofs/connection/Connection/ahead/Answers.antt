@@ -1,5 +1,5 @@
 use Rattle.std.proofs.Common.{ℕ, ◌∙◌, ap, sym, subst}
-use Rattle.h1_ahead_model.specs.Ahead.{IsAhead}
+use Rattle.model_state.specs.Ahead.{IsAhead}
 use Rattle.h1_connection.specs.Meaning.{setting_of}
 use Rattle.h1_connection.specs.State.{State}
 use Rattle.h1_connection.proofs.connection.Connection.ahead.Goals as goal

@@ -1,7 +1,7 @@
 use Rattle.std.proofs.Common.{Bool, ◌∙◌, ap, sym, subst}
 use Rattle.std.specs.Prelude.{IsTrue, ◌↔◌}
-use Rattle.h1_model.specs.Trace as traces
-use Rattle.h1_machine.specs.Local.{allowed_by}
+use Rattle.model_h1.specs.Trace as traces
+use Rattle.model_state.specs.Local.{allowed_by}
 use Rattle.h1_connection.specs.Meaning.{setting_of, event_of}
 use Rattle.h1_connection.specs.State.{State}
 use Rattle.h1_connection.proofs.GoesOnLemmas.{allowed_traced}

@@ -1,5 +1,5 @@
 use Rattle.std.proofs.Common.{sym, ◌∙◌, subst}
-use Rattle.h1_model.specs.Event as on
+use Rattle.model_h1.specs.Event as on
 use Rattle.h1_connection.specs.State.{State, IsAllowed}
 use Rattle.h1_connection.proofs.GoesOnLemmas.{body_pulled}
 use Rattle.h1_connection.proofs.connection.Connection.can_pull.Goals as goal

@@ -1,5 +1,5 @@
 use Rattle.std.proofs.Common.{◌∙◌, ap}
-use Rattle.h1_machine.specs.Local.{closing_by}
+use Rattle.model_state.specs.Local.{closing_by}
 use Rattle.h1_connection.specs.Meaning.{setting_of}
 use Rattle.h1_connection.specs.State.{State}
 use Rattle.h1_connection.proofs.GoesOnLemmas.{closing_traced}

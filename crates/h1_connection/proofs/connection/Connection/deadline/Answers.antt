@@ -1,6 +1,6 @@
 use Rattle.std.proofs.Common.{ℕ, Option, ◌∙◌, sym, ap, subst}
-use Rattle.h1_model.specs.Deadline.{IsDeadline}
-use Rattle.h1_machine.specs.Deadline.{deadline_by}
+use Rattle.model_h1.specs.Deadline.{IsDeadline}
+use Rattle.model_state.specs.Deadline.{deadline_by}
 use Rattle.h1_connection.specs.Meaning.{setting_of}
 use Rattle.h1_connection.specs.State.{State}
 use Rattle.h1_connection.proofs.DeadlineLemmas.{deadline_traced}

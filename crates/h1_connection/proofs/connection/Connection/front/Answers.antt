@@ -1,5 +1,5 @@
 use Rattle.std.proofs.Common.{◌≡◌, ◌≤◌, ℕ, List, ◌++◌, length, ap, ◌∙◌, subst}
-use Rattle.h1_segment_model.specs.Runs.{first_segment, IsFirstSegment}
+use Rattle.model_state.specs.Runs.{first_segment, IsFirstSegment}
 use Rattle.h1_connection.specs.State.{State}
 use Rattle.h1_connection.proofs.MarkLemmas.{stretch_first, stretch_some}
 use Rattle.h1_connection.proofs.GoesOnLemmas.{front_traced}

@@ -1,9 +1,9 @@
 use Rattle.std.proofs.Common.{List, ℕ, subst}
-use Rattle.h1_model.specs.Frame.{Message}
-use Rattle.h1_model.specs.Event as on
+use Rattle.model_h1.specs.Frame.{Message}
+use Rattle.model_h1.specs.Event as on
 use Rattle.h1_connection.specs.declared.event.Outcome.TheVariants as out
 use Rattle.http_types.specs.ResponseHead.{ResponseParts}
-use Rattle.h1_codec.specs.Meaning.{answer_of, size_of}
+use Rattle.h1_encoder.specs.Meaning.{answer_of, size_of}
 use Rattle.h1_connection.specs.Meaning.{SaysOutcome}
 use Rattle.h1_connection.specs.State.{GoesOn, Is}
 use Rattle.h1_connection.proofs.ResultLemmas.{ok_map}

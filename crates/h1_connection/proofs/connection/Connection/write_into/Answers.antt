@@ -1,6 +1,6 @@
 use Rattle.std.proofs.Common.{◌≡◌, length, take, subst, refl}
 use Rattle.std.specs.Prelude.{min}
-use Rattle.h1_model.specs.Event as on
+use Rattle.model_h1.specs.Event as on
 use Rattle.h1_connection.specs.State.{State, GoesOn, Is}
 use Rattle.h1_connection.proofs.GoesOnLemmas.{goes_on, state_of}
 use Rattle.h1_connection.proofs.connection.Connection.write_into.Goals as goal

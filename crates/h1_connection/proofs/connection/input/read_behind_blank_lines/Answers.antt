@@ -1,8 +1,8 @@
 use Rattle.std.proofs.Common.{List, ℕ, ap, ◌∙◌, subst}
 use Rattle.std.specs.Prelude.{IfErr, slice_range}
-use Rattle.h1_model.specs.Request.{faulty}
-use Rattle.h1_model.specs.RequestHead.{IsReading}
-use Rattle.h1_decode.specs.Refusal.{UnlessNoMemory, fault_of}
+use Rattle.model_h1.specs.Request.{faulty}
+use Rattle.model_h1.specs.RequestHead.{IsReading}
+use Rattle.h1_decoder.specs.Refusal.{UnlessNoMemory, fault_of}
 use Rattle.h1_connection.proofs.connection.input.read_behind_blank_lines.Goals as goal
 
 pub returns-clause-fault : goal.returns-clause-fault

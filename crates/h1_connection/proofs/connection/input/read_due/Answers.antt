@@ -1,9 +1,9 @@
 use Rattle.std.proofs.Common.{◌≡◌, true, None, ◌∙◌, subst}
 use Rattle.std.specs.Prelude.{IfOk, IfErr, OnErr}
-use Rattle.h1_decode.proofs.FrontLemmas.{begins_piece}
-use Rattle.h1_decode.specs.Refusal.{UnlessNoMemory, fault_of}
-use Rattle.h1_decode.specs.declared.decoder.HeadItem.{HeadItem}
-use Rattle.h1_decode.specs.HeadItem.{without_headers}
+use Rattle.h1_decoder.proofs.FrontLemmas.{begins_piece}
+use Rattle.h1_decoder.specs.Refusal.{UnlessNoMemory, fault_of}
+use Rattle.h1_decoder.specs.declared.decoder.HeadItem.{HeadItem}
+use Rattle.h1_decoder.specs.HeadItem.{without_headers}
 use Rattle.h1_connection.specs.Incoming.{Incoming, due_in, IsHeadOf, IsWhole, IsNextHead, IsNextFault, IsAlone}
 use Rattle.h1_connection.specs.declared.connection.input.Found.TheVariants.{Nothing, Head, Followed}
 use Rattle.h1_connection.proofs.InputLemmas.{same_incoming}

@@ -1,7 +1,7 @@
 use Rattle.std.proofs.Common.{List, ℕ, refl, subst}
-use Rattle.h1_model.specs.Request.{faulty}
-use Rattle.h1_model.specs.RequestHead.{IsReading}
-use Rattle.h1_decode.specs.Refusal.{fault_of}
+use Rattle.model_h1.specs.Request.{faulty}
+use Rattle.model_h1.specs.RequestHead.{IsReading}
+use Rattle.h1_decoder.specs.Refusal.{fault_of}
 use Rattle.h1_connection.proofs.InputLemmas.{piece_searched, cut_slice, head_found}
 use Rattle.h1_connection.proofs.connection.input.read_found.Goals as goal
 

@@ -1,8 +1,8 @@
 use Rattle.std.proofs.Common.{List, ℕ, subst}
 use Rattle.std.specs.Prelude.{IfErr}
-use Rattle.h1_model.specs.Request.{faulty}
-use Rattle.h1_model.specs.RequestHead.{IsReading}
-use Rattle.h1_decode.specs.Refusal.{UnlessNoMemory, fault_of}
+use Rattle.model_h1.specs.Request.{faulty}
+use Rattle.model_h1.specs.RequestHead.{IsReading}
+use Rattle.h1_decoder.specs.Refusal.{UnlessNoMemory, fault_of}
 use Rattle.h1_connection.proofs.InputLemmas.{from_start}
 use Rattle.h1_connection.proofs.connection.input.read_piece.Goals as goal
 

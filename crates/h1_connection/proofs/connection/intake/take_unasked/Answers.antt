@@ -1,7 +1,7 @@
 use Rattle.std.proofs.Common.{refl, subst}
 use Rattle.std.specs.Prelude.{IfErr}
 use Rattle.std.proofs.lemmas.Result.{err_from_is_err_and}
-use Rattle.h1_decode.specs.Refusal.{UnlessNoMemory, fault_of}
+use Rattle.h1_decoder.specs.Refusal.{UnlessNoMemory, fault_of}
 use Rattle.h1_connection.specs.Incoming.{Incoming, IsPassedHead}
 use Rattle.h1_connection.specs.Stock.{stock_of, IsFaultAhead}
 use Rattle.h1_connection.specs.declared.connection.intake.Turn.TheVariants.{Unasked}

@@ -1,5 +1,5 @@
 use Rattle.std.proofs.Common.{sym, subst}
-use Rattle.h1_chunks.specs.Place.{start}
+use Rattle.model_h1.specs.Place.{start}
 use Rattle.h1_payload.specs.Readers.{HasRoom}
 use Rattle.h1_payload.proofs.Rooms.{room_start}
 use Rattle.h1_payload.proofs.chunks.ChunkReader.new.Goals as goal

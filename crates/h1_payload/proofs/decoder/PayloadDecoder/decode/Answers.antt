@@ -1,6 +1,6 @@
 use Rattle.std.proofs.Common.{false, sym, ap, subst}
 use Rattle.std.proofs.lemmas.Bool.{false≢true}
-use Rattle.h1_machine.specs.Pull.{IsPull}
+use Rattle.model_state.specs.Pull.{IsPull}
 use Rattle.h1_payload.specs.Rests.{IsLight}
 use Rattle.h1_payload.proofs.Decodes.{answered}
 use Rattle.h1_payload.specs.Decoding.{Decoding}

@@ -1,5 +1,5 @@
 use Rattle.http_services.specs.Serving.{unknown_call}
-use Rattle.h1_dispatch.specs.View.{MayBePolled}
+use Rattle.h1_dispatcher.specs.View.{MayBePolled}
 use Rattle.vectors_servers.proofs.dispatch.play.take_all.Given as goal
 
 abbrev pub invariant-loop-step : goal.invariant-loop-step

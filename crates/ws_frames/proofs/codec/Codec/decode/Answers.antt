@@ -1,6 +1,6 @@
 -- What is taken from the front of the bytes is the frame there.
 use Rattle.std.proofs.Common.{◌≡◌, ℕ, ◌+◌, List, drop, refl, sym, ap, ◌∙◌, subst}
-use Rattle.h1_model.specs.FrameText.{Front, front_of_judged}
+use Rattle.model_h1.specs.FrameText.{Front, front_of_judged}
 use Rattle.ws_frames.specs.declared.error.ProtocolError.TheVariants as errors
 use Rattle.ws_frames.specs.CodecState.{codec_server, codec_limit, codec_reading, cost, Failed}
 use Rattle.ws_frames.specs.Header.{payload_at}

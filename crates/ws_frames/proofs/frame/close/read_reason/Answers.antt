@@ -3,8 +3,8 @@ use Rattle.std.proofs.Common.{◌≡◌, ◌∙◌, ap, sym, Some, Ok, string_by
 use Rattle.std.specs.Option.{option_map}
 use Rattle.ws_frames.specs.Protocol.{close_number}
 use Rattle.ws_frames.specs.Refusal.{error_of}
-use Rattle.h1_model.specs.Frame as frames
-use Rattle.h1_model.specs.FrameText.{description_of}
+use Rattle.model_h1.specs.Frame as frames
+use Rattle.model_h1.specs.FrameText.{description_of}
 use Rattle.ws_frames.proofs.CloseLemmas.{bad_code, bad_text, good_reason}
 use Rattle.ws_frames.proofs.frame.close.read_reason.Goals as goal
 

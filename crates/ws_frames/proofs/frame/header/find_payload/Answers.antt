@@ -1,8 +1,8 @@
 -- By the parts of the header that are kept, the frame is what the definitions say.
 use Rattle.std.proofs.Common.{◌≡◌, ℕ, Bool, true, false, nat_lt, sym, ap, ◌∙◌, subst, arith, ◌&&◌}
-use Rattle.h1_model.specs.FrameText.{is_control}
-use Rattle.h1_model.specs.Limits.{MAX_CONTROL_PAYLOAD}
-use Rattle.h1_model.specs.Laws.FrameSize.{frame_length}
+use Rattle.model_h1.specs.FrameText.{is_control}
+use Rattle.model_h1.specs.Limits.{MAX_CONTROL_PAYLOAD}
+use Rattle.model_h1.specs.Laws.FrameSize.{frame_length}
 use Rattle.ws_frames.specs.declared.proto.OpCode.TheVariants as codes
 use Rattle.ws_frames.specs.declared.error.ProtocolError.TheVariants as errors
 use Rattle.ws_frames.specs.declared.frame.header.Header.{Header}

@@ -1,7 +1,7 @@
 -- By the parts of the header that are kept, its size is judged first.
 use Rattle.std.proofs.Common.{◌≡◌, ◌≤◌, refl, ap, subst, arith}
-use Rattle.h1_model.specs.Laws.FrameSize.{frame_length}
-use Rattle.h1_model.specs.Limits.{MAX_FRAME}
+use Rattle.model_h1.specs.Laws.FrameSize.{frame_length}
+use Rattle.model_h1.specs.Limits.{MAX_FRAME}
 use Rattle.ws_frames.specs.declared.frame.header.Header.{Header}
 use Rattle.ws_frames.specs.Header.{FoundSays}
 use Rattle.ws_frames.specs.Parsed.{Parsed}

@@ -2,7 +2,7 @@
 use Rattle.std.proofs.Common.{◌≡◌, ℕ, ◌+◌, drop, get_or, None, sym, ap, ◌∙◌, arith}
 use Rattle.std.proofs.lemmas.List.{take_rest}
 use Rattle.std.proofs.lemmas.Bool.{le-leb, lt-leb}
-use Rattle.h1_model.specs.FrameText.{FrameStart, frame_start, mask_bytes}
+use Rattle.model_h1.specs.FrameText.{FrameStart, frame_start, mask_bytes}
 use Rattle.ws_frames.specs.Parsed.{late_reader}
 use Rattle.ws_frames.specs.Header.{head_read, length_there}
 use Rattle.ws_frames.proofs.HeaderLemmas.{head_at, found, kept_as, mask_len, error_read, none_read, some_read}

@@ -1,7 +1,7 @@
 use Rattle.std.proofs.Common.{List, ℕ, Some, ap, ◌∙◌, subst}
 use Rattle.std.specs.Prelude.{IfErr, slice_range}
-use Rattle.h1_client_model.specs.AnswerReading.{refused, IsAnswerReadingWithin}
-use Rattle.h1_decode.specs.Refusal.{UnlessNoMemory, fault_of}
+use Rattle.model_client.specs.AnswerReading.{refused, IsAnswerReadingWithin}
+use Rattle.h1_decoder.specs.Refusal.{UnlessNoMemory, fault_of}
 use Rattle.h1_client.specs.Incoming.{Incoming}
 use Rattle.h1_client.proofs.connection.input.Input.read_head.Goals as goal
 

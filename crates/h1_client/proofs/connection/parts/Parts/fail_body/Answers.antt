@@ -3,7 +3,7 @@ use Rattle.h1_client.specs.Bodies.{failing}
 use Rattle.h1_client.specs.Parts.{Steps}
 use Rattle.h1_client.specs.declared.connection.parts.Parts.{Parts}
 use Rattle.h1_client.specs.declared.event.ClientEnd.TheVariants.{FailedRequest}
-use Rattle.h1_client_machine.specs.ClientEvent as on
+use Rattle.model_client.specs.ClientEvent as on
 use Rattle.h1_client.proofs.RequestLemmas.{failed_step}
 use Rattle.h1_client.proofs.connection.parts.Parts.fail_body.Goals as goal
 

@@ -1,6 +1,6 @@
 use Rattle.std.proofs.Common.{◌∙◌, sym, refl}
 use Rattle.std.proofs.lemmas.Bool.{eq-eqb, ne_eqb}
-use Rattle.h1_client_heads.specs.declared.heads.AnswerFault.TheVariants as faults
+use Rattle.h1_client.specs.declared.heads.AnswerFault.TheVariants as faults
 use Rattle.h1_client.specs.Meaning.{setting_of}
 use Rattle.h1_client.specs.declared.event.ClientEnd.TheVariants.{LargeAnswer}
 use Rattle.h1_client.proofs.AnswerLemmas.{full_next, pending_next}

@@ -1,8 +1,8 @@
 use Rattle.std.proofs.Common.{ℕ, Some, None, refl, sym, subst}
 use Rattle.std.specs.Prelude.{slice_range}
-use Rattle.h1_model.specs.Request.{Fault}
-use Rattle.h1_client_model.specs.AnswerReading.{answer_is, refused, IsAnswerReadingWithin}
-use Rattle.h1_client_heads.specs.Meaning.{fault_of}
+use Rattle.model_h1.specs.Request.{Fault}
+use Rattle.model_client.specs.AnswerReading.{answer_is, refused, IsAnswerReadingWithin}
+use Rattle.h1_client.specs.HeadMeaning.{fault_of}
 use Rattle.h1_client.specs.Meaning.{setting_of}
 use Rattle.h1_client.specs.Answers.{IsNexted}
 use Rattle.h1_client.specs.declared.connection.parts.Parts.{Parts}

@@ -1,7 +1,7 @@
 use Rattle.std.proofs.Common.{◌≡◌, true, None, ◌∙◌, subst}
 use Rattle.std.specs.Prelude.{IfOk, IfErr, OnErr}
-use Rattle.h1_decode.specs.Refusal.{UnlessNoMemory, fault_of}
-use Rattle.h1_decode.specs.HeadItem.{without_headers}
+use Rattle.h1_decoder.specs.Refusal.{UnlessNoMemory, fault_of}
+use Rattle.h1_decoder.specs.HeadItem.{without_headers}
 use Rattle.h1_connection.specs.Incoming.{Incoming, IsFound, IsHeadOf, IsWhole, IsNextHead, IsNextFault, IsAlone}
 use Rattle.h1_connection.specs.declared.connection.input.Found.TheVariants.{Nothing, Head, Followed}
 use Rattle.h1_connection.proofs.InputLemmas.{due_front, found_of, same_incoming}

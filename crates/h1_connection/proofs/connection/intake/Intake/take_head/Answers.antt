@@ -1,6 +1,6 @@
 use Rattle.std.proofs.Common.{sym, subst}
 use Rattle.std.proofs.lemmas.Result.{err_from_is_err_and}
-use Rattle.h1_decode.specs.Refusal.{fault_of}
+use Rattle.h1_decoder.specs.Refusal.{fault_of}
 use Rattle.h1_connection.specs.Stock.{Stock, stock_of, IsStocked, IsFaultAhead, HandsOut}
 use Rattle.h1_connection.specs.declared.connection.intake.Turn.{Turn}
 use Rattle.h1_connection.specs.declared.connection.intake.Turn.TheVariants.{Unasked, Next}

@@ -1,6 +1,6 @@
 use Rattle.std.proofs.Common.{◌∙◌, ap, subst}
-use Rattle.h1_segment_model.specs.Runs.{IsFirstSegment}
-use Rattle.http_segments.specs.Queued.{Queued, front_of, IsStretch}
+use Rattle.model_state.specs.Runs.{IsFirstSegment}
+use Rattle.h1_output.specs.Queued.{Queued, front_of, IsStretch}
 use Rattle.h1_connection.proofs.connection.output.Output.front.Goals as goal
 
 pub returns-clause-value : goal.returns-clause-value

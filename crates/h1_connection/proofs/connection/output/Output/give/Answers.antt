@@ -1,6 +1,6 @@
 use Rattle.std.proofs.Common.{◌≡◌, length, take, subst}
 use Rattle.std.specs.Prelude.{IfOk, OnOk, IsOk, OnErr, min}
-use Rattle.http_segments.specs.Queued.{Queued, behind}
+use Rattle.h1_output.specs.Queued.{Queued, behind}
 use Rattle.h1_connection.proofs.connection.output.Output.give.Goals as goal
 
 pub returns-clause-ok : goal.returns-clause-ok

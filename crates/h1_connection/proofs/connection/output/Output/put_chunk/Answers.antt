@@ -1,6 +1,6 @@
 use Rattle.std.proofs.Common.{rules, ◌≡◌, ◌<◌, length, ◌∙◌}
 use Rattle.httparse.specs.Ascii.{crlf_bytes}
-use Rattle.http_segments.specs.Queued.{with_text, with_piece}
+use Rattle.h1_output.specs.Queued.{with_text, with_piece}
 use Rattle.h1_connection.proofs.OutputLemmas.{no_bytes, empty_chunk, framed_chunk}
 use Rattle.h1_connection.proofs.ResultLemmas.{on_map}
 use Rattle.h1_connection.proofs.connection.output.Output.put_chunk.Goals as goal

@@ -1,5 +1,5 @@
 use Rattle.std.proofs.Common.{rules, ap, ◌∙◌}
-use Rattle.http_segments.specs.Queued.{with_text}
+use Rattle.h1_output.specs.Queued.{with_text}
 use Rattle.h1_connection.proofs.OutputLemmas.{text_put}
 use Rattle.h1_connection.proofs.connection.output.Output.put_head.Goals as goal
 

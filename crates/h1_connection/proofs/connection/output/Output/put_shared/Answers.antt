@@ -1,8 +1,8 @@
 use Rattle.std.proofs.Common.{◌≡◌, [], length, sym, ap, ◌∙◌, subst}
-use Rattle.h1_codec.specs.Meaning.{model_shape}
-use Rattle.h1_codec.specs.declared.shape.Shape.{Shape}
-use Rattle.h1_machine.specs.Reply.{piece_sent}
-use Rattle.http_segments.specs.Queued.{with_piece}
+use Rattle.h1_encoder.specs.Meaning.{model_shape}
+use Rattle.h1_encoder.specs.declared.shape.Shape.{Shape}
+use Rattle.model_state.specs.Reply.{piece_sent}
+use Rattle.h1_output.specs.Queued.{with_piece}
 use Rattle.h1_connection.specs.Sent.{with_sent}
 use Rattle.h1_connection.proofs.OutputLemmas.{head_sent, none_sent, length_sent, raw_sent, chunk_sent, length_out, raw_out, chunk_out}
 use Rattle.h1_connection.proofs.ResultLemmas.{on_map}

@@ -1,7 +1,7 @@
 use Rattle.std.proofs.Common.{ℕ, true, ◌++◌, rules, ◌≡◌, ◌<◌, [], length, ap, ◌∙◌}
 use Rattle.std.specs.Fmt.{digits}
 use Rattle.httparse.specs.Ascii.{crlf_bytes}
-use Rattle.http_segments.specs.Queued.{with_text, with_piece}
+use Rattle.h1_output.specs.Queued.{with_text, with_piece}
 use Rattle.h1_connection.proofs.OutputLemmas.{empty_chunk, framed_chunk}
 use Rattle.h1_connection.proofs.ResultLemmas.{on_map}
 use Rattle.h1_connection.proofs.connection.output.Output.put_shared_chunk.Goals as goal

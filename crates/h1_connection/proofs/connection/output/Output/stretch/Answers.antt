@@ -1,5 +1,5 @@
 use Rattle.std.proofs.Common.{subst}
-use Rattle.http_segments.specs.Queued.{Queued, IsStretch}
+use Rattle.h1_output.specs.Queued.{Queued, IsStretch}
 use Rattle.h1_connection.proofs.connection.output.Output.stretch.Goals as goal
 
 pub returns : goal.returns

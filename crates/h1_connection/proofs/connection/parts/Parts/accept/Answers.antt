@@ -1,9 +1,9 @@
 use Rattle.std.proofs.Common.{sym, ◌∙◌, ◌++◌, ap}
-use Rattle.h1_model.specs.Answer.{size_stream}
-use Rattle.h1_model.specs.Handshake.{accepting_head}
-use Rattle.h1_model.specs.Text.{answer_head_text}
+use Rattle.model_h1.specs.Answer.{size_stream}
+use Rattle.model_h1.specs.Handshake.{accepting_head}
+use Rattle.model_h1.specs.Text.{answer_head_text}
 use Rattle.h1_connection.proofs.FrameLemmas.{framed_may, framed_steps, framed_sound, refused_steps, no_accept}
-use Rattle.http_segments.specs.Queued.{Queued}
+use Rattle.h1_output.specs.Queued.{Queued}
 use Rattle.h1_connection.specs.declared.connection.parts.Parts.{Parts}
 use Rattle.h1_connection.specs.Stock.{Stock}
 use Rattle.h1_connection.proofs.connection.parts.Parts.accept.Goals as goal

@@ -1,7 +1,7 @@
 use Rattle.std.proofs.Common.{◌-◌, ◌∙◌, sym, ap}
 use Rattle.std.proofs.lemmas.Bool.{false≢true}
 use Rattle.h1_connection.proofs.AnswerLemmas.{no_piece, unasked, no_chunk, chunked_steps, chunked_sound}
-use Rattle.http_segments.specs.Queued.{Queued}
+use Rattle.h1_output.specs.Queued.{Queued}
 use Rattle.h1_connection.specs.declared.connection.parts.Parts.{Parts}
 use Rattle.h1_connection.proofs.MarkLemmas.{chunk_marks, no_chunk_marks}
 use Rattle.h1_connection.proofs.connection.parts.Parts.chunk_bytes.Goals as goal

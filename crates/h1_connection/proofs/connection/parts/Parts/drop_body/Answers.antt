@@ -1,6 +1,6 @@
 use Rattle.std.proofs.Common.{ap, ◌∙◌}
 use Rattle.h1_connection.proofs.EventLemmas.{dropped_may, dropped_steps, dropped_sound}
-use Rattle.http_segments.specs.Queued.{Queued}
+use Rattle.h1_output.specs.Queued.{Queued}
 use Rattle.h1_connection.specs.declared.connection.parts.Parts.{Parts}
 use Rattle.h1_connection.specs.Stock.{Stock}
 use Rattle.h1_connection.proofs.connection.parts.Parts.drop_body.Goals as goal

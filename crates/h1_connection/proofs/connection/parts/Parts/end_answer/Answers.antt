@@ -1,7 +1,7 @@
 use Rattle.std.proofs.Common.{◌∙◌, sym, ap}
 use Rattle.std.proofs.lemmas.Bool.{false≢true}
 use Rattle.h1_connection.proofs.AnswerLemmas.{unsent_end, unasked, no_end, sending_unsearched, ended_steps, ended_sound, short_parts_piece, short_parts_behind}
-use Rattle.http_segments.specs.Queued.{Queued}
+use Rattle.h1_output.specs.Queued.{Queued}
 use Rattle.h1_connection.specs.declared.connection.parts.Parts.{Parts}
 use Rattle.h1_connection.proofs.connection.parts.Parts.end_answer.Goals as goal
 

@@ -1,7 +1,7 @@
 use Rattle.std.proofs.Common.{ap, ◌∙◌}
 use Rattle.h1_connection.proofs.EventLemmas.{eof_may_by, eof_steps_by, eof_sound_by}
 use Rattle.h1_connection.proofs.StepLemmas.{passed_may}
-use Rattle.http_segments.specs.Queued.{Queued}
+use Rattle.h1_output.specs.Queued.{Queued}
 use Rattle.h1_connection.specs.declared.connection.parts.Parts.{Parts}
 use Rattle.h1_connection.proofs.connection.parts.Parts.eof.Goals as goal
 

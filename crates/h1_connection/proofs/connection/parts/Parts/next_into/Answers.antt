@@ -1,6 +1,6 @@
 use Rattle.std.proofs.Common.{sym, ap, ◌∙◌, subst}
-use Rattle.h1_model.specs.Request.{Fault, faulty}
-use Rattle.h1_model.specs.RequestHead.{IsReading}
+use Rattle.model_h1.specs.Request.{Fault, faulty}
+use Rattle.model_h1.specs.RequestHead.{IsReading}
 use Rattle.h1_connection.specs.Given.{HasOpened}
 use Rattle.h1_connection.specs.Meaning.{setting_of}
 use Rattle.h1_connection.specs.Parts.{kept_of, IsSound}

@@ -1,5 +1,5 @@
 use Rattle.std.proofs.Common.{Option, ap, ◌∙◌}
-use Rattle.h1_machine.specs.Kept.{is_free}
+use Rattle.model_state.specs.Kept.{is_free}
 use Rattle.h1_connection.specs.Parts.{kept_of}
 use Rattle.h1_connection.specs.declared.connection.exchange.Exchange.{Exchange}
 use Rattle.h1_connection.proofs.StepLemmas.{pass_some, pass_none, rest_behind}

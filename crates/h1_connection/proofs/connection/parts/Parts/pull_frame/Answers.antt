@@ -2,7 +2,7 @@ use Rattle.std.proofs.Common.{ap, ◌∙◌, sym}
 use Rattle.std.proofs.lemmas.Bool.{false≢true}
 use Rattle.h1_connection.proofs.FrameLemmas.{light_frame, upgraded_frames, upgraded_unsearched, upgraded_behind, frame_may, frame_steps, frame_sound}
 use Rattle.h1_connection.proofs.NamedLemmas.{says_named}
-use Rattle.http_segments.specs.Queued.{Queued}
+use Rattle.h1_output.specs.Queued.{Queued}
 use Rattle.h1_connection.specs.declared.connection.parts.Parts.{Parts}
 use Rattle.h1_connection.specs.Stock.{Stock}
 use Rattle.h1_connection.proofs.StepLemmas.{sound_may}

@@ -1,6 +1,6 @@
 use Rattle.std.proofs.Common.{ap, ◌∙◌}
 use Rattle.h1_connection.proofs.StepLemmas.{sound_may}
-use Rattle.http_segments.specs.Queued.{Queued}
+use Rattle.h1_output.specs.Queued.{Queued}
 use Rattle.h1_connection.proofs.connection.parts.Parts.refuse.Goals as goal
 
 pub note-requires : goal.note-requires

@@ -1,10 +1,10 @@
 use Rattle.std.proofs.Common.{refl, sym, ◌∙◌, ap}
 use Rattle.std.proofs.lemmas.Bool.{false≢true}
-use Rattle.h1_model.specs.Event as on
+use Rattle.model_h1.specs.Event as on
 use Rattle.h1_connection.specs.Parts.{kept_of}
 use Rattle.h1_connection.proofs.StepLemmas.{sound_may}
 use Rattle.h1_connection.proofs.FrameLemmas.{no_rule, nothing_said, sent_steps, sent_sound, unsent_steps, unsent_sound}
-use Rattle.http_segments.specs.Queued.{Queued}
+use Rattle.h1_output.specs.Queued.{Queued}
 use Rattle.h1_connection.specs.Stock.{Stock}
 use Rattle.h1_connection.proofs.connection.parts.Parts.send.Goals as goal
 

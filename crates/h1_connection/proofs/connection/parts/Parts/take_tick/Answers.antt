@@ -1,7 +1,7 @@
 use Rattle.std.proofs.Common.{ap, ◌∙◌}
 use Rattle.h1_connection.proofs.StepLemmas.{sound_may}
 use Rattle.h1_connection.proofs.TickLemmas.{tick_may, tick_steps_by, tick_sound_by}
-use Rattle.http_segments.specs.Queued.{Queued}
+use Rattle.h1_output.specs.Queued.{Queued}
 use Rattle.h1_connection.specs.Stock.{Stock}
 use Rattle.h1_connection.proofs.connection.parts.Parts.take_tick.Goals as goal
 

@@ -1,0 +1,229 @@
+//! All members, and the limits that are theirs together.
+use crate::house::House;
+use crate::member::{Member, Stage};
+use crate::serve::serve;
+use mio::net::TcpStream;
+use std::alloc::Global;
+use rooms::{NoMemory, ServiceConfig};
+
+/// The most bytes that are read at once.
+pub const READ_SIZE: usize = 16_384;
+
+/// The most members at once.
+pub const MAX_MEMBERS: usize = 512;
+
+/// The most connections that a hub numbers.
+const MAX_NUMBERS: usize = 4096;
+
+/// The most bytes of payload that may wait in all. Where more do, nobody is read.
+const MAX_WAITING: usize = 64 * 1024 * 1024;
+
+/// After how many bytes that were read the waiting ones are counted anew.
+const COUNT_AFTER: usize = 8 * 1024 * 1024;
+
+/// The most bytes of payload that wait for members who are gone, before a new hub is begun.
+const MAX_LOST: usize = 32 * 1024 * 1024;
+
+/// How many connections an idle hub has had at least before a new one is begun in its place.
+const IDLE_NUMBERS: usize = 1024;
+
+/// For how long a member may take nothing of what it is owed, in milliseconds.
+const MAX_STALL: u64 = 30_000;
+
+/// The sockets of the rooms, by the numbers of their connections.
+#[derive(Drop)]
+pub struct Hall {
+    house: House,
+    members: Vec<Option<Member>>,
+
+    // The numbers of those that are there.
+    present: Vec<usize>,
+    room: Vec<u8>,
+
+    // How many bytes were read since the waiting ones were counted.
+    read: usize,
+
+    // Too many bytes wait.
+    is_full: bool,
+
+    // How many bytes wait for members who are gone.
+    lost: usize,
+
+    // Everybody is let go, and then a new hub is begun.
+    is_renewing: bool,
+}
+
+impl Hall {
+    /// A hall without a member.
+    pub fn new(alloc: Global, config: ServiceConfig) -> Result<Hall, NoMemory> {
+        Ok(Hall {
+            house: House::new(alloc, config),
+            members: Vec::new(alloc),
+            present: Vec::new(alloc),
+            room: Vec::from_elem(alloc, 0, READ_SIZE)?,
+            read: 0,
+            is_full: false,
+            lost: 0,
+            is_renewing: false,
+        })
+    }
+
+    /// How many members are there.
+    pub fn len(&self) -> usize {
+        self.present.len()
+    }
+
+    /// The number of the next member, where one may come.
+    pub fn next_number(&mut self) -> Option<usize> {
+        if self.present.is_empty() && self.house.len() >= IDLE_NUMBERS {
+            self.begin_anew();
+        }
+        if self.house.len() >= MAX_NUMBERS {
+            self.is_renewing = true;
+        }
+        if self.is_renewing || self.present.len() >= MAX_MEMBERS {
+            return None;
+        }
+        Some(self.house.len())
+    }
+
+    /// A member comes with a socket. The moment is in milliseconds since 1970.
+    pub fn admit(&mut self, stream: TcpStream, moment: u64) -> Result<(), NoMemory> {
+        let Some(number) = self.house.open()? else {
+            return Ok(());
+        };
+        // Numbers are given one after another.
+        for _ in self.members.len()..number {
+            self.members.push(None)?;
+        }
+        self.members.push(Some(Member::new(stream)))?;
+        self.present.push(number)?;
+        self.house.tick(number, moment)?;
+        Ok(())
+    }
+
+    /// The member with this number may be read from, or written to.
+    pub fn note(&mut self, number: usize, may_read: bool, may_write: bool) {
+        if let Some(Some(member)) = self.members.get_mut(number) {
+            let standing = &mut member.standing;
+            standing.may_read = standing.may_read || may_read;
+            standing.may_write = standing.may_write || may_write;
+        }
+    }
+
+    /// A round of all members. It says whether anything moved. The moment is of uptime, in milliseconds.
+    pub fn round(&mut self, uptime: u64) -> Result<bool, NoMemory> {
+        if self.read >= COUNT_AFTER {
+            self.count();
+        }
+        let mut moved = false;
+        let mut place = 0;
+        for _ in 0..self.present.len() {
+            let Some(&number) = self.present.get(place) else {
+                break;
+            };
+            if self.serve_one(number, uptime, &mut moved)? {
+                if place < self.present.len() {
+                    self.present.swap_remove(place);
+                }
+                self.let_go(number);
+            } else {
+                place = place.saturating_add(1);
+            }
+        }
+        if self.is_renewing && self.present.is_empty() {
+            self.begin_anew();
+        }
+        Ok(moved)
+    }
+
+    // A round of one member. It says whether its socket is done with.
+    fn serve_one(
+        &mut self,
+        number: usize,
+        uptime: u64,
+        moved: &mut bool,
+    ) -> Result<bool, NoMemory> {
+        let Some(Some(member)) = self.members.get_mut(number) else {
+            return Ok(true);
+        };
+        let reads = !self.is_full;
+        let served = serve(
+            &mut self.house,
+            number,
+            member,
+            &mut self.room,
+            reads,
+            uptime,
+        )?;
+        self.read = self.read.saturating_add(served.round.read);
+        *moved = *moved || served.round.moved;
+        Ok(served.is_over)
+    }
+
+    // Its socket is done with.
+    fn let_go(&mut self, number: usize) {
+        if let Some(place) = self.members.get_mut(number) {
+            *place = None;
+        }
+        self.lost = self.lost.saturating_add(self.house.waiting_bytes(number));
+        if self.lost > MAX_LOST {
+            self.is_renewing = true;
+        }
+    }
+
+    // Counts the bytes that wait.
+    fn count(&mut self) {
+        let mut bytes: usize = 0;
+        for &number in &self.present {
+            bytes = bytes.saturating_add(self.house.waiting_bytes(number));
+        }
+        self.read = 0;
+        self.is_full = bytes > MAX_WAITING;
+    }
+
+    // A hub without a connection takes the place of the old one, of whose members none is there any more.
+    fn begin_anew(&mut self) {
+        self.house.begin_anew();
+        self.members.clear();
+        self.lost = 0;
+        self.is_renewing = false;
+    }
+
+    /// A second has passed. The moment is in milliseconds since 1970, the other one is of uptime.
+    pub fn tick(&mut self, moment: u64, uptime: u64) -> Result<(), NoMemory> {
+        self.count();
+        for place in 0..self.present.len() {
+            let Some(&number) = self.present.get(place) else {
+                break;
+            };
+            if let Some(Some(member)) = self.members.get_mut(number) {
+                tick_one(&mut self.house, number, member, moment, uptime)?;
+                if self.is_renewing {
+                    self.house.drain(number)?;
+                }
+            }
+        }
+        Ok(())
+    }
+}
+
+// The time is told to one member's connection, and it is cut off where it takes nothing.
+fn tick_one(
+    house: &mut House,
+    number: usize,
+    member: &mut Member,
+    moment: u64,
+    uptime: u64,
+) -> Result<(), NoMemory> {
+    if let Some(since) = member.standing.stalled
+        && uptime.saturating_sub(since) >= MAX_STALL
+    {
+        member.standing.lose();
+    }
+    if house.tick(number, moment)? {
+        member.standing.lose();
+        member.standing.stage = Stage::Ended;
+    }
+    Ok(())
+}

@@ -1,0 +1,101 @@
+//! The words that the program is started with.
+use thiserror::Error;
+
+pub const VERSION: &str = "app_chat 0.1.0";
+
+pub const HELP: &str = "app_chat PORT [OPTIONS]
+
+Chat rooms over WebSocket. A room is a path: who joins ws://ADDRESS:PORT/kitchen hears what the others say there. A page
+to chat with is served over HTTP/1 on the next port.
+
+  PORT             the port of the rooms; the page is at PORT + 1; 0: the system chooses both
+  --bind ADDRESS   the address to listen on, of IPv4 or IPv6: 127.0.0.1 by default, which only this machine reaches;
+                   0.0.0.0 and :: are all
+  --ignore-input   go on where the standard input ends, as that of a service does at once
+  --help           print this and end
+  --version        print the version and end
+
+It ends where the standard input ends. At most 512 members are there at once. Who doesn't read is told Close 1008 once
+1024 frames wait for it, and is cut off where it takes nothing for 30 seconds. The Origin of a request isn't checked: a
+page of any site that a member visits may join the rooms in that member's browser.
+
+It ends with status 0, 1 where the system fails to tell what is ready, 2 for words out of form, 4 where an address can't
+be listened on, and 5 where memory runs out.";
+
+/// What the program is to do.
+pub enum Command<'a> {
+    Help,
+    Version,
+    Serve(Options<'a>),
+}
+
+/// Where the rooms and the page are, and when the program ends.
+#[derive(Clone, Copy)]
+pub struct Options<'a> {
+    /// The port of the rooms.
+    pub port: u16,
+
+    /// The port of the page.
+    pub page_port: u16,
+    pub address: &'a str,
+
+    /// It goes on where the standard input ends.
+    pub ignores_input: bool,
+}
+
+/// What is wrong with the words.
+#[derive(Clone, Copy, Debug, Error)]
+pub enum UsageError {
+    #[error("a port is wanted")]
+    TooFew,
+
+    #[error("there are too many words")]
+    TooMany,
+
+    #[error("the port has to be a number of at most 65534, since the page is at the next one")]
+    Port,
+
+    #[error("--bind wants an address")]
+    Bind,
+
+    #[error("there is no such option")]
+    Option,
+}
+
+/// Reads the words, without the program's name.
+pub fn read(words: &[String]) -> Result<Command<'_>, UsageError> {
+    let mut port = None;
+    let mut address = None;
+    let mut ignores_input = false;
+    let mut rest = words.iter();
+    while let Some(word) = rest.next() {
+        match word.as_str() {
+            "--help" | "-h" => return Ok(Command::Help),
+            "--version" => return Ok(Command::Version),
+            "--ignore-input" => ignores_input = true,
+            "--bind" => address = Some(rest.next().ok_or(UsageError::Bind)?.as_str()),
+            option if option.starts_with('-') => return Err(UsageError::Option),
+            text if port.is_none() => {
+                port = Some(text.parse::<u16>().map_err(|_| UsageError::Port)?);
+            }
+            _ => return Err(UsageError::TooMany),
+        }
+    }
+    let Some(port) = port else {
+        return Err(UsageError::TooFew);
+    };
+    Ok(Command::Serve(Options {
+        port,
+        page_port: next_port(port)?,
+        address: address.unwrap_or("127.0.0.1"),
+        ignores_input,
+    }))
+}
+
+// The port of the page.
+fn next_port(port: u16) -> Result<u16, UsageError> {
+    if port == 0 {
+        return Ok(0);
+    }
+    port.checked_add(1).ok_or(UsageError::Port)
+}

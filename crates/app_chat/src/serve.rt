@@ -1,0 +1,113 @@
+//! One round of a member, whose socket is closed once its connection has ended and all was written.
+use crate::house::House;
+use crate::member::{Member, Stage};
+use crate::round::{Round, go_round};
+use net_sockets::{Incoming, Outgoing};
+use std::io::Read;
+use std::net::Shutdown;
+use rooms::NoMemory;
+
+/// The most reads of a round of one whose bytes are dropped.
+const DROPS: u32 = 4;
+
+/// How long a peer is waited for after the last byte was written, in milliseconds.
+const LINGER: u64 = 2000;
+
+/// What a round of a member did.
+#[derive(Clone, Copy)]
+pub struct Served {
+    pub round: Round,
+
+    /// The socket is done with.
+    pub is_over: bool,
+}
+
+/// A round of a member. Where `reads` is false nothing is read. The moment is of uptime, in milliseconds.
+pub fn serve(
+    house: &mut House,
+    number: usize,
+    member: &mut Member,
+    room: &mut [u8],
+    reads: bool,
+    uptime: u64,
+) -> Result<Served, NoMemory> {
+    if let Stage::Lingering(until) = member.standing.stage {
+        return Ok(linger(member, room, until, uptime));
+    }
+    let limit = if reads { room.len() } else { 0 };
+    let mut round = go(house, number, member, &mut room[..limit], uptime)?;
+    if member.standing.stage != Stage::Ended || !member.standing.owed.is_empty() {
+        return Ok(Served {
+            round,
+            is_over: false,
+        });
+    }
+    if !member.standing.is_lost {
+        round.moved = true;
+        shut(member, uptime);
+    }
+    Ok(Served {
+        round,
+        is_over: member.standing.is_lost,
+    })
+}
+
+// A round over its socket.
+fn go(
+    house: &mut House,
+    number: usize,
+    member: &mut Member,
+    room: &mut [u8],
+    uptime: u64,
+) -> Result<Round, NoMemory> {
+    let mut source = Incoming::new(&member.stream);
+    let mut sink = Outgoing::new(&member.stream);
+    let standing = &mut member.standing;
+    go_round(
+        house,
+        number,
+        standing,
+        &mut source,
+        &mut sink,
+        room,
+        uptime,
+    )
+}
+
+// All was written, and no more will be.
+fn shut(member: &mut Member, uptime: u64) {
+    if member.stream.shutdown(Shutdown::Write).is_err() {
+        member.standing.lose();
+        return;
+    }
+    member.standing.stage = Stage::Lingering(uptime.saturating_add(LINGER));
+}
+
+// Drops what still comes, until it ends or the time is up.
+fn linger(member: &mut Member, room: &mut [u8], until: u64, uptime: u64) -> Served {
+    let mut served = Served {
+        round: Round {
+            moved: false,
+            read: 0,
+        },
+        is_over: member.standing.has_ended || member.standing.is_lost || uptime >= until,
+    };
+    if served.is_over || !member.standing.may_read {
+        return served;
+    }
+    for _ in 0..DROPS {
+        let mut stream = &member.stream;
+        match stream.read(room) {
+            Ok(0) => {
+                served.is_over = true;
+                return served;
+            }
+            Ok(_) => served.round.moved = true,
+            Err(_) => {
+                member.standing.may_read = false;
+                return served;
+            }
+        }
+    }
+    served
+}

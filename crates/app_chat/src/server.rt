@@ -1,0 +1,300 @@
+//! The loop: it waits until a socket is ready, and gives every member and every visit of the page a round.
+use crate::hall::{Hall, READ_SIZE};
+use crate::page::Page;
+use crate::visit::{Progress, Visit};
+use net_sockets::{moment, uptime};
+use http_types::{NoMemory, ServiceConfig};
+use mio::net::{TcpListener, TcpStream};
+use mio::unix::SourceFd;
+use mio::{Events, Interest, Poll, Token};
+use std::alloc::Global;
+use std::io::{ErrorKind, Read};
+use std::time::Duration;
+use thiserror::Error;
+
+/// The descriptor of the standard input.
+const INPUT: i32 = 0;
+
+const INPUT_TOKEN: usize = 0;
+
+const ROOMS_TOKEN: usize = 1;
+
+const PAGE_TOKEN: usize = 2;
+
+/// The tokens of visits begin here, and those of members behind them.
+const VISITS: usize = 16;
+
+/// The most visits of the page at once.
+const MAX_VISITS: usize = 64;
+
+const MEMBERS: usize = VISITS + MAX_VISITS;
+
+/// The most events of one wait.
+const EVENTS: usize = 256;
+
+/// The most rounds before sockets are asked for again.
+const ROUNDS: u32 = 16;
+
+/// The most connections that are accepted at once.
+const ACCEPTS: u32 = 64;
+
+/// How long a wait takes at most, and how often the time is told, in milliseconds.
+const SECOND: u64 = 1000;
+
+/// Why the server ended before its input did.
+#[derive(Clone, Copy, Debug, Error)]
+pub enum ServeError {
+    #[error("the system doesn't tell which sockets are ready")]
+    Poll,
+
+    #[error("no memory is left")]
+    NoMemory,
+}
+
+impl From<NoMemory> for ServeError {
+    fn from(_error: NoMemory) -> ServeError {
+        ServeError::NoMemory
+    }
+}
+
+/// The rooms, the page, and what listens for both.
+#[derive(Drop)]
+pub struct Server {
+    rt: HostRuntime,
+    alloc: Global,
+    config: ServiceConfig,
+    poll: Poll,
+    rooms: TcpListener,
+    pages: TcpListener,
+    hall: Hall,
+    page: Page,
+    visits: Vec<Option<Visit>>,
+    room: Vec<u8>,
+    may_join: bool,
+    may_visit: bool,
+    input_ended: bool,
+    last_tick: u64,
+}
+
+impl Server {
+    /// A server that listens.
+    pub fn new(
+        rt: HostRuntime,
+        config: ServiceConfig,
+        mut rooms: TcpListener,
+        mut pages: TcpListener,
+        page: Page,
+    ) -> Result<Server, ServeError> {
+        let alloc = rt.alloc();
+        let Ok(poll) = Poll::new(&rt) else {
+            return Err(ServeError::Poll);
+        };
+        if poll
+            .registry()
+            .register(&mut rooms, Token(ROOMS_TOKEN), Interest::READABLE)
+            .is_err()
+            || poll
+                .registry()
+                .register(&mut pages, Token(PAGE_TOKEN), Interest::READABLE)
+                .is_err()
+        {
+            return Err(ServeError::Poll);
+        }
+        Ok(Server {
+            rt,
+            alloc,
+            config,
+            poll,
+            rooms,
+            pages,
+            hall: Hall::new(alloc, config)?,
+            page,
+            visits: no_visits(alloc)?,
+            room: Vec::from_elem(alloc, 0, READ_SIZE)?,
+            may_join: true,
+            may_visit: true,
+            input_ended: false,
+            last_tick: 0,
+        })
+    }
+
+    /// Serves until the standard input ends, if it is watched.
+    pub fn run(&mut self, watches_input: bool) -> Result<(), ServeError> {
+        if watches_input {
+            self.watch_input();
+        }
+        let mut events = Events::with_capacity(self.alloc, EVENTS)?;
+        let mut moved = false;
+        for _ in 0..u64::MAX {
+            let wait = if moved { 0 } else { SECOND };
+            if self
+                .poll
+                .poll(&mut events, Some(Duration::from_millis(wait)))
+                .is_err()
+            {
+                return Err(ServeError::Poll);
+            }
+            for event in &events {
+                self.note(event.token().0, event.is_readable(), event.is_writable());
+            }
+            if self.input_ended {
+                return Ok(());
+            }
+            moved = self.turn()?;
+        }
+        Ok(())
+    }
+
+    // What is ready is noted.
+    fn note(&mut self, token: usize, may_read: bool, may_write: bool) {
+        match token {
+            INPUT_TOKEN => self.read_input(),
+            ROOMS_TOKEN => self.may_join = true,
+            PAGE_TOKEN => self.may_visit = true,
+            _ if token >= MEMBERS => self.hall.note(token - MEMBERS, may_read, may_write),
+            _ => {
+                if let Some(Some(visit)) = self.visits.get_mut(token.saturating_sub(VISITS)) {
+                    visit.note(may_read, may_write);
+                }
+            }
+        }
+    }
+
+    // The time is told, connections are accepted, and everybody has rounds. It says whether something may move at once.
+    fn turn(&mut self) -> Result<bool, ServeError> {
+        let moment = moment(&self.rt).unwrap_or(0);
+        let uptime = uptime(&self.rt).unwrap_or(0);
+        if uptime.saturating_sub(self.last_tick) >= SECOND {
+            self.last_tick = uptime;
+            // Descriptors may be free again.
+            self.may_join = true;
+            self.may_visit = true;
+            self.hall.tick(moment, uptime)?;
+        }
+        self.accept_members(moment)?;
+        self.accept_visits(uptime)?;
+        let goes_on = self.serve_visits(moment, uptime)?;
+        for _ in 0..ROUNDS {
+            if !self.hall.round(uptime)? {
+                return Ok(goes_on);
+            }
+        }
+        Ok(true)
+    }
+
+    fn accept_members(&mut self, moment: u64) -> Result<(), ServeError> {
+        for _ in 0..ACCEPTS {
+            if !self.may_join {
+                break;
+            }
+            let Some(number) = self.hall.next_number() else {
+                break;
+            };
+            let Some(mut stream) = accept(&self.rooms, &mut self.may_join) else {
+                continue;
+            };
+            if register(&self.poll, &mut stream, MEMBERS.saturating_add(number)) {
+                self.hall.admit(stream, moment)?;
+            }
+        }
+        Ok(())
+    }
+
+    fn accept_visits(&mut self, uptime: u64) -> Result<(), ServeError> {
+        let mut slot: usize = 0;
+        for place in &mut self.visits {
+            if !self.may_visit {
+                break;
+            }
+            if place.is_none()
+                && let Some(mut stream) = accept(&self.pages, &mut self.may_visit)
+                && register(&self.poll, &mut stream, VISITS.saturating_add(slot))
+            {
+                *place = Some(Visit::new(self.alloc, self.config, stream, uptime));
+            }
+            slot = slot.saturating_add(1);
+        }
+        Ok(())
+    }
+
+    // Serves each visit for a while, and says whether one may go on at once.
+    fn serve_visits(&mut self, moment: u64, uptime: u64) -> Result<bool, ServeError> {
+        let mut goes_on = false;
+        for place in &mut self.visits {
+            let progress = match place {
+                Some(visit) => visit.serve(&self.page, &mut self.room, moment, uptime)?,
+                None => Progress::Waits,
+            };
+            match progress {
+                Progress::More => goes_on = true,
+                Progress::Waits => {}
+                Progress::Over => *place = None,
+            }
+        }
+        Ok(goes_on)
+    }
+
+    // Has the end of the standard input told. What can't be watched, as a file, is at its end at once.
+    fn watch_input(&mut self) {
+        let mut source = SourceFd(&INPUT);
+        let watched = self
+            .poll
+            .registry()
+            .register(&mut source, Token(INPUT_TOKEN), Interest::READABLE);
+        if watched.is_err() {
+            self.input_ended = true;
+        }
+    }
+
+    // Passes over what came.
+    fn read_input(&mut self) {
+        let mut input = self.rt.stdin();
+        match input.read(&mut self.room) {
+            Ok(0) | Err(_) => self.input_ended = true,
+            Ok(_) => {
+                // There may be more.
+                let mut source = SourceFd(&INPUT);
+                let _ = self
+                    .poll
+                    .registry()
+                    .reregister(&mut source, Token(INPUT_TOKEN), Interest::READABLE);
+            }
+        }
+    }
+}
+
+// Places for visits.
+fn no_visits(alloc: Global) -> Result<Vec<Option<Visit>>, NoMemory> {
+    let mut visits = Vec::new(alloc);
+    for _ in 0..MAX_VISITS {
+        visits.push(None)?;
+    }
+    Ok(visits)
+}
+
+// The next connection, where one waits; `may_accept` says whether there may be more.
+fn accept(listener: &TcpListener, may_accept: &mut bool) -> Option<TcpStream> {
+    match listener.accept() {
+        Ok((stream, _)) => {
+            // Small pieces go out at once.
+            let _ = stream.set_nodelay(true);
+            Some(stream)
+        }
+        Err(error) => {
+            let is_gone = matches!(
+                error.kind(),
+                ErrorKind::ConnectionAborted | ErrorKind::ConnectionReset | ErrorKind::Interrupted
+            );
+            *may_accept = is_gone;
+            None
+        }
+    }
+}
+
+// Has it told when the socket is ready. One that can't be is dropped.
+fn register(poll: &Poll, stream: &mut TcpStream, token: usize) -> bool {
+    let interests = Interest::READABLE | Interest::WRITABLE;
+    poll.registry()
+        .register(stream, Token(token), interests)
+        .is_ok()
+}

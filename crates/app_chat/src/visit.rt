@@ -1,0 +1,219 @@
+//! A connection of the page.
+use crate::page::Page;
+use h1_connection::{
+    BodySize, Connection, Expiry, NextHead, NoMemory, ReadFromError, ServiceConfig,
+};
+use net_sockets::{Incoming, Outgoing, Polled};
+use http_types::{RequestHead, Sink};
+use mio::net::TcpStream;
+use std::alloc::Global;
+use std::io::Read;
+use std::net::Shutdown;
+
+/// The most requests that are answered in one round.
+const TURNS: u32 = 16;
+
+/// For how long a visit lasts, in milliseconds.
+const LONGEST: u64 = 30_000;
+
+/// How long a peer is waited for after the last byte was written, in milliseconds.
+const LINGER: u64 = 2000;
+
+/// How far a visit has come.
+#[derive(Clone, Copy)]
+pub enum Progress {
+    /// It may go on at once.
+    More,
+
+    /// It waits for its socket.
+    Waits,
+
+    /// It is over.
+    Over,
+}
+
+/// A socket of the page.
+#[derive(Drop)]
+pub struct Visit {
+    stream: TcpStream,
+    connection: Connection,
+    may_read: bool,
+    may_write: bool,
+
+    // When it ends, in milliseconds of uptime.
+    until: u64,
+
+    // Its connection has ended, and all was written.
+    is_lingering: bool,
+}
+
+impl Visit {
+    /// A visit that begins now, in milliseconds of uptime.
+    pub fn new(alloc: Global, config: ServiceConfig, stream: TcpStream, uptime: u64) -> Visit {
+        Visit {
+            stream,
+            connection: Connection::new(alloc, config),
+            may_read: true,
+            may_write: true,
+            until: uptime.saturating_add(LONGEST),
+            is_lingering: false,
+        }
+    }
+
+    /// It may be read from, or written to.
+    pub fn note(&mut self, may_read: bool, may_write: bool) {
+        self.may_read = self.may_read || may_read;
+        self.may_write = self.may_write || may_write;
+    }
+
+    /// Serves it for a while, without waiting.
+    pub fn serve(
+        &mut self,
+        page: &Page,
+        room: &mut [u8],
+        moment: u64,
+        uptime: u64,
+    ) -> Result<Progress, NoMemory> {
+        if uptime >= self.until {
+            return Ok(Progress::Over);
+        }
+        if self.is_lingering {
+            return Ok(self.drop_rest(room));
+        }
+        if self.tell_time(moment)? {
+            return Ok(Progress::Over);
+        }
+        self.take_turns(page, uptime)
+    }
+
+    // Tells the moment, and says whether its peer took too long.
+    fn tell_time(&mut self, moment: u64) -> Result<bool, NoMemory> {
+        if !self.connection.can_tick(moment) {
+            return Ok(false);
+        }
+        match self.connection.tick(moment)? {
+            Expiry::Abandoned => Ok(true),
+            // Where it expired, the answer that says so is to be written, and then the connection has ended.
+            Expiry::None | Expiry::Expired(_) => Ok(false),
+        }
+    }
+
+    // Reads, answers and writes.
+    fn take_turns(&mut self, page: &Page, uptime: u64) -> Result<Progress, NoMemory> {
+        for _ in 0..TURNS {
+            if self.read()? || self.write() {
+                return Ok(Progress::Over);
+            }
+            if !self.connection.can_next() {
+                return Ok(Progress::Waits);
+            }
+            match self.connection.next()? {
+                NextHead::Head(item) => self.answer(page, &item.head)?,
+                NextHead::Fault(_) => {}
+                NextHead::Pending => {
+                    if !self.may_read {
+                        return Ok(Progress::Waits);
+                    }
+                }
+                NextHead::Closed(_) => return Ok(self.shut(uptime)),
+            }
+        }
+        Ok(Progress::More)
+    }
+
+    // Reads what came. It says whether the peer is gone.
+    fn read(&mut self) -> Result<bool, NoMemory> {
+        if !self.may_read || !self.connection.can_read() {
+            return Ok(false);
+        }
+        let mut source = Incoming::new(&self.stream);
+        match self.connection.read_from(&mut source) {
+            Ok(0) => {
+                self.connection.eof();
+                self.may_read = false;
+            }
+            Ok(_) | Err(ReadFromError::Full) => {}
+            Err(ReadFromError::NoMemory) => return Err(std::alloc::AllocError),
+            Err(ReadFromError::Failed) => {
+                if !source.is_not_now() {
+                    return Ok(true);
+                }
+                self.may_read = false;
+            }
+        }
+        Ok(false)
+    }
+
+    // Answers the open request.
+    fn answer(&mut self, page: &Page, asked: &RequestHead) -> Result<(), NoMemory> {
+        let reply = page.reply(asked)?;
+        if self.connection.can_answer() {
+            let size = BodySize::Sized(reply.body.len() as u64);
+            self.connection.answer(&reply.head, size)?;
+        }
+        if self.connection.can_chunk() {
+            self.connection.chunk(reply.body.as_bytes())?;
+        }
+        if self.connection.can_end_answer() {
+            self.connection.end_answer()?;
+        }
+        if self.connection.can_pull() {
+            self.connection.drop_body();
+        }
+        Ok(())
+    }
+
+    // Writes what is to be written, as far as that goes. It says whether the peer is gone.
+    fn write(&mut self) -> bool {
+        for _ in 0..TURNS {
+            if !self.may_write
+                || self.connection.stretch().is_empty()
+                || !self.connection.can_write()
+            {
+                return false;
+            }
+            let mut sink = Outgoing::new(&self.stream);
+            match sink.write(self.connection.stretch()) {
+                Ok(count) => self.connection.advance(count),
+                Err(_) => {
+                    if !sink.is_not_now() {
+                        return true;
+                    }
+                    self.may_write = false;
+                }
+            }
+        }
+        false
+    }
+
+    // No more is written.
+    fn shut(&mut self, uptime: u64) -> Progress {
+        if self.stream.shutdown(Shutdown::Write).is_err() {
+            return Progress::Over;
+        }
+        self.is_lingering = true;
+        self.until = uptime.saturating_add(LINGER).min(self.until);
+        // What still comes is dropped.
+        self.may_read = true;
+        Progress::More
+    }
+
+    // Drops what still comes, until it ends.
+    fn drop_rest(&mut self, room: &mut [u8]) -> Progress {
+        if !self.may_read {
+            return Progress::Waits;
+        }
+        let mut stream = &self.stream;
+        for _ in 0..TURNS {
+            match stream.read(room) {
+                Ok(0) => return Progress::Over,
+                Ok(_) => {}
+                Err(_) => {
+                    self.may_read = false;
+                    return Progress::Waits;
+                }
+            }
+        }
+        Progress::More
+    }
+}

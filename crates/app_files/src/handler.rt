@@ -1,0 +1,353 @@
+//! What is answered to which request.
+ghost use Rattle.std.specs.Prelude.{None};
+ghost use Rattle.serve_blocking.specs.Served.{Follows};
+
+use crate::found::{Found, Unlisted, entries, is_file, look, open};
+use crate::reply::{Sent, add, add_range, file_head, page_head};
+use crate::shared::Shared;
+use serve_blocking::{Answer, Body, HandleError, Handler, Handlers, Incoming};
+use net_sockets::{TimedSink, TimedSource};
+use http_files::{
+    Asked, FilePath, PathError, asked_range, content_type, folder_page, is_unchanged_since,
+    line_text, lists_etag, message_page, place_of,
+};
+use http_types::header::CONTENT_TYPE;
+use http_types::header::names::{ALLOW, LOCATION};
+use http_types::{HeaderMap, Method, NoMemory, RequestHead, ResponseHead, StatusCode};
+use std::alloc::Global;
+use std::fs::File;
+use std::io::{Read, Seek, SeekFrom};
+use std::net::SocketAddr;
+use std::sync::Arc;
+
+/// How many bytes of a file are held at once.
+const PIECE: usize = 65_536;
+
+/// Makes the handlers of a server.
+#[derive(Drop)]
+pub struct FileHandlers {
+    rt: HostRuntime,
+    shared: Arc<Shared>,
+}
+
+/// Answers the requests of one connection.
+#[derive(Drop)]
+pub struct FileHandler {
+    rt: HostRuntime,
+    alloc: Global,
+    shared: Arc<Shared>,
+
+    // A piece of a file. It takes no memory before the first one.
+    piece: Vec<u8>,
+}
+
+impl FileHandlers {
+    pub fn new(rt: HostRuntime, shared: Arc<Shared>) -> FileHandlers {
+        FileHandlers { rt, shared }
+    }
+}
+
+impl Handlers for FileHandlers {
+    type Handler = FileHandler;
+
+    fn handler(&mut self, _peer: SocketAddr) -> Result<FileHandler, NoMemory> {
+        let alloc = self.rt.alloc();
+        Ok(FileHandler {
+            rt: self.rt,
+            alloc,
+            shared: Arc::try_clone(&self.shared)?,
+            piece: Vec::new(alloc),
+        })
+    }
+
+    fn is_ending(&self) -> bool {
+        self.shared.is_ending()
+    }
+}
+
+impl Handler for FileHandler {
+    // It keeps no list of its requests.
+    ghost handled = { λ _. None };
+
+    #[tactic(auto, using(serve_blocking::proofs::Followed::follows_none, serve_blocking::proofs::Followed::follows_then))]
+    fn handle<S: TimedSource, K: TimedSink>(
+        &mut self,
+        request: &Incoming<'_>,
+        body: &mut Body<S, K>,
+        answer: Answer,
+    ) -> Result<(), HandleError> {
+        let sent = self.answer(request.head(), body, answer);
+        self.shared.count();
+        let sent = sent?;
+        let method = request.head().method.as_str();
+        let target = line_text(self.alloc, request.target().as_slice())?;
+        let (status, length) = (sent.status.as_u16(), sent.length);
+        let _ = match request.peer() {
+            Some(peer) => eprintln!(self.rt; "{peer} {method} {target} {status} {length}"),
+            None => eprintln!(self.rt; "- {method} {target} {status} {length}"),
+        };
+        Ok(())
+    }
+
+    fn is_ending(&self) -> bool {
+        self.shared.is_ending()
+    }
+}
+
+impl FileHandler {
+    #[tactic(auto, using(serve_blocking::proofs::Followed::follows_none, serve_blocking::proofs::Followed::follows_then))]
+    fn answer<S: TimedSource, K: TimedSink>(
+        &mut self,
+        head: &RequestHead,
+        body: &mut Body<S, K>,
+        answer: Answer,
+    ) -> Result<Sent, HandleError>
+        ensures follows { Follows body.old body.new }
+    {
+        if head.method != Method::GET && head.method != Method::HEAD {
+            return self.refuse(StatusCode::METHOD_NOT_ALLOWED, body, answer);
+        }
+        let target = head.uri.path();
+        let path = match self.shared.folder().file(self.alloc, target) {
+            Ok(path) if path.is_hidden() && !self.shared.shows_dots() => {
+                return self.refuse(StatusCode::NOT_FOUND, body, answer);
+            }
+            Ok(path) => path,
+            Err(PathError::Malformed) => return self.refuse(StatusCode::BAD_REQUEST, body, answer),
+            Err(PathError::Outside) => return self.refuse(StatusCode::NOT_FOUND, body, answer),
+            Err(PathError::NoMemory) => return Err(HandleError::NoMemory),
+        };
+        match look(&self.rt, &path) {
+            Ok(metadata) if metadata.is_dir() && target.ends_with('/') => {
+                self.folder(head, &path, body, answer)
+            }
+            Ok(metadata) if metadata.is_dir() => self.redirect(head, body, answer),
+            Ok(metadata) if metadata.is_file() && !target.ends_with('/') => {
+                self.file(head, &path, body, answer)
+            }
+            Ok(_) => self.refuse(StatusCode::NOT_FOUND, body, answer),
+            Err(status) => self.refuse(status, body, answer),
+        }
+    }
+
+    // Answers with a status and a page that says it.
+    #[tactic(auto, using(serve_blocking::proofs::Followed::follows_none, serve_blocking::proofs::Followed::follows_then))]
+    fn refuse<S: TimedSource, K: TimedSink>(
+        &mut self,
+        status: StatusCode,
+        body: &mut Body<S, K>,
+        answer: Answer,
+    ) -> Result<Sent, HandleError>
+        ensures follows { Follows body.old body.new }
+    {
+        let mut head = page_head(self.alloc, status)?;
+        if status == StatusCode::METHOD_NOT_ALLOWED {
+            add(self.alloc, &mut head, ALLOW, "GET, HEAD")?;
+        }
+        let page = message_page(self.alloc, status.canonical_reason().unwrap_or(""))?;
+        send_page(head, status, page.as_str(), body, answer)
+    }
+
+    // Sends the client to a folder's place with a slash at its end, since the links of its page start there.
+    #[tactic(auto, using(serve_blocking::proofs::Followed::follows_none, serve_blocking::proofs::Followed::follows_then))]
+    fn redirect<S: TimedSource, K: TimedSink>(
+        &mut self,
+        request: &RequestHead,
+        body: &mut Body<S, K>,
+        answer: Answer,
+    ) -> Result<Sent, HandleError>
+        ensures follows { Follows body.old body.new }
+    {
+        let alloc = self.alloc;
+        let place = match place_of(alloc, request.uri.path(), request.uri.query()) {
+            Ok(place) => place,
+            Err(PathError::NoMemory) => return Err(HandleError::NoMemory),
+            Err(_) => return self.refuse(StatusCode::BAD_REQUEST, body, answer),
+        };
+        let status = StatusCode::MOVED_PERMANENTLY;
+        let mut head = page_head(alloc, status)?;
+        add(alloc, &mut head, LOCATION, place.as_str())?;
+        let page = message_page(alloc, "Moved permanently")?;
+        send_page(head, status, page.as_str(), body, answer)
+    }
+
+    // Answers with a folder's index.html, or with a page of its names.
+    #[tactic(auto, using(serve_blocking::proofs::Followed::follows_none, serve_blocking::proofs::Followed::follows_then))]
+    fn folder<S: TimedSource, K: TimedSink>(
+        &mut self,
+        request: &RequestHead,
+        path: &FilePath,
+        body: &mut Body<S, K>,
+        answer: Answer,
+    ) -> Result<Sent, HandleError>
+        ensures follows { Follows body.old body.new }
+    {
+        let Ok(index) = path.child("index.html") else {
+            return Err(HandleError::NoMemory);
+        };
+        if is_file(&self.rt, &index) {
+            return self.file(request, &index, body, answer);
+        }
+        let entries = match entries(&self.rt, path, self.shared.shows_dots()) {
+            Ok(entries) => entries,
+            Err(Unlisted::NoMemory) => return Err(HandleError::NoMemory),
+            Err(unlisted) => return self.refuse(unlisted.status(), body, answer),
+        };
+        let alloc = self.alloc;
+        let place = path
+            .as_str()
+            .strip_prefix(self.shared.folder().as_str())
+            .unwrap_or("");
+        let mut title = String::from_str(alloc, place)?;
+        title.push_str("/")?;
+        let page = folder_page(alloc, title.as_str(), entries.as_slice())?;
+        let head = page_head(alloc, StatusCode::OK)?;
+        send_page(head, StatusCode::OK, page.as_str(), body, answer)
+    }
+
+    // Answers with a file, or a part of it, or that the client has it.
+    #[tactic(auto, using(serve_blocking::proofs::Followed::follows_none, serve_blocking::proofs::Followed::follows_then))]
+    fn file<S: TimedSource, K: TimedSink>(
+        &mut self,
+        request: &RequestHead,
+        path: &FilePath,
+        body: &mut Body<S, K>,
+        answer: Answer,
+    ) -> Result<Sent, HandleError>
+        ensures follows { Follows body.old body.new }
+    {
+        let alloc = self.alloc;
+        let mut file = match open(&self.rt, path) {
+            Ok(file) => file,
+            Err(status) => return self.refuse(status, body, answer),
+        };
+        let Ok(metadata) = file.metadata() else {
+            return self.refuse(StatusCode::INTERNAL_SERVER_ERROR, body, answer);
+        };
+        let found = Found::new(alloc, &metadata)?;
+        if has_it(&request.headers, &found) {
+            let status = StatusCode::NOT_MODIFIED;
+            answer.empty(body, file_head(alloc, status, &found)?)?;
+            return Ok(Sent { status, length: 0 });
+        }
+        let (status, part) = match asked_of(request, &found) {
+            Asked::Whole => (StatusCode::OK, None),
+            Asked::Part(first, last) => (StatusCode::PARTIAL_CONTENT, Some((first, last))),
+            Asked::Unsatisfiable => (StatusCode::RANGE_NOT_SATISFIABLE, None),
+        };
+        let mut head = file_head(alloc, status, &found)?;
+        add(alloc, &mut head, CONTENT_TYPE, content_type(path.as_str()))?;
+        if status != StatusCode::OK {
+            add_range(alloc, &mut head, part, found.length)?;
+        }
+        let (first, length) = match part {
+            Some((first, last)) => (first, last.saturating_sub(first).saturating_add(1)),
+            None if status == StatusCode::OK => (0, found.length),
+            None => (0, 0),
+        };
+        let is_head = request.method == Method::HEAD;
+        self.send(&mut file, is_head, first, length, head, body, answer)?;
+        Ok(Sent { status, length })
+    }
+
+    // Sends so many bytes of a file, piece by piece.
+    #[tactic(auto, using(serve_blocking::proofs::Followed::follows_none, serve_blocking::proofs::Followed::follows_then))]
+    fn send<S: TimedSource, K: TimedSink>(
+        &mut self,
+        file: &mut File,
+        is_head: bool,
+        first: u64,
+        length: u64,
+        head: ResponseHead,
+        body: &mut Body<S, K>,
+        answer: Answer,
+    ) -> Result<(), HandleError>
+        ensures follows { Follows body.old body.new }
+    {
+        if self.piece.is_empty() {
+            self.piece.resize(PIECE, 0)?;
+        }
+        if first > 0 && file.seek(SeekFrom::Start(first)).is_err() {
+            return Err(HandleError::Failed);
+        }
+        let mut writer = answer.sized(body, head, length)?;
+        let mut left = if is_head { 0 } else { length };
+        for _ in 0..length {
+            if left == 0 {
+                return writer.end(body);
+            }
+            let limit = usize::try_from(left)
+                .unwrap_or(usize::MAX)
+                .min(self.piece.len());
+            match file.read(&mut self.piece[..limit]) {
+                Ok(count) if count > 0 => {
+                    writer = writer.write(body, &self.piece[..count])?;
+                    left = left.saturating_sub(count as u64);
+                }
+                // The file became shorter.
+                _ => {
+                    writer.fail(body);
+                    return Ok(());
+                }
+            }
+        }
+        writer.end(body)
+    }
+}
+
+#[tactic(auto, using(serve_blocking::proofs::Followed::follows_none, serve_blocking::proofs::Followed::follows_then))]
+fn send_page<S: TimedSource, K: TimedSink>(
+    head: ResponseHead,
+    status: StatusCode,
+    page: &str,
+    body: &mut Body<S, K>,
+    answer: Answer,
+) -> Result<Sent, HandleError>
+    ensures follows { Follows body.old body.new }
+{
+    answer.whole(body, head, page.as_bytes())?;
+    Ok(Sent {
+        status,
+        length: page.len() as u64,
+    })
+}
+
+// Whether the client has the file already (RFC 7232, section 6).
+fn has_it(headers: &HeaderMap, found: &Found) -> bool {
+    if let Some(tags) = headers.get("if-none-match") {
+        return lists_etag(tags.to_str().unwrap_or(""), &found.tag);
+    }
+    match headers.get("if-modified-since") {
+        Some(date) => is_unchanged_since(date.as_bytes(), found.changed),
+        None => false,
+    }
+}
+
+// Which bytes are asked for. Of a file that isn't the one that `If-Range` means, all of them (RFC 7233, section 3.2).
+fn asked_of(request: &RequestHead, found: &Found) -> Asked {
+    if request.method != Method::GET {
+        return Asked::Whole;
+    }
+    let Some(range) = request.headers.get("range") else {
+        return Asked::Whole;
+    };
+    let is_meant = match request.headers.get("if-range") {
+        Some(value) => is_same(value.as_bytes(), found),
+        None => true,
+    };
+    match range.to_str() {
+        Ok(range) if is_meant => asked_range(range, found.length),
+        _ => Asked::Whole,
+    }
+}
+
+// Whether it is the file's tag, or its date.
+fn is_same(value: &[u8], found: &Found) -> bool {
+    if value == found.tag.as_bytes() {
+        return true;
+    }
+    match found.date() {
+        Some(date) => value == date.as_slice(),
+        None => false,
+    }
+}

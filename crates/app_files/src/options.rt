@@ -1,0 +1,114 @@
+//! The words that the program is started with.
+use thiserror::Error;
+
+pub const VERSION: &str = "app_files 0.1.0";
+
+pub const HELP: &str = "app_files PORT FOLDER [OPTIONS]
+
+Serves the files of a folder over HTTP/1.
+
+  PORT                 the port to listen on; 0 is one that the system chooses
+  FOLDER               the folder whose files are served
+  --bind ADDRESS       the address to listen on, of IPv4 or IPv6: 127.0.0.1 by default, which only this machine
+                       reaches; 0.0.0.0 and :: are all
+  --dotfiles           serve and list names that begin with a dot, too
+  --lax                answer requests too whose head RFC 9110 or 9112 refuses
+  --requests N         end after N requests
+  --until-input-ends   end where the standard input ends
+  --help               print this and end
+  --version            print the version and end
+
+It ends with status 0, 2 for words out of form, 3 where there is no such folder, 4 where the address can't be
+listened on, 5 where memory runs out, and 6 where no thread can be started. Each request gets a line on standard
+error.";
+
+/// What the program is to do.
+pub enum Command<'a> {
+    Help,
+    Version,
+    Serve(Options<'a>),
+}
+
+/// How the files are served.
+#[derive(Clone, Copy)]
+pub struct Options<'a> {
+    pub port: u16,
+    pub folder: &'a str,
+    pub address: &'a str,
+
+    /// Names that begin with a dot are served and listed.
+    pub shows_dots: bool,
+
+    /// Heads that RFC 9110 or RFC 9112 refuses are answered too.
+    pub is_lax: bool,
+
+    /// After how many requests the server ends.
+    pub requests: Option<u64>,
+    pub until_input_ends: bool,
+}
+
+/// What is wrong with the words.
+#[derive(Clone, Copy, Debug, PartialEq, Eq, Error)]
+pub enum UsageError {
+    #[error("a port and a folder are wanted")]
+    TooFew,
+
+    #[error("there are too many words")]
+    TooMany,
+
+    #[error("the port has to be a number of at most 65535")]
+    Port,
+
+    #[error("--bind wants an address")]
+    Bind,
+
+    #[error("--requests wants a number")]
+    Requests,
+
+    #[error("there is no such option")]
+    Option,
+}
+
+/// Reads the words, without the program's name.
+pub fn read(words: &[String]) -> Result<Command<'_>, UsageError> {
+    let mut port = None;
+    let mut folder = None;
+    let mut address = None;
+    let mut requests = None;
+    let mut until_input_ends = false;
+    let mut shows_dots = false;
+    let mut is_lax = false;
+    let mut rest = words.iter();
+    while let Some(word) = rest.next() {
+        match word.as_str() {
+            "--help" | "-h" => return Ok(Command::Help),
+            "--version" => return Ok(Command::Version),
+            "--dotfiles" => shows_dots = true,
+            "--lax" => is_lax = true,
+            "--until-input-ends" => until_input_ends = true,
+            "--bind" => address = Some(rest.next().ok_or(UsageError::Bind)?.as_str()),
+            "--requests" => {
+                let count = rest.next().ok_or(UsageError::Requests)?;
+                requests = Some(count.parse::<u64>().map_err(|_| UsageError::Requests)?);
+            }
+            option if option.starts_with("--") => return Err(UsageError::Option),
+            text if port.is_none() => {
+                port = Some(text.parse::<u16>().map_err(|_| UsageError::Port)?);
+            }
+            text if folder.is_none() => folder = Some(text),
+            _ => return Err(UsageError::TooMany),
+        }
+    }
+    let (Some(port), Some(folder)) = (port, folder) else {
+        return Err(UsageError::TooFew);
+    };
+    Ok(Command::Serve(Options {
+        port,
+        folder,
+        address: address.unwrap_or("127.0.0.1"),
+        shows_dots,
+        is_lax,
+        requests,
+        until_input_ends,
+    }))
+}

@@ -1,0 +1,80 @@
+//! Heads of answers, with the headers that each kind has.
+use crate::found::Found;
+use serve_blocking::HandleError;
+use http_types::header::names::{ACCEPT_RANGES, CONTENT_RANGE, ETAG, LAST_MODIFIED};
+use http_types::header::{CONTENT_TYPE, HeaderName, HeaderValue, ValueError, value_of_bytes};
+use http_types::{ResponseHead, StatusCode};
+use std::alloc::Global;
+
+/// What was sent: the status, and how many bytes the body has.
+#[derive(Clone, Copy)]
+pub struct Sent {
+    pub status: StatusCode,
+    pub length: u64,
+}
+
+/// Adds a header whose value is a text.
+pub fn add(
+    alloc: Global,
+    head: &mut ResponseHead,
+    name: HeaderName,
+    text: &str,
+) -> Result<(), HandleError> {
+    add_bytes(alloc, head, name, text.as_bytes())
+}
+
+// The same of the text's bytes.
+fn add_bytes(
+    alloc: Global,
+    head: &mut ResponseHead,
+    name: HeaderName,
+    bytes: &[u8],
+) -> Result<(), HandleError> {
+    let value = match value_of_bytes(alloc, bytes) {
+        Ok(value) => value,
+        Err(ValueError::NoMemory) => return Err(HandleError::NoMemory),
+        Err(ValueError::Invalid) => return Err(HandleError::Failed),
+    };
+    head.headers.append(name, value)?;
+    Ok(())
+}
+
+/// The head of a page in HTML.
+pub fn page_head(alloc: Global, status: StatusCode) -> Result<ResponseHead, HandleError> {
+    let mut head = ResponseHead::new(alloc, status);
+    head.headers.append(
+        CONTENT_TYPE,
+        HeaderValue::from_static("text/html; charset=utf-8"),
+    )?;
+    Ok(head)
+}
+
+/// The head of a file's answer: its tag, its date, and that ranges of it may be asked for.
+pub fn file_head(
+    alloc: Global,
+    status: StatusCode,
+    found: &Found,
+) -> Result<ResponseHead, HandleError> {
+    let mut head = ResponseHead::new(alloc, status);
+    add(alloc, &mut head, ETAG, &found.tag)?;
+    if let Some(date) = found.date() {
+        add_bytes(alloc, &mut head, LAST_MODIFIED, date.as_slice())?;
+    }
+    head.headers
+        .append(ACCEPT_RANGES, HeaderValue::from_static("bytes"))?;
+    Ok(head)
+}
+
+/// Says which bytes of how many are sent (RFC 7233, section 4.2).
+pub fn add_range(
+    alloc: Global,
+    head: &mut ResponseHead,
+    part: Option<(u64, u64)>,
+    length: u64,
+) -> Result<(), HandleError> {
+    let text = match part {
+        Some((first, last)) => format!(in alloc; "bytes {first}-{last}/{length}")?,
+        None => format!(in alloc; "bytes */{length}")?,
+    };
+    add(alloc, head, CONTENT_RANGE, &text)
+}

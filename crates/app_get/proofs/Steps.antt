@@ -1,0 +1,142 @@
+-- What one event moves.
+use Rattle.std.specs.Prelude.{◌≡◌, ℕ, ◌≤◌, List, [], ◌∷◌, ◌++◌, length, take, drop, Option, Some, None, Bool, true, false}
+use Rattle.std.proofs.Common.{refl, sym, ap, subst, ◌∙◌, append-nil, append_assoc, arith, take_all, take-append-drop}
+use Rattle.std.proofs.lemmas.List.{length-take-le}
+use Rattle.std.specs.Io.KnownBytes.{Consumes, Appends, Keeps, IsAtEnd}
+use Rattle.std.proofs.KnownBytes.{Appends-trans}
+use Rattle.h1_client.specs.Answers.{SaysNext}
+use Rattle.h1_client.specs.State.{State, Stands, GoesOn, Is}
+use Rattle.h1_client.specs.declared.event.NextAnswer.{NextAnswer}
+use Rattle.h1_client.specs.declared.event.NextAnswer.TheVariants as next
+use Rattle.model_client.specs.ClientEvent as on
+use Rattle.model_client.specs.ClientEvent.{ClientEvent, ClientOutcome}
+use Rattle.model_client.specs.ClientTrace.{taken_by, given as gave}
+use Rattle.app_get.specs.Exchange.{Ends, Goes, handed_by, given_by, noted_by}
+
+-- ---- an event
+
+-- the outcome takes these bytes, gives those to be written, hands in and hands out these of the bodies, and makes this
+-- status of that one
+pub record Moves (e : ClientEvent) (o : ClientOutcome) (came sent file out : List ℕ) (before after : Option ℕ) : Type 0 where
+  pub takes : taken_by e o ≡ came
+  pub gives : gave o ≡ sent
+  pub hands : handed_by e ≡ file
+  pub shows : given_by o ≡ out
+  pub notes : after ≡ noted_by o before
+
+-- one event more
+pub one_step : (was old new : Ends) (e : ClientEvent) (Says : ClientOutcome → Type 0) (came sent file out : List ℕ) → old ≡ was
+    → GoesOn old.state e Says new.state → ((o : ClientOutcome) → Says o → Moves e o came sent file out old.status new.status)
+    → Consumes old.came new.came came → Appends old.sent new.sent sent → Consumes old.file new.file file
+    → (old.shows ≡ false → Appends old.out new.out out) → new.shows ≡ old.shows → Goes was new
+one_step was old new e Says came sent file out seen goes moves lost got handed told shows =
+    subst (λ (l : Ends). Goes l new) seen
+    (let m = moves goes.outcome goes.says in
+    record {
+      more = record { event = e; outcome = goes.outcome } ∷ [];
+      stands = goes.stands;
+      came = subst (Consumes old.came new.came) (sym m.takes) lost;
+      sent = subst (Appends old.sent new.sent) (sym m.gives) got;
+      file = subst (Consumes old.file new.file) (sym m.hands) handed;
+      out = λ hides. subst (Appends old.out new.out) (sym m.shows) (told hides);
+      status = m.notes;
+      shows = shows;
+    })
+
+kept_consumes : (a b : Option (List ℕ)) → Keeps a b → Consumes a b []
+kept_consumes None b keeps = tt
+kept_consumes (Some ps) None keeps = absurd keeps
+kept_consumes (Some ps) (Some qs) keeps = sym keeps
+
+kept_appends : (a b : Option (List ℕ)) → Keeps a b → Appends a b []
+kept_appends None b keeps = tt
+kept_appends (Some ps) None keeps = absurd keeps
+kept_appends (Some ps) (Some qs) keeps = keeps ∙ sym (append-nil ps)
+
+-- no event
+pub no_step : (was old new : Ends) → old ≡ was → new.state ≡ old.state → Keeps old.came new.came → Keeps old.sent new.sent → Consumes old.file new.file []
+    → (old.shows ≡ false → Appends old.out new.out []) → new.status ≡ old.status → new.shows ≡ old.shows → Goes was new
+no_step was old new seen state came sent file out status shows =
+    subst (λ (l : Ends). Goes l new) seen
+    (record {
+      more = [];
+      stands = λ before stands. subst (λ (s : State). Stands s before) (sym state) stands;
+      came = kept_consumes old.came new.came came;
+      sent = kept_appends old.sent new.sent sent;
+      file = file;
+      out = out;
+      status = status;
+      shows = shows;
+    })
+
+-- ---- what each event moves
+
+pub done_moves : (e : ClientEvent) (status : Option ℕ) → taken_by e on.done ≡ [] → (o : ClientOutcome) → Is on.done o → Moves e o [] [] (handed_by e) [] status status
+done_moves e status none o is = subst (λ (o : ClientOutcome). Moves e o [] [] (handed_by e) [] status status) (sym is)
+    (record { takes = none; gives = refl; hands = refl; shows = refl; notes = refl })
+
+-- as many bytes were taken as came
+pub read_moves : (bytes : List ℕ) (n : ℕ) (status : Option ℕ) → n ≡ length bytes → (o : ClientOutcome) → Is (on.took n) o
+    → Moves (on.read bytes) o bytes [] [] [] status status
+read_moves bytes n status all o is = subst (λ (o : ClientOutcome). Moves (on.read bytes) o bytes [] [] [] status status) (sym is)
+    (record { takes = take_all n bytes (omega arith); gives = refl; hands = refl; shows = refl; notes = refl })
+
+pub gave_moves : (count : ℕ) (bytes : List ℕ) (status : Option ℕ) (o : ClientOutcome) → Is (on.gave bytes) o → Moves (on.write count) o [] bytes [] [] status status
+gave_moves count bytes status o is = subst (λ (o : ClientOutcome). Moves (on.write count) o [] bytes [] [] status status) (sym is)
+    (record { takes = refl; gives = refl; hands = refl; shows = refl; notes = refl })
+
+-- a pull gives these bytes
+pub bytes_moves : (bytes : List ℕ) (status : Option ℕ) (o : ClientOutcome) → o ≡ on.bytes bytes → Moves on.pull o [] [] [] bytes status status
+bytes_moves bytes status o is = subst (λ (o : ClientOutcome). Moves on.pull o [] [] [] bytes status status) (sym is)
+    (record { takes = refl; gives = refl; hands = refl; shows = refl; notes = refl })
+
+-- a pull gives none
+pub none_moves : (was : ClientOutcome) (status : Option ℕ) → gave was ≡ [] → given_by was ≡ [] → status ≡ noted_by was status → (o : ClientOutcome) → o ≡ was
+    → Moves on.pull o [] [] [] [] status status
+none_moves was status gives shows notes o is = subst (λ (o : ClientOutcome). Moves on.pull o [] [] [] [] status status) (sym is)
+    (record { takes = refl; gives = gives; hands = refl; shows = shows; notes = notes })
+
+next_is : (before after : Option ℕ) (was o : ClientOutcome) → gave was ≡ [] → given_by was ≡ [] → after ≡ noted_by was before → o ≡ was
+    → Moves on.next o [] [] [] [] before after
+next_is before after was o gives shows notes is = subst (λ (o : ClientOutcome). Moves on.next o [] [] [] [] before after) (sym is)
+    (record { takes = refl; gives = gives; hands = refl; shows = shows; notes = notes })
+
+-- the next head, whose status is noted
+pub next_moves : (x : NextAnswer) (before after : Option ℕ) → ((o : ClientOutcome) → SaysNext x o → after ≡ noted_by o before) → (o : ClientOutcome) → SaysNext x o
+    → Moves on.next o [] [] [] [] before after
+next_moves (next.Answer item) before after notes o says = next_is before after (on.answer says.0) o refl refl (notes (on.answer says.0) (says.0, says.1, refl)) says.2
+next_moves (next.Fault fault) before after notes o is = next_is before after _ o refl refl (notes _ refl) is
+next_moves next.Pending before after notes o is = next_is before after _ o refl refl (notes _ refl) is
+next_moves (next.Closed end) before after notes o is = next_is before after _ o refl refl (notes _ refl) is
+
+-- ---- bytes that are counted
+
+pub consumes_zero : (a b : Option (List ℕ)) (n : ℕ) (bytes : List ℕ) → n ≡ 0 → Consumes a b (take n bytes) → Consumes a b []
+consumes_zero a b n bytes is came = subst (λ (n : ℕ). Consumes a b (take n bytes)) is came
+
+pub appends_same : (a b : Option (List ℕ)) (xs ys : List ℕ) → xs ≡ ys → Appends a b xs → Appends a b ys
+appends_same a b xs ys is grew = subst (λ (l : List ℕ). Appends a b l) is grew
+
+pub all_taken : (n count : ℕ) (bytes : List ℕ) → n ≡ count → count ≤ length bytes → n ≡ length (take count bytes)
+all_taken n count bytes is within = is ∙ sym (length-take-le count bytes within)
+
+-- what isn't hidden is no business of who hides
+pub never_hidden : (b : Bool) (P : Type 0) → b ≡ true → b ≡ false → P
+never_hidden true P is hides = absurd (cc hides)
+never_hidden false P is hides = absurd (cc is)
+
+-- ---- bytes that are written in pieces
+
+pub written_more : (a b c : Option (List ℕ)) (n : ℕ) (rest bytes : List ℕ) (w : (front : List ℕ) × (bytes ≡ front ++ rest) × Appends a b front) → Appends b c (take n rest)
+    → (front : List ℕ) × (bytes ≡ front ++ drop n rest) × Appends a c front
+written_more a b c n rest bytes w then_ = (
+  w.0 ++ take n rest,
+  w.1 ∙ ap (λ (l : List ℕ). w.0 ++ l) (sym (take-append-drop n rest)) ∙ sym (append_assoc w.0 (take n rest) (drop n rest)),
+  Appends-trans a b c w.0 (take n rest) w.2 then_,
+)
+
+-- ---- the end of a file
+
+pub at_end : (a : Option (List ℕ)) → IsAtEnd a → Consumes a (Some []) []
+at_end None end = tt
+at_end (Some xs) end = end

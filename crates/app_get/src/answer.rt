@@ -1,0 +1,175 @@
+// What comes of the answer.
+ghost use Rattle.std.specs.Prelude.{◌≡◌, false, Some, OnOk, IfOk};
+ghost use Rattle.h1_client.specs.Answers.{SaysNext};
+ghost use Rattle.h1_client.specs.Meaning.{setting_of};
+ghost use Rattle.h1_client.specs.State.{IsAllowed};
+ghost use Rattle.model_client.specs.ClientEvent as on;
+ghost use Rattle.model_client.specs.ClientKept.{client_allows};
+ghost use Rattle.model_client.specs.AnswerParse.{is_interim};
+ghost use Rattle.app_get.specs.Exchange.{Goes, IsTaken, noted_by};
+
+use crate::error::GetError;
+use crate::exchange::Exchange;
+use crate::show::{write_all, write_head};
+use h1_client::{AnswerFault, BodyFault, ClientEnd, NextAnswer, Pulled, ResponseItem};
+use net_sockets::{TimedSink, TimedSource};
+use http_types::{NoMemory, Sink, Source};
+
+/// What was taken of an answer.
+#[derive(Clone, Copy)]
+pub enum Taken {
+    /// A part.
+    Part,
+
+    /// Nothing: it needs bytes that haven't come.
+    Nothing,
+
+    /// The rest: the answer is whole. This is its status.
+    Whole(u16),
+}
+
+impl<S: TimedSource + Drop, K: TimedSink + Drop, B: Source + Drop, O: Sink + Drop> Exchange<
+    S,
+    K,
+    B,
+    O,
+> {
+    /// Takes what comes next of the answer, and writes it out.
+    pub(crate) fn take(&mut self) -> Result<Taken, GetError>
+        ensures goes { OnOk result (Goes self.old self.new) }
+        ensures whole { IfOk result (λ taken. IsTaken taken self.new) }
+    {
+        match self.status {
+            Some(status) => self.take_body(status),
+            None => self.take_head(),
+        }
+    }
+
+    // An interim head is passed over (RFC 9110, section 15.2).
+    #[tactic(auto, using(crate::proofs::Going::goes_none, crate::proofs::Going::goes_then))]
+    fn take_head(&mut self) -> Result<Taken, GetError>
+        ensures goes { OnOk result (Goes self.old self.new) }
+        ensures whole { IfOk result (λ taken. IsTaken taken self.new) }
+    {
+        if !self.connection.can_next() {
+            return Err(GetError::Lost);
+        }
+        match self.next_answer()? {
+            NextAnswer::Answer(item) => self.show(&item),
+            NextAnswer::Pending => Ok(Taken::Nothing),
+            NextAnswer::Fault(AnswerFault::Malformed) => Err(GetError::BadHead),
+            NextAnswer::Fault(AnswerFault::TooLarge) => Err(GetError::LongHead),
+            NextAnswer::Closed(end) => Err(self.error_of(end)),
+        }
+    }
+
+    // The next head, or that there is none. The status of one that isn't interim is noted.
+    fn next_answer(&mut self) -> Result<NextAnswer, NoMemory>
+        requires can_next { IsAllowed self.old.state on.next }
+        ensures { OnOk result (Goes self.old self.new) }
+    {
+        let next = self.connection.next()?;
+        self.status = noted(&next, self.status);
+        Ok(next)
+    }
+
+    // Writes a head out, where that is wanted and it isn't interim. Nobody asked for another protocol.
+    fn show(&mut self, item: &ResponseItem) -> Result<Taken, GetError>
+        ensures goes { OnOk result (Goes self.old self.new) }
+        ensures whole { IfOk result (λ taken. IsTaken taken self.new) }
+    {
+        let status = item.head.status.as_u16();
+        if status == 101 {
+            return Err(GetError::Protocol);
+        }
+        if self.shows_head && !is_interim(status) {
+            write_head(self.alloc, item, &mut self.out)?;
+        }
+        Ok(Taken::Part)
+    }
+
+    #[tactic(auto, using(crate::proofs::Going::goes_none))]
+    fn take_body(&mut self, status: u16) -> Result<Taken, GetError>
+        requires { self.old.status ≡ Some status }
+        ensures goes { OnOk result (Goes self.old self.new) }
+        ensures whole { IfOk result (λ taken. IsTaken taken self.new) }
+    {
+        if self.connection.can_pull() {
+            self.pull()
+        } else {
+            self.finish(status)
+        }
+    }
+
+    // Writes out what comes next of the body.
+    fn pull(&mut self) -> Result<Taken, GetError>
+        requires can_pull { IsAllowed self.old.state on.pull }
+        ensures goes { OnOk result (Goes self.old self.new) }
+        ensures whole { IfOk result (λ taken. IsTaken taken self.new) }
+    {
+        match self.connection.pull()? {
+            Pulled::Bytes(bytes) => {
+                write_all(&mut self.out, bytes.as_slice())?;
+                Ok(Taken::Part)
+            }
+            Pulled::Trailers(_) => Ok(Taken::Part),
+            Pulled::End => Ok(Taken::Part),
+            Pulled::Broken(BodyFault::Corrupted) => Err(GetError::BadChunks),
+            Pulled::Broken(BodyFault::Incomplete) => Err(GetError::Lost),
+            Pulled::Pending => Ok(Taken::Nothing),
+        }
+    }
+
+    // Nothing more is to be pulled: the answer is whole, unless the connection failed before it was.
+    fn finish(&self, status: u16) -> Result<Taken, GetError>
+        requires noted { self.now.status ≡ Some status }
+        requires nothing_left { client_allows (setting_of self.now.state.settings) self.now.state.kept on.pull ≡ false }
+        ensures { IfOk result (λ taken. IsTaken taken self.now) }
+    {
+        match self.connection.closing() {
+            None => Ok(Taken::Whole(status)),
+            Some(ClientEnd::Asked) => Ok(Taken::Whole(status)),
+            Some(ClientEnd::Unasked) => Ok(Taken::Whole(status)),
+            Some(ClientEnd::InputEnded) => Ok(Taken::Whole(status)),
+            Some(ClientEnd::FailedRequest) => Err(GetError::ShortFile),
+            Some(_) => Err(GetError::Lost),
+        }
+    }
+
+    // What the end of the connection means to an answer that isn't whole.
+    pub(crate) fn error_of(&self, end: ClientEnd) -> GetError {
+        match end {
+            ClientEnd::BadAnswer => GetError::BadHead,
+            ClientEnd::LargeAnswer => GetError::LongHead,
+            ClientEnd::FailedRequest => GetError::ShortFile,
+            _ if self.has_begun => GetError::Lost,
+            _ => GetError::Unanswered,
+        }
+    }
+}
+
+// The status of the answer: that of the last head that isn't interim.
+fn noted(next: &NextAnswer, before: Option<u16>) -> Option<u16>
+    ensures { (out : on.ClientOutcome) → SaysNext next.now out → result ≡ noted_by out before }
+{
+    match next {
+        NextAnswer::Answer(item) => {
+            let status = item.head.status.as_u16();
+            if is_interim(status) {
+                before
+            } else {
+                Some(status)
+            }
+        }
+        NextAnswer::Fault(_) => before,
+        NextAnswer::Pending => before,
+        NextAnswer::Closed(_) => before,
+    }
+}
+
+// Whether the request waits on after a head of this status (RFC 9110, section 15.2).
+fn is_interim(status: u16) -> bool
+    ensures { result ≡ is_interim status }
+{
+    100 <= status && status < 200 && status != 101
+}

@@ -1,0 +1,158 @@
+//! One request and its answer over a connection: a client's whole loop.
+ghost use Rattle.std.specs.Prelude.{◌≡◌, None, Some, OnOk, IfOk};
+ghost use Rattle.app_get.specs.Exchange.{Ends, file_left, Goes, IsWhole};
+
+use crate::answer::Taken;
+use crate::error::GetError;
+use crate::patience::Patience;
+use crate::wire::Sent;
+use h1_client::ClientConnection;
+use net_sockets::{TimedSink, TimedSource};
+use http_types::{Sink, Source};
+use std::alloc::Global;
+use std::marker::Model;
+
+/// How many milliseconds a read waits while bytes are to be written that the server doesn't take now.
+const GLANCE: u64 = 5;
+
+/// A request that was asked, whose body is sent and whose answer is taken at the same time. The bytes of the request go to
+/// a sink and those of the answer come from a source: the two directions of one socket. The request's body comes out of
+/// another source, and the answer's body goes to another sink.
+#[derive(Drop)]
+pub struct Exchange<S: TimedSource, K: TimedSink, B: Source, O: Sink> {
+    pub(crate) alloc: Global,
+    pub(crate) connection: ClientConnection,
+    pub(crate) input: S,
+    pub(crate) output: K,
+
+    // What is left of the request's body, where it has one that wasn't handed in whole.
+    pub(crate) body: Option<B>,
+    pub(crate) out: O,
+
+    // The answer's head is written too.
+    pub(crate) shows_head: bool,
+
+    // The answer's status, once its head came.
+    pub(crate) status: Option<u16>,
+
+    // A byte of the answer came.
+    pub(crate) has_begun: bool,
+}
+
+impl<S: TimedSource, K: TimedSink, B: Source, O: Sink> Model for Exchange<S, K, B, O> {
+    ghost use Rattle.app_get.specs.Exchange.{Ends, file_left};
+
+    ghost Value = { Ends };
+
+    ghost view = { λ e. record {
+      state = e.connection;
+      came = S.left e.input;
+      sent = K.given e.output;
+      file = file_left B.left e.body;
+      out = O.given e.out;
+      shows = e.shows_head;
+      status = e.status;
+    } };
+}
+
+impl<S: TimedSource + Drop, K: TimedSink + Drop, B: Source + Drop, O: Sink + Drop> Exchange<
+    S,
+    K,
+    B,
+    O,
+> {
+    /// The exchange of the request that was asked last over this connection. The answer's body is written out, and its head
+    /// too where that is wanted.
+    pub fn new(
+        alloc: Global,
+        connection: ClientConnection,
+        input: S,
+        output: K,
+        body: Option<B>,
+        out: O,
+        shows_head: bool,
+    ) -> Exchange<S, K, B, O>
+        ensures { result ≡ record {
+          state = connection;
+          came = S.left input;
+          sent = K.given output;
+          file = file_left B.left body;
+          out = O.given out;
+          shows = shows_head;
+          status = None;
+        } }
+    {
+        Exchange {
+            alloc,
+            connection,
+            input,
+            output,
+            body,
+            out,
+            shows_head,
+            status: None,
+            has_begun: false,
+        }
+    }
+
+    /// The connection, which may be used again where it says so.
+    pub fn into_connection(self) -> ClientConnection
+        ensures { result ≡ self.state }
+    {
+        let Exchange {
+            alloc: _,
+            connection,
+            input: _,
+            output: _,
+            body: _,
+            out: _,
+            shows_head: _,
+            status: _,
+            has_begun: _,
+        } = self;
+        connection
+    }
+
+    /// Sends the request and takes its answer, until the answer is whole, and gives its status. Nothing may move for at most
+    /// so many milliseconds.
+    ///
+    /// Both directions are tried in turn, since a server may answer before it has read all, and may not read on before its
+    /// answer is taken.
+    #[tactic(auto, using(crate::proofs::Going::goes_none, crate::proofs::Going::goes_then))]
+    pub fn run(&mut self, wait: u64) -> Result<u16, GetError>
+        ensures goes { OnOk result (Goes self.old self.new) }
+        ensures whole { OnOk result (IsWhole self.new.state) }
+        ensures status { IfOk result (λ status. self.new.status ≡ Some status) }
+    {
+        let mut patience = Patience::begin(&self.input, wait);
+        for _ in 0..u64::MAX {
+            self.fill()?;
+            let sent = self.send();
+            match self.take()? {
+                Taken::Whole(status) => return Ok(status),
+                Taken::Part => {}
+                Taken::Nothing => self.listen(sent, &mut patience)?,
+            }
+            if sent == Sent::Some {
+                patience.renew(&self.input);
+            }
+        }
+        Err(GetError::Late)
+    }
+
+    // Reads what has come. Where nothing else can be done it waits.
+    fn listen(&mut self, sent: Sent, patience: &mut Patience) -> Result<(), GetError>
+        ensures { OnOk result (Goes self.old self.new) }
+    {
+        let left = patience.left(&self.input)?;
+        let wait = match sent {
+            Sent::Some => 0,
+            Sent::NotNow => left.min(GLANCE),
+            Sent::Nothing => left,
+        };
+        if self.read_more(wait)? {
+            patience.renew(&self.input);
+        }
+        Ok(())
+    }
+}

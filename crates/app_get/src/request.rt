@@ -1,0 +1,73 @@
+//! What is asked.
+use crate::error::GetError;
+use crate::options::Options;
+use crate::target::Target;
+use h1_client::ClientConnection;
+use http_framing::BodySize;
+use http_header::USER_AGENT;
+use http_types::header::{ACCEPT, CONTENT_TYPE, HOST, HeaderMap, HeaderValue, value_of_str};
+use http_types::{Method, RequestHead, Version};
+use std::alloc::Global;
+
+/// Asks, where that may be, at this moment.
+pub fn ask(
+    connection: &mut ClientConnection,
+    moment: Option<u64>,
+    head: &RequestHead,
+    size: BodySize,
+) -> Result<(), GetError> {
+    tell_time(connection, moment);
+    if !connection.can_ask(head, size) {
+        return Err(GetError::Request);
+    }
+    connection.ask(head, size)?;
+    Ok(())
+}
+
+fn tell_time(connection: &mut ClientConnection, moment: Option<u64>) {
+    let moment = moment.unwrap_or(0);
+    if connection.can_tick(moment) {
+        connection.tick(moment);
+    }
+}
+
+/// The head of the request for a target.
+pub fn head_for(
+    alloc: Global,
+    options: &Options<'_>,
+    target: &Target,
+) -> Result<RequestHead, GetError> {
+    let method = if options.is_head {
+        Method::HEAD
+    } else if options.file.is_some() {
+        Method::POST
+    } else {
+        Method::GET
+    };
+    let Ok(uri) = target.uri.clone() else {
+        return Err(GetError::NoMemory);
+    };
+    let headers = headers_for(alloc, options, target)?;
+    Ok(RequestHead::from_parts(method, uri, Version::HTTP_11, headers))
+}
+
+fn headers_for(
+    alloc: Global,
+    options: &Options<'_>,
+    target: &Target,
+) -> Result<HeaderMap, GetError> {
+    let mut headers = HeaderMap::new(alloc);
+    let Ok(host) = value_of_str(alloc, target.authority()) else {
+        return Err(GetError::Url);
+    };
+    headers.append(HOST, host)?;
+    headers.append(USER_AGENT, HeaderValue::from_static("app_get/0.1.0"))?;
+    headers.append(ACCEPT, HeaderValue::from_static("*/*"))?;
+    if options.file.is_some() {
+        headers.append(
+            CONTENT_TYPE,
+            HeaderValue::from_static("application/octet-stream"),
+        )?;
+    }
+    Ok(headers)
+}

@@ -1,0 +1,229 @@
+//! One client: its socket, the one to the server, and the forwarder between them.
+use crate::flow::{hear_client, tell_client};
+use crate::link::Link;
+use crate::standing::{Ready, Stage, Standing};
+use crate::upstream::Upstream;
+use proxy_loop::{Expiry, Forwarder, NoMemory, Reply};
+use net_sockets::{Incoming, Outgoing, Polled};
+use http_types::Source;
+use mio::Poll;
+use mio::net::TcpStream;
+use std::net::{Shutdown, SocketAddr};
+
+/// The most times that each direction is tried in a round, so that one who speaks a lot holds up nobody.
+const TRIES: u32 = 16;
+
+/// How long a client is waited for after the last byte was written, in milliseconds.
+const LINGER: u64 = 2000;
+
+/// How long a connection to the server waits for the same client's next request, in milliseconds.
+const KEPT: u64 = 1000;
+
+/// What a round of slots shares.
+#[derive(Drop)]
+pub struct Shared {
+    pub poll: Poll,
+    pub upstream: Upstream,
+
+    /// What is read stands here until it is told.
+    pub room: Vec<u8>,
+
+    /// The time, in milliseconds of uptime.
+    pub uptime: u64,
+}
+
+/// A client that is served.
+#[derive(Drop)]
+pub struct Slot {
+    forwarder: Forwarder,
+    standing: Standing,
+    peer: SocketAddr,
+    client: TcpStream,
+    link: Link,
+}
+
+/// What a round did.
+#[derive(Clone, Copy, PartialEq, Eq)]
+pub enum Round {
+    /// Something moved, so that there may be more to do.
+    Moved,
+    Rests,
+
+    /// The client is done with.
+    Over,
+}
+
+impl Slot {
+    /// A client that has just come.
+    pub fn new(forwarder: Forwarder, client: TcpStream, peer: SocketAddr, uptime: u64) -> Slot {
+        Slot {
+            forwarder,
+            standing: Standing::new(uptime),
+            peer,
+            client,
+            link: Link::None,
+        }
+    }
+
+    pub fn peer(&self) -> SocketAddr {
+        self.peer
+    }
+
+    /// The replies that were begun since they were last taken.
+    pub fn take_replies(&mut self) -> Vec<Reply> {
+        self.forwarder.take_replies()
+    }
+
+    /// The client's socket is ready.
+    pub fn note_client(&mut self, told: Ready) {
+        self.standing.client.note(told);
+    }
+
+    /// The server's is.
+    pub fn note_server(&mut self, told: Ready) {
+        self.standing.server.note(told);
+    }
+
+    // ---- time
+
+    /// The time, in milliseconds since 1970; that of uptime is among what is shared. What waits too long is given up, and a
+    /// connection to the server that its client hasn't used for a while goes to others.
+    pub fn tick(&mut self, shared: &mut Shared, moment: u64) -> Result<(), NoMemory> {
+        let uptime = shared.uptime;
+        if self.forwarder.tick(moment)? == Some(Expiry::Abandoned) {
+            self.standing.stage = Stage::Lost;
+        }
+        let waits = !self.forwarder.proxy().client_front().is_empty();
+        self.standing.tick_client(waits, uptime);
+        let is_awaited = self.link.is_awaited(self.forwarder.proxy());
+        if self.standing.tick_server(is_awaited, uptime) {
+            self.link.give_up(&mut self.forwarder, &mut self.standing)?;
+        }
+        if uptime.saturating_sub(self.standing.asked) < KEPT {
+            return Ok(());
+        }
+        self.give_back(shared)
+    }
+
+    /// Gives a connection to the server on which nothing is under way back.
+    pub fn give_back(&mut self, shared: &mut Shared) -> Result<(), NoMemory> {
+        self.link.give_back(&mut self.forwarder, shared)
+    }
+
+    // ---- a round
+
+    /// Moves what can be moved. The token names the socket to the server to the poll.
+    pub fn go_round(&mut self, shared: &mut Shared, token: usize) -> Result<Round, NoMemory> {
+        for _ in 0..TRIES {
+            let moved = self.pass(shared, token)?;
+            self.link.close_unused(self.forwarder.proxy());
+            if self.is_over(shared.uptime) {
+                return Ok(Round::Over);
+            }
+            if !moved {
+                return Ok(Round::Rests);
+            }
+        }
+        Ok(Round::Moved)
+    }
+
+    // Tries each direction once, and says whether something moved. The server is read first: one that has ended isn't asked any
+    // more.
+    fn pass(&mut self, shared: &mut Shared, token: usize) -> Result<bool, NoMemory> {
+        let heard = self.read_server(shared)?;
+        let read = self.read_client(shared)?;
+        let connects = self
+            .link
+            .connect(&mut self.forwarder, &mut self.standing, shared, token)?;
+        let asked = self
+            .link
+            .write(&mut self.forwarder, &mut self.standing, shared.uptime)?;
+        let replied = self.write_client(shared.uptime)?;
+        Ok(heard || read || connects || asked || replied)
+    }
+
+    fn read_server(&mut self, shared: &mut Shared) -> Result<bool, NoMemory> {
+        self.link
+            .read(&mut self.forwarder, &mut self.standing, shared)
+    }
+
+    fn read_client(&mut self, shared: &mut Shared) -> Result<bool, NoMemory> {
+        if !self.standing.client.may_read {
+            return Ok(false);
+        }
+        if let Stage::Lingering(_) = self.standing.stage {
+            return Ok(self.pass_over(shared));
+        }
+        if self.forwarder.proxy().client_room() == 0 {
+            return Ok(false);
+        }
+        self.check_server(shared)?;
+        let mut source = Incoming::new(&self.client);
+        hear_client(
+            &mut self.forwarder,
+            &mut self.standing,
+            &mut source,
+            &mut shared.room,
+            shared.uptime,
+        )
+    }
+
+    // Before a request is sent on a connection to the server that was idle, it is looked whether that is still there.
+    fn check_server(&mut self, shared: &mut Shared) -> Result<(), NoMemory> {
+        if self.forwarder.proxy().is_reusable() {
+            self.standing.server.may_read = true;
+            self.read_server(shared)?;
+        }
+        Ok(())
+    }
+
+    // What still comes is dropped: a socket that is closed with bytes in it would take the last answer away.
+    fn pass_over(&mut self, shared: &mut Shared) -> bool {
+        let mut source = Incoming::new(&self.client);
+        match source.read(&mut shared.room) {
+            Ok(0) => {}
+            Ok(_) => return true,
+            Err(_) => {
+                if source.is_not_now() {
+                    self.standing.client.may_read = false;
+                    return false;
+                }
+            }
+        }
+        self.standing.stage = Stage::Lost;
+        true
+    }
+
+    fn write_client(&mut self, uptime: u64) -> Result<bool, NoMemory> {
+        if !self.standing.client.may_write || self.forwarder.proxy().client_front().is_empty() {
+            return Ok(false);
+        }
+        let mut sink = Outgoing::new(&self.client);
+        tell_client(&mut self.forwarder, &mut self.standing, &mut sink, uptime)
+    }
+
+    // Whether the client is done with. Once all was written its end is waited for.
+    fn is_over(&mut self, uptime: u64) -> bool {
+        match self.standing.stage {
+            Stage::Lost => true,
+            Stage::Lingering(_) => false,
+            Stage::Open => self.has_ended() && !self.begins_to_linger(uptime),
+        }
+    }
+
+    // Whether its connection has ended, and all was written.
+    fn has_ended(&self) -> bool {
+        let proxy = self.forwarder.proxy();
+        proxy.closing().is_some() && proxy.client_front().is_empty()
+    }
+
+    // No more is written to it, and its end is waited for, where that can be told.
+    fn begins_to_linger(&mut self, uptime: u64) -> bool {
+        if self.client.shutdown(Shutdown::Write).is_err() {
+            return false;
+        }
+        self.standing.stage = Stage::Lingering(uptime.saturating_add(LINGER));
+        self.standing.client.may_read = true;
+        true
+    }
+}

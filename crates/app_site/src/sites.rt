@@ -1,0 +1,23 @@
+//! A service for each connection.
+use serve_loop::Services;
+use site::Site;
+use http_services::CountedService;
+use std::alloc::Global;
+
+/// Gives each connection a site of its own.
+#[derive(Drop)]
+pub struct Sites {
+    alloc: Global,
+}
+
+impl Sites {
+    pub fn new(alloc: Global) -> Sites {
+        Sites { alloc }
+    }
+}
+
+impl Services<CountedService<Site>> for Sites {
+    fn service(&mut self) -> CountedService<Site> {
+        CountedService::new(Site::new(self.alloc))
+    }
+}

@@ -1,0 +1,16 @@
+pub mod Acts
+pub mod Steps
+pub mod Bodiless
+pub mod Ran
+pub mod Shows
+pub mod Lacks
+pub mod Requests
+pub mod Handed
+pub mod Told
+pub mod Crossing
+pub mod Kept
+pub mod Matched
+pub mod Running
+pub mod Spelling
+pub mod Tally
+pub mod Writing

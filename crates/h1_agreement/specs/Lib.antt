@@ -1,6 +1,0 @@
-pub mod PlainExchange
-pub mod SentAnswer
-pub mod SentRequest
-pub mod MaskedText
-pub mod LegalMessages
-pub mod Samples

@@ -1,3 +1,0 @@
-pub mod Following
-pub mod Numbers
-pub mod Counts

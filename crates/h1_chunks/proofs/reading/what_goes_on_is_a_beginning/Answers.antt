@@ -1,5 +1,0 @@
-use Rattle.h1_chunks.proofs.Live.{open_begins}
-use Rattle.h1_chunks.proofs.reading.what_goes_on_is_a_beginning.Goals as goal
-
-pub returns : goal.returns
-returns c = open_begins

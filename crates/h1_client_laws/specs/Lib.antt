@@ -1,2 +1,0 @@
-pub mod ReadOut
-pub mod Parsed

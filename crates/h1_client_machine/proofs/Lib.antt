@@ -1,6 +1,0 @@
-pub mod Answered
-pub mod Closing
-pub mod Left
-pub mod OneStep
-pub mod Order
-pub mod Written

@@ -1,5 +1,0 @@
-pub mod ClientEvent
-pub mod ClientKept
-pub mod ClientStep
-pub mod ClientTrace
-pub mod Examples

@@ -1,5 +1,0 @@
-use Rattle.h1_client_model.proofs.AnswerDecisions.{answer_within_of}
-use Rattle.h1_client_model.proofs.answer_head.every_piece_is_read.Goals as goal
-
-pub returns : goal.returns
-returns c = answer_within_of

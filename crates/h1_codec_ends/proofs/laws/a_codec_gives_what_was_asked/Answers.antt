@@ -1,7 +1,0 @@
-use Rattle.h1_framed.specs.State.{codec_standing}
-use Rattle.h1_codec_ends.proofs.Requests.{requests_given}
-use Rattle.h1_codec_ends.proofs.laws.a_codec_gives_what_was_asked.Goals as goal
-
-pub returns : goal.returns
-returns c codec limit sent acts more rest last some fresh asked run text =
-    requests_given limit (codec_standing codec) last sent acts more rest some fresh asked run text

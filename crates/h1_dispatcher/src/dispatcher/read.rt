@@ -1,0 +1,172 @@
+// The input is read.
+ghost use Rattle.std.specs.Prelude.{◌≡◌, ◌<◌, ◌≤◌, ◌⊎◌, ℕ, List, None, true, length};
+ghost use Rattle.futures.specs.Task.{IsArmed, Keeps};
+ghost use Rattle.model_h1.specs.Event as on;
+ghost use Rattle.h1_dispatcher.specs.View.{view_of, MayBePolled, HasNoOutput, allows, room};
+ghost use Rattle.h1_dispatcher.specs.Polls.{OnIdle, ReadingSays};
+ghost use Rattle.h1_dispatcher.specs.declared.dispatcher.Turn.TheVariants.{Idle};
+
+use crate::dispatcher::{Dispatcher, Ending, Turn};
+use futures::task::{Context, Poll};
+use h1_connection::READ_SIZE;
+use h1_traced::Recorder;
+use http_bodies::MessageBody;
+use http_config::Failed;
+use http_services::Service;
+use http_services::h1::Payload;
+use http_types::{DispatchError, Request, Response};
+use http_transport::Wire;
+
+// How much room a read is lent until one fills it: a browser's head mostly has no more bytes.
+const FEW_BYTES: usize = 1024;
+
+impl<T, S, L, B> Dispatcher<T, S, S::Call, L, B>
+where
+    T: Wire,
+    S: Service<Request<(), ()>, Response = Response<B>, Error = Response<B>, Lent = Payload>,
+    B: MessageBody,
+    L: Recorder,
+{
+    /// Reads, where nothing else was pending.
+    pub(super) fn read_alone(&mut self, cx: &mut Context<'_>) -> Turn
+        requires open { MayBePolled S.calling self.old }
+        requires running { self.old.ending ≡ None }
+        ensures says { ReadingSays (view_of T.wiring S.served S.calling B.gives L.noted self.old) (view_of T.wiring S.served S.calling B.gives L.noted self.new) result }
+        ensures open { MayBePolled S.calling self.new }
+        ensures registered { OnIdle result (IsArmed cx.new) }
+        ensures kept { Keeps cx.old cx.new }
+    {
+        let room = self.line.connection().read_room();
+        if room == 0 {
+            return wake(cx);
+        }
+        if !self.line.connection().can_read() {
+            return wake(cx);
+        }
+        self.read_up_to(room, cx)
+    }
+
+    /// Reads, where something else was pending.
+    pub(super) fn read_on(&mut self, cx: &mut Context<'_>) -> Turn
+        requires open { MayBePolled S.calling self.old }
+        requires running { self.old.ending ≡ None }
+        requires armed { IsArmed cx.old }
+        ensures says { ReadingSays (view_of T.wiring S.served S.calling B.gives L.noted self.old) (view_of T.wiring S.served S.calling B.gives L.noted self.new) result }
+        ensures open { MayBePolled S.calling self.new }
+        ensures registered { OnIdle result (IsArmed cx.new) }
+        ensures kept { Keeps cx.old cx.new }
+    {
+        let room = self.line.connection().read_room();
+        if room == 0 {
+            return Turn::Idle;
+        }
+        if !self.line.connection().can_read() {
+            return Turn::Idle;
+        }
+        self.read_up_to(room, cx)
+    }
+
+    /// Reads, where what waits to be written has to go out before anything else: it was tried, unless nothing waits that may
+    /// be written.
+    pub(super) fn read_beside(&mut self, cx: &mut Context<'_>) -> Turn
+        requires open { MayBePolled S.calling self.old }
+        requires running { self.old.ending ≡ None }
+        requires armed { HasNoOutput (view_of T.wiring S.served S.calling B.gives L.noted self.old) ⊎ IsArmed cx.old }
+        ensures says { ReadingSays (view_of T.wiring S.served S.calling B.gives L.noted self.old) (view_of T.wiring S.served S.calling B.gives L.noted self.new) result }
+        ensures open { MayBePolled S.calling self.new }
+        ensures registered { OnIdle result (IsArmed cx.new) }
+        ensures kept { Keeps cx.old cx.new }
+    {
+        if self.line.connection().buffered() == 0 {
+            return self.read_alone(cx);
+        }
+        if !self.line.connection().can_write() {
+            return self.read_alone(cx);
+        }
+        self.read_on(cx)
+    }
+
+    /// Reads at most so many bytes. Room for few of them serves until a read fills it: all the room that is lent is cleared
+    /// before, and mostly few bytes come.
+    fn read_up_to(&mut self, limit: usize, cx: &mut Context<'_>) -> Turn
+        requires open { MayBePolled S.calling self.old }
+        requires running { self.old.ending ≡ None }
+        requires some { 0 < limit }
+        requires fits { limit ≤ room (view_of T.wiring S.served S.calling B.gives L.noted self.old) }
+        requires read { (bytes : List ℕ) → allows (view_of T.wiring S.served S.calling B.gives L.noted self.old) (on.read bytes) ≡ true }
+        requires eof { allows (view_of T.wiring S.served S.calling B.gives L.noted self.old) on.eof ≡ true }
+        ensures says { ReadingSays (view_of T.wiring S.served S.calling B.gives L.noted self.old) (view_of T.wiring S.served S.calling B.gives L.noted self.new) result }
+        ensures open { MayBePolled S.calling self.new }
+        ensures registered { OnIdle result (IsArmed cx.new) }
+        ensures kept { Keeps cx.old cx.new }
+    {
+        if self.has_filled_read {
+            return self.read_many(limit, cx);
+        }
+        let mut buf = [0; FEW_BYTES];
+        self.read(&mut buf[..FEW_BYTES.min(limit)], cx)
+    }
+
+    /// Reads at most so many bytes, with room for `READ_SIZE`.
+    fn read_many(&mut self, limit: usize, cx: &mut Context<'_>) -> Turn
+        requires open { MayBePolled S.calling self.old }
+        requires running { self.old.ending ≡ None }
+        requires some { 0 < limit }
+        requires fits { limit ≤ room (view_of T.wiring S.served S.calling B.gives L.noted self.old) }
+        requires read { (bytes : List ℕ) → allows (view_of T.wiring S.served S.calling B.gives L.noted self.old) (on.read bytes) ≡ true }
+        requires eof { allows (view_of T.wiring S.served S.calling B.gives L.noted self.old) on.eof ≡ true }
+        ensures says { ReadingSays (view_of T.wiring S.served S.calling B.gives L.noted self.old) (view_of T.wiring S.served S.calling B.gives L.noted self.new) result }
+        ensures open { MayBePolled S.calling self.new }
+        ensures registered { OnIdle result (IsArmed cx.new) }
+        ensures kept { Keeps cx.old cx.new }
+    {
+        let mut buf = [0; READ_SIZE];
+        self.read(&mut buf[..READ_SIZE.min(limit)], cx)
+    }
+
+    /// Reads as many bytes as there are, at most what fits.
+    fn read(&mut self, buf: &mut [u8], cx: &mut Context<'_>) -> Turn
+        requires open { MayBePolled S.calling self.old }
+        requires running { self.old.ending ≡ None }
+        requires some { 0 < length buf.old }
+        requires fits { length buf.old ≤ room (view_of T.wiring S.served S.calling B.gives L.noted self.old) }
+        requires read { (bytes : List ℕ) → allows (view_of T.wiring S.served S.calling B.gives L.noted self.old) (on.read bytes) ≡ true }
+        requires eof { allows (view_of T.wiring S.served S.calling B.gives L.noted self.old) on.eof ≡ true }
+        ensures says { ReadingSays (view_of T.wiring S.served S.calling B.gives L.noted self.old) (view_of T.wiring S.served S.calling B.gives L.noted self.new) result }
+        ensures open { MayBePolled S.calling self.new }
+        ensures registered { OnIdle result (IsArmed cx.new) }
+        ensures kept { Keeps cx.old cx.new }
+    {
+        match self.wire.poll_read(buf, cx) {
+            Poll::Pending => Turn::Idle,
+            Poll::Ready(Err(Failed)) => Turn::Over(Err(DispatchError::Io)),
+            Poll::Ready(Ok(0)) => match self.line.eof() {
+                Ok(()) => Turn::Counted,
+                Err(_) => {
+                    self.ending = Some(Ending::Broken);
+                    Turn::Over(Err(DispatchError::NoMemory))
+                }
+            },
+            Poll::Ready(Ok(count)) => {
+                self.has_filled_read = count == buf.len();
+                match self.line.read(&buf[..count]) {
+                    Ok(_) => Turn::Counted,
+                    Err(_) => {
+                        self.ending = Some(Ending::Broken);
+                        Turn::Over(Err(DispatchError::NoMemory))
+                    }
+                }
+            }
+        }
+    }
+}
+
+/// Asks for another poll.
+pub(super) fn wake(cx: &mut Context<'_>) -> Turn
+    ensures idle { result ≡ Idle }
+    ensures armed { IsArmed cx.new }
+    ensures kept { Keeps cx.old cx.new }
+{
+    let _: Poll<()> = cx.yield_now();
+    Turn::Idle
+}

@@ -1,0 +1,11 @@
+use Rattle.std.proofs.Common.{◌≡◌, ◌++◌, ◌||◌, false}
+use Rattle.http_map.specs.HeaderMap.{pairs}
+use Rattle.h1_encoder.specs.Lines.{Grows, pairs_text, has_date}
+use Rattle.h1_encoder.proofs.request_headers.put_headers.Given as goal
+
+abbrev pub invariant-loop-name : goal.invariant-loop-name
+invariant-loop-name l = record {
+  text : l.out.items ++ pairs_text l.camel false l.name-iterator ≡ l.fn.out.items ++ pairs_text l.camel false (pairs l.headers);
+  date : (l.has_date || has_date l.name-iterator) ≡ has_date (pairs l.headers);
+  grown : Grows l.fn.out.items l.out.items;
+}

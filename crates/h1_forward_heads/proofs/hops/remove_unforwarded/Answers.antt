@@ -1,8 +1,0 @@
-use Rattle.h1_codec.specs.Meaning.{headers_of}
-use Rattle.h1_forward_heads.proofs.LeftOut.{unforwarded_removed}
-use Rattle.h1_forward_heads.proofs.hops.remove_unforwarded.Goals as goal
-
-pub returns : goal.returns
-returns c =
-    unforwarded_removed (headers_of c.args.headers.now) (headers_of c.remove_hops.new.headers) (headers_of c.remove_name.new.headers)
-    (headers_of c.remove_name-2.new.headers) c.remove_hops.ensures c.remove_name.ensures c.remove_name-2.ensures

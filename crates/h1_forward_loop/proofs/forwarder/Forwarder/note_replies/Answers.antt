@@ -1,8 +1,0 @@
-use Rattle.h1_forward_loop.proofs.Histories.{goes_on, seen}
-use Rattle.h1_forward_loop.proofs.forwarder.Forwarder.note_replies.Goals as goal
-
-pub invariant_of-self : goal.invariant_of-self
-invariant_of-self c = goes_on c.self.inside.proxy c.note_replies.new.self c.self.invariant c.note_replies.ensures.goes
-
-pub returns : goal.returns
-returns c = seen c.self.inside.proxy c.args.self.now c.note_replies.new.self c.self.view_is c.note_replies.ensures.goes

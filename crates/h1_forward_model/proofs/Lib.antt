@@ -1,9 +1,0 @@
-pub mod TrimLemmas
-pub mod ForwardedLines
-pub mod Paths
-pub mod SentRequests
-pub mod GivenRequests
-pub mod ReplyLines
-pub mod FoundAnswers
-pub mod ExampleLemmas
-pub mod Histories

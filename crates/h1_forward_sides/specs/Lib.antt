@@ -1,4 +1,0 @@
-pub mod Sides
-pub mod Leaves
-pub mod Wants
-pub mod Puts

@@ -1,6 +1,0 @@
-pub mod TextLemmas
-pub mod Quiet
-pub mod Turns
-pub mod Sends
-pub mod Events
-pub mod Given

@@ -1,4 +1,0 @@
-//! All that happened to a forwarder.
-#![tactic(auto)]
-
-pub mod laws;

@@ -1,9 +1,0 @@
-pub mod Ends
-pub mod PieceLemmas
-pub mod OpenBodies
-pub mod NextHeads
-pub mod Writing
-pub mod OneSaid
-pub mod Asking
-pub mod Stepping
-pub mod Memory

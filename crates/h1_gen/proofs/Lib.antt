@@ -1,4 +1,0 @@
-pub mod Texts
-pub mod Lists
-pub mod Tallies
-pub mod Totals

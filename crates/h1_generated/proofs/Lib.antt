@@ -1,0 +1,14 @@
+pub mod Targets
+pub mod Pieces
+pub mod Numbers
+pub mod Heads
+pub mod Chunks
+pub mod States
+pub mod Sizes
+pub mod Added
+pub mod Exchanges
+pub mod Runs
+pub mod Texts
+pub mod Lists
+pub mod Tallies
+pub mod Totals

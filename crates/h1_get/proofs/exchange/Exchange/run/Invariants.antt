@@ -1,5 +1,0 @@
-use Rattle.h1_get.specs.Exchange.{Goes}
-use Rattle.h1_get.proofs.exchange.Exchange.run.Given as goal
-
-abbrev pub invariant-loop : goal.invariant-loop
-invariant-loop g l = record { goes : Goes l.initial.self l.self }

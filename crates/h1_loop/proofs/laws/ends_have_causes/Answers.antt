@@ -1,7 +1,0 @@
-use Rattle.h1_dispatch.specs.View.{view_of}
-use Rattle.std.specs.Prelude.{None}
-use Rattle.h1_loop.proofs.Jobs.{cause}
-use Rattle.h1_loop.proofs.laws.ends_have_causes.Goals as goal
-
-pub returns : goal.returns
-returns g c = λ a b moment output ends. cause (λ j. view_of g.T.Wire.wiring g.S.Service.served g.S.Service.calling g.B.MessageBody.gives (λ _. None) j.dispatcher) a b moment output ends

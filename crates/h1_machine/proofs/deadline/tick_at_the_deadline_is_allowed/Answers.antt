@@ -1,5 +1,0 @@
-use Rattle.h1_machine.proofs.DeadlineLemmas.{tick_at_deadline}
-use Rattle.h1_machine.proofs.deadline.tick_at_the_deadline_is_allowed.Goals as goal
-
-pub returns : goal.returns
-returns c = tick_at_deadline

@@ -1,5 +1,0 @@
-use Rattle.h1_model.proofs.DeadlineLemmas.{allowed_of_trace}
-use Rattle.h1_model.proofs.deadline.tick_at_the_deadline_is_allowed.Goals as goal
-
-pub returns : goal.returns
-returns c = allowed_of_trace

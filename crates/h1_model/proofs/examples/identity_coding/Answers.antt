@@ -1,7 +1,0 @@
-use Rattle.std.proofs.Common.{refl}
-use Rattle.httparse.specs.Grammar.{trim_ows}
-use Rattle.h1_model.proofs.examples.identity_coding.Goals as goal
-
-pub returns : goal.returns
-unfolding trim_ows
-returns c = refl

@@ -1,5 +1,0 @@
-use Rattle.h1_model.proofs.FrameWritten.{read_back}
-use Rattle.h1_model.proofs.frame_text.what_is_written_is_read.Goals as goal
-
-pub returns : goal.returns
-returns c = read_back

@@ -1,5 +1,0 @@
-use Rattle.h1_model.proofs.HeadPieceLemmas.{head_piece_append}
-use Rattle.h1_model.proofs.head_piece.head_piece_stays.Goals as goal
-
-pub returns : goal.returns
-returns c = head_piece_append

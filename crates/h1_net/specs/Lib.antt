@@ -1,4 +1,0 @@
-pub mod Door
-pub mod Gate
-pub mod Moments
-pub mod Socket

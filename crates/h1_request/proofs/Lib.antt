@@ -1,2 +1,0 @@
-pub mod RequestLines
-mod Slashes

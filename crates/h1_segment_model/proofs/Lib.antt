@@ -1,6 +1,0 @@
-pub mod Behind
-pub mod Waiting
-pub mod Order
-pub mod First
-pub mod Added
-pub mod Goes

@@ -1,4 +1,0 @@
-pub mod View
-pub mod Sends
-pub mod Turns
-pub mod Messages

@@ -1,2 +1,0 @@
-pub mod Serves
-pub mod Told

@@ -1,4 +1,0 @@
-use Rattle.h1_share.proofs.table.Table.drop.Given as goal
-
-abbrev pub decreases-loop-seat : goal.decreases-loop-seat
-decreases-loop-seat g l = goal.left-loop-seat g l

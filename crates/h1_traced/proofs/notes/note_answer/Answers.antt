@@ -1,0 +1,16 @@
+use Rattle.std.proofs.Common.{sym, ◌∙◌}
+use Rattle.http_bodies.proofs.Histories.{grown-none}
+use Rattle.h1_traced.proofs.Lines.{any_err, grows_unheard}
+use Rattle.h1_traced.proofs.notes.note_answer.Goals as goal
+
+pub returns-then-not-listens-clause-ok : goal.returns-then-not-listens-clause-ok
+returns-then-not-listens-clause-ok g c = grows_unheard _ _ _ _ c.listens.ensures.value c.if-not-listens.true c.listens.ensures.unheard
+
+pub returns-clause-ok : goal.returns-clause-ok
+returns-clause-ok g c = rw (sym (c.in_ok-new.ensures ∙ c.in_ok-copy.ensures)) c.note_made.ensures.ok
+
+pub returns-in_err-copy-clause-err : goal.returns-in_err-copy-clause-err
+returns-in_err-copy-clause-err g c = any_err _ (grown-none _)
+
+pub returns-in_err-new-clause-err : goal.returns-in_err-new-clause-err
+returns-in_err-new-clause-err g c = any_err _ (grown-none _)

@@ -1,5 +1,0 @@
-pub mod AskedTrace
-pub mod Connected
-pub mod HandedBody
-pub mod ReadOut
-pub mod Samples

@@ -1,8 +1,0 @@
-use Rattle.h1_upgraded.proofs.Orders.{run_keeps, run_starts}
-use Rattle.h1_upgraded.proofs.laws.frames_go_in_order.Goals as goal
-
-pub returns-clause-runs : goal.returns-clause-runs
-returns-clause-runs c = λ v w steps is. run_keeps v w steps is
-
-pub returns-clause-starts : goal.returns-clause-starts
-returns-clause-starts c = λ request line wire service w steps is. run_starts request line wire service w steps is

@@ -1,5 +1,0 @@
-use Rattle.h1_upgraded.proofs.Lacks.{run_notes}
-use Rattle.h1_upgraded.proofs.laws.runs_note_traces.Goals as goal
-
-pub returns : goal.returns
-returns c = λ v u w steps step trace stands noted run lacks is. run_notes v u w steps step trace stands noted run lacks is

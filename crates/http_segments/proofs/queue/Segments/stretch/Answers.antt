@@ -1,8 +1,0 @@
-use Rattle.std.proofs.Common.{rules}
-use Rattle.http_segments.specs.Pieces.{in_row}
-use Rattle.http_segments.proofs.Moves.{own_stretch}
-use Rattle.http_segments.proofs.queue.Segments.stretch.Goals as goal
-
-pub returns-then-self-eq0 : goal.returns-then-self-eq0
-returns-then-self-eq0 c =
-    own_stretch (in_row c.self.inside.first c.self.inside.rest.items) c.self.inside.own.items c.self.inside.marked c.self.inside.shared c.as_slice.result.now c.args.self.now c.self.invariant.0 (search rules) c.self.view_is c.as_slice.ensures

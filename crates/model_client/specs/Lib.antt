@@ -1,0 +1,14 @@
+pub mod AnswerTable
+pub mod LaxText
+pub mod AnswerReading
+pub mod AnswerParse
+pub mod WrittenHead
+pub mod RequestText
+pub mod Laws
+pub mod ClientEvent
+pub mod ClientKept
+pub mod ClientStep
+pub mod ClientTrace
+pub mod Examples
+pub mod ReadOut
+pub mod Parsed

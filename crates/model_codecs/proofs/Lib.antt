@@ -1,0 +1,12 @@
+pub mod Bodies
+pub mod Heads
+pub mod Runs
+pub mod Ends
+pub mod Requests
+pub mod Written
+pub mod Answers
+pub mod Clauses
+pub mod Fronts
+pub mod FrameRuns
+pub mod Texts
+pub mod Received

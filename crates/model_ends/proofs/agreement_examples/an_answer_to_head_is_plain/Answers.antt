@@ -1,0 +1,20 @@
+use Rattle.std.proofs.Common.{◌≡◌, ◌<◌, ◌^◌, refl, subst, lit≤, lit<}
+use Rattle.model_h1.specs.AnswerText.{appended}
+use Rattle.model_ends.proofs.OrdinaryHeads.{two_back}
+use Rattle.model_ends.proofs.agreement_examples.an_answer_to_head_is_plain.Goals as goal
+
+pub returns : goal.returns
+unfolding appended
+returns c = (
+  record {
+    status = lit≤ tt;
+    unrefused = λ same. refl;
+    shape = refl;
+    size = λ e. cc;
+    fits = λ n e. let same : 2 ≡ n = cc in subst (λ k. k < 2 ^ 64) same (lit< tt);
+    short = tt;
+    back = two_back;
+    few = lit≤ tt;
+  },
+  refl,
+)

@@ -1,0 +1,11 @@
+pub mod PlainExchange
+pub mod SentAnswer
+pub mod SentRequest
+pub mod MaskedText
+pub mod LegalMessages
+pub mod AgreementSamples
+pub mod AskedTrace
+pub mod Connected
+pub mod HandedBody
+pub mod ReadOut
+pub mod TwoEndsSamples

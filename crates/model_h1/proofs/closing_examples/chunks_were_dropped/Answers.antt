@@ -1,0 +1,17 @@
+use Rattle.std.proofs.Common.{refl}
+use Rattle.model_h1.specs.Sums.{taken, accepted, request, since_head, answered, answer_len}
+use Rattle.model_h1.specs.Closing.{told, closing}
+use Rattle.model_h1.specs.Allowed.{is_allowed}
+use Rattle.model_h1.specs.OutcomeTable.{outcome_of}
+use Rattle.model_h1.proofs.ExampleParses.{chunks_parsed}
+use Rattle.model_h1.proofs.ExampleSteps.{chunks_asked, happens}
+use Rattle.model_h1.proofs.closing_examples.chunks_were_dropped.Goals as goal
+
+pub returns : goal.returns
+unfolding taken accepted request since_head answered answer_len told closing is_allowed outcome_of
+returns c = (
+  happens _ _ (chunks_parsed, refl, refl, chunks_asked),
+  refl,
+  happens _ _ (chunks_parsed, refl, refl, (chunks_parsed, refl, refl, chunks_asked)),
+  refl,
+)

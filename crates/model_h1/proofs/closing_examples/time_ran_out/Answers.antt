@@ -1,0 +1,21 @@
+use Rattle.std.proofs.Common.{false, refl}
+use Rattle.model_h1.specs.Sums.{taken, accepted, last_tick, first_tick, request, since_head, answered, completed_at, answer_len}
+use Rattle.model_h1.specs.Past.{place_behind, pulled_to}
+use Rattle.model_h1.specs.Closing.{told, closing}
+use Rattle.model_h1.specs.Allowed.{is_allowed}
+use Rattle.model_h1.specs.OutcomeTable.{outcome_of}
+use Rattle.model_h1.proofs.ExampleLemmas.{nothing_behind}
+use Rattle.model_h1.proofs.ExampleParses.{get_parsed}
+use Rattle.model_h1.proofs.ExampleSteps.{get_ticked, happens}
+use Rattle.model_h1.proofs.closing_examples.time_ran_out.Goals as goal
+
+pub returns-clause-slow : goal.returns-clause-slow
+unfolding taken accepted request since_head answered answer_len told closing is_allowed outcome_of last_tick first_tick
+returns-clause-slow c = (happens _ _ (nothing_behind, refl, refl, (nothing_behind, refl, refl, tt)), refl)
+
+pub returns-clause-kept : goal.returns-clause-kept
+unfolding taken accepted request since_head answered answer_len told closing is_allowed outcome_of last_tick first_tick completed_at pulled_to place_behind
+returns-clause-kept c = (
+  happens _ _ (get_parsed false, refl, refl, (get_parsed false, refl, refl, (get_parsed false, refl, refl, get_ticked))),
+  refl,
+)

@@ -1,0 +1,13 @@
+use Rattle.std.proofs.Common.{false, refl}
+use Rattle.model_h1.specs.Sums.{taken, accepted, last_tick, first_tick, request, since_head, answered, completed_at, answer_len}
+use Rattle.model_h1.specs.Past.{place_behind, pulled_to}
+use Rattle.model_h1.specs.Closing.{told, closing}
+use Rattle.model_h1.specs.Allowed.{is_allowed}
+use Rattle.model_h1.specs.OutcomeTable.{outcome_of}
+use Rattle.model_h1.proofs.ExampleParses.{get_parsed, next_parsed}
+use Rattle.model_h1.proofs.ExampleSteps.{get_ticked, happens}
+use Rattle.model_h1.proofs.tick_examples.later_head.Goals as goal
+
+pub returns : goal.returns
+unfolding taken accepted request since_head answered answer_len told closing is_allowed outcome_of last_tick first_tick completed_at pulled_to place_behind
+returns c = (happens _ _ (next_parsed, refl, refl, (get_parsed false, refl, refl, (get_parsed false, refl, refl, get_ticked))), refl)

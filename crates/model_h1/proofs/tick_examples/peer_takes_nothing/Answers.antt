@@ -1,0 +1,33 @@
+use Rattle.std.proofs.Common.{ℕ, [], ◌∷◌, false, refl}
+use Rattle.std.specs.Fmt.{digits}
+use Rattle.model_h1.specs.AnswerText.{year_at, month_at, date_of, appended, head_text}
+use Rattle.model_h1.specs.Sums.{taken, written, accepted, last_tick, first_tick, request, since_head, answered, answer_len}
+use Rattle.model_h1.specs.Past.{place_behind, pulled_to}
+use Rattle.model_h1.specs.Text.{step_text, text}
+use Rattle.model_h1.specs.Closing.{told, closing, closing_since}
+use Rattle.model_h1.specs.Allowed.{is_allowed}
+use Rattle.model_h1.specs.OutcomeTable.{outcome_of}
+use Rattle.model_h1.proofs.ExampleLemmas.{nothing_behind}
+use Rattle.model_h1.proofs.ExampleParses.{get_parsed}
+use Rattle.model_h1.proofs.ExampleSteps.{happens}
+use Rattle.model_h1.specs.Event as on
+use Rattle.model_h1.specs.Laws.ExampleTraces.{usual, parsed, get_text, get_head, get}
+use Rattle.model_h1.proofs.PastLemmas.{Legal}
+use Rattle.model_h1.proofs.tick_examples.peer_takes_nothing.Goals as goal
+
+-- the request, however long a peer is waited for
+asked : (wait : ℕ) → Legal (record usual { disconnect_timeout = wait })
+    (parsed on.next (on.head get_head) (get ∷ []) ∷ parsed (on.read get_text) (on.took 27) (get ∷ []) ∷ parsed (on.tick 100) on.done [] ∷ [])
+unfolding taken accepted request since_head answered answer_len told closing is_allowed outcome_of last_tick first_tick pulled_to place_behind
+asked wait = (get_parsed false, refl, refl, (get_parsed false, refl, refl, (nothing_behind, refl, refl, tt)))
+
+pub returns : goal.returns
+unfolding taken accepted request since_head answered answer_len told closing is_allowed outcome_of last_tick first_tick written step_text text head_text date_of year_at month_at appended digits closing_since pulled_to place_behind
+returns c = (
+  happens _ _ (get_parsed false, refl, refl, (get_parsed false, refl, refl, asked 1000)),
+  refl,
+  refl,
+  refl,
+  happens _ _ (get_parsed false, refl, refl, asked 0),
+  refl,
+)

@@ -1,0 +1,11 @@
+use Rattle.std.proofs.Common.{refl}
+use Rattle.model_h1.specs.Sums.{taken, accepted, request, since_head, answered, answer_len}
+use Rattle.model_h1.specs.Closing.{told, closing}
+use Rattle.model_h1.specs.Allowed.{is_allowed}
+use Rattle.model_h1.specs.OutcomeTable.{outcome_of}
+use Rattle.model_h1.proofs.ExampleSteps.{get_answered, happens}
+use Rattle.model_h1.proofs.trace_examples.answer_without_a_request.Goals as goal
+
+pub returns : goal.returns
+unfolding taken accepted request since_head answered answer_len told closing is_allowed outcome_of
+returns c = (happens _ _ get_answered, refl, refl, refl)

@@ -1,0 +1,137 @@
+-- What holds of all that a forwarder does: the theorem that is to be proved of one.
+use Rattle.std.specs.Prelude.{◌≡◌, ◌⊎◌, ℕ, ◌+◌, ◌<◌, Bool, true, false, ◌==◌, List, [], ◌∷◌, ◌++◌, length, map, filter, flat_map, codes, bytes_eq, Option, Some, None, is_some, ⊤}
+use Rattle.std.specs.List.{AllByRecursion}
+use Rattle.model_h1.specs.Setting.{Setting}
+use Rattle.model_h1.specs.Answer.{size_of}
+use Rattle.model_h1.specs.Handed.{Begins}
+use Rattle.model_h1.specs.Sums.{Step}
+use Rattle.model_h1.specs.Sums as sums
+use Rattle.model_h1.specs.Trace.{IsTrace}
+use Rattle.model_h1.specs.Laws.Exchanges.{AnswerGiven, Reply, no_reply, answer_given, session, is_whole, exchanges}
+use Rattle.model_h1.specs.Laws.Exchanges as replies
+use Rattle.model_client.specs.RequestText.{joined}
+use Rattle.model_client.specs.AnswerReading.{Answer}
+use Rattle.model_proxy.specs.Forward.{is_forwardable, Sent, forward}
+use Rattle.model_proxy.specs.Answers.{Fate, bad, whole_at, Found, IsAnswer, reply_head, reply_size, own_head}
+use Rattle.model_proxy.specs.Past.{ProxyStep, client_taken, client_given, servers, server_at, now}
+use Rattle.model_proxy.specs.Exchange.{Exchange, pulled, is_on, sent_on, until, answer_input}
+
+-- ---- replies
+
+-- the answer is whole
+abbrev pub IsWhole : Fate → Type 0
+IsWhole (whole_at place) = ⊤
+IsWhole _ = ⊥
+
+-- The reply is the answer that was found: its head and its size, and of its bytes a beginning, or all of them where the reply is
+-- ended, which it never is before the answer is whole.
+pub record IsPassedOn (method : List ℕ) (a : AnswerGiven) (found : Found) (answer : Answer) : Type 0 where
+  pub response : found.response ≡ Some answer
+  pub head : a.answered.head ≡ reply_head answer
+  pub size : a.answered.size ≡ reply_size (bytes_eq method (codes "HEAD")) answer
+  pub bytes : Begins (joined a.pieces) found.bytes
+  pub end : is_whole (answer_given a) ≡ true → IsWhole found.fate × (joined a.pieces ≡ found.bytes)
+
+-- an empty reply of the forwarder's own
+abbrev pub IsOwn : ℕ → AnswerGiven → Type 0
+IsOwn status a = (a.answered.head ≡ own_head status) × (a.answered.size ≡ size_of 0)
+
+-- The reply to a request that was sent on the server connection with this number, by what came of it up to so many steps: its answer;
+-- 502 where that is bad before a head of it was passed on; or 400 where the request's own body broke or was cut.
+abbrev pub IsReplyFrom : Setting → List ProxyStep → Exchange → ℕ → ℕ → AnswerGiven → Type 0
+IsReplyFrom setting history x k to a =
+    ((found : Found) × IsAnswer (answer_input setting history k x.sent_at to) x.pulled.head.method found
+    × (((answer : Answer) × IsPassedOn x.pulled.head.method a found answer)
+    ⊎ ((found.response ≡ None) × (found.fate ≡ bad) × IsOwn 502 a)))
+    ⊎ ((x.pulled.is_broken ≡ true) × IsOwn 400 a)
+
+-- 501 for a request that can't be sent on, 502 where no server connection is to be had
+abbrev pub IsReplyBy : Setting → List ProxyStep → List Exchange → Exchange → AnswerGiven → Bool → Bool → Option ℕ → Type 0
+IsReplyBy setting history later x a false was_refused server = IsOwn 501 a
+IsReplyBy setting history later x a true true server = IsOwn 502 a
+IsReplyBy setting history later x a true false (Some k) = IsReplyFrom setting history x k (until history k later) a
+IsReplyBy setting history later x a true false None = ⊥
+
+-- the reply to the request, if it has one yet
+abbrev pub IsReply : Setting → List ProxyStep → List Exchange → Exchange → Reply → Type 0
+IsReply setting history later x no_reply = ⊤
+IsReply setting history later x (answer_given a) =
+    IsReplyBy setting history later x a (is_forwardable x.pulled.head) x.was_refused x.server
+IsReply setting history later x (session s) = ⊥
+
+-- each request has its own reply, in order; these later ones come after them
+abbrev pub AreReplies : Setting → List ProxyStep → List Exchange → List Exchange → List replies.Exchange → Type 0
+AreReplies setting history later [] [] = ⊤
+AreReplies setting history later (x ∷ xs) (e ∷ es) =
+    (e.head ≡ x.pulled.head) × IsReply setting history later x e.reply × AreReplies setting history (x ∷ later) xs es
+AreReplies setting history later _ _ = ⊥
+
+-- ---- one answer a request
+
+-- What came of a server connection until the next request was sent on it is the answer to the one before, to the last byte, and no
+-- end of the input: so no answer is read from bytes that came before its request was sent, and none are left over.
+abbrev pub IsAlone : Setting → List ProxyStep → Exchange → ℕ → ℕ → Type 0
+IsAlone setting history x k to =
+    let input = answer_input setting history k x.sent_at to in
+    (found : Found) × IsAnswer input x.pulled.head.method found × (found.fate ≡ whole_at (length input.bytes)) × (input.ended ≡ false)
+
+-- where these later requests were sent on the connection too
+abbrev pub IsAloneBefore : Setting → List ProxyStep → Exchange → ℕ → List Exchange → Type 0
+IsAloneBefore setting history x k [] = ⊤
+IsAloneBefore setting history x k (next ∷ more) = IsAlone setting history x k next.sent_at
+
+abbrev pub IsAloneOn : Setting → List ProxyStep → List Exchange → Exchange → Option ℕ → Type 0
+IsAloneOn setting history later x None = ⊤
+IsAloneOn setting history later x (Some k) = IsAloneBefore setting history x k (filter (is_on k) later)
+
+abbrev pub AreAlone : Setting → List ProxyStep → List Exchange → List Exchange → Type 0
+AreAlone setting history later [] = ⊤
+AreAlone setting history later (x ∷ xs) = IsAloneOn setting history later x x.server × AreAlone setting history (x ∷ later) xs
+
+-- ---- towards the servers
+
+-- what waits to be given comes behind what was given; of a connection that is closed, what was given begins what was sent
+abbrev pub IsGiven : Option (List ℕ) → Bool → List ℕ → List ℕ → Type 0
+IsGiven (Some waiting) true given text = given ++ waiting ≡ text
+IsGiven _ _ given text = Begins given text
+
+-- towards the server connection with this number; the newest is the one that may be open
+abbrev pub IsGivenTo : List ProxyStep → Option (List ℕ) → List Exchange → ℕ → Type 0
+IsGivenTo history waiting xs k =
+    IsGiven waiting (k + 1 == length (servers history)) (server_at k history).given (flat_map forward (sent_on history k xs))
+
+-- all but the last are whole
+abbrev pub AreWholeButLast : List Sent → Type 0
+AreWholeButLast [] = ⊤
+AreWholeButLast (s ∷ []) = ⊤
+AreWholeButLast (s ∷ next ∷ more) = (s.is_whole ≡ true) × AreWholeButLast (next ∷ more)
+
+-- only a request that can be sent on is, on a server connection that is there, and then none was refused for it
+abbrev pub IsSentRightly : List ProxyStep → Exchange → Type 0
+IsSentRightly history x =
+    (k : ℕ) → x.server ≡ Some k → (is_forwardable x.pulled.head ≡ true) × (x.was_refused ≡ false) × (k < length (servers history))
+
+-- ---- the theorem
+
+-- The newest reply failed, since its answer is bad behind its head.
+abbrev pub HasFailed : Setting → List ProxyStep → List Exchange → Type 0
+HasFailed setting history [] = ⊥
+HasFailed setting history (x ∷ xs) =
+    (k : ℕ) × (x.server ≡ Some k) × (found : Found)
+    × IsAnswer (answer_input setting history k x.sent_at (length history)) x.pulled.head.method found
+    × (is_some found.response ≡ true) × (found.fate ≡ bad)
+
+-- The client's connection did this trace, these are its requests, the newest first in all lists, and these bytes wait to be given to
+-- the server, if a server connection is open.
+pub record IsForwarding (setting : Setting) (history : List ProxyStep) (waiting : Option (List ℕ)) (trace : List Step) (xs : List Exchange) : Type 0 where
+  pub traced : IsTrace setting trace
+  pub taken : sums.taken trace ≡ client_taken history
+  pub written : sums.written trace ≡ client_given history
+  pub moment : sums.now trace ≡ now history
+  pub requests : map (λ x. x.pulled) xs ≡ pulled trace
+  pub rightly : AllByRecursion (IsSentRightly history) xs
+  pub towards : (k : ℕ) → k < length (servers history) → IsGivenTo history waiting xs k
+  pub whole : (k : ℕ) → AreWholeButLast (sent_on history k xs)
+  pub replied : AreReplies setting history [] xs (exchanges trace)
+  pub alone : AreAlone setting history [] xs
+  pub failed : sums.came_since_head sums.is_body_error trace ≡ true → HasFailed setting history xs

@@ -1,0 +1,115 @@
+-- All that happened to a forwarder: on its client's connection, and on each connection to a server. The newest stands first in all
+-- lists.
+use Rattle.std.specs.Prelude.{◌≡◌, ℕ, Bool, true, false, List, [], ◌∷◌, ◌++◌, map, flat_map, Option, Some, None, ⊤}
+use Rattle.std.specs.List.{list_any, AllByRecursion}
+use Rattle.model_h1.specs.Setting.{Setting}
+use Rattle.model_h1.specs.Sums as sums
+use Rattle.model_h1.specs.Trace.{IsTrace}
+use Rattle.model_client.specs.ClientEvent as asked
+use Rattle.model_client.specs.ClientEvent.{ClientEvent}
+use Rattle.model_client.specs.ClientKept.{ClientKept}
+use Rattle.model_client.specs.ClientTrace.{Happened, IsClientTrace, taken, written, text_of, asked_of}
+use Rattle.model_proxy.specs.Forward.{is_forwardable, Sent, forward}
+use Rattle.model_proxy.specs.Past.{ProxyStep, Server, client_taken, client_given, servers, now}
+use Rattle.model_proxy.specs.Exchange.{Pulled, pulled}
+
+-- A request of the client: what was taken of it, and the moment by which it was sent on, if it was.
+pub record Request : Type 0 where
+  pub pulled : Pulled
+  pub sent_at : Option ℕ
+
+-- A connection to a server: all that happened on it, and the requests that were sent on it.
+pub record Link : Type 0 where
+  pub happened : List Happened
+  pub sent : List Sent
+
+pub record Happenings : Type 0 where
+  pub client : List sums.Step
+  pub requests : List Request
+  pub links : List Link
+
+-- nothing has happened
+abbrev pub nothing_happened : Happenings
+nothing_happened = record { client = []; requests = []; links = [] }
+
+-- ---- what was sent on
+
+-- what was sent on of a request, at a moment: as much as was taken of it
+abbrev pub sent_of : Pulled → ℕ → Sent
+sent_of p moment = record { head = p.head; moment = moment; pieces = p.pieces; is_whole = p.is_ended }
+
+abbrev pub with_sent : Pulled → Option ℕ → List Sent → List Sent
+with_sent p None ss = ss
+with_sent p (Some moment) ss = sent_of p moment ∷ ss
+
+-- all of the client's requests that were sent on
+abbrev pub all_sent : List Request → List Sent
+all_sent [] = []
+all_sent (r ∷ rs) = with_sent r.pulled r.sent_at (all_sent rs)
+
+-- the text of these requests, one after another, the oldest first
+abbrev pub text_sent : List Sent → List ℕ
+text_sent [] = []
+text_sent (s ∷ before) = text_sent before ++ forward s
+
+-- their methods, the oldest first
+abbrev pub methods_sent : List Sent → List (List ℕ)
+methods_sent [] = []
+methods_sent (s ∷ before) = methods_sent before ++ s.head.method ∷ []
+
+abbrev pub AreWhole : List Sent → Type 0
+AreWhole ss = AllByRecursion (λ s. s.is_whole ≡ true) ss
+
+-- all but the newest are whole
+abbrev pub AreWholeBehind : List Sent → Type 0
+AreWholeBehind [] = ⊤
+AreWholeBehind (s ∷ before) = AreWhole before
+
+-- a request that was sent on can be
+abbrev pub IsRightlySent : Pulled → Option ℕ → Type 0
+IsRightlySent p None = ⊤
+IsRightlySent p (Some moment) = is_forwardable p.head ≡ true
+
+-- ---- one connection to a server
+
+abbrev pub is_eof : ClientEvent → Bool
+is_eof asked.eof = true
+is_eof _ = false
+
+-- what came from it and was given to it
+abbrev pub server_of : Link → Server
+server_of l = record { came = taken l.happened; ended = list_any (λ s. is_eof s.event) l.happened; given = written l.happened }
+
+-- Each event on it was allowed and made the step of a client's connection; all that was to be written on it, written or not, is the
+-- text of the requests that were sent on it, each but the newest whole, and not one byte else; and these are the requests that were
+-- asked on it, so that its answers are read each to its own.
+pub record IsLink (setting : Setting) (l : Link) : Type 0 where
+  pub kept : ClientKept
+  pub driven : IsClientTrace setting l.happened kept
+  pub text : text_of l.happened ≡ text_sent l.sent
+  pub asked : map (λ w. w.method) (asked_of l.happened) ≡ methods_sent l.sent
+  pub whole : AreWholeBehind l.sent
+
+-- ---- the theorem
+
+-- What was taken from either side and given to either is what these events took and gave.
+pub record AreSums (history : List ProxyStep) (all : Happenings) : Type 0 where
+  pub taken : sums.taken all.client ≡ client_taken history
+  pub written : sums.written all.client ≡ client_given history
+  pub moment : sums.now all.client ≡ now history
+  pub servers : map server_of all.links ≡ servers history
+
+-- The requests are those that the client's connection handed out, with what it handed out of their bodies. Of these were sent on, each
+-- on one connection to a server at most and in their order, those that stand on the connections; only such that can be sent on.
+pub record AreSent (setting : Setting) (all : Happenings) : Type 0 where
+  pub requests : map (λ r. r.pulled) all.requests ≡ pulled all.client
+  pub sent : all_sent all.requests ≡ flat_map (λ l. l.sent) all.links
+  pub rightly : AllByRecursion (λ r. IsRightlySent r.pulled r.sent_at) all.requests
+  pub links : AllByRecursion (IsLink setting) all.links
+
+-- All this happened by these events of a forwarder: the client's connection did what its tables say, and what went towards each
+-- server is the text of the requests that were sent on it.
+pub record IsForwardedBy (client server : Setting) (history : List ProxyStep) (all : Happenings) : Type 0 where
+  pub traced : IsTrace client all.client
+  pub sums : AreSums history all
+  pub sent : AreSent server all

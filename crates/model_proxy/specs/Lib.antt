@@ -1,0 +1,14 @@
+pub mod HopNames
+pub mod Forward
+pub mod SentWhole
+pub mod Answers
+pub mod Past
+pub mod Exchange
+pub mod Forwarding
+pub mod Rests
+pub mod Laws
+pub mod Happenings
+pub mod Carried
+pub mod Moves
+pub mod Left
+pub mod Wants

@@ -1,0 +1,174 @@
+//! Worked examples: small requests, answers and histories with all their values.
+
+ghost use Rattle.std.specs.Prelude.{◌≡◌, ◌⊎◌, ℕ, List, [], ◌∷◌, ◌++◌, length, codes, true, false, Some, None};
+ghost use Rattle.model_h1.specs.Request.{Head, close, no_body, fixed_body, chunked_body, raw_body, malformed};
+ghost use Rattle.model_h1.specs.Answer.{size_none, size_of, size_stream};
+ghost use Rattle.model_h1.specs.Parse.{no_content, content, ended_at, still_open, broken, cut};
+ghost use Rattle.model_h1.specs.Past.{steps};
+ghost use Rattle.model_h1.specs.Laws.ExampleTraces.{usual};
+ghost use Rattle.model_client.specs.AnswerReading.{answer_is, refused};
+ghost use Rattle.model_client.specs.WrittenHead.{line_of};
+ghost use Rattle.model_proxy.specs.HopNames.{connection_words};
+ghost use Rattle.model_proxy.specs.Forward.{is_forwardable, forward};
+ghost use Rattle.model_proxy.specs.Answers.{unfinished, bad, whole_at, Found, found_bad, found_by, found_body, found_nothing, IsAnswer, says_close, reply_lines, reply_reason, reply_head, reply_size};
+ghost use Rattle.model_proxy.specs.Past.{client, server, client_eof, server_eof, connected, refused as no_server, to_client, to_server, tick, server_at, client_taken};
+ghost use Rattle.model_proxy.specs.Exchange.{answer_input};
+ghost use Rattle.model_proxy.specs.Forwarding.{IsAlone, IsForwarding};
+ghost use Rattle.model_proxy.specs.Rests.{is_event_allowed, RestsWhereItMay};
+ghost use Rattle.model_proxy.specs.Laws.Samples.{head_for, get_x, sent_now, answer_with, came, hi_text, hi, timeout_text, answered_by, asked_again, exchange_at};
+ghost use Rattle.model_proxy.specs.Laws.Histories.{refused_history, refused_past, refused_exchanges, whole_history, whole_past, whole_exchanges, unforwardable_history, unforwardable_past, unforwardable_exchanges, broken_history, broken_past, broken_exchanges};
+
+/// The words of Connection lines are read without case and blanks, and the lines that they name stay behind.
+pub fn a_named_line_stays_behind()
+    ensures words { connection_words get_x.headers ≡ codes "x-a" ∷ codes "y" ∷ [] }
+    ensures text { forward (sent_now get_x [] true) ≡ codes "GET /x HTTP/1.1\r\nhost: a\r\ndate: Thu, 01 Jan 1970 00:00:00 GMT\r\n\r\n" }
+{}
+
+/// A fragment isn't sent on.
+pub fn a_fragment_stays_behind()
+    ensures { forward (sent_now (head_for (codes "GET") (codes "/x?y#z") [] no_body) [] true)
+        ≡ codes "GET /x?y HTTP/1.1\r\ndate: Thu, 01 Jan 1970 00:00:00 GMT\r\n\r\n" }
+{}
+
+/// Chunks are written anew, each piece as one, and trailers stay behind; the last chunk comes once the body's end was read.
+pub fn chunks_are_written_anew()
+    ensures { let post : Head = head_for (codes "POST") (codes "/c")
+        (line_of (codes "transfer-encoding") (codes "Chunked") ∷ line_of (codes "trailer") (codes "x") ∷ []) chunked_body in
+        (forward (sent_now post (codes "abc" ∷ codes "de" ∷ []) false)
+        ≡ codes "POST /c HTTP/1.1\r\ntransfer-encoding: chunked\r\ndate: Thu, 01 Jan 1970 00:00:00 GMT\r\n\r\n3\r\nabc\r\n2\r\nde\r\n")
+        × (forward (sent_now post (codes "abc" ∷ codes "de" ∷ []) true)
+        ≡ codes "POST /c HTTP/1.1\r\ntransfer-encoding: chunked\r\ndate: Thu, 01 Jan 1970 00:00:00 GMT\r\n\r\n3\r\nabc\r\n2\r\nde\r\n0\r\n\r\n") }
+{}
+
+/// The length is written anew, whatever lines came in beside it; Expect stays behind.
+pub fn a_length_is_written_anew()
+    ensures { forward (sent_now (head_for (codes "POST") (codes "/p")
+        (line_of (codes "content-length") (codes "5") ∷ line_of (codes "content-length") (codes "7")
+        ∷ line_of (codes "transfer-encoding") (codes "gzip") ∷ line_of (codes "expect") (codes "100-continue") ∷ []) (fixed_body 3)) (codes "abc" ∷ []) true)
+        ≡ codes "POST /p HTTP/1.1\r\ncontent-length: 3\r\ndate: Thu, 01 Jan 1970 00:00:00 GMT\r\n\r\nabc" }
+{}
+
+/// CONNECT, `*`, a target with a scheme, and a request for another protocol can't be sent on; an ordinary one can.
+pub fn which_requests_can_be_sent_on()
+    ensures ordinary { is_forwardable get_x ≡ true }
+    ensures connect { is_forwardable (head_for (codes "CONNECT") (codes "/x") [] (fixed_body 1)) ≡ false }
+    ensures asterisk { is_forwardable (head_for (codes "OPTIONS") (codes "*") [] no_body) ≡ false }
+    ensures scheme { is_forwardable (head_for (codes "GET") (codes "http://a/x") [] no_body) ≡ false }
+    ensures protocol { is_forwardable (head_for (codes "GET") (codes "/x") [] raw_body) ≡ false }
+{}
+
+/// An answer of two bytes is whole, and is replied with its size; its length line is written anew.
+pub fn an_answer_is_found()
+    ensures found { IsAnswer (came hi_text false) (codes "GET") (record { response = Some hi; bytes = codes "hi"; fate = whole_at 40 }) }
+    ensures size { reply_size false hi ≡ size_of 2 }
+    ensures lines { (reply_head hi).headers ≡ [] }
+{}
+
+/// An interim answer is passed over.
+pub fn an_interim_answer_is_passed_over()
+    ensures { IsAnswer (came (codes "HTTP/1.1 103 Early Hints\r\n\r\nHTTP/1.1 204 No Content\r\n\r\n") false) (codes "GET")
+        (record { response = Some (answer_with 204 (codes "No Content") [] no_body); bytes = []; fate = whole_at 55 }) }
+{}
+
+/// Bytes without a whole head are no answer yet, and a bad one once the input has ended, or as many came as may be held.
+pub fn a_head_that_never_comes()
+    ensures open { (found_nothing (came (codes "HTTP/1.1") false) 0).fate ≡ unfinished }
+    ensures ended { (found_nothing (came (codes "HTTP/1.1") true) 0).fate ≡ bad }
+    ensures full { (found_nothing (record { bytes = codes "HTTP/1.1"; ended = false; hold_size = Some 8 }) 0).fate ≡ bad }
+{}
+
+/// A 101, a head that is read in a second reading alone, and one that is refused are bad; a body that is cut, or breaks, is bad
+/// behind its head; one that goes on to the end of the input is whole there.
+pub fn bad_answers()
+    ensures switching { (later : Found) → found_by (came [] false) (answer_is (answer_with 101 [] [] raw_body)) (content [] still_open) later ≡ found_bad }
+    ensures lax { (later : Found) → found_by (came [] false) (answer_is (record hi { is_lax = true })) (content [] still_open) later ≡ found_bad }
+    ensures refusal { (later : Found) → found_by (came [] false) (refused malformed) no_content later ≡ found_bad }
+    ensures cut { found_body (came [] true) hi (content [] cut) ≡ record { response = Some hi; bytes = []; fate = bad } }
+    ensures broken { found_body (came [] false) hi (content [] broken) ≡ record { response = Some hi; bytes = []; fate = bad } }
+    ensures to_the_end { IsAnswer (came (codes "HTTP/1.1 200 OK\r\n\r\nabc") true) (codes "GET")
+        (record { response = Some (record (answer_with 200 (codes "OK") [] raw_body) { connection = close }); bytes = codes "abc"; fate = whole_at 22 }) }
+{}
+
+/// How large a reply is: to HEAD its stated length counts, even beside chunks; a stream stays one; 204 and 304 need no size.
+pub fn sizes_of_replies()
+    ensures head { reply_size true hi ≡ size_of 2 }
+    ensures head_beside_chunks { reply_size true (answer_with 200 [] (line_of (codes "content-length") (codes "9") ∷ line_of (codes "transfer-encoding") (codes "chunked") ∷ []) chunked_body) ≡ size_of 9 }
+    ensures head_of_a_stream { reply_size true (answer_with 200 [] [] raw_body) ≡ size_stream }
+    ensures chunks { reply_size false (answer_with 200 [] (line_of (codes "content-length") (codes "9") ∷ []) chunked_body) ≡ size_stream }
+    ensures no_content { reply_size false (answer_with 204 [] [] no_body) ≡ size_none }
+    ensures not_modified { reply_size false (answer_with 304 [] (line_of (codes "content-length") (codes "9") ∷ []) no_body) ≡ size_none }
+    ensures empty { reply_size false (answer_with 200 [] (line_of (codes "content-length") (codes "0") ∷ []) no_body) ≡ size_of 0 }
+{}
+
+/// A 304 keeps the length that it tells, unless a word of Connection names that; any other answer's is written anew.
+pub fn lengths_of_replies()
+    ensures kept { reply_lines 304 (line_of (codes "content-length") (codes "9") ∷ []) ≡ line_of (codes "content-length") (codes "9") ∷ [] }
+    ensures named { reply_lines 304 (line_of (codes "content-length") (codes "9") ∷ line_of (codes "connection") (codes "Content-Length") ∷ []) ≡ [] }
+    ensures written_anew { reply_lines 200 (line_of (codes "content-length") (codes "9") ∷ line_of (codes "keep-alive") (codes "5") ∷ []) ≡ [] }
+{}
+
+/// The reason is the answer's own, also where it is empty; one that isn't UTF-8 is left out.
+pub fn reasons_of_replies()
+    ensures own { reply_reason (codes "Fine") ≡ codes "Fine" }
+    ensures empty { (reply_head (answer_with 200 [] [] no_body)).reason ≡ Some [] }
+    ensures not_text { reply_reason (255 ∷ []) ≡ [] }
+{}
+
+/// An answer closes by its type, or by a word of any Connection line.
+pub fn which_answers_close()
+    ensures by_type { says_close (record hi { connection = close }) ≡ true }
+    ensures by_word { says_close (record hi { headers = line_of (codes "connection") (codes "keep-alive, Close") ∷ line_of (codes "connection") (codes "keep-alive") ∷ [] }) ≡ true }
+    ensures neither { says_close hi ≡ false }
+{}
+
+/// Bytes that came before a request was sent aren't read as its answer.
+pub fn earlier_bytes_are_no_answer()
+    ensures first { (answer_input usual (asked_again hi_text) 0 2 4).bytes ≡ hi_text }
+    ensures second { (answer_input usual (asked_again hi_text) 0 4 4).bytes ≡ [] }
+{}
+
+/// A second request may follow on a server connection where its first answer came whole, and not where more bytes came, as a server's
+/// word that it closes: a client would read them as its next answer.
+pub fn leftover_bytes_end_a_server_connection()
+    ensures whole { IsAlone usual (asked_again hi_text) (exchange_at 2) 0 4 }
+    ensures leftover { IsAlone usual (asked_again (hi_text ++ timeout_text)) (exchange_at 2) 0 4 → ⊥ }
+{}
+
+/// At first a client's bytes and its end are taken, a moment, and what is asked to be written towards it; nothing of a server.
+pub fn what_is_allowed_at_first()
+    ensures bytes { is_event_allowed usual [] [] None [] (client (codes "GET")) ≡ true }
+    ensures end { is_event_allowed usual [] [] None [] client_eof ≡ true }
+    ensures moment { is_event_allowed usual [] [] None [] (tick 0) ≡ true }
+    ensures writing { is_event_allowed usual [] [] None [] (to_client 5) ≡ true }
+    ensures connection { is_event_allowed usual [] [] None [] connected ≡ false }
+    ensures refusal { is_event_allowed usual [] [] None [] no_server ≡ false }
+    ensures server_bytes { is_event_allowed usual [] [] None [] (server (codes "HTTP")) ≡ false }
+    ensures server_end { is_event_allowed usual [] [] None [] server_eof ≡ false }
+    ensures server_writing { is_event_allowed usual [] [] None [] (to_server 5) ≡ false }
+{}
+
+/// Where no server connection is to be had, the request gets 502: this history is one of a forwarder, and then it rests.
+pub fn a_refused_connection_gives_502()
+    ensures forwards { IsForwarding usual refused_history None (steps refused_past) refused_exchanges }
+    ensures rests { RestsWhereItMay usual refused_past refused_history None refused_exchanges }
+{}
+
+/// A request is sent on, and its answer of two bytes passed on: this history is one of a forwarder. Its server connection stays open,
+/// and then it rests.
+pub fn a_request_and_its_answer_are_passed_on()
+    ensures forwards { IsForwarding usual whole_history (Some []) (steps whole_past) whole_exchanges }
+    ensures rests { RestsWhereItMay usual whole_past whole_history (Some []) whole_exchanges }
+{}
+
+/// A request for another protocol gets 501, and its connection closes: this history is one of a forwarder, and no turn is left.
+pub fn a_request_that_cannot_be_sent_on_gives_501()
+    ensures forwards { IsForwarding usual unforwardable_history None (steps unforwardable_past) unforwardable_exchanges }
+    ensures rests { RestsWhereItMay usual unforwardable_past unforwardable_history None unforwardable_exchanges }
+{}
+
+/// A body that breaks before its answer came gives 400, and both connections close: this history is one of a forwarder, and no turn is
+/// left.
+pub fn a_broken_body_gives_400()
+    ensures forwards { IsForwarding usual broken_history None (steps broken_past) broken_exchanges }
+    ensures rests { RestsWhereItMay usual broken_past broken_history None broken_exchanges }
+{}

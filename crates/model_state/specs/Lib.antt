@@ -1,0 +1,14 @@
+pub mod Kept
+pub mod Local
+pub mod Body
+pub mod Pull
+pub mod Reply
+pub mod Clock
+pub mod Change
+pub mod Deadline
+pub mod KeptOf
+pub mod StandsFor
+pub mod Runs
+pub mod Marks
+pub mod After
+pub mod Ahead

@@ -1,0 +1,18 @@
+-- What is known of a socket as a wire: no bytes, but its end, its shutdown and the counts.
+use Rattle.std.specs.Prelude.{None}
+use Rattle.http_transport.specs.Wiring.{Wiring}
+use Rattle.net_sockets.specs.declared.wire.TcpWire.{TcpWire}
+
+abbrev pub socket_wiring : {R : Type 0} → TcpWire R → Wiring
+socket_wiring w =
+    record {
+      received = None;
+      sent = None;
+      ended = w.ended;
+      shut = w.shut;
+      faults = w.faults;
+      read_waits = w.reads;
+      write_waits = w.writes;
+      flush_waits = 0;
+      shut_waits = w.shuts;
+    }

@@ -1,0 +1,119 @@
+//! A wire that reads nothing while its write waits.
+ghost use Rattle.std.specs.Prelude.{◌≡◌, true, false};
+ghost use Rattle.futures.specs.Task.{IsArmed, Keeps};
+ghost use Rattle.futures.specs.Poll.{OnPending};
+ghost use Rattle.net_sockets.specs.Gate.{gate_wiring, is_pending};
+ghost use Rattle.http_transport.specs.Wiring.{ReadSays, WriteSays, FlushSays, ShutSays};
+
+use futures::task::{Context, Poll, Source, Waker};
+use http_config::Failed;
+use http_transport::Wire;
+use std::marker::Model;
+
+/// A wire over another one that reads nothing while its write waits: so a peer that doesn't read what it is sent can't
+/// make us hold more of what it sends.
+///
+/// From a pending write on, each read is pending, and asks the other wire for nothing. The task is woken once a write is
+/// answered.
+///
+/// A clause sees it as the record of the other wire, whether its write waits, and how often its reads were pending.
+#[derive(Drop)]
+pub struct Gated<W> {
+    wire: W,
+    waits: bool,
+    reads: u64,
+    taken: Source,
+    // A waker wakes its task when it is dropped.
+    reader: Option<Waker>,
+}
+
+impl<W> Model for Gated<W> {
+    ghost use Rattle.net_sockets.specs.Gate.{Gate};
+
+    ghost Value = { Gate W };
+
+    ghost view = { λ g. record { wire = g.wire; waits = g.waits; reads = g.reads } };
+}
+
+impl<W> Gated<W> {
+    /// A wire over this one, whose write doesn't wait.
+    pub fn new(wire: W) -> Gated<W>
+        ensures { result ≡ record { wire = wire; waits = false; reads = 0 } }
+    {
+        Gated {
+            wire,
+            waits: false,
+            reads: 0,
+            taken: Source::new(),
+            reader: None,
+        }
+    }
+
+    /// The wire below.
+    pub fn wire(&self) -> &W
+        ensures { result.now ≡ self.now.wire }
+    {
+        &self.wire
+    }
+}
+
+impl<W: Wire> Wire for Gated<W> {
+    ghost wiring = { gate_wiring W.wiring };
+
+    fn poll_read(&mut self, buf: &mut [u8], cx: &mut Context<'_>) -> Poll<Result<usize, Failed>>
+        ensures says { ReadSays (gate_wiring W.wiring self.old) (gate_wiring W.wiring self.new) result buf.new }
+        ensures held { self.old.waits ≡ true → (result ≡ Poll.Pending) × (self.new.wire ≡ self.old.wire) }
+        ensures stays { self.new.waits ≡ self.old.waits }
+        ensures registered { OnPending result (IsArmed cx.new) }
+        ensures kept { Keeps cx.old cx.new }
+    {
+        if self.waits {
+            self.reads = self.reads.saturating_add(1);
+            return cx.register(&self.taken, &mut self.reader);
+        }
+        match self.wire.poll_read(buf, cx) {
+            Poll::Pending => {
+                self.reads = self.reads.saturating_add(1);
+                Poll::Pending
+            }
+            Poll::Ready(answer) => Poll::Ready(answer),
+        }
+    }
+
+    fn poll_write(&mut self, bytes: &[u8], cx: &mut Context<'_>) -> Poll<Result<usize, Failed>>
+        ensures says { WriteSays (gate_wiring W.wiring self.old) (gate_wiring W.wiring self.new) result bytes.now }
+        ensures waits { self.new.waits ≡ is_pending result }
+        ensures registered { OnPending result (IsArmed cx.new) }
+        ensures kept { Keeps cx.old cx.new }
+    {
+        match self.wire.poll_write(bytes, cx) {
+            Poll::Pending => {
+                self.waits = true;
+                Poll::Pending
+            }
+            Poll::Ready(answer) => {
+                self.waits = false;
+                self.reader = None;
+                Poll::Ready(answer)
+            }
+        }
+    }
+
+    fn poll_flush(&mut self, cx: &mut Context<'_>) -> Poll<Result<(), Failed>>
+        ensures says { FlushSays (gate_wiring W.wiring self.old) (gate_wiring W.wiring self.new) result }
+        ensures stays { self.new.waits ≡ self.old.waits }
+        ensures registered { OnPending result (IsArmed cx.new) }
+        ensures kept { Keeps cx.old cx.new }
+    {
+        self.wire.poll_flush(cx)
+    }
+
+    fn poll_shutdown(&mut self, cx: &mut Context<'_>) -> Poll<Result<(), Failed>>
+        ensures says { ShutSays (gate_wiring W.wiring self.old) (gate_wiring W.wiring self.new) result }
+        ensures stays { self.new.waits ≡ self.old.waits }
+        ensures registered { OnPending result (IsArmed cx.new) }
+        ensures kept { Keeps cx.old cx.new }
+    {
+        self.wire.poll_shutdown(cx)
+    }
+}

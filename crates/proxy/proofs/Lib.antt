@@ -1,0 +1,14 @@
+pub mod Sides
+pub mod Wants
+pub mod Puts
+pub mod Moves
+pub mod Waits
+pub mod Done
+pub mod EventMoves
+pub mod Work
+pub mod Rooms
+pub mod Served
+pub mod Fresh
+pub mod Times
+pub mod Replies
+pub mod Carried

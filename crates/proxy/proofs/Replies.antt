@@ -1,0 +1,444 @@
+-- Why a forwarder puts each part of a reply.
+use Rattle.std.proofs.Common.{◌≡◌, ◌⊎◌, inl, inr, ℕ, Bool, true, false, not, ◌&&◌, List, [], ◌∷◌, Option, Some, None, refl, sym, ap, ◌∙◌, subst, subst₂}
+use Rattle.std.specs.Prelude.{IsTrue, is_some, is_none, if◌then◌else◌}
+use Rattle.std.proofs.lemmas.Bool.{false≢true}
+use Rattle.model_h1.specs.Answer.{AnswerHead, BodySize, is_at_once}
+use Rattle.model_h1.specs.Event as on
+use Rattle.model_h1.specs.Parse.{Body, content, still_open}
+use Rattle.model_h1.specs.Request.{Head}
+use Rattle.model_h1.specs.Sums.{Step}
+use Rattle.model_proxy.specs.Forward.{is_forwardable}
+use Rattle.h1_decoder.specs.HeadItem.{SaysHead}
+use Rattle.h1_decoder.specs.declared.decoder.HeadItem.{HeadItem}
+use Rattle.h1_decoder.specs.declared.response.ResponseItem.{ResponseItem}
+use Rattle.h1_payload.specs.declared.pulled.Pulled.TheVariants as pulled
+use Rattle.h1_connection.specs.State.{State, Stands, GoesOn}
+use Rattle.model_client.specs.AnswerParse.{Received, is_interim}
+use Rattle.model_client.specs.AnswerReading.{Answer, answer_is}
+use Rattle.model_client.specs.ClientEvent as asked
+use Rattle.h1_client.specs.State as servers
+use Rattle.h1_client.specs.declared.event.ClientEnd.{ClientEnd}
+use Rattle.h1_client.specs.declared.event.NextAnswer.TheVariants as answered
+use Rattle.model_proxy.specs.Answers.{Found, found_bad, found_body, found_by, reply_head, reply_size}
+use Rattle.model_proxy.specs.Past.{ProxyEvent, ProxyOutcome}
+use Rattle.model_proxy.specs.Past as past
+use Rattle.proxy.specs.Leaves.{LeavesAnswer}
+use Rattle.proxy.specs.Puts.{Part, begins, continues, ends, breaks_off, request_breaks, has_closed, Puts, IsRefused, MayPut, MayLeave, HandsHead, HandsAnswer, HandsPiece, is_refused, is_good, Handed, good_answer, refused_answer, body_bytes, body_fault, Hands, HandsNone, CannotPull, IsReadUp}
+use Rattle.proxy.proofs.Puts.{puts_none, then_none, head_puts, hands_same, hands_then, tells_none}
+use Rattle.proxy.specs.declared.proxy.Proxy.{Proxy}
+use Rattle.proxy.specs.declared.proxy.Sent.{Sent}
+use Rattle.proxy.specs.declared.proxy.Unsent.{Unsent}
+use Rattle.proxy.specs.Kept.{IsIdle, Runs, GoesBy, wants_server, is_closing}
+use Rattle.proxy.specs.Rests.{IsNoted}
+use Rattle.proxy.proofs.EventMoves.{three_parts}
+use Rattle.proxy.specs.Replies.{nothing_put, broken_body, broken_late, not_forwardable, no_answer, passed_on, piece_on, end_on, cut_off, told_closed, own, passed, PutsLast, PutsHead, IsUnanswered, WasAnswered, Marks, marks_of, GoesOnBy, GoesOnWaiting, IsDropped, ReplyIsOver, KeepsServer, KeepsIdle, KeepsFor, LacksAnswer, Follows, FollowsHead, LacksEnd, AwaitsAnswer, HasCause, TurnReplies, Fails, Breaks, PassesBody, UsesAnswer, TakesAnswer, Opens, ClientAdds, AddsTo, PutsNothing, HasReplied, Replies, RepliesRefused}
+
+-- ---- one after another
+
+-- the rest of the request's body is left first
+pub left_put : (part : Part) (a b c : State) → MayLeave a b → MayPut part b c → PutsLast [] part a c
+left_put part a b c leaves last = record { mid = a; first = puts_none a; there = b; leaves = leaves; last = last }
+
+pub then_last : (before : List Part) (part : Part) (a b c : State) → Puts before a b → PutsLast [] part b c → PutsLast before part a c
+then_last before part a b c first x = record { mid = x.mid; first = then_none before a b x.mid first x.first; there = x.there; leaves = x.leaves; last = x.last }
+
+pub same_puts : (a b : State) → b ≡ a → Puts [] a b
+same_puts a b is = subst (Puts [] a) (sym is) (puts_none a)
+
+pub last_as : (before : List Part) (part : Part) (a b c : State) → c ≡ b → PutsLast before part a b → PutsLast before part a c
+last_as before part a b c is x = subst (PutsLast before part a) (sym is) x
+
+pub noted_client : (p q : Proxy) → IsNoted p q → q.client ≡ p.client
+noted_client p q (n, is) = ap (λ (p : Proxy). p.client) is
+
+-- ---- what is done with an answer
+
+abbrev received : Received
+received = record { bytes = []; ended = false; hold_size = None }
+
+abbrev body : Body
+body = content [] still_open
+
+abbrev found : Answer → Found
+found a = found_body received a body
+
+abbrev choice : Bool → Bool → Found → Found → Found
+choice refused interim later here = if refused then found_bad else (if interim then later else here)
+
+not_bad : (a : Answer) → found a ≡ found_bad → ⊥
+not_bad a is = let no : ◌≡◌ {A = Option Answer} (Some a) None = ap (λ (f : Found). f.response) is in cc no
+
+refused_by : (a : Answer) (refused interim : Bool) → choice refused interim (found a) (found a) ≡ found_bad → refused ≡ true
+refused_by a true interim is = refl
+refused_by a false true is = absurd (not_bad a is)
+refused_by a false false is = absurd (not_bad a is)
+
+pub is_refused_so : (a : Answer) → ((r : Received) (b : Body) (later : Found) → found_by r (answer_is a) b later ≡ found_bad) → is_refused a ≡ true
+is_refused_so a x = refused_by a (is_refused a) (is_interim a.status) (x received body (found a))
+
+over_by : (a : Answer) (refused interim : Bool) → choice refused interim found_bad (found a) ≡ found_bad → (not refused && not interim) ≡ false
+over_by a true interim is = refl
+over_by a false true is = refl
+over_by a false false is = absurd (not_bad a is)
+
+later_by : (a : Answer) (refused interim : Bool) → choice refused interim (found a) (found a) ≡ found a → refused ≡ false
+later_by a true interim is = absurd (not_bad a (sym is))
+later_by a false interim is = refl
+
+interim_by : (refused interim : Bool) → refused ≡ false → (not refused && not interim) ≡ false → interim ≡ true
+interim_by true interim is over = absurd (false≢true (sym is))
+interim_by false true is over = refl
+interim_by false false is over = absurd (false≢true (sym over))
+
+pub is_passed_over : (a : Answer) → ((r : Received) (b : Body) (later : Found) → found_by r (answer_is a) b later ≡ later)
+    → (is_refused a ≡ false) × (is_interim a.status ≡ true)
+is_passed_over a x =
+    let good = later_by a (is_refused a) (is_interim a.status) (x received body (found a)) in
+    (good, interim_by (is_refused a) (is_interim a.status) good (over_by a (is_refused a) (is_interim a.status) (x received body found_bad)))
+
+-- nothing of an answer that is passed over is handed out
+over_out : (a : Answer) (refused interim : Bool) → refused ≡ false → interim ≡ true
+    → (if refused then refused_answer a ∷ [] else (if interim then [] else good_answer a ∷ [])) ≡ []
+over_out a true interim is over = absurd (false≢true (sym is))
+over_out a false true is over = refl
+over_out a false false is over = absurd (false≢true over)
+
+good_by : (a : Answer) (refused interim : Bool) → choice refused interim found_bad (found a) ≡ found a → (not refused && not interim) ≡ true
+good_by a true interim is = absurd (not_bad a (sym is))
+good_by a false true is = absurd (not_bad a (sym is))
+good_by a false false is = refl
+
+pub is_passed_on : (a : Answer) → ((r : Received) (b : Body) (later : Found) → found_by r (answer_is a) b later ≡ found_body r a b) → is_good a ≡ true
+is_passed_on a x = good_by a (is_refused a) (is_interim a.status) (x received body found_bad)
+
+-- ---- nothing waits for an answer
+
+pub idle_cause : (p q : Proxy) → IsIdle p → HasCause nothing_put p q
+idle_cause p q idle = λ sent s x is. let no : ◌≡◌ {A = Option Sent} None (Some sent) = sym idle.sent ∙ x.sent in absurd (cc no)
+
+pub unsent_cause : (p q : Proxy) (u : Unsent) → HasCause nothing_put (record p { unsent = Some u }) q
+unsent_cause p q u = λ sent s x is. let no : ◌≡◌ {A = Option Unsent} (Some u) None = x.unsent in absurd (cc no)
+
+-- this is the request that was sent on
+abbrev marks_or : Marks → Option Sent → Marks
+marks_or marks None = marks
+marks_or marks (Some s) = marks_of s
+
+pub same_marks : (p : Proxy) (sent other : Sent) → p.sent ≡ Some sent → p.sent ≡ Some other → marks_of sent ≡ marks_of other
+same_marks p sent other here there = let same : Some sent ≡ Some other = sym here ∙ there in ap (marks_or (marks_of sent)) same
+
+pub unanswered_here : (p : Proxy) (sent : Sent) (o : Option servers.State) → Runs sent p → sent.is_answered ≡ false → IsUnanswered sent (record p { server = o })
+unanswered_here p sent o runs is = record { runs = record { unsent = runs.unsent; sent = runs.sent }; unanswered = is }
+
+pub answered_here : (p : Proxy) (sent : Sent) (o : Option servers.State) → Runs sent p → sent.is_answered ≡ true → WasAnswered sent (record p { server = o })
+answered_here p sent o runs is = record { runs = record { unsent = runs.unsent; sent = runs.sent }; answered = is }
+
+-- ---- it goes on
+
+pub waits_cause : (p q : Proxy) (sent : Sent) (server : servers.State) → Runs sent p → GoesOnWaiting (marks_of sent) server q
+    → HasCause nothing_put (record p { server = Some server }) q
+waits_cause p q sent server runs waits = λ other s x is.
+    let same : server ≡ s = cc is in
+    subst (λ (s : servers.State). GoesOnWaiting (marks_of other) s q) same
+    (subst (λ (m : Marks). GoesOnWaiting m server q) (same_marks p sent other runs.sent x.sent) waits)
+
+pub goes_on_before : (marks : Marks) (handed : List Handed) (s t : servers.State) (q : Proxy) → HandsNone s t → GoesOnBy marks handed t q
+    → GoesOnBy marks handed s q
+goes_on_before marks handed s t q none x = record {
+  sent = x.sent;
+  runs = x.runs;
+  marked = x.marked;
+  after = x.after;
+  is_there = x.is_there;
+  hands = hands_then handed s t x.after none x.hands;
+}
+
+-- under these marks, by this server connection
+pub goes_as : (q : Proxy) (sent : Sent) (s t : servers.State) (marks : Marks) (handed : List Handed) → Runs sent q → marks_of sent ≡ marks
+    → q.server ≡ Some t → Hands handed s t → GoesOnBy marks handed s q
+goes_as q sent s t marks handed runs marked is hands = record {
+  sent = sent;
+  runs = runs;
+  marked = marked;
+  after = t;
+  is_there = is;
+  hands = hands;
+}
+
+noted_goes_on : (marks : Marks) (handed : List Handed) (server : servers.State) (p q : Proxy) → IsNoted p q → GoesOnBy marks handed server p
+    → GoesOnBy marks handed server q
+noted_goes_on marks handed server p q (n, is) x =
+    subst (GoesOnBy marks handed server) (sym is) (record {
+      sent = x.sent;
+      runs = record { unsent = x.runs.unsent; sent = x.runs.sent };
+      marked = x.marked;
+      after = x.after;
+      is_there = x.is_there;
+      hands = x.hands;
+    })
+
+pub noted_sent : (p q : Proxy) → IsNoted p q → q.sent ≡ p.sent
+noted_sent p q (n, is) = ap (λ (p : Proxy). p.sent) is
+
+pub noted_server : (p q : Proxy) → IsNoted p q → q.server ≡ p.server
+noted_server p q (n, is) = ap (λ (p : Proxy). p.server) is
+
+pub noted_unsent : (p q : Proxy) → IsNoted p q → q.unsent ≡ p.unsent
+noted_unsent p q (n, is) = ap (λ (p : Proxy). p.unsent) is
+
+-- a reply of the forwarder's own was put, while no request was under way and no server connection was there
+pub dropped : (p q : Proxy) → p.unsent ≡ None → p.sent ≡ None → p.server ≡ None → (IsIdle p → IsIdle q) → q.server ≡ p.server → IsDropped q
+dropped p q unsent sent server idle same = record {
+  sent = (idle (record { unsent = unsent; sent = sent })).sent;
+  server = same ∙ server;
+}
+
+pub closing_marks : (is_head closes says : Bool) → closes ≡ says
+    → ◌≡◌ {A = Marks} (record { is_head = is_head; is_answered = true; closes = closes }) (record { is_head = is_head; is_answered = true; closes = says })
+closing_marks is_head closes says is = ap (λ (b : Bool). record { is_head = is_head; is_answered = true; closes = b }) is
+
+pub over_as : (whole is_whole closes says : Bool) (server : servers.State) (q : Proxy) → whole ≡ is_whole → closes ≡ says → ReplyIsOver whole closes server q
+    → ReplyIsOver is_whole says server q
+over_as whole is_whole closes says server q wholly closing over = subst₂ (λ (w c : Bool). ReplyIsOver w c server q) wholly closing over
+
+-- the server connection is kept, or closed
+pub kept_over : (t : Bool) (s : servers.State) → t ≡ true → Some s ≡ (if t then Some s else None)
+kept_over t s is = subst (λ (t : Bool). ◌≡◌ {A = Option servers.State} (Some s) (if t then Some s else None)) (sym is) refl
+
+pub closed_over : (t : Bool) (s : servers.State) → t ≡ false → None ≡ (if t then Some s else None)
+closed_over t s is = subst (λ (t : Bool). ◌≡◌ {A = Option servers.State} None (if t then Some s else None)) (sym is) refl
+
+noted_follows : (t : Bool) (sent : Sent) (a : Answer) (server : servers.State) (p q : Proxy) → IsNoted p q → Follows t sent a server p → Follows t sent a server q
+noted_follows true sent a server p q noted x = record { sent = noted_sent p q noted ∙ x.sent; server = noted_server p q noted ∙ x.server }
+noted_follows false sent a server p q noted x = noted_goes_on _ [] server p q noted x
+
+pub noted_head : (sent : Sent) (a : Answer) (server : servers.State) (p q : Proxy) → IsNoted p q → FollowsHead sent a server p → FollowsHead sent a server q
+noted_head sent a server p q noted x = noted_follows (is_at_once (reply_size sent.is_head a)) sent a server p q noted x
+
+-- what follows a head of this size
+pub follows_on : (size : BodySize) (t : Bool) (sent : Sent) (a : Answer) (server : servers.State) (q : Proxy) → size ≡ reply_size sent.is_head a
+    → is_at_once size ≡ t → Follows t sent a server q → FollowsHead sent a server q
+follows_on size t sent a server q same once x =
+    subst (λ (b : Bool). Follows b sent a server q) (sym once ∙ ap is_at_once same) x
+
+pub still_replies : (p : Proxy) → TurnReplies p p
+still_replies p = (
+  nothing_put,
+  λ sent s x is. goes_as p sent s s (marks_of sent) [] x refl is (hands_same s),
+  puts_none p.client,
+)
+
+-- ---- a turn
+
+pub no_part_put : (p q : Proxy) → HasCause nothing_put p q → Puts [] p.client q.client → TurnReplies p q
+no_part_put p q cause puts = (nothing_put, cause, puts)
+
+pub body_replies : (p q : Proxy) (sent : Sent) (server : servers.State) → Runs sent p → (sent.is_answered ≡ false → AwaitsAnswer (Some server))
+    → PassesBody sent server p.client q → TurnReplies (record p { server = Some server }) q
+body_replies p q sent server runs awaits (inl x) = (nothing_put, waits_cause p q sent server runs x.1, x.0)
+body_replies p q sent server runs awaits (inr x) = by_mark sent.is_answered refl x.3
+  where
+    by_mark : (t : Bool) → sent.is_answered ≡ t → Breaks t sent server x.1 q → TurnReplies (record p { server = Some server }) q
+    by_mark true is y = (
+      broken_late x.0,
+      (
+        sent,
+        answered_here p sent (Some server) runs is,
+        λ s at. let same : server ≡ s = cc at in subst (λ (s : servers.State). GoesOnWaiting (marks_of sent) s q) same y.1,
+      ),
+      then_none (request_breaks x.0 ∷ []) p.client x.1 q.client x.2 y.0,
+    )
+    by_mark false is y = (
+      broken_body x.0,
+      (sent, unanswered_here p sent (Some server) runs is, awaits is, y.1),
+      then_last (request_breaks x.0 ∷ []) (own 400) p.client x.1 q.client x.2 y.0,
+    )
+
+breaks_before : (answered : Bool) (sent : Sent) (s t : servers.State) (client : State) (q : Proxy) → HandsNone s t → Breaks answered sent t client q
+    → Breaks answered sent s client q
+breaks_before true sent s t client q none x = (x.0, goes_on_before (marks_of sent) [] s t q none x.1)
+breaks_before false sent s t client q none x = x
+
+pub body_before : (client : State) (q : Proxy) (sent : Sent) (s t : servers.State) → HandsNone s t → PassesBody sent t client q → PassesBody sent s client q
+body_before client q sent s t none (inl x) = inl (x.0, goes_on_before (marks_of sent) [] s t q none x.1)
+body_before client q sent s t none (inr x) = inr (x.0, x.1, x.2, breaks_before sent.is_answered sent s t x.1 q none x.3)
+
+-- the next answer was asked for, and isn't there
+pub awaits_by : (s t : servers.State) → HandsNone s t → LeavesAnswer answered.Pending s t → AwaitsAnswer (Some s)
+awaits_by s t none leaves = (t, none, leaves)
+
+pub fails_replies : (p q : Proxy) (sent : Sent) (o : Option servers.State) → Runs sent p → (sent.is_answered ≡ false → LacksAnswer o)
+    → (sent.is_answered ≡ true → LacksEnd o) → Fails sent.is_answered p.client q → TurnReplies (record p { server = o }) q
+fails_replies p q sent o runs no_answer_comes no_end_comes fails = by_mark sent.is_answered refl fails
+  where
+    by_mark : (t : Bool) → sent.is_answered ≡ t → Fails t p.client q → TurnReplies (record p { server = o }) q
+    by_mark true is x = (cut_off, (sent, answered_here p sent o runs is, no_end_comes is, x.1), x.0)
+    by_mark false is x = (no_answer, (sent, unanswered_here p sent o runs is, no_answer_comes is, x.1), x.0)
+
+pub answer_replies : (p q : Proxy) (sent : Sent) (s t : servers.State) (item : ResponseItem) → Runs sent p → sent.is_answered ≡ false
+    → HandsAnswer (answered.Answer item) s t → TakesAnswer sent t item p q → TurnReplies (record p { server = Some s }) q
+answer_replies p q sent s t item runs unanswered (a, says, read, tells) takes = by_use (takes unanswered a read says)
+  where
+    waits : IsUnanswered sent (record p { server = Some s })
+    waits = unanswered_here p sent (Some s) runs unanswered
+
+    by_use : UsesAnswer sent t a p q → TurnReplies (record p { server = Some s }) q
+    by_use (inl x) = (no_answer, (sent, waits, inr (asked.answer a, x.0, t, tells), x.2), x.1)
+    by_use (inr (inl x)) = (
+      nothing_put,
+      waits_cause p q sent s runs
+          (goes_on_before (marks_of sent) [] s t q (tells_none (asked.answer a) s t (over_out a (is_refused a) (is_interim a.status) x.0 x.1) tells) x.3),
+      x.2,
+    )
+    by_use (inr (inr x)) = (passed_on sent.is_head a, (sent, waits, refl, (x.0, read, t, tells, x.2)), x.1)
+
+pub head_replies : (p q : Proxy) (item : HeadItem) (c : State) → IsIdle p → HandsHead (SaysHead item) p.client c → Opens item c q → TurnReplies p q
+head_replies p q item c idle hands (inl x) =
+    (nothing_put, idle_cause p q idle, then_none [] p.client c q.client (head_puts (SaysHead item) p.client c hands) x)
+head_replies p q item c idle hands (inr x) = (
+  not_forwardable,
+  (idle, c, (λ trace stands. let y = hands trace stands in (y.0, x.0 y.0 y.1, y.2)), x.2),
+  then_last [] (own 501) p.client c q.client (head_puts (SaysHead item) p.client c hands) x.1,
+)
+
+-- the client's connection has closed
+pub closed_replies : (p : Proxy) (c : State) → IsIdle p → Puts (has_closed ∷ []) p.client c
+    → ((trace : List Step) → Stands p.client trace → is_closing p ≡ true) → TurnReplies p (record p { client = c })
+closed_replies p c idle puts closing = (told_closed, (idle, closing), puts)
+
+-- ---- a server connection on which no request is under way
+
+pub head_keeps : (p b q : Proxy) (item : HeadItem) → b.server ≡ p.server → HandsHead (SaysHead item) p.client b.client → KeepsFor item b q → KeepsIdle p q
+head_keeps p b q item same hands (none, x) = λ idle. (none, by_case x)
+  where
+    by_case : (q.server ≡ b.server) ⊎ ((q.server ≡ None) × ((h : Head) → SaysHead item h → is_forwardable h ≡ false)) → KeepsServer p q
+    by_case (inl x) = inl (x ∙ same)
+    by_case (inr x) = inr (inr (x.0, b.client, (λ trace stands. let y = hands trace stands in (y.0, x.1 y.0 y.1, y.2))))
+
+pub busy_keeps : (p q : Proxy) (sent : Sent) → p.sent ≡ Some sent → KeepsIdle p q
+busy_keeps p q sent is = λ idle. let no : ◌≡◌ {A = Option Sent} None (Some sent) = sym idle.sent ∙ is in absurd (cc no)
+
+pub waiting_keeps : (p q : Proxy) (u : Unsent) → p.unsent ≡ Some u → KeepsIdle p q
+waiting_keeps p q u is = λ idle. let no : ◌≡◌ {A = Option Unsent} None (Some u) = sym idle.unsent ∙ is in absurd (cc no)
+
+pub keeps_of_unsent : (p q : Proxy) (o : Option Unsent) → p.unsent ≡ o → KeepsIdle (record p { unsent = o }) q → KeepsIdle p q
+keeps_of_unsent p q o is x = subst (λ (o : Option Unsent). KeepsIdle (record p { unsent = o }) q) (sym is) x
+
+-- ---- the body of an answer
+
+pub piece_replies : (p q : Proxy) (sent : Sent) (s t : servers.State) (bytes : List ℕ) → Runs sent p → sent.is_answered ≡ true
+    → HandsPiece (pulled.Bytes bytes) s t → Runs sent q → q.server ≡ Some t → MayPut (continues bytes) p.client q.client
+    → (IsRefused (continues bytes) p.client → ⊥) → TurnReplies (record p { server = Some s }) q
+piece_replies p q sent s t bytes runs answered hands after there (inl x) may = absurd (may x.0)
+piece_replies p q sent s t bytes runs answered hands after there (inr x) may = (
+  piece_on bytes,
+  (sent, answered_here p sent (Some s) runs answered, goes_as q sent s t (marks_of sent) (body_bytes bytes ∷ []) after refl there hands),
+  x,
+)
+
+-- trailers are left out
+pub trailers_reply : (p q : Proxy) (sent : Sent) (s t : servers.State) → Runs sent p → HandsNone s t → Runs sent q → q.server ≡ Some t
+    → q.client ≡ p.client → TurnReplies (record p { server = Some s }) q
+trailers_reply p q sent s t runs none after there same = (
+  nothing_put,
+  waits_cause p q sent s runs (goes_as q sent s t (marks_of sent) [] after refl there none),
+  same_puts p.client q.client same,
+)
+
+pub end_replies : (p q : Proxy) (sent : Sent) (s t : servers.State) → Runs sent p → sent.is_answered ≡ true → HandsPiece pulled.End s t
+    → PutsLast [] ends p.client q.client → ReplyIsOver sent.is_whole sent.closes t q → TurnReplies (record p { server = Some s }) q
+end_replies p q sent s t runs answered hands puts over =
+    (end_on, (sent, answered_here p sent (Some s) runs answered, (t, hands, over)), puts)
+
+pub broken_lacks : (s t : servers.State) (fault : on.BodyFault) → Hands (body_fault fault ∷ []) s t ⊎ ((t ≡ s) × CannotPull s × (IsReadUp s → ⊥)) → LacksEnd (Some s)
+broken_lacks s t fault (inl x) = inl (fault, t, x)
+broken_lacks s t fault (inr x) = inr (x.1, x.2)
+
+-- ---- by whether the head of its answer was passed on
+
+pub fails_last : (t : Bool) (a : State) (q : Proxy) → t ≡ false → Fails t a q → PutsLast [] (own 502) a q.client × IsDropped q
+fails_last true a q is x = absurd (false≢true (sym is))
+fails_last false a q is x = x
+
+pub cut_fails : (t : Bool) (a : State) (q : Proxy) → t ≡ true → MayPut breaks_off a q.client → IsDropped q → Fails t a q
+cut_fails true a q is x over = (x, over)
+cut_fails false a q is x over = absurd (false≢true is)
+
+pub own_fails : (t : Bool) (a : State) (q : Proxy) → t ≡ false → PutsLast [] (own 502) a q.client → IsDropped q → Fails t a q
+own_fails true a q is x over = absurd (false≢true (sym is))
+own_fails false a q is x over = (x, over)
+
+pub kept_breaks : (t : Bool) (sent : Sent) (server : servers.State) (a : State) (q : Proxy) → t ≡ true → Puts [] a q.client
+    → GoesOnWaiting (marks_of sent) server q → Breaks t sent server a q
+kept_breaks true sent server a q is x y = (x, y)
+kept_breaks false sent server a q is x y = absurd (false≢true is)
+
+pub own_breaks : (t : Bool) (sent : Sent) (server : servers.State) (a : State) (q : Proxy) → t ≡ false → PutsLast [] (own 400) a q.client → IsDropped q
+    → Breaks t sent server a q
+own_breaks true sent server a q is x over = absurd (false≢true (sym is))
+own_breaks false sent server a q is x over = (x, over)
+
+-- its body breaks
+pub body_breaks : (q : Proxy) (sent : Sent) (server : servers.State) (client c : State) (fault : on.BodyFault) → Puts (request_breaks fault ∷ []) client c
+    → Breaks sent.is_answered sent server c q → PassesBody sent server client q
+body_breaks q sent server client c fault puts breaks = inr (fault, c, puts, breaks)
+
+-- the head of this answer is passed on
+pub head_passes : (is_head : Bool) (a : Answer) (head : AnswerHead) (size : BodySize) (b c : State) → head ≡ reply_head a → size ≡ reply_size is_head a
+    → MayPut (begins (record { head = head; size = size })) b c → MayPut (passed is_head a) b c
+head_passes is_head a head size b c same sized x =
+    subst₂ (λ (h : AnswerHead) (s : BodySize). MayPut (begins (record { head = h; size = s })) b c) same sized x
+
+-- with this size
+pub head_on : (size : BodySize) (t : Bool) (is_head : Bool) (a : Answer) (b c : State) → size ≡ reply_size is_head a → is_at_once size ≡ t
+    → PutsHead t (passed is_head a) b c → PutsHead (is_at_once (reply_size is_head a)) (passed is_head a) b c
+head_on size t is_head a b c same once x = subst (λ (t : Bool). PutsHead t (passed is_head a) b c) (sym once ∙ ap is_at_once same) x
+
+pub head_as : (t : Bool) (part : Part) (a b c : State) → c ≡ b → PutsHead t part a b → PutsHead t part a c
+head_as t part a b c is x = subst (PutsHead t part a) (sym is) x
+
+-- a server connection that closes lacks an answer
+pub closed_lacks : (s t : servers.State) (end : ClientEnd) → HandsAnswer (answered.Closed end) s t → LacksAnswer (Some s)
+closed_lacks s t end (inl x) = inl x
+closed_lacks s t end (inr x) = inr (asked.closed _, tt, t, x)
+
+-- where a part was taken out
+pub replies_of_unsent : (p q : Proxy) (o : Option Unsent) → p.unsent ≡ o → TurnReplies (record p { unsent = o }) q → TurnReplies p q
+replies_of_unsent p q o is x = subst (λ (o : Option Unsent). TurnReplies (record p { unsent = o }) q) (sym is) x
+
+pub replies_of_server : (p q : Proxy) (o : Option servers.State) → p.server ≡ o → TurnReplies (record p { server = o }) q → TurnReplies p q
+replies_of_server p q o is x = subst (λ (o : Option servers.State). TurnReplies (record p { server = o }) q) (sym is) x
+
+-- ---- events
+
+-- the client's connection did this event
+pub client_adds : (event : on.Event) (Says : on.Outcome → Type 0) (a b : State) → GoesOn a event Says b → ClientAdds event a b
+client_adds event Says a b one = λ trace stands. let s = one trace stands in (s.0, s.3)
+
+-- or one to a server did
+pub adds_to : (event : asked.ClientEvent) (Says : asked.ClientOutcome → Type 0) (o : Option servers.State) (a b : servers.State) → o ≡ Some a
+    → servers.GoesOn a event Says b → AddsTo event o (Some b)
+adds_to event Says o a b here one = (a, b, here, refl, λ trace stands. (one.outcome, one.stands trace stands))
+
+pub no_server_of : (p : Proxy) → IsTrue (wants_server p) → p.server ≡ None
+no_server_of p wants = none_of p.server (three_parts (is_some p.unsent) (is_none p.server) (not (is_closing p)) wants).1
+  where
+    none_of : (o : Option servers.State) → is_none o ≡ true → o ≡ None
+    none_of None is = refl
+    none_of (Some s) is = absurd (false≢true is)
+
+pub replies_by : (by : ProxyEvent) (outcome : ProxyOutcome) (p mid q : Proxy) → GoesBy by outcome p mid → PutsNothing by p mid → HasReplied mid q
+    → Replies by outcome p q
+replies_by by outcome p mid q goes event turns = record { mid = mid; goes = goes; event = event; turns = turns }
+
+-- no server connection is to be had
+pub refuses_by : (p a b mid q : Proxy) → GoesBy past.refused past.done p mid → IsIdle mid → mid.server ≡ p.server → a.client ≡ p.client → b.client ≡ a.client
+    → PutsLast [] (own 502) b.client mid.client → HasReplied mid q → RepliesRefused p q
+refuses_by p a b mid q goes idle server first second puts turns = record {
+  mid = mid;
+  goes = goes;
+  idle = idle;
+  server = server;
+  puts = subst (λ (s : State). PutsLast [] (own 502) s mid.client) (second ∙ first) puts;
+  turns = turns;
+}

@@ -1,0 +1,182 @@
+-- A forwarder as its contracts see it, and how it goes on.
+use Rattle.std.specs.Prelude.{◌≡◌, ℕ, ◌-◌, ◌<◌, ◌≤◌, Bool, false, not, ◌&&◌, ◌||◌, List, [], ◌∷◌, length, min, nat_le, if◌then◌else◌, Option, Some, None, is_some, is_none, option_map, unwrap_or, ⊤, true}
+use Rattle.http_config.specs.Config.{Settings}
+use Rattle.model_h1.specs.Limits.{MAX_MOMENT}
+use Rattle.model_h1.specs.Request.{Head, has_body}
+use Rattle.model_h1.specs.Event as on
+use Rattle.model_state.specs.Local.{closing_by, allowed_by}
+use Rattle.h1_encoder.specs.Meaning.{size_of}
+use Rattle.h1_decoder.specs.HeadItem.{SaysHead}
+use Rattle.h1_decoder.specs.declared.decoder.HeadItem.{HeadItem}
+use Rattle.model_client.specs.RequestText.{request_text, asked_shape, given_request_text}
+use Rattle.model_client.specs.ClientEvent as asked
+use Rattle.model_client.specs.ClientKept.{client_allows, is_reusable as takes_another}
+use Rattle.h1_client.specs.Meaning as asking
+use Rattle.h1_client.specs.Meaning.{request_of}
+use Rattle.h1_client.specs.State as servers
+use Rattle.h1_connection.specs.Meaning.{setting_of}
+use Rattle.h1_connection.specs.State.{State}
+use Rattle.model_proxy.specs.Forward.{forwarded, forwarded_size}
+use Rattle.model_proxy.specs.Past.{ProxyStep, ProxyEvent, ProxyOutcome, last_tick}
+use Rattle.model_proxy.specs.Exchange.{unpulled}
+use Rattle.model_proxy.specs.Rests.{MAX_WAITING}
+use Rattle.model_proxy.specs.Happenings.{Happenings, sent_of}
+use Rattle.model_proxy.specs.Carried.{UnderWay, nothing, waits, is_sent, ForwarderKept, Carries, IsNewest}
+use Rattle.proxy.specs.declared.proxy.Proxy.{Proxy}
+use Rattle.proxy.specs.declared.proxy.Unsent.{Unsent}
+use Rattle.proxy.specs.declared.proxy.Sent.{Sent}
+
+-- ---- what it keeps
+
+-- the client's connection, and the connection to a server, if there is one
+abbrev pub client_of : Proxy → State
+client_of proxy = proxy.client
+
+abbrev pub server_of : Proxy → Option servers.State
+server_of proxy = proxy.server
+
+abbrev pub under_way_of : Option Unsent → Option Sent → UnderWay
+under_way_of (Some u) sent = waits (request_of u.head) (size_of u.size) u.sent.is_whole u.sent.is_broken
+under_way_of None (Some s) = is_sent s.is_whole s.is_broken
+under_way_of None None = nothing
+
+abbrev pub kept_of : Proxy → ForwarderKept
+kept_of p = record {
+  client = p.client.kept;
+  server = option_map (λ s. s.kept) p.server;
+  under_way = under_way_of p.unsent p.sent;
+}
+
+abbrev pub HasSettings : Settings → Option servers.State → Type 0
+HasSettings settings None = ⊤
+HasSettings settings (Some s) = s.settings ≡ settings
+
+-- the moment that a server connection was told last, 0 before the first
+abbrev pub time_of : Option servers.State → ℕ
+time_of None = 0
+time_of (Some s) = s.kept.now
+
+-- The moment is that of the last tick, and the server connection was told no later one.
+pub record IsTimed (moment : Option ℕ) (server : Option servers.State) (history : List ProxyStep) : Type 0 where
+  pub last : moment ≡ last_tick history
+  pub below : unwrap_or moment 0 < MAX_MOMENT
+  pub told : time_of server ≤ unwrap_or moment 0
+
+-- What a forwarder keeps is what is left of all that happened after these events.
+pub record Forwards (p : Proxy) (history : List ProxyStep) (all : Happenings) : Type 0 where
+  pub client : p.client.settings ≡ p.config
+  pub server : HasSettings p.config p.server
+  pub carries : Carries (setting_of p.config) (asking.setting_of p.config) (kept_of p) history all
+  pub time : IsTimed p.moment p.server history
+
+-- ---- how it goes on
+
+-- without an event of its own; its settings stay
+abbrev pub Goes : Proxy → Proxy → Type 0
+Goes old new =
+    (new.config ≡ old.config)
+    × ((history : List ProxyStep) (all : Happenings) → Forwards old history all → (after : Happenings) × Forwards new history after)
+
+-- by this event, with this outcome; its settings stay
+abbrev pub GoesBy : ProxyEvent → ProxyOutcome → Proxy → Proxy → Type 0
+GoesBy event outcome old new =
+    (new.config ≡ old.config)
+    × ((history : List ProxyStep) (all : Happenings) → Forwards old history all
+    → (after : Happenings) × Forwards new (record { event = event; outcome = outcome } ∷ history) after)
+
+-- where this is the connection to a server
+abbrev pub GoesWith : servers.State → Proxy → Proxy → Type 0
+GoesWith server old new = Goes (record old { server = Some server }) new
+
+-- where this request waits
+abbrev pub GoesUnsent : Unsent → Proxy → Proxy → Type 0
+GoesUnsent unsent old new = Goes (record old { unsent = Some unsent }) new
+
+-- where this one was sent on, on this connection, and its body is broken
+abbrev pub GoesBroken : Sent → servers.State → Proxy → Proxy → Type 0
+GoesBroken sent server old new = Goes (record old { server = Some server; sent = Some (record sent { is_broken = true }) }) new
+
+-- by the newest request, which this item says
+abbrev pub GoesFrom : HeadItem → Proxy → Proxy → Type 0
+GoesFrom item old new =
+    (new.config ≡ old.config)
+    × ((history : List ProxyStep) (all : Happenings) (h : Head) → SaysHead item h → Forwards old history all
+    → IsNewest h all → (after : Happenings) × Forwards new history after)
+
+-- no request is under way
+pub record IsIdle (p : Proxy) : Type 0 where
+  pub unsent : p.unsent ≡ None
+  pub sent : p.sent ≡ None
+
+-- this one is
+pub record Runs (this : Sent) (p : Proxy) : Type 0 where
+  pub unsent : p.unsent ≡ None
+  pub sent : p.sent ≡ Some this
+
+-- a request that waits is what is to be sent on for this head
+pub record IsUnsent (u : Unsent) (h : Head) : Type 0 where
+  pub method : (request_of u.head).head.method ≡ h.method
+  pub whole : u.sent.is_whole ≡ not (has_body h.body)
+  pub unbroken : u.sent.is_broken ≡ false
+  pub sized : size_of u.size ≡ forwarded_size h.body
+  pub text : (moment : ℕ) → request_text (request_of u.head).head (asked_shape (size_of u.size)) (size_of u.size) (request_of u.head).connection moment
+      ≡ given_request_text (forwarded (sent_of (unpulled h) moment))
+
+-- ---- questions
+
+-- the client's connection is to end
+abbrev pub is_closing : Proxy → Bool
+is_closing proxy = is_some (closing_by (setting_of (client_of proxy).settings) (client_of proxy).kept)
+
+-- a server connection is wanted: a request waits for one, there is none, and the client's connection isn't to end
+abbrev pub wants_server : Proxy → Bool
+wants_server proxy = is_some proxy.unsent && is_none (server_of proxy) && not (is_closing proxy)
+
+-- what waits to be written towards a server
+abbrev pub server_text : Option servers.State → List ℕ
+server_text None = []
+server_text (Some server) = server.kept.buffered
+
+-- the event is allowed on the connection to a server
+abbrev pub server_allows : Option servers.State → asked.ClientEvent → Bool
+server_allows None event = false
+server_allows (Some s) event = client_allows (asking.setting_of s.settings) s.kept event
+
+-- the event is allowed on the client's connection
+abbrev pub client_takes : Proxy → on.Event → Bool
+client_takes proxy event = allowed_by (setting_of (client_of proxy).settings) (client_of proxy).kept event
+
+-- how many bytes may be taken from the client now: none while its connection is to end or its input has ended, or 32768 wait towards the
+-- server
+abbrev pub client_room : Proxy → ℕ
+client_room p =
+    if is_closing p || not (client_takes p on.eof) || nat_le MAX_WAITING (length (server_text (server_of p))) then 0
+    else p.client.settings.h1_hold_size - length p.client.kept.unread
+
+-- and from the server: none without a connection, or once its input has ended, or while 32768 wait towards the client
+abbrev pub room_of : Option servers.State → ℕ
+room_of None = 0
+room_of (Some s) = if client_allows (asking.setting_of s.settings) s.kept asked.eof then s.settings.h1_hold_size - length s.kept.unread else 0
+
+abbrev pub server_room : Proxy → ℕ
+server_room p = if nat_le MAX_WAITING (length p.client.kept.buffered) then 0 else room_of p.server
+
+-- so many of the bytes were taken as there was room for, whatever happened before
+abbrev pub TakesAll : ℕ → List ℕ → ℕ → Proxy → Type 0
+TakesAll count bytes room old = (history : List ProxyStep) (all : Happenings) → Forwards old history all → count ≡ min (length bytes) room
+
+-- the connection to a server may serve a further request, of another client too: none is under way
+abbrev pub may_serve : Option Sent → Option servers.State → Bool
+may_serve sent None = false
+may_serve sent (Some s) = is_none sent && takes_another s.kept
+
+abbrev pub is_reusable : Proxy → Bool
+is_reusable p = may_serve p.sent p.server
+
+-- the head of an answer was passed on, and its reply isn't complete
+abbrev pub was_answered : Option Sent → Bool
+was_answered None = false
+was_answered (Some s) = s.is_answered
+
+abbrev pub is_answering : Proxy → Bool
+is_answering p = was_answered p.sent

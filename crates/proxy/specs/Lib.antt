@@ -1,0 +1,9 @@
+pub mod Sides
+pub mod Leaves
+pub mod Wants
+pub mod Puts
+pub mod Kept
+pub mod Rests
+pub mod Served
+pub mod Fresh
+pub mod Replies

@@ -1,0 +1,343 @@
+-- Why a forwarder puts each part of a reply, turn by turn.
+use Rattle.std.specs.Prelude.{◌≡◌, ◌⊎◌, ℕ, Bool, true, false, not, ◌&&◌, if◌then◌else◌, List, [], ◌∷◌, ⊤, Option, Some, None, is_some, is_none}
+use Rattle.http_config.specs.Config.{Settings}
+use Rattle.model_h1.specs.Answer.{size_of, is_at_once}
+use Rattle.model_h1.specs.Event as on
+use Rattle.model_h1.specs.Request.{Head}
+use Rattle.model_h1.specs.Sums.{Step}
+use Rattle.model_state.specs.Local.{allowed_by}
+use Rattle.h1_decoder.specs.HeadItem.{SaysHead}
+use Rattle.h1_decoder.specs.ResponseItem.{SaysAnswer}
+use Rattle.h1_decoder.specs.declared.decoder.HeadItem.{HeadItem}
+use Rattle.h1_decoder.specs.declared.response.ResponseItem.{ResponseItem}
+use Rattle.h1_connection.specs.Meaning.{setting_of}
+use Rattle.h1_connection.specs.State.{State, Stands}
+use Rattle.model_client.specs.AnswerParse.{is_interim}
+use Rattle.model_client.specs.AnswerReading.{Answer}
+use Rattle.model_client.specs.ClientEvent as asked
+use Rattle.model_client.specs.ClientKept.{client_closing}
+use Rattle.model_client.specs.ClientTrace.{Happened}
+use Rattle.h1_client.specs.State as servers
+use Rattle.model_proxy.specs.Forward.{is_forwardable}
+use Rattle.model_proxy.specs.Answers.{reply_head, reply_size, own_head, says_close}
+use Rattle.model_proxy.specs.Past as event
+use Rattle.proxy.specs.Leaves.{IsAwaited}
+use Rattle.proxy.specs.Puts.{Part, begins, continues, ends, breaks_off, request_breaks, has_closed, Puts, MayPut, MayLeave, HandsHead, is_refused, is_good, Handed, body_bytes, body_end, body_fault, Hands, HandsNone, Tells, IsRead, CannotTell, CannotPull, IsReadUp}
+use Rattle.proxy.specs.declared.proxy.Proxy.{Proxy}
+use Rattle.proxy.specs.declared.proxy.Sent.{Sent}
+use Rattle.proxy.specs.Fresh.{SendsWhereItCan, BeginsWhereItMay}
+use Rattle.proxy.specs.Kept.{IsIdle, Runs, Goes, GoesBy, is_closing}
+
+-- ---- what is put
+
+-- What a turn does of a reply, and tells of one: nothing; or the head of one of the forwarder's own, where the request can't be sent on, where
+-- no answer is to be had, or where its body broke; or the head of an answer, to a request of HEAD or to another; then of that reply a piece of
+-- its body, its end, or that it is cut. A request's body may also break while its reply is under way. And a connection that is to end may tell
+-- that it has closed.
+pub data TurnPuts : Type 0 where
+  nothing_put not_forwardable no_answer : TurnPuts
+  broken_body broken_late : on.BodyFault → TurnPuts
+  passed_on : Bool → Answer → TurnPuts
+  piece_on : List ℕ → TurnPuts
+  end_on cut_off told_closed : TurnPuts
+
+-- the empty reply of the forwarder's own with this status
+abbrev pub own : ℕ → Part
+own status = begins (record { head = own_head status; size = size_of 0 })
+
+-- the head of a reply that passes an answer on, to a request of HEAD or to another
+abbrev pub passed : Bool → Answer → Part
+passed is_head a = begins (record { head = reply_head a; size = reply_size is_head a })
+
+-- After these parts, the newest first, the rest of the request's body is left where it may be, and then this part is put, unless it may not be put
+-- there.
+pub record PutsLast (before : List Part) (part : Part) (old new : State) : Type 0 where
+  pub mid : State
+  pub first : Puts before old mid
+  pub there : State
+  pub leaves : MayLeave mid there
+  pub last : MayPut part there new
+
+-- the head of an answer is put: all of its reply, or the first part of it
+abbrev pub PutsHead : Bool → Part → State → State → Type 0
+PutsHead true part old new = PutsLast [] part old new
+PutsHead false part old new = MayPut part old new
+
+-- all that a turn does on the client's connection, by the parts of it
+abbrev pub HasPut : TurnPuts → State → State → Type 0
+HasPut nothing_put old new = Puts [] old new
+HasPut not_forwardable old new = PutsLast [] (own 501) old new
+HasPut no_answer old new = PutsLast [] (own 502) old new
+HasPut (broken_body fault) old new = PutsLast (request_breaks fault ∷ []) (own 400) old new
+HasPut (broken_late fault) old new = Puts (request_breaks fault ∷ []) old new
+HasPut (passed_on is_head a) old new = PutsHead (is_at_once (reply_size is_head a)) (passed is_head a) old new
+HasPut (piece_on bytes) old new = Puts (continues bytes ∷ []) old new
+HasPut end_on old new = PutsLast [] ends old new
+HasPut cut_off old new = MayPut breaks_off old new
+HasPut told_closed old new = Puts (has_closed ∷ []) old new
+
+-- ---- why
+
+-- this request was sent on, and no head was passed on as its answer's
+pub record IsUnanswered (sent : Sent) (p : Proxy) : Type 0 where
+  pub runs : Runs sent p
+  pub unanswered : sent.is_answered ≡ false
+
+-- this request was sent on, and the head of its answer was passed on
+pub record WasAnswered (sent : Sent) (p : Proxy) : Type 0 where
+  pub runs : Runs sent p
+  pub answered : sent.is_answered ≡ true
+
+-- What is kept of a request that was sent on, but for how far its body is: whether its method is HEAD, whether the head of its answer was
+-- passed on, and whether that says that its server closes the connection.
+pub record Marks : Type 0 where
+  pub is_head : Bool
+  pub is_answered : Bool
+  pub closes : Bool
+
+abbrev pub marks_of : Sent → Marks
+marks_of sent = record { is_head = sent.is_head; is_answered = sent.is_answered; closes = sent.closes }
+
+-- A request that was sent on goes on under these marks, by the same connection to a server, which handed out these parts of answers, the newest
+-- first, and no others.
+pub record GoesOnBy (marks : Marks) (handed : List Handed) (server : servers.State) (q : Proxy) : Type 0 where
+  pub sent : Sent
+  pub runs : Runs sent q
+  pub marked : marks_of sent ≡ marks
+  pub after : servers.State
+  pub is_there : q.server ≡ Some after
+  pub hands : Hands handed server after
+
+-- nothing was handed out: the request waits on for its answer, or for more of it
+abbrev pub GoesOnWaiting : Marks → servers.State → Proxy → Type 0
+GoesOnWaiting marks server q = GoesOnBy marks [] server q
+
+-- no request is under way any more, and the server connection is closed
+pub record IsDropped (q : Proxy) : Type 0 where
+  pub sent : q.sent ≡ None
+  pub server : q.server ≡ None
+
+-- a server connection may serve another request: both messages are whole, the answer didn't say close, and it isn't to end
+abbrev pub may_keep : Bool → Bool → servers.State → Bool
+may_keep is_whole closes s = is_whole && not closes && is_none (client_closing s.kept)
+
+-- Its reply is complete. The server connection is kept where it may serve another request, and is closed elsewhere.
+pub record ReplyIsOver (is_whole closes : Bool) (last : servers.State) (q : Proxy) : Type 0 where
+  pub sent : q.sent ≡ None
+  pub server : q.server ≡ (if may_keep is_whole closes last then Some last else None)
+
+-- the next answer is one that is never passed on, or a fault, or none will come
+abbrev pub IsBad : asked.ClientOutcome → Type 0
+IsBad (asked.answer a) = is_refused a ≡ true
+IsBad (asked.fault f) = ⊤
+IsBad (asked.closed end) = ⊤
+IsBad o = ⊥
+
+abbrev pub LacksAnswer : Option servers.State → Type 0
+LacksAnswer None = ⊤
+LacksAnswer (Some s) = CannotTell s ⊎ ((o : asked.ClientOutcome) × IsBad o × (t : servers.State) × Tells o s t)
+
+-- A reply that ends with its head is complete; of another the connection to the server has the rest.
+abbrev pub Follows : Bool → Sent → Answer → servers.State → Proxy → Type 0
+Follows true sent a server q = ReplyIsOver sent.is_whole (says_close a) server q
+Follows false sent a server q = GoesOnBy (record { is_head = sent.is_head; is_answered = true; closes = says_close a }) [] server q
+
+-- an answer's head is passed on
+abbrev pub FollowsHead : Sent → Answer → servers.State → Proxy → Type 0
+FollowsHead sent a server q = Follows (is_at_once (reply_size sent.is_head a)) sent a server q
+
+-- this answer was handed out next, and is one to be passed on
+abbrev pub HasAnswer : Sent → Answer → Option servers.State → Proxy → Type 0
+HasAnswer sent a None q = ⊥
+HasAnswer sent a (Some s) q = (is_good a ≡ true) × IsRead a × (t : servers.State) × Tells (asked.answer a) s t × FollowsHead sent a t q
+
+-- these bytes of the answer's body were handed out next
+abbrev pub HasBytes : Marks → List ℕ → Option servers.State → Proxy → Type 0
+HasBytes marks bytes None q = ⊥
+HasBytes marks bytes (Some s) q = GoesOnBy marks (body_bytes bytes ∷ []) s q
+
+-- the end of the answer's body was handed out next, or it was read to its end before
+abbrev pub HasEnd : Sent → Option servers.State → Proxy → Type 0
+HasEnd sent None q = ⊥
+HasEnd sent (Some s) q = (t : servers.State) × (Hands (body_end ∷ []) s t ⊎ ((t ≡ s) × IsReadUp s)) × ReplyIsOver sent.is_whole sent.closes t q
+
+-- a fault of the answer's body was handed out next; or it wasn't read to its end, and no more of it can be asked for
+abbrev pub LacksEnd : Option servers.State → Type 0
+LacksEnd None = ⊤
+LacksEnd (Some s) = ((fault : on.BodyFault) × (t : servers.State) × Hands (body_fault fault ∷ []) s t) ⊎ (CannotPull s × (IsReadUp s → ⊥))
+
+-- no head of its answer is there whole, while one may come
+abbrev pub AwaitsAnswer : Option servers.State → Type 0
+AwaitsAnswer None = ⊥
+AwaitsAnswer (Some s) = (t : servers.State) × HandsNone s t × ((trace : List Happened) → servers.Stands s trace → IsAwaited t)
+
+-- Why a turn does so. Where nothing is put, a request that was sent on and has its server connection goes on unchanged on that, which handed
+-- out nothing of an answer; of other requests this says nothing. 501 is put for a head that was handed out and can't be sent on, while no other
+-- request was under way; 502 where the request that was sent on has no server connection, or no answer will come by it that could be passed on;
+-- 400 where its body broke while no head of its answer was there. A request's body may break later, and then the reply goes on. The head of an
+-- answer is put as it was handed out for the request that was sent on, a piece of its body as it was handed out next, its end once that was
+-- handed out; and it is cut only where its body is broken, ended early, or can't come. The server connection is closed for 400, 501 and 502, and
+-- where a reply is cut.
+abbrev pub HasCause : TurnPuts → Proxy → Proxy → Type 0
+HasCause nothing_put old new = (sent : Sent) (s : servers.State) → Runs sent old → old.server ≡ Some s → GoesOnWaiting (marks_of sent) s new
+HasCause (broken_late fault) old new =
+    (sent : Sent) × WasAnswered sent old × ((s : servers.State) → old.server ≡ Some s → GoesOnWaiting (marks_of sent) s new)
+HasCause (passed_on is_head a) old new = (sent : Sent) × IsUnanswered sent old × (sent.is_head ≡ is_head) × HasAnswer sent a old.server new
+HasCause (piece_on bytes) old new = (sent : Sent) × WasAnswered sent old × HasBytes (marks_of sent) bytes old.server new
+HasCause end_on old new = (sent : Sent) × WasAnswered sent old × HasEnd sent old.server new
+HasCause cut_off old new = (sent : Sent) × WasAnswered sent old × LacksEnd old.server × IsDropped new
+HasCause told_closed old new = IsIdle old × ((trace : List Step) → Stands old.client trace → is_closing old ≡ true)
+HasCause no_answer old new = (sent : Sent) × IsUnanswered sent old × LacksAnswer old.server × IsDropped new
+HasCause not_forwardable old new = IsIdle old × (c : State) × HandsHead (λ h. is_forwardable h ≡ false) old.client c × IsDropped new
+HasCause (broken_body fault) old new = (sent : Sent) × IsUnanswered sent old × AwaitsAnswer old.server × IsDropped new
+
+-- a turn puts one part of a reply at most, for its cause
+abbrev pub TurnReplies : Proxy → Proxy → Type 0
+TurnReplies old new = (puts : TurnPuts) × HasCause puts old new × HasPut puts old.client new.client
+
+-- the server connection stays; it is closed where it is to end, or a request was handed out that can't be sent on
+abbrev pub KeepsServer : Proxy → Proxy → Type 0
+KeepsServer old new =
+    (new.server ≡ old.server)
+    ⊎ (((new.server ≡ None) × (s : servers.State) × (old.server ≡ Some s) × (is_some (client_closing s.kept) ≡ true))
+    ⊎ ((new.server ≡ None) × (c : State) × HandsHead (λ h. is_forwardable h ≡ false) old.client c))
+
+-- a turn that begins while no request is under way sends none on, and keeps the server connection
+abbrev pub KeepsIdle : Proxy → Proxy → Type 0
+KeepsIdle old new = IsIdle old → (new.sent ≡ None) × KeepsServer old new
+
+-- A turn. What is kept after it is what is left of all that happened; it begins where it may, and a request that waits is sent on where it can be.
+pub record IsTurn (old new : Proxy) : Type 0 where
+  pub goes : Goes old new
+  pub begins : BeginsWhereItMay old new
+  pub replies : TurnReplies old new
+  pub keeps : KeepsIdle old new
+  pub sends : SendsWhereItCan old new
+
+-- turns one after another, if there are any
+pub data HasReplied (old : Proxy) : Proxy → Type 0 where
+  nothing : HasReplied old old
+  turned : (mid new : Proxy) → HasReplied old mid → IsTurn mid new → HasReplied old new
+
+-- an event, and nothing else, came on the client's connection, or on one to a server
+abbrev pub ClientAdds : on.Event → State → State → Type 0
+ClientAdds event old new = (trace : List Step) → Stands old trace → (o : on.Outcome) × Stands new (record { event = event; outcome = o } ∷ trace)
+
+abbrev pub ServerAdds : asked.ClientEvent → servers.State → servers.State → Type 0
+ServerAdds event old new =
+    (trace : List Happened) → servers.Stands old trace → (o : asked.ClientOutcome) × servers.Stands new (record { event = event; outcome = o } ∷ trace)
+
+abbrev pub AddsTo : asked.ClientEvent → Option servers.State → Option servers.State → Type 0
+AddsTo event old new = (s : servers.State) × (t : servers.State) × (old ≡ Some s) × (new ≡ Some t) × ServerAdds event s t
+
+-- What an event of the forwarder makes of its client's connection: the event of that of the same kind, or, where bytes find no room or the
+-- connection takes no end, nothing; an event on the other side leaves it as it is.
+abbrev pub ClientDoes : event.ProxyEvent → State → State → Type 0
+ClientDoes (event.client bytes) old new = (new ≡ old) ⊎ ClientAdds (on.read bytes) old new
+ClientDoes event.client_eof old new =
+    ((new ≡ old) × (allowed_by (setting_of old.settings) old.kept on.eof ≡ false)) ⊎ ClientAdds on.eof old new
+ClientDoes (event.to_client count) old new = ClientAdds (on.write count) old new
+ClientDoes (event.tick moment) old new = ClientAdds (on.tick moment) old new
+ClientDoes e old new = new ≡ old
+
+-- And of the server connection: likewise, and a new one is there where it connects.
+abbrev pub ServerDoes : event.ProxyEvent → Settings → Option servers.State → Option servers.State → Type 0
+ServerDoes (event.server bytes) config old new = (new ≡ old) ⊎ AddsTo (asked.read bytes) old new
+ServerDoes event.server_eof config old new = AddsTo asked.eof old new
+ServerDoes (event.to_server count) config old new = AddsTo (asked.write count) old new
+ServerDoes event.connected config old new = new ≡ Some (servers.fresh_state config)
+ServerDoes e config old new = new ≡ old
+
+-- an event changes neither the request that waits nor the one that was sent on, and puts no part of a reply
+pub record PutsNothing (by : event.ProxyEvent) (old new : Proxy) : Type 0 where
+  pub client : ClientDoes by old.client new.client
+  pub server : ServerDoes by old.config old.server new.server
+  pub unsent : new.unsent ≡ old.unsent
+  pub sent : new.sent ≡ old.sent
+
+-- an event puts nothing of a reply itself, and then come turns
+pub record Replies (by : event.ProxyEvent) (outcome : event.ProxyOutcome) (old new : Proxy) : Type 0 where
+  pub mid : Proxy
+  pub goes : GoesBy by outcome old mid
+  pub event : PutsNothing by old mid
+  pub turns : HasReplied mid new
+
+-- A server connection is refused for a request that waits: it gets 502, and is no longer under way.
+pub record RepliesRefused (old new : Proxy) : Type 0 where
+  pub mid : Proxy
+  pub goes : GoesBy event.refused event.done old mid
+  pub idle : IsIdle mid
+  pub server : mid.server ≡ old.server
+  pub puts : PutsLast [] (own 502) old.client mid.client
+  pub turns : HasReplied mid new
+
+-- ---- over all turns
+
+-- Each piece of a body that was handed out was put, in order, and nothing else was; and the request's body may have broken meanwhile.
+pub data AreCarried : List Handed → List Part → Type 0 where
+  none_yet : AreCarried [] []
+  one_more : (bytes : List ℕ) (handed : List Handed) (parts : List Part) → AreCarried handed parts
+      → AreCarried (body_bytes bytes ∷ handed) (continues bytes ∷ parts)
+  broke_late : (fault : on.BodyFault) (handed : List Handed) (parts : List Part) → AreCarried handed parts
+      → AreCarried handed (request_breaks fault ∷ parts)
+
+-- the reply that is under way goes on by the same server connection, and all that was handed out of its answer was put
+pub record CarriesOn (marks : Marks) (server : servers.State) (old new : Proxy) : Type 0 where
+  pub handed : List Handed
+  pub parts : List Part
+  pub carried : AreCarried handed parts
+  pub goes : GoesOnBy marks handed server new
+  pub puts : Puts parts old.client new.client
+
+-- the reply is complete, or cut
+abbrev pub IsDone : Proxy → Proxy → Type 0
+IsDone old new = (HasCause end_on old new × HasPut end_on old.client new.client) ⊎ (HasCause cut_off old new × HasPut cut_off old.client new.client)
+
+-- it goes on over all these turns, or up to one where it ends; of what comes after that this says nothing
+abbrev pub IsCarried : Marks → servers.State → Proxy → Proxy → Type 0
+IsCarried marks server old new =
+    CarriesOn marks server old new ⊎ ((mid : Proxy) × (after : Proxy) × CarriesOn marks server old mid × IsDone mid after × HasReplied after new)
+
+-- ---- part by part
+
+-- a request that has no more of its answer to come: its reply is cut, or it gets one of the forwarder's own
+abbrev pub Fails : Bool → State → Proxy → Type 0
+Fails true client q = MayPut breaks_off client q.client × IsDropped q
+Fails false client q = PutsLast [] (own 502) client q.client × IsDropped q
+
+-- the request's body broke: where its answer was passed on, that goes on
+abbrev pub Breaks : Bool → Sent → servers.State → State → Proxy → Type 0
+Breaks true sent server client q = Puts [] client q.client × GoesOnWaiting (marks_of sent) server q
+Breaks false sent server client q = PutsLast [] (own 400) client q.client × IsDropped q
+
+-- more of its body was sent on, or none; or it broke
+abbrev pub PassesBody : Sent → servers.State → State → Proxy → Type 0
+PassesBody sent server client q =
+    (Puts [] client q.client × GoesOnWaiting (marks_of sent) server q)
+    ⊎ ((fault : on.BodyFault) × (c : State) × Puts (request_breaks fault ∷ []) client c × Breaks sent.is_answered sent server c q)
+
+-- this answer's head is passed on
+abbrev pub PassesHead : Sent → servers.State → ResponseItem → State → Proxy → Type 0
+PassesHead sent server item client q =
+    (a : Answer) → IsRead a → SaysAnswer item a → PutsHead (is_at_once (reply_size sent.is_head a)) (passed sent.is_head a) client q.client × FollowsHead sent a server q
+
+-- the answer is refused, passed over as an interim one, or passed on
+abbrev pub UsesAnswer : Sent → servers.State → Answer → Proxy → Proxy → Type 0
+UsesAnswer sent server a p q =
+    ((is_refused a ≡ true) × PutsLast [] (own 502) p.client q.client × IsDropped q)
+    ⊎ (((is_refused a ≡ false) × (is_interim a.status ≡ true) × Puts [] p.client q.client × GoesOnWaiting (marks_of sent) server q)
+    ⊎ ((is_good a ≡ true) × PutsHead (is_at_once (reply_size sent.is_head a)) (passed sent.is_head a) p.client q.client × FollowsHead sent a server q))
+
+abbrev pub TakesAnswer : Sent → servers.State → ResponseItem → Proxy → Proxy → Type 0
+TakesAnswer sent server item p q =
+    sent.is_answered ≡ false → (a : Answer) → IsRead a → SaysAnswer item a → UsesAnswer sent server a p q
+
+-- no request is sent on yet, and the server connection is kept, or this request can't be sent on
+abbrev pub KeepsFor : HeadItem → Proxy → Proxy → Type 0
+KeepsFor item old new =
+    (new.sent ≡ None) × ((new.server ≡ old.server) ⊎ ((new.server ≡ None) × ((h : Head) → SaysHead item h → is_forwardable h ≡ false)))
+
+-- a request that is open can't be sent on
+abbrev pub Opens : HeadItem → State → Proxy → Type 0
+Opens item old q =
+    Puts [] old q.client ⊎ (((h : Head) → SaysHead item h → is_forwardable h ≡ false) × PutsLast [] (own 501) old q.client × IsDropped q)

@@ -1,0 +1,34 @@
+//! The calls of a forwarder's two connections, each made where it is allowed, and by what it brings towards the other side.
+//!
+//! A forwarder (a reverse proxy) without input or output: a client's connection beside one to a server (RFC 7230, section
+//! 2.3). Whoever owns the sockets and the clock tells it what came from either side, and writes what it puts out towards
+//! either.
+//!
+//! # Example
+//!
+//! ```ignore
+//! let mut proxy = Proxy::new(alloc, config);
+//! proxy.read_client(b"GET /x HTTP/1.1\r\nhost: a\r\n\r\n")?;
+//! if proxy.wants_server() {
+//!     proxy.connected()?;
+//! }
+//! // write `server_front()`, and say by `advance_server` how many bytes were written; `read_server` what comes
+//! ```
+//!
+//! # Contract
+//!
+//! What goes towards each server is the text of the requests that were forwarded, in order, and not one byte else. Each
+//! connection is driven by events alone that it allows.
+#![tactic(auto)]
+
+pub mod client;
+pub mod server;
+mod events;
+pub mod laws;
+mod notes;
+mod proxy;
+mod turns;
+
+pub use h1_connection::{Bytes, End, Expiry, NoMemory, RequestHead, ServiceConfig, StatusCode};
+pub use notes::Reply;
+pub use proxy::Proxy;

@@ -1,0 +1,19 @@
+use Rattle.std.proofs.Common.{ap, ◌∙◌, Some}
+use Rattle.http_types.specs.ResponseHead.{ResponseParts}
+use Rattle.h1_encoder.specs.Meaning.{headers_of}
+use Rattle.proxy_heads.specs.Meaning.{kept_reason, passed_lines}
+use Rattle.proxy_heads.proofs.ReplyLemmas.{reply_is}
+use Rattle.proxy_heads.proofs.replies.reply_head.Goals as goal
+
+pub returns : goal.returns
+returns c = λ piece a reading says.
+    let head : ResponseParts = c.put_reason.new.head in
+    let made = c.in_ok-put_reason.ensures in
+    let statuses = ap (λ (h : ResponseParts). h.status) c.read.view_is in
+    let lines = ap (λ (h : ResponseParts). headers_of h.headers) c.read.view_is in
+    reply_is c.args.item a piece head reading says
+    (ap (λ (h : ResponseParts). h.status) made ∙ ap (λ (h : ResponseParts). h.status) c.headed-head.ensures ∙ statuses)
+    (ap (λ (h : ResponseParts). h.reason) made ∙ ap (λ r. Some (kept_reason r)) c.as_slice.ensures)
+    (ap (λ (h : ResponseParts). h.flags) made ∙ ap (λ (h : ResponseParts). h.flags) c.headed-head.ensures)
+    (ap (λ (h : ResponseParts). headers_of h.headers) made ∙ ap (λ (h : ResponseParts). headers_of h.headers) c.headed-head.ensures
+    ∙ c.remove_unpassed.ensures ∙ (λ i. passed_lines ((c.as_u16.ensures.value ∙ statuses) i) (lines i)))

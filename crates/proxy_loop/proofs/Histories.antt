@@ -1,0 +1,40 @@
+-- A forwarder has a history after each call.
+use Rattle.std.proofs.Common.{◌≡◌, ℕ, Bool, true, false, List, [], ◌∷◌, length, min, subst, refl, sym, ap, ◌∙◌}
+use Rattle.std.proofs.lemmas.Bool.{false≢true}
+use Rattle.model_proxy.specs.Past.{ProxyEvent, ProxyOutcome}
+use Rattle.model_proxy.specs.Happenings.{nothing_happened}
+use Rattle.proxy.specs.declared.proxy.Proxy.{Proxy}
+use Rattle.proxy.specs.Kept.{Forwards, Goes, GoesBy, TakesAll}
+use Rattle.proxy_loop.specs.History.{HasHistory, IfTold}
+
+pub begins : (p : Proxy) → Forwards p [] nothing_happened → HasHistory p
+begins p stands = record { history = []; all = nothing_happened; stands = stands }
+
+pub goes_on : (old new : Proxy) → HasHistory old → Goes old new → HasHistory new
+goes_on old new x goes = let y = goes.1 x.history x.all x.stands in record { history = x.history; all = y.0; stands = y.1 }
+
+pub goes_by : (event : ProxyEvent) (outcome : ProxyOutcome) (old new : Proxy) → HasHistory old → GoesBy event outcome old new → HasHistory new
+goes_by event outcome old new x goes =
+    let y = goes.1 x.history x.all x.stands in
+    record { history = record { event = event; outcome = outcome } ∷ x.history; all = y.0; stands = y.1 }
+
+-- the same of the forwarder as it is seen
+pub seen : (p q new : Proxy) → p ≡ q → Goes p new → Goes q new
+seen p q new is goes = subst (λ (p : Proxy). Goes p new) is goes
+
+pub seen_by : (event : ProxyEvent) (outcome : ProxyOutcome) (p q new : Proxy) → p ≡ q → GoesBy event outcome p new → GoesBy event outcome q new
+seen_by event outcome p q new is goes = subst (λ (p : Proxy). GoesBy event outcome p new) is goes
+
+-- as many bytes are taken as there is room for
+pub takes : (p q : Proxy) (count : ℕ) (bytes : List ℕ) (room : Proxy → ℕ) → p ≡ q → HasHistory p → TakesAll count bytes (room p) p → count ≡ min (length bytes) (room q)
+takes p q count bytes room is x took = took x.history x.all x.stands ∙ ap (λ (r : Proxy). min (length bytes) (room r)) is
+
+-- it is told where that is allowed, and else nothing is
+pub told : (allowed : Bool) (event : ProxyEvent) (outcome : ProxyOutcome) (old new : Proxy) → allowed ≡ true → GoesBy event outcome old new
+    → IfTold allowed event outcome old new
+told true event outcome old new is goes = goes
+told false event outcome old new is goes = absurd (false≢true is)
+
+pub untold : (allowed : Bool) (event : ProxyEvent) (outcome : ProxyOutcome) (old : Proxy) → allowed ≡ false → IfTold allowed event outcome old old
+untold false event outcome old is = refl
+untold true event outcome old is = absurd (false≢true (sym is))

@@ -1,0 +1,15 @@
+use Rattle.std.proofs.Common.{sym, ap, ◌∙◌}
+use Rattle.proxy.specs.declared.proxy.Proxy.{Proxy}
+use Rattle.proxy_loop.specs.Flow.{may_write_client}
+use Rattle.proxy_loop.proofs.Flows.{not_allowed, has_failed}
+use Rattle.proxy_loop.proofs.flow.write_client.Goals as goal
+
+pub returns-then-not-can_write_client-clause-cause : goal.returns-then-not-can_write_client-clause-cause
+returns-then-not-can_write_client-clause-cause g c =
+    not_allowed (may_write_client c.args.forwarder.now) (g.K.Sink.faults c.args.sink.now)
+    (ap (λ (p : Proxy). may_write_client p) (sym c.proxy.ensures) ∙ sym (c.can_write_client.ensures 0) ∙ c.if-not-can_write_client.true)
+
+pub returns-in_default-clause-cause : goal.returns-in_default-clause-cause
+returns-in_default-clause-cause g c =
+    has_failed (may_write_client c.args.forwarder.now) (g.K.Sink.faults c.args.sink.now) (g.K.Sink.faults c.write.new.self)
+    (ap (λ (p : Proxy). may_write_client p) (sym c.proxy.ensures) ∙ sym (c.can_write_client.ensures 0) ∙ c.if-not-can_write_client.false) c.in_default.ensures.fault

@@ -1,0 +1,16 @@
+pub mod RowLists
+pub mod TextLemmas
+pub mod QuietLemmas
+pub mod KeptLemmas
+pub mod TurnLemmas
+pub mod AskLemmas
+pub mod HeadLemmas
+pub mod SendLemmas
+pub mod RowLemmas
+pub mod StandLemmas
+pub mod HubLemmas
+pub mod RunLemmas
+pub mod FirstLemmas
+pub mod CallLemmas
+pub mod MoveLemmas
+pub mod WaitLemmas

@@ -1,0 +1,11 @@
+use Rattle.std.proofs.Common.{◌≡◌, List, ap, subst, ◌∙◌, get_or}
+use Rattle.std.specs.Prelude.{slice_get}
+use Rattle.model_rooms.specs.Member.{Member}
+use Rattle.rooms.proofs.RowLists.{element}
+use Rattle.rooms.proofs.rooms.Rooms.front.Goals as goal
+
+pub returns : goal.returns
+returns c =
+    let at = subst (λ (l : List Member). c.index.result.now ≡ get_or l c.args.number c.index.result.now) c.self.view_is c.index.ensures in
+    c.front.ensures
+    ∙ ap (λ (m : Member). slice_get m.waiting 0) (element c.args.number c.args.self.now c.index.result.now c.requires.known at)

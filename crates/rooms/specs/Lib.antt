@@ -1,0 +1,9 @@
+pub mod Lines
+pub mod Rows
+pub mod Seat
+pub mod Turn
+pub mod Hub
+pub mod Moves
+pub mod Pair
+pub mod Run
+pub mod Served

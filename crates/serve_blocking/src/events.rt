@@ -1,0 +1,143 @@
+//! What may happen to a connection that is served, each with what it leaves.
+ghost use Rattle.std.specs.Prelude.{◌≡◌, ◌++◌, [], ◌∷◌, List, ℕ, length, IfOk, OnOk, OnErr};
+ghost use Rattle.h1_encoder.specs.Meaning.{answer_of, size_of};
+ghost use Rattle.model_h1.specs.Event as on;
+ghost use Rattle.h1_connection.specs.State.{IsAllowed, IsNextAllowed};
+ghost use Rattle.serve_blocking.specs.Served.{Adds, Follows, HandsOut};
+
+use crate::Body;
+use h1_connection::{Expiry, NextKind, Pulled, ReadFromError};
+use h1_decoder::{HeadItem, HeadRoom};
+use net_sockets::{TimedSink, TimedSource};
+use http_framing::BodySize;
+use http_types::{Failed, NoMemory, ResponseHead};
+
+impl<S: TimedSource, K: TimedSink> Body<S, K> {
+    /// A moment has come.
+    pub(crate) fn note_moment(&mut self, moment: u64) -> Result<Expiry, NoMemory>
+        requires can_tick { IsAllowed self.old.state (on.tick moment) }
+        ensures follows { Follows self.old self.new }
+    {
+        let expiry = self.connection.tick(moment)?;
+        Ok(expiry)
+    }
+
+    /// Bytes are read from the source; 0 is its end.
+    pub(crate) fn read_bytes(&mut self) -> Result<usize, ReadFromError>
+        requires can_read { IsAllowed self.old.state (on.read []) }
+        ensures follows { Follows self.old self.new }
+        ensures end { IfOk result (λ count. count ≡ 0 → self.new.state ≡ self.old.state) }
+    {
+        let count = self.connection.read_from(&mut self.source)?;
+        Ok(count)
+    }
+
+    /// The source has ended.
+    pub(crate) fn end_input(&mut self)
+        requires can_read { IsAllowed self.old.state on.eof }
+        ensures follows { Follows self.old self.new }
+    {
+        self.connection.eof();
+    }
+
+    /// The first bytes that wait are written into the sink. It says how many.
+    pub(crate) fn write_stretch(&mut self) -> Result<usize, Failed>
+        requires can_write { (count : ℕ) → IsAllowed self.old.state (on.write count) }
+        ensures follows { Follows self.old self.new }
+    {
+        let count = self.sink.write(self.connection.stretch())?;
+        self.connection.advance(count);
+        Ok(count)
+    }
+
+    /// The next request is handed out, or that there is none.
+    pub(crate) fn next_head(
+        &mut self,
+        item: &mut HeadItem,
+        room: &mut HeadRoom,
+    ) -> Result<NextKind, NoMemory>
+        requires can_next { IsNextAllowed self.old.state }
+        ensures hands_out { IfOk result (λ kind. HandsOut self.old self.new kind item.new) }
+        ensures err { OnErr result (self.new ≡ self.old) }
+    {
+        let kind = self.connection.next_into(item, room)?;
+        Ok(kind)
+    }
+
+    /// What comes next of the open request's body.
+    pub(crate) fn pull(&mut self) -> Result<Pulled, NoMemory>
+        requires can_pull { IsAllowed self.old.state on.pull }
+        requires can_drop { IsAllowed self.old.state on.drop_body }
+        ensures follows { Follows self.old self.new }
+    {
+        let pulled = self.connection.pull()?;
+        match pulled {
+            Pulled::Trailers(trailers) => {
+                self.has_ended = true;
+                Ok(Pulled::Trailers(trailers))
+            }
+            Pulled::End => {
+                self.has_ended = true;
+                Ok(Pulled::End)
+            }
+            other => Ok(other),
+        }
+    }
+
+    /// The client gets leave to send its body.
+    pub(crate) fn send_continue(&mut self) -> Result<(), NoMemory>
+        requires can_continue { IsAllowed self.old.state on.send_continue }
+        ensures follows { Follows self.old self.new }
+    {
+        self.connection.send_continue()?;
+        Ok(())
+    }
+
+    /// An answer begins.
+    pub(crate) fn begin_answer(
+        &mut self,
+        head: &ResponseHead,
+        size: BodySize,
+    ) -> Result<(), NoMemory>
+        requires can_answer { IsAllowed self.old.state (on.answer (answer_of head.now) (size_of size)) }
+        ensures adds { OnOk result (Adds (on.answer (answer_of head.now) (size_of size)) on.done self.old self.new) }
+        ensures err { OnErr result (self.new ≡ self.old) }
+    {
+        self.connection.answer(head, size)?;
+        Ok(())
+    }
+
+    /// Bytes of the answer's body are handed in.
+    pub(crate) fn hand_in(&mut self, bytes: &[u8]) -> Result<(), NoMemory>
+        requires can_chunk { IsAllowed self.old.state (on.chunk bytes.now) }
+        ensures follows { Follows self.old self.new }
+    {
+        self.connection.chunk(bytes)?;
+        Ok(())
+    }
+
+    /// The answer's body is whole.
+    pub(crate) fn end_answer(&mut self) -> Result<(), NoMemory>
+        requires can_end_answer { IsAllowed self.old.state on.body_end }
+        ensures follows { Follows self.old self.new }
+    {
+        self.connection.end_answer()?;
+        Ok(())
+    }
+
+    /// The answer's body can't be completed.
+    pub(crate) fn break_answer(&mut self)
+        requires can_end_answer { IsAllowed self.old.state on.body_error }
+        ensures follows { Follows self.old self.new }
+    {
+        self.connection.fail_answer();
+    }
+
+    /// No further request is to be taken.
+    pub(crate) fn drain(&mut self)
+        requires can_drain { IsAllowed self.old.state on.drain }
+        ensures follows { Follows self.old self.new }
+    {
+        self.connection.drain();
+    }
+}

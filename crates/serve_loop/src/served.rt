@@ -1,0 +1,49 @@
+//! A service over a wire as a job.
+ghost use Rattle.std.specs.Prelude.{None};
+ghost use Rattle.h1_dispatcher.specs.View.{view_of, MayBePolled};
+ghost use Rattle.serve_loop.specs.Jobs.{IsNew, Polls, Drains};
+
+use futures::task::{Context, Poll};
+use h1_dispatcher::Dispatcher;
+use net_loop::Job;
+use h1_traced::NoRecord;
+use http_bodies::MessageBody;
+use http_services::Service;
+use http_services::h1::Payload;
+use http_types::{DispatchError, Request, Response};
+use http_transport::Wire;
+
+/// A service over a wire, by one connection of HTTP/1, as a job.
+#[derive(Drop)]
+pub struct Served<T, S, C, B> {
+    pub(crate) dispatcher: Dispatcher<T, S, C, NoRecord, B>,
+}
+
+impl<T, S, B> Job for Served<T, S, S::Call, B>
+where
+    T: Wire,
+    S: Service<Request<(), ()>, Response = Response<B>, Error = Response<B>, Lent = Payload>,
+    B: MessageBody,
+{
+    type Output = Result<(), DispatchError>;
+
+    ghost begun = { IsNew (λ j. view_of T.wiring S.served S.calling B.gives (λ _. None) j.dispatcher) };
+
+    ghost can_poll = { λ j. MayBePolled S.calling j.dispatcher };
+
+    ghost polled = { Polls (λ j. view_of T.wiring S.served S.calling B.gives (λ _. None) j.dispatcher) };
+
+    ghost drained = { Drains (λ j. view_of T.wiring S.served S.calling B.gives (λ _. None) j.dispatcher) };
+
+    fn poll(&mut self, moment: u64, cx: &mut Context<'_>) -> Poll<Result<(), DispatchError>> {
+        self.dispatcher.poll(moment, cx)
+    }
+
+    fn deadline(&self) -> Option<u64> {
+        self.dispatcher.deadline()
+    }
+
+    fn drain(&mut self) {
+        self.dispatcher.drain();
+    }
+}

@@ -1,0 +1,147 @@
+-- Steps of a turn that writes and sends.
+use Rattle.std.proofs.Common.{◌≡◌, ◌≤◌, ◌⊎◌, ◌++◌, ℕ, true, Some, None, List, [], ◌∷◌, length, Result, Ok, Err, inl, inr, refl, sym, ap, ◌∙◌, subst, arith}
+use Rattle.futures.specs.declared.task.Poll.{Poll}
+use Rattle.futures.specs.Task.{Lasting, Holds, Keeps}
+use Rattle.futures.specs.declared.task.Poll.TheVariants.{Ready, Pending}
+use Rattle.futures.specs.declared.task.context.Context.{Context}
+use Rattle.http_bodies.proofs.Histories.{rose_still}
+use Rattle.http_config.specs.Causes.{Rose}
+use Rattle.http_config.specs.declared.failed.Failed as config
+use Rattle.http_transport.specs.Flushes.{Gave, Flushes}
+use Rattle.ws_frames.specs.declared.error.ProtocolError.{ProtocolError}
+use Rattle.ws_frames.specs.declared.error.ProtocolError.TheVariants as protocol
+use Rattle.ws_dispatcher.specs.View.{View, IsSent}
+use Rattle.ws_dispatcher.specs.Steps.{IsOpen, is_unflushed, wrote, unwritten, closed, failed, flushed, told}
+use Rattle.ws_dispatcher.specs.Polls.{AskedAgain, IsFlushGood, FlushWaits, IsEnding, IsSettled, TurnSays, ServeSays, EndSays}
+use Rattle.ws_dispatcher.specs.declared.inner.queue.Message.TheVariants.{Item, Close}
+use Rattle.ws_dispatcher.specs.declared.inner.dispatcher.Turn.{Turn}
+use Rattle.ws_dispatcher.specs.declared.inner.dispatcher.Turn.TheVariants.{Counted, Idle, Over}
+use Rattle.ws_dispatcher.specs.declared.error.DispatcherError.TheVariants.{Service, Encoder}
+use Rattle.ws_dispatcher.proofs.Runs.{Later, step_later, run_later}
+use Rattle.ws_dispatcher.proofs.Waits.{needs_behind, ended_behind}
+
+asked_again : (cx : Context) → cx.is_woken ≡ true → AskedAgain cx
+unfolding Holds
+asked_again cx is source = inl is
+
+waits_of : {A B C : Type 0} (cx : Context) → (A ⊎ B) ⊎ (C × (cx.is_woken ≡ true)) → (A ⊎ B) ⊎ (C × AskedAgain cx)
+waits_of cx (inl is) = inl is
+waits_of cx (inr is) = inr (is.0, asked_again cx is.1)
+
+module _ {U Q I E R : Type 0} (reads : U → List ℕ → R → Type 0) (given : Q → R → R) (nothing : R)
+    (breaks : ProtocolError → R → Type 0) (lacks : ProtocolError → Type 0) (seen : U → List ℕ → Type 0)
+    (leaves : ProtocolError → U → List ℕ → U → List ℕ → Type 0) (writes : U → I → List ℕ → U → Type 0) (unwritten_so : ProtocolError → U → I → U → Type 0) (v w : View U Q I E) where
+  pub told_sent : (error : E) → v.failing ≡ Some error → IsSent v → w ≡ record v { failing = None }
+      → EndSays reads given nothing breaks lacks seen leaves writes unwritten_so v w (Err (Service error))
+  told_sent error fails sent is = (told error ∷ [], (w, (fails, is), refl), inl (([], refl, tt), record { unsent = ap (λ x. x.unsent) is ∙ sent.unsent; flushed = ap (λ x. x.flushing) is ∙ sent.flushed }))
+
+module _ {U Q I E R : Type 0} (reads : U → List ℕ → R → Type 0) (given : Q → R → R) (nothing : R)
+    (breaks : ProtocolError → R → Type 0) (lacks : ProtocolError → Type 0) (seen : U → List ℕ → Type 0)
+    (leaves : ProtocolError → U → List ℕ → U → List ℕ → Type 0) (writes : U → I → List ℕ → U → Type 0) (unwritten_so : ProtocolError → U → I → U → Type 0) (v w : View U Q I E) (cx : Context) where
+  pub flush_counted : (answer : Poll (Result Unit config.Failed)) → IsFlushGood answer → Flushes v.wire w.wire cx.is_woken v.unsent w.unsent answer
+      → w ≡ record v { wire = w.wire; unsent = w.unsent; flushing = is_unflushed answer } → TurnSays reads given nothing breaks lacks seen leaves writes unwritten_so v w cx Counted
+  flush_counted answer good says is = (flushed says.0 answer ∷ [], (w, ((cx.is_woken, says.1), is), refl), ((good, tt), omega arith))
+
+  pub flush_failed : (x : config.Failed) → w.failing ≡ None → Flushes v.wire w.wire cx.is_woken v.unsent w.unsent (Ready (Err x))
+      → w ≡ record v { wire = w.wire; unsent = w.unsent; flushing = true } → TurnSays reads given nothing breaks lacks seen leaves writes unwritten_so v w cx (Over (Err (Encoder protocol.Io)))
+  flush_failed x none says is = (flushed says.0 (Ready (Err x)) ∷ [], (w, ((cx.is_woken, says.1), is), refl), (none, inr (inl (refl, (says.0, x, ([], refl, tt), says.1.answers)))))
+
+  pub flush_idle : IsEnding w → Flushes {E = config.Failed} v.wire w.wire cx.is_woken v.unsent w.unsent Pending
+      → w ≡ record v { wire = w.wire; unsent = w.unsent; flushing = true } → TurnSays reads given nothing breaks lacks seen leaves writes unwritten_so v w cx Idle
+  flush_idle ending says is = (flushed says.0 Pending ∷ [], (w, ((cx.is_woken, says.1), is), refl), ((tt, tt), inr (record { ending = ending; gave = says.0; last = ([], refl, tt); writing = waits_of cx says.1.answers })))
+
+  pub wrote_counted : (message : I) (text : List ℕ) → IsOpen v → v.queue ≡ Ok (Item message) ∷ w.queue → writes v.codec message text w.codec
+      → w ≡ record v { codec = w.codec; unsent = v.unsent ++ text; queue = w.queue }
+      → TurnSays reads given nothing breaks lacks seen leaves writes unwritten_so v w cx Counted
+  wrote_counted message text so queue writes is = (wrote message text ∷ [], (w, (so, queue, writes, is), refl), ((tt, tt), omega arith))
+
+  pub unwritten_over : (message : I) (error : ProtocolError) → IsOpen v → v.queue ≡ Ok (Item message) ∷ w.queue
+      → w ≡ record v { codec = w.codec; queue = w.queue } → unwritten_so error v.codec message w.codec
+      → TurnSays reads given nothing breaks lacks seen leaves writes unwritten_so v w cx (Over (Err (Encoder error)))
+  unwritten_over message error so queue is why = (unwritten message error ∷ [], (w, (so, queue, is, why), refl), (ap (λ x. x.failing) is ∙ so.no_error, inl (message, ([], refl, tt))))
+
+  pub closed_counted : IsOpen v → v.queue ≡ Ok Close ∷ w.queue → w ≡ record v { queue = w.queue; closing = true }
+      → TurnSays reads given nothing breaks lacks seen leaves writes unwritten_so v w cx Counted
+  closed_counted so queue is = (closed ∷ [], (w, (so, queue, is), refl), ((tt, tt), omega arith))
+
+  pub failed_counted : (error : E) → IsOpen v → v.queue ≡ Err error ∷ w.queue → w ≡ record v { queue = w.queue; failing = Some error }
+      → TurnSays reads given nothing breaks lacks seen leaves writes unwritten_so v w cx Counted
+  failed_counted error so queue is = (failed error ∷ [], (w, (so, queue, is), refl), ((tt, tt), omega arith))
+
+  still_settled : w.queue ≡ v.queue → w.unsent ≡ v.unsent → IsSettled v → IsSettled w
+  still_settled queue unsent (inl none) = inl (queue ∙ none)
+  still_settled queue unsent (inr full) = inr (subst (λ l. 8192 ≤ length l) (sym unsent) full)
+
+  -- a turn that only serves, since all is sent
+  pub served : (turn : Turn E) → IsSettled v → IsSent v → ServeSays reads given nothing breaks lacks seen leaves writes unwritten_so v w cx turn
+      → TurnSays reads given nothing breaks lacks seen leaves writes unwritten_so v w cx turn
+  served Counted settled sent says = says
+  served (Over result) settled sent says = says
+  served Idle settled sent says = (
+    says.0,
+    says.1,
+    (
+      says.2.0,
+      inl (record {
+        flush = [];
+        need = says.0;
+        last = ([], refl, tt);
+        writing = inl (refl, record { unsent = says.2.3 ∙ sent.unsent; flushed = says.2.4 ∙ sent.flushed });
+        queue = still_settled says.2.2 says.2.3 settled;
+        needs = says.2.1;
+      }),
+    ),
+  )
+
+module _ {U Q I E R : Type 0} (reads : U → List ℕ → R → Type 0) (given : Q → R → R) (nothing : R)
+    (breaks : ProtocolError → R → Type 0) (lacks : ProtocolError → Type 0) (seen : U → List ℕ → Type 0)
+    (leaves : ProtocolError → U → List ℕ → U → List ℕ → Type 0) (writes : U → I → List ℕ → U → Type 0) (unwritten_so : ProtocolError → U → I → U → Type 0) (v u w : View U Q I E) (cx : Context) where
+  -- a flush failed, and then the error was told
+  pub flush_told : (x : config.Failed) (error : E) → Flushes v.wire u.wire cx.is_woken v.unsent u.unsent (Ready (Err x))
+      → u ≡ record v { wire = u.wire; unsent = u.unsent; flushing = true } → u.failing ≡ Some error → w ≡ record u { failing = None }
+      → TurnSays reads given nothing breaks lacks seen leaves writes unwritten_so v w cx (Over (Err (Service error)))
+  flush_told x error says is fails then = (
+    flushed says.0 (Ready (Err x)) ∷ told error ∷ [],
+    (u, ((cx.is_woken, says.1), is), (w, (fails, then), refl)),
+    inr (says.0, x, ([], refl, tt), subst (λ y. Rose v.wire.faults y.faults) (sym (ap (λ y. y.wire) then)) says.1.answers),
+  )
+
+  waiting_still : (last : Context) (gave : List ℕ) → Later u w → Keeps cx last → FlushWaits v u cx gave → FlushWaits v w last gave
+  waiting_still last gave later kept (inl (inl rose)) = inl (inl (rose_still v.wire.write_waits u.wire.write_waits w.wire.write_waits rose later.writes))
+  waiting_still last gave later kept (inl (inr rose)) = inl (inr (rose_still v.wire.flush_waits u.wire.flush_waits w.wire.flush_waits rose later.flushes))
+  waiting_still last gave later kept (inr spent) = inr (spent.0, λ source. kept (Lasting.hears source) (spent.1 source))
+
+  later_by : (gave : List ℕ) → Gave {E = config.Failed} v.wire u.wire cx.is_woken v.unsent gave u.unsent Pending
+      → u ≡ record v { wire = u.wire; unsent = u.unsent; flushing = true } → Later v u
+  later_by gave gives is = step_later reads given nothing breaks lacks seen leaves writes unwritten_so v u (flushed gave Pending) ((cx.is_woken, gives), is)
+
+  -- a flush that was pending, and then a turn that serves
+  pub flush_served : (turn : Turn E) (last : Context) → Keeps cx last → Flushes {E = config.Failed} v.wire u.wire cx.is_woken v.unsent u.unsent Pending
+      → u ≡ record v { wire = u.wire; unsent = u.unsent; flushing = true } → IsSettled u → ServeSays reads given nothing breaks lacks seen leaves writes unwritten_so u w last turn
+      → TurnSays reads given nothing breaks lacks seen leaves writes unwritten_so v w last turn
+  flush_served Counted last kept flushes is settled says =
+      (flushed flushes.0 Pending ∷ says.0, (u, ((cx.is_woken, flushes.1), is), says.1), ((tt, says.2.0), omega arith))
+  flush_served (Over result) last kept flushes is settled says = (
+    flushed flushes.0 Pending ∷ says.0,
+    (u, ((cx.is_woken, flushes.1), is), says.1),
+    ended_behind v u w (flushed flushes.0 Pending ∷ []) says.0 (later_by flushes.0 flushes.1 is) (tt, tt) result says.2,
+  )
+  flush_served Idle last kept flushes is settled says = (
+    flushed flushes.0 Pending ∷ says.0,
+    (u, ((cx.is_woken, flushes.1), is), says.1),
+    (
+      (tt, says.2.0),
+      inl (record {
+        flush = flushed flushes.0 Pending ∷ [];
+        need = says.0;
+        last = ([], refl, tt);
+        writing = inr (
+          flushes.0,
+          refl,
+          waiting_still last flushes.0 (run_later reads given nothing breaks lacks seen leaves writes unwritten_so u w says.0 says.1) kept (waits_of cx flushes.1.answers),
+        );
+        queue = still_settled reads given nothing breaks lacks seen leaves writes unwritten_so u w last says.2.2 says.2.3 settled;
+        needs = needs_behind v u w (flushed flushes.0 Pending ∷ []) says.0 (later_by flushes.0 flushes.1 is) (tt, tt) last says.0 w.calling w.waiting w.ended says.2.1;
+      }),
+    ),
+  )

@@ -1,5 +1,0 @@
-pub mod Hub
-pub mod Moves
-pub mod Pair
-pub mod Run
-pub mod Served

@@ -1,4 +1,0 @@
-pub mod Answering
-pub mod Completeness
-pub mod EventLines
-pub mod ReportLines

@@ -1,3 +1,0 @@
-pub mod RowLists
-pub mod TextLemmas
-pub mod QuietLemmas

@@ -1,2 +1,0 @@
-pub mod Seat
-pub mod Turn

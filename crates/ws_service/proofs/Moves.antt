@@ -1,0 +1,120 @@
+-- Single steps, by what the calls of a turn ensure.
+use Rattle.std.proofs.Common.{◌≡◌, ◌<◌, ◌≤◌, ◌⊎◌, ℕ, true, false, Some, None, List, [], ◌∷◌, ◌++◌, length, take, Result, Ok, refl, sym, ap, ◌∙◌, subst, arith, length-append}
+use Rattle.futures.specs.declared.task.Poll.{Poll}
+use Rattle.futures.specs.declared.task.Poll.TheVariants.{Ready, Pending}
+use Rattle.http_config.specs.declared.Failed.{Failed}
+use Rattle.http_transport.specs.Wiring.{ReadSays, moved}
+use Rattle.ws_frames.specs.Sent.{message_says}
+use Rattle.ws_frames.specs.declared.message.Message.{Message}
+use Rattle.model_h1.specs.Event as on
+use Rattle.model_h1.specs.Frame as said
+use Rattle.model_h1.specs.Setting.{Setting}
+use Rattle.model_state.specs.Kept.{Kept}
+use Rattle.model_state.specs.Local.{allowed_by}
+use Rattle.h1_connection.specs.Meaning.{setting_of, SaysOutcome}
+use Rattle.h1_connection.specs.declared.event.Outcome.{Outcome}
+use Rattle.h1_traced.specs.Line.{LineSteps, LineFails}
+use Rattle.ws_service.specs.declared.item.UpgradeItem.{UpgradeItem}
+use Rattle.ws_service.specs.declared.dispatcher.Ending.TheVariants.{Broken}
+use Rattle.ws_service.specs.declared.dispatcher.serve.Given.{Given}
+use Rattle.ws_service.specs.declared.dispatcher.serve.Given.TheVariants.{Nothing}
+use Rattle.ws_service.specs.Polls.{IsLast, Needs}
+use Rattle.ws_service.specs.View.{View, Stage, free, waiting, calling, sending, is_waiting, is_calling, is_sending, allows, allows_pull, allows_send, buffered, room}
+use Rattle.ws_service.specs.Steps.{Step, IsStep, IsFront, Took, IsOfRead, given_of, stage_given, read, ready, pulled, sent, unsent, failed_read}
+
+-- ---- how far the service is
+
+pub now_waiting : (s : Stage) → is_waiting s ≡ true → (item : UpgradeItem) × (s ≡ waiting item)
+now_waiting (waiting item) is = (item, refl)
+now_waiting free is = absurd (cc is)
+now_waiting calling is = absurd (cc is)
+now_waiting (sending message) is = absurd (cc is)
+
+pub now_calling : (s : Stage) → is_calling s ≡ true → s ≡ calling
+now_calling calling is = refl
+now_calling free is = absurd (cc is)
+now_calling (waiting item) is = absurd (cc is)
+now_calling (sending message) is = absurd (cc is)
+
+pub now_sending : (s : Stage) → is_sending s ≡ true → (message : Message) × (s ≡ sending message)
+now_sending (sending message) is = (message, refl)
+now_sending free is = absurd (cc is)
+now_sending (waiting item) is = absurd (cc is)
+now_sending calling is = absurd (cc is)
+
+-- ---- the wire
+
+front_some : (front all : List ℕ) → (length front ≡ 0 → length all ≡ 0) → 0 < length all → 0 < length front
+front_some [] all some waits =
+    absurd
+    (let none : length all ≡ 0 = some refl in
+    omega (arith, none, waits))
+front_some (b ∷ front) all some waits = omega arith
+
+-- what the wire was given stands first of what waits
+pub offered : (v : View) (front : List ℕ) → 0 < length (buffered v) → ((rest : List ℕ) × (front ++ rest ≡ buffered v)) → (length front ≡ 0 → length (buffered v) ≡ 0) → IsFront v front
+offered v front waits first some = record { rest = first.0; first = first.1; some = front_some front (buffered v) some waits }
+
+-- so no more was taken than waits
+pub bounded : (v : View) (front : List ℕ) (n : ℕ) → IsFront v front → n ≤ length front → n ≤ length (buffered v)
+bounded v front n is fits = omega (arith, fits, length-append front is.rest, ap length is.first)
+
+pub read_step : (v w : View) (came buf : List ℕ) (answer : Poll (Result ℕ Failed)) → v.ending ≡ None → allows v on.eof ≡ true → 0 < length buf → length buf ≤ room v
+    → came ≡ moved answer buf → ReadSays v.wire w.wire answer buf → Took v.line w.line came answer → w ≡ record v { line = w.line; wire = w.wire }
+    → IsStep v (read came answer) w
+read_step v w came buf answer running may some fits moves says took same = (running, may, (buf, some, fits, moves, says), took, same)
+
+pub read_fails : (v w : View) (came buf : List ℕ) (count : ℕ) (event : on.Event) → v.ending ≡ None → allows v on.eof ≡ true → 0 < length buf → length buf ≤ room v
+    → came ≡ take count buf → ReadSays {E = Failed} v.wire w.wire (Ready (Ok count)) buf → IsOfRead count came event → LineFails v.line event w.line
+    → w ≡ record v { line = w.line; wire = w.wire; ending = Some Broken } → IsStep v (failed_read came event) w
+read_fails v w came buf count event running may some fits moves says is fails same = (running, may, (buf, count, some, fits, moves, says, is), fails, same)
+
+-- ---- the service
+
+-- a frame was asked for
+pub pulled_step : (v w : View) (outcome : Outcome) (given : Given) → v.ending ≡ None → v.stage ≡ free → allows_pull v ≡ true → given ≡ given_of outcome
+    → LineSteps v.line on.pull (SaysOutcome outcome) w.line → w.line.state.settings ≡ v.line.state.settings
+    → w ≡ record v { line = w.line; stage = w.stage } → w.stage ≡ stage_given given → IsStep v (pulled given) w
+pulled_step v w outcome given running is allowed gives steps settings same now =
+    (running, is, allowed, (outcome, gives, record { steps = steps; settings = settings }), same ∙ ap (λ x. record v { line = w.line; stage = x }) now)
+
+-- ---- what is needed
+
+pub needs_none : (w : View) (stage : Stage) (served : List Step) → stage ≡ free → IsLast (pulled Nothing) served ⊎ (allows_pull w ≡ false) → Needs w stage served
+needs_none w stage served is needs = subst (λ s. Needs w s served) (sym is) needs
+
+pub needs_ready : (w : View) (stage : Stage) (item : UpgradeItem) → stage ≡ waiting item → Needs w stage (ready Pending ∷ [])
+needs_ready w stage item is = subst (λ s. Needs w s (ready Pending ∷ [])) (sym is) ([], refl)
+
+pub needs_room : (w : View) (stage : Stage) (message : Message) → stage ≡ sending message → allows_send w ≡ false → Needs w stage []
+needs_room w stage message is full = subst (λ s. Needs w s []) (sym is) full
+
+-- ---- a message
+
+-- whether one may be sent doesn't depend on it
+pub any_message : (set : Setting) (k : Kept) (m : said.Message) → allowed_by set k (on.send said.nop) ≡ true → allowed_by set k (on.send m) ≡ true
+unfolding allowed_by
+any_message set k m is = is
+
+-- one was sent, or couldn't be
+pub sent_step : (v w : View) (message : Message) (outcome : Outcome) → v.ending ≡ None → v.stage ≡ sending message → allows_send v ≡ true
+    → LineSteps v.line (on.send (message_says message)) (SaysOutcome outcome) w.line → w.line.state.settings ≡ v.line.state.settings
+    → w ≡ record v { line = w.line; stage = w.stage } → w.stage ≡ free → IsStep v (sent message) w
+sent_step v w message outcome running is allowed steps settings same now = (
+  running,
+  is,
+  any_message (setting_of v.line.state.settings) v.line.state.kept (message_says message) allowed,
+  (outcome, record { steps = steps; settings = settings }),
+  same ∙ ap (λ x. record v { line = w.line; stage = x }) now,
+)
+
+pub unsent_step : (v w : View) (message : Message) → v.ending ≡ None → v.stage ≡ sending message → allows_send v ≡ true
+    → LineFails v.line (on.send (message_says message)) w.line → w ≡ record v { line = w.line; stage = w.stage; ending = Some Broken } → w.stage ≡ free
+    → IsStep v (unsent message) w
+unsent_step v w message running is allowed fails same now = (
+  running,
+  is,
+  any_message (setting_of v.line.state.settings) v.line.state.kept (message_says message) allowed,
+  fails,
+  same ∙ ap (λ x. record v { line = w.line; stage = x; ending = Some Broken }) now,
+)

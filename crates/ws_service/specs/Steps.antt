@@ -1,0 +1,207 @@
+-- The steps of a dispatcher of an upgraded connection.
+use Rattle.std.specs.Prelude.{◌≡◌, ◌≤◌, ◌<◌, ◌⊎◌, ℕ, true, false, Option, Some, None, List, [], ◌∷◌, ◌++◌, length, take, ⊤, Result, Ok, Err}
+use Rattle.futures.specs.declared.task.Poll.{Poll}
+use Rattle.futures.specs.declared.task.Poll.TheVariants.{Ready, Pending}
+use Rattle.http_config.specs.declared.Failed.{Failed}
+use Rattle.http_types.specs.declared.error.Error.{Error}
+use Rattle.http_services.specs.Serving.{ReadySays, CallSays, AnswerSays}
+use Rattle.http_transport.specs.Wiring.{ReadSays, WriteSays, ShutSays, moved}
+use Rattle.ws_frames.specs.Sent.{message_says}
+use Rattle.ws_frames.specs.declared.message.Message.{Message}
+use Rattle.model_state.specs.Local.{closing_by}
+use Rattle.model_h1.specs.Event as on
+use Rattle.h1_connection.specs.Heads.{SaysNext}
+use Rattle.h1_connection.specs.Meaning.{setting_of, end_of, SaysOutcome}
+use Rattle.h1_connection.specs.State.{Is}
+use Rattle.h1_connection.specs.Ticks.{expiry_of}
+use Rattle.h1_connection.specs.declared.connection.heads.NextHead.{NextHead}
+use Rattle.h1_connection.specs.declared.connection.ticks.Expiry.{Expiry}
+use Rattle.h1_connection.specs.declared.connection.ticks.Expiry.TheVariants as expiries
+use Rattle.h1_connection.specs.declared.event.End.{End}
+use Rattle.h1_connection.specs.declared.event.Outcome.{Outcome}
+use Rattle.h1_connection.specs.declared.event.Outcome.TheVariants as out
+use Rattle.h1_traced.specs.Line.{LineView, LineSteps, LineFails}
+use Rattle.ws_service.specs.declared.item.UpgradeItem.{UpgradeItem}
+use Rattle.ws_service.specs.declared.item.UpgradeItem.TheVariants as items
+use Rattle.ws_service.specs.declared.dispatcher.Ending.{Ending}
+use Rattle.ws_service.specs.declared.dispatcher.Ending.TheVariants.{Closed, Abandoned, Broken}
+use Rattle.ws_service.specs.declared.dispatcher.serve.Given.{Given}
+use Rattle.ws_service.specs.declared.dispatcher.serve.Given.TheVariants.{Frame, Nothing, Other}
+use Rattle.ws_service.specs.View.{View, Upgrading, Stage, free, waiting, calling, sending, with_drain, closes, allows, allows_next, allows_pull, buffered, room}
+
+-- A step. A moment came; the drain came; the wire was given what waits to be written; it was asked for bytes, and these came;
+-- it was shut down; the connection closes, and told its end; the service was asked whether it takes a call, and takes none; it
+-- takes one, and was called with this; its call was polled; the next frame was asked for; an answer was sent. Or memory ran
+-- out: for an event; for a message that was to be sent; for that of bytes which the wire took, or gave. Or it was asked to
+-- drain, which no poll does.
+pub data Step : Type 0 where
+  ticked : (moment : ℕ) → (expiry : Expiry) → Step
+  drained : Step
+  written : (answer : Poll (Result ℕ Failed)) → Step
+  read : (came : List ℕ) → (answer : Poll (Result ℕ Failed)) → Step
+  shut : (answer : Poll (Result Unit Failed)) → Step
+  closed : (end : End) → Step
+  ready : (answer : Poll (Result Unit Error)) → Step
+  called : (item : UpgradeItem) → Step
+  answered : (answer : Poll (Result Message Error)) → Step
+  pulled : (given : Given) → Step
+  sent : (message : Message) → Step
+  failed : (event : on.Event) → Step
+  unsent : (message : Message) → Step
+  failed_write : (count : ℕ) → Step
+  failed_read : (came : List ℕ) → (event : on.Event) → Step
+  asked_to_drain : Step
+
+-- ---- of the connection
+
+-- the event came to the connection, was noted, and had such an outcome; its settings stay
+pub record Goes (old : LineView) (event : on.Event) (Says : on.Outcome → Type 0) (new : LineView) : Type 0 where
+  pub steps : LineSteps old event Says new
+  pub settings : new.state.settings ≡ old.state.settings
+
+-- how it has ended after a tick
+abbrev pub ending_at : Expiry → Option Ending → Option Ending
+ending_at expiries.None ending = ending
+ending_at (expiries.Expired end) ending = ending
+ending_at expiries.Abandoned ending = Some Abandoned
+
+-- the wire is given the first bytes that wait: some
+pub record IsFront (v : View) (front : List ℕ) : Type 0 where
+  pub rest : List ℕ
+  pub first : front ++ rest ≡ buffered v
+  pub some : 0 < length front
+
+-- bytes that the wire took were written
+abbrev pub Wrote : LineView → LineView → Poll (Result ℕ Failed) → Type 0
+Wrote old new (Ready (Ok n)) =
+    (n ≤ length old.state.kept.buffered) × Goes old (on.write n) (Is (on.gave (take n old.state.kept.buffered))) new
+Wrote old new (Ready (Err e)) = new ≡ old
+Wrote old new Pending = new ≡ old
+
+-- bytes that came were read; of none, the input has ended
+abbrev pub Took : LineView → LineView → List ℕ → Poll (Result ℕ Failed) → Type 0
+Took old new came (Ready (Ok n)) =
+    ((n ≡ 0) × Goes old on.eof (Is on.done) new) ⊎ ((0 < n) × ((count : ℕ) × Goes old (on.read came) (Is (on.took count)) new))
+Took old new came (Ready (Err e)) = new ≡ old
+Took old new came Pending = new ≡ old
+
+-- and so where they couldn't be noted
+abbrev pub IsOfRead : ℕ → List ℕ → on.Event → Type 0
+IsOfRead count came event = ((count ≡ 0) × (event ≡ on.eof)) ⊎ ((0 < count) × (event ≡ on.read came))
+
+-- ---- of the service
+
+-- what asking for a frame gave: a frame, nothing yet, or something else, by which the connection closes
+abbrev pub given_of : Outcome → Given
+given_of (out.Frame frame) = Frame frame
+given_of out.Pending = Nothing
+given_of (out.Took count) = Other
+given_of (out.Head item) = Other
+given_of (out.Bytes bytes) = Other
+given_of (out.Trailers map) = Other
+given_of out.BodyEnd = Other
+given_of (out.Closed end) = Other
+given_of (out.Fault fault) = Other
+given_of (out.Broken fault) = Other
+given_of (out.Protocol error) = Other
+given_of (out.Refused error) = Other
+given_of (out.Gave bytes) = Other
+given_of (out.Expired end) = Other
+given_of out.Abandoned = Other
+given_of out.Done = Other
+
+-- a frame waits for the service
+abbrev pub stage_given : Given → Stage
+stage_given (Frame frame) = waiting (items.Frame frame)
+stage_given Nothing = free
+stage_given Other = free
+
+-- the service takes no call
+abbrev pub TakesNone : Poll (Result Unit Error) → Type 0
+TakesNone (Ready (Ok x)) = ⊥
+TakesNone (Ready (Err e)) = ⊤
+TakesNone Pending = ⊤
+
+-- the service said that it takes a call, and then this one was begun
+pub record Begins (old new : Upgrading) (item : UpgradeItem) : Type 0 where
+  pub between : Upgrading
+  pub is_ready : ReadySays old between (Ready (Ok tt))
+  pub begun : CallSays between new item
+
+-- an answer is to be sent; of a call that failed there is none
+abbrev pub stage_answered : Poll (Result Message Error) → Stage
+stage_answered (Ready (Ok message)) = sending message
+stage_answered (Ready (Err e)) = free
+stage_answered Pending = calling
+
+-- the service is dealt with only while the connection goes on
+pub record GoesOn (v : View) : Type 0 where
+  pub running : v.ending ≡ None
+  pub opened : closes v ≡ false
+
+-- ---- all
+
+-- memory ran out for one of these, where it is allowed: the moment, the drain where it was asked for, the end of a connection
+-- that closes, or the next frame
+abbrev pub MayFail : View → on.Event → Type 0
+MayFail v (on.tick moment) = allows v (on.tick moment) ≡ true
+MayFail v on.drain = (v.draining ≡ true) × (allows v on.drain ≡ true)
+MayFail v on.next = (v.ending ≡ None) × (closes v ≡ true) × (allows_next v ≡ true)
+MayFail v on.pull = (v.ending ≡ None) × (v.stage ≡ free) × (allows_pull v ≡ true)
+MayFail v event = ⊥
+
+-- What a step takes, and what it leaves: all but what is named stays.
+abbrev pub IsStep : View → Step → View → Type 0
+IsStep v (ticked moment expiry) w =
+    Goes v.line (on.tick moment) (Is (expiry_of expiry)) w.line × (w ≡ record v { line = w.line; ending = ending_at expiry v.ending })
+IsStep v drained w = Goes v.line on.drain (Is on.done) w.line × (w ≡ record v { line = w.line })
+IsStep v (written answer) w =
+    (v.ending ≡ None) × ((front : List ℕ) × IsFront v front × WriteSays v.wire w.wire answer front) × Wrote v.line w.line answer
+    × (w ≡ record v { line = w.line; wire = w.wire })
+IsStep v (read came answer) w =
+    (v.ending ≡ None) × (allows v on.eof ≡ true)
+    × ((buf : List ℕ) × (0 < length buf) × (length buf ≤ room v) × (came ≡ moved answer buf) × ReadSays v.wire w.wire answer buf)
+    × Took v.line w.line came answer × (w ≡ record v { line = w.line; wire = w.wire })
+IsStep v (shut answer) w =
+    ((end : End) × (v.ending ≡ Some (Closed end))) × ShutSays v.wire w.wire answer × (w ≡ record v { wire = w.wire })
+IsStep v (closed end) w =
+    (v.ending ≡ None) × (closing_by (setting_of v.line.state.settings) v.line.state.kept ≡ Some (end_of end))
+    × (allows_next v ≡ true) × ((head : NextHead) × Goes v.line on.next (SaysNext head) w.line)
+    × (w ≡ record v { line = w.line; ending = Some (Closed end) })
+IsStep v (ready answer) w =
+    GoesOn v × ((item : UpgradeItem) × (v.stage ≡ waiting item)) × TakesNone answer × ReadySays v.service w.service answer
+    × (w ≡ record v { service = w.service })
+IsStep v (called item) w =
+    GoesOn v × (v.stage ≡ waiting item) × Begins v.service w.service item × (w ≡ record v { service = w.service; stage = calling })
+IsStep v (answered answer) w =
+    GoesOn v × (v.stage ≡ calling) × AnswerSays v.service w.service answer
+    × (w ≡ record v { service = w.service; stage = stage_answered answer })
+IsStep v (pulled given) w =
+    (v.ending ≡ None) × (v.stage ≡ free) × (allows_pull v ≡ true)
+    × ((outcome : Outcome) × (given ≡ given_of outcome) × Goes v.line on.pull (SaysOutcome outcome) w.line)
+    × (w ≡ record v { line = w.line; stage = stage_given given })
+IsStep v (sent message) w =
+    (v.ending ≡ None) × (v.stage ≡ sending message) × (allows v (on.send (message_says message)) ≡ true)
+    × ((outcome : Outcome) × Goes v.line (on.send (message_says message)) (SaysOutcome outcome) w.line)
+    × (w ≡ record v { line = w.line; stage = free })
+IsStep v (failed event) w = MayFail v event × LineFails v.line event w.line × (w ≡ record v { line = w.line; ending = Some Broken })
+IsStep v (unsent message) w =
+    (v.ending ≡ None) × (v.stage ≡ sending message) × (allows v (on.send (message_says message)) ≡ true)
+    × LineFails v.line (on.send (message_says message)) w.line
+    × (w ≡ record v { line = w.line; stage = free; ending = Some Broken })
+IsStep v (failed_write count) w =
+    (v.ending ≡ None) × ((front : List ℕ) × IsFront v front × WriteSays {E = Failed} v.wire w.wire (Ready (Ok count)) front)
+    × LineFails v.line (on.write count) w.line
+    × (w ≡ record v { line = w.line; wire = w.wire; ending = Some Broken })
+IsStep v (failed_read came event) w =
+    (v.ending ≡ None) × (allows v on.eof ≡ true)
+    × ((buf : List ℕ) × (count : ℕ) × (0 < length buf) × (length buf ≤ room v) × (came ≡ take count buf)
+    × ReadSays {E = Failed} v.wire w.wire (Ready (Ok count)) buf × IsOfRead count came event)
+    × LineFails v.line event w.line
+    × (w ≡ record v { line = w.line; wire = w.wire; ending = Some Broken })
+IsStep v asked_to_drain w = w ≡ with_drain v
+
+-- one step after another
+abbrev pub IsRun : View → List Step → View → Type 0
+IsRun v [] w = w ≡ v
+IsRun v (step ∷ steps) w = (u : View) × IsStep v step u × IsRun u steps w

@@ -1,0 +1,72 @@
+// What a poll begins with: the moment, and the drain where it was asked for.
+ghost use Rattle.ws_service.specs.View.{view_of, MayBePolled};
+ghost use Rattle.ws_service.specs.Polls.{TickSays, DrainSays, BeginSays};
+
+use crate::dispatcher::{Ending, UpgradeDispatcher};
+use crate::item::UpgradeItem;
+use h1_connection::{Expiry, Message, NoMemory};
+use h1_traced::Recorder;
+use http_services::Service;
+use http_types::Error;
+use http_transport::Wire;
+
+impl<T, U, L> UpgradeDispatcher<T, U, U::Call, L>
+where
+    T: Wire,
+    U: Service<UpgradeItem, Response = Message, Error = Error, Lent = ()>,
+    L: Recorder,
+{
+    /// Tells the connection the moment, and that it is to end.
+    pub(super) fn begin(&mut self, moment: u64) -> Result<(), NoMemory>
+        requires open { MayBePolled U.calling self.old }
+        ensures says { BeginSays (view_of T.wiring U.served L.noted self.old) moment (view_of T.wiring U.served L.noted self.new) result }
+        ensures open { MayBePolled U.calling self.new }
+    {
+        match self.tick(moment) {
+            Ok(()) => self.tell_drain(),
+            Err(error) => Err(error),
+        }
+    }
+
+    fn tick(&mut self, moment: u64) -> Result<(), NoMemory>
+        requires open { MayBePolled U.calling self.old }
+        ensures says { TickSays (view_of T.wiring U.served L.noted self.old) moment (view_of T.wiring U.served L.noted self.new) result }
+        ensures open { MayBePolled U.calling self.new }
+    {
+        if !self.line.connection().can_tick(moment) {
+            return Ok(());
+        }
+        match self.line.tick(moment) {
+            Ok(Expiry::Abandoned) => {
+                self.ending = Some(Ending::Abandoned);
+                Ok(())
+            }
+            Ok(Expiry::Expired(_)) => Ok(()),
+            Ok(Expiry::None) => Ok(()),
+            Err(error) => {
+                self.ending = Some(Ending::Broken);
+                Err(error)
+            }
+        }
+    }
+
+    fn tell_drain(&mut self) -> Result<(), NoMemory>
+        requires open { MayBePolled U.calling self.old }
+        ensures says { DrainSays (view_of T.wiring U.served L.noted self.old) (view_of T.wiring U.served L.noted self.new) result }
+        ensures open { MayBePolled U.calling self.new }
+    {
+        if !self.is_draining {
+            return Ok(());
+        }
+        if !self.line.connection().can_drain() {
+            return Ok(());
+        }
+        match self.line.drain() {
+            Ok(()) => Ok(()),
+            Err(error) => {
+                self.ending = Some(Ending::Broken);
+                Err(error)
+            }
+        }
+    }
+}

@@ -1,0 +1,92 @@
+// The input is read.
+ghost use Rattle.std.specs.Prelude.{◌≡◌, ◌<◌, ◌≤◌, ℕ, List, None, true, length};
+ghost use Rattle.futures.specs.Task.{IsArmed, Keeps};
+ghost use Rattle.model_h1.specs.Event as on;
+ghost use Rattle.ws_service.specs.View.{view_of, MayBePolled, allows, room};
+ghost use Rattle.ws_service.specs.Polls.{OnIdle, ReadingSays};
+ghost use Rattle.ws_service.specs.declared.dispatcher.Turn.TheVariants.{Idle};
+
+use crate::dispatcher::{Ending, Turn, UpgradeDispatcher};
+use crate::error::UpgradeError;
+use crate::item::UpgradeItem;
+use futures::task::{Context, Poll};
+use h1_connection::{Message, READ_SIZE};
+use h1_traced::Recorder;
+use http_config::Failed;
+use http_services::Service;
+use http_types::Error;
+use http_transport::Wire;
+
+impl<T, U, L> UpgradeDispatcher<T, U, U::Call, L>
+where
+    T: Wire,
+    U: Service<UpgradeItem, Response = Message, Error = Error, Lent = ()>,
+    L: Recorder,
+{
+    /// Reads as far as the input may be held, or else waits.
+    pub(super) fn read(&mut self, is_armed: bool, cx: &mut Context<'_>) -> Turn
+        requires open { MayBePolled U.calling self.old }
+        requires running { self.old.ending ≡ None }
+        requires armed { is_armed ≡ true → IsArmed cx.old }
+        ensures says { ReadingSays (view_of T.wiring U.served L.noted self.old) (view_of T.wiring U.served L.noted self.new) result }
+        ensures open { MayBePolled U.calling self.new }
+        ensures registered { OnIdle result (IsArmed cx.new) }
+        ensures kept { Keeps cx.old cx.new }
+    {
+        let room = self.line.connection().read_room();
+        if room == 0 {
+            return wait(is_armed, cx);
+        }
+        if !self.line.connection().can_read() {
+            return wait(is_armed, cx);
+        }
+        let mut buf = [0; READ_SIZE];
+        self.read_into(&mut buf[..READ_SIZE.min(room)], cx)
+    }
+
+    fn read_into(&mut self, buf: &mut [u8], cx: &mut Context<'_>) -> Turn
+        requires open { MayBePolled U.calling self.old }
+        requires running { self.old.ending ≡ None }
+        requires some { 0 < length buf.old }
+        requires fits { length buf.old ≤ room (view_of T.wiring U.served L.noted self.old) }
+        requires read { (bytes : List ℕ) → allows (view_of T.wiring U.served L.noted self.old) (on.read bytes) ≡ true }
+        requires eof { allows (view_of T.wiring U.served L.noted self.old) on.eof ≡ true }
+        ensures says { ReadingSays (view_of T.wiring U.served L.noted self.old) (view_of T.wiring U.served L.noted self.new) result }
+        ensures open { MayBePolled U.calling self.new }
+        ensures registered { OnIdle result (IsArmed cx.new) }
+        ensures kept { Keeps cx.old cx.new }
+    {
+        match self.wire.poll_read(buf, cx) {
+            Poll::Pending => Turn::Idle,
+            Poll::Ready(Err(Failed)) => Turn::Over(Err(UpgradeError::Io)),
+            Poll::Ready(Ok(0)) => match self.line.eof() {
+                Ok(()) => Turn::Counted,
+                Err(_) => {
+                    self.ending = Some(Ending::Broken);
+                    Turn::Over(Err(UpgradeError::NoMemory))
+                }
+            },
+            Poll::Ready(Ok(count)) => match self.line.read(&buf[..count]) {
+                Ok(_) => Turn::Counted,
+                Err(_) => {
+                    self.ending = Some(Ending::Broken);
+                    Turn::Over(Err(UpgradeError::NoMemory))
+                }
+            },
+        }
+    }
+}
+
+/// Leaves the rest to another poll: the task hears of something already, or else asks for one.
+pub(super) fn wait(is_armed: bool, cx: &mut Context<'_>) -> Turn
+    requires armed { is_armed ≡ true → IsArmed cx.old }
+    ensures idle { result ≡ Idle }
+    ensures armed { IsArmed cx.new }
+    ensures kept { Keeps cx.old cx.new }
+{
+    if is_armed {
+        return Turn::Idle;
+    }
+    let _: Poll<()> = cx.yield_now();
+    Turn::Idle
+}

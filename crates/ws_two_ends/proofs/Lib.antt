@@ -1,4 +1,0 @@
-pub mod Fronts
-pub mod Runs
-pub mod Texts
-pub mod Received
