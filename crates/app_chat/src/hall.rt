@@ -3,8 +3,8 @@ use crate::house::House;
 use crate::member::{Member, Stage};
 use crate::serve::serve;
 use mio::net::TcpStream;
-use std::alloc::Global;
 use rooms::{NoMemory, ServiceConfig};
+use std::alloc::Global;
 
 /// The most bytes that are read at once.
 pub const READ_SIZE: usize = 16_384;

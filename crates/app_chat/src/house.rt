@@ -10,9 +10,9 @@ ghost use Rattle.app_chat.specs.Moves.{Moves, Gives};
 
 use bytes::Bytes;
 use h1_connection::Connection;
+use rooms::{Event, Hub, NoMemory, Outcome, ServiceConfig, Turn};
 use std::alloc::Global;
 use std::marker::Model;
-use rooms::{Event, Hub, NoMemory, Outcome, ServiceConfig, Turn};
 
 /// A hub, of which it always holds that it stands for a trace of its own: nothing but the calls below changes it. Once
 /// memory ran out in one of them it is a new hub, without a connection.

@@ -10,8 +10,8 @@ use crate::house::House;
 use crate::member::{Stage, Standing};
 use bytes::Bytes;
 use h1_connection::{Connection, Message};
-use net_sockets::Polled;
 use http_types::{Sink, Source};
+use net_sockets::Polled;
 use rooms::{Event, NoMemory, Outcome, Turn};
 
 /// The most bytes that a connection is asked for at once.

@@ -3,9 +3,9 @@ use crate::house::House;
 use crate::member::{Member, Stage};
 use crate::round::{Round, go_round};
 use net_sockets::{Incoming, Outgoing};
+use rooms::NoMemory;
 use std::io::Read;
 use std::net::Shutdown;
-use rooms::NoMemory;
 
 /// The most reads of a round of one whose bytes are dropped.
 const DROPS: u32 = 4;

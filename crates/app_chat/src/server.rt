@@ -2,11 +2,11 @@
 use crate::hall::{Hall, READ_SIZE};
 use crate::page::Page;
 use crate::visit::{Progress, Visit};
-use net_sockets::{moment, uptime};
 use http_types::{NoMemory, ServiceConfig};
 use mio::net::{TcpListener, TcpStream};
 use mio::unix::SourceFd;
 use mio::{Events, Interest, Poll, Token};
+use net_sockets::{moment, uptime};
 use std::alloc::Global;
 use std::io::{ErrorKind, Read};
 use std::time::Duration;

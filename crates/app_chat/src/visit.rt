@@ -3,9 +3,9 @@ use crate::page::Page;
 use h1_connection::{
     BodySize, Connection, Expiry, NextHead, NoMemory, ReadFromError, ServiceConfig,
 };
-use net_sockets::{Incoming, Outgoing, Polled};
 use http_types::{RequestHead, Sink};
 use mio::net::TcpStream;
+use net_sockets::{Incoming, Outgoing, Polled};
 use std::alloc::Global;
 use std::io::Read;
 use std::net::Shutdown;

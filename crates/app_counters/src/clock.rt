@@ -2,8 +2,8 @@
 ghost use Rattle.std.specs.Prelude.{◌≡◌, min, nat_lt};
 ghost use Rattle.model_h1.specs.Limits.{MAX_MOMENT};
 
-use net_sockets::moment;
 use http_transport::Clock;
+use net_sockets::moment;
 use std::time;
 
 /// The last moment before the year 10000, in milliseconds since 1970.

@@ -5,10 +5,10 @@ ghost use Rattle.std.specs.Prelude.{◌≡◌};
 
 mod clock;
 
-use clock::MachineClock;
-use net_sockets::{Linger, TcpDoor};
 use board_server::{GatedDoor, NoRecords, OpenGate, serve_run};
+use clock::MachineClock;
 use http_config::{Sink, StdSink};
+use net_sockets::{Linger, TcpDoor};
 use std::alloc::{AllocGlobal, Global};
 use std::io::ErrorKind;
 use std::marker::Brand;

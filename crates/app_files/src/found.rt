@@ -1,8 +1,8 @@
 //! A file that was found, and its length and date.
-use serve_blocking::HandleError;
 use http_files::{Entry, FilePath, etag};
 use http_types::StatusCode;
 use httpdate::HttpDate;
+use serve_blocking::HandleError;
 use std::alloc::Global;
 use std::fs;
 use std::fs::{File, Metadata};

@@ -5,8 +5,6 @@ ghost use Rattle.serve_blocking.specs.Served.{Follows};
 use crate::found::{Found, Unlisted, entries, is_file, look, open};
 use crate::reply::{Sent, add, add_range, file_head, page_head};
 use crate::shared::Shared;
-use serve_blocking::{Answer, Body, HandleError, Handler, Handlers, Incoming};
-use net_sockets::{TimedSink, TimedSource};
 use http_files::{
     Asked, FilePath, PathError, asked_range, content_type, folder_page, is_unchanged_since,
     line_text, lists_etag, message_page, place_of,
@@ -14,6 +12,8 @@ use http_files::{
 use http_types::header::CONTENT_TYPE;
 use http_types::header::names::{ALLOW, LOCATION};
 use http_types::{HeaderMap, Method, NoMemory, RequestHead, ResponseHead, StatusCode};
+use net_sockets::{TimedSink, TimedSource};
+use serve_blocking::{Answer, Body, HandleError, Handler, Handlers, Incoming};
 use std::alloc::Global;
 use std::fs::File;
 use std::io::{Read, Seek, SeekFrom};

@@ -1,9 +1,9 @@
 //! Heads of answers, with the headers that each kind has.
 use crate::found::Found;
-use serve_blocking::HandleError;
 use http_types::header::names::{ACCEPT_RANGES, CONTENT_RANGE, ETAG, LAST_MODIFIED};
 use http_types::header::{CONTENT_TYPE, HeaderName, HeaderValue, ValueError, value_of_bytes};
 use http_types::{ResponseHead, StatusCode};
+use serve_blocking::HandleError;
 use std::alloc::Global;
 
 /// What was sent: the status, and how many bytes the body has.

@@ -12,8 +12,8 @@ use crate::error::GetError;
 use crate::exchange::Exchange;
 use crate::show::{write_all, write_head};
 use h1_client::{AnswerFault, BodyFault, ClientEnd, NextAnswer, Pulled, ResponseItem};
-use net_sockets::{TimedSink, TimedSource};
 use http_types::{NoMemory, Sink, Source};
+use net_sockets::{TimedSink, TimedSource};
 
 /// What was taken of an answer.
 #[derive(Clone, Copy)]

@@ -7,8 +7,8 @@ use crate::error::GetError;
 use crate::patience::Patience;
 use crate::wire::Sent;
 use h1_client::ClientConnection;
-use net_sockets::{TimedSink, TimedSource};
 use http_types::{Sink, Source};
+use net_sockets::{TimedSink, TimedSource};
 use std::alloc::Global;
 use std::marker::Model;
 

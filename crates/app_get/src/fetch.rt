@@ -5,9 +5,9 @@ use crate::link::Link;
 use crate::options::Options;
 use crate::request::{ask, head_for};
 use crate::target::Target;
-use net_sockets::{SocketSink, SocketSource, moment};
 use http_framing::BodySize;
 use http_types::{ReadSource, StdSink};
+use net_sockets::{SocketSink, SocketSource, moment};
 use std::fs::File;
 use std::io::ErrorKind;
 

@@ -8,8 +8,8 @@ ghost use Rattle.app_get.specs.Exchange.{Goes, file_left};
 
 use crate::error::GetError;
 use crate::exchange::Exchange;
-use net_sockets::{TimedSink, TimedSource};
 use http_types::{Sink, Source};
+use net_sockets::{TimedSink, TimedSource};
 
 /// How many bytes of a file are handed in at once.
 const PIECE: usize = 16_384;

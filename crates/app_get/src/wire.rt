@@ -7,8 +7,8 @@ ghost use Rattle.app_get.specs.Exchange.{Goes};
 use crate::error::GetError;
 use crate::exchange::Exchange;
 use h1_client::ClientEnd;
-use net_sockets::{TimedSink, TimedSource};
 use http_types::{Sink, Source};
+use net_sockets::{TimedSink, TimedSource};
 
 /// How many bytes are read at once.
 const PIECE: usize = 16_384;

@@ -2,10 +2,10 @@
 ghost use Rattle.std.specs.Prelude.{None};
 ghost use Rattle.serve_blocking.specs.Served.{Follows};
 
-use serve_blocking::{Answer, Body, HandleError, Handler, Handlers, Incoming, Piece, Writer};
-use net_sockets::{TimedSink, TimedSource};
 use http_framing::BodyKind;
 use http_types::{Method, NoMemory, ResponseHead, StatusCode};
+use net_sockets::{TimedSink, TimedSource};
+use serve_blocking::{Answer, Body, HandleError, Handler, Handlers, Incoming, Piece, Writer};
 use std::alloc::Global;
 use std::net::SocketAddr;
 

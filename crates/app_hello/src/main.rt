@@ -5,10 +5,10 @@
 
 mod hello;
 
-use serve_blocking::{Limits, host};
-use net_sockets::Listener;
 use hello::Hellos;
 use http_types::ServiceConfig;
+use net_sockets::Listener;
+use serve_blocking::{Limits, host};
 use std::env;
 use std::process::ExitCode;
 

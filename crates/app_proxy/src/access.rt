@@ -1,7 +1,7 @@
 //! A line for each reply.
 use crate::line::{asked, line};
-use proxy_loop::{NoMemory, Reply};
 use httpdate::HttpDate;
+use proxy_loop::{NoMemory, Reply};
 use std::alloc::Global;
 use std::net::SocketAddr;
 

@@ -7,11 +7,11 @@ ghost use Rattle.proxy_loop.specs.History.{EndsServer};
 ghost use Rattle.app_proxy.specs.Flow.{FollowsClient, FollowsServer, HearsClient, HearsServer, BreaksOff, Tells};
 
 use crate::standing::{Stage, Standing};
+use http_types::{Sink, Source};
+use net_sockets::Polled;
 use proxy_loop::{
     Forwarder, NoMemory, TakenIn, take_in_client, take_in_server, write_client, write_server,
 };
-use net_sockets::Polled;
-use http_types::{Sink, Source};
 
 /// Reads from the client once, and says whether something moved. The moment is of uptime, in milliseconds.
 #[tactic(auto, using(crate::proofs::FlowLemmas::hears_client))]

@@ -4,8 +4,8 @@ ghost use Rattle.std.specs.String.{string_bytes};
 ghost use Rattle.std.specs.Option.{option_copied};
 ghost use Rattle.app_proxy.specs.Line.{asked_text, asked_of, reply_line};
 
-use proxy_loop::{NoMemory, RequestHead};
 use http_files::line_text;
+use proxy_loop::{NoMemory, RequestHead};
 use std::alloc::Global;
 use std::net::SocketAddr;
 

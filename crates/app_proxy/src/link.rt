@@ -7,9 +7,9 @@ use crate::flow::{break_off, hear_server, tell_server};
 use crate::slot::Shared;
 use crate::standing::{Ready, Standing};
 use crate::upstream::Begun;
-use proxy_loop::{Forwarder, NoMemory, Proxy};
-use net_sockets::{Incoming, Outgoing};
 use mio::net::TcpStream;
+use net_sockets::{Incoming, Outgoing};
+use proxy_loop::{Forwarder, NoMemory, Proxy};
 use std::mem;
 
 /// The socket to the server.

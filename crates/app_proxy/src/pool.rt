@@ -2,9 +2,9 @@
 ghost use Rattle.std.specs.Prelude.{◌≡◌, ◌<◌, ◌++◌, ◌∷◌, [], true, false, IsTrue, IfSome, OnOk, length};
 ghost use Rattle.std.specs.Io.KnownBytes.{Keeps};
 
-use net_sockets::{Incoming, Polled};
 use http_types::{NoMemory, Source};
 use mio::net::TcpStream;
+use net_sockets::{Incoming, Polled};
 use std::alloc::Global;
 use std::marker::Model;
 

@@ -3,11 +3,11 @@ use crate::flow::{hear_client, tell_client};
 use crate::link::Link;
 use crate::standing::{Ready, Stage, Standing};
 use crate::upstream::Upstream;
-use proxy_loop::{Expiry, Forwarder, NoMemory, Reply};
-use net_sockets::{Incoming, Outgoing, Polled};
 use http_types::Source;
 use mio::Poll;
 use mio::net::TcpStream;
+use net_sockets::{Incoming, Outgoing, Polled};
+use proxy_loop::{Expiry, Forwarder, NoMemory, Reply};
 use std::net::{Shutdown, SocketAddr};
 
 /// The most times that each direction is tried in a round, so that one who speaks a lot holds up nobody.

@@ -1,9 +1,9 @@
 //! The words of scripts.
 ghost use Rattle.std.specs.Prelude.{◌≤◌};
 
+use h1_replay::hub_run;
 use http_types::{Sink, Source};
 use std::alloc::Global;
-use h1_replay::hub_run;
 
 /// Answers the program's words: those behind `hub` as `hub_run` of `h1_replay` does, others as `run` of `h1_replay`
 /// does. The answer is the exit status.

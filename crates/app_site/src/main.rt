@@ -5,11 +5,10 @@
 
 mod sites;
 
-use net_loop::Limits;
-use serve_loop::run_many;
-use net_sockets::MioWatch;
-use net_sockets::{Linger, SystemClock};
 use http_types::ServiceConfig;
+use net_loop::Limits;
+use net_sockets::{Linger, MioWatch, SystemClock};
+use serve_loop::run_many;
 use sites::Sites;
 use std::alloc::AllocGlobal;
 use std::env;

@@ -1,7 +1,7 @@
 //! A service for each connection.
+use http_services::CountedService;
 use serve_loop::Services;
 use site::Site;
-use http_services::CountedService;
 use std::alloc::Global;
 
 /// Gives each connection a site of its own.

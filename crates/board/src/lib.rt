@@ -73,6 +73,7 @@ pub use pass::{Carried, MAX_ENTRIES, Pass};
 pub use shared::{Shared, Unlike};
 pub use stock::MAX_PASSES;
 pub use table::Table;
+
 mod answer;
 mod gate;
 mod service;

@@ -6,11 +6,11 @@ ghost use Rattle.std.specs.Vec.{vec_capacity};
 ghost use Rattle.http_transport.specs.Opening.{IsFresh};
 ghost use Rattle.board_server.specs.Visits.{WasServed, IsTaken};
 
-use h1_traced::Recorder;
 use crate::{Gate, Recorders, Served, serve_connection};
 use board::{Carried, Pass, Shared};
-use http_types::ServiceConfig;
+use h1_traced::Recorder;
 use http_transport::{Clock, Door, Wire};
+use http_types::ServiceConfig;
 use std::alloc::AllocGlobal;
 use std::marker::Model;
 use std::random::RandomSource;

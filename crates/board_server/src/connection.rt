@@ -9,13 +9,12 @@ ghost use Rattle.board_server.specs.Told.{IsTold};
 ghost use Rattle.board.specs.Work.{serving_of};
 
 use crate::error::ServeError;
+use board::{BoardService, Carried, Gate, Pass, Shared};
 use futures::task::{Doorbell, Poll, Solo};
-use board::{BoardService, Gate};
 use h1_dispatcher::Dispatcher;
 use h1_traced::Recorder;
-use board::{Carried, Pass, Shared};
-use http_types::{DispatchError, ServiceConfig};
 use http_transport::{Clock, Wire};
+use http_types::{DispatchError, ServiceConfig};
 use std::alloc::AllocGlobal;
 use std::random::RandomSource;
 use std::sync::Wait;

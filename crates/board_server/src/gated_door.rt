@@ -1,9 +1,9 @@
 //! A door whose connections read nothing while their writes wait.
 ghost use Rattle.std.specs.Prelude.{◌≡◌};
 
-use net_sockets::Gated;
 use http_config::Failed;
 use http_transport::Door;
+use net_sockets::Gated;
 use std::marker::Model;
 
 /// A door that gives each connection of another one behind a [`Gated`]: so a peer that doesn't read its answers isn't read

@@ -5,11 +5,11 @@ ghost use Rattle.std.specs.Vec.{vec_capacity};
 ghost use Rattle.board.specs.Views.{Held, entries_held};
 ghost use Rattle.board_server.specs.Visits.{WasServed, Matches, AreMatched};
 
+use crate::Served;
 use crate::accept::{Fresh, Serving};
 use crate::visit::Visit;
-use h1_traced::Recorder;
-use crate::Served;
 use board::Pass;
+use h1_traced::Recorder;
 use http_transport::{Clock, Wire};
 use std::sync::ledger::Ledger;
 

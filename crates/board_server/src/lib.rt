@@ -45,11 +45,12 @@ mod connection;
 mod error;
 mod recorders;
 
+pub use board::{Gate, OpenGate};
 pub use connection::{Served, serve_connection};
 pub use error::ServeError;
-pub use board::{Gate, OpenGate};
 pub use http_transport::Clock;
 pub use recorders::{NoRecords, Recorders};
+
 mod accept;
 mod gated_door;
 mod gather;
@@ -63,9 +64,9 @@ mod words;
 mod write;
 
 pub use gated_door::GatedDoor;
-pub use net_sockets::{Gated, Linger, TcpDoor, TcpWire};
 pub use http_transport::Door;
 pub use mem_door::{MemDoor, MemPeer};
+pub use net_sockets::{Gated, Linger, TcpDoor, TcpWire};
 pub use report::print_report;
 pub use run::{Run, serve_run};
 pub use server::{serve, serve_by};

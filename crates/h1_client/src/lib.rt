@@ -47,6 +47,7 @@ pub use after::{body_to, closes_after, is_interim};
 pub use h1_decoder::ResponseItem;
 pub use heads::{AnswerFault, fault_by, read_answer};
 pub use http_framing::BodyKind;
+
 mod connection;
 mod event;
 

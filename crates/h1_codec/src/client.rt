@@ -7,10 +7,9 @@ ghost use Rattle.h1_encoder.specs.ServerState.{is_enabled};
 ghost use Rattle.h1_encoder.specs.Heads.{HasSeen};
 ghost use Rattle.h1_encoder.specs.ClientState.{client_standing, client_moment, left_to_come};
 
+use crate::{MessageDecoder, MessageType, ResponseItem};
 use bytes::BytesMut;
 use h1_encoder::TransferEncoding;
-use crate::MessageType;
-use crate::{MessageDecoder, ResponseItem};
 use h1_payload::PayloadDecoder;
 use http_config::ServiceConfig;
 use http_types::{ConnectionType, HeaderMap};

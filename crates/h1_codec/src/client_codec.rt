@@ -35,12 +35,10 @@ ghost use Rattle.h1_encoder.specs.Writing.{Refuses, HasWritten, IsRequestWritten
 use crate::client::Client;
 use crate::merged::merged;
 use crate::request::{allowed, encoding_of, is_enabled, is_head};
-use crate::{ClientError, ClientPayloadCodec};
+use crate::{ClientError, ClientPayloadCodec, Message, MessageType};
 use bytes::BytesMut;
-use h1_encoder::EncodeError;
 use h1_decoder::ResponseItem;
-use crate::{Message, MessageType};
-use h1_encoder::{has_text, put_request_head};
+use h1_encoder::{EncodeError, has_text, put_request_head};
 use http_config::ServiceConfig;
 use http_framing::BodySize;
 use http_types::{ConnectionType, HeaderMap, RequestHead, RequestHeadType};

@@ -1,9 +1,8 @@
 //! The codecs as decoders and encoders like any other.
-use crate::{ClientCodec, ClientError, ClientPayloadCodec};
+use crate::{ClientCodec, ClientError, ClientPayloadCodec, Message};
 use bytes::{Bytes, BytesMut};
-use h1_encoder::EncodeError;
 use h1_decoder::ResponseItem;
-use crate::Message;
+use h1_encoder::EncodeError;
 use http_framing::{BodySize, Decoder, Encoder};
 use http_types::RequestHeadType;
 

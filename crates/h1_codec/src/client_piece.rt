@@ -7,10 +7,9 @@ ghost use Rattle.h1_encoder.specs.ClientAnswers.{IsChunked, IsChunkStep};
 ghost use Rattle.h1_encoder.specs.ClientPieces.{as_message, as_answered};
 ghost use Rattle.h1_encoder.specs.ClientState.{client_standing};
 
-use crate::ClientError;
 use crate::client::Client;
+use crate::{ClientError, Piece, next_piece};
 use bytes::{Bytes, BytesMut};
-use crate::{Piece, next_piece};
 use h1_payload::{DecodeError, PayloadDecoder};
 use http_types::{HeaderMap, ParseError};
 

@@ -6,11 +6,10 @@ ghost use Rattle.http_types.specs.Flags.{type_of_flags};
 ghost use Rattle.h1_encoder.specs.ClientState.{answered, passes_on, client_standing};
 ghost use Rattle.h1_encoder.specs.ClientAnswers.{IsHeaded, IsHeadStep};
 
-use crate::ClientError;
 use crate::client::Client;
+use crate::{ClientError, next_head};
 use bytes::BytesMut;
 use h1_decoder::ResponseItem;
-use crate::next_head;
 use http_types::{ConnectionType, ResponseHead};
 
 impl Client {

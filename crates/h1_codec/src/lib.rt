@@ -90,42 +90,50 @@ mod payload_type;
 mod read_head;
 
 pub use decoder::MessageDecoder;
-pub use h1_decoder::{BodyKind, HeadItem, HeadRoom, HeadScan, HeadScanner, ResponseItem, read_head_into, request_head, request_head_in, response_head, scan_head};
-pub use h1_payload::{BodyFault, ChunkedState, DecodeError, PayloadDecoder, PayloadItem, Pulled, Rest, RestKind};
+pub use h1_decoder::{
+    BodyKind, HeadItem, HeadRoom, HeadScan, HeadScanner, ResponseItem, read_head_into,
+    request_head, request_head_in, response_head, scan_head,
+};
+pub use h1_payload::{
+    BodyFault, ChunkedState, DecodeError, PayloadDecoder, PayloadItem, Pulled, Rest, RestKind,
+};
 pub use payload_type::PayloadType;
 pub use read_head::ReadHead;
+
+mod framed_message;
+mod next_item;
 mod server_codec;
 mod server_framing;
 pub mod server_laws;
-mod framed_message;
-mod next_item;
 mod server_piece;
 
-pub use server_codec::Codec;
 pub use framed_message::{Message, MessageType};
 pub use next_item::next_head;
+pub use server_codec::Codec;
 pub use server_piece::{Piece, next_piece};
+
 mod client;
 mod client_codec;
 mod client_error;
 mod client_framing;
-mod head;
 pub mod client_laws;
+mod client_piece;
+mod head;
 mod merged;
 mod payload;
-mod client_piece;
 mod request;
 
 pub use client_codec::ClientCodec;
 pub use client_error::ClientError;
 pub use payload::ClientPayloadCodec;
+
+mod response;
 mod send_error;
 pub mod send_laws;
 mod send_message;
-mod response;
 mod sending;
 mod turn;
 
+pub use response::{SendResponse, send_response};
 pub use send_error::SendError;
 pub use send_message::SendMessage;
-pub use response::{SendResponse, send_response};

@@ -8,9 +8,9 @@ ghost use Rattle.h1_encoder.specs.Kinds.{requests};
 
 use crate::framed_message::Message;
 use crate::server_piece::{Piece, next_piece};
+use crate::{MessageDecoder, PayloadType, ReadHead};
 use bytes::BytesMut;
 use h1_decoder::HeadItem;
-use crate::{MessageDecoder, PayloadType, ReadHead};
 use h1_payload::{DecodeError, PayloadDecoder};
 use http_types::{HeaderMap, ParseError};
 

@@ -25,9 +25,8 @@ ghost use Rattle.h1_encoder.specs.ClientState.{
 ghost use Rattle.h1_encoder.specs.Writing.{without_trailers};
 
 use crate::client::Client;
-use crate::{ClientCodec, ClientError};
+use crate::{ClientCodec, ClientError, MessageType};
 use bytes::{Bytes, BytesMut};
-use crate::MessageType;
 use http_types::{ConnectionType, HeaderMap};
 
 /// Reads the body of an answer whose head a [`ClientCodec`] has read.

@@ -2,11 +2,10 @@
 ghost use Rattle.std.specs.Prelude.{◌≡◌, true, Some};
 ghost use Rattle.h1_encoder.specs.SentMessages.{is_open, message_view, view_begun};
 
-use crate::SendMessage;
-use crate::Codec;
+use crate::{Codec, SendMessage};
 use http_bodies::MessageBody;
-use http_types::Response;
 use http_transport::{Framed, Wire};
+use http_types::Response;
 use std::alloc::Global;
 
 /// An answer that is sent. The parameters are the wire and the body.

@@ -4,10 +4,9 @@ ghost use Rattle.futures.specs.Task.{IsArmed, Keeps};
 ghost use Rattle.futures.specs.Poll.{IfReady, OnPending};
 ghost use Rattle.h1_encoder.specs.SentMessages.{is_open, message_view, view_begun, wire_left, PollSays};
 
-use crate::SendError;
 use crate::sending::Sending;
+use crate::{Message, SendError};
 use futures::task::{Context, Poll};
-use crate::Message;
 use http_bodies::MessageBody;
 use http_framing::{BodySize, Encoder};
 use http_transport::{Framed, Wire};

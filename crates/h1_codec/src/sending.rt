@@ -5,10 +5,9 @@ ghost use Rattle.h1_encoder.specs.View.{view_of};
 ghost use Rattle.h1_encoder.specs.Sends.{IsLost};
 ghost use Rattle.h1_encoder.specs.Turns.{MAX_TURNS, SendsFew, FedSays, OnWaits};
 
-use crate::SendError;
+use crate::{Message, SendError};
 use bytes::Bytes;
 use futures::task::{Context, Poll};
-use crate::Message;
 use http_bodies::{BodyFault, MessageBody};
 use http_framing::{BodySize, Encoder};
 use http_transport::{Framed, Wire};

@@ -37,12 +37,12 @@ ghost use Rattle.h1_encoder.specs.ServerState.{
   left_to_come,
 };
 
+use crate::MessageDecoder;
 use crate::framed_message::{Message, MessageType};
 use crate::next_item::next_message;
 use bytes::BytesMut;
-use h1_encoder::{Asked, EncodeError, MessageEncoder, type_of};
 use h1_decoder::HeadItem;
-use crate::MessageDecoder;
+use h1_encoder::{Asked, EncodeError, MessageEncoder, type_of};
 use h1_payload::PayloadDecoder;
 use http_config::{KeepAlive, ServiceConfig};
 use http_framing::BodySize;

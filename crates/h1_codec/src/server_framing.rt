@@ -1,9 +1,9 @@
 //! The codec as a decoder and an encoder like any other.
-use crate::server_codec::Codec;
 use crate::framed_message::Message;
+use crate::server_codec::Codec;
 use bytes::BytesMut;
-use h1_encoder::EncodeError;
 use h1_decoder::HeadItem;
+use h1_encoder::EncodeError;
 use http_framing::{BodySize, Decoder, Encoder};
 use http_types::{ParseError, Response};
 

@@ -5,10 +5,9 @@ ghost use Rattle.futures.specs.Poll.{OnPending};
 ghost use Rattle.h1_encoder.specs.View.{view_of};
 ghost use Rattle.h1_encoder.specs.Turns.{OnIdle, WaitSays, TurnSays, SpentSays, SendSays};
 
-use crate::SendError;
 use crate::sending::{Fed, Sending};
+use crate::{Message, SendError};
 use futures::task::{Context, Poll};
-use crate::Message;
 use http_bodies::MessageBody;
 use http_config::Failed;
 use http_framing::{BodySize, Encoder};

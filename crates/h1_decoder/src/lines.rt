@@ -13,9 +13,8 @@ ghost use Rattle.h1_decoder.specs.Refusal.{IsHeaderUnlessNoMemory};
 
 use crate::framing::Framing;
 use bytes::Bytes;
-use http_framing::BodyKind;
+use http_framing::{BodyKind, known_value};
 use http_header::HeaderNameError;
-use http_framing::known_value;
 use http_types::{HeaderMap, HeaderName, HeaderValue, ParseError};
 use httparse::spans::{HeaderSpan, Span};
 use std::alloc::Global;

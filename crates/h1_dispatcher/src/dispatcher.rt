@@ -11,8 +11,8 @@ use h1_traced::{Line, Recorder};
 use http_bodies::MessageBody;
 use http_services::Service;
 use http_services::h1::Payload;
-use http_types::{Request, Response, ServiceConfig};
 use http_transport::Wire;
+use http_types::{Request, Response, ServiceConfig};
 use std::alloc::Global;
 
 mod answer;

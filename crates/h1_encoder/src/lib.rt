@@ -64,6 +64,7 @@ pub use error::EncodeError;
 pub use fixed::{put_bad_request, put_interim, put_timeout, put_too_large};
 pub use head::{put_answer_head, write_content_length};
 pub use shape::{Shape, shape_of};
+
 mod request_camel;
 mod request_framing;
 mod request_head;

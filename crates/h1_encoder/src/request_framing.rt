@@ -8,8 +8,8 @@ ghost use Rattle.h1_encoder.specs.Meaning.{size_of, model_type};
 ghost use Rattle.h1_encoder.specs.RequestMeaning.{asked_minor};
 
 use crate::request_line::minor_of;
-use bytes::BytesMut;
 use crate::write_content_length;
+use bytes::BytesMut;
 use http_framing::BodySize;
 use http_types::{ConnectionType, NoMemory, Version};
 

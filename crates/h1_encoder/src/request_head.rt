@@ -11,8 +11,8 @@ ghost use Rattle.h1_encoder.specs.RequestMeaning.{asked_head, has_text};
 use crate::request_framing::{put_connection, put_framing};
 use crate::request_headers::put_headers;
 use crate::request_line::{minor_of, put_request_words};
-use bytes::BytesMut;
 use crate::write_date_header;
+use bytes::BytesMut;
 use http_framing::BodySize;
 use http_types::{ConnectionType, NoMemory, RequestHead, Version};
 

@@ -42,10 +42,10 @@
 //! their one trace.
 #![tactic(auto)]
 
-pub mod examples;
-pub mod generated;
 mod draw;
 mod events;
+pub mod examples;
+pub mod generated;
 pub mod laws;
 mod request;
 mod summary;

@@ -6,8 +6,8 @@ ghost use Rattle.h1_replay.specs.HubReply.{status_of_reply, text_of_reply, IsRep
 use crate::hub_report::report_of;
 use crate::hub_script::{ScriptError, read_script};
 use crate::numbered_line;
-use std::alloc::{AllocError, Global};
 use rooms::{HubError, HubTrace, NoMemory, drive_hub};
+use std::alloc::{AllocError, Global};
 
 /// The exit status where a write failed.
 pub const WRITE_FAULT: u8 = 5;

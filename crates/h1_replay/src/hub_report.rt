@@ -4,10 +4,10 @@ ghost use Rattle.h1_replay.specs.Text.{Adds};
 ghost use Rattle.h1_replay.specs.HubReport.{mover_words, IsStepLine, AreStepLines, buffered_line, buffered_lines, IsReport};
 
 use crate::outcome::put_outcome;
-use bytes::Bytes;
 use crate::{put_named_hex, put_number};
-use std::alloc::Global;
+use bytes::Bytes;
 use rooms::{HubEvent, HubOutcome, HubStep, HubTrace, NoMemory};
+use std::alloc::Global;
 
 /// A line for each outcome of the trace, and then, of each connection by its number, the bytes that are still to be
 /// written.

@@ -8,11 +8,9 @@ ghost use Rattle.h1_replay.specs.HubScript.{open_of, turn_of, feed_of, line_even
 ghost use Rattle.h1_replay.specs.HubReading.{ReadsEvents, ReadsScript};
 
 pub use crate::ScriptError;
-use crate::{
-    LineError, Pieces, config_line, event_line, first_piece, number, without_last_feed,
-};
-use std::alloc::Global;
+use crate::{LineError, Pieces, config_line, event_line, first_piece, number, without_last_feed};
 use rooms::{HubEvent, ServiceConfig, is_fed};
+use std::alloc::Global;
 
 const BLANK: u8 = b' ';
 

@@ -107,15 +107,18 @@ pub use input::{InputError, read_input};
 pub use output::write_all;
 pub use pieces::{Pieces, first_piece};
 pub use reply::numbered_line;
-pub use report::{broken_word, end_word, fault_word, put_head, put_named, put_named_hex, put_pairs};
+pub use report::{
+    broken_word, end_word, fault_word, put_head, put_named, put_named_hex, put_pairs,
+};
 pub use script::{config_line, event_line, without_last_feed};
 pub use text::put_number;
 pub use websocket::{check_word, put_frame, put_rule};
 pub use word::{LineError, number};
-mod outcome;
+
 mod hub_program;
 mod hub_reply;
 mod hub_report;
 mod hub_script;
+mod outcome;
 
 pub use hub_program::hub_run;

@@ -3,11 +3,11 @@ ghost use Rattle.std.specs.Prelude.{OnOk};
 ghost use Rattle.h1_replay.specs.Report.{IsOutcomeLine};
 ghost use Rattle.h1_replay.specs.Text.{Adds};
 
-use h1_connection::{NoMemory, Outcome};
 use crate::{
     broken_word, check_word, end_word, fault_word, put_frame, put_head, put_named, put_named_hex,
     put_number, put_pairs, put_rule,
 };
+use h1_connection::{NoMemory, Outcome};
 use std::alloc::Global;
 
 /// Adds the words of an outcome.

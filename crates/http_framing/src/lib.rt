@@ -32,6 +32,7 @@ mod framing;
 
 pub use body::{BodyKind, BodySize};
 pub use framing::{Decoder, Encoder, pieces_make_a_whole};
+
 mod parts;
 
 pub use parts::{known_value, share};

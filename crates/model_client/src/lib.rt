@@ -64,8 +64,8 @@
 pub mod answer_examples;
 pub mod answer_head;
 pub mod answers;
-pub mod table_examples;
-pub mod machine_examples;
-pub mod machine_laws;
 pub mod examples;
 pub mod laws;
+pub mod machine_examples;
+pub mod machine_laws;
+pub mod table_examples;

@@ -111,10 +111,10 @@
 //!   of its input: it drains, a time ran out, the body of its answer failed, or it answered before it had read the request.
 #![tactic(auto)]
 
-pub mod answers;
 pub mod agreement_examples;
+pub mod answers;
+pub mod examples;
 pub mod frames;
 pub mod heads;
-pub mod requests;
-pub mod examples;
 pub mod laws;
+pub mod requests;

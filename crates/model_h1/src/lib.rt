@@ -83,10 +83,8 @@
 //! connection close: it waits for the next request, until the keep-alive time has run out.
 #![tactic(auto)]
 
-pub mod chunked;
 pub mod chunk_examples;
-pub mod reading;
-pub mod taking;
+pub mod chunked;
 pub mod closing_examples;
 pub mod deadline;
 pub mod deadline_examples;
@@ -98,8 +96,10 @@ pub mod head_examples;
 pub mod head_piece;
 pub mod parse;
 pub mod parse_examples;
+pub mod reading;
 pub mod request_head;
 pub mod runs;
+pub mod taking;
 pub mod text;
 pub mod tick_examples;
 pub mod trace;

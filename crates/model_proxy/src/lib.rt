@@ -43,7 +43,7 @@
 pub mod answers;
 pub mod examples;
 pub mod forwarders;
+pub mod left_laws;
 pub mod replies;
 pub mod requests;
 pub mod trace_laws;
-pub mod left_laws;

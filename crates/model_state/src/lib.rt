@@ -92,10 +92,10 @@
 //! behind the first call.
 #![tactic(auto)]
 
+pub mod ahead_examples;
+pub mod counting;
 pub mod deadline;
+pub mod laws;
 pub mod machine;
 pub mod segment_examples;
-pub mod laws;
-pub mod counting;
-pub mod ahead_examples;
 pub mod traces;

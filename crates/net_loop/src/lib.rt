@@ -52,6 +52,7 @@ pub use limits::Limits;
 pub use seats::{Seats, Went, Why};
 pub use turns::{Going, Lost, turn};
 pub use watch::{Happening, Watch};
+
 mod minima;
 mod tree;
 

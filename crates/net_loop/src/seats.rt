@@ -4,12 +4,12 @@ ghost use Rattle.slab.specs.Slab.{get, slab_len, HasRoomFor};
 ghost use Rattle.net_loop.specs.Runs.{Lives};
 ghost use Rattle.net_loop.specs.Slots.{job_of, Becomes, OthersStay, TakenStay, IsCause, StandsBy};
 
+use crate::Minima;
 use crate::job::Job;
 use crate::limits::Limits;
 use crate::polls::Polled;
 use crate::seat::{NEVER, Seat, new_seat, next_poll, poll_seat};
 pub use crate::seat::{Went, Why};
-use crate::Minima;
 use slab::Slab;
 use std::alloc::{AllocError, AllocGlobal, Global};
 use std::marker::Model;

@@ -69,6 +69,7 @@ pub use socket::{SocketSink, SocketSource, Stall, prepare};
 pub use system_clock::SystemClock;
 pub use timed::{TimedSink, TimedSource};
 pub use wire::TcpWire;
+
 mod drain;
 mod input;
 mod mio_watch;

@@ -3,15 +3,15 @@ ghost use Rattle.std.specs.Prelude.{◌≡◌, IfOk};
 ghost use Rattle.net_loop.specs.Watching.{unwatched, Enters};
 ghost use Rattle.net_sockets.specs.Wires.{mio_watching, mio_wiring};
 
+use crate::Linger;
 use crate::input::Input;
 use crate::mio_wire::MioWire;
-use net_loop::{Happening, Watch};
-use crate::Linger;
 use http_config::Failed;
 use mio::event::Event;
 use mio::net::{TcpListener, TcpStream};
 use mio::unix::SourceFd;
 use mio::{Events, Interest, Poll, Token};
+use net_loop::{Happening, Watch};
 use std::alloc::{AllocError, AllocGlobal, Global};
 use std::collections::VecDeque;
 use std::io::{self, ErrorKind};

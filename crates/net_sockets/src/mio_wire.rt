@@ -8,8 +8,8 @@ ghost use Rattle.http_transport.specs.Wiring.{ReadSays, WriteSays};
 
 use crate::drain::{Drain, drain_some, is_unready};
 use crate::input::Input;
-use futures::task::{Context, Poll, Source, Waker};
 use crate::{Linger, uptime};
+use futures::task::{Context, Poll, Source, Waker};
 use http_config::Failed;
 use http_transport::Wire;
 use mio::net::TcpStream;

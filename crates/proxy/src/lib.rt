@@ -22,11 +22,11 @@
 #![tactic(auto)]
 
 pub mod client;
-pub mod server;
 mod events;
 pub mod laws;
 mod notes;
 mod proxy;
+pub mod server;
 mod turns;
 
 pub use h1_connection::{Bytes, End, Expiry, NoMemory, RequestHead, ServiceConfig, StatusCode};

@@ -19,16 +19,16 @@ ghost use Rattle.proxy.specs.Fresh.{is_used, is_server_used, IsToldTime, SendsOr
 ghost use Rattle.proxy.specs.Replies.{own, KeepsIdle, KeepsFor, may_keep, ReplyIsOver, marks_of, PutsLast, TurnReplies, HasReplied, Fails, Breaks, PassesBody, PassesHead, TakesAnswer, Opens};
 ghost use Rattle.proxy.specs.Rests.{may_begin, is_over, may_turn, Settles, LeavesLess, LeavesMore, Works, WorksBody, Turns, IsNotToEnd};
 
+use crate::client::{
+    cut_reply, leave_body, next_bytes, next_head, put_end, put_head, put_piece, tell_to_go_on,
+};
 use crate::proxy::{MAX_WAITING, Proxy, Sent, Unsent};
+use crate::server::{ask, next_answer, next_piece, sends_body, tick_server};
 use h1_client::{ClientConnection, NextAnswer, ResponseItem};
 use h1_connection::{BodySize, HeadItem, NextHead, NoMemory, Pulled, StatusCode};
 use proxy_heads::{
     AnswerUse, Refusal, answer_use, is_forwardable, reply_head, reply_size, says_close,
 };
-use crate::client::{
-    cut_reply, leave_body, next_bytes, next_head, put_end, put_head, put_piece, tell_to_go_on,
-};
-use crate::server::{ask, next_answer, next_piece, sends_body, tick_server};
 
 impl Proxy {
     /// Makes turns until none is possible.

@@ -5,8 +5,8 @@ ghost use Rattle.proxy.specs.Kept.{client_of, server_of, server_text, client_roo
 ghost use Rattle.proxy_loop.specs.Flow.{TakesIn, Writes, HasReadCause, HasWriteCause, may_write_client, may_write_server};
 
 use crate::forwarder::Forwarder;
-use proxy::NoMemory;
 use http_types::{Sink, Source};
+use proxy::NoMemory;
 
 /// What a read brought.
 #[derive(Clone, Copy, Debug, PartialEq, Eq)]

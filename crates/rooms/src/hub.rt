@@ -9,12 +9,11 @@ ghost use Rattle.model_rooms.specs.Trace.{is_fed};
 
 use crate::event::{HubEvent, HubOutcome};
 use crate::moves::{follow, send_first, take_turn};
+use crate::{Rooms, Seat, Turn};
 use bytes::Bytes;
 use h1_connection::{Boxed, Connection, Event, NoMemory, Outcome, Sent, ServiceConfig};
 use std::alloc::Global;
 use std::marker::Model;
-use crate::Rooms;
-use crate::{Seat, Turn};
 
 // The most connections of a hub.
 const MAX_CONNECTIONS: usize = 4096;

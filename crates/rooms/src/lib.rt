@@ -24,11 +24,15 @@ mod row;
 pub use line::Line;
 pub use rooms::Rooms;
 pub use ws_frames::{Frame, Message, NoMemory};
+
 mod kept;
 mod seat;
 
-pub use h1_connection::{Connection, Event, HandshakeError, Outcome, Sent, ServiceConfig, ServiceConfigBuilder};
+pub use h1_connection::{
+    Connection, Event, HandshakeError, Outcome, Sent, ServiceConfig, ServiceConfigBuilder,
+};
 pub use seat::{Seat, Turn};
+
 mod driver;
 mod event;
 mod hub;

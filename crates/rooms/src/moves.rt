@@ -9,9 +9,8 @@ ghost use Rattle.rooms.specs.Rows.{only};
 ghost use Rattle.rooms.specs.Turn.{first_message, asked_by, IsAsked, sent_outcome};
 ghost use Rattle.rooms.specs.Moves.{in_room, with_done, moved, ended, closes_by, followed, Takes, Sends};
 
+use crate::{Rooms, Seat, Turn};
 use h1_connection::{Event, Message, NoMemory, Outcome, Sent};
-use crate::Rooms;
-use crate::{Seat, Turn};
 
 /// A turn of the connection with this number. There is none where it is over.
 pub fn take_turn(

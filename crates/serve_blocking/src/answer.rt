@@ -3,9 +3,9 @@ ghost use Rattle.std.specs.Prelude.{OnOk};
 ghost use Rattle.serve_blocking.specs.Served.{Answers, Follows};
 
 use crate::{Body, HandleError};
-use net_sockets::{TimedSink, TimedSource};
 use http_framing::BodySize;
 use http_types::ResponseHead;
+use net_sockets::{TimedSink, TimedSource};
 
 /// The most bytes that are handed to the connection at once.
 const PIECE: usize = 16_384;

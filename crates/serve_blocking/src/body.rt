@@ -8,9 +8,9 @@ use crate::pace::Pace;
 use crate::{HandleError, Limits};
 use bytes::Bytes;
 use h1_connection::{Connection, Pulled};
-use net_sockets::{TimedSink, TimedSource};
 use http_framing::BodyKind;
 use http_types::{ConnectionType, HeaderMap, ResponseHead, ServiceConfig};
+use net_sockets::{TimedSink, TimedSource};
 use std::alloc::Global;
 use std::marker::Model;
 

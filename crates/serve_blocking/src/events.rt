@@ -8,9 +8,9 @@ ghost use Rattle.serve_blocking.specs.Served.{Adds, Follows, HandsOut};
 use crate::Body;
 use h1_connection::{Expiry, NextKind, Pulled, ReadFromError};
 use h1_decoder::{HeadItem, HeadRoom};
-use net_sockets::{TimedSink, TimedSource};
 use http_framing::BodySize;
 use http_types::{Failed, NoMemory, ResponseHead};
+use net_sockets::{TimedSink, TimedSource};
 
 impl<S: TimedSource, K: TimedSink> Body<S, K> {
     /// A moment has come.

@@ -4,8 +4,8 @@ ghost use Rattle.h1_decoder.specs.declared.decoder.HeadItem.{HeadItem};
 ghost use Rattle.serve_blocking.specs.Served.{Follows, Notes};
 
 use crate::{Answer, Body, HandleError, Incoming};
-use net_sockets::{TimedSink, TimedSource};
 use http_types::NoMemory;
+use net_sockets::{TimedSink, TimedSource};
 use std::net::SocketAddr;
 
 /// What answers the requests of one connection, one after the other.

@@ -1,8 +1,8 @@
 //! A server: a listener, and a thread for each connection.
 use crate::connection::host_stream;
 use crate::{Handler, Handlers, Limits};
-use net_sockets::{AcceptError, Accepted, Listener, uptime};
 use http_types::{NoMemory, ServiceConfig};
+use net_sockets::{AcceptError, Accepted, Listener, uptime};
 use std::alloc::{AllocError, Global};
 use std::io::{Read, Write};
 use std::net::{Net, Shutdown, SocketAddr, TcpListener, TcpStream};

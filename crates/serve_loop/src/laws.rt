@@ -10,8 +10,8 @@ ghost use Rattle.serve_loop.specs.declared.served.Served.{Served as Job};
 use http_bodies::MessageBody;
 use http_services::Service;
 use http_services::h1::Payload;
-use http_types::{Request, Response};
 use http_transport::Wire;
+use http_types::{Request, Response};
 
 /// A job that lives is a dispatcher that stands where polls, and drains between them, have brought it from its beginning
 /// over a fresh wire: these are one run of steps, of which the laws of `h1_dispatcher` speak.

@@ -1,13 +1,13 @@
 //! A job for each connection.
 use crate::served::Served;
 use h1_dispatcher::Dispatcher;
-use net_loop::Makes;
 use h1_traced::NoRecord;
 use http_bodies::MessageBody;
 use http_services::Service;
 use http_services::h1::Payload;
-use http_types::{Request, Response, ServiceConfig};
 use http_transport::Wire;
+use http_types::{Request, Response, ServiceConfig};
+use net_loop::Makes;
 use std::alloc::Global;
 
 /// Gives each connection a service of its own.

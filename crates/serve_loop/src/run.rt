@@ -1,12 +1,12 @@
 //! The loop.
 use crate::maker::{Maker, Services};
 use crate::served::Served;
-use net_loop::{Going, Limits, Seats, Watch, turn};
 use http_bodies::MessageBody;
 use http_services::Service;
 use http_services::h1::Payload;
-use http_types::{Request, Response, ServiceConfig};
 use http_transport::{Clock, Wire};
+use http_types::{Request, Response, ServiceConfig};
+use net_loop::{Going, Limits, Seats, Watch, turn};
 use std::alloc::AllocGlobal;
 use std::random::RandomSource;
 use thiserror::Error;

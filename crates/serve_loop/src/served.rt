@@ -5,13 +5,13 @@ ghost use Rattle.serve_loop.specs.Jobs.{IsNew, Polls, Drains};
 
 use futures::task::{Context, Poll};
 use h1_dispatcher::Dispatcher;
-use net_loop::Job;
 use h1_traced::NoRecord;
 use http_bodies::MessageBody;
 use http_services::Service;
 use http_services::h1::Payload;
-use http_types::{DispatchError, Request, Response};
 use http_transport::Wire;
+use http_types::{DispatchError, Request, Response};
+use net_loop::Job;
 
 /// A service over a wire, by one connection of HTTP/1, as a job.
 #[derive(Drop)]

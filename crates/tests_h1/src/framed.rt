@@ -6,8 +6,8 @@ mod wire;
 
 use bytes::Bytes;
 use h1_encoder::Codec;
-use http_types::ServiceConfig;
 use http_transport::{Framed, MemWire};
+use http_types::ServiceConfig;
 use std::alloc::{AllocError, Global};
 
 /// A server's codec over a wire in memory. The clock of its settings stands at 0.

@@ -4,10 +4,10 @@ mod words;
 
 use crate::hubs::events::read_events;
 use bytes::Bytes;
+use h1_replay::replay;
+use rooms::{HubError, HubEvent, NoMemory, ServiceConfigBuilder, drive_hub};
 use std::alloc::Global;
 use vectors::{Case, Player, Report};
-use rooms::{HubError, HubEvent, NoMemory, ServiceConfigBuilder, drive_hub};
-use h1_replay::replay;
 
 /// The calls of `rooms` and `h1_replay`.
 pub struct Hubs;

@@ -10,8 +10,8 @@ use crate::item::UpgradeItem;
 use h1_connection::{End, Message};
 use h1_traced::{Line, Recorder};
 use http_services::Service;
-use http_types::{Error, Request};
 use http_transport::Wire;
+use http_types::{Error, Request};
 
 mod begin;
 mod poll;

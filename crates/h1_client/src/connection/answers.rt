@@ -19,9 +19,9 @@ ghost use Rattle.h1_client.specs.Parts.{kept_of, IsFirst, IsSettledAs, IsSound};
 use crate::connection::bodies::Reading;
 use crate::connection::parts::Parts;
 use crate::connection::queue::First;
-use crate::{ClientEnd, NextAnswer};
 use crate::{
-    AnswerFault, BodyKind, ResponseItem, body_to, closes_after, fault_by, is_interim,
+    AnswerFault, BodyKind, ClientEnd, NextAnswer, ResponseItem, body_to, closes_after, fault_by,
+    is_interim,
 };
 use h1_payload::Rest;
 use http_types::{NoMemory, ParseError, ServiceConfig};

@@ -12,8 +12,8 @@ ghost use Rattle.model_state.specs.Pull as pulls;
 ghost use Rattle.h1_payload.specs.Rests.{IsPulled, IsLight};
 ghost use Rattle.h1_client.specs.Incoming.{is_coming_in, IsFound, place_in, CanGoOn, IsSearched};
 
-use bytes::BytesMut;
 use crate::read_answer;
+use bytes::BytesMut;
 use h1_decoder::{HeadScan, HeadScanner, ResponseItem};
 use h1_payload::{Pulled, Rest};
 use http_types::{NoMemory, ParseError};

@@ -9,8 +9,7 @@ ghost use Rattle.h1_encoder.specs.RequestMeaning.{asked_head, has_text};
 ghost use Rattle.h1_client.specs.Meaning.{marked_type};
 
 use bytes::BytesMut;
-use h1_encoder::{Asked, Shape, put_end, put_piece};
-use h1_encoder::put_request_head;
+use h1_encoder::{Asked, Shape, put_end, put_piece, put_request_head};
 use http_framing::BodySize;
 use http_types::{ConnectionType, NoMemory, RequestHead, Version};
 use std::alloc::Global;

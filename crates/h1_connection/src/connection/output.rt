@@ -20,8 +20,8 @@ use h1_encoder::{
     Asked, DateLine, Shape, SizeLine, first_bytes, put_accept, put_answer_head, put_bad_request,
     put_end, put_interim, put_timeout, put_too_large,
 };
-use http_framing::BodySize;
 use h1_output::Segments;
+use http_framing::BodySize;
 use http_types::{ConnectionType, NoMemory, ResponseHead};
 use std::alloc::Global;
 use std::marker::Model;

@@ -13,8 +13,8 @@ use h1_traced::Recorder;
 use http_bodies::MessageBody;
 use http_services::Service;
 use http_services::h1::Payload;
-use http_types::{DispatchError, Request, Response};
 use http_transport::Wire;
+use http_types::{DispatchError, Request, Response};
 use std::mem;
 
 impl<T, S, L, B> Dispatcher<T, S, S::Call, L, B>

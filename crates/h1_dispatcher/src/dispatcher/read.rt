@@ -14,8 +14,8 @@ use http_bodies::MessageBody;
 use http_config::Failed;
 use http_services::Service;
 use http_services::h1::Payload;
-use http_types::{DispatchError, Request, Response};
 use http_transport::Wire;
+use http_types::{DispatchError, Request, Response};
 
 // How much room a read is lent until one fills it: a browser's head mostly has no more bytes.
 const FEW_BYTES: usize = 1024;

@@ -14,8 +14,8 @@ use h1_traced::Recorder;
 use http_bodies::{BodyFault, MessageBody};
 use http_services::Service;
 use http_services::h1::Payload;
-use http_types::{DispatchError, Request, Response};
 use http_transport::Wire;
+use http_types::{DispatchError, Request, Response};
 use std::alloc::AllocError;
 use std::mem;
 

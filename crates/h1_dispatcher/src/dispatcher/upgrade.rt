@@ -15,8 +15,8 @@ use h1_traced::{Line, Recorder};
 use http_bodies::MessageBody;
 use http_services::Service;
 use http_services::h1::Payload;
-use http_types::{Request, Response};
 use http_transport::Wire;
+use http_types::{Request, Response};
 
 /// A connection that was upgraded, with its wire: what the peer sent behind the request is held by the connection, and the
 /// answer that upgrades it is to be written.

@@ -1,9 +1,9 @@
 //! An answer, as a client gets it.
 use bytes::Bytes;
 use h1_decoder::{ResponseItem, response_head};
-use proxy_heads::{reply_head, reply_size};
 use http_framing::BodySize;
 use http_types::ResponseHead;
+use proxy_heads::{reply_head, reply_size};
 use std::alloc::Global;
 use std::test::Fail;
 

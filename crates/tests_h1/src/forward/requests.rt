@@ -1,9 +1,9 @@
 //! A request, as a server gets it.
 use bytes::{Bytes, BytesMut};
 use h1_decoder::request_head;
-use proxy_heads::{forwarded_head, forwarded_size, is_forwardable};
 use h1_encoder::{has_text, put_request_head};
 use http_types::ConnectionType;
+use proxy_heads::{forwarded_head, forwarded_size, is_forwardable};
 use std::alloc::Global;
 use std::test::Fail;
 

@@ -1,8 +1,8 @@
 //! The events of a case, as its words say them.
 use crate::hubs::words::Words;
 use bytes::Bytes;
-use std::alloc::Global;
 use rooms::{Event, HubEvent, NoMemory};
+use std::alloc::Global;
 
 // A request for a WebSocket, before and after its target.
 const METHOD: &[u8] = b"GET ";

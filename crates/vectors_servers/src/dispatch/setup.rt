@@ -7,8 +7,8 @@ use crate::dispatch::wire::Lingering;
 use bytes::Bytes;
 use http_config::{KeepAlive, ServiceConfig, ServiceConfigBuilder};
 use http_services::CountedService;
-use http_types::{NoMemory, StatusCode};
 use http_transport::MemWire;
+use http_types::{NoMemory, StatusCode};
 use std::alloc::Global;
 use vectors::{CaseError, Cursor, Report, read_joined};
 

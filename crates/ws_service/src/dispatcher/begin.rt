@@ -7,8 +7,8 @@ use crate::item::UpgradeItem;
 use h1_connection::{Expiry, Message, NoMemory};
 use h1_traced::Recorder;
 use http_services::Service;
-use http_types::Error;
 use http_transport::Wire;
+use http_types::Error;
 
 impl<T, U, L> UpgradeDispatcher<T, U, U::Call, L>
 where

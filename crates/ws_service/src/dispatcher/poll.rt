@@ -12,8 +12,8 @@ use futures::task::{Context, Poll};
 use h1_connection::Message;
 use h1_traced::Recorder;
 use http_services::Service;
-use http_types::Error;
 use http_transport::Wire;
+use http_types::Error;
 
 impl<T, U, L> UpgradeDispatcher<T, U, U::Call, L>
 where

@@ -14,8 +14,8 @@ use h1_connection::{Message, READ_SIZE};
 use h1_traced::Recorder;
 use http_config::Failed;
 use http_services::Service;
-use http_types::Error;
 use http_transport::Wire;
+use http_types::Error;
 
 impl<T, U, L> UpgradeDispatcher<T, U, U::Call, L>
 where

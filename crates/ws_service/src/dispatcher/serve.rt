@@ -12,8 +12,8 @@ use futures::task::{Context, Poll};
 use h1_connection::{Event, Message, Outcome, ReceivedFrame, SentMessage};
 use h1_traced::Recorder;
 use http_services::Service;
-use http_types::Error;
 use http_transport::Wire;
+use http_types::Error;
 use std::mem;
 
 /// What came where the next frame was asked for.

@@ -13,8 +13,8 @@ use h1_connection::{End, Message};
 use h1_traced::Recorder;
 use http_config::Failed;
 use http_services::Service;
-use http_types::Error;
 use http_transport::Wire;
+use http_types::Error;
 
 impl<T, U, L> UpgradeDispatcher<T, U, U::Call, L>
 where
