@@ -2,17 +2,17 @@
 //! and as a worked example of a server whose whole run is proved.
 //!
 //! - [`serve_connection`] drives one connection over any transport, and tells by [`Served`] how it ended.
-//! - [`serve`] and [`serve_by`] serve all connections of a listener, and give a [`Report`] with one [`Visit`] for each.
+//! - [`serve`] and [`serve_by`] serve all connections of an acceptor, and give a [`Report`] with one [`Visit`] for each.
 //! - [`serve_run`] is the program but for `main`; [`print_report`] writes the report.
-//! - [`MemDoor`] is a listener in memory; [`GatedDoor`] gives connections that read nothing while their writes wait.
+//! - [`MemAcceptor`] is an acceptor in memory; [`GatedAcceptor`] gives connections that read nothing while their writes wait.
 //!
 //! # Example
 //!
 //! ```ignore
-//! let ran = serve(&rt, config, door, clock, &OpenGate, NoRecords, 100, 1_000_000, blank);
+//! let ran = serve(&rt, config, acceptor, clock, &OpenGate, NoRecords, 100, 1_000_000, blank);
 //! match ran.end {
 //!     Ok(report) => {}                      // the board, and what came of each connection
-//!     Err(ServeFault::Door(report)) => {}   // the same, as the listener failed
+//!     Err(ServeFault::Acceptor(report)) => {} // the same, as the acceptor failed
 //!     Err(ServeFault::Unlike(_)) => {}      // the journal isn't that of the passes
 //!     Err(ServeFault::NoMemory) => {}
 //! }
@@ -27,9 +27,9 @@
 mod accept;
 mod connection;
 mod error;
-mod gated_door;
+mod gated_acceptor;
 mod gather;
-mod mem_door;
+mod mem_acceptor;
 mod recorders;
 mod report;
 mod run;
@@ -42,10 +42,10 @@ mod write;
 pub use board::{Gate, OpenGate};
 pub use connection::{Served, serve_connection};
 pub use error::ServeError;
-pub use gated_door::GatedDoor;
-pub use http_transport::{Clock, Door};
-pub use mem_door::{MemDoor, MemPeer};
-pub use net_sockets::{Gated, Linger, TcpDoor, TcpWire};
+pub use gated_acceptor::GatedAcceptor;
+pub use http_transport::{Acceptor, Clock};
+pub use mem_acceptor::{MemAcceptor, MemPeer};
+pub use net_sockets::{Gated, Linger, TcpAcceptor, TcpTransport};
 pub use recorders::{NoRecords, Recorders};
 pub use report::print_report;
 pub use run::{Run, serve_run};

@@ -9,7 +9,7 @@
 //! # Example
 //!
 //! ```ignore
-//! let mut framed = Framed::new(alloc, wire, Codec::new(ServiceConfig::default()));
+//! let mut framed = Framed::new(alloc, transport, Codec::new(ServiceConfig::default()));
 //! framed.next_item(cx)                            // Ready(Some(Ok(Message::Item(head)))), then the body's chunks and its end
 //! framed.write(Message::Item((Response::ok(alloc), BodySize::Sized(2))))?;
 //! framed.write(Message::Chunk(Some(bytes)))?;     // hi

@@ -1,10 +1,10 @@
-//! Sockets and the clock, as transports, listeners, sources and sinks. For programs: it knows nothing of HTTP.
+//! Sockets and the clock, as transports, acceptors, sources and sinks. For programs: it knows nothing of HTTP.
 //!
 //! - Blocking: [`Listener`] accepts, [`SocketSource`] and [`SocketSink`] are both directions of a socket, and
-//!   [`close_orderly`] ends it so that no answer is lost. [`TcpWire`] and [`TcpDoor`] are the same as a transport and a
-//!   listener of transports; [`Gated`] reads nothing while its write waits. [`prepare`], [`TimedSource`] and [`TimedSink`]
+//!   [`close_orderly`] ends it so that no answer is lost. [`TcpTransport`] and [`TcpAcceptor`] are the same as a transport and an
+//!   acceptor; [`Gated`] reads nothing while its write waits. [`prepare`], [`TimedSource`] and [`TimedSink`]
 //!   bound how long a call waits.
-//! - Non-blocking, over `mio`: [`MioWatch`] tells which sockets are ready, [`MioWire`] is a socket as a transport, and
+//! - Non-blocking, over `mio`: [`MioWatch`] tells which sockets are ready, [`MioTransport`] is a socket as a transport, and
 //!   [`Incoming`] and [`Outgoing`] are its two directions.
 //! - [`moment`], [`uptime`] and [`SystemClock`] tell the time in milliseconds.
 //!
@@ -20,36 +20,36 @@
 //!
 //! # Contract
 //!
-//! Sources, sinks, transports, listeners and clocks keep the contracts of their traits. No clause says what a socket gives or
+//! Sources, sinks, transports, acceptors and clocks keep the contracts of their traits. No clause says what a socket gives or
 //! takes, or how long a call waits: a socket for which no time was set waits without end, as `accept` does.
 #![tactic(auto)]
 
+mod acceptor;
 mod clock;
 mod close;
-mod door;
 mod drain;
 mod error;
 mod gated;
 mod input;
 mod listener;
+mod mio_transport;
 mod mio_watch;
-mod mio_wire;
 mod polled_socket;
 mod socket;
 mod system_clock;
 mod timed;
-mod wire;
+mod transport;
 
+pub use acceptor::TcpAcceptor;
 pub use clock::{moment, uptime};
 pub use close::{Linger, close_orderly};
-pub use door::TcpDoor;
 pub use error::{AcceptError, BindError};
 pub use gated::Gated;
 pub use listener::{Accepted, Listener};
+pub use mio_transport::{ENOUGH, MioTransport};
 pub use mio_watch::MioWatch;
-pub use mio_wire::{ENOUGH, MioWire};
 pub use polled_socket::{Incoming, Outgoing, Polled};
 pub use socket::{SocketSink, SocketSource, Stall, prepare};
 pub use system_clock::SystemClock;
 pub use timed::{TimedSink, TimedSource};
-pub use wire::TcpWire;
+pub use transport::TcpTransport;
