@@ -11,7 +11,7 @@ use Rattle.model_h1.specs.Event as on
 use Rattle.model_h1.specs.Sums as sums
 use Rattle.model_h1.specs.Sums.{taken, written}
 use Rattle.model_h1.specs.Trace.{IsTrace}
-use Rattle.h1_connection.specs.Meaning.{setting_of}
+use Rattle.h1_connection.specs.EventMeaning.{setting_of}
 use Rattle.h1_connection.specs.Steps as noted
 use Rattle.h1_traced.specs.Traced.{SaysNoted, TracedStands}
 use Rattle.h1_dispatcher.specs.View.{View, Answer, told_result, told_service, is_replying}

@@ -1,11 +1,11 @@
 //! The program but for `main`.
 ghost use Rattle.std.specs.Prelude.{◌≡◌, ◌⊎◌, map, string_bytes};
-ghost use Rattle.board_server.specs.Runs.{SaysEnd, SaysAnswer, SaysTold};
+ghost use Rattle.board_server.specs.ServerRuns.{SaysEnd, SaysAnswer, SaysTold};
 ghost use Rattle.board_server.specs.Texts.{memory_text, unlike_text};
 ghost use Rattle.board_server.specs.Writing.{Says};
 
+use crate::acceptor_loop::serve;
 use crate::report::print_report;
-use crate::server::serve;
 use crate::text::number_line;
 use crate::visit::{Report, ServeFault};
 use crate::words::read_words;
