@@ -55,7 +55,7 @@ impl HubReply {
         match self {
             HubReply::Done(text) | HubReply::BadLine(text) | HubReply::Misplaced(text) =>
                 text.as_slice(),
-            HubReply::Usage => b"usage: rooms replay\n",
+            HubReply::Usage => b"usage: ws_hub replay\n",
             HubReply::ReadFault => b"read fault\n",
             HubReply::TooLong => b"too long\n",
             HubReply::NoMemory => b"no memory\n",
